@@ -1,0 +1,36 @@
+//! Writing a text to any writer, whole or a beginning of it. It takes no memory.
+
+ghost use Rattle.std.specs.Prelude.{map};
+ghost use Rattle.std.specs.List.{concat};
+ghost use Rattle.dh_types.specs.Output.{Puts};
+
+use std::io::Write;
+
+/// The writer failed, or took no byte.
+#[derive(Clone, Copy, Debug, PartialEq, Eq)]
+pub struct Output;
+
+/// Writes all the bytes; at an `Output` a beginning of them was written.
+pub fn put<W: Write>(writer: &mut W, bytes: &[u8]) -> Result<(), Output>
+    ensures { Puts (W.contents writer.old) (W.contents writer.new) result bytes.now }
+{
+    let mut rest = bytes;
+    while !rest.is_empty() {
+        match writer.write(rest) {
+            Ok(0) => return Err(Output),
+            Ok(n) => rest = &rest[n..],
+            Err(_) => return Err(Output),
+        }
+    }
+    Ok(())
+}
+
+/// Writes the parts, one after the other; at an `Output` a beginning of them all was written.
+pub fn put_parts<W: Write>(writer: &mut W, parts: &[&[u8]]) -> Result<(), Output>
+    ensures { Puts (W.contents writer.old) (W.contents writer.new) result (concat (map (λ p. p.now) parts.now)) }
+{
+    for part in parts {
+        put(writer, part)?;
+    }
+    Ok(())
+}
