@@ -1,0 +1,74 @@
+-- The lines that the records of an input are answered, and the state after them.
+use Rattle.std.specs.Prelude.{ℕ, ◌+◌, Bool, true, false, List, [], ◌∷◌, ◌++◌, codes, if◌then◌else◌, Result, Ok, Err}
+use Rattle.std.specs.Fmt.{decimal}
+use Rattle.csv.specs.Reading.{default_config, records, strip_bom}
+use Rattle.dh_types.specs.declared.reply.Reply.{Reply}
+use Rattle.dh_types.specs.declared.reply.Refusal.{Refusal}
+use Rattle.dh_types.specs.declared.reply.Fault.{Fault}
+use Rattle.dh_types.specs.Replies.{reply_text, refusal_text, fault_text, is_refusal}
+use Rattle.dh_types.specs.Reports.{Report, BranchList, NoReport}
+use Rattle.dh_rules.specs.Books.{State}
+use Rattle.dh_rules.specs.Machine.{step, report}
+use Rattle.dh_reports.specs.ReportTexts.{report_text, line_count}
+use Rattle.dh_lines.specs.declared.request.Request.{Request}
+use Rattle.dh_lines.specs.declared.request.Request.TheVariants.{Command, Question}
+use Rattle.dh_lines.specs.Lines.{Fields, request_of}
+
+-- the records of an input, as csv reads them with its defaults
+abbrev pub records_of : List ℕ → List Fields
+records_of input = records default_config (strip_bom input)
+
+-- what a record is answered: the state after it, the text behind its number, and whether it was refused
+pub record Answered : Type 0 where
+  pub state : State
+  pub text : List ℕ
+  pub is_refused : Bool
+
+abbrev pub newline : List ℕ
+newline = 10 ∷ []
+
+abbrev pub replied : State × Reply → Answered
+replied after = record { state = after.0; text = reply_text after.1 ++ newline; is_refused = is_refusal after.1 }
+
+abbrev pub refused : State → Refusal → Answered
+refused s refusal = record { state = s; text = refusal_text refusal ++ newline; is_refused = true }
+
+abbrev pub reported : State → Report → Answered
+reported s (NoReport refusal) = refused s refusal
+reported s (BranchList branches) =
+    let it = BranchList branches in
+    record { state = s; text = codes "shown " ++ decimal (line_count it) ++ newline ++ report_text it; is_refused = false }
+
+abbrev pub answered_request : State → Result Request Refusal → Answered
+answered_request s (Ok (Command command)) = replied (step s command)
+answered_request s (Ok (Question question)) = reported s (report s question)
+answered_request s (Err refusal) = refused s refusal
+
+abbrev pub answered : State → Fields → Answered
+answered s fields = answered_request s (request_of fields)
+
+-- the line of record n: its number, a space, its answer
+abbrev pub numbered : ℕ → List ℕ → List ℕ
+numbered n text = decimal n ++ 32 ∷ text
+
+abbrev pub line : ℕ → State → Fields → List ℕ
+line n s fields = numbered n (answered s fields).text
+
+-- the lines of the records from number n on
+abbrev pub lines_from : ℕ → State → List Fields → List ℕ
+lines_from n s [] = []
+lines_from n s (r ∷ rs) = line n s r ++ lines_from (n + 1) (answered s r).state rs
+
+-- the state after the records
+abbrev pub state_after : State → List Fields → State
+state_after s [] = s
+state_after s (r ∷ rs) = state_after (answered s r).state rs
+
+-- how many of the records were refused
+abbrev pub refused_in : State → List Fields → ℕ
+refused_in s [] = 0
+refused_in s (r ∷ rs) = (if (answered s r).is_refused then 1 else 0) + refused_in (answered s r).state rs
+
+-- the line of a record that met a fault
+abbrev pub fault_line : ℕ → Fault → List ℕ
+fault_line n fault = numbered n (fault_text fault ++ newline)
