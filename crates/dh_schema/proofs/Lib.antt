@@ -1,0 +1,13 @@
+pub mod Running
+pub mod TextMeanings
+pub mod Creating
+pub mod Inserting
+pub mod Selecting
+pub mod Crashing
+pub mod MapLemmas
+pub mod Casting
+pub mod MetaTexts
+pub mod BranchTexts
+pub mod Unique
+pub mod MetaLemmas
+pub mod BranchLemmas

@@ -1,0 +1,7 @@
+pub mod Columns
+pub mod MetaTable
+pub mod BranchTable
+pub mod Layout
+pub mod Tables
+pub mod Store
+pub mod Faults
