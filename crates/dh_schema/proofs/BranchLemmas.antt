@@ -42,7 +42,7 @@ use Rattle.dh_schema.proofs.Unique.{agree_at, keys_apart, texts_equal}
 use Rattle.dh_schema.proofs.BranchTexts.{insert_branch, branch_terms, insert_branch_is}
 
 -- what holds of each of some rows holds of them in another order
-all_moved : {X : Type 0} (P : X → Type 0) (xs ys : List X) → IsPermutation xs ys → AllByRecursion P xs → AllByRecursion P ys
+pub all_moved : {X : Type 0} (P : X → Type 0) (xs ys : List X) → IsPermutation xs ys → AllByRecursion P xs → AllByRecursion P ys
 all_moved P = along_permutation (λ xs ys. AllByRecursion P xs → AllByRecursion P ys) (λ xs h. h) (λ x xs ys move h. (h.0, move h.1)) (λ x y zs h. (h.1.0, (h.0, h.1.1))) (λ xs ys zs f g h. g (f h))
 
 id_text : (v : Value) → is_id_cell v ≡ true → v ≡ Text (text_in v)
@@ -92,7 +92,7 @@ module _ (b : Branch) (grammar : is_branch_row (branch_row b) ≡ true) (old new
   moved = rw puts.rows (put_fresh (stored b old) (old 1) puts.fresh)
 
   number_is_new : AllByRecursion (λ k. eq_by_cmp text_cmp b.number k ≡ false) (map number_of (old 1))
-  number_is_new = apart_by_number b (Int (next_rowid (old 1))) (old 1) sound.branches (keys_apart (next_rowid (old 1)) 1 (stored b old) (old 1) (new 1) refl moved puts.fresh sound.branch_rowids (unique_at new (stored b old) (old 1) puts.fits moved))
+  number_is_new = apart_by_number b (Int (next_rowid (old 1))) (old 1) sound.values.branches (keys_apart (next_rowid (old 1)) 1 (stored b old) (old 1) (new 1) refl moved puts.fresh sound.branch_rowids (unique_at new (stored b old) (old 1) puts.fits moved))
 
   distinct : IsDistinct (eq_by_cmp text_cmp) (map number_of (stored b old ∷ old 1))
   unfolding IsDistinct
@@ -103,10 +103,12 @@ module _ (b : Branch) (grammar : is_branch_row (branch_row b) ≡ true) (old new
 
   pub sound_with_branch : IsSound new
   sound_with_branch = record {
-    months = sound.months;
-    meta = months_same ∙ sound.meta;
-    meta_grammar = sound.meta_grammar;
-    branches = all_moved (λ r. is_branch_row r ≡ true) (branch_row b ∷ branch_rows old) (branch_rows new) (IsPermutation-map branch_columns _ _ moved) (grammar, sound.branches);
+    values = record {
+      months = sound.values.months;
+      meta = months_same ∙ sound.values.meta;
+      meta_grammar = sound.values.meta_grammar;
+      branches = all_moved (λ r. is_branch_row r ≡ true) (branch_row b ∷ branch_rows old) (branch_rows new) (IsPermutation-map branch_columns _ _ moved) (grammar, sound.values.branches);
+    };
     branch_rowids = all_moved (λ r. is_int (rowid r) ≡ true) (stored b old ∷ old 1) (new 1) moved (refl, sound.branch_rowids);
     branch_keys = rw (map-map (λ (r : Row). (branch_in r).number) branch_columns (new 1)) (IsDistinct-IsPermutation (eq_by_cmp text_cmp) (eq_by_cmp_equiv nat_list_cmp_total).symm _ _ (IsPermutation-map number_of _ _ moved) distinct);
   }
@@ -118,7 +120,7 @@ module _ (b : Branch) (grammar : is_branch_row (branch_row b) ≡ true) (old new
   tables_with_branch =
       let entries = IsPermutation-map (λ r. by_number (branch_in (branch_columns r))) _ _ moved in
       let more = from_more nat_list_cmp_total exact_bytes b.number b (map (λ r. by_number (branch_in (branch_columns r))) (old 1)) (map (λ r. by_number (branch_in (branch_columns r))) (new 1)) entries
-          (rw (map-map (λ (e : List ℕ × Branch). e.0) (λ (r : Row). by_number (branch_in (branch_columns r))) (old 1)) distinct) in
+      (rw (map-map (λ (e : List ℕ × Branch). e.0) (λ (r : Row). by_number (branch_in (branch_columns r))) (old 1)) distinct) in
       let made : (trees : Trees) → map (λ r. by_number (branch_in (branch_columns r))) (trees 1) ≡ map (λ r. by_number (branch_in r)) (branch_rows trees) = λ trees. sym (map-map (λ (r : Row). by_number (branch_in r)) branch_columns (trees 1)) in
       let branches = ap (map.from_entries {R = text_cmp}) (sym (made new)) ∙ more ∙ ap (λ es. map.insert (map.from_entries {R = text_cmp} es) b.number b) (made old) in
       ap₂ (λ bs months. let s : machine.State = record { books = record { branches = bs; first = (only_months months).first; next = (only_months months).next }; open_run = None } in s) branches months_same

@@ -18,5 +18,5 @@ pub survives_committed : {S : Type 0} (g : Ghosts S) (old begun last new : Held 
     → Survives (state g last) (state g new) (λ db. db ≡ (state g last).now.trees) → Survives (state g old) (state g new) P
 survives_committed g old begun last new P is inside made commit =
     survives_then (state g old) (state g last) (state g new) (λ _. ⊥) _ P (λ _ db none. absurd none)
-        (λ clean db same. subst P (sym same) (made (omega (arith, commit.clean, clean))))
-        (survives_begin g old (state g last) _ (rw is at inside)) commit
+    (λ clean db same. subst P (sym same) (made (omega (arith, commit.clean, clean))))
+    (survives_begin g old (state g last) _ (rw is at inside)) commit

@@ -54,10 +54,12 @@ module _ (text : List ℕ) (schema : Schema) (at : ℕ) (table : Table) (terms :
       let news : (edit_of db table [] (rowids_for table (count_of counter.0)) 0 given.0).news ≡ row ∷ [] =
       ap (λ k. (edit_of db table [] k 0 given.0).news) chosen ∙ ap (λ all. (edit_of db table [] Chosen 0 all).news) (given.1.1 ∙ is.value) in
       let none = ap (works schema Enforced 0 table.tree []) news ∙ is.quiet row in
-      let applied = one_step schema Enforced db written.0 (edit_of db table [] (rowids_for table (count_of counter.0)) 0 given.0) none written.1 in
-      (ap (λ (d : Database). d.schema) now, record {
-        fresh = not_true _ (and_first _ _ (rw news at applied.fresh));
-        rows = rw after (applied.rows ∙ ap (put_all (db table.tree)) news);
-        others = rw after applied.tables;
-        fits = rw after applied.fits;
-      })
+      let applied = one_step schema Enforced db written.0 (edit_of db table [] (rowids_for table (count_of counter.0)) 0 given.0) none written.1 in (
+        ap (λ (d : Database). d.schema) now,
+        record {
+          fresh = not_true _ (and_first _ _ (rw news at applied.fresh));
+          rows = rw after (applied.rows ∙ ap (put_all (db table.tree)) news);
+          others = rw after applied.tables;
+          fits = rw after applied.fits;
+        },
+      )

@@ -11,3 +11,6 @@ pub mod BranchTexts
 pub mod Unique
 pub mod MetaLemmas
 pub mod BranchLemmas
+pub mod Gathering
+pub mod Installing
+pub mod Loading

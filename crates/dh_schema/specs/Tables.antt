@@ -31,11 +31,19 @@ tables_in trees =
       open_run = None;
     }
 
--- The version is ours and each column holds a value of its kind (rule 0 of the audit). Rows have rowids, and keys are there once, as the schema asks.
-pub record IsSound (trees : Trees) : Type 0 where
+-- empty books of these months
+abbrev pub empty_over : Months → State
+empty_over months = record { books = record { branches = map.empty; first = months.first; next = months.next }; open_run = None }
+
+-- The version is ours and each column holds a value of its kind: rule 0 of the audit.
+pub record HasValues (trees : Trees) : Type 0 where
   pub months : Months
   pub meta : meta_rows trees ≡ meta_row months ∷ []
   pub meta_grammar : is_meta_row (meta_row months) ≡ true
   pub branches : AllByRecursion (λ row. is_branch_row row ≡ true) (branch_rows trees)
+
+-- So it is, rows have rowids, and each key is there once, as the schema asks.
+pub record IsSound (trees : Trees) : Type 0 where
+  pub values : HasValues trees
   pub branch_rowids : AllByRecursion (λ row. is_int (rowid row) ≡ true) (trees 1)
   pub branch_keys : IsDistinct (eq_by_cmp text_cmp) (map (λ row. (branch_in row).number) (branch_rows trees))

@@ -1,9 +1,9 @@
 //! The table meta: one row with the version and the months.
 
-ghost use Rattle.std.specs.Prelude.{◌≡◌, ◌⊎◌, [], ◌∷◌, map, IsPermutation, IfOk, OnOk, OnErr};
+ghost use Rattle.std.specs.Prelude.{◌≡◌, ◌⊎◌, true, [], ◌∷◌, map, IsPermutation, IfOk, OnOk, OnErr};
 ghost use Rattle.sqlite.specs.State.{HasCleanDisk, KeepsCommit, Survives, IsUnchanged, IsRolledBack};
 ghost use Rattle.sqlite.specs.Held.{state};
-ghost use Rattle.dh_rows.specs.MetaRows.{meta_row};
+ghost use Rattle.dh_rows.specs.MetaRows.{meta_row, is_meta_row};
 ghost use Rattle.dh_schema.specs.MetaTable.{meta_rows};
 ghost use Rattle.dh_schema.specs.Layout.{no_schema, meta_schema, our_schema};
 ghost use Rattle.dh_schema.specs.Store.{IsWritingOn, HasTables};
@@ -35,7 +35,7 @@ pub(crate) fn insert_meta<S: Alter>(
 ) -> Result<(), Error>
     requires { HasCleanDisk (state S.Store tx.old.conn.now) → IsWritingOn our_schema (state S.Store tx.old.conn.now) × ((state S.Store tx.old.conn.now).now.trees 0 ≡ []) }
     ensures same_reference { tx.new.conn.ghost_name ≡ tx.old.conn.ghost_name }
-    ensures made { HasCleanDisk (state S.Store tx.new.conn.now) → OnOk result (IsWritingOn our_schema (state S.Store tx.new.conn.now) × (meta_rows (state S.Store tx.new.conn.now).now.trees ≡ meta_row months.now ∷ []) × ((state S.Store tx.new.conn.now).now.trees 1 ≡ (state S.Store tx.old.conn.now).now.trees 1)) }
+    ensures made { HasCleanDisk (state S.Store tx.new.conn.now) → OnOk result (IsWritingOn our_schema (state S.Store tx.new.conn.now) × (is_meta_row (meta_row months.now) ≡ true) × (meta_rows (state S.Store tx.new.conn.now).now.trees ≡ meta_row months.now ∷ []) × ((state S.Store tx.new.conn.now).now.trees 1 ≡ (state S.Store tx.old.conn.now).now.trees 1)) }
     ensures kept { HasCleanDisk (state S.Store tx.new.conn.now) → KeepsCommit (state S.Store tx.old.conn.now) (state S.Store tx.new.conn.now) }
     ensures crash { Survives (state S.Store tx.old.conn.now) (state S.Store tx.new.conn.now) (λ _. ⊥) }
 {
