@@ -4,9 +4,11 @@
 mod answer;
 mod branch;
 mod command;
+mod digits;
 mod id;
 mod month;
 mod reply;
+mod reply_text;
 mod text;
 pub mod writing;
 
@@ -16,6 +18,7 @@ pub use command::{Command, Question};
 pub use id::Id;
 pub use month::Month;
 pub use reply::{Fault, Refusal, Reply};
+pub use reply_text::{put_fault, put_refusal, put_reply};
 pub use text::Text60;
 pub use writing::Output;
 
