@@ -1,7 +1,7 @@
 //! Branches of the agency.
 
 ghost use Rattle.std.specs.Prelude.{◌≡◌, [], ◌∷◌, IfOk, map};
-ghost use Rattle.dh_types.specs.Branches.{IsBranch, is_same_branch};
+ghost use Rattle.dh_types.specs.Branches.{IsBranch};
 
 use crate::{Id, Text60};
 use std::alloc::{AllocError, Global};
@@ -39,12 +39,5 @@ impl Branch {
             self.city.as_str(),
             self.postcode.as_str(),
         ]
-    }
-
-    /// Whether all fields are equal.
-    pub fn is_same(&self, other: &Branch) -> bool
-        ensures { result ≡ is_same_branch self.now other.now }
-    {
-        self == other
     }
 }

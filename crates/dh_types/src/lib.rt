@@ -6,6 +6,7 @@ mod branch;
 mod command;
 mod digits;
 mod id;
+pub mod laws;
 mod month;
 mod reply;
 mod reply_text;
