@@ -26,3 +26,6 @@ pub use writing::Output;
 /// A text that is not in the grammar of a value.
 #[derive(Clone, Copy, Debug, PartialEq, Eq)]
 pub struct BadText;
+
+#[cfg(test)]
+mod tests;
