@@ -1,5 +1,5 @@
 -- Branches whose fields are equal are one.
-use Rattle.std.proofs.Common.{◌≡◌, ◌↔◌, ap, refl, ℕ, Bool, true, false, ◌&&◌, List, nat_eq}
+use Rattle.std.proofs.Common.{◌≡◌, ◌↔◌, refl, ℕ, true, List, nat_eq}
 use Rattle.std.specs.Cmp.Lexicographic.{pointwise}
 use Rattle.std.proofs.lemmas.Slice.Eq.{bytes_eq-Decides}
 use Rattle.dh_types.specs.declared.branch.Branch.{Branch}

@@ -37,7 +37,7 @@ fn has_month_form(bytes: &[u8]) -> bool
 
 impl Month {
     /// The month that the text spells, as `2025-01`: 2000-01 to 2200-12. It takes no memory.
-    /// An error where the text is no such month.
+    /// `BadText` where the text is no such month.
     pub fn read(text: &str) -> Result<Month, BadText>
         ensures { MatchResult result (λ m. month_of text.now ≡ Some m) (λ _. month_of text.now ≡ None) }
     {
@@ -55,7 +55,7 @@ impl Month {
         })
     }
 
-    /// The month of this number, where it is that of a month, 24000 to 26412.
+    /// The month of this number, 24000 to 26412. `None` for any other number.
     pub fn try_of_number(number: i64) -> Option<Month>
         ensures value { IfSome result (λ m. pos m ≡ number) }
         ensures exact { IsSome result ↔ ((pos 24000 ≤ℤ number) × (number ≤ℤ pos 26412)) }
