@@ -34,14 +34,11 @@ pub record IsWritingOn (schema : Schema) (s : State) : Type 0 where
   pub inside : IsTrue s.in_transaction
   pub schema_is : s.now.schema ≡ schema
 
--- A crash now leaves these trees and nothing else.
-pub record LeavesOnly (s : State) (trees : Trees) : Type 0 where
-  pub only : (left : Trees) → s.may_leave left → left ≡ trees
-  pub some : s.may_leave trees
-
--- A crash now leaves the tables that the connection reads, alone.
-abbrev pub LeavesItsTables : State → Type 0
-LeavesItsTables s = LeavesOnly s s.now.trees
+-- A crash now leaves the tables that the connection reads, and nothing else; they are sound.
+pub record LeavesItsTables (s : State) : Type 0 where
+  pub only : (left : Trees) → s.may_leave left → left ≡ s.now.trees
+  pub some : s.may_leave s.now.trees
+  pub sound : IsSound s.now.trees
 
 -- Sound tables of which this holds.
 abbrev pub AreTables : (machine.State → Type 0) → Trees → Type 0
