@@ -36,6 +36,7 @@ pub fn version<S: Alter>(conn: &mut Connection<S>) -> Result<i64, LoadFault>
     ensures found { HasCleanDisk (state S.Store conn.new) → IfOk result (λ n. only_version (meta_rows (state S.Store conn.old).now.trees) ≡ Some n) }
     ensures damaged { HasCleanDisk (state S.Store conn.new) → result ≡ Err LoadFault.Damaged → only_version (meta_rows (state S.Store conn.old).now.trees) ≡ None }
     ensures same { HasCleanDisk (state S.Store conn.new) → OnOk result (IsUnchanged (state S.Store conn.old) (state S.Store conn.new)) }
+    ensures kept { HasCleanDisk (state S.Store conn.new) → IsTrue (state S.Store conn.new).is_open → (state S.Store conn.old).now ≡ (state S.Store conn.old).committed → ((state S.Store conn.new).now ≡ (state S.Store conn.old).now) × ((state S.Store conn.new).committed ≡ (state S.Store conn.old).committed) }
     ensures crash { Survives (state S.Store conn.old) (state S.Store conn.new) (λ _. ⊥) }
 {
     let rows = select_meta(conn)?;

@@ -1,0 +1,97 @@
+//! What the program's words ask for.
+
+ghost use Rattle.std.specs.Prelude.{◌≡◌, ◌≢◌, ◌⊎◌, ◌↔◌, ◌<◌, ℕ, [], ◌∷◌, map, codes, IfSome};
+ghost use Rattle.std.specs.Io.KnownBytes.{Appends};
+ghost use Rattle.dh_rules.specs.Books.{start};
+ghost use Rattle.dh_lines.specs.Session.{lines_from, records_of, refused_in};
+ghost use Rattle.dh_desk.specs.Statuses.{status_code};
+
+use dh_agency::create;
+use dh_lines::batch;
+use dh_schema::fault_of;
+use dh_types::writing::put;
+use dh_types::{Fault, Month, put_fault};
+use sqlite::Connection;
+use std::alloc::Global;
+use std::io::{Read, Write};
+
+/// How the program ends.
+#[derive(Clone, Copy, Debug, PartialEq, Eq)]
+pub enum Status {
+    /// All was done.
+    Done,
+    /// Some line was refused.
+    SomeRefused,
+    /// The words ask for nothing that there is.
+    BadWords,
+    /// A fault, or standard input or output failed.
+    Failed,
+}
+
+impl Status {
+    /// The exit status of the process.
+    pub fn code(self) -> u8
+        ensures { result ≡ status_code self }
+    {
+        match self {
+            Status::Done => 0,
+            Status::SomeRefused => 1,
+            Status::BadWords => 2,
+            Status::Failed => 3,
+        }
+    }
+}
+
+/// The first month of an agency in memory: 2025-01, counted as 12 * year + month - 1.
+pub const FIRST_MONTH: u32 = 24300;
+
+fn tell_fault<W: Write>(writer: &mut W, fault: Fault) -> Status
+    ensures { result ≡ Status.Failed }
+{
+    if put_fault(writer, fault).is_ok() {
+        let _ = put(writer, b"\n");
+    }
+    Status::Failed
+}
+
+// A batch over an agency in memory.
+fn batch_in_memory<R: Read, W: Write>(alloc: Global, reader: &mut R, writer: &mut W) -> Status
+    ensures known { result ≢ Status.BadWords }
+    ensures answered { (result ≡ Status.Done) ⊎ (result ≡ Status.SomeRefused) → IfSome (R.remaining reader.old) (λ input. Appends (W.contents writer.old) (W.contents writer.new) (lines_from 1 (start FIRST_MONTH) (records_of input))) }
+    ensures done { result ≡ Status.Done → IfSome (R.remaining reader.old) (λ input. refused_in (start FIRST_MONTH) (records_of input) ≡ 0) }
+    ensures some_refused { result ≡ Status.SomeRefused → IfSome (R.remaining reader.old) (λ input. 0 < refused_in (start FIRST_MONTH) (records_of input)) }
+{
+    let Ok(conn) = Connection::open_in_memory(alloc) else {
+        return tell_fault(writer, Fault::Memory);
+    };
+    let mut agency = match create(alloc, conn, Month::of_number(FIRST_MONTH)) {
+        Ok(agency) => agency,
+        Err(not_opened) => return tell_fault(writer, not_opened.cause),
+    };
+    let ended = batch(alloc, &mut agency, reader, writer);
+    let _closed = agency.into_store();
+    match ended {
+        Ok(summary) if summary.refused == 0 => Status::Done,
+        Ok(_) => Status::SomeRefused,
+        Err(_) => Status::Failed,
+    }
+}
+
+/// Does what the words ask for, and tells how the program ends. The words are `batch` alone: the lines that are read are
+/// answered by an agency in memory that begins with 2025-01.
+pub fn desk<R: Read, W: Write>(
+    rt: &HostRuntime,
+    words: &[&str],
+    reader: &mut R,
+    writer: &mut W,
+) -> Status
+    ensures bad_words { (result ≡ Status.BadWords) ↔ (map (λ word. word.now) words.now ≢ codes "batch" ∷ []) }
+    ensures answered { (result ≡ Status.Done) ⊎ (result ≡ Status.SomeRefused) → IfSome (R.remaining reader.old) (λ input. Appends (W.contents writer.old) (W.contents writer.new) (lines_from 1 (start FIRST_MONTH) (records_of input))) }
+    ensures done { result ≡ Status.Done → IfSome (R.remaining reader.old) (λ input. refused_in (start FIRST_MONTH) (records_of input) ≡ 0) }
+    ensures some_refused { result ≡ Status.SomeRefused → IfSome (R.remaining reader.old) (λ input. 0 < refused_in (start FIRST_MONTH) (records_of input)) }
+{
+    match words {
+        ["batch"] => batch_in_memory(rt.alloc(), reader, writer),
+        _ => Status::BadWords,
+    }
+}
