@@ -1,2 +1,5 @@
 pub mod FieldLemmas
 pub mod RecordLemmas
+pub mod AllRecords
+pub mod Following
+pub mod PartLemmas
