@@ -19,10 +19,7 @@ use std::io::Write;
 fn put_number<W: Write>(writer: &mut W, number: u64) -> Result<(), Output>
     ensures { Puts (W.contents writer.old) (W.contents writer.new) result (decimal number ++ 32 ∷ []) }
 {
-    put_parts(
-        writer,
-        &[Buffer::new().format(number).as_bytes(), b" "],
-    )
+    put_parts(writer, &[Buffer::new().format(number).as_bytes(), b" "])
 }
 
 /// Writes the line of the record of this number whose command was answered so.
@@ -35,7 +32,11 @@ pub fn put_reply_line<W: Write>(writer: &mut W, number: u64, reply: Reply) -> Re
 }
 
 /// Writes the line of a refused record.
-pub fn put_refused_line<W: Write>(writer: &mut W, number: u64, refusal: Refusal) -> Result<(), Output>
+pub fn put_refused_line<W: Write>(
+    writer: &mut W,
+    number: u64,
+    refusal: Refusal,
+) -> Result<(), Output>
     ensures { Puts (W.contents writer.old) (W.contents writer.new) result (numbered number (refusal_text refusal ++ newline)) }
 {
     put_number(writer, number)?;

@@ -40,9 +40,18 @@ pub fn put_refusal<W: Write>(writer: &mut W, refusal: Refusal) -> Result<(), Out
     match refusal {
         Refusal::Taken => put(writer, b"refused 1"),
         Refusal::RunOpen(month) => put_run_open(writer, month),
-        Refusal::BadLine(field) => put_parts(writer, &[b"bad field ", digits.format(field).as_bytes()]),
-        Refusal::Version(found) => put_parts(writer, &[b"refused 16 ", digits.format(found).as_bytes()]),
-        Refusal::Damaged(rule) => put_parts(writer, &[b"refused 17 ", digits.format(rule).as_bytes()]),
+        Refusal::BadLine(field) => put_parts(
+            writer,
+            &[b"bad field ", digits.format(field).as_bytes()],
+        ),
+        Refusal::Version(found) => put_parts(
+            writer,
+            &[b"refused 16 ", digits.format(found).as_bytes()],
+        ),
+        Refusal::Damaged(rule) => put_parts(
+            writer,
+            &[b"refused 17 ", digits.format(rule).as_bytes()],
+        ),
     }
 }
 
