@@ -73,7 +73,8 @@ pub fn read_fields(alloc: Global, fields: &[&[u8]]) -> Result<Result<Request, Re
     }
 }
 
-/// The same of a record's fields.
+/// The request that a record's fields are. A `BadLine` has the number of the first field, from 1 on,
+/// that is wrong, missing or too many. An error comes only for want of memory.
 pub fn read_line(alloc: Global, record: &ByteRecord) -> Result<Result<Request, Refusal>, AllocError>
     ensures { IfOk result (λ r. r ≡ request_of (fields_of «record».now)) }
 {

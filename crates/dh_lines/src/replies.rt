@@ -1,5 +1,5 @@
 //! Writing the lines that an agency answers: each has the number of its record, a space and the answer.
-//! It takes no memory. At an `Output` the writer failed, and a beginning of the text was written.
+//! It takes no memory.
 
 ghost use Rattle.std.specs.Prelude.{[], ◌∷◌, ◌++◌, codes};
 ghost use Rattle.std.specs.Fmt.{decimal};
@@ -22,7 +22,8 @@ fn put_number<W: Write>(writer: &mut W, number: u64) -> Result<(), Output>
     put_parts(writer, &[Buffer::new().format(number).as_bytes(), b" "])
 }
 
-/// Writes the line of the record of this number whose command was answered so.
+/// Writes the line of a record whose command was answered so; `number` is the record's, from 1 on.
+/// At an `Output` the writer failed, and a beginning of the line was written.
 pub fn put_reply_line<W: Write>(writer: &mut W, number: u64, reply: Reply) -> Result<(), Output>
     ensures { Puts (W.contents writer.old) (W.contents writer.new) result (numbered number (reply_text reply ++ newline)) }
 {
@@ -31,7 +32,8 @@ pub fn put_reply_line<W: Write>(writer: &mut W, number: u64, reply: Reply) -> Re
     put(writer, b"\n")
 }
 
-/// Writes the line of a refused record.
+/// Writes the line of a refused record; `number` is the record's, from 1 on.
+/// At an `Output` the writer failed, and a beginning of the line was written.
 pub fn put_refused_line<W: Write>(
     writer: &mut W,
     number: u64,
@@ -44,7 +46,8 @@ pub fn put_refused_line<W: Write>(
     put(writer, b"\n")
 }
 
-/// Writes the line of a record that met a fault.
+/// Writes the line of a record that met a fault; `number` is the record's, from 1 on.
+/// At an `Output` the writer failed, and a beginning of the line was written.
 pub fn put_fault_line<W: Write>(writer: &mut W, number: u64, fault: Fault) -> Result<(), Output>
     ensures { Puts (W.contents writer.old) (W.contents writer.new) result (fault_line number fault) }
 {
@@ -70,7 +73,8 @@ fn put_shown<W: Write>(writer: &mut W, answer: &Answer) -> Result<(), Output>
     write(answer, writer)
 }
 
-/// Writes the line of a record that asked a question, and the report that answers it.
+/// Writes the line of a record that asked a question, and the report that answers it; `number` is the
+/// record's, from 1 on. At an `Output` the writer failed, and a beginning of both was written.
 pub fn put_answer_line<W: Write>(writer: &mut W, number: u64, answer: &Answer) -> Result<(), Output>
     ensures { Puts (W.contents writer.old) (W.contents writer.new) result (numbered number (reported_text (report_of answer.now))) }
 {
