@@ -1,2 +1,5 @@
 pub mod Ascii
+pub mod MonthTexts
+pub mod Powers
+pub mod SameBranch
 pub mod WritingLemmas

@@ -1,5 +1,5 @@
 -- Branches as contracts see them.
-use Rattle.std.specs.Prelude.{ℕ, Bool, true, ◌≡◌, ◌&&◌, nat_eq, List}
+use Rattle.std.specs.Prelude.{Bool, true, ◌≡◌, ◌&&◌, nat_eq}
 use Rattle.std.specs.Cmp.Lexicographic.{pointwise}
 use Rattle.dh_types.specs.declared.branch.Branch.{Branch}
 use Rattle.dh_types.specs.Texts.{is_id, is_text}

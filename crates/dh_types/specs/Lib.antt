@@ -4,3 +4,4 @@ pub mod Output
 pub mod Branches
 pub mod Reports
 pub mod Replies
+pub mod Laws

@@ -1,6 +1,7 @@
 //! Branches of the agency.
 
-ghost use Rattle.std.specs.Prelude.{◌≡◌, IfOk};
+ghost use Rattle.std.specs.Prelude.{◌≡◌, [], ◌∷◌, IfOk, map};
+ghost use Rattle.dh_types.specs.Branches.{IsBranch};
 
 use crate::{Id, Text60};
 use std::alloc::{AllocError, Global};
@@ -25,5 +26,18 @@ impl Branch {
             city: self.city.try_clone(alloc)?,
             postcode: self.postcode.try_clone(alloc)?,
         })
+    }
+
+    /// The number, the street, the city and the postcode.
+    pub fn fields(&self) -> [&str; 4]
+        ensures texts { map (λ s. s.now) result ≡ self.now.number ∷ self.now.street ∷ self.now.city ∷ self.now.postcode ∷ [] }
+        ensures grammar { IsBranch self.now }
+    {
+        [
+            self.number.as_str(),
+            self.street.as_str(),
+            self.city.as_str(),
+            self.postcode.as_str(),
+        ]
     }
 }

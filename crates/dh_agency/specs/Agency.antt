@@ -1,0 +1,48 @@
+-- An agency between calls.
+use Rattle.std.specs.Prelude.{◌≡◌, ◌⊎◌, ◌≤◌, false, IsTrue}
+use Rattle.sqlite.specs.Store.{Ghosts}
+use Rattle.sqlite.specs.State as conn
+use Rattle.sqlite.specs.State.{HasCleanDisk}
+use Rattle.sqlite.specs.Held.{state}
+use Rattle.sqlite_trees.specs.View.{doubt}
+use Rattle.dh_types.specs.declared.command.Command.{Command}
+use Rattle.dh_rules.specs.Books.{State}
+use Rattle.dh_rules.specs.Machine.{step}
+use Rattle.dh_schema.specs.Store as store
+use Rattle.dh_schema.specs.Store.{IsReady, tables}
+use Rattle.dh_agency.specs.Seat.{Seat}
+
+abbrev pub shown_by : {S : Type 0} → Ghosts S → Seat S → conn.State
+shown_by g a = state g a.conn
+
+-- Nobody else wrote the store, and it gave back what was written.
+abbrev pub IsClean : {S : Type 0} → Ghosts S → Seat S → Type 0
+IsClean g a = HasCleanDisk (shown_by g a)
+
+-- The store can still be read.
+abbrev pub IsOpen : {S : Type 0} → Ghosts S → Seat S → Type 0
+IsOpen g a = IsTrue (shown_by g a).is_open
+
+-- The machine's state that the tables are.
+abbrev pub machine : {S : Type 0} → Ghosts S → Seat S → State
+machine g a = tables (shown_by g a)
+
+-- A store that is clean was so before.
+abbrev pub WasClean : {S : Type 0} → Ghosts S → Seat S → Seat S → Type 0
+WasClean g old new = doubt (shown_by g old).is_clean ≤ doubt (shown_by g new).is_clean
+
+-- A crash now leaves the tables alone that the agency reads.
+abbrev pub LeavesItsTables : {S : Type 0} → Ghosts S → Seat S → Type 0
+LeavesItsTables g a = store.LeavesItsTables (shown_by g a)
+
+-- Whatever a crash now leaves are sound tables of which this holds.
+abbrev pub Leaves : {S : Type 0} → Ghosts S → Seat S → (State → Type 0) → Type 0
+Leaves g a P = store.Leaves (shown_by g a) P
+
+-- The state before the command, or the one after it.
+abbrev pub IsBeforeOrAfter : State → Command → State → Type 0
+IsBeforeOrAfter before command left = (left ≡ before) ⊎ (left ≡ (step before command).0)
+
+-- Between calls an agency that has not stopped has sound tables, which are the last commit.
+abbrev pub IsInOrder : {S : Type 0} → Ghosts S → Seat S → Type 0
+IsInOrder g a = a.is_stopped ≡ false → IsClean g a → IsReady (shown_by g a)

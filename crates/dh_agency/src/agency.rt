@@ -1,0 +1,110 @@
+//! An agency over a store, and its calls.
+
+ghost use Rattle.std.specs.Prelude.{◌≡◌, true, false, IfOk, IfErr, OnOk, OnErr, Err};
+ghost use Rattle.sqlite.specs.State.{HasCleanDisk};
+ghost use Rattle.sqlite.specs.Held.{state};
+ghost use Rattle.dh_types.specs.Reports.{report_of};
+ghost use Rattle.dh_rules.specs.Machine.{step, report};
+ghost use Rattle.dh_schema.specs.Store.{IsReady};
+ghost use Rattle.dh_agency.specs.Agency.{IsClean, IsOpen, WasClean, LeavesItsTables, Leaves, IsBeforeOrAfter, machine};
+
+use crate::carrying::carry_out;
+use dh_store::look_up;
+use dh_types::{Answer, Command, Fault, Question, Reply};
+use sqlite::{Alter, Connection};
+use std::alloc::Global;
+use std::marker::Model;
+
+/// An agency. After fault 21 or 22 it answers 23 to every call and touches nothing.
+pub struct Agency<S: Alter> {
+    conn: Connection<S>,
+    is_stopped: bool,
+}
+
+impl<S: Alter> Model for Agency<S> {
+    ghost use Rattle.std.specs.Prelude.{◌≡◌, false};
+    ghost use Rattle.sqlite.specs.State.{HasCleanDisk};
+    ghost use Rattle.sqlite.specs.Held.{state};
+    ghost use Rattle.dh_schema.specs.Store.{IsReady};
+    ghost use Rattle.dh_agency.specs.Seat.{Seat, seat_code};
+
+    ghost Value = { Seat S };
+
+    ghost coded = { seat_code S.code };
+
+    ghost view = { λ a. record { conn = a.conn; is_stopped = a.is_stopped } };
+
+    ghost invariant = { λ a. a.is_stopped ≡ false → HasCleanDisk (state S.Store a.conn) → IsReady (state S.Store a.conn) };
+}
+
+impl<S: Alter> Agency<S> {
+    /// The agency over tables that are ready.
+    pub(crate) fn over(conn: Connection<S>) -> Agency<S>
+        requires { HasCleanDisk (state S.Store conn) → IsReady (state S.Store conn) }
+        ensures { result ≡ record { conn = conn; is_stopped = false } }
+    {
+        Agency {
+            conn,
+            is_stopped: false,
+        }
+    }
+
+    /// Carries out the command and gives its reply; a refusal is a reply and changes nothing. At fault 21 or 22 the
+    /// command happened or not, and the agency has stopped; where it had stopped, fault 23.
+    pub fn step(&mut self, alloc: Global, command: &Command) -> Result<Reply, Fault>
+        ensures said { IsClean S.Store self.new → IfOk result (λ reply. step (machine S.Store self.old) command.now ≡ (machine S.Store self.new, reply)) }
+        ensures left { IsClean S.Store self.new → OnOk result (LeavesItsTables S.Store self.new) }
+        ensures crash { IsClean S.Store self.new → self.old.is_stopped ≡ false → Leaves S.Store self.new (IsBeforeOrAfter (machine S.Store self.old) command.now) }
+        ensures undone { IsClean S.Store self.new → IsOpen S.Store self.new → OnErr result (machine S.Store self.new ≡ machine S.Store self.old) }
+        ensures goes_on { OnOk result ((self.old.is_stopped ≡ false) × (self.new.is_stopped ≡ false)) }
+        ensures stops { OnErr result (self.new.is_stopped ≡ true) }
+        ensures stopped { self.old.is_stopped ≡ true → (result ≡ Err Fault.Stopped) × (self.new ≡ self.old) }
+        ensures was_clean { WasClean S.Store self.old self.new }
+    {
+        if self.is_stopped {
+            return Err(Fault::Stopped);
+        }
+        match carry_out(alloc, &mut self.conn, command) {
+            Ok(reply) => Ok(reply),
+            Err(fault) => {
+                self.is_stopped = true;
+                Err(fault)
+            }
+        }
+    }
+
+    /// Answers the question and changes nothing. At fault 21 or 22 the agency has stopped; where it had stopped, fault 23.
+    pub fn show(&mut self, alloc: Global, question: Question) -> Result<Answer, Fault>
+        ensures said { IsClean S.Store self.new → IfOk result (λ answer. report_of answer ≡ report (machine S.Store self.old) question) }
+        ensures same { IsClean S.Store self.new → OnOk result (machine S.Store self.new ≡ machine S.Store self.old) }
+        ensures left { IsClean S.Store self.new → OnOk result (LeavesItsTables S.Store self.new) }
+        ensures crash { IsClean S.Store self.new → self.old.is_stopped ≡ false → Leaves S.Store self.new (λ left. left ≡ machine S.Store self.old) }
+        ensures undone { IsClean S.Store self.new → IsOpen S.Store self.new → OnErr result (machine S.Store self.new ≡ machine S.Store self.old) }
+        ensures goes_on { OnOk result ((self.old.is_stopped ≡ false) × (self.new.is_stopped ≡ false)) }
+        ensures stops { OnErr result (self.new.is_stopped ≡ true) }
+        ensures stopped { self.old.is_stopped ≡ true → (result ≡ Err Fault.Stopped) × (self.new ≡ self.old) }
+        ensures was_clean { WasClean S.Store self.old self.new }
+    {
+        if self.is_stopped {
+            return Err(Fault::Stopped);
+        }
+        match look_up(alloc, &mut self.conn, question) {
+            Ok(answer) => Ok(answer),
+            Err(fault) => {
+                self.is_stopped = true;
+                Err(fault)
+            }
+        }
+    }
+
+    /// The store, as it is. It takes no memory.
+    pub fn into_store(self) -> Connection<S>
+        ensures { result ≡ self.conn }
+    {
+        let Agency {
+            conn,
+            is_stopped: _,
+        } = self;
+        conn
+    }
+}

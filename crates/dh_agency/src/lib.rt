@@ -1,0 +1,9 @@
+//! The one state that the upper layers use: an agency over a store.
+#![tactic(auto)]
+
+mod agency;
+mod carrying;
+mod opening;
+
+pub use agency::Agency;
+pub use opening::{NotOpened, create};

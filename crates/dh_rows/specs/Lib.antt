@@ -1,0 +1,4 @@
+pub mod Cells
+pub mod Months
+pub mod BranchRows
+pub mod MetaRows

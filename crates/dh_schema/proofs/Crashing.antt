@@ -1,0 +1,22 @@
+-- What a crash leaves, from what calls may commit.
+use Rattle.std.proofs.Common.{◌≡◌, inl, inr, true, IsTrue, ap, sym, subst, ◌∙◌, arith}
+use Rattle.sqlite.specs.Tree.{Trees}
+use Rattle.sqlite.specs.Effect.{Database}
+use Rattle.sqlite.specs.State.{State, HasCleanDisk, Survives}
+use Rattle.sqlite.specs.Store.{Ghosts}
+use Rattle.sqlite.specs.Held.{Held, state}
+use Rattle.sqlite.proofs.StateLemmas.{survives_then, survives_weaker}
+use Rattle.sqlite.proofs.Callers.{survives_begin}
+
+-- nothing is committed by either
+pub survives_both : (a b c : State) → Survives a b (λ _. ⊥) → Survives b c (λ _. ⊥) → Survives a c (λ _. ⊥)
+survives_both a b c = survives_then a b c _ _ _ (λ _ _ none. none) (λ _ _ none. none)
+
+-- a transaction is begun, does these things, and is committed
+pub survives_committed : {S : Type 0} (g : Ghosts S) (old begun last new : Held S) (P : Trees → Type 0) → begun ≡ record old { in_transaction = true }
+    → Survives (state g begun) (state g last) (λ _. ⊥) → (HasCleanDisk (state g last) → P (state g last).now.trees)
+    → Survives (state g last) (state g new) (λ db. db ≡ (state g last).now.trees) → Survives (state g old) (state g new) P
+survives_committed g old begun last new P is inside made commit =
+    survives_then (state g old) (state g last) (state g new) (λ _. ⊥) _ P (λ _ db none. absurd none)
+    (λ clean db same. subst P (sym same) (made (omega (arith, commit.clean, clean))))
+    (survives_begin g old (state g last) _ (rw is at inside)) commit

@@ -1,0 +1,16 @@
+pub mod Running
+pub mod TextMeanings
+pub mod Creating
+pub mod Inserting
+pub mod Selecting
+pub mod Crashing
+pub mod MapLemmas
+pub mod Casting
+pub mod MetaTexts
+pub mod BranchTexts
+pub mod Unique
+pub mod MetaLemmas
+pub mod BranchLemmas
+pub mod Gathering
+pub mod Installing
+pub mod Loading

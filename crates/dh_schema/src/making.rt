@@ -1,0 +1,55 @@
+//! Making the tables of a file.
+
+ghost use Rattle.std.specs.Prelude.{◌≡◌, ◌≤◌, false, IsTrue, Err, OnOk, OnErr};
+ghost use Rattle.sqlite.specs.State.{HasCleanDisk};
+ghost use Rattle.sqlite.specs.Held.{state};
+ghost use Rattle.dh_rules.specs.Books.{start};
+ghost use Rattle.dh_schema.specs.Tables.{empty_over};
+ghost use Rattle.dh_schema.specs.Store.{IsReady, IsBlank, LeavesItsTables, Commits, tables};
+
+use crate::branch::create_branch;
+use crate::fault::fault_of;
+use crate::meta::{create_meta, insert_meta};
+use dh_rows::Meta;
+use dh_types::{Fault, Month};
+use sqlite::{Alter, Connection, Error};
+use std::alloc::Global;
+
+// Makes the tables with this row in meta, in one transaction.
+fn make_tables<S: Alter>(
+    alloc: Global,
+    conn: &mut Connection<S>,
+    months: &Meta,
+) -> Result<(), Error>
+    requires autocommit { (state S.Store conn.old).in_transaction ≡ false }
+    requires blank { IsBlank (state S.Store conn.old) }
+    ensures done { HasCleanDisk (state S.Store conn.new) → OnOk result (IsReady (state S.Store conn.new) × (tables (state S.Store conn.new) ≡ empty_over months.now)) }
+    ensures left { HasCleanDisk (state S.Store conn.new) → OnOk result (LeavesItsTables (state S.Store conn.new)) }
+    ensures undone { HasCleanDisk (state S.Store conn.new) → IsTrue (state S.Store conn.new).is_open → OnErr result ((state S.Store conn.new).committed ≡ (state S.Store conn.old).committed) }
+    ensures survives { Commits (state S.Store conn.old) (state S.Store conn.new) (λ t. t ≡ empty_over months.now) }
+{
+    let mut tx = conn.transaction();
+    create_meta(&mut tx)?;
+    create_branch(&mut tx)?;
+    insert_meta(alloc, &mut tx, months)?;
+    tx.commit()?;
+    Ok(())
+}
+
+/// Makes the tables of empty books that begin with this month, in one transaction.
+/// A file that has an object already is refused as a fault of the store, and nothing changes.
+pub fn install<S: Alter>(alloc: Global, conn: &mut Connection<S>, first: Month) -> Result<(), Fault>
+    requires { first ≤ 26411 }
+    ensures done { HasCleanDisk (state S.Store conn.new) → OnOk result (IsReady (state S.Store conn.new) × (tables (state S.Store conn.new) ≡ start first)) }
+    ensures left { HasCleanDisk (state S.Store conn.new) → OnOk result (LeavesItsTables (state S.Store conn.new)) }
+    ensures undone { HasCleanDisk (state S.Store conn.new) → IsTrue (state S.Store conn.new).is_open → OnErr result ((state S.Store conn.new).committed ≡ (state S.Store conn.old).committed) }
+    ensures occupied { ¬ IsBlank (state S.Store conn.old) → (result ≡ Err Fault.Store) × (conn.new ≡ conn.old) }
+    ensures survives { Commits (state S.Store conn.old) (state S.Store conn.new) (λ t. t ≡ start first) }
+{
+    let schema = conn.schema();
+    let is_blank = schema.tables.is_empty() & schema.indexes.is_empty() & schema.views.is_empty();
+    if !is_blank || !conn.is_autocommit() {
+        return Err(Fault::Store);
+    }
+    make_tables(alloc, conn, &Meta::new(first, first)).map_err(fault_of)
+}

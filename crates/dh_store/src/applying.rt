@@ -1,0 +1,57 @@
+//! One change in one transaction.
+
+ghost use Rattle.std.specs.Prelude.{◌≡◌, ◌⊎◌, false, IsTrue, OnOk, OnErr};
+ghost use Rattle.sqlite.specs.State.{HasCleanDisk};
+ghost use Rattle.sqlite.specs.Held.{state};
+ghost use Rattle.dh_schema.specs.Store.{IsReady, LeavesItsTables, Leaves, Commits, tables};
+ghost use Rattle.dh_store.specs.Store.{with_change};
+
+use dh_rules::Change;
+use dh_schema::{fault_of, insert_branch};
+use dh_types::Fault;
+use sqlite::{Alter, Connection, Error};
+use std::alloc::Global;
+
+// Puts the rows of the change into the tables and commits them.
+fn commit_change<S: Alter>(
+    alloc: Global,
+    conn: &mut Connection<S>,
+    change: &Change,
+) -> Result<(), Error>
+    requires autocommit { (state S.Store conn.old).in_transaction ≡ false }
+    requires ready { HasCleanDisk (state S.Store conn.old) → IsReady (state S.Store conn.old) }
+    ensures done { HasCleanDisk (state S.Store conn.new) → OnOk result (IsReady (state S.Store conn.new) × (tables (state S.Store conn.new) ≡ with_change change.now (tables (state S.Store conn.old)))) }
+    ensures left { HasCleanDisk (state S.Store conn.new) → OnOk result (LeavesItsTables (state S.Store conn.new)) }
+    ensures undone { HasCleanDisk (state S.Store conn.new) → IsTrue (state S.Store conn.new).is_open → OnErr result (tables (state S.Store conn.new) ≡ tables (state S.Store conn.old)) }
+    ensures survives { Commits (state S.Store conn.old) (state S.Store conn.new) (λ t. t ≡ with_change change.now (tables (state S.Store conn.old))) }
+{
+    let mut tx = conn.transaction();
+    match change {
+        Change::Branch(branch) => insert_branch(alloc, &mut tx, branch)?,
+    }
+    tx.commit()?;
+    Ok(())
+}
+
+/// Puts exactly the rows of the change into the tables, in one transaction; at a fault the tables are these or those
+/// before, and while the store is open those before.
+pub fn apply<S: Alter>(
+    alloc: Global,
+    conn: &mut Connection<S>,
+    change: &Change,
+) -> Result<(), Fault>
+    requires { HasCleanDisk (state S.Store conn.old) → IsReady (state S.Store conn.old) }
+    ensures done { HasCleanDisk (state S.Store conn.new) → OnOk result (IsReady (state S.Store conn.new) × (tables (state S.Store conn.new) ≡ with_change change.now (tables (state S.Store conn.old)))) }
+    ensures left { HasCleanDisk (state S.Store conn.new) → OnOk result (LeavesItsTables (state S.Store conn.new)) }
+    ensures undone { HasCleanDisk (state S.Store conn.new) → IsTrue (state S.Store conn.new).is_open → OnErr result (tables (state S.Store conn.new) ≡ tables (state S.Store conn.old)) }
+    ensures crash { HasCleanDisk (state S.Store conn.new) → Leaves (state S.Store conn.new) (λ t. (t ≡ tables (state S.Store conn.old)) ⊎ (t ≡ with_change change.now (tables (state S.Store conn.old)))) }
+    ensures survives { Commits (state S.Store conn.old) (state S.Store conn.new) (λ t. t ≡ with_change change.now (tables (state S.Store conn.old))) }
+{
+    if !conn.is_autocommit() {
+        return Err(Fault::Store);
+    }
+    match commit_change(alloc, conn, change) {
+        Ok(()) => Ok(()),
+        Err(error) => Err(fault_of(error)),
+    }
+}

@@ -1,0 +1,5 @@
+use Rattle.dh_types.proofs.SameBranch.{same_branch}
+use Rattle.dh_types.proofs.laws.same_branches_are_equal.Goals as goal
+
+pub returns : goal.returns
+returns c = same_branch
