@@ -7,6 +7,8 @@ use Rattle.sqlite.specs.Store.{Ghosts}
 use Rattle.sqlite.specs.Held.{Held, state}
 use Rattle.sqlite.proofs.StateLemmas.{survives_then, survives_weaker}
 use Rattle.sqlite.proofs.Callers.{survives_begin}
+use Rattle.dh_rules.specs.Books as machine
+use Rattle.dh_schema.specs.Store.{AreTables, IsReady, Leaves, LeavesItsTables, tables}
 
 -- nothing is committed by either
 pub survives_both : (a b c : State) → Survives a b (λ _. ⊥) → Survives b c (λ _. ⊥) → Survives a c (λ _. ⊥)
@@ -20,3 +22,17 @@ survives_committed g old begun last new P is inside made commit =
     survives_then (state g old) (state g last) (state g new) (λ _. ⊥) _ P (λ _ db none. absurd none)
     (λ clean db same. subst P (sym same) (made (omega (arith, commit.clean, clean))))
     (survives_begin g old (state g last) _ (rw is at inside)) commit
+
+-- between calls a store that is open leaves its last commit, and that is what it shows
+pub ready_leaves : (s : State) → ((left : Trees) → IsTrue s.is_open → s.may_leave left → left ≡ s.committed.trees) → (IsTrue s.is_open → s.may_leave s.committed.trees) → IsReady s → LeavesItsTables s
+ready_leaves s settled stays ready =
+    let same = ap (λ (d : Database). d.trees) (sym ready.settled) in
+    record {
+      only = λ left may. settled left ready.is_open may ∙ same;
+      some = subst s.may_leave same (stays ready.is_open);
+      sound = ready.sound;
+    }
+
+-- tables that are left alone are tables of which this holds
+pub leaves_these : (s : State) (P : machine.State → Type 0) → LeavesItsTables s → P (tables s) → Leaves s P
+leaves_these s P alone holds left may = subst (AreTables P) (sym (alone.only left may)) (alone.sound, holds)

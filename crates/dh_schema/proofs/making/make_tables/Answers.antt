@@ -3,7 +3,7 @@ use Rattle.sqlite.specs.State.{HasCleanDisk, Survives}
 use Rattle.sqlite.specs.Held.{state}
 use Rattle.dh_schema.specs.Tables.{empty_over}
 use Rattle.dh_schema.specs.Store.{AreTables, IsReady, tables}
-use Rattle.dh_schema.proofs.Crashing.{survives_committed, survives_both}
+use Rattle.dh_schema.proofs.Crashing.{ready_leaves, survives_committed, survives_both}
 use Rattle.dh_schema.proofs.Installing.{new_tables, ready_after}
 use Rattle.dh_schema.proofs.making.make_tables.Goals as goal
 
@@ -19,6 +19,11 @@ returns-clause-done g c clean =
     let shown = c.in_ok-commit.ensures.ok done in
     subst (λ h. IsReady (state g.S.Store h) × (tables (state g.S.Store h) ≡ empty_over c.args.months.now)) same
     (ready_after (λ t. t ≡ empty_over c.args.months.now) (state g.S.Store last) (state g.S.Store c.commit.new.self.0) put.0.schema_is shown.1 made)
+
+pub returns-clause-left : goal.returns-clause-left
+returns-clause-left g c clean =
+    let now = c.conn-2-1.given.0 in
+    ready_leaves (state g.S.Store now) (g.met.S.Store.settled now.store) (g.met.S.Store.stays now.store) (returns-clause-done g c clean).0
 
 pub returns-clause-survives : goal.returns-clause-survives
 returns-clause-survives g c =
