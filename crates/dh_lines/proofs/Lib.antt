@@ -1,3 +1,4 @@
+pub mod CrashLemmas
 pub mod FieldLemmas
 pub mod RecordLemmas
 pub mod AllRecords

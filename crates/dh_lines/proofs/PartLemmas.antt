@@ -1,8 +1,9 @@
 -- A text that is written in two parts, the second perhaps only up to a place.
-use Rattle.std.proofs.Common.{◌≡◌, ℕ, Option, List, [], ◌∷◌, ◌++◌, take, Result, Ok, Err, refl, sym, subst, append_assoc, append-nil}
+use Rattle.std.proofs.Common.{◌≡◌, ℕ, Option, List, [], ◌∷◌, ◌++◌, length, take, arith, Result, Ok, Err, refl, sym, subst, append_assoc, append-nil}
 use Rattle.std.specs.Prelude.{IsErr}
 use Rattle.std.specs.Fmt.{decimal}
 use Rattle.std.specs.Io.KnownBytes.{Appends}
+use Rattle.std.proofs.lemmas.List.{take_all}
 use Rattle.std.proofs.KnownBytes.{Appends-trans}
 use Rattle.dh_types.specs.Output.{Puts}
 use Rattle.dh_types.specs.Reports.{report_of}
@@ -51,3 +52,8 @@ module _ {T E : Type 0} (r : Result T E) where
 pub shown_is : (answer : Answer) → ((refusal : Refusal) → answer ≡ Refused refusal → ⊥) → reported_text (report_of answer) ≡ shown_text (report_of answer)
 shown_is (Refused refusal) h = absurd (h refusal refl)
 shown_is _ h = refl
+
+-- whole or not, a beginning was written
+pub some_of : {T E : Type 0} (r : Result T E) (a b : Option (List ℕ)) (text : List ℕ) → Puts a b r text → (m : ℕ) × Appends a b (take m text)
+some_of (Ok x) a b text h = (length text, subst (Appends a b) (sym (take_all (length text) text (omega arith))) h)
+some_of (Err e) a b text h = h

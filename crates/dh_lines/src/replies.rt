@@ -8,10 +8,9 @@ ghost use Rattle.dh_types.specs.Reports.{report_of};
 ghost use Rattle.dh_types.specs.Replies.{refusal_text, reply_text};
 ghost use Rattle.dh_lines.specs.Session.{fault_line, newline, numbered, reported_text, shown_text};
 
-use crate::texts::{put_fault, put_refusal, put_reply};
 use dh_reports::{lines, write};
 use dh_types::writing::{put, put_parts};
-use dh_types::{Answer, Fault, Output, Refusal, Reply};
+use dh_types::{Answer, Fault, Output, Refusal, Reply, put_fault, put_refusal, put_reply};
 use itoa::Buffer;
 use std::io::Write;
 
