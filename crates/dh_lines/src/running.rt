@@ -1,6 +1,6 @@
 //! Running a batch: each record is read, answered and its line written, and then the next one.
 
-ghost use Rattle.std.specs.Prelude.{◌≡◌, ◌⊎◌, false, IfSome};
+ghost use Rattle.std.specs.Prelude.{◌≡◌, ◌⊎◌, true, false, IfSome, if◌then◌else◌};
 ghost use Rattle.dh_agency.specs.Agency.{IsClean, LeavesItsTables, WasClean};
 ghost use Rattle.dh_lines.specs.Batch.{AgreesWithLines, EndsSo, IsAgencyFault};
 
@@ -12,6 +12,13 @@ use dh_types::Fault;
 use sqlite::Alter;
 use std::alloc::Global;
 use std::io::{Read, Write};
+
+// A refusal counts for one.
+fn count_of(is_refused: bool) -> u64
+    ensures { result ≡ (if is_refused then 1 else 0) }
+{
+    is_refused as u64
+}
 
 /// Answers each record of the input by its line, which is written before the next record is read.
 ///
@@ -29,7 +36,7 @@ pub fn batch<S: Alter, R: Read, W: Write>(
     ensures crash { IsClean S.Store agency.new → agency.old.is_stopped ≡ false → LeavesItsTables S.Store agency.old → IfSome (R.remaining reader.old)
         (AgreesWithLines S.Store agency.old agency.new (W.contents writer.old) (W.contents writer.new)) }
     ensures left { IsClean S.Store agency.new → LeavesItsTables S.Store agency.old → agency.new.is_stopped ≡ false → LeavesItsTables S.Store agency.new }
-    ensures stops { IsAgencyFault result ⊎ (agency.new.is_stopped ≡ agency.old.is_stopped) }
+    ensures stops { (agency.new.is_stopped ≡ agency.old.is_stopped) ⊎ (IsAgencyFault result × (agency.new.is_stopped ≡ true)) }
     ensures was_clean { WasClean S.Store agency.old agency.new }
 {
     let mut records = ReaderBuilder::new()
@@ -42,11 +49,15 @@ pub fn batch<S: Alter, R: Read, W: Write>(
         match records.read_byte_record(&mut row) {
             Ok(true) => {}
             Ok(false) => return Ok(Summary { records: n, refused }),
-            Err(e) if e.is_io_error() => return Err(BatchFault::Input),
-            Err(_) => return Err(end_by_fault(writer, n + 1, Fault::Memory)),
+            Err(e) => {
+                if e.is_io_error() {
+                    return Err(BatchFault::Input);
+                }
+                return Err(end_by_fault(writer, n + 1, Fault::Memory));
+            }
         }
         let is_refused = answer(alloc, agency, n + 1, &row, writer)?;
-        refused += is_refused as u64;
+        refused += count_of(is_refused);
     }
     Err(BatchFault::Input)
 }
