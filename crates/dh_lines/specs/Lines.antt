@@ -14,14 +14,14 @@ abbrev pub Fields : Type 0
 Fields = List (List ℕ)
 
 -- the first field, numbered from n, that its test refuses, that is missing, or that is one too many
-abbrev pub first_bad : ℕ → List (List ℕ → Bool) → Fields → Option ℕ
+unfoldable pub first_bad : ℕ → List (List ℕ → Bool) → Fields → Option ℕ
 first_bad n [] [] = None
 first_bad n [] (field ∷ fields) = Some n
 first_bad n (test ∷ tests) [] = Some n
 first_bad n (test ∷ tests) (field ∷ fields) = if test field then first_bad (n + 1) tests fields else Some n
 
 -- fields are numbered from 1
-abbrev pub field : Fields → ℕ → List ℕ
+unfoldable pub field : Fields → ℕ → List ℕ
 field fields n = slice_index_or ([] ∷ fields) n []
 
 -- the request, where no field is bad

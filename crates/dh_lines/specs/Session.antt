@@ -33,11 +33,21 @@ replied after = record { state = after.0; text = reply_text after.1 ++ newline; 
 abbrev pub refused : State → Refusal → Answered
 refused s refusal = record { state = s; text = refusal_text refusal ++ newline; is_refused = true }
 
+-- how many lines a report has, and they
+abbrev pub shown_text : Report → List ℕ
+shown_text it = codes "shown " ++ decimal (line_count it) ++ newline ++ report_text it
+
+-- the text of a report behind the record's number
+abbrev pub reported_text : Report → List ℕ
+reported_text (NoReport refusal) = refusal_text refusal ++ newline
+reported_text (BranchList branches) = shown_text (BranchList branches)
+
+abbrev pub is_no_report : Report → Bool
+is_no_report (NoReport refusal) = true
+is_no_report (BranchList branches) = false
+
 abbrev pub reported : State → Report → Answered
-reported s (NoReport refusal) = refused s refusal
-reported s (BranchList branches) =
-    let it = BranchList branches in
-    record { state = s; text = codes "shown " ++ decimal (line_count it) ++ newline ++ report_text it; is_refused = false }
+reported s it = record { state = s; text = reported_text it; is_refused = is_no_report it }
 
 abbrev pub answered_request : State → Result Request Refusal → Answered
 answered_request s (Ok (Command command)) = replied (step s command)

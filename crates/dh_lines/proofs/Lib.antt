@@ -1,0 +1,7 @@
+pub mod CrashLemmas
+pub mod FieldLemmas
+pub mod RecordLemmas
+pub mod RunningLemmas
+pub mod AllRecords
+pub mod Following
+pub mod PartLemmas

@@ -1,0 +1,18 @@
+use Rattle.std.proofs.Common.{◌++◌}
+use Rattle.dh_types.specs.Replies.{reply_text}
+use Rattle.dh_lines.specs.Session.{newline}
+use Rattle.dh_lines.proofs.PartLemmas.{broke, goes_on, number-broke, number-goes_on}
+use Rattle.dh_lines.proofs.replies.put_reply_line.Goals as goal
+
+pub returns-in_err-put_number : goal.returns-in_err-put_number
+returns-in_err-put_number g c = number-broke c.from_residual.result _ _ c.args.number (reply_text c.args.reply ++ newline) c.from_residual.ensures.0 c.in_err-put_number.ensures
+
+pub returns-in_err-put_reply : goal.returns-in_err-put_reply
+returns-in_err-put_reply g c =
+    number-goes_on c.from_residual-in_err-put_reply.result _ _ _ c.args.number (reply_text c.args.reply ++ newline) c.in_ok-put_number.ensures
+    (broke c.from_residual-in_err-put_reply.result _ _ (reply_text c.args.reply) newline c.from_residual-in_err-put_reply.ensures.0 c.in_err-put_reply.ensures)
+
+pub returns : goal.returns
+returns g c =
+    number-goes_on c.put.result _ _ _ c.args.number (reply_text c.args.reply ++ newline) c.in_ok-put_number.ensures
+    (goes_on c.put.result _ _ _ (reply_text c.args.reply) newline c.in_ok-put_reply.ensures c.put.ensures)

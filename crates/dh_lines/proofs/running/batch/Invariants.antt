@@ -1,0 +1,19 @@
+use Rattle.std.proofs.Common.{◌≡◌, ◌≤◌, IfSome, false}
+use Rattle.csv.specs.Reading.{Ready, default_config, reader_config, reader_trim}
+use Rattle.csv.specs.declared.reader.Trim.TheVariants as trim
+use Rattle.dh_agency.specs.Agency.{IsClean, LeavesItsTables, WasClean, machine}
+use Rattle.dh_lines.proofs.Following.{Follows}
+use Rattle.dh_lines.proofs.running.batch.Given as goal
+
+abbrev pub invariant-loop-n : goal.invariant-loop-n
+invariant-loop-n g l = record {
+  plain : reader_trim l.records ≡ trim.None;
+  ready : Ready l.records;
+  config : reader_config l.records ≡ default_config;
+  few : l.refused ≤ l.n;
+  was_clean : WasClean g.S.Store l.initial.agency l.agency;
+  stopped : l.agency.is_stopped ≡ l.initial.agency.is_stopped;
+  left : IsClean g.S.Store l.agency → LeavesItsTables g.S.Store l.initial.agency → l.agency.is_stopped ≡ false → LeavesItsTables g.S.Store l.agency;
+  follows : IsClean g.S.Store l.agency → IfSome (g.R.Read.remaining l.fn.reader)
+      (Follows (λ r. g.R.Read.remaining r.now) l.records (g.W.Write.contents l.initial.writer) (g.W.Write.contents l.writer) (machine g.S.Store l.initial.agency) (machine g.S.Store l.agency) l.n l.refused);
+}

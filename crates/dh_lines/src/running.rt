@@ -1,0 +1,63 @@
+//! Running a batch: each record is read, answered and its line written, and then the next one.
+
+ghost use Rattle.std.specs.Prelude.{◌≡◌, ◌⊎◌, true, false, IfSome, if◌then◌else◌};
+ghost use Rattle.dh_agency.specs.Agency.{IsClean, LeavesItsTables, WasClean};
+ghost use Rattle.dh_lines.specs.Batch.{AgreesWithLines, EndsSo, IsAgencyFault};
+
+use crate::answering::{answer, end_by_fault};
+use crate::outcome::{BatchFault, Summary};
+use csv::{ByteRecord, ReaderBuilder};
+use dh_agency::Agency;
+use dh_types::Fault;
+use sqlite::Alter;
+use std::alloc::Global;
+use std::io::{Read, Write};
+
+// A refusal counts for one.
+fn count_of(is_refused: bool) -> u64
+    ensures { result ≡ (if is_refused then 1 else 0) }
+{
+    is_refused as u64
+}
+
+/// Answers each record of the input by its line, which is written before the next record is read.
+///
+/// At an `Agency` fault the fault's line was written, as far as the writer took it; the record did not happen, unless a
+/// crash shows it. At `Input` the reader failed, or there were more than 2^64 - 2 records; the lines are those of the
+/// records before. At `Output` the writer failed in the line of a record that was carried out.
+pub fn batch<S: Alter, R: Read, W: Write>(
+    alloc: Global,
+    agency: &mut Agency<S>,
+    reader: &mut R,
+    writer: &mut W,
+) -> Result<Summary, BatchFault>
+    ensures ends { IsClean S.Store agency.new → IfSome (R.remaining reader.old)
+        (EndsSo S.Store agency.old agency.new (W.contents writer.old) (W.contents writer.new) result) }
+    ensures crash { IsClean S.Store agency.new → agency.old.is_stopped ≡ false → LeavesItsTables S.Store agency.old → IfSome (R.remaining reader.old)
+        (AgreesWithLines S.Store agency.old agency.new (W.contents writer.old) (W.contents writer.new)) }
+    ensures left { IsClean S.Store agency.new → LeavesItsTables S.Store agency.old → agency.new.is_stopped ≡ false → LeavesItsTables S.Store agency.new }
+    ensures stops { (agency.new.is_stopped ≡ agency.old.is_stopped) ⊎ (IsAgencyFault result × (agency.new.is_stopped ≡ true)) }
+    ensures was_clean { WasClean S.Store agency.old agency.new }
+{
+    let mut records = ReaderBuilder::new()
+        .has_headers(false)
+        .flexible(true)
+        .from_reader(alloc, reader);
+    let mut row = ByteRecord::new(alloc);
+    let mut refused = 0;
+    for n in 0..u64::MAX {
+        match records.read_byte_record(&mut row) {
+            Ok(true) => {}
+            Ok(false) => return Ok(Summary { records: n, refused }),
+            Err(e) => {
+                if e.is_io_error() {
+                    return Err(BatchFault::Input);
+                }
+                return Err(end_by_fault(writer, n + 1, Fault::Memory));
+            }
+        }
+        let is_refused = answer(alloc, agency, n + 1, &row, writer)?;
+        refused += count_of(is_refused);
+    }
+    Err(BatchFault::Input)
+}
