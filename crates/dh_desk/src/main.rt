@@ -1,9 +1,8 @@
 //! `letting`: the daily system of a property letting agency.
 #![tactic(auto)]
 
-use std::env;
-use std::io;
 use std::process::ExitCode;
+use std::{env, io};
 use subcommands::{Status, desk};
 
 mod subcommands;

@@ -3,15 +3,15 @@
 ghost use Rattle.std.specs.Prelude.{◌≡◌, ◌≢◌, ◌⊎◌, ◌↔◌, ◌<◌, ℕ, [], ◌∷◌, map, codes, IfSome};
 ghost use Rattle.std.specs.Io.KnownBytes.{Appends};
 ghost use Rattle.dh_rules.specs.Books.{start};
+ghost use Rattle.dh_agency.specs.Agency.{IsClean, machine};
 ghost use Rattle.dh_lines.specs.Session.{lines_from, records_of, refused_in};
 ghost use Rattle.dh_desk.specs.Statuses.{status_code};
 
-use dh_agency::create;
+use dh_agency::{Agency, NotOpened, create};
 use dh_lines::batch;
-use dh_schema::fault_of;
 use dh_types::writing::put;
 use dh_types::{Fault, Month, put_fault};
-use sqlite::Connection;
+use sqlite::{Alter, Connection};
 use std::alloc::Global;
 use std::io::{Read, Write};
 
@@ -54,6 +54,30 @@ fn tell_fault<W: Write>(writer: &mut W, fault: Fault) -> Status
     Status::Failed
 }
 
+// Answers the input, and tells how that ended.
+fn answer_all<S: Alter, R: Read, W: Write>(
+    alloc: Global,
+    agency: &mut Agency<S>,
+    reader: &mut R,
+    writer: &mut W,
+) -> Status
+    ensures known { result ≢ Status.BadWords }
+    ensures answered { IsClean S.Store agency.new → (result ≡ Status.Done) ⊎ (result ≡ Status.SomeRefused) → IfSome (R.remaining reader.old) (λ input. Appends (W.contents writer.old) (W.contents writer.new) (lines_from 1 (machine S.Store agency.old) (records_of input))) }
+    ensures done { IsClean S.Store agency.new → result ≡ Status.Done → IfSome (R.remaining reader.old) (λ input. refused_in (machine S.Store agency.old) (records_of input) ≡ 0) }
+    ensures some_refused { IsClean S.Store agency.new → result ≡ Status.SomeRefused → IfSome (R.remaining reader.old) (λ input. 0 < refused_in (machine S.Store agency.old) (records_of input)) }
+{
+    match batch(alloc, agency, reader, writer) {
+        Ok(summary) => {
+            if summary.refused == 0 {
+                Status::Done
+            } else {
+                Status::SomeRefused
+            }
+        }
+        Err(_) => Status::Failed,
+    }
+}
+
 // A batch over an agency in memory.
 fn batch_in_memory<R: Read, W: Write>(alloc: Global, reader: &mut R, writer: &mut W) -> Status
     ensures known { result ≢ Status.BadWords }
@@ -66,15 +90,14 @@ fn batch_in_memory<R: Read, W: Write>(alloc: Global, reader: &mut R, writer: &mu
     };
     let mut agency = match create(alloc, conn, Month::of_number(FIRST_MONTH)) {
         Ok(agency) => agency,
-        Err(not_opened) => return tell_fault(writer, not_opened.cause),
+        Err(NotOpened { cause, conn }) => {
+            drop(conn);
+            return tell_fault(writer, cause);
+        }
     };
-    let ended = batch(alloc, &mut agency, reader, writer);
-    let _closed = agency.into_store();
-    match ended {
-        Ok(summary) if summary.refused == 0 => Status::Done,
-        Ok(_) => Status::SomeRefused,
-        Err(_) => Status::Failed,
-    }
+    let status = answer_all(alloc, &mut agency, reader, writer);
+    drop(agency.into_store());
+    status
 }
 
 /// Does what the words ask for, and tells how the program ends. The words are `batch` alone: the lines that are read are

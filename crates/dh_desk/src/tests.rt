@@ -25,7 +25,8 @@ fn empty_input(rt: HostRuntime) -> Result<(), Fail> {
 
 #[test]
 fn branch_thrice(rt: HostRuntime) -> Result<(), Fail> {
-    let input = b"branch,B001,1 Main St,Leeds,LS1 1AA\nbranch,B001,1 Main St,Leeds,LS1 1AA\nbranch,B001,9 Main St,Leeds,LS1 1AA\n";
+    let input =
+        b"branch,B001,1 Main St,Leeds,LS1 1AA\nbranch,B001,1 Main St,Leeds,LS1 1AA\nbranch,B001,9 Main St,Leeds,LS1 1AA\n";
     let (text, status) = answered(&rt, &["batch"], input)?;
     assert_eq!(rt; text.as_str(), "1 ok\n2 already\n3 refused 1\n");
     assert_eq!(rt; status.code(), 1);
@@ -42,7 +43,11 @@ fn byte_order_mark(rt: HostRuntime) -> Result<(), Fail> {
     let (text, status) = answered(&rt, &["batch"], input)?;
     assert_eq!(rt; text.as_str(), "1 ok\n2 bad field 1\n");
     assert_eq!(rt; status.code(), 1);
-    let (text, _) = answered(&rt, &["batch"], b"branch,B001,\"1, Main St\",Leeds,LS1 1AA\n")?;
+    let (text, _) = answered(
+        &rt,
+        &["batch"],
+        b"branch,B001,\"1, Main St\",Leeds,LS1 1AA\n",
+    )?;
     assert_eq!(rt; text.as_str(), "1 ok\n");
     Ok(())
 }
@@ -50,7 +55,13 @@ fn byte_order_mark(rt: HostRuntime) -> Result<(), Fail> {
 #[test]
 fn other_words(rt: HostRuntime) -> Result<(), Fail> {
     let none: [&str; 0] = [];
-    for words in [none.as_slice(), &["frob"], &["batch", "x"], &["Batch"], &["batch", "batch"]] {
+    for words in [
+        none.as_slice(),
+        &["frob"],
+        &["batch", "x"],
+        &["Batch"],
+        &["batch", "batch"],
+    ] {
         let (text, status) = answered(&rt, words, BRANCH)?;
         assert_eq!(rt; text.as_str(), "");
         assert_eq!(rt; status.code(), 2);
