@@ -1,24 +1,22 @@
 -- From what one record does to what a batch does.
-use Rattle.std.proofs.Common.{◌≡◌, ◌∙◌, ◌⊎◌, inl, inr, ℕ, zero, suc, ◌+◌, ◌≤◌, Bool, true, false, Option, None, Some, IfSome, List, [], ◌∷◌, ◌++◌, length, take, Result, Ok, Err, refl, sym, ap, subst, arith, add-one, append-nil, length-take, slice_get}
+use Rattle.std.proofs.Common.{◌≡◌, ◌∙◌, ◌⊎◌, inl, inr, ℕ, zero, suc, ◌+◌, ◌≤◌, Bool, true, false, Option, List, [], ◌∷◌, ◌++◌, length, take, Result, Ok, Err, refl, sym, ap, subst, arith, add-one, append-nil}
 use Rattle.std.specs.Prelude.{IsErrAnd, if◌then◌else◌}
 use Rattle.std.specs.Io.KnownBytes.{Appends}
 use Rattle.std.proofs.KnownBytes.{Appends-trans}
-use Rattle.std.proofs.lemmas.Option.{IfSome_then}
 use Rattle.csv.specs.declared.reader.Reader.{Reader}
 use Rattle.sqlite.specs.Store.{Ghosts}
 use Rattle.dh_types.specs.declared.reply.Fault.{Fault}
 use Rattle.dh_types.specs.declared.reply.Fault.TheVariants.{Memory}
-use Rattle.dh_rules.specs.Books.{State}
 use Rattle.dh_agency.specs.Seat.{Seat}
-use Rattle.dh_agency.specs.Agency.{IsOpen, LeavesItsTables, machine}
+use Rattle.dh_agency.specs.Agency.{LeavesItsTables, machine}
 use Rattle.dh_lines.specs.Lines.{Fields}
-use Rattle.dh_lines.specs.Session.{answered, fault_line, line, lines_from, records_of, refused_in, state_after}
-use Rattle.dh_lines.specs.Batch.{AgreesWithLines, AnsweredAll, AnsweredFirst, Answers, BrokeOff, EndsEarly, EndsSo, Faulted, LeavesEither}
+use Rattle.dh_lines.specs.Session.{answered, fault_line, line, lines_from, records_of, state_after}
+use Rattle.dh_lines.specs.Batch.{AgreesWithLines, AnsweredAll, AnsweredFirst, EndsEarly, EndsSo, Faulted, IsAgencyFault, LeavesEither}
 use Rattle.dh_lines.specs.declared.outcome.Summary.{Summary}
 use Rattle.dh_lines.specs.declared.outcome.BatchFault.{BatchFault}
 use Rattle.dh_lines.specs.declared.outcome.BatchFault.TheVariants.{Agency, Input, Output}
 use Rattle.dh_lines.proofs.CrashLemmas.{leaves_what_holds}
-use Rattle.dh_lines.proofs.Following.{Ended, Follows, Found, refusals, state-more}
+use Rattle.dh_lines.proofs.Following.{Ended, Follows, Found, state-more}
 
 few : {X : Type 0} (xs : List X) (n : ℕ) → length (take n xs) ≡ n → n ≤ length xs
 few [] zero h = omega arith
@@ -134,6 +132,7 @@ pub one_at_most : (is_refused : Bool) (k : ℕ) → k ≡ (if is_refused then 1 
 one_at_most true k h = omega arith
 one_at_most false k h = omega arith
 
-pub still_on : {Q : Type 0} {before after : Bool} → (after ≡ before) ⊎ (Q × (after ≡ true)) → after ≡ false → before ≡ false
-still_on (inl e) h = sym e ∙ h
-still_on (inr q) h = cc (q.1, h)
+-- an agency that has not stopped after the record had not stopped before it
+pub still_on : (e : BatchFault) {before after : Bool} → (after ≡ before) ⊎ (IsAgencyFault {T = Bool} (Err e) × (after ≡ true)) → after ≡ false → before ≡ false
+still_on e (inl same) h = sym same ∙ h
+still_on e (inr stopped) h = cc (stopped.1, h)

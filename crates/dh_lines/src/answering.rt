@@ -9,10 +9,10 @@ ghost use Rattle.dh_agency.specs.Agency.{IsClean, LeavesItsTables, WasClean, mac
 ghost use Rattle.dh_lines.specs.Session.{answered, fault_line, replied, reported};
 ghost use Rattle.dh_lines.specs.Batch.{Answers, IsAgencyFault, LeavesEither};
 
+use crate::Request;
 use crate::outcome::BatchFault;
 use crate::reading::read_line;
 use crate::replies::{put_answer_line, put_fault_line, put_refused_line, put_reply_line};
-use crate::Request;
 use csv::ByteRecord;
 use dh_agency::Agency;
 use dh_types::{Answer, Command, Fault, Question, Reply};
@@ -96,8 +96,12 @@ pub fn answer<S: Alter, W: Write>(
     ensures was_clean { WasClean S.Store agency.old agency.new }
 {
     match read_line(alloc, row) {
-        Ok(Ok(Request::Command(command))) => answer_command(alloc, agency, number, &command, writer),
-        Ok(Ok(Request::Question(question))) => answer_question(alloc, agency, number, question, writer),
+        Ok(Ok(Request::Command(command))) => answer_command(
+            alloc, agency, number, &command, writer,
+        ),
+        Ok(Ok(Request::Question(question))) => answer_question(
+            alloc, agency, number, question, writer,
+        ),
         Ok(Err(refusal)) => {
             put_refused_line(writer, number, refusal)?;
             Ok(true)

@@ -2,6 +2,7 @@
 #![tactic(auto)]
 
 mod answering;
+pub mod ends;
 mod fields;
 mod outcome;
 mod reading;

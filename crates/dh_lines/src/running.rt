@@ -20,11 +20,12 @@ fn count_of(is_refused: bool) -> u64
     is_refused as u64
 }
 
-/// Answers each record of the input by its line, which is written before the next record is read.
+/// Answers each record of the input by its line, which is written before the next record is read, and gives the counts
+/// of records and refusals.
 ///
-/// At an `Agency` fault the fault's line was written, as far as the writer took it; the record did not happen, unless a
-/// crash shows it. At `Input` the reader failed, or there were more than 2^64 - 2 records; the lines are those of the
-/// records before. At `Output` the writer failed in the line of a record that was carried out.
+/// At an `Agency` fault the agency answered it or memory for reading ran out; the fault's line was written, as far as the
+/// writer took it. At `Input` the reader failed, or 2^64 - 1 records were answered; what was written are whole lines. At
+/// `Output` the writer failed in a line, whose command was carried out.
 pub fn batch<S: Alter, R: Read, W: Write>(
     alloc: Global,
     agency: &mut Agency<S>,
@@ -48,7 +49,10 @@ pub fn batch<S: Alter, R: Read, W: Write>(
     for n in 0..u64::MAX {
         match records.read_byte_record(&mut row) {
             Ok(true) => {}
-            Ok(false) => return Ok(Summary { records: n, refused }),
+            Ok(false) => return Ok(Summary {
+                records: n,
+                refused,
+            }),
             Err(e) => {
                 if e.is_io_error() {
                     return Err(BatchFault::Input);

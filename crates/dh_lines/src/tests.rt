@@ -1,3 +1,4 @@
+use crate::ends::FailingWriter;
 use crate::{
     Request, put_answer_line, put_fault_line, put_refused_line, put_reply_line, read_fields,
     read_line,
@@ -6,9 +7,9 @@ use csv::ReaderBuilder;
 use dh_types::{
     Answer, Branch, Command, Fault, Id, Month, Output, Question, Refusal, Reply, Text60,
 };
-use std::io;
-use std::io::Write;
 use std::test::Fail;
+
+mod batches;
 
 // The record of a line of text.
 fn read(rt: &HostRuntime, line: &[u8]) -> Result<Result<Request, Refusal>, Fail> {
@@ -117,29 +118,6 @@ fn reply_lines(rt: HostRuntime) -> Result<(), Fail> {
     Ok(())
 }
 
-// Keeps a byte at each write, until it has `room` of them.
-#[derive(Drop)]
-struct Short {
-    kept: Vec<u8>,
-    room: usize,
-}
-
-impl Write for Short {
-    fn write(&mut self, buf: &[u8]) -> io::Result<usize> {
-        if self.kept.len() >= self.room || buf.is_empty() {
-            return Ok(0);
-        }
-        match self.kept.push(buf[0]) {
-            Ok(()) => Ok(1),
-            Err(_) => Ok(0),
-        }
-    }
-
-    fn flush(&mut self) -> io::Result<()> {
-        Ok(())
-    }
-}
-
 #[test]
 fn a_report_and_a_writer_that_fails(rt: HostRuntime) -> Result<(), Fail> {
     let mut branches = Vec::new(rt.alloc());
@@ -152,9 +130,9 @@ fn a_report_and_a_writer_that_fails(rt: HostRuntime) -> Result<(), Fail> {
     let answer = Answer::Branches(branches);
     let whole = b"12 shown 1\nB001     Leeds\n".as_slice();
     for room in 0..=whole.len() {
-        let mut out = Short {
-            kept: Vec::new(rt.alloc()),
-            room,
+        let mut out = FailingWriter {
+            inner: Vec::new(rt.alloc()),
+            writes: room as u64,
         };
         let wanted = if room < whole.len() {
             Err(Output)
@@ -166,7 +144,7 @@ fn a_report_and_a_writer_that_fails(rt: HostRuntime) -> Result<(), Fail> {
             wanted,
             "after {room} bytes"
         );
-        assert_eq!(rt; out.kept.as_slice(), &whole[..room]);
+        assert_eq!(rt; out.inner.as_slice(), &whole[..room]);
     }
     Ok(())
 }

@@ -1,11 +1,10 @@
-use Rattle.std.proofs.Common.{◌≡◌, ◌∙◌, ◌+◌, ◌≤◌, MutBor, Option, List, ℕ, None, Some, inl, inr, false, sym, ap, arith, refl}
+use Rattle.std.proofs.Common.{◌≡◌, ◌∙◌, ◌+◌, ◌≤◌, MutBor, Option, List, ℕ, inl, inr, false, sym, ap, arith}
 use Rattle.std.specs.Prelude.{if◌then◌else◌}
 use Rattle.std.proofs.lemmas.Option.{IfSome_then}
 use Rattle.csv.specs.Records.{fields_of}
 use Rattle.dh_types.specs.declared.reply.Fault.TheVariants.{Memory}
-use Rattle.dh_agency.specs.Agency.{IsClean, machine}
-use Rattle.dh_lines.specs.Session.{answered}
-use Rattle.dh_lines.proofs.Following.{goes_on, ends, found, refusals}
+use Rattle.dh_agency.specs.Agency.{IsClean}
+use Rattle.dh_lines.proofs.Following.{goes_on, ends, found}
 use Rattle.dh_lines.proofs.RunningLemmas.{all_answered, first_answered, faulted_between, agrees_between, agrees_now, ends_early, agrees_early, ends_handed, one_at_most, still_on}
 use Rattle.dh_lines.proofs.running.batch.Goals as goal
 
@@ -95,9 +94,9 @@ returns-in_err-is_refused-clause-ends g c clean =
     let was : IsClean g.S.Store c.loop-n.agency = omega (arith, did.was_clean, clean) in
     let next = found rem known c.loop-n.records c.read_byte_record.new.self _ _ _ _ c.loop-n.n c.loop-n.refused f inv.config read (inv.follows was) in
     IfSome_then known next (λ input w.
-        ends_handed g.S.Store c.args.agency.now c.answer.new.agency _ _ c.from_residual.result _ input c.from_residual.ensures.1
-        (ends_early g.S.Store c.args.agency.now c.loop-n.agency c.answer.new.agency _ _ _ rem c.read_byte_record.new.self c.loop-n.n c.loop-n.refused f input w
-        c.in_err-is_refused.field-0.0 (did.answers clean)))
+    ends_handed g.S.Store c.args.agency.now c.answer.new.agency _ _ c.from_residual.result _ input c.from_residual.ensures.1
+    (ends_early g.S.Store c.args.agency.now c.loop-n.agency c.answer.new.agency _ _ _ rem c.read_byte_record.new.self c.loop-n.n c.loop-n.refused f input w
+    c.in_err-is_refused.field-0.0 (did.answers clean)))
 
 pub returns-in_err-is_refused-clause-crash : goal.returns-in_err-is_refused-clause-crash
 returns-in_err-is_refused-clause-crash g c clean live h =
@@ -111,13 +110,13 @@ returns-in_err-is_refused-clause-crash g c clean live h =
     let on : c.loop-n.agency.is_stopped ≡ false = inv.stopped ∙ live in
     let next = found rem known c.loop-n.records c.read_byte_record.new.self _ _ _ _ c.loop-n.n c.loop-n.refused f inv.config read (inv.follows was) in
     IfSome_then known next (λ input w.
-        agrees_early g.S.Store c.args.agency.now c.loop-n.agency c.answer.new.agency _ _ _ rem c.read_byte_record.new.self c.loop-n.n c.loop-n.refused f input w
-        c.in_err-is_refused.field-0.0 (did.answers clean) (did.crash clean on (inv.left was h on)))
+    agrees_early g.S.Store c.args.agency.now c.loop-n.agency c.answer.new.agency _ _ _ rem c.read_byte_record.new.self c.loop-n.n c.loop-n.refused f input w
+    c.in_err-is_refused.field-0.0 (did.answers clean) (did.crash clean on (inv.left was h on)))
 
 pub returns-in_err-is_refused-clause-left : goal.returns-in_err-is_refused-clause-left
 returns-in_err-is_refused-clause-left g c clean h live =
     let inv = c.loop-n.invariant in
     let did = c.in_err-is_refused.ensures in
     let was : IsClean g.S.Store c.loop-n.agency = omega (arith, did.was_clean, clean) in
-    let on : c.loop-n.agency.is_stopped ≡ false = still_on did.stops live in
+    let on : c.loop-n.agency.is_stopped ≡ false = still_on c.in_err-is_refused.field-0.0 did.stops live in
     did.left clean (inv.left was h on) live
