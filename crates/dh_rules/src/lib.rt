@@ -10,3 +10,6 @@ pub use books::Books;
 pub use change::{Change, Verdict};
 pub use open_run::OpenRun;
 pub use program::{answer, decide};
+
+#[cfg(test)]
+mod tests;

@@ -27,7 +27,9 @@ pub fn decide(alloc: Global, books: &Books, command: &Command) -> Result<Verdict
     ensures { IfOk result (λ v. v ≡ verdict_on books.now.books books.now.open_run command.now) }
 {
     match command {
-        Command::Branch(_) if let Some(run) = books.open_run() => Ok(Verdict::Refused(Refusal::RunOpen(run.month))),
+        Command::Branch(_) if let Some(run) = books.open_run() => Ok(Verdict::Refused(
+            Refusal::RunOpen(run.month),
+        )),
         Command::Branch(branch) => decide_branch(alloc, branch, books.branch(&branch.number)),
     }
 }

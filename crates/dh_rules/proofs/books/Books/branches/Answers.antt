@@ -1,9 +1,8 @@
-use Rattle.std.proofs.Common.{◌≡◌, ◌∙◌, List, ap, sym, map}
+use Rattle.std.proofs.Common.{◌∙◌, ap, sym, map}
 use Rattle.std.specs.FinMap as fin
 use Rattle.std.specs.Map.Iter.{deref}
 use Rattle.std.specs.Cmp.Lexicographic.{nat_list_cmp_total}
 use Rattle.std.proofs.lemmas.Map.Iter.{iter_end}
-use Rattle.dh_types.specs.declared.branch.Branch.{Branch}
 use Rattle.dh_rules.specs.Books.{State}
 use Rattle.dh_rules.proofs.MapLemmas.{entries-made}
 use Rattle.dh_rules.proofs.books.Books.branches.Goals as goal
