@@ -8,3 +8,6 @@ mod record;
 
 pub use meta::{Meta, VERSION};
 pub use record::Record;
+
+#[cfg(test)]
+mod tests;
