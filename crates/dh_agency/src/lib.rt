@@ -7,3 +7,6 @@ mod opening;
 
 pub use agency::Agency;
 pub use opening::{NotOpened, create};
+
+#[cfg(test)]
+mod tests;

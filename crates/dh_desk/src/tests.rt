@@ -68,3 +68,24 @@ fn other_words(rt: HostRuntime) -> Result<(), Fail> {
     }
     Ok(())
 }
+
+#[test]
+fn failing_ends(rt: HostRuntime) -> Result<(), Fail> {
+    let mut reader = FailingReader {
+        inner: BRANCH,
+        reads: 3,
+    };
+    let mut written = Vec::new(rt.alloc());
+    let status = desk(&rt, &["batch"], &mut reader, &mut written);
+    assert_eq!(rt; status.code(), 3);
+    assert!(rt; written.is_empty());
+    let mut reader = BRANCH;
+    let mut writer = FailingWriter {
+        inner: Vec::new(rt.alloc()),
+        writes: 2,
+    };
+    let status = desk(&rt, &["batch"], &mut reader, &mut writer);
+    assert_eq!(rt; status.code(), 3);
+    assert_eq!(rt; writer.inner.as_slice(), b"1 ".as_slice());
+    Ok(())
+}

@@ -17,7 +17,7 @@ use sqlite::{Alter, Connection, Row};
 use std::alloc::Global;
 
 // The version of meta's rows, where it has just one.
-fn version_of(rows: &[Row]) -> Result<i64, LoadFault>
+pub(crate) fn version_of(rows: &[Row]) -> Result<i64, LoadFault>
     ensures found { IfOk result (λ n. only_version rows.now ≡ Some n) }
     ensures damaged { result ≡ Err LoadFault.Damaged → only_version rows.now ≡ None }
 {
