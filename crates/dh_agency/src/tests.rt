@@ -30,7 +30,10 @@ fn replies(rt: HostRuntime) -> Result<(), Fail> {
         (opened(alloc, "B3", "1 High St")?, Reply::Accepted),
         (opened(alloc, "B20", "2 High St")?, Reply::Accepted),
         (opened(alloc, "B3", "1 High St")?, Reply::Already),
-        (opened(alloc, "B3", "2 High St")?, Reply::Refused(Refusal::Taken)),
+        (
+            opened(alloc, "B3", "2 High St")?,
+            Reply::Refused(Refusal::Taken),
+        ),
     ];
     let mut agency = match create(alloc, Connection::open_in_memory(alloc)?, january()) {
         Ok(agency) => agency,
@@ -67,7 +70,10 @@ fn a_file_with_a_table_is_left_alone(rt: HostRuntime) -> Result<(), Fail> {
         }
         Err(NotOpened { cause, mut conn }) => {
             assert_eq!(rt; cause, Fault::Store);
-            assert_eq!(rt; conn.query_all("SELECT name FROM sqlite_schema", &[])?.len(), 1);
+            assert_eq!(rt;
+                conn.query_all("SELECT name FROM sqlite_schema", &[])?.len(),
+                1
+            );
             Ok(())
         }
     }
@@ -111,7 +117,10 @@ fn after_stop(
     alloc: Global,
     calls: u64,
 ) -> Result<(Option<usize>, Option<usize>), Fail> {
-    let commands = [opened(alloc, "B1", "1 High St")?, opened(alloc, "B2", "2 High St")?];
+    let commands = [
+        opened(alloc, "B1", "1 High St")?,
+        opened(alloc, "B2", "2 High St")?,
+    ];
     let files = Files {
         log: Fuse::new(Memory::new(alloc), calls),
         db: Fuse::new(Memory::new(alloc), u64::MAX),

@@ -10,6 +10,7 @@ use std::alloc::Global;
 use std::test::Fail;
 
 const META: &str = "SELECT id, version, first_month, next_month FROM meta";
+
 const BRANCHES: &str = "SELECT branch_no, street, city, postcode FROM branch";
 
 fn january() -> Month
@@ -87,7 +88,11 @@ fn rows_of_meta_that_are_damaged(rt: HostRuntime) -> Result<(), Fail> {
         ("UPDATE meta SET next_month = 26413", Some(1)),
     ] {
         let (rows, _) = edited(alloc, sql)?;
-        assert_eq!(rt; only_meta(alloc, &rows).err(), Some(LoadFault::Damaged), "{sql}");
+        assert_eq!(rt;
+            only_meta(alloc, &rows).err(),
+            Some(LoadFault::Damaged),
+            "{sql}"
+        );
         assert_eq!(rt; version_of(&rows).ok(), found, "{sql}");
     }
     Ok(())
@@ -96,7 +101,10 @@ fn rows_of_meta_that_are_damaged(rt: HostRuntime) -> Result<(), Fail> {
 #[test]
 fn rows_of_branch_that_are_damaged(rt: HostRuntime) -> Result<(), Fail> {
     let alloc = rt.alloc();
-    for sql in ["UPDATE branch SET city = ''", "UPDATE branch SET branch_no = 'b1'"] {
+    for sql in [
+        "UPDATE branch SET city = ''",
+        "UPDATE branch SET branch_no = 'b1'",
+    ] {
         let (_, rows) = edited(alloc, sql)?;
         let mut books = Books::new(alloc, january(), january());
         let gathered = gather_branches(alloc, &rows, &mut books);
