@@ -3,8 +3,8 @@ use Rattle.std.proofs.Common.{◌≡◌, ◌∙◌, ℕ, zero, suc, ◌+◌, ◌
 use Rattle.std.specs.Prelude.{IsErrAnd, IsUtf8}
 use Rattle.std.proofs.lemmas.Str.{IsUtf8-from_is_utf8}
 use Rattle.std.specs.Str.{is_utf8, chars}
-use Rattle.dh_types.proofs.Ascii.{and_left}
-use Rattle.dh_types.specs.Texts.{is_text}
+use Rattle.dh_values.proofs.Ascii.{and_left}
+use Rattle.dh_values.specs.Texts.{is_text}
 use Rattle.dh_types.specs.declared.reply.Refusal.{Refusal}
 use Rattle.dh_lines.specs.declared.request.Request.{Request}
 use Rattle.dh_lines.specs.declared.unread.Unread.{Unread}

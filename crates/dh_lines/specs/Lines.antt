@@ -1,6 +1,6 @@
 -- Which request the fields of a record are.
 use Rattle.std.specs.Prelude.{ℕ, ◌+◌, Bool, List, [], ◌∷◌, codes, bytes_eq, drop, slice_index_or, if◌then◌else◌, Option, Some, None, Result, Ok, Err}
-use Rattle.dh_types.specs.Texts.{is_id, is_text}
+use Rattle.dh_values.specs.Texts.{is_id, is_text}
 use Rattle.dh_types.specs.declared.branch.Branch.{Branch}
 use Rattle.dh_types.specs.declared.command.Command.TheVariants as command
 use Rattle.dh_types.specs.declared.command.Question.TheVariants as question

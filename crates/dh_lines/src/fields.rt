@@ -1,7 +1,7 @@
 //! Reading a field of a line. Fields are numbered from 1.
 
 ghost use Rattle.std.specs.Prelude.{◌≡◌, ◌+◌, ◌<◌, ◌≤◌, bytes_eq, map, length, IfOk, MatchResult, IsUtf8};
-ghost use Rattle.dh_types.specs.Texts.{is_id, is_text};
+ghost use Rattle.dh_values.specs.Texts.{is_id, is_text};
 ghost use Rattle.dh_lines.specs.Lines.{field};
 ghost use Rattle.dh_lines.specs.Readings.{ReadsField};
 

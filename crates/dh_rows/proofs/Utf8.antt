@@ -2,8 +2,8 @@
 use Rattle.std.proofs.Common.{◌≡◌, ◌&&◌, ℕ, List, Bool, true, false}
 use Rattle.std.specs.Str.{IsUtf8, is_utf8}
 use Rattle.std.proofs.lemmas.Str.{IsUtf8-from_is_utf8}
-use Rattle.dh_types.specs.Texts.{is_id, is_text}
-use Rattle.dh_types.proofs.Ascii.{is_id-IsUtf8, and_left}
+use Rattle.dh_values.specs.Texts.{is_id, is_text}
+use Rattle.dh_values.proofs.Ascii.{is_id-IsUtf8, and_left}
 
 pub no_id : (bytes : List ℕ) → ¬ IsUtf8 bytes → is_id bytes ≡ true → false ≡ true
 no_id bytes bad h = absurd (bad (is_id-IsUtf8 bytes h))

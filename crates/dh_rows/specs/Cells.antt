@@ -2,7 +2,7 @@
 use Rattle.std.specs.Prelude.{ℕ, ℤ, pos, Bool, false, ◌&&◌, nat_le, List, []}
 use Rattle.sqlite_value.specs.declared.value.Value.{Value}
 use Rattle.sqlite_value.specs.declared.value.Value.TheVariants.{Int, Text}
-use Rattle.dh_types.specs.Texts.{is_id, is_text}
+use Rattle.dh_values.specs.Texts.{is_id, is_text}
 
 abbrev pub is_id_cell : Value → Bool
 is_id_cell (Text bytes) = is_id bytes

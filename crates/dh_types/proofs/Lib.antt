@@ -1,5 +1,2 @@
-pub mod Ascii
-pub mod MonthTexts
-pub mod Powers
 pub mod SameBranch
 pub mod WritingLemmas

@@ -4,7 +4,7 @@ use Rattle.std.specs.Cmp.Lexicographic.{pointwise}
 use Rattle.std.proofs.lemmas.Slice.Eq.{bytes_eq-Decides}
 use Rattle.dh_types.specs.declared.branch.Branch.{Branch}
 use Rattle.dh_types.specs.Branches.{is_same_branch}
-use Rattle.dh_types.proofs.Ascii.{and_left, and_right}
+use Rattle.dh_values.proofs.Ascii.{and_left, and_right}
 
 same_text : (s t : List ℕ) → pointwise nat_eq s t ≡ true → s ≡ t
 same_text s t = (bytes_eq-Decides s t).0

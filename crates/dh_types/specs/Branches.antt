@@ -2,7 +2,7 @@
 use Rattle.std.specs.Prelude.{Bool, true, ◌≡◌, ◌&&◌, nat_eq}
 use Rattle.std.specs.Cmp.Lexicographic.{pointwise}
 use Rattle.dh_types.specs.declared.branch.Branch.{Branch}
-use Rattle.dh_types.specs.Texts.{is_id, is_text}
+use Rattle.dh_values.specs.Texts.{is_id, is_text}
 
 -- all fields are equal
 abbrev pub is_same_branch : Branch → Branch → Bool

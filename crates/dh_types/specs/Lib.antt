@@ -1,5 +1,3 @@
-pub mod Texts
-pub mod Months
 pub mod Output
 pub mod Branches
 pub mod Reports

@@ -1,7 +1,7 @@
 -- The texts of replies, refusals and faults.
 use Rattle.std.specs.Prelude.{ℕ, Bool, true, false, List, ◌++◌, codes}
 use Rattle.std.specs.Fmt.{decimal, signed_decimal}
-use Rattle.dh_types.specs.Months.{month_text}
+use Rattle.dh_days.specs.Months.{month_text}
 use Rattle.dh_types.specs.declared.reply.Reply.{Reply}
 use Rattle.dh_types.specs.declared.reply.Reply.TheVariants.{Accepted, Already, Refused}
 use Rattle.dh_types.specs.declared.reply.Refusal.{Refusal}

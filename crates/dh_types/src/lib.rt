@@ -4,28 +4,19 @@
 mod answer;
 mod branch;
 mod command;
-mod digits;
-mod id;
 pub mod laws;
-mod month;
 mod reply;
 mod reply_text;
-mod text;
 pub mod writing;
 
 pub use answer::Answer;
 pub use branch::Branch;
 pub use command::{Command, Question};
-pub use id::Id;
-pub use month::Month;
+pub use dh_days::Month;
+pub use dh_values::{BadText, Id, Text60};
 pub use reply::{Fault, Refusal, Reply};
 pub use reply_text::{put_fault, put_refusal, put_reply};
-pub use text::Text60;
 pub use writing::Output;
-
-/// A text that is not in the grammar of a value.
-#[derive(Clone, Copy, Debug, PartialEq, Eq)]
-pub struct BadText;
 
 #[cfg(test)]
 mod tests;

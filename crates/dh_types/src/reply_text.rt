@@ -1,7 +1,7 @@
 //! Writing replies, refusals and faults to any writer. It takes no memory.
 
 ghost use Rattle.std.specs.Prelude.{◌++◌};
-ghost use Rattle.dh_types.specs.Months.{month_text};
+ghost use Rattle.dh_days.specs.Months.{month_text};
 ghost use Rattle.dh_types.specs.Output.{Puts};
 ghost use Rattle.dh_types.specs.Replies.{fault_text, refusal_text, reply_text};
 

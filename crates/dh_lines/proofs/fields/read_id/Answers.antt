@@ -1,6 +1,6 @@
 use Rattle.std.proofs.Common.{map, refl}
-use Rattle.dh_types.specs.Texts.{is_id}
-use Rattle.dh_types.proofs.Ascii.{is_id-IsUtf8}
+use Rattle.dh_values.specs.Texts.{is_id}
+use Rattle.dh_values.proofs.Ascii.{is_id-IsUtf8}
 use Rattle.dh_lines.proofs.FieldLemmas.{handed_on, accepted, refused, stopped, apart}
 use Rattle.dh_lines.proofs.fields.read_id.Goals as goal
 

@@ -1,5 +1,5 @@
 use Rattle.std.proofs.Common.{map, refl}
-use Rattle.dh_types.specs.Texts.{is_text}
+use Rattle.dh_values.specs.Texts.{is_text}
 use Rattle.dh_lines.proofs.FieldLemmas.{handed_on, accepted, refused, stopped, apart, no_text60, is_text-IsUtf8}
 use Rattle.dh_lines.specs.declared.unread.Unread.TheVariants.{Memory}
 use Rattle.dh_lines.proofs.fields.read_text60.Goals as goal

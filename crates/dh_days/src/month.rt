@@ -1,0 +1,97 @@
+//! Months, counted.
+
+ghost use Rattle.std.specs.Prelude.{◌≡◌, ◌↔◌, ◌≤◌, IsSome, IfSome, MatchResult, None, Some, pos, ◌≤ℤ◌};
+ghost use Rattle.dh_days.specs.Months.{IsMonth, has_month_form, month_of, month_text};
+
+use dh_values::BadText;
+use dh_values::digits::{are_digits, number};
+use std::fmt;
+use std::marker::Model;
+
+/// A month of the calendar from 2000-01 to 2201-01, of which lines know those to 2200-12.
+/// A clause sees its number, 12 * year + month - 1.
+#[derive(Clone, Copy, Debug, PartialEq, Eq, PartialOrd, Ord)]
+pub struct Month {
+    number: u32,
+}
+
+impl Model for Month {
+    ghost use Rattle.std.specs.Prelude.{ℕ};
+    ghost use Rattle.dh_days.specs.Months.{IsMonth};
+
+    ghost Value = { ℕ };
+
+    ghost view = { λ m. m.number };
+
+    ghost invariant = { λ m. IsMonth m.number };
+
+    ghost inverse = { λ n. record { number = n } };
+}
+
+// Whether it is four digits, a dash and two digits.
+fn has_month_form(bytes: &[u8]) -> bool
+    ensures { result ≡ has_month_form bytes.now }
+{
+    bytes.len() == 7 && are_digits(&bytes[..4]) && bytes[4] == b'-' && are_digits(&bytes[5..])
+}
+
+impl Month {
+    /// The month that the text spells, as `2025-01`: 2000-01 to 2200-12. It takes no memory.
+    /// `BadText` where the text is no such month.
+    pub fn read(text: &str) -> Result<Month, BadText>
+        ensures { MatchResult result (λ m. month_of text.now ≡ Some m) (λ _. month_of text.now ≡ None) }
+    {
+        let bytes = text.as_bytes();
+        if !has_month_form(bytes) {
+            return Err(BadText);
+        }
+        let year = number(&bytes[..4]);
+        let month = number(&bytes[5..]);
+        if year < 2000 || year > 2200 || month < 1 || month > 12 {
+            return Err(BadText);
+        }
+        Ok(Month {
+            number: 12 * year + month - 1,
+        })
+    }
+
+    /// The month of this number, 24000 to 26412. `None` for any other number.
+    pub fn try_of_number(number: i64) -> Option<Month>
+        ensures value { IfSome result (λ m. pos m ≡ number) }
+        ensures exact { IsSome result ↔ ((pos 24000 ≤ℤ number) × (number ≤ℤ pos 26412)) }
+    {
+        if number < 24000 || number > 26412 {
+            return None;
+        }
+        Some(Month {
+            number: number as u32,
+        })
+    }
+
+    /// The month of this number.
+    pub fn of_number(number: u32) -> Month
+        requires { IsMonth number }
+        ensures { result ≡ number }
+    {
+        Month { number }
+    }
+
+    /// 12 * year + month - 1.
+    pub fn number(self) -> u32
+        ensures value { result ≡ self }
+        ensures range { IsMonth self }
+    {
+        self.number
+    }
+}
+
+impl fmt::Display for Month {
+    ghost output = { λ m. Some (month_text m) };
+
+    fn fmt<W: fmt::Write>(&self, f: &mut fmt::Formatter<W>) -> fmt::Result {
+        let year = self.number / 12;
+        let month = self.number % 12 + 1;
+        let (tens, ones) = (month / 10, month % 10);
+        write!(f, "{year}-{tens}{ones}")
+    }
+}

@@ -1,5 +1,0 @@
-use Rattle.dh_types.proofs.MonthTexts.{printed_apart}
-use Rattle.dh_types.proofs.laws.months_print_apart.Goals as goal
-
-pub returns : goal.returns
-returns c = printed_apart

@@ -1,0 +1,108 @@
+//! Short texts: names, streets, cities.
+
+ghost use Rattle.std.specs.Prelude.{◌≡◌, ◌↔◌, true, length, IsTrue, IsOk, IfOk, Some, nat_eq};
+ghost use Rattle.std.specs.Str.{chars};
+ghost use Rattle.std.specs.List.{list_all};
+ghost use Rattle.std.specs.Cmp.{partial_equiv_from_equiv};
+ghost use Rattle.std.specs.Cmp.Lexicographic.{pointwise, nat_list_eq_equiv};
+ghost use Rattle.dh_values.specs.Texts.{is_text, is_printable};
+
+use crate::BadText;
+use std::alloc::{AllocError, Global};
+use std::fmt;
+use std::marker::Model;
+
+/// 1 to 60 characters, none below U+0020, none U+007F.
+#[derive(Drop)]
+pub struct Text60 {
+    text: String,
+}
+
+impl Model for Text60 {
+    ghost use Rattle.std.specs.Prelude.{◌≡◌, true, List, ℕ, string_bytes};
+    ghost use Rattle.dh_values.specs.Texts.{is_text};
+
+    ghost Value = { List ℕ };
+
+    ghost view = { λ t. string_bytes t.text };
+
+    ghost invariant = { λ t. is_text 60 (string_bytes t.text) ≡ true };
+}
+
+fn is_printable(c: char) -> bool
+    ensures { result ≡ is_printable c }
+{
+    c >= ' ' && c != '\u{7F}'
+}
+
+fn character_count(text: &str) -> usize
+    ensures { result ≡ length (chars text.now) }
+{
+    text.chars().count()
+}
+
+fn are_printable(text: &str) -> bool
+    ensures { result ≡ list_all is_printable (chars text.now) }
+{
+    text.chars().all(is_printable)
+}
+
+// Whether it has 1 to so many characters, each of them printable.
+fn is_text(most: usize, text: &str) -> bool
+    ensures { result ≡ is_text most text.now }
+{
+    let count = character_count(text);
+    1 <= count && count <= most && are_printable(text)
+}
+
+impl Text60 {
+    /// The text, where it is one. Want of memory is the outer error.
+    pub fn read(alloc: Global, text: &str) -> Result<Result<Text60, BadText>, AllocError>
+        ensures value { IfOk result (λ r. IfOk r (λ t. t ≡ text.now)) }
+        ensures exact { IfOk result (λ r. IsOk r ↔ IsTrue (is_text 60 text.now)) }
+    {
+        if !is_text(60, text) {
+            return Ok(Err(BadText));
+        }
+        let text = String::from_str(alloc, text)?;
+        Ok(Ok(Text60 { text }))
+    }
+
+    /// The characters.
+    pub fn as_str(&self) -> &str
+        ensures text { result.now ≡ self.now }
+        ensures grammar { is_text 60 self.now ≡ true }
+    {
+        self.text.as_str()
+    }
+
+    /// The same text in memory of its own.
+    pub fn try_clone(&self, alloc: Global) -> Result<Text60, AllocError>
+        ensures { IfOk result (λ t. t ≡ self.now) }
+    {
+        let text = String::from_str(alloc, self.as_str())?;
+        Ok(Text60 { text })
+    }
+}
+
+impl PartialEq for Text60 {
+    ghost eq = { λ s t. pointwise nat_eq s t };
+
+    ghost laws = { partial_equiv_from_equiv nat_list_eq_equiv };
+
+    fn eq(&self, other: &Self) -> bool {
+        self.as_str() == other.as_str()
+    }
+}
+
+impl Eq for Text60 {
+    ghost laws = { nat_list_eq_equiv };
+}
+
+impl fmt::Display for Text60 {
+    ghost output = { λ t. Some t };
+
+    fn fmt<W: fmt::Write>(&self, f: &mut fmt::Formatter<W>) -> fmt::Result {
+        f.pad(self.as_str())
+    }
+}
