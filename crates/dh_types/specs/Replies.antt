@@ -1,32 +1,65 @@
 -- The texts of replies, refusals and faults.
-use Rattle.std.specs.Prelude.{ℕ, Bool, true, false, List, ◌++◌, codes}
+use Rattle.std.specs.Prelude.{ℕ, Bool, true, false, List, ◌∷◌, ◌++◌, codes, pos}
 use Rattle.std.specs.Fmt.{decimal, signed_decimal}
+use Rattle.dh_values.specs.Money.{money_text}
 use Rattle.dh_days.specs.Months.{month_text}
+use Rattle.dh_types.specs.declared.run.RunSum.{RunSum}
+use Rattle.dh_types.specs.declared.reply.Progress.{Progress}
 use Rattle.dh_types.specs.declared.reply.Reply.{Reply}
-use Rattle.dh_types.specs.declared.reply.Reply.TheVariants.{Accepted, Already, Refused}
+use Rattle.dh_types.specs.declared.reply.Reply.TheVariants as reply
 use Rattle.dh_types.specs.declared.reply.Refusal.{Refusal}
-use Rattle.dh_types.specs.declared.reply.Refusal.TheVariants.{Taken, RunOpen, BadLine, Version, Damaged}
+use Rattle.dh_types.specs.declared.reply.Refusal.TheVariants as refusal
 use Rattle.dh_types.specs.declared.reply.Fault.{Fault}
-use Rattle.dh_types.specs.declared.reply.Fault.TheVariants.{Memory, Store, Stopped}
+use Rattle.dh_types.specs.declared.reply.Fault.TheVariants as fault
 
 -- a refusal by its number, and the value that it carries
 abbrev pub refusal_text : Refusal → List ℕ
-refusal_text Taken = codes "refused 1"
-refusal_text (RunOpen month) = codes "refused 10 " ++ month_text month
-refusal_text (BadLine field) = codes "bad field " ++ decimal field
-refusal_text (Version found) = codes "refused 16 " ++ signed_decimal found
-refusal_text (Damaged rule) = codes "refused 17 " ++ decimal rule
+refusal_text refusal.Taken = codes "refused 1"
+refusal_text (refusal.Unknown field) = codes "refused 2 " ++ decimal field
+refusal_text refusal.WrongBranch = codes "refused 3"
+refusal_text refusal.TooMany = codes "refused 4"
+refusal_text (refusal.Overlap lease) = codes "refused 5 " ++ decimal lease
+refusal_text (refusal.ClientStart lease) = codes "refused 6 " ++ decimal lease
+refusal_text (refusal.MonthPosted next) = codes "refused 7 " ++ month_text next
+refusal_text (refusal.NotNextMonth next) = codes "refused 8 " ++ month_text next
+refusal_text refusal.KeyUsed = codes "refused 9"
+refusal_text (refusal.RunOpen month) = codes "refused 10 " ++ month_text month
+refusal_text (refusal.DepositAmount expected) = codes "refused 11 " ++ money_text (pos expected)
+refusal_text refusal.DepositPaid = codes "refused 12"
+refusal_text refusal.NotRegistered = codes "refused 13"
+refusal_text refusal.NoRun = codes "refused 14"
+refusal_text (refusal.BadLine field) = codes "bad field " ++ decimal field
+refusal_text (refusal.Version found) = codes "refused 16 " ++ signed_decimal found
+refusal_text (refusal.Damaged rule) = codes "refused 17 " ++ decimal rule
+refusal_text refusal.Full = codes "refused 18"
+
+-- the month of a run, its count and its total
+abbrev pub sum_text : RunSum → List ℕ
+sum_text sum = month_text sum.month ++ 32 ∷ decimal sum.count ++ 32 ∷ money_text (pos sum.total)
+
+abbrev pub posted_text : RunSum → List ℕ
+posted_text sum = codes "posted " ++ sum_text sum
+
+-- the month of a run, and how many of how many batches are done
+abbrev pub progress_text : Progress → List ℕ
+progress_text run = month_text run.month ++ 32 ∷ decimal run.done ++ codes " of " ++ decimal run.of
 
 abbrev pub reply_text : Reply → List ℕ
-reply_text Accepted = codes "ok"
-reply_text Already = codes "already"
-reply_text (Refused refusal) = refusal_text refusal
+reply_text reply.Accepted = codes "ok"
+reply_text reply.Already = codes "already"
+reply_text (reply.Receipt number) = codes "receipt " ++ decimal number
+reply_text (reply.AlreadyReceipt number) = codes "already receipt " ++ decimal number
+reply_text (reply.Opened month) = codes "opened " ++ month_text month
+reply_text (reply.Part run) = codes "part " ++ progress_text run
+reply_text (reply.Posted sum) = posted_text sum
+reply_text (reply.AlreadyPosted sum) = codes "already " ++ posted_text sum
+reply_text (reply.Refused why) = refusal_text why
 
 abbrev pub fault_text : Fault → List ℕ
-fault_text Memory = codes "fault 21"
-fault_text Store = codes "fault 22"
-fault_text Stopped = codes "fault 23"
+fault_text fault.Memory = codes "fault 21"
+fault_text fault.Store = codes "fault 22"
+fault_text fault.Stopped = codes "fault 23"
 
 abbrev pub is_refusal : Reply → Bool
-is_refusal (Refused refusal) = true
+is_refusal (reply.Refused why) = true
 is_refusal _ = false

@@ -1,12 +1,51 @@
 //! What a question is answered.
 
-use crate::{Branch, Refusal};
+use crate::{Balance, Branch, Charge, Id, Lease, LeaseNo, Part, Property, Receipt, Refusal, RunSum, Text60};
 
 /// The answer to a question.
 #[derive(Drop)]
 pub enum Answer {
     /// The branches, rising by number.
     Branches(Vec<Branch>),
-    /// The question was refused.
+    /// The properties that no lease covers, rising by number.
+    Vacant(Vec<Property>),
+    /// The properties that match, rising by rent and then by number.
+    Matching(Vec<Property>),
+    Statement(Statement),
+    Arrears(Arrears),
+    Run(RunReport),
+    /// The question can't be answered.
     Refused(Refusal),
+}
+
+/// A lease, its charges rising by index, its receipts rising by number, and its balance.
+#[derive(Drop)]
+pub struct Statement {
+    pub lease: Lease,
+    pub charges: Vec<Charge>,
+    pub receipts: Vec<Receipt>,
+    pub balance: Balance,
+}
+
+/// The leases on which rent is owed, rising by number, and the sum of what is owed.
+#[derive(Drop)]
+pub struct Arrears {
+    pub debts: Vec<Debt>,
+    pub total: Balance,
+}
+
+/// A lease on which rent is owed.
+#[derive(Drop)]
+pub struct Debt {
+    pub lease: LeaseNo,
+    pub client: Id,
+    pub balance: Balance,
+    pub name: Text60,
+}
+
+/// The parts of a closed run, rising by branch, and what it comes to.
+#[derive(Drop)]
+pub struct RunReport {
+    pub parts: Vec<Part>,
+    pub sum: RunSum,
 }

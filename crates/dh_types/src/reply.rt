@@ -3,7 +3,7 @@
 ghost use Rattle.std.specs.Prelude.{◌≡◌, Some};
 ghost use Rattle.dh_types.specs.Replies.{fault_text, is_refusal, refusal_text, reply_text};
 
-use crate::Month;
+use crate::{EntryMonth, LeaseNo, Month, Pence, ReceiptNo, RunSum};
 use std::fmt;
 
 /// The answer to a command.
@@ -13,23 +13,69 @@ pub enum Reply {
     Accepted,
     /// What the command asks for is there already; nothing changed.
     Already,
+    /// The payment was accepted and got this number.
+    Receipt(ReceiptNo),
+    /// It was accepted before, with this number; nothing changed.
+    AlreadyReceipt(ReceiptNo),
+    /// The rent run of this month was opened.
+    Opened(EntryMonth),
+    /// The rent run is open and so far done.
+    Part(Progress),
+    /// The rent run was closed.
+    Posted(RunSum),
+    /// It was closed before; nothing changed.
+    AlreadyPosted(RunSum),
     /// The command was refused; nothing changed.
     Refused(Refusal),
+}
+
+/// How far an open rent run is: so many of its batches are done.
+#[derive(Clone, Copy, Debug, PartialEq, Eq)]
+pub struct Progress {
+    pub month: EntryMonth,
+    pub done: u128,
+    pub of: u128,
 }
 
 /// Why a command, a question, a line or a file is refused.
 #[derive(Clone, Copy, Debug, PartialEq, Eq)]
 pub enum Refusal {
-    /// The number is there with other fields.
+    /// The number or pair is there with other fields.
     Taken,
+    /// The field that names something absent.
+    Unknown(u8),
+    /// The member of staff belongs to another branch.
+    WrongBranch,
+    /// The member of staff manages 100 other properties.
+    TooMany,
+    /// The least number of a lease that covers a common day.
+    Overlap(LeaseNo),
+    /// The client's lease that starts that day.
+    ClientStart(LeaseNo),
+    /// The start lies before this month, the next to be run.
+    MonthPosted(Month),
+    /// The run is not for this month, the next to be run.
+    NotNextMonth(Month),
+    /// The key is kept with other content.
+    KeyUsed,
     /// A rent run of this month is open.
     RunOpen(Month),
+    /// A deposit on the lease is this amount.
+    DepositAmount(Pence),
+    /// The lease has a deposit receipt.
+    DepositPaid,
+    /// The client is not registered at the property's branch.
+    NotRegistered,
+    /// No run is open, or that month is not run.
+    NoRun,
     /// The first field of a line that is wrong, missing or too many.
     BadLine(u8),
     /// The file has this version, which is not this program's.
     Version(i64),
     /// The first audit rule that the file breaks.
     Damaged(u8),
+    /// All receipt numbers are given.
+    Full,
 }
 
 /// What an agency answers where it could not do its work.
@@ -52,6 +98,17 @@ impl Reply {
     }
 }
 
+impl fmt::Display for RunSum {
+    ghost use Rattle.std.specs.Prelude.{Some};
+    ghost use Rattle.dh_types.specs.Replies.{posted_text};
+
+    ghost output = { λ sum. Some (posted_text sum) };
+
+    fn fmt<W: fmt::Write>(&self, f: &mut fmt::Formatter<W>) -> fmt::Result {
+        write!(f, "posted {} {} {}", self.month, self.count, self.total)
+    }
+}
+
 impl fmt::Display for Reply {
     ghost output = { λ r. Some (reply_text r) };
 
@@ -59,6 +116,12 @@ impl fmt::Display for Reply {
         match self {
             Reply::Accepted => write!(f, "ok"),
             Reply::Already => write!(f, "already"),
+            Reply::Receipt(number) => write!(f, "receipt {number}"),
+            Reply::AlreadyReceipt(number) => write!(f, "already receipt {number}"),
+            Reply::Opened(month) => write!(f, "opened {month}"),
+            Reply::Part(run) => write!(f, "part {} {} of {}", run.month, run.done, run.of),
+            Reply::Posted(sum) => write!(f, "{sum}"),
+            Reply::AlreadyPosted(sum) => write!(f, "already {sum}"),
             Reply::Refused(refusal) => write!(f, "{refusal}"),
         }
     }
@@ -70,10 +133,23 @@ impl fmt::Display for Refusal {
     fn fmt<W: fmt::Write>(&self, f: &mut fmt::Formatter<W>) -> fmt::Result {
         match self {
             Refusal::Taken => write!(f, "refused 1"),
+            Refusal::Unknown(field) => write!(f, "refused 2 {field}"),
+            Refusal::WrongBranch => write!(f, "refused 3"),
+            Refusal::TooMany => write!(f, "refused 4"),
+            Refusal::Overlap(lease) => write!(f, "refused 5 {lease}"),
+            Refusal::ClientStart(lease) => write!(f, "refused 6 {lease}"),
+            Refusal::MonthPosted(next) => write!(f, "refused 7 {next}"),
+            Refusal::NotNextMonth(next) => write!(f, "refused 8 {next}"),
+            Refusal::KeyUsed => write!(f, "refused 9"),
             Refusal::RunOpen(month) => write!(f, "refused 10 {month}"),
+            Refusal::DepositAmount(expected) => write!(f, "refused 11 {expected}"),
+            Refusal::DepositPaid => write!(f, "refused 12"),
+            Refusal::NotRegistered => write!(f, "refused 13"),
+            Refusal::NoRun => write!(f, "refused 14"),
             Refusal::BadLine(field) => write!(f, "bad field {field}"),
             Refusal::Version(found) => write!(f, "refused 16 {found}"),
             Refusal::Damaged(rule) => write!(f, "refused 17 {rule}"),
+            Refusal::Full => write!(f, "refused 18"),
         }
     }
 }

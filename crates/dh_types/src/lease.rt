@@ -1,0 +1,51 @@
+//! Leases, what falls due on them, and what is paid.
+
+use crate::{
+    Amount, ChargeIndex, Day, EntryDay, EntryMonth, Id, Key, LeaseMonths, LeaseNo, PaymentMethod,
+    ReceiptKind, ReceiptNo, Rent,
+};
+
+/// What a client signs: the property from the start day on, for so many months.
+#[derive(Clone, Copy, PartialEq, Eq)]
+pub struct LeaseTerms {
+    pub number: LeaseNo,
+    pub client: Id,
+    pub property: Id,
+    pub start: EntryDay,
+    pub months: LeaseMonths,
+    pub method: PaymentMethod,
+}
+
+/// A lease: its terms, and the rent that the property had when they were signed.
+#[derive(Clone, Copy, PartialEq, Eq)]
+pub struct Lease {
+    pub terms: LeaseTerms,
+    pub rent: Rent,
+}
+
+/// Rent that fell due on a lease. There is one for a lease and an index.
+#[derive(Clone, Copy, PartialEq, Eq)]
+pub struct Charge {
+    pub lease: LeaseNo,
+    pub index: ChargeIndex,
+    pub month: EntryMonth,
+    pub day: Day,
+    pub amount: Rent,
+}
+
+/// What is paid on a lease, and what for.
+#[derive(Clone, Copy, PartialEq, Eq)]
+pub struct Payment {
+    pub lease: LeaseNo,
+    pub kind: ReceiptKind,
+    pub amount: Amount,
+    pub day: EntryDay,
+}
+
+/// A payment that was accepted under this key, with the number that it got.
+#[derive(Clone, Copy, PartialEq, Eq)]
+pub struct Receipt {
+    pub number: ReceiptNo,
+    pub key: Key,
+    pub payment: Payment,
+}
