@@ -1,11 +1,23 @@
-//! The values of a letting agency: codes and texts, and which texts are values.
+//! The values of a letting agency: codes, texts and numbers, and which texts are values.
 #![tactic(auto)]
 
+mod batch_count;
+mod charge_index;
 pub mod digits;
 mod id;
+mod lease_months;
+mod lease_no;
+mod receipt_no;
+mod rooms;
 mod text;
 
+pub use batch_count::BatchCount;
+pub use charge_index::ChargeIndex;
 pub use id::Id;
+pub use lease_months::LeaseMonths;
+pub use lease_no::LeaseNo;
+pub use receipt_no::ReceiptNo;
+pub use rooms::Rooms;
 pub use text::Text60;
 
 /// A text that is not in the grammar of a value.
