@@ -1,3 +1,4 @@
 pub mod Texts
 pub mod Numbers
 pub mod Counts
+pub mod Kinds
