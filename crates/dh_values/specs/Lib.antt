@@ -2,3 +2,4 @@ pub mod Texts
 pub mod Numbers
 pub mod Counts
 pub mod Kinds
+pub mod Money
