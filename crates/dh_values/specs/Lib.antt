@@ -1,2 +1,5 @@
 pub mod Texts
 pub mod Numbers
+pub mod Counts
+pub mod Kinds
+pub mod Money

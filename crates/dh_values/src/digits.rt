@@ -1,9 +1,11 @@
 //! Numbers of few digits.
 
-ghost use Rattle.std.specs.Prelude.{◌≡◌, ◌^◌, ◌<◌, ◌≤◌, true, length};
+ghost use Rattle.std.specs.Prelude.{◌≡◌, ◌^◌, ◌<◌, ◌≤◌, true, length, Some, None, MatchResult};
 ghost use Rattle.std.specs.Char.{is_ascii_digit};
 ghost use Rattle.std.specs.List.{list_all};
-ghost use Rattle.dh_values.specs.Numbers.{number};
+ghost use Rattle.dh_values.specs.Numbers.{is_numeral, number, numeral_of, within};
+
+use crate::BadText;
 
 /// Whether each byte is a digit.
 pub fn are_digits(bytes: &[u8]) -> bool
@@ -14,14 +16,41 @@ pub fn are_digits(bytes: &[u8]) -> bool
 
 /// The number that the digits spell.
 pub fn number(bytes: &[u8]) -> u32
-    requires few { length bytes.now ≤ 4 }
+    requires few { length bytes.now ≤ 8 }
     requires digits { list_all is_ascii_digit bytes.now ≡ true }
     ensures value { result ≡ number bytes.now }
-    ensures bound { result < 10 ^ 4 }
+    ensures bound { result < 10 ^ 8 }
 {
     let mut n = 0u32;
     for b in bytes {
         n = 10 * n + (*b - b'0') as u32;
     }
     n
+}
+
+fn is_numeral(bytes: &[u8]) -> bool
+    ensures { result ≡ is_numeral bytes.now }
+{
+    1 <= bytes.len() && bytes[0] != b'0' && are_digits(bytes)
+}
+
+/// The number from `low` to `high` that the text spells without a leading zero. It takes no
+/// memory. `BadText` where the text spells no such number.
+pub(crate) fn read_within(low: u32, high: u32, text: &str) -> Result<u32, BadText>
+    requires { high < 10 ^ 8 }
+    ensures { MatchResult result (λ n. within low high (numeral_of text.now) ≡ Some n) (λ _. within low high (numeral_of text.now) ≡ None) }
+{
+    let bytes = text.as_bytes();
+    if !is_numeral(bytes) {
+        return Err(BadText);
+    }
+    // A longer one is too large, since its first digit is no zero.
+    if bytes.len() > 8 {
+        return Err(BadText);
+    }
+    let n = number(bytes);
+    if n < low || n > high {
+        return Err(BadText);
+    }
+    Ok(n)
 }

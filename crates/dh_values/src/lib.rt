@@ -1,11 +1,31 @@
-//! The values of a letting agency: codes and texts, and which texts are values.
+//! The values of a letting agency: codes, texts and numbers, and which texts are values.
 #![tactic(auto)]
 
+mod amount;
+mod batch_count;
+mod charge_index;
 pub mod digits;
 mod id;
+mod kinds;
+mod lease_months;
+mod lease_no;
+mod pence;
+mod receipt_no;
+mod rent;
+mod rooms;
 mod text;
 
+pub use amount::Amount;
+pub use batch_count::BatchCount;
+pub use charge_index::ChargeIndex;
 pub use id::Id;
+pub use kinds::{PaymentMethod, Position, PropertyType, ReceiptKind};
+pub use lease_months::LeaseMonths;
+pub use lease_no::LeaseNo;
+pub use pence::Pence;
+pub use receipt_no::ReceiptNo;
+pub use rent::Rent;
+pub use rooms::Rooms;
 pub use text::Text60;
 
 /// A text that is not in the grammar of a value.

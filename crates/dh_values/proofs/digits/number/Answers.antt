@@ -1,6 +1,16 @@
-use Rattle.std.proofs.Common.{arith}
+use Rattle.std.proofs.Common.{◌^◌, ◌<◌, arith, rules}
 use Rattle.dh_values.proofs.Powers.{power_small}
 use Rattle.dh_values.proofs.digits.number.Goals as goal
 
+pub overflow_mul-n : goal.overflow_mul-n
+overflow_mul-n c =
+    let small : c.loop-b.n < 10 ^ 7 = omega (arith, power_small 7 c.loop-b.b-index (omega arith)) in
+    search rules
+
+pub overflow_add-n : goal.overflow_add-n
+overflow_add-n c =
+    let small : c.loop-b.n < 10 ^ 7 = omega (arith, power_small 7 c.loop-b.b-index (omega arith)) in
+    search rules
+
 pub returns-clause-bound : goal.returns-clause-bound
-returns-clause-bound c = omega (arith, power_small c.loop-b.b-index (omega arith))
+returns-clause-bound c = omega (arith, power_small 8 c.loop-b.b-index (omega arith))
