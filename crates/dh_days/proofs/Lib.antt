@@ -1,1 +1,2 @@
 pub mod MonthTexts
+pub mod MonthsLater

@@ -5,7 +5,7 @@ use Rattle.std.specs.Fmt.{decimal}
 use Rattle.std.proofs.lemmas.Bool.Decides.{nat_tests}
 use Rattle.std.proofs.lemmas.Fmt.{decimal_digit, decimal_step}
 use Rattle.dh_values.specs.Numbers.{number}
-use Rattle.dh_days.specs.Months.{IsMonth, has_month_form, month_of, month_text}
+use Rattle.dh_days.specs.Months.{IsMonth, IsEntryMonth, has_month_form, month_of, month_text}
 
 four_digits : (y : ℕ) → 1000 ≤ y → y < 10000
     → decimal y ≡ (48 + y / 10 / 10 / 10) ∷ (48 + y / 10 / 10 % 10) ∷ (48 + y / 10 % 10) ∷ (48 + y % 10) ∷ []
@@ -70,9 +70,9 @@ read_parts : (text : List ℕ) (y m : ℕ) → has_month_form text ≡ true → 
     → 2000 ≤ y → y ≤ 2200 → 1 ≤ m → m ≤ 12 → month_of text ≡ Some (12 * y + m - 1)
 read_parts text y m form year month a b c d = rw (form, year, month, at_least 2000 y a, at_least y 2200 b, at_least 1 m c, at_least m 12 d) refl
 
-pub printed_read : (n : ℕ) → 24000 ≤ n → n ≤ 26411 → month_of (month_text n) ≡ Some n
-printed_read n low high =
-    let s = shown n (low, omega arith) in
+pub printed_read : (n : ℕ) → IsEntryMonth n → month_of (month_text n) ≡ Some n
+printed_read n h =
+    let s = shown n (h.0, omega arith) in
     let same : 12 * (n / 12) + (n % 12 + 1) - 1 ≡ n = omega arith in
     read_parts (month_text n) (n / 12) (n % 12 + 1) s.form s.year s.month (omega arith) (omega arith) (omega arith) (omega arith) ∙ ap (λ k. Some k) same
 

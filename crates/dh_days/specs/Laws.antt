@@ -1,10 +1,10 @@
 -- What the definitions owe each other.
-use Rattle.std.specs.Prelude.{ℕ, ◌≡◌, ◌≤◌, Some}
-use Rattle.dh_days.specs.Months.{IsMonth, month_of, month_text}
+use Rattle.std.specs.Prelude.{ℕ, ◌≡◌, Some}
+use Rattle.dh_days.specs.Months.{IsMonth, IsEntryMonth, month_of, month_text}
 
--- a month of 2000-01 to 2200-12 that is printed and read is itself
+-- a month that lines know, printed and read, is itself
 abbrev pub PrintedMonthsAreRead : Type 0
-PrintedMonthsAreRead = (n : ℕ) → 24000 ≤ n → n ≤ 26411 → month_of (month_text n) ≡ Some n
+PrintedMonthsAreRead = (n : ℕ) → IsEntryMonth n → month_of (month_text n) ≡ Some n
 
 -- months that print as one are one
 abbrev pub MonthsPrintApart : Type 0

@@ -1,2 +1,4 @@
 pub mod Months
+pub mod Days
+pub mod Dates
 pub mod Laws

@@ -5,9 +5,13 @@ use Rattle.std.specs.Char.{is_ascii_digit}
 use Rattle.std.specs.Fmt.{decimal}
 use Rattle.dh_values.specs.Numbers.{number}
 
--- 2000-01 to 2201-01
+-- 2000-01 to 9999-12
 abbrev pub IsMonth : ℕ → Type 0
-IsMonth n = (24000 ≤ n) × (n ≤ 26412)
+IsMonth n = (24000 ≤ n) × (n ≤ 119999)
+
+-- a month that lines know, 2000-01 to 2200-12
+abbrev pub IsEntryMonth : ℕ → Type 0
+IsEntryMonth n = (24000 ≤ n) × (n ≤ 26411)
 
 -- the form YYYY-MM
 abbrev pub has_month_form : List ℕ → Bool
@@ -20,6 +24,10 @@ month_of text =
     let month = number (drop 5 text) in
     if has_month_form text && nat_le 2000 year && nat_le year 2200 && nat_le 1 month && nat_le month 12 then Some (12 * year + month - 1) else None
 
+-- a number below 100 as two digits
+abbrev pub two_digits : ℕ → List ℕ
+two_digits n = (48 + n / 10) ∷ (48 + n % 10) ∷ []
+
 -- YYYY-MM
 abbrev pub month_text : ℕ → List ℕ
-month_text n = decimal (n / 12) ++ 45 ∷ (48 + (n % 12 + 1) / 10) ∷ (48 + (n % 12 + 1) % 10) ∷ []
+month_text n = decimal (n / 12) ++ 45 ∷ two_digits (n % 12 + 1)

@@ -1,14 +1,14 @@
 //! Months, counted.
 
-ghost use Rattle.std.specs.Prelude.{◌≡◌, ◌↔◌, ◌≤◌, IsSome, IfSome, MatchResult, None, Some, pos, ◌≤ℤ◌};
-ghost use Rattle.dh_days.specs.Months.{IsMonth, has_month_form, month_of, month_text};
+ghost use Rattle.std.specs.Prelude.{◌≡◌, ◌↔◌, ◌+◌, ◌<◌, ◌≤◌, IsSome, IfSome, MatchResult, None, Some, pos, ◌≤ℤ◌};
+ghost use Rattle.dh_days.specs.Months.{IsMonth, IsEntryMonth, has_month_form, month_of, month_text};
 
 use dh_values::BadText;
 use dh_values::digits::{are_digits, number};
 use std::fmt;
 use std::marker::Model;
 
-/// A month of the calendar from 2000-01 to 2201-01, of which lines know those to 2200-12.
+/// A month of the calendar from 2000-01 to 9999-12.
 /// A clause sees its number, 12 * year + month - 1.
 #[derive(Clone, Copy, Debug, PartialEq, Eq, PartialOrd, Ord)]
 pub struct Month {
@@ -35,32 +35,40 @@ fn has_month_form(bytes: &[u8]) -> bool
     bytes.len() == 7 && are_digits(&bytes[..4]) && bytes[4] == b'-' && are_digits(&bytes[5..])
 }
 
+// The number of the month that the bytes spell.
+pub(crate) fn spelled_month(bytes: &[u8]) -> Option<u32>
+    ensures value { result ≡ month_of bytes.now }
+    ensures range { IfSome result IsEntryMonth }
+{
+    if !has_month_form(bytes) {
+        return None;
+    }
+    let year = number(&bytes[..4]);
+    let month = number(&bytes[5..]);
+    if year < 2000 || year > 2200 || month < 1 || month > 12 {
+        return None;
+    }
+    Some(12 * year + month - 1)
+}
+
 impl Month {
     /// The month that the text spells, as `2025-01`: 2000-01 to 2200-12. It takes no memory.
     /// `BadText` where the text is no such month.
     pub fn read(text: &str) -> Result<Month, BadText>
         ensures { MatchResult result (λ m. month_of text.now ≡ Some m) (λ _. month_of text.now ≡ None) }
     {
-        let bytes = text.as_bytes();
-        if !has_month_form(bytes) {
-            return Err(BadText);
+        match spelled_month(text.as_bytes()) {
+            Some(number) => Ok(Month { number }),
+            None => Err(BadText),
         }
-        let year = number(&bytes[..4]);
-        let month = number(&bytes[5..]);
-        if year < 2000 || year > 2200 || month < 1 || month > 12 {
-            return Err(BadText);
-        }
-        Ok(Month {
-            number: 12 * year + month - 1,
-        })
     }
 
-    /// The month of this number, 24000 to 26412. `None` for any other number.
+    /// The month of this number, 24000 to 119999. `None` for any other number.
     pub fn try_of_number(number: i64) -> Option<Month>
         ensures value { IfSome result (λ m. pos m ≡ number) }
-        ensures exact { IsSome result ↔ ((pos 24000 ≤ℤ number) × (number ≤ℤ pos 26412)) }
+        ensures exact { IsSome result ↔ ((pos 24000 ≤ℤ number) × (number ≤ℤ pos 119999)) }
     {
-        if number < 24000 || number > 26412 {
+        if number < 24000 || number > 119999 {
             return None;
         }
         Some(Month {
@@ -82,6 +90,19 @@ impl Month {
         ensures range { IsMonth self }
     {
         self.number
+    }
+
+    /// The month after this one. `None` exactly after 9999-12.
+    pub fn next(self) -> Option<Month>
+        ensures value { IfSome result (λ m. m ≡ self + 1) }
+        ensures exact { IsSome result ↔ (self < 119999) }
+    {
+        if self.number >= 119999 {
+            return None;
+        }
+        Some(Month {
+            number: self.number + 1,
+        })
     }
 }
 
