@@ -5,6 +5,7 @@ ghost use Rattle.sqlite.specs.State.{HasCleanDisk};
 ghost use Rattle.sqlite.specs.Held.{state};
 ghost use Rattle.dh_types.specs.Reports.{report_of};
 ghost use Rattle.dh_rules.specs.Machine.{step, report};
+ghost use Rattle.dh_schema.specs.Faults.{IsFirstFault};
 ghost use Rattle.dh_schema.specs.Store.{IsReady};
 ghost use Rattle.dh_agency.specs.Agency.{IsClean, IsOpen, WasClean, LeavesItsTables, Leaves, IsBeforeOrAfter, machine};
 
@@ -58,6 +59,7 @@ impl<S: Alter> Agency<S> {
         ensures undone { IsClean S.Store self.new → IsOpen S.Store self.new → OnErr result (machine S.Store self.new ≡ machine S.Store self.old) }
         ensures goes_on { OnOk result ((self.old.is_stopped ≡ false) × (self.new.is_stopped ≡ false)) }
         ensures stops { OnErr result (self.new.is_stopped ≡ true) }
+        ensures cause { self.old.is_stopped ≡ false → IfErr result IsFirstFault }
         ensures stopped { self.old.is_stopped ≡ true → (result ≡ Err Fault.Stopped) × (self.new ≡ self.old) }
         ensures was_clean { WasClean S.Store self.old self.new }
     {
@@ -82,6 +84,7 @@ impl<S: Alter> Agency<S> {
         ensures undone { IsClean S.Store self.new → IsOpen S.Store self.new → OnErr result (machine S.Store self.new ≡ machine S.Store self.old) }
         ensures goes_on { OnOk result ((self.old.is_stopped ≡ false) × (self.new.is_stopped ≡ false)) }
         ensures stops { OnErr result (self.new.is_stopped ≡ true) }
+        ensures cause { self.old.is_stopped ≡ false → IfErr result IsFirstFault }
         ensures stopped { self.old.is_stopped ≡ true → (result ≡ Err Fault.Stopped) × (self.new ≡ self.old) }
         ensures was_clean { WasClean S.Store self.old self.new }
     {

@@ -5,6 +5,7 @@ ghost use Rattle.sqlite.specs.State.{HasCleanDisk};
 ghost use Rattle.sqlite.specs.Held.{state};
 ghost use Rattle.sqlite_trees.specs.View.{doubt};
 ghost use Rattle.dh_rules.specs.Machine.{step};
+ghost use Rattle.dh_schema.specs.Faults.{IsFirstFault};
 ghost use Rattle.dh_schema.specs.Store.{IsReady, LeavesItsTables, Leaves, tables};
 ghost use Rattle.dh_agency.specs.Agency.{IsBeforeOrAfter};
 
@@ -24,6 +25,7 @@ pub(crate) fn carry_out<S: Alter>(
     ensures ready { HasCleanDisk (state S.Store conn.new) → OnOk result (IsReady (state S.Store conn.new)) }
     ensures said { HasCleanDisk (state S.Store conn.new) → IfOk result (λ reply. step (tables (state S.Store conn.old)) command.now ≡ (tables (state S.Store conn.new), reply)) }
     ensures left { HasCleanDisk (state S.Store conn.new) → OnOk result (LeavesItsTables (state S.Store conn.new)) }
+    ensures cause { IfErr result IsFirstFault }
     ensures crash { HasCleanDisk (state S.Store conn.new) → Leaves (state S.Store conn.new) (IsBeforeOrAfter (tables (state S.Store conn.old)) command.now) }
     ensures undone { HasCleanDisk (state S.Store conn.new) → IsTrue (state S.Store conn.new).is_open → OnErr result (tables (state S.Store conn.new) ≡ tables (state S.Store conn.old)) }
     ensures was_clean { doubt (state S.Store conn.old).is_clean ≤ doubt (state S.Store conn.new).is_clean }

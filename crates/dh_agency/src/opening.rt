@@ -5,6 +5,7 @@ ghost use Rattle.sqlite.specs.State.{HasCleanDisk};
 ghost use Rattle.sqlite.specs.Held.{state};
 ghost use Rattle.dh_types.specs.declared.reply.Fault.TheVariants as fault;
 ghost use Rattle.dh_rules.specs.Books.{start};
+ghost use Rattle.dh_schema.specs.Faults.{IsFirstFault};
 ghost use Rattle.dh_schema.specs.Store.{IsBlank, Commits};
 ghost use Rattle.dh_agency.specs.Agency.{IsClean, LeavesItsTables, machine, shown_by};
 
@@ -30,6 +31,7 @@ pub fn create<S: Alter>(
     requires { first ≤ 26411 }
     ensures begun { IfOk result (λ a. (a.is_stopped ≡ false) × (IsClean S.Store a → machine S.Store a ≡ start first)) }
     ensures left { IfOk result (λ a. IsClean S.Store a → LeavesItsTables S.Store a) }
+    ensures cause { IfErr result (λ e. IsFirstFault e.cause) }
     ensures occupied { ¬ IsBlank (state S.Store conn) → IfErr result (λ e. (e.cause ≡ fault.Store) × (e.conn ≡ conn)) }
     ensures undone { IfErr result (λ e. HasCleanDisk (state S.Store e.conn) → IsTrue (state S.Store e.conn).is_open → (state S.Store e.conn).committed ≡ (state S.Store conn).committed) }
     ensures made { IfOk result (λ a. Commits (state S.Store conn) (shown_by S.Store a) (λ t. t ≡ start first)) }

@@ -4,6 +4,7 @@ use Rattle.std.specs.Io.KnownBytes.{Appends}
 use Rattle.sqlite.specs.Store.{Ghosts}
 use Rattle.dh_types.specs.declared.reply.Fault.{Fault}
 use Rattle.dh_rules.specs.Books.{State}
+use Rattle.dh_schema.specs.Faults.{IsFirstFault}
 use Rattle.dh_agency.specs.Seat.{Seat}
 use Rattle.dh_agency.specs.Agency.{IsOpen, Leaves, machine}
 use Rattle.dh_lines.specs.Lines.{Fields}
@@ -17,6 +18,12 @@ IsAgencyFault (Ok value) = ⊥
 IsAgencyFault (Err (Agency fault)) = ⊤
 IsAgencyFault (Err Input) = ⊥
 IsAgencyFault (Err Output) = ⊥
+
+-- a fault that ends the batch of an agency that had not stopped before
+abbrev pub IsFirst : BatchFault → Type 0
+IsFirst (Agency fault) = IsFirstFault fault
+IsFirst Input = ⊤
+IsFirst Output = ⊤
 
 -- whatever a crash now leaves is one of two states
 abbrev pub LeavesEither : {S : Type 0} → Ghosts S → Seat S → State → State → Type 0

@@ -1,13 +1,13 @@
 //! Answering one record: the command is carried out or the question is asked, and then its line is written.
 
-ghost use Rattle.std.specs.Prelude.{◌≡◌, ◌⊎◌, ℕ, take, true, false};
+ghost use Rattle.std.specs.Prelude.{◌≡◌, ◌⊎◌, ℕ, take, true, false, IfErr};
 ghost use Rattle.std.specs.Io.KnownBytes.{Appends};
 ghost use Rattle.csv.specs.Records.{fields_of};
 ghost use Rattle.dh_types.specs.Replies.{is_refusal};
 ghost use Rattle.dh_rules.specs.Machine.{step, report};
 ghost use Rattle.dh_agency.specs.Agency.{IsClean, LeavesItsTables, WasClean, machine};
 ghost use Rattle.dh_lines.specs.Session.{answered, fault_line, replied, reported};
-ghost use Rattle.dh_lines.specs.Batch.{Answers, IsAgencyFault, LeavesEither};
+ghost use Rattle.dh_lines.specs.Batch.{Answers, IsAgencyFault, IsFirst, LeavesEither};
 
 use crate::Request;
 use crate::outcome::BatchFault;
@@ -45,6 +45,7 @@ fn answer_command<S: Alter, W: Write>(
     ensures answers { IsClean S.Store agency.new → Answers S.Store agency.old agency.new (W.contents writer.old) (W.contents writer.new) number (replied (step (machine S.Store agency.old) command.now)) result }
     ensures crash { IsClean S.Store agency.new → agency.old.is_stopped ≡ false → LeavesEither S.Store agency.new (machine S.Store agency.old) (step (machine S.Store agency.old) command.now).0 }
     ensures left { IsClean S.Store agency.new → agency.new.is_stopped ≡ false → LeavesItsTables S.Store agency.new }
+    ensures cause { agency.old.is_stopped ≡ false → IfErr result IsFirst }
     ensures stops { (agency.new.is_stopped ≡ agency.old.is_stopped) ⊎ (IsAgencyFault result × (agency.new.is_stopped ≡ true)) }
     ensures was_clean { WasClean S.Store agency.old agency.new }
 {
@@ -68,6 +69,7 @@ fn answer_question<S: Alter, W: Write>(
     ensures answers { IsClean S.Store agency.new → Answers S.Store agency.old agency.new (W.contents writer.old) (W.contents writer.new) number (reported (machine S.Store agency.old) (report (machine S.Store agency.old) question)) result }
     ensures crash { IsClean S.Store agency.new → agency.old.is_stopped ≡ false → LeavesEither S.Store agency.new (machine S.Store agency.old) (machine S.Store agency.old) }
     ensures left { IsClean S.Store agency.new → agency.new.is_stopped ≡ false → LeavesItsTables S.Store agency.new }
+    ensures cause { agency.old.is_stopped ≡ false → IfErr result IsFirst }
     ensures stops { (agency.new.is_stopped ≡ agency.old.is_stopped) ⊎ (IsAgencyFault result × (agency.new.is_stopped ≡ true)) }
     ensures was_clean { WasClean S.Store agency.old agency.new }
 {
@@ -92,6 +94,7 @@ pub fn answer<S: Alter, W: Write>(
     ensures crash { IsClean S.Store agency.new → agency.old.is_stopped ≡ false → LeavesItsTables S.Store agency.old
         → LeavesEither S.Store agency.new (machine S.Store agency.old) (answered (machine S.Store agency.old) (fields_of row.now)).state }
     ensures left { IsClean S.Store agency.new → LeavesItsTables S.Store agency.old → agency.new.is_stopped ≡ false → LeavesItsTables S.Store agency.new }
+    ensures cause { agency.old.is_stopped ≡ false → IfErr result IsFirst }
     ensures stops { (agency.new.is_stopped ≡ agency.old.is_stopped) ⊎ (IsAgencyFault result × (agency.new.is_stopped ≡ true)) }
     ensures was_clean { WasClean S.Store agency.old agency.new }
 {

@@ -1,8 +1,8 @@
 //! Running a batch: each record is read, answered and its line written, and then the next one.
 
-ghost use Rattle.std.specs.Prelude.{◌≡◌, ◌⊎◌, true, false, IfSome, if◌then◌else◌};
+ghost use Rattle.std.specs.Prelude.{◌≡◌, ◌⊎◌, true, false, IfSome, IfErr, if◌then◌else◌};
 ghost use Rattle.dh_agency.specs.Agency.{IsClean, LeavesItsTables, WasClean};
-ghost use Rattle.dh_lines.specs.Batch.{AgreesWithLines, EndsSo, IsAgencyFault};
+ghost use Rattle.dh_lines.specs.Batch.{AgreesWithLines, EndsSo, IsAgencyFault, IsFirst};
 
 use crate::answering::{answer, end_by_fault};
 use crate::outcome::{BatchFault, Summary};
@@ -37,6 +37,7 @@ pub fn batch<S: Alter, R: Read, W: Write>(
     ensures crash { IsClean S.Store agency.new → agency.old.is_stopped ≡ false → LeavesItsTables S.Store agency.old → IfSome (R.remaining reader.old)
         (AgreesWithLines S.Store agency.old agency.new (W.contents writer.old) (W.contents writer.new)) }
     ensures left { IsClean S.Store agency.new → LeavesItsTables S.Store agency.old → agency.new.is_stopped ≡ false → LeavesItsTables S.Store agency.new }
+    ensures cause { agency.old.is_stopped ≡ false → IfErr result IsFirst }
     ensures stops { (agency.new.is_stopped ≡ agency.old.is_stopped) ⊎ (IsAgencyFault result × (agency.new.is_stopped ≡ true)) }
     ensures was_clean { WasClean S.Store agency.old agency.new }
 {

@@ -1,7 +1,7 @@
 //! Faults of the store.
 
 ghost use Rattle.std.specs.Prelude.{◌≡◌};
-ghost use Rattle.dh_schema.specs.Faults.{fault_of};
+ghost use Rattle.dh_schema.specs.Faults.{fault_of, IsFirstFault};
 
 use dh_types::Fault;
 use sqlite::{Error, ErrorCode};
@@ -9,7 +9,8 @@ use std::alloc::AllocError;
 
 /// What an error of the store is told as: want of memory as that, and all else as a fault of the store.
 pub fn fault_of(error: Error) -> Fault
-    ensures { result ≡ fault_of error }
+    ensures told { result ≡ fault_of error }
+    ensures first { IsFirstFault result }
 {
     match error {
         Error::SqliteFailure(ErrorCode::OutOfMemory) => Fault::Memory,
@@ -28,10 +29,10 @@ pub enum LoadFault {
 
 impl From<Error> for LoadFault {
     ghost use Rattle.std.specs.Prelude.{◌≡◌};
-    ghost use Rattle.dh_schema.specs.Faults.{fault_of};
+    ghost use Rattle.dh_schema.specs.Faults.{fault_of, IsLoadFault};
     ghost use Rattle.dh_schema.specs.declared.fault.LoadFault.TheVariants as load;
 
-    ghost from_gives = { λ e f. f ≡ load.Fault (fault_of e) };
+    ghost from_gives = { λ e f. (f ≡ load.Fault (fault_of e)) × IsLoadFault f };
 
     fn from(error: Error) -> LoadFault {
         LoadFault::Fault(fault_of(error))

@@ -1,11 +1,12 @@
 //! Books from the rows of the tables.
 
-ghost use Rattle.std.specs.Prelude.{◌≡◌, true, Err, IfOk, OnOk, MatchResult, [], ◌∷◌};
+ghost use Rattle.std.specs.Prelude.{◌≡◌, true, Err, IfOk, IfErr, OnOk, MatchResult, [], ◌∷◌};
 ghost use Rattle.std.specs.List.{AllByRecursion};
 ghost use Rattle.std.specs.FinMap as map;
 ghost use Rattle.dh_rows.specs.MetaRows.{meta_row, is_meta_row};
 ghost use Rattle.dh_rows.specs.BranchRows.{is_branch_row};
 ghost use Rattle.dh_schema.specs.Gathered.{AreBranches, IsOnlyMeta};
+ghost use Rattle.dh_schema.specs.Faults.{IsLoadFault};
 
 use crate::fault::LoadFault;
 use dh_rows::{Meta, Record};
@@ -18,6 +19,7 @@ use std::alloc::Global;
 pub(crate) fn only_meta(alloc: Global, rows: &[Row]) -> Result<Meta, LoadFault>
     ensures read { IfOk result (λ m. rows.now ≡ meta_row m ∷ []) }
     ensures grammar { OnOk result (IsOnlyMeta rows.now) }
+    ensures cause { IfErr result IsLoadFault }
     ensures damaged { result ≡ Err LoadFault.Damaged → ¬ IsOnlyMeta rows.now }
 {
     let [row] = rows else {
@@ -38,6 +40,7 @@ pub(crate) fn gather_branches(
 ) -> Result<(), LoadFault>
     requires { books.old.books.branches ≡ map.empty }
     ensures gathered { OnOk result (AreBranches rows.now books.old books.new) }
+    ensures cause { IfErr result IsLoadFault }
     ensures damaged { result ≡ Err LoadFault.Damaged → ¬ AllByRecursion (λ row. is_branch_row row ≡ true) rows.now }
 {
     for row in rows {

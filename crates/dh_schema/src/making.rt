@@ -1,10 +1,11 @@
 //! Making the tables of a file.
 
-ghost use Rattle.std.specs.Prelude.{◌≡◌, ◌≤◌, false, IsTrue, Err, OnOk, OnErr};
+ghost use Rattle.std.specs.Prelude.{◌≡◌, ◌≤◌, false, IsTrue, Err, IfErr, OnOk, OnErr};
 ghost use Rattle.sqlite.specs.State.{HasCleanDisk};
 ghost use Rattle.sqlite.specs.Held.{state};
 ghost use Rattle.dh_rules.specs.Books.{start};
 ghost use Rattle.dh_schema.specs.Tables.{empty_over};
+ghost use Rattle.dh_schema.specs.Faults.{IsFirstFault};
 ghost use Rattle.dh_schema.specs.Store.{IsReady, IsBlank, LeavesItsTables, Commits, tables};
 
 use crate::branch::create_branch;
@@ -43,6 +44,7 @@ pub fn install<S: Alter>(alloc: Global, conn: &mut Connection<S>, first: Month) 
     ensures done { HasCleanDisk (state S.Store conn.new) → OnOk result (IsReady (state S.Store conn.new) × (tables (state S.Store conn.new) ≡ start first)) }
     ensures left { HasCleanDisk (state S.Store conn.new) → OnOk result (LeavesItsTables (state S.Store conn.new)) }
     ensures undone { HasCleanDisk (state S.Store conn.new) → IsTrue (state S.Store conn.new).is_open → OnErr result ((state S.Store conn.new).committed ≡ (state S.Store conn.old).committed) }
+    ensures cause { IfErr result IsFirstFault }
     ensures occupied { ¬ IsBlank (state S.Store conn.old) → (result ≡ Err Fault.Store) × (conn.new ≡ conn.old) }
     ensures survives { Commits (state S.Store conn.old) (state S.Store conn.new) (λ t. t ≡ start first) }
 {

@@ -1,10 +1,11 @@
 //! Reading the tables.
 
-ghost use Rattle.std.specs.Prelude.{◌≡◌, IsTrue, Some, None, Err, IfOk, OnOk};
+ghost use Rattle.std.specs.Prelude.{◌≡◌, IsTrue, Some, None, Err, IfOk, IfErr, OnOk};
 ghost use Rattle.sqlite.specs.State.{HasCleanDisk, IsUnchanged, Survives};
 ghost use Rattle.sqlite.specs.Held.{state};
 ghost use Rattle.dh_schema.specs.MetaTable.{meta_rows, only_version};
 ghost use Rattle.dh_schema.specs.Tables.{HasValues};
+ghost use Rattle.dh_schema.specs.Faults.{IsLoadFault};
 ghost use Rattle.dh_schema.specs.Store.{HasTables, tables};
 
 use crate::branch::select_branches;
@@ -19,6 +20,7 @@ use std::alloc::Global;
 // The version of meta's rows, where it has just one.
 pub(crate) fn version_of(rows: &[Row]) -> Result<i64, LoadFault>
     ensures found { IfOk result (λ n. only_version rows.now ≡ Some n) }
+    ensures cause { IfErr result IsLoadFault }
     ensures damaged { result ≡ Err LoadFault.Damaged → only_version rows.now ≡ None }
 {
     match rows {
@@ -34,6 +36,7 @@ pub(crate) fn version_of(rows: &[Row]) -> Result<i64, LoadFault>
 pub fn version<S: Alter>(conn: &mut Connection<S>) -> Result<i64, LoadFault>
     requires { HasCleanDisk (state S.Store conn.old) → HasTables (state S.Store conn.old) }
     ensures found { HasCleanDisk (state S.Store conn.new) → IfOk result (λ n. only_version (meta_rows (state S.Store conn.old).now.trees) ≡ Some n) }
+    ensures cause { IfErr result IsLoadFault }
     ensures damaged { HasCleanDisk (state S.Store conn.new) → result ≡ Err LoadFault.Damaged → only_version (meta_rows (state S.Store conn.old).now.trees) ≡ None }
     ensures same { HasCleanDisk (state S.Store conn.new) → OnOk result (IsUnchanged (state S.Store conn.old) (state S.Store conn.new)) }
     ensures kept { HasCleanDisk (state S.Store conn.new) → IsTrue (state S.Store conn.new).is_open → (state S.Store conn.old).now ≡ (state S.Store conn.old).committed → ((state S.Store conn.new).now ≡ (state S.Store conn.old).now) × ((state S.Store conn.new).committed ≡ (state S.Store conn.old).committed) }
@@ -49,6 +52,7 @@ pub fn load<S: Alter>(alloc: Global, conn: &mut Connection<S>) -> Result<Books, 
     requires { HasCleanDisk (state S.Store conn.old) → HasTables (state S.Store conn.old) }
     ensures books { HasCleanDisk (state S.Store conn.new) → IfOk result (λ books. books ≡ tables (state S.Store conn.old)) }
     ensures values { HasCleanDisk (state S.Store conn.new) → OnOk result (HasValues (state S.Store conn.old).now.trees) }
+    ensures cause { IfErr result IsLoadFault }
     ensures damaged { HasCleanDisk (state S.Store conn.new) → result ≡ Err LoadFault.Damaged → ¬ HasValues (state S.Store conn.old).now.trees }
     ensures same { HasCleanDisk (state S.Store conn.new) → OnOk result (IsUnchanged (state S.Store conn.old) (state S.Store conn.new)) }
     ensures kept { HasCleanDisk (state S.Store conn.new) → IsTrue (state S.Store conn.new).is_open → (state S.Store conn.old).now ≡ (state S.Store conn.old).committed → ((state S.Store conn.new).now ≡ (state S.Store conn.old).now) × ((state S.Store conn.new).committed ≡ (state S.Store conn.old).committed) }

@@ -1,10 +1,11 @@
 //! What the tables say of a command or a question.
 
-ghost use Rattle.std.specs.Prelude.{◌≡◌, IsTrue, IfOk, OnOk};
+ghost use Rattle.std.specs.Prelude.{◌≡◌, IsTrue, IfOk, IfErr, OnOk};
 ghost use Rattle.sqlite.specs.State.{HasCleanDisk, Survives};
 ghost use Rattle.sqlite.specs.Held.{state};
 ghost use Rattle.dh_types.specs.Reports.{report_of};
 ghost use Rattle.dh_rules.specs.Machine.{verdict_on, report};
+ghost use Rattle.dh_schema.specs.Faults.{IsFirstFault};
 ghost use Rattle.dh_schema.specs.Store.{IsReady, tables};
 
 use dh_rules::{Books, Verdict, answer, decide};
@@ -19,6 +20,7 @@ fn books_of<S: Alter>(alloc: Global, conn: &mut Connection<S>) -> Result<Books, 
     ensures books { HasCleanDisk (state S.Store conn.new) → IfOk result (λ books. books ≡ tables (state S.Store conn.old)) }
     ensures done { HasCleanDisk (state S.Store conn.new) → OnOk result (IsReady (state S.Store conn.new) × (tables (state S.Store conn.new) ≡ tables (state S.Store conn.old))) }
     ensures kept { HasCleanDisk (state S.Store conn.new) → IsTrue (state S.Store conn.new).is_open → tables (state S.Store conn.new) ≡ tables (state S.Store conn.old) }
+    ensures cause { IfErr result IsFirstFault }
     ensures crash { Survives (state S.Store conn.old) (state S.Store conn.new) (λ _. ⊥) }
 {
     match load(alloc, conn) {
@@ -38,6 +40,7 @@ pub fn ask<S: Alter>(
     ensures verdict { HasCleanDisk (state S.Store conn.new) → IfOk result (λ v. v ≡ verdict_on (tables (state S.Store conn.old)).books (tables (state S.Store conn.old)).open_run command.now) }
     ensures done { HasCleanDisk (state S.Store conn.new) → OnOk result (IsReady (state S.Store conn.new) × (tables (state S.Store conn.new) ≡ tables (state S.Store conn.old))) }
     ensures kept { HasCleanDisk (state S.Store conn.new) → IsTrue (state S.Store conn.new).is_open → tables (state S.Store conn.new) ≡ tables (state S.Store conn.old) }
+    ensures cause { IfErr result IsFirstFault }
     ensures crash { Survives (state S.Store conn.old) (state S.Store conn.new) (λ _. ⊥) }
 {
     let books = books_of(alloc, conn)?;
@@ -57,6 +60,7 @@ pub fn look_up<S: Alter>(
     ensures answer { HasCleanDisk (state S.Store conn.new) → IfOk result (λ a. report_of a ≡ report (tables (state S.Store conn.old)) question) }
     ensures done { HasCleanDisk (state S.Store conn.new) → OnOk result (IsReady (state S.Store conn.new) × (tables (state S.Store conn.new) ≡ tables (state S.Store conn.old))) }
     ensures kept { HasCleanDisk (state S.Store conn.new) → IsTrue (state S.Store conn.new).is_open → tables (state S.Store conn.new) ≡ tables (state S.Store conn.old) }
+    ensures cause { IfErr result IsFirstFault }
     ensures crash { Survives (state S.Store conn.old) (state S.Store conn.new) (λ _. ⊥) }
 {
     let books = books_of(alloc, conn)?;
