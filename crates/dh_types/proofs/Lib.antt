@@ -1,2 +1,3 @@
-pub mod SameBranch
+pub mod SameValues
+pub mod SameRecords
 pub mod WritingLemmas

@@ -1,12 +1,7 @@
 -- Branches as contracts see them.
-use Rattle.std.specs.Prelude.{Bool, true, ◌≡◌, ◌&&◌, nat_eq}
-use Rattle.std.specs.Cmp.Lexicographic.{pointwise}
-use Rattle.dh_types.specs.declared.branch.Branch.{Branch}
+use Rattle.std.specs.Prelude.{true, ◌≡◌}
 use Rattle.dh_values.specs.Texts.{is_id, is_text}
-
--- all fields are equal
-abbrev pub is_same_branch : Branch → Branch → Bool
-is_same_branch a b = pointwise nat_eq a.number b.number && pointwise nat_eq a.street b.street && pointwise nat_eq a.city b.city && pointwise nat_eq a.postcode b.postcode
+use Rattle.dh_types.specs.declared.branch.Branch.{Branch}
 
 -- each field is in its grammar
 pub record IsBranch (b : Branch) : Type 0 where

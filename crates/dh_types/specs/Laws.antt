@@ -1,8 +1,67 @@
 -- What the definitions owe each other.
-use Rattle.std.specs.Prelude.{◌≡◌, ◌↔◌, true}
+use Rattle.std.specs.Prelude.{Bool, true, ◌≡◌, ◌↔◌}
 use Rattle.dh_types.specs.declared.branch.Branch.{Branch}
-use Rattle.dh_types.specs.Branches.{is_same_branch}
+use Rattle.dh_types.specs.declared.staff.Staff.{Staff}
+use Rattle.dh_types.specs.declared.owner.Owner.{Owner}
+use Rattle.dh_types.specs.declared.property.Property.{Property}
+use Rattle.dh_types.specs.declared.client.Client.{Client}
+use Rattle.dh_types.specs.declared.client.Registration.{Registration}
+use Rattle.dh_types.specs.declared.viewing.Viewing.{Viewing}
+use Rattle.dh_types.specs.declared.viewing.Inspection.{Inspection}
+use Rattle.dh_types.specs.declared.lease.LeaseTerms.{LeaseTerms}
+use Rattle.dh_types.specs.declared.lease.Lease.{Lease}
+use Rattle.dh_types.specs.declared.lease.Charge.{Charge}
+use Rattle.dh_types.specs.declared.lease.Payment.{Payment}
+use Rattle.dh_types.specs.declared.lease.Receipt.{Receipt}
+use Rattle.dh_types.specs.declared.run.Run.{Run}
+use Rattle.dh_types.specs.declared.run.Part.{Part}
+use Rattle.dh_types.specs.Records.{is_same_branch, is_same_staff, is_same_owner, is_same_property, is_same_client, is_same_registration, is_same_viewing, is_same_inspection, is_same_lease_terms, is_same_lease, is_same_charge, is_same_payment, is_same_receipt, is_same_run, is_same_part}
 
--- branches whose fields are equal are one
+-- two are the same exactly where they are one
+abbrev pub TellsApart : {T : Type 0} → (T → T → Bool) → Type 0
+TellsApart {T} is_same = (a b : T) → (is_same a b ≡ true) ↔ (a ≡ b)
+
 abbrev pub SameBranchesAreEqual : Type 0
-SameBranchesAreEqual = (a b : Branch) → (is_same_branch a b ≡ true) ↔ (a ≡ b)
+SameBranchesAreEqual = TellsApart is_same_branch
+
+abbrev pub SameStaffAreEqual : Type 0
+SameStaffAreEqual = TellsApart is_same_staff
+
+abbrev pub SameOwnersAreEqual : Type 0
+SameOwnersAreEqual = TellsApart is_same_owner
+
+abbrev pub SamePropertiesAreEqual : Type 0
+SamePropertiesAreEqual = TellsApart is_same_property
+
+abbrev pub SameClientsAreEqual : Type 0
+SameClientsAreEqual = TellsApart is_same_client
+
+abbrev pub SameRegistrationsAreEqual : Type 0
+SameRegistrationsAreEqual = TellsApart is_same_registration
+
+abbrev pub SameViewingsAreEqual : Type 0
+SameViewingsAreEqual = TellsApart is_same_viewing
+
+abbrev pub SameInspectionsAreEqual : Type 0
+SameInspectionsAreEqual = TellsApart is_same_inspection
+
+abbrev pub SameLeaseTermsAreEqual : Type 0
+SameLeaseTermsAreEqual = TellsApart is_same_lease_terms
+
+abbrev pub SameLeasesAreEqual : Type 0
+SameLeasesAreEqual = TellsApart is_same_lease
+
+abbrev pub SameChargesAreEqual : Type 0
+SameChargesAreEqual = TellsApart is_same_charge
+
+abbrev pub SamePaymentsAreEqual : Type 0
+SamePaymentsAreEqual = TellsApart is_same_payment
+
+abbrev pub SameReceiptsAreEqual : Type 0
+SameReceiptsAreEqual = TellsApart is_same_receipt
+
+abbrev pub SameRunsAreEqual : Type 0
+SameRunsAreEqual = TellsApart is_same_run
+
+abbrev pub SamePartsAreEqual : Type 0
+SamePartsAreEqual = TellsApart is_same_part

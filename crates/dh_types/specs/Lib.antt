@@ -1,4 +1,5 @@
 pub mod Output
+pub mod Records
 pub mod Branches
 pub mod Reports
 pub mod Replies

@@ -3,19 +3,42 @@
 
 mod answer;
 mod branch;
+mod client;
 mod command;
 pub mod laws;
+mod lease;
+mod owner;
+mod property;
+mod question;
 mod reply;
 mod reply_text;
+mod run;
+mod staff;
+mod viewing;
 pub mod writing;
 
-pub use answer::Answer;
+pub use answer::{Answer, Arrears, Debt, RunReport, Statement};
 pub use branch::Branch;
-pub use command::{Command, Question};
-pub use dh_days::Month;
-pub use dh_values::{BadText, Id, Text60};
-pub use reply::{Fault, Refusal, Reply};
+pub use client::{Client, Registration};
+pub use command::{Assignment, Command, ReceiptOrder, RentChange, RunOrder, ViewingComment};
+pub use dh_days::{Day, EntryDay, EntryMonth, Month};
+pub use dh_values::{
+    Amount, BadText, BatchCount, ChargeIndex, Id, LeaseMonths, LeaseNo, PaymentMethod, Position,
+    PropertyType, ReceiptKind, ReceiptNo, Rent, Rooms, Text60,
+};
+pub use dh_values::Text60 as Comment;
+pub use dh_values::Id as Key;
+pub use dh_values::Amount as Pence;
+pub use dh_values::Pence as Balance;
+pub use lease::{Charge, Lease, LeaseTerms, Payment, Receipt};
+pub use owner::Owner;
+pub use property::Property;
+pub use question::{ClientDay, Question};
+pub use reply::{Fault, Progress, Refusal, Reply};
 pub use reply_text::{put_fault, put_refusal, put_reply};
+pub use run::{Part, Run, RunSum};
+pub use staff::Staff;
+pub use viewing::{Inspection, Viewing};
 pub use writing::Output;
 
 #[cfg(test)]

@@ -28,7 +28,7 @@ fn month_behind(month: Month) -> [u8; 3]
 fn pence_behind(money: Pence) -> [u8; 3]
     ensures { result ≡ 46 ∷ (48 + money % 100 / 10) ∷ (48 + money % 10) ∷ [] }
 {
-    let pence = money.amount() % 100;
+    let pence = money.pence() % 100;
     [
         b'.',
         b'0' + (pence / 10) as u8,
@@ -58,7 +58,7 @@ fn put_money<W: Write>(writer: &mut W, lead: &[u8], money: Pence) -> Result<(), 
     ensures { Puts (W.contents writer.old) (W.contents writer.new) result (lead.now ++ money_text (pos money)) }
 {
     let mut digits = itoa::Buffer::new();
-    let pounds = digits.format(money.amount() / 100).as_bytes();
+    let pounds = digits.format(money.pence() / 100).as_bytes();
     put_parts(writer, &[lead, pounds, &pence_behind(money)])
 }
 
@@ -89,7 +89,7 @@ fn put_sum<W: Write>(writer: &mut W, lead: &[u8], sum: RunSum) -> Result<(), Out
     let mut counts = itoa::Buffer::new();
     let count = counts.format(sum.count).as_bytes();
     let mut all_pounds = itoa::Buffer::new();
-    let pounds = all_pounds.format(sum.total.amount() / 100).as_bytes();
+    let pounds = all_pounds.format(sum.total.pence() / 100).as_bytes();
     put_parts(
         writer,
         &[
