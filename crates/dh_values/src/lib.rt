@@ -8,6 +8,7 @@ pub mod digits;
 mod id;
 mod key;
 mod kinds;
+pub mod laws;
 mod lease_months;
 mod lease_no;
 mod pence;
