@@ -1,3 +1,4 @@
 pub mod Ascii
 pub mod Powers
 pub mod MoneyTexts
+pub mod NumberTexts

@@ -3,3 +3,4 @@ pub mod Numbers
 pub mod Counts
 pub mod Kinds
 pub mod Money
+pub mod Laws

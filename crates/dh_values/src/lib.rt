@@ -6,19 +6,23 @@ mod batch_count;
 mod charge_index;
 pub mod digits;
 mod id;
+mod key;
 mod kinds;
+pub mod laws;
 mod lease_months;
 mod lease_no;
 mod pence;
 mod receipt_no;
 mod rent;
 mod rooms;
+mod short;
 mod text;
 
 pub use amount::Amount;
 pub use batch_count::BatchCount;
 pub use charge_index::ChargeIndex;
 pub use id::Id;
+pub use key::Key;
 pub use kinds::{PaymentMethod, Position, PropertyType, ReceiptKind};
 pub use lease_months::LeaseMonths;
 pub use lease_no::LeaseNo;
@@ -26,7 +30,7 @@ pub use pence::Pence;
 pub use receipt_no::ReceiptNo;
 pub use rent::Rent;
 pub use rooms::Rooms;
-pub use text::Text60;
+pub use text::{Comment, Text60};
 
 /// A text that is not in the grammar of a value.
 #[derive(Clone, Copy, Debug, PartialEq, Eq)]

@@ -1,4 +1,4 @@
-//! Short texts: names, streets, cities.
+//! Texts of few characters: names, streets, cities, comments.
 
 ghost use Rattle.std.specs.Prelude.{◌≡◌, ◌↔◌, true, length, IsTrue, IsOk, IfOk, Some, nat_eq};
 ghost use Rattle.std.specs.Str.{chars};
@@ -12,13 +12,19 @@ use std::alloc::{AllocError, Global};
 use std::fmt;
 use std::marker::Model;
 
-/// 1 to 60 characters, none below U+0020, none U+007F.
+/// 1 to `MOST` characters, none below U+0020, none U+007F.
 #[derive(Drop)]
-pub struct Text60 {
+pub struct Text<const MOST: usize> {
     text: String,
 }
 
-impl Model for Text60 {
+/// 1 to 60 characters: a name, a street, a city.
+pub type Text60 = Text<60>;
+
+/// 1 to 200 characters.
+pub type Comment = Text<200>;
+
+impl<const MOST: usize> Model for Text<MOST> {
     ghost use Rattle.std.specs.Prelude.{◌≡◌, true, List, ℕ, string_bytes};
     ghost use Rattle.dh_values.specs.Texts.{is_text};
 
@@ -26,7 +32,7 @@ impl Model for Text60 {
 
     ghost view = { λ t. string_bytes t.text };
 
-    ghost invariant = { λ t. is_text 60 (string_bytes t.text) ≡ true };
+    ghost invariant = { λ t. is_text MOST (string_bytes t.text) ≡ true };
 }
 
 fn is_printable(c: char) -> bool
@@ -55,37 +61,37 @@ fn is_text(most: usize, text: &str) -> bool
     1 <= count && count <= most && are_printable(text)
 }
 
-impl Text60 {
+impl<const MOST: usize> Text<MOST> {
     /// The text, where it is one. Want of memory is the outer error.
-    pub fn read(alloc: Global, text: &str) -> Result<Result<Text60, BadText>, AllocError>
+    pub fn read(alloc: Global, text: &str) -> Result<Result<Self, BadText>, AllocError>
         ensures value { IfOk result (λ r. IfOk r (λ t. t ≡ text.now)) }
-        ensures exact { IfOk result (λ r. IsOk r ↔ IsTrue (is_text 60 text.now)) }
+        ensures exact { IfOk result (λ r. IsOk r ↔ IsTrue (is_text MOST text.now)) }
     {
-        if !is_text(60, text) {
+        if !is_text(MOST, text) {
             return Ok(Err(BadText));
         }
         let text = String::from_str(alloc, text)?;
-        Ok(Ok(Text60 { text }))
+        Ok(Ok(Text { text }))
     }
 
     /// The characters.
     pub fn as_str(&self) -> &str
         ensures text { result.now ≡ self.now }
-        ensures grammar { is_text 60 self.now ≡ true }
+        ensures grammar { is_text MOST self.now ≡ true }
     {
         self.text.as_str()
     }
 
     /// The same text in memory of its own.
-    pub fn try_clone(&self, alloc: Global) -> Result<Text60, AllocError>
+    pub fn try_clone(&self, alloc: Global) -> Result<Self, AllocError>
         ensures { IfOk result (λ t. t ≡ self.now) }
     {
         let text = String::from_str(alloc, self.as_str())?;
-        Ok(Text60 { text })
+        Ok(Text { text })
     }
 }
 
-impl PartialEq for Text60 {
+impl<const MOST: usize> PartialEq for Text<MOST> {
     ghost eq = { λ s t. pointwise nat_eq s t };
 
     ghost laws = { partial_equiv_from_equiv nat_list_eq_equiv };
@@ -95,11 +101,11 @@ impl PartialEq for Text60 {
     }
 }
 
-impl Eq for Text60 {
+impl<const MOST: usize> Eq for Text<MOST> {
     ghost laws = { nat_list_eq_equiv };
 }
 
-impl fmt::Display for Text60 {
+impl<const MOST: usize> fmt::Display for Text<MOST> {
     ghost output = { λ t. Some t };
 
     fn fmt<W: fmt::Write>(&self, f: &mut fmt::Formatter<W>) -> fmt::Result {

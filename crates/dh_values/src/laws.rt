@@ -1,0 +1,38 @@
+//! Laws of values: each function does nothing, and its clauses are the laws.
+
+ghost use Rattle.std.specs.Fmt.{decimal};
+ghost use Rattle.dh_values.specs.Counts.{IsBatchCount, IsLeaseMonths, IsLeaseNo, IsReceiptNo, IsRooms, batch_count_of, lease_months_of, lease_no_of, rooms_of};
+ghost use Rattle.dh_values.specs.Laws.{ArePrintedBack, AreReadBack, PrintApart};
+
+/// The numbers of leases are read as they are printed, and printed as they are read.
+pub fn lease_nos()
+    ensures read_back { AreReadBack IsLeaseNo decimal lease_no_of }
+    ensures printed_back { ArePrintedBack decimal lease_no_of }
+    ensures apart { PrintApart IsLeaseNo decimal }
+{}
+
+/// Numbers of rooms are read as they are printed, and printed as they are read.
+pub fn rooms()
+    ensures read_back { AreReadBack IsRooms decimal rooms_of }
+    ensures printed_back { ArePrintedBack decimal rooms_of }
+    ensures apart { PrintApart IsRooms decimal }
+{}
+
+/// Numbers of months are read as they are printed, and printed as they are read.
+pub fn lease_months()
+    ensures read_back { AreReadBack IsLeaseMonths decimal lease_months_of }
+    ensures printed_back { ArePrintedBack decimal lease_months_of }
+    ensures apart { PrintApart IsLeaseMonths decimal }
+{}
+
+/// Numbers of batches are read as they are printed, and printed as they are read.
+pub fn batch_counts()
+    ensures read_back { AreReadBack IsBatchCount decimal batch_count_of }
+    ensures printed_back { ArePrintedBack decimal batch_count_of }
+    ensures apart { PrintApart IsBatchCount decimal }
+{}
+
+/// Numbers of receipts that print as one are one.
+pub fn receipt_nos()
+    ensures { PrintApart IsReceiptNo decimal }
+{}
