@@ -1,2 +1,5 @@
 pub mod MonthTexts
 pub mod MonthsLater
+pub mod TextOrder
+pub mod DayTexts
+pub mod DayMonths

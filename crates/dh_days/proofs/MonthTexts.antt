@@ -1,5 +1,5 @@
 -- Reading what a month prints as.
-use Rattle.std.proofs.Common.{◌≡◌, ◌∙◌, sym, ap, refl, ℕ, ◌+◌, ◌-◌, ◌*◌, ◌/◌, ◌%◌, ◌<◌, ◌≤◌, true, nat_le, Some, List, [], ◌∷◌, take, drop, arith}
+use Rattle.std.proofs.Common.{◌≡◌, ◌∙◌, ap, refl, ℕ, ◌+◌, ◌-◌, ◌*◌, ◌/◌, ◌%◌, ◌<◌, ◌≤◌, true, nat_le, Some, List, [], ◌∷◌, take, drop, arith}
 use Rattle.std.specs.Char.{is_ascii_digit}
 use Rattle.std.specs.Fmt.{decimal}
 use Rattle.std.proofs.lemmas.Bool.Decides.{nat_tests}
@@ -7,7 +7,7 @@ use Rattle.std.proofs.lemmas.Fmt.{decimal_digit, decimal_step}
 use Rattle.dh_values.specs.Numbers.{number}
 use Rattle.dh_days.specs.Months.{IsMonth, IsEntryMonth, has_month_form, month_of, month_text}
 
-four_digits : (y : ℕ) → 1000 ≤ y → y < 10000
+pub four_digits : (y : ℕ) → 1000 ≤ y → y < 10000
     → decimal y ≡ (48 + y / 10 / 10 / 10) ∷ (48 + y / 10 / 10 % 10) ∷ (48 + y / 10 % 10) ∷ (48 + y % 10) ∷ []
 four_digits y low high =
     rw (
@@ -17,14 +17,14 @@ four_digits y low high =
       decimal_digit (y / 10 / 10 / 10) (omega arith),
     ) refl
 
-is_digit : (d : ℕ) → d < 10 → is_ascii_digit (48 + d) ≡ true
+pub is_digit : (d : ℕ) → d < 10 → is_ascii_digit (48 + d) ≡ true
 is_digit d h = grind (arith, nat_tests)
 
-at_least : (m n : ℕ) → m ≤ n → nat_le m n ≡ true
+pub at_least : (m n : ℕ) → m ≤ n → nat_le m n ≡ true
 at_least m n h = grind (arith, nat_tests)
 
 -- the seven bytes of a month
-abbrev seven : (a b c d t o : ℕ) → List ℕ
+abbrev pub seven : (a b c d t o : ℕ) → List ℕ
 seven a b c d t o = (48 + a) ∷ (48 + b) ∷ (48 + c) ∷ (48 + d) ∷ 45 ∷ (48 + t) ∷ (48 + o) ∷ []
 
 seven_form : (a b c d t o : ℕ) → a < 10 → b < 10 → c < 10 → d < 10 → t < 10 → o < 10 → has_month_form (seven a b c d t o) ≡ true
@@ -42,7 +42,7 @@ record Shown (n : ℕ) : Type 0 where
   year : number (take 4 (month_text n)) ≡ n / 12
   month : number (drop 5 (month_text n)) ≡ n % 12 + 1
 
-seven_text : (n : ℕ) → IsMonth n → month_text n ≡ seven (n / 12 / 10 / 10 / 10) (n / 12 / 10 / 10 % 10) (n / 12 / 10 % 10) (n / 12 % 10) ((n % 12 + 1) / 10) ((n % 12 + 1) % 10)
+pub seven_text : (n : ℕ) → IsMonth n → month_text n ≡ seven (n / 12 / 10 / 10 / 10) (n / 12 / 10 / 10 % 10) (n / 12 / 10 % 10) (n / 12 % 10) ((n % 12 + 1) / 10) ((n % 12 + 1) % 10)
 seven_text n h = rw (four_digits (n / 12) (omega arith) (omega arith)) refl
 
 year_again : (y : ℕ) → 1000 * (y / 10 / 10 / 10) + 100 * (y / 10 / 10 % 10) + 10 * (y / 10 % 10) + y % 10 ≡ y
@@ -75,11 +75,3 @@ printed_read n h =
     let s = shown n (h.0, omega arith) in
     let same : 12 * (n / 12) + (n % 12 + 1) - 1 ≡ n = omega arith in
     read_parts (month_text n) (n / 12) (n % 12 + 1) s.form s.year s.month (omega arith) (omega arith) (omega arith) (omega arith) ∙ ap (λ k. Some k) same
-
-pub printed_apart : (m n : ℕ) → IsMonth m → IsMonth n → month_text m ≡ month_text n → m ≡ n
-printed_apart m n p q e =
-    let s = shown m p in
-    let t = shown n q in
-    let years : m / 12 ≡ n / 12 = sym s.year ∙ ap (λ l. number (take 4 l)) e ∙ t.year in
-    let months : m % 12 + 1 ≡ n % 12 + 1 = sym s.month ∙ ap (λ l. number (drop 5 l)) e ∙ t.month in
-    omega arith
