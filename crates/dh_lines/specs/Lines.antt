@@ -3,7 +3,7 @@ use Rattle.std.specs.Prelude.{ℕ, ◌+◌, Bool, List, [], ◌∷◌, codes, by
 use Rattle.dh_values.specs.Texts.{is_id, is_text}
 use Rattle.dh_types.specs.declared.branch.Branch.{Branch}
 use Rattle.dh_types.specs.declared.command.Command.TheVariants as command
-use Rattle.dh_types.specs.declared.command.Question.TheVariants as question
+use Rattle.dh_types.specs.declared.question.Question.TheVariants as question
 use Rattle.dh_types.specs.declared.reply.Refusal.{Refusal}
 use Rattle.dh_types.specs.declared.reply.Refusal.TheVariants.{BadLine}
 use Rattle.dh_lines.specs.declared.request.Request.{Request}

@@ -6,7 +6,7 @@ use Rattle.dh_types.specs.declared.reply.Reply.{Reply}
 use Rattle.dh_types.specs.declared.reply.Refusal.{Refusal}
 use Rattle.dh_types.specs.declared.reply.Fault.{Fault}
 use Rattle.dh_types.specs.Replies.{reply_text, refusal_text, fault_text, is_refusal}
-use Rattle.dh_types.specs.Reports.{Report, BranchList, NoReport}
+use Rattle.dh_types.specs.Reports.{Report, NoReport}
 use Rattle.dh_rules.specs.Books.{State}
 use Rattle.dh_rules.specs.Machine.{step, report}
 use Rattle.dh_reports.specs.ReportTexts.{report_text, line_count}
@@ -40,11 +40,11 @@ shown_text it = codes "shown " ++ decimal (line_count it) ++ newline ++ report_t
 -- the text of a report behind the record's number
 abbrev pub reported_text : Report → List ℕ
 reported_text (NoReport refusal) = refusal_text refusal ++ newline
-reported_text (BranchList branches) = shown_text (BranchList branches)
+reported_text it = shown_text it
 
 abbrev pub is_no_report : Report → Bool
 is_no_report (NoReport refusal) = true
-is_no_report (BranchList branches) = false
+is_no_report _ = false
 
 abbrev pub reported : State → Report → Answered
 reported s it = record { state = s; text = reported_text it; is_refused = is_no_report it }

@@ -3,7 +3,7 @@
 ghost use Rattle.std.specs.Prelude.{◌≡◌, [], map, drop, IfOk};
 ghost use Rattle.csv.specs.Records.{fields_of};
 ghost use Rattle.dh_types.specs.declared.command.Command.TheVariants as command;
-ghost use Rattle.dh_types.specs.declared.command.Question.TheVariants as question;
+ghost use Rattle.dh_types.specs.declared.question.Question.TheVariants as question;
 ghost use Rattle.dh_lines.specs.declared.request.Request.TheVariants as request;
 ghost use Rattle.dh_lines.specs.Lines.{branch_of, branch_tests, first_bad, judged, question_of, request_of};
 ghost use Rattle.dh_lines.specs.Readings.{Gives};

@@ -4,13 +4,13 @@ use Rattle.std.specs.FinMap as map
 use Rattle.dh_types.specs.declared.branch.Branch.{Branch}
 use Rattle.dh_types.specs.declared.command.Command.{Command}
 use Rattle.dh_types.specs.declared.command.Command.TheVariants as told
-use Rattle.dh_types.specs.declared.command.Question.{Question}
-use Rattle.dh_types.specs.declared.command.Question.TheVariants as asked
+use Rattle.dh_types.specs.declared.question.Question.{Question}
+use Rattle.dh_types.specs.declared.question.Question.TheVariants as asked
 use Rattle.dh_types.specs.declared.reply.Reply.{Reply}
 use Rattle.dh_types.specs.declared.reply.Reply.TheVariants as reply
-use Rattle.dh_types.specs.declared.reply.Refusal.TheVariants.{Taken, RunOpen}
-use Rattle.dh_types.specs.Branches.{is_same_branch}
-use Rattle.dh_types.specs.Reports.{Report, BranchList}
+use Rattle.dh_types.specs.declared.reply.Refusal.TheVariants.{Taken, RunOpen, BadLine}
+use Rattle.dh_types.specs.Records.{is_same_branch}
+use Rattle.dh_types.specs.Reports.{Report, BranchList, NoReport}
 use Rattle.dh_rules.specs.declared.change.Change.{Change}
 use Rattle.dh_rules.specs.declared.change.Change.TheVariants as change
 use Rattle.dh_rules.specs.declared.change.Verdict.{Verdict}
@@ -23,10 +23,12 @@ abbrev pub branch_verdict : Branch → Option Branch → Verdict
 branch_verdict b None = verdict.Change (change.Branch b)
 branch_verdict b (Some there) = if is_same_branch b there then verdict.Already reply.Already else verdict.Refused Taken
 
--- what the books say of a command, with an open run or none: the first check that fails, or the rows that it adds
+-- What the books say of a command, with an open run or none: the first check that fails, or the rows that it adds.
+-- A command that the machine does not know yet is refused as a line of an unknown word is.
 abbrev pub verdict_on : Books → Option OpenRun → Command → Verdict
 verdict_on books (Some run) (told.Branch b) = verdict.Refused (RunOpen run.month)
 verdict_on books None (told.Branch b) = branch_verdict b (map.get books.branches b.number)
+verdict_on books run _ = verdict.Refused (BadLine 1)
 
 -- the books with the rows of the change
 abbrev pub changed : Change → Books → Books
@@ -41,6 +43,8 @@ settled s (verdict.Refused refusal) = (s, reply.Refused refusal)
 abbrev pub step : State → Command → State × Reply
 step s command = settled s (verdict_on s.books s.open_run command)
 
--- the answer to a question, which changes nothing
+-- The answer to a question, which changes nothing.
+-- A question that the machine does not know yet is refused as a line of an unknown question is.
 abbrev pub report : State → Question → Report
 report s asked.Branches = BranchList (map.values s.books.branches)
+report s _ = NoReport (BadLine 2)

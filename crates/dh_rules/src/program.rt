@@ -31,6 +31,7 @@ pub fn decide(alloc: Global, books: &Books, command: &Command) -> Result<Verdict
             Refusal::RunOpen(run.month),
         )),
         Command::Branch(branch) => decide_branch(alloc, branch, books.branch(&branch.number)),
+        _ => Ok(Verdict::Refused(Refusal::BadLine(1))),
     }
 }
 
@@ -40,5 +41,6 @@ pub fn answer(alloc: Global, books: &Books, question: Question) -> Result<Answer
 {
     match question {
         Question::Branches => Ok(Answer::Branches(books.branches(alloc)?)),
+        _ => Ok(Answer::Refused(Refusal::BadLine(2))),
     }
 }

@@ -1,37 +1,107 @@
-use crate::{Branch, Fault, Id, Month, Refusal, Reply, Text60, put_fault, put_refusal, put_reply};
+ghost use Rattle.std.specs.Prelude.{◌≡◌};
+ghost use Rattle.dh_days.specs.Months.{IsEntryMonth};
+
+use crate::{
+    Branch, EntryMonth, Fault, Id, LeaseNo, Month, Pence, Progress, ReceiptNo, Refusal, Reply, RunSum,
+    Text60, put_fault, put_refusal, put_reply,
+};
 use std::alloc::Global;
 use std::io;
 use std::io::Write;
 use std::test::Fail;
 
+fn month(number: u32) -> EntryMonth
+    requires { IsEntryMonth number }
+    ensures { result ≡ number }
+{
+    EntryMonth::of_number(number)
+}
+
+// Compares what is written with the text, and what Display shows too.
+fn compare_refusal(rt: &HostRuntime, refusal: Refusal, text: &str) -> Result<(), Fail> {
+    let mut out = Vec::new(rt.alloc());
+    put_refusal(&mut out, refusal)?;
+    assert_eq!(rt; out.as_slice(), text.as_bytes(), "{text}");
+    assert_eq!(rt; format!(in rt.alloc(); "{refusal}")?.as_str(), text);
+    Ok(())
+}
+
+#[test]
+fn refusals(rt: HostRuntime) -> Result<(), Fail> {
+    let lease = LeaseNo::of_number(10001);
+    let next = Month::of_number(24301);
+    let cases = [
+        (Refusal::Taken, "refused 1"),
+        (Refusal::Unknown(10), "refused 2 10"),
+        (Refusal::WrongBranch, "refused 3"),
+        (Refusal::TooMany, "refused 4"),
+        (Refusal::Overlap(lease), "refused 5 10001"),
+        (Refusal::ClientStart(lease), "refused 6 10001"),
+        (Refusal::MonthPosted(next), "refused 7 2025-02"),
+        (Refusal::NotNextMonth(next), "refused 8 2025-02"),
+        (Refusal::KeyUsed, "refused 9"),
+        (Refusal::RunOpen(next), "refused 10 2025-02"),
+        (Refusal::DepositAmount(Pence::of_pence(130000)), "refused 11 1300.00"),
+        (Refusal::DepositPaid, "refused 12"),
+        (Refusal::NotRegistered, "refused 13"),
+        (Refusal::NoRun, "refused 14"),
+        (Refusal::BadLine(3), "bad field 3"),
+        (Refusal::Version(-7), "refused 16 -7"),
+        (Refusal::Version(i64::MIN), "refused 16 -9223372036854775808"),
+        (Refusal::Damaged(10), "refused 17 10"),
+        (Refusal::Full, "refused 18"),
+    ];
+    for (refusal, text) in cases {
+        compare_refusal(&rt, refusal, text)?;
+    }
+    Ok(())
+}
+
 #[test]
 fn replies(rt: HostRuntime) -> Result<(), Fail> {
+    let sum = RunSum {
+        month: month(24300),
+        count: 3,
+        total: Pence::of_pence(142500),
+    };
+    let none = RunSum {
+        month: month(24303),
+        count: 0,
+        total: Pence::of_pence(0),
+    };
+    let part = Progress {
+        month: month(24300),
+        done: 1,
+        of: u128::MAX,
+    };
     let cases = [
         (Reply::Accepted, "ok"),
         (Reply::Already, "already"),
+        (Reply::Receipt(ReceiptNo::of_number(1)), "receipt 1"),
+        (
+            Reply::AlreadyReceipt(ReceiptNo::of_number(99_999_999)),
+            "already receipt 99999999",
+        ),
+        (Reply::Opened(month(24300)), "opened 2025-01"),
+        (
+            Reply::Part(part),
+            "part 2025-01 1 of 340282366920938463463374607431768211455",
+        ),
+        (Reply::Posted(sum), "posted 2025-01 3 1425.00"),
+        (Reply::Posted(none), "posted 2025-04 0 0.00"),
+        (
+            Reply::AlreadyPosted(sum),
+            "already posted 2025-01 3 1425.00",
+        ),
         (Reply::Refused(Refusal::Taken), "refused 1"),
-        (
-            Reply::Refused(Refusal::RunOpen(Month::of_number(24300))),
-            "refused 10 2025-01",
-        ),
-        (
-            Reply::Refused(Refusal::RunOpen(Month::of_number(24011))),
-            "refused 10 2000-12",
-        ),
-        (Reply::Refused(Refusal::BadLine(3)), "bad field 3"),
-        (Reply::Refused(Refusal::BadLine(10)), "bad field 10"),
-        (Reply::Refused(Refusal::Version(-7)), "refused 16 -7"),
-        (
-            Reply::Refused(Refusal::Version(i64::MIN)),
-            "refused 16 -9223372036854775808",
-        ),
-        (Reply::Refused(Refusal::Damaged(10)), "refused 17 10"),
     ];
     for (reply, text) in cases {
         let mut out = Vec::new(rt.alloc());
         put_reply(&mut out, reply)?;
         assert_eq!(rt; out.as_slice(), text.as_bytes(), "{text}");
         assert_eq!(rt; format!(in rt.alloc(); "{reply}")?.as_str(), text);
+        let want = matches!(reply, Reply::Refused(_));
+        assert_eq!(rt; reply.is_refusal(), want, "{text}");
     }
     Ok(())
 }
@@ -110,43 +180,4 @@ fn a_writer_that_fails_has_a_beginning(rt: HostRuntime) {
     }
 }
 
-fn branch(
-    alloc: Global,
-    number: &str,
-    street: &str,
-    city: &str,
-    postcode: &str,
-) -> Result<Branch, Fail> {
-    Ok(Branch {
-        number: Id::read(number)?,
-        street: Text60::read(alloc, street)??,
-        city: Text60::read(alloc, city)??,
-        postcode: Text60::read(alloc, postcode)??,
-    })
-}
-
-#[test]
-fn branches(rt: HostRuntime) -> Result<(), Fail> {
-    let first = branch(rt.alloc(), "B1", "163 Main St", "Glasgow", "G11 9QX")?;
-    let copy = first.try_clone(rt.alloc())?;
-    for (text, want) in copy
-        .fields()
-        .iter()
-        .zip(["B1", "163 Main St", "Glasgow", "G11 9QX"])
-    {
-        assert_eq!(rt; *text, want);
-    }
-    assert!(rt; copy == first);
-    for (number, street, city, postcode) in [
-        ("B2", "163 Main St", "Glasgow", "G11 9QX"),
-        ("B1", "163 Main St.", "Glasgow", "G11 9QX"),
-        ("B1", "163 Main St", "glasgow", "G11 9QX"),
-        ("B1", "163 Main St", "Glasgow", "G119QX"),
-    ] {
-        assert!(rt;
-            branch(rt.alloc(), number, street, city, postcode)? != first,
-            "{number} {street} {city} {postcode}"
-        );
-    }
-    Ok(())
-}
+mod records;

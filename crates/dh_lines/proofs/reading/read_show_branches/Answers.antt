@@ -1,5 +1,5 @@
 use Rattle.std.proofs.Common.{map, []}
-use Rattle.dh_types.specs.declared.command.Question.TheVariants as question
+use Rattle.dh_types.specs.declared.question.Question.TheVariants as question
 use Rattle.dh_lines.specs.declared.request.Request.TheVariants.{Question}
 use Rattle.dh_lines.proofs.FieldLemmas.{from_third, ends, runs_on}
 use Rattle.dh_lines.proofs.reading.read_show_branches.Goals as goal
