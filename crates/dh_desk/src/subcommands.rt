@@ -1,16 +1,18 @@
 //! What the program's words ask for.
 
-ghost use Rattle.std.specs.Prelude.{◌≡◌, ◌≢◌, ◌⊎◌, ◌↔◌, ◌<◌, ℕ, [], ◌∷◌, map, codes, IfSome};
+ghost use Rattle.std.specs.Prelude.{◌≡◌, ◌≢◌, ◌⊎◌, ◌↔◌, ◌<◌, ℕ, [], ◌∷◌, ◌++◌, map, take, codes, IfSome};
 ghost use Rattle.std.specs.Io.KnownBytes.{Appends};
+ghost use Rattle.dh_types.specs.Output.{Puts};
+ghost use Rattle.dh_types.specs.Replies.{fault_text};
 ghost use Rattle.dh_rules.specs.Books.{start};
 ghost use Rattle.dh_agency.specs.Agency.{IsClean, machine};
-ghost use Rattle.dh_lines.specs.Session.{lines_from, records_of, refused_in};
+ghost use Rattle.dh_lines.specs.Session.{lines_from, newline, records_of, refused_in};
 ghost use Rattle.dh_desk.specs.Statuses.{status_code};
 
 use dh_agency::{Agency, NotOpened, create};
 use dh_lines::batch;
 use dh_types::writing::put;
-use dh_types::{Fault, Month, put_fault};
+use dh_types::{Fault, Month, Output, put_fault};
 use sqlite::{Alter, Connection};
 use std::alloc::Global;
 use std::io::{Read, Write};
@@ -45,12 +47,20 @@ impl Status {
 /// The first month of an agency in memory: 2025-01, counted as 12 * year + month - 1.
 pub const FIRST_MONTH: u32 = 24300;
 
-fn tell_fault<W: Write>(writer: &mut W, fault: Fault) -> Status
-    ensures { result ≡ Status.Failed }
+// Writes the fault's text and a line feed.
+fn put_fault_text<W: Write>(writer: &mut W, fault: Fault) -> Result<(), Output>
+    ensures { Puts (W.contents writer.old) (W.contents writer.new) result (fault_text fault ++ newline) }
 {
-    if put_fault(writer, fault).is_ok() {
-        let _ = put(writer, b"\n");
-    }
+    put_fault(writer, fault)?;
+    put(writer, b"\n")
+}
+
+// Writes the fault's text and a line feed, as far as the writer takes them.
+fn tell_fault<W: Write>(writer: &mut W, fault: Fault) -> Status
+    ensures failed { result ≡ Status.Failed }
+    ensures told { (m : ℕ) × Appends (W.contents writer.old) (W.contents writer.new) (take m (fault_text fault ++ newline)) }
+{
+    let _ = put_fault_text(writer, fault);
     Status::Failed
 }
 
