@@ -99,9 +99,11 @@ pub fn answer<S: Alter, W: Write>(
     ensures was_clean { WasClean S.Store agency.old agency.new }
 {
     match read_line(alloc, row) {
-        Ok(Ok(Request::Command(command))) => answer_command(
-            alloc, agency, number, &command, writer,
-        ),
+        Ok(Ok(Request::Command(command))) => {
+            let answered = answer_command(alloc, agency, number, &command, writer);
+            drop(command);
+            answered
+        }
         Ok(Ok(Request::Question(question))) => answer_question(
             alloc, agency, number, question, writer,
         ),
