@@ -2,3 +2,4 @@ pub mod Ascii
 pub mod Powers
 pub mod MoneyTexts
 pub mod NumberTexts
+pub mod KindTexts
