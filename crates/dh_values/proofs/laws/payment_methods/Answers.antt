@@ -1,8 +1,8 @@
 use Rattle.std.proofs.Common.{◌≡◌, refl, Some, codes}
 use Rattle.dh_values.proofs.KindTexts.{apart, named, no_word}
 use Rattle.dh_values.specs.Kinds.{payment_method_of, payment_method_text}
-use Rattle.dh_values.specs.declared.kinds.PaymentMethod.{PaymentMethod}
-use Rattle.dh_values.specs.declared.kinds.PaymentMethod.TheVariants.{Cash, Cheque, Card, Transfer}
+use Rattle.dh_values.specs.declared.payment_method.PaymentMethod.{PaymentMethod}
+use Rattle.dh_values.specs.declared.payment_method.PaymentMethod.TheVariants.{Cash, Cheque, Card, Transfer}
 use Rattle.dh_values.proofs.laws.payment_methods.Goals as goal
 
 read_back : (x : PaymentMethod) → payment_method_of (payment_method_text x) ≡ Some x

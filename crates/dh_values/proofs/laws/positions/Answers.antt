@@ -1,8 +1,8 @@
 use Rattle.std.proofs.Common.{◌≡◌, refl, Some, codes}
 use Rattle.dh_values.proofs.KindTexts.{apart, named, no_word}
 use Rattle.dh_values.specs.Kinds.{position_of, position_text}
-use Rattle.dh_values.specs.declared.kinds.Position.{Position}
-use Rattle.dh_values.specs.declared.kinds.Position.TheVariants.{Manager, Supervisor, Assistant}
+use Rattle.dh_values.specs.declared.position.Position.{Position}
+use Rattle.dh_values.specs.declared.position.Position.TheVariants.{Manager, Supervisor, Assistant}
 use Rattle.dh_values.proofs.laws.positions.Goals as goal
 
 read_back : (x : Position) → position_of (position_text x) ≡ Some x

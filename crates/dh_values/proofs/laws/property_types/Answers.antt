@@ -1,8 +1,8 @@
 use Rattle.std.proofs.Common.{◌≡◌, refl, Some, codes}
 use Rattle.dh_values.proofs.KindTexts.{apart, named, no_word}
 use Rattle.dh_values.specs.Kinds.{property_type_of, property_type_text}
-use Rattle.dh_values.specs.declared.kinds.PropertyType.{PropertyType}
-use Rattle.dh_values.specs.declared.kinds.PropertyType.TheVariants.{House, Flat}
+use Rattle.dh_values.specs.declared.property_type.PropertyType.{PropertyType}
+use Rattle.dh_values.specs.declared.property_type.PropertyType.TheVariants.{House, Flat}
 use Rattle.dh_values.proofs.laws.property_types.Goals as goal
 
 read_back : (x : PropertyType) → property_type_of (property_type_text x) ≡ Some x

@@ -1,8 +1,8 @@
 use Rattle.std.proofs.Common.{◌≡◌, refl, Some, codes}
 use Rattle.dh_values.proofs.KindTexts.{apart, named, no_word}
 use Rattle.dh_values.specs.Kinds.{receipt_kind_of, receipt_kind_text}
-use Rattle.dh_values.specs.declared.kinds.ReceiptKind.{ReceiptKind}
-use Rattle.dh_values.specs.declared.kinds.ReceiptKind.TheVariants.{Rent, Deposit}
+use Rattle.dh_values.specs.declared.receipt_kind.ReceiptKind.{ReceiptKind}
+use Rattle.dh_values.specs.declared.receipt_kind.ReceiptKind.TheVariants.{Rent, Deposit}
 use Rattle.dh_values.proofs.laws.receipt_kinds.Goals as goal
 
 read_back : (x : ReceiptKind) → receipt_kind_of (receipt_kind_text x) ≡ Some x
