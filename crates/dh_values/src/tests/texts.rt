@@ -1,3 +1,4 @@
+use super::prints;
 use crate::{Comment, Text60};
 use std::alloc::{AllocError, Global};
 use std::test::Fail;
@@ -15,14 +16,14 @@ fn texts(rt: HostRuntime) -> Result<(), Fail> {
     for c in ['a', 'é', '語', '😀'] {
         let longest = repeated(rt.alloc(), c, 60)?;
         let read = Text60::read(rt.alloc(), longest.as_str())??;
-        assert_eq!(rt; read.as_str(), longest.as_str());
-        assert_eq!(rt; read.try_clone(rt.alloc())?.as_str(), longest.as_str());
+        assert!(rt; read.as_str() == longest.as_str());
+        assert!(rt; read.try_clone(rt.alloc())?.as_str() == longest.as_str());
         let longer = repeated(rt.alloc(), c, 61)?;
         assert!(rt; Text60::read(rt.alloc(), longer.as_str())?.is_err(), "{c}");
     }
     for text in [" ", "\u{80}", "12 High Street, \"Flat\" 3"] {
         let read = Text60::read(rt.alloc(), text)??;
-        assert_eq!(rt; format!(in rt.alloc(); "{read}")?.as_str(), text);
+        assert!(rt; prints(&rt, &read, text)?);
     }
     for text in ["", "\u{1F}", "\u{7F}", "a\n", "\0"] {
         assert!(rt; Text60::read(rt.alloc(), text)?.is_err(), "{text:?}");
@@ -36,7 +37,7 @@ fn comments(rt: HostRuntime) -> Result<(), Fail> {
         for count in [1, 61, 200] {
             let text = repeated(rt.alloc(), c, count)?;
             let read = Comment::read(rt.alloc(), text.as_str())??;
-            assert_eq!(rt; read.as_str(), text.as_str());
+            assert!(rt; read.as_str() == text.as_str());
             assert!(rt; read.try_clone(rt.alloc())? == read);
         }
         let longer = repeated(rt.alloc(), c, 201)?;
@@ -50,7 +51,7 @@ fn comments(rt: HostRuntime) -> Result<(), Fail> {
         "\u{10FFFF}",
     ] {
         let read = Comment::read(rt.alloc(), text)??;
-        assert_eq!(rt; format!(in rt.alloc(); "{read}")?.as_str(), text);
+        assert!(rt; prints(&rt, &read, text)?);
     }
     for text in ["", "\u{1F}", "\u{7F}", "a\tb", "a\r\n", "\0"] {
         assert!(rt; Comment::read(rt.alloc(), text)?.is_err(), "{text:?}");
