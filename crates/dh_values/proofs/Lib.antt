@@ -1,4 +1,5 @@
 pub mod Ascii
 pub mod Powers
-pub mod MoneyTexts
+pub mod KindTexts
 pub mod NumberTexts
+pub mod MoneyTexts

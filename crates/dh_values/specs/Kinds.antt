@@ -1,13 +1,13 @@
 -- The kinds of things, and the text of each.
 use Rattle.std.specs.Prelude.{ℕ, if◌then◌else◌, Option, Some, None, List, bytes_eq, codes}
-use Rattle.dh_values.specs.declared.kinds.PropertyType.{PropertyType}
-use Rattle.dh_values.specs.declared.kinds.PropertyType.TheVariants.{House, Flat}
-use Rattle.dh_values.specs.declared.kinds.Position.{Position}
-use Rattle.dh_values.specs.declared.kinds.Position.TheVariants.{Manager, Supervisor, Assistant}
-use Rattle.dh_values.specs.declared.kinds.PaymentMethod.{PaymentMethod}
-use Rattle.dh_values.specs.declared.kinds.PaymentMethod.TheVariants.{Cash, Cheque, Card, Transfer}
-use Rattle.dh_values.specs.declared.kinds.ReceiptKind.{ReceiptKind}
-use Rattle.dh_values.specs.declared.kinds.ReceiptKind.TheVariants.{Rent, Deposit}
+use Rattle.dh_values.specs.declared.property_type.PropertyType.{PropertyType}
+use Rattle.dh_values.specs.declared.property_type.PropertyType.TheVariants.{House, Flat}
+use Rattle.dh_values.specs.declared.position.Position.{Position}
+use Rattle.dh_values.specs.declared.position.Position.TheVariants.{Manager, Supervisor, Assistant}
+use Rattle.dh_values.specs.declared.payment_method.PaymentMethod.{PaymentMethod}
+use Rattle.dh_values.specs.declared.payment_method.PaymentMethod.TheVariants.{Cash, Cheque, Card, Transfer}
+use Rattle.dh_values.specs.declared.receipt_kind.ReceiptKind.{ReceiptKind}
+use Rattle.dh_values.specs.declared.receipt_kind.ReceiptKind.TheVariants.{Rent, Deposit}
 
 abbrev pub property_type_text : PropertyType → List ℕ
 property_type_text House = codes "House"

@@ -2,7 +2,9 @@
 
 ghost use Rattle.std.specs.Fmt.{decimal};
 ghost use Rattle.dh_values.specs.Counts.{IsBatchCount, IsLeaseMonths, IsLeaseNo, IsReceiptNo, IsRooms, batch_count_of, lease_months_of, lease_no_of, rooms_of};
-ghost use Rattle.dh_values.specs.Laws.{ArePrintedBack, AreReadBack, PrintApart};
+ghost use Rattle.dh_values.specs.Kinds.{payment_method_of, payment_method_text, position_of, position_text, property_type_of, property_type_text, receipt_kind_of, receipt_kind_text};
+ghost use Rattle.dh_values.specs.Laws.{ArePrintedBack, AreReadBack, IsAny, MoneyIsReadAgain, MoneyPrintsApart, PenceAreReadBack, PrintApart};
+ghost use Rattle.dh_values.specs.Money.{IsAmount, IsRent, amount_of, pence_text, rent_of};
 
 /// The numbers of leases are read as they are printed, and printed as they are read.
 pub fn lease_nos()
@@ -35,4 +37,52 @@ pub fn batch_counts()
 /// Numbers of receipts that print as one are one.
 pub fn receipt_nos()
     ensures { PrintApart IsReceiptNo decimal }
+{}
+
+/// Money is read as it is printed, as far as a text can spell it, and any two amounts that print
+/// as one are one. What a text spells prints as a text that spells the same.
+pub fn money()
+    ensures read_back { PenceAreReadBack }
+    ensures apart { MoneyPrintsApart }
+    ensures read_again { MoneyIsReadAgain }
+{}
+
+/// Rents are read as they are printed.
+pub fn rents()
+    ensures read_back { AreReadBack IsRent pence_text rent_of }
+    ensures apart { PrintApart IsRent pence_text }
+{}
+
+/// What receipts take is read as it is printed.
+pub fn amounts()
+    ensures read_back { AreReadBack IsAmount pence_text amount_of }
+    ensures apart { PrintApart IsAmount pence_text }
+{}
+
+/// The types of properties are read as they are printed, and printed as they are read.
+pub fn property_types()
+    ensures read_back { AreReadBack IsAny property_type_text property_type_of }
+    ensures printed_back { ArePrintedBack property_type_text property_type_of }
+    ensures apart { PrintApart IsAny property_type_text }
+{}
+
+/// The positions of staff are read as they are printed, and printed as they are read.
+pub fn positions()
+    ensures read_back { AreReadBack IsAny position_text position_of }
+    ensures printed_back { ArePrintedBack position_text position_of }
+    ensures apart { PrintApart IsAny position_text }
+{}
+
+/// The methods of payment are read as they are printed, and printed as they are read.
+pub fn payment_methods()
+    ensures read_back { AreReadBack IsAny payment_method_text payment_method_of }
+    ensures printed_back { ArePrintedBack payment_method_text payment_method_of }
+    ensures apart { PrintApart IsAny payment_method_text }
+{}
+
+/// The kinds of receipts are read as they are printed, and printed as they are read.
+pub fn receipt_kinds()
+    ensures read_back { AreReadBack IsAny receipt_kind_text receipt_kind_of }
+    ensures printed_back { ArePrintedBack receipt_kind_text receipt_kind_of }
+    ensures apart { PrintApart IsAny receipt_kind_text }
 {}
