@@ -1,5 +1,5 @@
 -- Records whose fields are the same are one.
-use Rattle.std.proofs.Common.{◌≡◌, ◌↔◌, refl, Bool, true, ◌&&◌, nat_eq}
+use Rattle.std.proofs.Common.{◌≡◌, refl, true, nat_eq}
 use Rattle.std.specs.Cmp.Lexicographic.{pointwise}
 use Rattle.dh_values.proofs.Ascii.{and_left, and_right}
 use Rattle.dh_types.specs.declared.branch.Branch.{Branch}

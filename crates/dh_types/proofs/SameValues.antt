@@ -1,16 +1,16 @@
 -- Values that compare as the same are one.
-use Rattle.std.proofs.Common.{◌≡◌, ◌↔◌, refl, sym, ap, ℕ, Bool, true, false, Option, Some, None, List, nat_eq, arith}
+use Rattle.std.proofs.Common.{◌≡◌, refl, ap, ℕ, Bool, true, false, Option, Some, None, nat_eq, arith}
 use Rattle.std.specs.Cmp.Lexicographic.{pointwise}
 use Rattle.std.proofs.lemmas.Bool.Decides.{nat_tests}
 use Rattle.std.proofs.lemmas.Slice.Eq.{bytes_eq-Decides}
-use Rattle.dh_values.specs.declared.kinds.PropertyType.{PropertyType}
-use Rattle.dh_values.specs.declared.kinds.PropertyType.TheVariants as property_type
-use Rattle.dh_values.specs.declared.kinds.Position.{Position}
-use Rattle.dh_values.specs.declared.kinds.Position.TheVariants as position
-use Rattle.dh_values.specs.declared.kinds.PaymentMethod.{PaymentMethod}
-use Rattle.dh_values.specs.declared.kinds.PaymentMethod.TheVariants as payment_method
-use Rattle.dh_values.specs.declared.kinds.ReceiptKind.{ReceiptKind}
-use Rattle.dh_values.specs.declared.kinds.ReceiptKind.TheVariants as receipt_kind
+use Rattle.dh_values.specs.declared.property_type.PropertyType.{PropertyType}
+use Rattle.dh_values.specs.declared.property_type.PropertyType.TheVariants as property_type
+use Rattle.dh_values.specs.declared.position.Position.{Position}
+use Rattle.dh_values.specs.declared.position.Position.TheVariants as position
+use Rattle.dh_values.specs.declared.payment_method.PaymentMethod.{PaymentMethod}
+use Rattle.dh_values.specs.declared.payment_method.PaymentMethod.TheVariants as payment_method
+use Rattle.dh_values.specs.declared.receipt_kind.ReceiptKind.{ReceiptKind}
+use Rattle.dh_values.specs.declared.receipt_kind.ReceiptKind.TheVariants as receipt_kind
 use Rattle.dh_types.specs.Laws.{TellsApart}
 use Rattle.dh_types.specs.Records.{is_same_flag, is_same_optional, is_same_property_type, is_same_position, is_same_payment_method, is_same_receipt_kind}
 

@@ -1,20 +1,5 @@
 -- What the definitions owe each other.
 use Rattle.std.specs.Prelude.{Bool, true, ◌≡◌, ◌↔◌}
-use Rattle.dh_types.specs.declared.branch.Branch.{Branch}
-use Rattle.dh_types.specs.declared.staff.Staff.{Staff}
-use Rattle.dh_types.specs.declared.owner.Owner.{Owner}
-use Rattle.dh_types.specs.declared.property.Property.{Property}
-use Rattle.dh_types.specs.declared.client.Client.{Client}
-use Rattle.dh_types.specs.declared.client.Registration.{Registration}
-use Rattle.dh_types.specs.declared.viewing.Viewing.{Viewing}
-use Rattle.dh_types.specs.declared.viewing.Inspection.{Inspection}
-use Rattle.dh_types.specs.declared.lease.LeaseTerms.{LeaseTerms}
-use Rattle.dh_types.specs.declared.lease.Lease.{Lease}
-use Rattle.dh_types.specs.declared.lease.Charge.{Charge}
-use Rattle.dh_types.specs.declared.lease.Payment.{Payment}
-use Rattle.dh_types.specs.declared.lease.Receipt.{Receipt}
-use Rattle.dh_types.specs.declared.run.Run.{Run}
-use Rattle.dh_types.specs.declared.run.Part.{Part}
 use Rattle.dh_types.specs.Records.{is_same_branch, is_same_staff, is_same_owner, is_same_property, is_same_client, is_same_registration, is_same_viewing, is_same_inspection, is_same_lease_terms, is_same_lease, is_same_charge, is_same_payment, is_same_receipt, is_same_run, is_same_part}
 
 -- two are the same exactly where they are one

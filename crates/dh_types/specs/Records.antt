@@ -1,14 +1,14 @@
 -- When two records are the same: all their fields are.
-use Rattle.std.specs.Prelude.{ℕ, Bool, true, false, ◌&&◌, nat_eq, Option, Some, None}
+use Rattle.std.specs.Prelude.{Bool, true, false, ◌&&◌, nat_eq, Option, Some, None}
 use Rattle.std.specs.Cmp.Lexicographic.{pointwise}
-use Rattle.dh_values.specs.declared.kinds.PropertyType.{PropertyType}
-use Rattle.dh_values.specs.declared.kinds.PropertyType.TheVariants as property_type
-use Rattle.dh_values.specs.declared.kinds.Position.{Position}
-use Rattle.dh_values.specs.declared.kinds.Position.TheVariants as position
-use Rattle.dh_values.specs.declared.kinds.PaymentMethod.{PaymentMethod}
-use Rattle.dh_values.specs.declared.kinds.PaymentMethod.TheVariants as payment_method
-use Rattle.dh_values.specs.declared.kinds.ReceiptKind.{ReceiptKind}
-use Rattle.dh_values.specs.declared.kinds.ReceiptKind.TheVariants as receipt_kind
+use Rattle.dh_values.specs.declared.property_type.PropertyType.{PropertyType}
+use Rattle.dh_values.specs.declared.property_type.PropertyType.TheVariants as property_type
+use Rattle.dh_values.specs.declared.position.Position.{Position}
+use Rattle.dh_values.specs.declared.position.Position.TheVariants as position
+use Rattle.dh_values.specs.declared.payment_method.PaymentMethod.{PaymentMethod}
+use Rattle.dh_values.specs.declared.payment_method.PaymentMethod.TheVariants as payment_method
+use Rattle.dh_values.specs.declared.receipt_kind.ReceiptKind.{ReceiptKind}
+use Rattle.dh_values.specs.declared.receipt_kind.ReceiptKind.TheVariants as receipt_kind
 use Rattle.dh_types.specs.declared.branch.Branch.{Branch}
 use Rattle.dh_types.specs.declared.staff.Staff.{Staff}
 use Rattle.dh_types.specs.declared.owner.Owner.{Owner}

@@ -1,7 +1,7 @@
 -- The texts of replies, refusals and faults.
-use Rattle.std.specs.Prelude.{ℕ, Bool, true, false, List, ◌∷◌, ◌++◌, codes, pos}
+use Rattle.std.specs.Prelude.{ℕ, Bool, true, false, List, ◌∷◌, ◌++◌, codes}
 use Rattle.std.specs.Fmt.{decimal, signed_decimal}
-use Rattle.dh_values.specs.Money.{money_text}
+use Rattle.dh_values.specs.Money.{pence_text}
 use Rattle.dh_days.specs.Months.{month_text}
 use Rattle.dh_types.specs.declared.run.RunSum.{RunSum}
 use Rattle.dh_types.specs.declared.reply.Progress.{Progress}
@@ -24,7 +24,7 @@ refusal_text (refusal.MonthPosted next) = codes "refused 7 " ++ month_text next
 refusal_text (refusal.NotNextMonth next) = codes "refused 8 " ++ month_text next
 refusal_text refusal.KeyUsed = codes "refused 9"
 refusal_text (refusal.RunOpen month) = codes "refused 10 " ++ month_text month
-refusal_text (refusal.DepositAmount expected) = codes "refused 11 " ++ money_text (pos expected)
+refusal_text (refusal.DepositAmount expected) = codes "refused 11 " ++ pence_text expected
 refusal_text refusal.DepositPaid = codes "refused 12"
 refusal_text refusal.NotRegistered = codes "refused 13"
 refusal_text refusal.NoRun = codes "refused 14"
@@ -35,7 +35,7 @@ refusal_text refusal.Full = codes "refused 18"
 
 -- the month of a run, its count and its total
 abbrev pub sum_text : RunSum → List ℕ
-sum_text sum = month_text sum.month ++ 32 ∷ decimal sum.count ++ 32 ∷ money_text (pos sum.total)
+sum_text sum = month_text sum.month ++ 32 ∷ decimal sum.count ++ 32 ∷ pence_text sum.total
 
 abbrev pub posted_text : RunSum → List ℕ
 posted_text sum = codes "posted " ++ sum_text sum

@@ -23,11 +23,9 @@ pub use client::{Client, Registration};
 pub use command::{Assignment, Command, ReceiptOrder, RentChange, RunOrder, ViewingComment};
 pub use dh_days::{Day, EntryDay, EntryMonth, Month};
 pub use dh_values::{
-    Amount, BadText, BatchCount, ChargeIndex, Comment, Id, Key, LeaseMonths, LeaseNo,
-    PaymentMethod, Position, PropertyType, ReceiptKind, ReceiptNo, Rent, Rooms, Text60,
+    Amount, BadText, Balance, BatchCount, ChargeIndex, Comment, Id, Key, LeaseMonths, LeaseNo,
+    PaymentMethod, Pence, Position, PropertyType, ReceiptKind, ReceiptNo, Rent, Rooms, Text60,
 };
-pub use dh_values::Amount as Pence;
-pub use dh_values::Pence as Balance;
 pub use lease::{Charge, Lease, LeaseTerms, Payment, Receipt};
 pub use owner::Owner;
 pub use property::Property;

@@ -1,8 +1,8 @@
 //! Writing replies, refusals and faults to any writer. It takes no memory.
 
-ghost use Rattle.std.specs.Prelude.{◌≡◌, ◌≤◌, ◌++◌, ◌∷◌, ◌/◌, ◌%◌, ◌+◌, [], pos};
+ghost use Rattle.std.specs.Prelude.{◌≡◌, ◌≤◌, ◌++◌, ◌∷◌, ◌/◌, ◌%◌, ◌+◌, []};
 ghost use Rattle.std.specs.Fmt.{decimal};
-ghost use Rattle.dh_values.specs.Money.{money_text};
+ghost use Rattle.dh_values.specs.Money.{pence_text};
 ghost use Rattle.dh_days.specs.Months.{IsMonth, month_text};
 ghost use Rattle.dh_types.specs.Output.{Puts};
 ghost use Rattle.dh_types.specs.Replies.{fault_text, posted_text, progress_text, refusal_text, reply_text, sum_text};
@@ -26,7 +26,7 @@ fn month_behind(month: Month) -> [u8; 3]
 
 // A point and the pence, behind the pounds.
 fn pence_behind(money: Pence) -> [u8; 3]
-    ensures { result ≡ 46 ∷ (48 + money % 100 / 10) ∷ (48 + money % 10) ∷ [] }
+    ensures { result ≡ 46 ∷ (48 + money % 100 / 10) ∷ (48 + money % 100 % 10) ∷ [] }
 {
     let pence = money.pence() % 100;
     [
@@ -55,7 +55,7 @@ fn put_month<W: Write>(writer: &mut W, lead: &[u8], month: Month) -> Result<(), 
 
 // Writes the lead and then the money.
 fn put_money<W: Write>(writer: &mut W, lead: &[u8], money: Pence) -> Result<(), Output>
-    ensures { Puts (W.contents writer.old) (W.contents writer.new) result (lead.now ++ money_text (pos money)) }
+    ensures { Puts (W.contents writer.old) (W.contents writer.new) result (lead.now ++ pence_text money) }
 {
     let mut digits = itoa::Buffer::new();
     let pounds = digits.format(money.pence() / 100).as_bytes();

@@ -21,11 +21,11 @@ IsAny _ = Unit {0}
 
 -- pence that a text spells, at most 99,999,999, are read as they are printed
 abbrev pub PenceAreReadBack : Type 0
-PenceAreReadBack = (p : ℕ) → p ≤ 99999999 → pence_of (money_text (pos p)) ≡ Some p
+PenceAreReadBack = AreReadBack (λ p. p ≤ 99999999) pence_text pence_of
 
--- any two amounts that print as one are one
-abbrev pub MoneyPrintsApart : Type 0
-MoneyPrintsApart = PrintApart (FitsSigned w128) money_text
+-- any two balances that print as one are one
+abbrev pub BalancesPrintApart : Type 0
+BalancesPrintApart = PrintApart (FitsSigned w128) money_text
 
 -- what a text spells is printed as a text that spells the same
 abbrev pub MoneyIsReadAgain : Type 0

@@ -31,6 +31,10 @@ abbrev pub money_text : ℤ → List ℕ
 money_text (pos p) = pence_text p
 money_text (negsuc n) = 45 ∷ pence_text (suc n)
 
+-- at most 2^63 - 1, as a table keeps it
+abbrev pub IsPence : ℕ → Type 0
+IsPence p = p ≤ 9223372036854775807
+
 -- a monthly rent
 abbrev pub IsRent : ℕ → Type 0
 IsRent p = (1 ≤ p) × (p ≤ 999999)

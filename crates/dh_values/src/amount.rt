@@ -3,7 +3,7 @@
 ghost use Rattle.std.specs.Prelude.{◌≡◌, ◌≤◌, ◌↔◌, IsSome, IfSome, MatchResult, None, Some, pos, ◌≤ℤ◌};
 ghost use Rattle.dh_values.specs.Money.{IsAmount, pence_text, amount_of};
 
-use crate::pence::read_pence_within;
+use crate::money::read_pence_within;
 use crate::{BadText, Pence};
 use std::fmt;
 use std::marker::Model;
@@ -71,6 +71,6 @@ impl fmt::Display for Amount {
     ghost output = { λ p. Some (pence_text p) };
 
     fn fmt<W: fmt::Write>(&self, f: &mut fmt::Formatter<W>) -> fmt::Result {
-        fmt::Display::fmt(&Pence::of(self.pence as i128), f)
+        fmt::Display::fmt(&Pence::of_pence(self.pence as u64), f)
     }
 }

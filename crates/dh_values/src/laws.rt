@@ -3,8 +3,8 @@
 ghost use Rattle.std.specs.Fmt.{decimal};
 ghost use Rattle.dh_values.specs.Counts.{IsBatchCount, IsLeaseMonths, IsLeaseNo, IsReceiptNo, IsRooms, batch_count_of, lease_months_of, lease_no_of, rooms_of};
 ghost use Rattle.dh_values.specs.Kinds.{payment_method_of, payment_method_text, position_of, position_text, property_type_of, property_type_text, receipt_kind_of, receipt_kind_text};
-ghost use Rattle.dh_values.specs.Laws.{ArePrintedBack, AreReadBack, IsAny, MoneyIsReadAgain, MoneyPrintsApart, PenceAreReadBack, PrintApart};
-ghost use Rattle.dh_values.specs.Money.{IsAmount, IsRent, amount_of, pence_text, rent_of};
+ghost use Rattle.dh_values.specs.Laws.{ArePrintedBack, AreReadBack, IsAny, MoneyIsReadAgain, BalancesPrintApart, PenceAreReadBack, PrintApart};
+ghost use Rattle.dh_values.specs.Money.{IsAmount, IsPence, IsRent, amount_of, pence_text, rent_of};
 
 /// The numbers of leases are read as they are printed, and printed as they are read.
 pub fn lease_nos()
@@ -39,12 +39,17 @@ pub fn receipt_nos()
     ensures { PrintApart IsReceiptNo decimal }
 {}
 
-/// Money is read as it is printed, as far as a text can spell it, and any two amounts that print
-/// as one are one. What a text spells prints as a text that spells the same.
+/// Money is read as it is printed, as far as a text can spell it. What a text spells prints as a
+/// text that spells the same.
 pub fn money()
     ensures read_back { PenceAreReadBack }
-    ensures apart { MoneyPrintsApart }
+    ensures apart { PrintApart IsPence pence_text }
     ensures read_again { MoneyIsReadAgain }
+{}
+
+/// Balances that print as one are one.
+pub fn balances()
+    ensures { BalancesPrintApart }
 {}
 
 /// Rents are read as they are printed.

@@ -2,6 +2,7 @@
 #![tactic(auto)]
 
 mod amount;
+mod balance;
 mod batch_count;
 mod charge_index;
 pub mod digits;
@@ -10,6 +11,7 @@ mod key;
 pub mod laws;
 mod lease_months;
 mod lease_no;
+mod money;
 mod payment_method;
 mod pence;
 mod position;
@@ -22,6 +24,7 @@ mod short;
 mod text;
 
 pub use amount::Amount;
+pub use balance::Balance;
 pub use batch_count::BatchCount;
 pub use charge_index::ChargeIndex;
 pub use id::Id;

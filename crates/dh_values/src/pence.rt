@@ -1,114 +1,78 @@
 //! Money in pence.
 
-ghost use Rattle.std.specs.Prelude.{◌≡◌, ◌^◌, ◌<◌, ◌≤◌, pos, option_map, None, Some, MatchResult};
-ghost use Rattle.dh_values.specs.Money.{has_pence, is_pounds, money_text, pence_of};
-ghost use Rattle.dh_values.specs.Numbers.{within};
+ghost use Rattle.std.specs.Prelude.{◌≡◌, ◌≤◌, ◌↔◌, ◌≤ℤ◌, pos, IsSome, IfSome, MatchResult, None, Some};
+ghost use Rattle.dh_values.specs.Money.{IsPence, pence_of, pence_text};
 
 use crate::BadText;
-use crate::digits::{are_digits, number};
+use crate::money::read_pence;
 use std::fmt;
 use std::marker::Model;
 
-/// An amount of money in whole pence. It may be negative, as a balance.
+/// An amount of money in whole pence, 0 to 2^63 - 1, of which a line can spell those to 99,999,999.
 #[derive(Clone, Copy, Debug, PartialEq, Eq, PartialOrd, Ord)]
 pub struct Pence {
-    amount: i128,
+    pence: u64,
 }
 
 impl Model for Pence {
-    ghost use Rattle.std.specs.Prelude.{ℤ};
+    ghost use Rattle.std.specs.Prelude.{ℕ};
+    ghost use Rattle.dh_values.specs.Money.{IsPence};
 
-    ghost Value = { ℤ };
+    ghost Value = { ℕ };
 
-    ghost view = { λ p. p.amount };
+    ghost view = { λ p. p.pence };
 
-    ghost inverse = { λ z. record { amount = z } };
-}
+    ghost invariant = { λ p. IsPence p.pence };
 
-fn is_pounds(bytes: &[u8]) -> bool
-    ensures { result ≡ is_pounds bytes.now }
-{
-    1 <= bytes.len() && bytes.len() <= 6 && are_digits(bytes)
-}
-
-// Whether it is pounds, a point and two digits.
-fn has_pence(bytes: &[u8]) -> bool
-    ensures { result ≡ has_pence bytes.now }
-{
-    if bytes.len() < 4 {
-        return false;
-    }
-    let point = bytes.len() - 3;
-    bytes[point] == b'.' && is_pounds(&bytes[..point]) && are_digits(&bytes[point + 1..])
-}
-
-// The pence that the text spells.
-fn read_pence(text: &str) -> Result<u64, BadText>
-    ensures { MatchResult result (λ p. pence_of text.now ≡ Some p) (λ _. pence_of text.now ≡ None) }
-{
-    let bytes = text.as_bytes();
-    if is_pounds(bytes) {
-        return Ok(100 * number(bytes) as u64);
-    }
-    if !has_pence(bytes) {
-        return Err(BadText);
-    }
-    let point = bytes.len() - 3;
-    let pounds = number(&bytes[..point]) as u64;
-    let rest = number(&bytes[point + 1..]) as u64;
-    Ok(100 * pounds + rest)
-}
-
-/// The pence from `low` to `high` that the text spells. It takes no memory. `BadText` where the
-/// text spells no such amount.
-pub(crate) fn read_pence_within(low: u32, high: u32, text: &str) -> Result<u32, BadText>
-    ensures { MatchResult result (λ p. within low high (pence_of text.now) ≡ Some p) (λ _. within low high (pence_of text.now) ≡ None) }
-{
-    let pence = read_pence(text)?;
-    if pence < low as u64 || pence > high as u64 {
-        return Err(BadText);
-    }
-    Ok(pence as u32)
+    ghost inverse = { λ n. record { pence = n } };
 }
 
 impl Pence {
     /// The amount that the text spells: 1 to 6 digits of pounds, then nothing, or a point and two
     /// digits of pence. It takes no memory. `BadText` for any other text.
     pub fn read(text: &str) -> Result<Pence, BadText>
-        ensures { MatchResult result (λ p. option_map pos (pence_of text.now) ≡ Some p) (λ _. pence_of text.now ≡ None) }
+        ensures { MatchResult result (λ p. pence_of text.now ≡ Some p) (λ _. pence_of text.now ≡ None) }
     {
         let pence = read_pence(text)?;
-        Ok(Pence {
-            amount: pence as i128,
+        Ok(Pence { pence })
+    }
+
+    /// So many pence. `None` where they are less than 0.
+    pub fn try_of_pence(pence: i64) -> Option<Pence>
+        ensures value { IfSome result (λ p. pos p ≡ pence) }
+        ensures exact { IsSome result ↔ (pos 0 ≤ℤ pence) }
+    {
+        if pence < 0 {
+            return None;
+        }
+        Some(Pence {
+            pence: pence as u64,
         })
     }
 
     /// So many pence.
-    pub fn of(amount: i128) -> Pence
-        ensures { result ≡ amount }
+    pub fn of_pence(pence: u64) -> Pence
+        requires { IsPence pence }
+        ensures { result ≡ pence }
     {
-        Pence { amount }
+        Pence { pence }
     }
 
     /// How many pence.
-    pub fn amount(self) -> i128
-        ensures { result ≡ self }
+    pub fn pence(self) -> u64
+        ensures value { result ≡ self }
+        ensures range { IsPence self }
     {
-        self.amount
+        self.pence
     }
 }
 
 impl fmt::Display for Pence {
-    ghost output = { λ p. Some (money_text p) };
+    ghost output = { λ p. Some (pence_text p) };
 
     fn fmt<W: fmt::Write>(&self, f: &mut fmt::Formatter<W>) -> fmt::Result {
-        let pence = self.amount.unsigned_abs();
-        let (pounds, rest) = (pence / 100, pence % 100);
+        let (pounds, rest) = (self.pence / 100, self.pence % 100);
         let (tens, ones) = (rest / 10, rest % 10);
-        if self.amount < 0 {
-            write!(f, "-{pounds}.{tens}{ones}")
-        } else {
-            write!(f, "{pounds}.{tens}{ones}")
-        }
+        write!(f, "{pounds}.{tens}{ones}")
     }
 }

@@ -1,5 +1,5 @@
 use super::prints;
-use crate::{Amount, Pence, Rent};
+use crate::{Amount, Balance, Pence, Rent};
 use std::test::Fail;
 
 #[test]
@@ -16,10 +16,15 @@ fn pence(rt: HostRuntime) -> Result<(), Fail> {
         ("999999.99", 99999999, "999999.99"),
     ] {
         let pence = Pence::read(text)?;
-        assert!(rt; pence.amount() == amount);
+        assert!(rt; pence.pence() == amount);
         assert!(rt; prints(&rt, &pence, printed)?);
     }
-    assert!(rt; Pence::of(-1) < Pence::of(0));
+    assert!(rt; Pence::of_pence(1) < Pence::of_pence(2));
+    for pence in [-1, i64::MIN] {
+        assert!(rt; Pence::try_of_pence(pence).is_none(), "{pence}");
+    }
+    let most = Pence::try_of_pence(i64::MAX).ok_or("no pence")?;
+    assert!(rt; prints(&rt, &most, "92233720368547758.07")?);
     Ok(())
 }
 
@@ -62,9 +67,10 @@ fn balances(rt: HostRuntime) -> Result<(), Fail> {
         (i128::MIN, "-1701411834604692317316873037158841057.28"),
         (i128::MAX, "1701411834604692317316873037158841057.27"),
     ] {
-        let balance = Pence::of(amount);
+        let balance = Balance::of_pence(amount);
         assert!(rt; prints(&rt, &balance, printed)?);
     }
+    assert!(rt; Balance::of_pence(-1) < Balance::of_pence(0));
     Ok(())
 }
 

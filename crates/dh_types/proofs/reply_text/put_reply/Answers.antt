@@ -1,4 +1,3 @@
-use Rattle.std.proofs.Common.{◌≡◌}
 use Rattle.dh_types.proofs.reply_text.put_reply.Goals as goal
 
 pub returns-in-AlreadyReceipt : goal.returns-in-AlreadyReceipt
