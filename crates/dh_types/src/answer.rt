@@ -1,6 +1,8 @@
 //! What a question is answered.
 
-use crate::{Balance, Branch, Charge, Id, Lease, LeaseNo, Part, Property, Receipt, Refusal, RunSum, Text60};
+use crate::{
+    Balance, Branch, Charge, Id, Lease, LeaseNo, Part, Property, Receipt, Refusal, RunSum, Text60,
+};
 
 /// The answer to a question.
 #[derive(Drop)]

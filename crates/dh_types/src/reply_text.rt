@@ -29,11 +29,7 @@ fn pence_behind(money: Pence) -> [u8; 3]
     ensures { result ≡ 46 ∷ (48 + money % 100 / 10) ∷ (48 + money % 100 % 10) ∷ [] }
 {
     let pence = money.pence() % 100;
-    [
-        b'.',
-        b'0' + (pence / 10) as u8,
-        b'0' + (pence % 10) as u8,
-    ]
+    [b'.', b'0' + (pence / 10) as u8, b'0' + (pence % 10) as u8]
 }
 
 // Writes the lead and then the number.
@@ -145,11 +141,7 @@ pub fn put_reply<W: Write>(writer: &mut W, reply: Reply) -> Result<(), Output>
         Reply::Accepted => put(writer, b"ok"),
         Reply::Already => put(writer, b"already"),
         Reply::Receipt(number) => put_number(writer, b"receipt ", number.number()),
-        Reply::AlreadyReceipt(number) => put_number(
-            writer,
-            b"already receipt ",
-            number.number(),
-        ),
+        Reply::AlreadyReceipt(number) => put_number(writer, b"already receipt ", number.number()),
         Reply::Opened(month) => put_month(writer, b"opened ", month.month()),
         Reply::Part(run) => put_progress(writer, b"part ", run),
         Reply::Posted(sum) => put_sum(writer, b"posted ", sum),

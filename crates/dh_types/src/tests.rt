@@ -2,8 +2,8 @@ ghost use Rattle.std.specs.Prelude.{◌≡◌};
 ghost use Rattle.dh_days.specs.Months.{IsEntryMonth};
 
 use crate::{
-    Branch, EntryMonth, Fault, Id, LeaseNo, Month, Pence, Progress, ReceiptNo, Refusal, Reply, RunSum,
-    Text60, put_fault, put_refusal, put_reply,
+    Branch, EntryMonth, Fault, Id, LeaseNo, Month, Pence, Progress, ReceiptNo, Refusal, Reply,
+    RunSum, Text60, put_fault, put_refusal, put_reply,
 };
 use std::alloc::Global;
 use std::io;
@@ -40,13 +40,19 @@ fn refusals(rt: HostRuntime) -> Result<(), Fail> {
         (Refusal::NotNextMonth(next), "refused 8 2025-02"),
         (Refusal::KeyUsed, "refused 9"),
         (Refusal::RunOpen(next), "refused 10 2025-02"),
-        (Refusal::DepositAmount(Pence::of_pence(130000)), "refused 11 1300.00"),
+        (
+            Refusal::DepositAmount(Pence::of_pence(130000)),
+            "refused 11 1300.00",
+        ),
         (Refusal::DepositPaid, "refused 12"),
         (Refusal::NotRegistered, "refused 13"),
         (Refusal::NoRun, "refused 14"),
         (Refusal::BadLine(3), "bad field 3"),
         (Refusal::Version(-7), "refused 16 -7"),
-        (Refusal::Version(i64::MIN), "refused 16 -9223372036854775808"),
+        (
+            Refusal::Version(i64::MIN),
+            "refused 16 -9223372036854775808",
+        ),
         (Refusal::Damaged(10), "refused 17 10"),
         (Refusal::Full, "refused 18"),
     ];

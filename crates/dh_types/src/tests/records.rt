@@ -3,10 +3,10 @@
 ghost use Rattle.std.specs.Prelude.{◌≡◌};
 
 use crate::{
-    Amount, Branch, Charge, ChargeIndex, Client, Comment, Day, EntryDay, EntryMonth, Id, Inspection,
-    Key, Lease, LeaseMonths, LeaseNo, LeaseTerms, Owner, Part, Payment, PaymentMethod, Pence,
-    Position, Property, PropertyType, Receipt, ReceiptKind, ReceiptNo, Registration, Rent, Rooms,
-    Run, Staff, Text60, Viewing,
+    Amount, Branch, Charge, ChargeIndex, Client, Comment, Day, EntryDay, EntryMonth, Id,
+    Inspection, Key, Lease, LeaseMonths, LeaseNo, LeaseTerms, Owner, Part, Payment, PaymentMethod,
+    Pence, Position, Property, PropertyType, Receipt, ReceiptKind, ReceiptNo, Registration, Rent,
+    Rooms, Run, Staff, Text60, Viewing,
 };
 use std::alloc::Global;
 use std::test::Fail;
@@ -52,7 +52,13 @@ fn branches(rt: HostRuntime) -> Result<(), Fail> {
     Ok(())
 }
 
-fn staff(alloc: Global, number: &str, name: &str, position: &str, branch: &str) -> Result<Staff, Fail> {
+fn staff(
+    alloc: Global,
+    number: &str,
+    name: &str,
+    position: &str,
+    branch: &str,
+) -> Result<Staff, Fail> {
     Ok(Staff {
         number: Id::read(number)?,
         name: Text60::read(alloc, name)??,
