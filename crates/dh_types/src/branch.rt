@@ -16,6 +16,13 @@ pub struct Branch {
 }
 
 impl Branch {
+    /// The number, which no other branch has.
+    pub fn key(&self) -> Id
+        ensures { result ≡ self.now.number }
+    {
+        self.number
+    }
+
     /// The same branch in memory of its own.
     pub fn try_clone(&self, alloc: Global) -> Result<Branch, AllocError>
         ensures { IfOk result (λ b. b ≡ self.now) }
@@ -34,7 +41,7 @@ impl Branch {
         ensures grammar { IsBranch self.now }
     {
         [
-            self.number.as_str(),
+            Id::as_str(&self.number),
             self.street.as_str(),
             self.city.as_str(),
             self.postcode.as_str(),

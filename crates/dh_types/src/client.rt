@@ -17,6 +17,13 @@ pub struct Client {
 }
 
 impl Client {
+    /// The number, which no other client has.
+    pub fn key(&self) -> Id
+        ensures { result ≡ self.now.number }
+    {
+        self.number
+    }
+
     /// The same client in memory of its own.
     pub fn try_clone(&self, alloc: Global) -> Result<Client, AllocError>
         ensures { IfOk result (λ c. c ≡ self.now) }
@@ -38,4 +45,13 @@ pub struct Registration {
     pub branch: Id,
     pub staff: Id,
     pub day: EntryDay,
+}
+
+impl Registration {
+    /// The client and the branch, which no other registration has.
+    pub fn key(&self) -> (Id, Id)
+        ensures { result ≡ (self.now.client, self.now.branch) }
+    {
+        (self.client, self.branch)
+    }
 }

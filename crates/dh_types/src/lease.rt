@@ -1,5 +1,7 @@
 //! Leases, what falls due on them, and what is paid.
 
+ghost use Rattle.std.specs.Prelude.{◌≡◌};
+
 use crate::{
     Amount, ChargeIndex, Day, EntryDay, EntryMonth, Id, Key, LeaseMonths, LeaseNo, PaymentMethod,
     ReceiptKind, ReceiptNo, Rent,
@@ -23,6 +25,15 @@ pub struct Lease {
     pub rent: Rent,
 }
 
+impl Lease {
+    /// The number, which no other lease has.
+    pub fn key(&self) -> LeaseNo
+        ensures { result ≡ self.now.terms.number }
+    {
+        self.terms.number
+    }
+}
+
 /// Rent that fell due on a lease. There is one for a lease and an index.
 #[derive(Clone, Copy, PartialEq, Eq)]
 pub struct Charge {
@@ -31,6 +42,15 @@ pub struct Charge {
     pub month: EntryMonth,
     pub day: Day,
     pub amount: Rent,
+}
+
+impl Charge {
+    /// The lease and the index, which no other charge has.
+    pub fn key(&self) -> (LeaseNo, ChargeIndex)
+        ensures { result ≡ (self.now.lease, self.now.index) }
+    {
+        (self.lease, self.index)
+    }
 }
 
 /// What is paid on a lease, and what for.
@@ -48,4 +68,13 @@ pub struct Receipt {
     pub number: ReceiptNo,
     pub key: Key,
     pub payment: Payment,
+}
+
+impl Receipt {
+    /// The number, which no other receipt has.
+    pub fn key(&self) -> ReceiptNo
+        ensures { result ≡ self.now.number }
+    {
+        self.number
+    }
 }

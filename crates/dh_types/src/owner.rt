@@ -15,6 +15,13 @@ pub struct Owner {
 }
 
 impl Owner {
+    /// The number, which no other owner has.
+    pub fn key(&self) -> Id
+        ensures { result ≡ self.now.number }
+    {
+        self.number
+    }
+
     /// The same owner in memory of its own.
     pub fn try_clone(&self, alloc: Global) -> Result<Owner, AllocError>
         ensures { IfOk result (λ o. o ≡ self.now) }

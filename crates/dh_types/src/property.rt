@@ -23,6 +23,13 @@ pub struct Property {
 }
 
 impl Property {
+    /// The number, which no other property has.
+    pub fn key(&self) -> Id
+        ensures { result ≡ self.now.number }
+    {
+        self.number
+    }
+
     /// The same property in memory of its own.
     pub fn try_clone(&self, alloc: Global) -> Result<Property, AllocError>
         ensures { IfOk result (λ p. p ≡ self.now) }

@@ -1,5 +1,7 @@
 //! Rent runs.
 
+ghost use Rattle.std.specs.Prelude.{◌≡◌};
+
 use crate::{EntryMonth, Id, Key, LeaseNo, Pence};
 
 /// The rent run of a month. While it is open its count and total are 0.
@@ -14,6 +16,15 @@ pub struct Run {
     pub is_closed: bool,
 }
 
+impl Run {
+    /// The month, which no other run has.
+    pub fn key(&self) -> EntryMonth
+        ensures { result ≡ self.now.month }
+    {
+        self.month
+    }
+}
+
 /// What a branch has of a run so far. There is one for a month and a branch.
 #[derive(Clone, Copy, PartialEq, Eq)]
 pub struct Part {
@@ -23,6 +34,15 @@ pub struct Part {
     pub through: Option<LeaseNo>,
     pub count: u32,
     pub total: Pence,
+}
+
+impl Part {
+    /// The month and the branch, which no other part has.
+    pub fn key(&self) -> (EntryMonth, Id)
+        ensures { result ≡ (self.now.month, self.now.branch) }
+    {
+        (self.month, self.branch)
+    }
 }
 
 /// What a closed run comes to.

@@ -15,6 +15,13 @@ pub struct Staff {
 }
 
 impl Staff {
+    /// The number, which no other member of staff has.
+    pub fn key(&self) -> Id
+        ensures { result ≡ self.now.number }
+    {
+        self.number
+    }
+
     /// The same member in memory of its own.
     pub fn try_clone(&self, alloc: Global) -> Result<Staff, AllocError>
         ensures { IfOk result (λ s. s ≡ self.now) }

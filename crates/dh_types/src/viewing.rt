@@ -25,6 +25,13 @@ pub struct Viewing {
 }
 
 impl Viewing {
+    /// The client and the property, which no other viewing has.
+    pub fn key(&self) -> (Id, Id)
+        ensures { result ≡ (self.now.client, self.now.property) }
+    {
+        (self.client, self.property)
+    }
+
     /// The same viewing in memory of its own.
     pub fn try_clone(&self, alloc: Global) -> Result<Viewing, AllocError>
         ensures { IfOk result (λ v. v ≡ self.now) }
@@ -48,6 +55,13 @@ pub struct Inspection {
 }
 
 impl Inspection {
+    /// The property and the day, which no other inspection has.
+    pub fn key(&self) -> (Id, EntryDay)
+        ensures { result ≡ (self.now.property, self.now.day) }
+    {
+        (self.property, self.day)
+    }
+
     /// The same inspection in memory of its own.
     pub fn try_clone(&self, alloc: Global) -> Result<Inspection, AllocError>
         ensures { IfOk result (λ i. i ≡ self.now) }
