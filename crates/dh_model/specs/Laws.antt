@@ -1,0 +1,50 @@
+-- What the definitions owe each other.
+use Rattle.std.specs.Prelude.{◌≡◌, ◌↔◌, ◌<◌, ℕ, true, length}
+use Rattle.std.specs.List.{IsAmong}
+use Rattle.std.specs.FinMap.{values}
+use Rattle.dh_days.specs.Days.{IsDay, month_of_day}
+use Rattle.dh_types.specs.declared.lease.LeaseTerms.{LeaseTerms}
+use Rattle.dh_types.specs.declared.lease.Lease.{Lease}
+use Rattle.dh_types.specs.declared.lease.Charge.{Charge}
+use Rattle.dh_model.specs.Books.{Books}
+use Rattle.dh_model.specs.Leases.{Covers, due, dues, dues_of, end_of, overlap}
+
+-- leases overlap exactly where they are of one property and cover a common day
+abbrev pub OverlapIsCommonDay : Type 0
+OverlapIsCommonDay = (lease other : LeaseTerms) → IsDay lease.start → IsDay (end_of lease)
+    → (overlap lease other ≡ true) ↔ ((lease.property ≡ other.property) × ((day : ℕ) × IsDay day × Covers lease day × Covers other day))
+
+-- and this goes both ways
+abbrev pub OverlapGoesBothWays : Type 0
+OverlapGoesBothWays = (lease other : LeaseTerms) → IsDay lease.start → IsDay (end_of lease) → IsDay other.start → IsDay (end_of other)
+    → overlap lease other ≡ overlap other lease
+
+-- of one property, each starts before the other's end
+abbrev pub OverlapIsByEnds : Type 0
+OverlapIsByEnds = (lease other : LeaseTerms) → IsDay lease.start → IsDay other.start → lease.start < end_of lease → other.start < end_of other
+    → (overlap lease other ≡ true) ↔ ((lease.property ≡ other.property) × (lease.start < end_of other) × (other.start < end_of lease))
+
+-- a charge falls due in a month exactly where it is some lease's, of an index below its months, and of that month
+abbrev pub DuesAreThoseOfLeases : Type 0
+DuesAreThoseOfLeases = (books : Books) (month : ℕ) (charge : Charge)
+    → IsAmong (dues books month) charge ↔ ((lease : Lease) × (k : ℕ) × IsAmong (values books.leases) lease × (k < lease.terms.months) × (charge ≡ due lease k) × (charge.month ≡ month))
+
+-- a charge that falls due in two months does so in one
+abbrev pub MonthsShareNoDue : Type 0
+MonthsShareNoDue = (books : Books) (m n : ℕ) (charge : Charge) → IsAmong (dues books m) charge → IsAmong (dues books n) charge → m ≡ n
+
+-- a lease has as many dues as months
+abbrev pub DuesNumberTheMonths : Type 0
+DuesNumberTheMonths = (lease : Lease) → length (dues_of lease) ≡ lease.terms.months
+
+-- a due's day lies in its month
+abbrev pub DuesLieInTheirMonth : Type 0
+DuesLieInTheirMonth = (lease : Lease) (k : ℕ) → month_of_day (due lease k).day ≡ (due lease k).month
+
+-- a lease has one due in a month
+abbrev pub OneDueInAMonth : Type 0
+OneDueInAMonth = (lease : Lease) (j k : ℕ) → (due lease j).month ≡ (due lease k).month → j ≡ k
+
+-- each due lies on a day that the lease covers
+abbrev pub DuesAreCovered : Type 0
+DuesAreCovered = (lease : Lease) (k : ℕ) → k < lease.terms.months → Covers lease.terms (due lease k).day

@@ -1,0 +1,10 @@
+//! The model of a letting agency: what its books are, what each command does to them, and what each question is answered.
+//! The definitions are in specs/; laws say what they owe each other.
+#![tactic(auto)]
+
+pub mod laws;
+mod open_run;
+mod rows;
+
+pub use open_run::OpenRun;
+pub use rows::{Change, Verdict};

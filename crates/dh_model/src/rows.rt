@@ -1,0 +1,40 @@
+//! What the books say of a command.
+
+use dh_types::{
+    Assignment, Branch, Client, Inspection, Lease, Owner, Property, Receipt, Refusal, Registration,
+    RentChange, Reply, Run, Staff, Viewing, ViewingComment,
+};
+
+/// Rows that a command adds or replaces.
+#[derive(Drop)]
+pub enum Change {
+    Branch(Branch),
+    Staff(Staff),
+    Owner(Owner),
+    Property(Property),
+    /// The property gets this manager, or none.
+    Assign(Assignment),
+    /// The property gets this rent.
+    Rent(RentChange),
+    Client(Client),
+    Register(Registration),
+    Viewing(Viewing),
+    /// The viewing gets this comment.
+    Comment(ViewingComment),
+    Inspection(Inspection),
+    Lease(Lease),
+    Receipt(Receipt),
+    /// The month's rent run, open, and the next month moved on.
+    Open(Run),
+}
+
+/// The verdict on a command.
+#[derive(Drop)]
+pub enum Verdict {
+    /// It is accepted with these rows.
+    Change(Change),
+    /// It was carried out before; the kept reply.
+    Already(Reply),
+    /// It is refused.
+    Refused(Refusal),
+}
