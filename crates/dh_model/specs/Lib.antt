@@ -1,5 +1,12 @@
 pub mod Books
 pub mod Leases
+pub mod Runs
+pub mod Checks
+pub mod Verdicts
+pub mod Machine
+pub mod Answers
+pub mod Rules
+pub mod Whole
 pub mod Laws
 pub use Rattle.dh_types.specs.Records
 pub use Rattle.dh_types.specs.Reports

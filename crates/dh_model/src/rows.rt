@@ -26,6 +26,8 @@ pub enum Change {
     Receipt(Receipt),
     /// The month's rent run, open, and the next month moved on.
     Open(Run),
+    /// No rows: batches are posted one by one.
+    Post,
 }
 
 /// The verdict on a command.

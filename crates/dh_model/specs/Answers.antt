@@ -1,0 +1,98 @@
+-- What each question is answered. A question changes nothing.
+use Rattle.std.specs.Prelude.{ℕ, ℤ, pos, ◌-ℤ◌, ◌+ℤ◌, ◌<◌, Bool, true, false, not, ◌&&◌, nat_eq, nat_le, if◌then◌else◌, List, [], ◌∷◌, map, Option, Some, None, int_lt}
+use Rattle.std.specs.List.{filter, filter_map, fold, list_any, sum_by}
+use Rattle.std.specs.Ordering.{nat_cmp}
+use Rattle.std.specs.FinMap.{FinMap, contains_key, from_entries, get, values}
+use Rattle.dh_values.specs.declared.receipt_kind.ReceiptKind.TheVariants.{Rent}
+use Rattle.dh_types.specs.declared.property.Property.{Property}
+use Rattle.dh_types.specs.declared.client.Client.{Client}
+use Rattle.dh_types.specs.declared.lease.Lease.{Lease}
+use Rattle.dh_types.specs.declared.lease.Charge.{Charge}
+use Rattle.dh_types.specs.declared.lease.Receipt.{Receipt}
+use Rattle.dh_types.specs.declared.run.Run.{Run}
+use Rattle.dh_types.specs.declared.question.Question.{Question}
+use Rattle.dh_types.specs.declared.question.Question.TheVariants as asked
+use Rattle.dh_types.specs.declared.answer.Debt.{Debt}
+use Rattle.dh_types.specs.declared.reply.Refusal.TheVariants as refusal
+use Rattle.dh_types.specs.Records.{is_same_property_type, is_same_receipt_kind}
+use Rattle.dh_types.specs.Reports.{Report, BranchList, VacantList, MatchingList, LeaseStatement, BranchArrears, RunParts, NoReport}
+use Rattle.dh_model.specs.declared.open_run.OpenRun.{OpenRun}
+use Rattle.dh_model.specs.Books.{Books, State, pair_cmp, text_cmp}
+use Rattle.dh_model.specs.Leases.{covers}
+use Rattle.dh_model.specs.Runs.{leases_of_branch, sum_of, total_of}
+use Rattle.dh_model.specs.Checks.{is_same_text}
+
+module _ (books : Books) where
+  -- no lease of the property covers the day
+  abbrev pub is_vacant : ℕ → Property → Bool
+  is_vacant day property = not (list_any (λ lease. is_same_text lease.terms.property property.number && covers lease.terms day) (values books.leases))
+
+  -- rising by number
+  abbrev pub vacant : ℕ → List Property
+  vacant day = filter (is_vacant day) (values books.properties)
+
+  -- of the preferred type, at no more than the greatest rent, and vacant
+  abbrev pub matches : Client → ℕ → Property → Bool
+  matches client day property = is_same_property_type property.property_type client.preferred_type && nat_le property.rent client.greatest_rent && is_vacant day property
+
+  -- rising by rent, and then by number
+  abbrev pub by_rent : List Property → FinMap (pair_cmp nat_cmp text_cmp) Property
+  by_rent properties = from_entries (map (λ property. ((property.rent, property.number), property)) properties)
+
+  abbrev pub matching : Client → ℕ → List Property
+  matching client day = values (by_rent (filter (matches client day) (values books.properties)))
+
+  abbrev pub charges_of : ℕ → List Charge
+  charges_of lease = filter (λ charge. nat_eq charge.lease lease) (values books.charges)
+
+  abbrev pub receipts_of : ℕ → List Receipt
+  receipts_of lease = filter (λ receipt. nat_eq receipt.payment.lease lease) (values books.receipts)
+
+  abbrev pub rent_paid : ℕ → ℕ
+  rent_paid lease = sum_by (λ receipt. receipt.payment.amount) (filter (λ receipt. is_same_receipt_kind receipt.payment.kind Rent) (receipts_of lease))
+
+  -- what was charged on the lease, less the rent that was paid
+  abbrev pub balance : ℕ → ℤ
+  balance lease = pos (total_of (charges_of lease)) -ℤ pos (rent_paid lease)
+
+  abbrev pub name_of : Option Client → List ℕ
+  name_of None = []
+  name_of (Some client) = client.name
+
+  abbrev pub debt : Lease → Debt
+  debt lease = record { lease = lease.terms.number; client = lease.terms.client; balance = balance lease.terms.number; name = name_of (get books.clients lease.terms.client) }
+
+  -- the leases of the branch's properties on which rent is owed, rising by number
+  abbrev pub debts : List ℕ → List Debt
+  debts branch = map debt (filter (λ lease. int_lt (pos 0) (balance lease.terms.number)) (leases_of_branch books branch))
+
+  abbrev pub owed : List Debt → ℤ
+  owed owing = fold (λ sum it. sum +ℤ it.balance) (pos 0) owing
+
+  abbrev pub matching_report : Option Client → ℕ → Report
+  matching_report None day = NoReport (refusal.Unknown 3)
+  matching_report (Some client) day = MatchingList (matching client day)
+
+  abbrev pub statement : Option Lease → Report
+  statement None = NoReport (refusal.Unknown 3)
+  statement (Some lease) = LeaseStatement lease (charges_of lease.terms.number) (receipts_of lease.terms.number) (balance lease.terms.number)
+
+  abbrev pub arrears : List ℕ → Report
+  arrears branch = if contains_key books.branches branch then BranchArrears (debts branch) (owed (debts branch)) else NoReport (refusal.Unknown 3)
+
+  abbrev pub run_report : Option Run → Report
+  run_report None = NoReport refusal.NoRun
+  run_report (Some run) = if run.is_closed then RunParts (filter (λ part. nat_eq part.month run.month) (values books.parts)) (sum_of run) else NoReport refusal.NoRun
+
+-- an open run refuses what would show it half made
+abbrev pub unless_open : Option OpenRun → Report → Report
+unless_open None report = report
+unless_open (Some run) report = NoReport (refusal.RunOpen run.month)
+
+abbrev pub report : State → Question → Report
+report s asked.Branches = BranchList (values s.books.branches)
+report s (asked.Vacant day) = VacantList (vacant s.books day)
+report s (asked.Matching it) = matching_report s.books (get s.books.clients it.client) it.day
+report s (asked.Statement lease) = unless_open s.open_run (statement s.books (get s.books.leases lease))
+report s (asked.Arrears branch) = unless_open s.open_run (arrears s.books branch)
+report s (asked.Run month) = unless_open s.open_run (run_report s.books (get s.books.runs month))

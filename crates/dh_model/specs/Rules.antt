@@ -1,0 +1,176 @@
+-- What must hold of the books: the rules of the audit, by their numbers.
+use Rattle.std.specs.Prelude.{◌≡◌, ◌≢◌, ◌↔◌, ◌≤◌, ◌<◌, ℕ, ◌+◌, ◌*◌, Bool, true, false, not, ◌&&◌, nat_eq, List, [], ◌++◌, map, length, Option, Some, None, IfSome}
+use Rattle.std.specs.Cmp.{IsTotalOrder}
+use Rattle.std.specs.declared.cmp.Ordering.{Ordering}
+use Rattle.std.specs.List.{AllPairs, IsAmong, count_by, filter, list_any}
+use Rattle.std.specs.FinMap.{FinMap, contains_key, get, keys, len, values}
+use Rattle.dh_values.specs.declared.receipt_kind.ReceiptKind.TheVariants.{Deposit}
+use Rattle.dh_days.specs.Days.{month_of_day}
+use Rattle.dh_types.specs.declared.staff.Staff.{Staff}
+use Rattle.dh_types.specs.declared.property.Property.{Property}
+use Rattle.dh_types.specs.declared.client.Registration.{Registration}
+use Rattle.dh_types.specs.declared.viewing.Viewing.{Viewing}
+use Rattle.dh_types.specs.declared.viewing.Inspection.{Inspection}
+use Rattle.dh_types.specs.declared.lease.Lease.{Lease}
+use Rattle.dh_types.specs.declared.lease.Charge.{Charge}
+use Rattle.dh_types.specs.declared.lease.Receipt.{Receipt}
+use Rattle.dh_types.specs.declared.run.Run.{Run}
+use Rattle.dh_types.specs.declared.run.Part.{Part}
+use Rattle.dh_types.specs.Records.{is_same_optional}
+use Rattle.dh_model.specs.Books.{Books}
+use Rattle.dh_model.specs.Leases.{dues, overlap}
+use Rattle.dh_model.specs.Runs.{batches, dues_of_branch, part_of, posted_charges, posted_parts, total_of}
+use Rattle.dh_model.specs.Checks.{is_registered, is_same_text, works_at}
+
+-- this holds of each row
+abbrev pub Each : {K X : Type 0} {R : K → K → Ordering} → FinMap R X → (X → Type 0) → Type 0
+Each {X = X} rows P = (row : X) → IsAmong (values rows) row → P row
+
+-- this holds of any two different rows
+abbrev pub EachTwo : {K X : Type 0} {R : K → K → Ordering} → FinMap R X → (X → X → Type 0) → Type 0
+EachTwo rows P = AllPairs P (values rows)
+
+-- a row is there under the key
+abbrev pub IsThere : {K X : Type 0} {R : K → K → Ordering} → FinMap R X → K → Type 0
+IsThere rows key = contains_key rows key ≡ true
+
+-- the lists have the same elements
+abbrev pub HaveTheSame : {X : Type 0} → List X → List X → Type 0
+HaveTheSame {X} xs ys = (x : X) → IsAmong xs x ↔ IsAmong ys x
+
+module _ (books : Books) where
+  record PropertyRefers (property : Property) : Type 0 where
+    pub owner : IsThere books.owners property.owner
+    pub staff : IfSome property.staff (λ member. IsThere books.staff member)
+    pub branch : IsThere books.branches property.branch
+
+  record RegistrationRefers (it : Registration) : Type 0 where
+    pub client : IsThere books.clients it.client
+    pub branch : IsThere books.branches it.branch
+    pub staff : IsThere books.staff it.staff
+
+  record ViewingRefers (it : Viewing) : Type 0 where
+    pub client : IsThere books.clients it.client
+    pub property : IsThere books.properties it.property
+
+  record InspectionRefers (it : Inspection) : Type 0 where
+    pub property : IsThere books.properties it.property
+    pub staff : IsThere books.staff it.staff
+
+  record LeaseRefers (lease : Lease) : Type 0 where
+    pub client : IsThere books.clients lease.terms.client
+    pub property : IsThere books.properties lease.terms.property
+    -- the client is registered at the property's branch
+    pub registered : is_registered books lease.terms.client (get books.properties lease.terms.property) ≡ true
+
+  -- 1: what a row names is there
+  pub record NamesWhatIsThere : Type 0 where
+    pub staff : Each books.staff (λ member. IsThere books.branches member.branch)
+    pub properties : Each books.properties PropertyRefers
+    pub registrations : Each books.registrations RegistrationRefers
+    pub viewings : Each books.viewings ViewingRefers
+    pub inspections : Each books.inspections InspectionRefers
+    pub leases : Each books.leases LeaseRefers
+    pub charges : Each books.charges (λ charge. IsThere books.leases charge.lease)
+    pub receipts : Each books.receipts (λ receipt. IsThere books.leases receipt.payment.lease)
+    pub part_runs : Each books.parts (λ part. IsThere books.runs part.month)
+    pub part_branches : Each books.parts (λ part. IsThere books.branches part.branch)
+
+  -- 2: a manager belongs to the property's branch, and who registers a client to the registration's
+  pub record StaffOfTheBranch : Type 0 where
+    pub managers : Each books.properties (λ property. IfSome property.staff (λ member. works_at property.branch (get books.staff member) ≡ true))
+    pub registrars : Each books.registrations (λ it. works_at it.branch (get books.staff it.staff) ≡ true)
+
+  abbrev pub managed_by : List ℕ → ℕ
+  managed_by member = count_by (λ property. is_same_optional is_same_text property.staff (Some member)) (values books.properties)
+
+  -- 3: no member of staff manages more than 100 properties
+  abbrev pub ManagesAtMostHundred : Type 0
+  ManagesAtMostHundred = Each books.staff (λ member. managed_by member.number ≤ 100)
+
+  -- 4: no two leases of one property cover a common day
+  abbrev pub LeasesNeverOverlap : Type 0
+  LeasesNeverOverlap = EachTwo books.leases (λ lease other. overlap lease.terms other.terms ≡ false)
+
+  -- 5: no two leases of one client start on one day
+  abbrev pub OneStartADay : Type 0
+  OneStartADay = EachTwo books.leases (λ lease other. (is_same_text lease.terms.client other.terms.client && nat_eq lease.terms.start other.terms.start) ≡ false)
+
+  -- 6: a lease has 3 to 12 months and starts in the first month or later
+  abbrev pub LeasesInTime : Type 0
+  LeasesInTime = Each books.leases (λ lease. (3 ≤ lease.terms.months) × (lease.terms.months ≤ 12) × (books.first ≤ month_of_day lease.terms.start))
+
+  -- 7: a deposit is twice its lease's rent, and a lease has one at most
+  pub record DepositsInOrder : Type 0 where
+    pub amounts : Each books.receipts (λ receipt. receipt.payment.kind ≡ Deposit → IfSome (get books.leases receipt.payment.lease) (λ lease. receipt.payment.amount ≡ 2 * lease.rent))
+    pub one_each : EachTwo books.receipts (λ receipt other. receipt.payment.kind ≡ Deposit → other.payment.kind ≡ Deposit → receipt.payment.lease ≢ other.payment.lease)
+
+  -- 8: no key stands twice over receipts and runs, and receipts are numbered from 1 to their count
+  pub record KeysInOrder : Type 0 where
+    pub keys : AllPairs (λ key other. is_same_text key other ≡ false) (map (λ receipt. receipt.key) (values books.receipts) ++ map (λ run. run.key) (values books.runs))
+    pub numbers : Each books.receipts (λ receipt. (1 ≤ receipt.number) × (receipt.number ≤ len books.receipts))
+
+  -- 9: the runs are the months from the first to the one before the next; all but the last are closed
+  pub record RunsInOrder : Type 0 where
+    pub months : books.first ≤ books.next
+    pub run : (month : ℕ) → IsThere books.runs month ↔ ((books.first ≤ month) × (month < books.next))
+    pub closed : Each books.runs (λ run. run.month + 1 < books.next → run.is_closed ≡ true)
+
+  abbrev pub charges_in : ℕ → List Charge
+  charges_in month = filter (λ charge. nat_eq charge.month month) (values books.charges)
+
+  abbrev pub parts_in : ℕ → List Part
+  parts_in month = filter (λ part. nat_eq part.month month) (values books.parts)
+
+  -- A closed month: its charges are its dues, part rows and run row sum them up. A branch without dues, which may have come
+  -- later, may lack a part row.
+  pub record MonthIsClosed (run : Run) : Type 0 where
+    pub charges : HaveTheSame (charges_in run.month) (dues books run.month)
+    pub parts : (part : Part) → IsAmong (parts_in run.month) part → part ≡ part_of run.month part.branch (dues_of_branch books run.month part.branch)
+    pub all_parts : (branch : List ℕ) → IsThere books.branches branch → dues_of_branch books run.month branch ≢ [] → IsThere books.parts (run.month, branch)
+    pub count : run.count ≡ length (dues books run.month)
+    pub total : run.total ≡ total_of (dues books run.month)
+
+  module _ (size : ℕ) where
+    -- so many batches of the month are in the books, and nothing else of it
+    pub record ArePosted (month done : ℕ) : Type 0 where
+      pub few : done ≤ batches size books month
+      pub charges : HaveTheSame (charges_in month) (posted_charges size books month done)
+      pub parts : HaveTheSame (parts_in month) (posted_parts size books month done)
+
+    -- an open month: some number of batches, and nothing summed up yet
+    pub record MonthIsOpen (run : Run) : Type 0 where
+      pub done : ℕ
+      pub posted : ArePosted run.month done
+      pub count : run.count ≡ 0
+      pub total : run.total ≡ 0
+
+    -- 10: each month is charged as its run says, and no other month is charged
+    pub record MonthsInOrder : Type 0 where
+      pub closed : Each books.runs (λ run. run.is_closed ≡ true → MonthIsClosed run)
+      pub under_way : Each books.runs (λ run. run.is_closed ≡ false → MonthIsOpen run)
+      pub charged : Each books.charges (λ charge. IsThere books.runs charge.month)
+      pub summed : Each books.parts (λ part. IsThere books.runs part.month)
+
+    -- the rule of this number, 1 to 10
+    abbrev pub Rule : ℕ → Type 0
+    Rule 1 = NamesWhatIsThere
+    Rule 2 = StaffOfTheBranch
+    Rule 3 = ManagesAtMostHundred
+    Rule 4 = LeasesNeverOverlap
+    Rule 5 = OneStartADay
+    Rule 6 = LeasesInTime
+    Rule 7 = DepositsInOrder
+    Rule 8 = KeysInOrder
+    Rule 9 = RunsInOrder
+    Rule 10 = MonthsInOrder
+    Rule n = ⊤
+
+    -- all rules hold
+    abbrev pub MeetsRules : Type 0
+    MeetsRules = (n : ℕ) → Rule n
+
+    -- and no run is open
+    pub record IsLawful : Type 0 where
+      pub rules : MeetsRules
+      pub closed : Each books.runs (λ run. run.is_closed ≡ true)

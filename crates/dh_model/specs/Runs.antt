@@ -1,0 +1,113 @@
+-- Rent runs: a month's dues, branch by branch, in batches.
+use Rattle.std.specs.Prelude.{ℕ, ◌+◌, ◌-◌, ◌*◌, ◌/◌, max, Bool, true, false, nat_eq, nat_lt, List, map, length, Option, Some, None}
+use Rattle.std.specs.List.{count_by, filter, flat_map, fold, sum_by}
+use Rattle.std.specs.Ordering.{is_lt}
+use Rattle.std.specs.Cmp.Lexicographic.{pointwise}
+use Rattle.std.specs.FinMap.{FinMap, get, insert, keys, values}
+use Rattle.dh_types.specs.declared.property.Property.{Property}
+use Rattle.dh_types.specs.declared.lease.Lease.{Lease}
+use Rattle.dh_types.specs.declared.lease.Charge.{Charge}
+use Rattle.dh_types.specs.declared.run.Run.{Run}
+use Rattle.dh_types.specs.declared.run.Part.{Part}
+use Rattle.dh_types.specs.declared.run.RunSum.{RunSum}
+use Rattle.dh_model.specs.Books.{Books, text_cmp, with_rows}
+use Rattle.dh_model.specs.Leases.{dues, dues_among}
+
+-- how many charges one transaction has at most
+abbrev pub batch_size : ℕ
+batch_size = 50
+
+abbrev pub is_property_of : List ℕ → Option Property → Bool
+is_property_of branch None = false
+is_property_of branch (Some property) = pointwise nat_eq property.branch branch
+
+-- the leases of the branch's properties
+abbrev pub leases_of_branch : Books → List ℕ → List Lease
+leases_of_branch books branch = filter (λ lease. is_property_of branch (get books.properties lease.terms.property)) (values books.leases)
+
+-- what falls due in the month on the branch's properties
+abbrev pub dues_of_branch : Books → ℕ → List ℕ → List Charge
+dues_of_branch books month branch = dues_among (leases_of_branch books branch) month
+
+-- the sum of the amounts
+abbrev pub total_of : List Charge → ℕ
+total_of charges = sum_by (λ charge. charge.amount) charges
+
+module _ (size : ℕ) where
+  -- so many dues take so many batches: one at least, each as full as can be but the last
+  abbrev pub batches_for : ℕ → ℕ
+  batches_for count = max 1 ((count + (size - 1)) / size)
+
+  abbrev pub batches_of_branch : Books → ℕ → List ℕ → ℕ
+  batches_of_branch books month branch = batches_for (length (dues_of_branch books month branch))
+
+  -- the batches of all branches
+  abbrev pub batches : Books → ℕ → ℕ
+  batches books month = sum_by (batches_of_branch books month) (keys books.branches)
+
+  -- the batches of the branches of lesser number
+  abbrev pub batches_before : Books → ℕ → List ℕ → ℕ
+  batches_before books month branch = sum_by (batches_of_branch books month) (filter (λ other. is_lt (text_cmp other branch)) (keys books.branches))
+
+  -- how many of the charges are of leases of lesser number
+  abbrev pub place_among : List Charge → Charge → ℕ
+  place_among charges charge = count_by (λ other. nat_lt other.lease charge.lease) charges
+
+  -- the number of the batch that a due of the branch belongs to, from 0
+  abbrev pub batch_of : Books → ℕ → List ℕ → Charge → ℕ
+  batch_of books month branch charge = batches_before books month branch + place_among (dues_of_branch books month branch) charge / size
+
+  -- the branch's charges after so many batches
+  abbrev pub posted_of_branch : Books → ℕ → ℕ → List ℕ → List Charge
+  posted_of_branch books month done branch = filter (λ charge. nat_lt (batch_of books month branch charge) done) (dues_of_branch books month branch)
+
+  -- all charges after so many batches
+  abbrev pub posted_charges : Books → ℕ → ℕ → List Charge
+  posted_charges books month done = flat_map (posted_of_branch books month done) (keys books.branches)
+
+  -- the branches whose first batch is done
+  abbrev pub begun_branches : Books → ℕ → ℕ → List (List ℕ)
+  begun_branches books month done = filter (λ branch. nat_lt (batches_before books month branch) done) (keys books.branches)
+
+abbrev pub at_least : Option ℕ → ℕ → ℕ
+at_least None n = n
+at_least (Some m) n = max m n
+
+-- the greatest lease among the charges
+abbrev pub greatest_lease : List Charge → Option ℕ
+greatest_lease charges = fold (λ most charge. Some (at_least most charge.lease)) None charges
+
+-- what a branch has of the run, where these are its charges
+abbrev pub part_of : ℕ → List ℕ → List Charge → Part
+part_of month branch charges = record { month = month; branch = branch; through = greatest_lease charges; count = length charges; total = total_of charges }
+
+-- the part rows after so many batches
+abbrev pub posted_parts : ℕ → Books → ℕ → ℕ → List Part
+posted_parts size books month done = map (λ branch. part_of month branch (posted_of_branch size books month done branch)) (begun_branches size books month done)
+
+abbrev pub charge_key : Charge → ℕ × ℕ
+charge_key charge = (charge.lease, charge.index)
+
+abbrev pub part_key : Part → ℕ × List ℕ
+part_key part = (part.month, part.branch)
+
+-- the run row of a month whose dues are all charged
+abbrev pub closed_run : ℕ → List ℕ → List Charge → Run
+closed_run month key charges = record { month = month; key = key; count = length charges; total = total_of charges; is_closed = true }
+
+-- The books with the next month's rent run made under this key, in one step: its dues charged, a part row a branch, the run
+-- closed with its count and total, and the next month moved on.
+abbrev pub ran : ℕ → Books → List ℕ → Books
+ran size books key =
+    let month = books.next in
+    let charges = dues books month in
+    record books {
+      charges = with_rows charge_key charges books.charges;
+      parts = with_rows part_key (posted_parts size books month (batches size books month)) books.parts;
+      runs = insert books.runs month (closed_run month key charges);
+      next = month + 1;
+    }
+
+-- what the run of a month comes to
+abbrev pub sum_of : Run → RunSum
+sum_of run = record { month = run.month; count = run.count; total = run.total }

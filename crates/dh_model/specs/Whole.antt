@@ -1,0 +1,48 @@
+-- Books with an open run, and the books that it leads to.
+use Rattle.std.specs.Prelude.{◌≡◌, ℕ, Bool, true, false, not, nat_eq, List, ◌++◌, map, length, Option, Some, None}
+use Rattle.std.specs.declared.cmp.Ordering.{Ordering}
+use Rattle.std.specs.List.{filter, find}
+use Rattle.std.specs.FinMap.{FinMap, entries, from_entries, get, insert, values}
+use Rattle.dh_types.specs.declared.lease.Charge.{Charge}
+use Rattle.dh_types.specs.declared.run.Run.{Run}
+use Rattle.dh_model.specs.declared.open_run.OpenRun.{OpenRun}
+use Rattle.dh_model.specs.Books.{Books, with_rows}
+use Rattle.dh_model.specs.Leases.{dues}
+use Rattle.dh_model.specs.Runs.{batches, charge_key, closed_run, part_key, posted_charges, posted_parts}
+use Rattle.dh_model.specs.Rules.{ArePosted, MeetsRules}
+
+-- the rows of which the test holds
+abbrev pub rows_where : {K X : Type 0} {R : K → K → Ordering} → (X → Bool) → FinMap R X → FinMap R X
+rows_where test rows = from_entries (filter (λ entry. test entry.1) (entries rows))
+
+-- the run that is open
+abbrev pub open_row : Books → Option Run
+open_row books = find (λ run. not run.is_closed) (values books.runs)
+
+module _ (size : ℕ) where
+  -- the run (month, done) is the one that the books show as open, or none is
+  abbrev pub IsOpenAt : Books → Option OpenRun → Type 0
+  IsOpenAt books None = open_row books ≡ None
+  IsOpenAt books (Some at) = (row : Run) × (open_row books ≡ Some row) × (row.month ≡ at.month) × ArePosted books size at.month at.done
+
+  -- the books with so many batches of the month in the place of what they have of it
+  abbrev pub with_posted : Books → ℕ → ℕ → Books
+  with_posted books month done = record books {
+    charges = with_rows charge_key (posted_charges size books month done) (rows_where (λ charge. not (nat_eq charge.month month)) books.charges);
+    parts = with_rows part_key (posted_parts size books month done) (rows_where (λ part. not (nat_eq part.month month)) books.parts);
+  }
+
+  -- the books with all batches of the run posted, and it closed
+  abbrev pub completed : Books → Option Run → Books
+  completed books None = books
+  completed books (Some run) =
+      let all = with_posted books run.month (batches size books run.month) in
+      record all { runs = insert books.runs run.month (closed_run run.month run.key (posted_charges size books run.month (batches size books run.month))) }
+
+  -- the books as they are once the open run is done
+  abbrev pub whole : Books → Books
+  whole books = completed books (open_row books)
+
+  -- the rules hold; then those of the whole books do, which have no open run
+  abbrev pub IsSound : Books → Type 0
+  IsSound books = MeetsRules books size
