@@ -1,6 +1,6 @@
 //! Laws of the model: each function does nothing, and its clause is the law.
 
-ghost use Rattle.dh_model.specs.Laws.{DuesAreCovered, DuesAreThoseOfLeases, DuesLieInTheirMonth, DuesNumberTheMonths, MonthsShareNoDue, OneDueInAMonth, OverlapGoesBothWays, OverlapIsByEnds, OverlapIsCommonDay};
+ghost use Rattle.dh_model.specs.Laws.{DuesAreThoseOfLeases, DuesLieInTheirMonth, DuesNumberTheMonths, MonthsShareNoDue, OneDueInAMonth, OverlapGoesBothWays, OverlapIsByEnds, OverlapIsCommonDay};
 
 /// Leases overlap exactly where they are of one property and some day is covered by both.
 pub fn overlap_is_a_common_day()
@@ -40,9 +40,4 @@ pub fn dues_lie_in_their_month()
 /// A lease has one due in a month.
 pub fn one_due_in_a_month()
     ensures { OneDueInAMonth }
-{}
-
-/// Each due lies on a day that the lease covers.
-pub fn dues_are_covered()
-    ensures { DuesAreCovered }
 {}
