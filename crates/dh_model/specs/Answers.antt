@@ -1,6 +1,6 @@
 -- What each question is answered. A question changes nothing.
-use Rattle.std.specs.Prelude.{ℕ, ℤ, pos, ◌-ℤ◌, ◌+ℤ◌, ◌<◌, Bool, true, false, not, ◌&&◌, nat_eq, nat_le, if◌then◌else◌, List, [], ◌∷◌, map, Option, Some, None, int_lt}
-use Rattle.std.specs.List.{filter, filter_map, fold, list_any, sum_by}
+use Rattle.std.specs.Prelude.{ℕ, ℤ, pos, ◌-ℤ◌, ◌+ℤ◌, Bool, not, ◌&&◌, nat_eq, nat_le, if◌then◌else◌, List, [], map, Option, Some, None, int_lt}
+use Rattle.std.specs.List.{filter, fold, list_any, sum_by}
 use Rattle.std.specs.Ordering.{nat_cmp}
 use Rattle.std.specs.FinMap.{FinMap, contains_key, from_entries, get, values}
 use Rattle.dh_values.specs.declared.receipt_kind.ReceiptKind.TheVariants.{Rent}

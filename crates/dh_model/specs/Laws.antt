@@ -16,8 +16,7 @@ OverlapIsCommonDay = (lease other : LeaseTerms) → IsDay lease.start → IsDay 
 
 -- and this goes both ways
 abbrev pub OverlapGoesBothWays : Type 0
-OverlapGoesBothWays = (lease other : LeaseTerms) → IsDay lease.start → IsDay (end_of lease) → IsDay other.start → IsDay (end_of other)
-    → overlap lease other ≡ overlap other lease
+OverlapGoesBothWays = (lease other : LeaseTerms) → overlap lease other ≡ overlap other lease
 
 -- of one property, each starts before the other's end
 abbrev pub OverlapIsByEnds : Type 0
@@ -47,4 +46,4 @@ OneDueInAMonth = (lease : Lease) (j k : ℕ) → (due lease j).month ≡ (due le
 
 -- each due lies on a day that the lease covers
 abbrev pub DuesAreCovered : Type 0
-DuesAreCovered = (lease : Lease) (k : ℕ) → k < lease.terms.months → Covers lease.terms (due lease k).day
+DuesAreCovered = (lease : Lease) (k : ℕ) → IsDay lease.terms.start → k < lease.terms.months → Covers lease.terms (due lease k).day

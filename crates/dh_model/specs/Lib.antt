@@ -8,6 +8,7 @@ pub mod Answers
 pub mod Rules
 pub mod Whole
 pub mod Laws
+pub mod BatchLaws
 pub use Rattle.dh_types.specs.Records
 pub use Rattle.dh_types.specs.Reports
 pub use Rattle.dh_types.specs.Replies

@@ -1,19 +1,16 @@
 -- What must hold of the books: the rules of the audit, by their numbers.
-use Rattle.std.specs.Prelude.{◌≡◌, ◌≢◌, ◌↔◌, ◌≤◌, ◌<◌, ℕ, ◌+◌, ◌*◌, Bool, true, false, not, ◌&&◌, nat_eq, List, [], ◌++◌, map, length, Option, Some, None, IfSome}
-use Rattle.std.specs.Cmp.{IsTotalOrder}
+use Rattle.std.specs.Prelude.{◌≡◌, ◌≢◌, ◌↔◌, ◌≤◌, ◌<◌, ℕ, ◌+◌, ◌*◌, true, false, ◌&&◌, nat_eq, List, [], ◌++◌, map, length, Some, IfSome}
 use Rattle.std.specs.declared.cmp.Ordering.{Ordering}
-use Rattle.std.specs.List.{AllPairs, IsAmong, count_by, filter, list_any}
-use Rattle.std.specs.FinMap.{FinMap, contains_key, get, keys, len, values}
+use Rattle.std.specs.List.{AllPairs, IsAmong, count_by, filter}
+use Rattle.std.specs.FinMap.{FinMap, contains_key, get, len, values}
 use Rattle.dh_values.specs.declared.receipt_kind.ReceiptKind.TheVariants.{Deposit}
 use Rattle.dh_days.specs.Days.{month_of_day}
-use Rattle.dh_types.specs.declared.staff.Staff.{Staff}
 use Rattle.dh_types.specs.declared.property.Property.{Property}
 use Rattle.dh_types.specs.declared.client.Registration.{Registration}
 use Rattle.dh_types.specs.declared.viewing.Viewing.{Viewing}
 use Rattle.dh_types.specs.declared.viewing.Inspection.{Inspection}
 use Rattle.dh_types.specs.declared.lease.Lease.{Lease}
 use Rattle.dh_types.specs.declared.lease.Charge.{Charge}
-use Rattle.dh_types.specs.declared.lease.Receipt.{Receipt}
 use Rattle.dh_types.specs.declared.run.Run.{Run}
 use Rattle.dh_types.specs.declared.run.Part.{Part}
 use Rattle.dh_types.specs.Records.{is_same_optional}
@@ -21,6 +18,32 @@ use Rattle.dh_model.specs.Books.{Books}
 use Rattle.dh_model.specs.Leases.{dues, overlap}
 use Rattle.dh_model.specs.Runs.{batches, dues_of_branch, part_of, posted_charges, posted_parts, total_of}
 use Rattle.dh_model.specs.Checks.{is_registered, is_same_text, works_at}
+
+-- the rules of the audit
+pub data Rule : Type 0 where
+  References : Rule
+  Branches : Rule
+  Managers : Rule
+  Overlaps : Rule
+  Starts : Rule
+  Terms : Rule
+  Deposits : Rule
+  Keys : Rule
+  Runs : Rule
+  Months : Rule
+
+-- by which a damaged file is refused
+abbrev pub rule_number : Rule → ℕ
+rule_number References = 1
+rule_number Branches = 2
+rule_number Managers = 3
+rule_number Overlaps = 4
+rule_number Starts = 5
+rule_number Terms = 6
+rule_number Deposits = 7
+rule_number Keys = 8
+rule_number Runs = 9
+rule_number Months = 10
 
 -- this holds of each row
 abbrev pub Each : {K X : Type 0} {R : K → K → Ordering} → FinMap R X → (X → Type 0) → Type 0
@@ -39,25 +62,25 @@ abbrev pub HaveTheSame : {X : Type 0} → List X → List X → Type 0
 HaveTheSame {X} xs ys = (x : X) → IsAmong xs x ↔ IsAmong ys x
 
 module _ (books : Books) where
-  record PropertyRefers (property : Property) : Type 0 where
+  pub record PropertyRefers (property : Property) : Type 0 where
     pub owner : IsThere books.owners property.owner
     pub staff : IfSome property.staff (λ member. IsThere books.staff member)
     pub branch : IsThere books.branches property.branch
 
-  record RegistrationRefers (it : Registration) : Type 0 where
+  pub record RegistrationRefers (it : Registration) : Type 0 where
     pub client : IsThere books.clients it.client
     pub branch : IsThere books.branches it.branch
     pub staff : IsThere books.staff it.staff
 
-  record ViewingRefers (it : Viewing) : Type 0 where
+  pub record ViewingRefers (it : Viewing) : Type 0 where
     pub client : IsThere books.clients it.client
     pub property : IsThere books.properties it.property
 
-  record InspectionRefers (it : Inspection) : Type 0 where
+  pub record InspectionRefers (it : Inspection) : Type 0 where
     pub property : IsThere books.properties it.property
     pub staff : IsThere books.staff it.staff
 
-  record LeaseRefers (lease : Lease) : Type 0 where
+  pub record LeaseRefers (lease : Lease) : Type 0 where
     pub client : IsThere books.clients lease.terms.client
     pub property : IsThere books.properties lease.terms.property
     -- the client is registered at the property's branch
@@ -152,23 +175,22 @@ module _ (books : Books) where
       pub charged : Each books.charges (λ charge. IsThere books.runs charge.month)
       pub summed : Each books.parts (λ part. IsThere books.runs part.month)
 
-    -- the rule of this number, 1 to 10
-    abbrev pub Rule : ℕ → Type 0
-    Rule 1 = NamesWhatIsThere
-    Rule 2 = StaffOfTheBranch
-    Rule 3 = ManagesAtMostHundred
-    Rule 4 = LeasesNeverOverlap
-    Rule 5 = OneStartADay
-    Rule 6 = LeasesInTime
-    Rule 7 = DepositsInOrder
-    Rule 8 = KeysInOrder
-    Rule 9 = RunsInOrder
-    Rule 10 = MonthsInOrder
-    Rule n = ⊤
+    -- what a rule says
+    abbrev pub Holds : Rule → Type 0
+    Holds References = NamesWhatIsThere
+    Holds Branches = StaffOfTheBranch
+    Holds Managers = ManagesAtMostHundred
+    Holds Overlaps = LeasesNeverOverlap
+    Holds Starts = OneStartADay
+    Holds Terms = LeasesInTime
+    Holds Deposits = DepositsInOrder
+    Holds Keys = KeysInOrder
+    Holds Runs = RunsInOrder
+    Holds Months = MonthsInOrder
 
     -- all rules hold
     abbrev pub MeetsRules : Type 0
-    MeetsRules = (n : ℕ) → Rule n
+    MeetsRules = (rule : Rule) → Holds rule
 
     -- and no run is open
     pub record IsLawful : Type 0 where

@@ -1,9 +1,9 @@
 -- Rent runs: a month's dues, branch by branch, in batches.
-use Rattle.std.specs.Prelude.{ℕ, ◌+◌, ◌-◌, ◌*◌, ◌/◌, max, Bool, true, false, nat_eq, nat_lt, List, map, length, Option, Some, None}
+use Rattle.std.specs.Prelude.{ℕ, ◌+◌, ◌-◌, ◌/◌, max, Bool, true, false, nat_eq, nat_lt, List, map, length, Option, Some, None}
 use Rattle.std.specs.List.{count_by, filter, flat_map, fold, sum_by}
 use Rattle.std.specs.Ordering.{is_lt}
 use Rattle.std.specs.Cmp.Lexicographic.{pointwise}
-use Rattle.std.specs.FinMap.{FinMap, get, insert, keys, values}
+use Rattle.std.specs.FinMap.{get, insert, keys, values}
 use Rattle.dh_types.specs.declared.property.Property.{Property}
 use Rattle.dh_types.specs.declared.lease.Lease.{Lease}
 use Rattle.dh_types.specs.declared.lease.Charge.{Charge}

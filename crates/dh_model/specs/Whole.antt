@@ -1,13 +1,11 @@
 -- Books with an open run, and the books that it leads to.
-use Rattle.std.specs.Prelude.{◌≡◌, ℕ, Bool, true, false, not, nat_eq, List, ◌++◌, map, length, Option, Some, None}
+use Rattle.std.specs.Prelude.{◌≡◌, ℕ, Bool, not, nat_eq, Option, Some, None}
 use Rattle.std.specs.declared.cmp.Ordering.{Ordering}
 use Rattle.std.specs.List.{filter, find}
-use Rattle.std.specs.FinMap.{FinMap, entries, from_entries, get, insert, values}
-use Rattle.dh_types.specs.declared.lease.Charge.{Charge}
+use Rattle.std.specs.FinMap.{FinMap, entries, from_entries, insert, values}
 use Rattle.dh_types.specs.declared.run.Run.{Run}
 use Rattle.dh_model.specs.declared.open_run.OpenRun.{OpenRun}
 use Rattle.dh_model.specs.Books.{Books, with_rows}
-use Rattle.dh_model.specs.Leases.{dues}
 use Rattle.dh_model.specs.Runs.{batches, charge_key, closed_run, part_key, posted_charges, posted_parts}
 use Rattle.dh_model.specs.Rules.{ArePosted, MeetsRules}
 
