@@ -1,3 +1,4 @@
 pub mod Among
 pub mod LeaseLemmas
 pub mod DueLemmas
+pub mod MachineLemmas

@@ -9,6 +9,7 @@ pub mod Rules
 pub mod Whole
 pub mod Laws
 pub mod BatchLaws
+pub mod MachineLaws
 pub use Rattle.dh_types.specs.Records
 pub use Rattle.dh_types.specs.Reports
 pub use Rattle.dh_types.specs.Replies

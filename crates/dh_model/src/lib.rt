@@ -3,6 +3,7 @@
 #![tactic(auto)]
 
 pub mod laws;
+pub mod machine_laws;
 mod open_run;
 mod rows;
 
