@@ -1,23 +1,20 @@
 -- Batches of rent runs.
-use Rattle.std.proofs.Common.{◌≡◌, ◌∙◌, refl, sym, ap, subst, inl, inr, ℕ, zero, suc, ◌+◌, ◌-◌, ◌*◌, ◌/◌, ◌<◌, ◌≤◌, max, Bool, true, false, cond, nat_eq, nat_lt, List, [], ◌∷◌, length, div-mul-le_self, le-div_iff_mul-le, arith}
-use Rattle.std.specs.List.{IsAmong, count_by, filter, sum_by}
-use Rattle.std.specs.FinMap.{entries, entries_sorted, is_sorted, keys}
+use Rattle.std.proofs.Common.{◌≡◌, ◌∙◌, refl, ap, inl, inr, ℕ, ◌+◌, ◌-◌, ◌*◌, ◌/◌, ◌<◌, ◌≤◌, Bool, true, cond, nat_eq, nat_lt, List, [], ◌∷◌, length, div-mul-le_self, le-div_iff_mul-le, arith}
+use Rattle.std.specs.List.{filter}
+use Rattle.std.specs.FinMap.{keys}
 use Rattle.std.proofs.Math.Nat.{lt-div-mul-add}
-use Rattle.std.proofs.lemmas.Nat.{div-mul-add, div_below, le-div}
+use Rattle.std.proofs.lemmas.Nat.{le-div}
 use Rattle.std.proofs.lemmas.Cmp.{nat_list_cmp_total}
-use Rattle.std.proofs.lemmas.Bool.{cases_lt}
 use Rattle.std.proofs.lemmas.Bool.Decides.{nat_tests}
 use Rattle.dh_types.specs.declared.lease.Charge.{Charge}
-use Rattle.dh_types.specs.declared.run.Part.{Part}
 use Rattle.dh_types.proofs.SameValues.{numbers}
 use Rattle.dh_model.specs.Books.{Books, text_cmp}
-use Rattle.dh_model.specs.Runs.{batch_of, batches, batches_before, batches_for, batches_of_branch, begun_branches, dues_of_branch, part_of, place_among, posted_charges, posted_of_branch, posted_parts}
-use Rattle.dh_model.specs.BatchLaws.{AreNumbered, BatchesOfBranchesAreAmongAll, EachDueHasItsBatch, LastBatchPostsAll, NoBatchIsTooLarge, OneNumberOfBatches}
-use Rattle.dh_model.specs.Rules.{ArePosted}
-use Rattle.dh_model.proofs.Among.{Among, among, in_filter, in_flat_map, in_map, is_among, of_filter, of_flat_map, of_map}
-use Rattle.dh_model.proofs.Rising.{IsBefore, Numbered, Rises, no_more_than, numbered_at, numbered_within, places_are_numbered}
-use Rattle.dh_model.proofs.BranchSums.{Holds, holder, own_is_among_all}
-use Rattle.dh_model.proofs.BranchDues.{dues_of_branch_rise, holds, keys_rise, lease_of, one_branch_of_due}
+use Rattle.dh_model.specs.Runs.{batch_of, batches, batches_before, batches_for, batches_of_branch, dues_of_branch, place_among}
+use Rattle.dh_model.specs.BatchLaws.{AreNumbered, BatchesOfBranchesAreAmongAll, EachDueHasItsBatch, LastBatchPostsAll, NoBatchIsTooLarge}
+use Rattle.dh_model.proofs.Among.{Among, among}
+use Rattle.dh_model.proofs.Rising.{Numbered, no_more_than, numbered_within, places_are_numbered}
+use Rattle.dh_model.proofs.BranchSums.{own_is_among_all}
+use Rattle.dh_model.proofs.BranchDues.{dues_of_branch_rise, lease_of}
 
 pub is_below : (m n : ℕ) → nat_lt m n ≡ true → m < n
 is_below m n h = grind (arith, nat_tests)
@@ -53,6 +50,7 @@ module _ (size : ℕ) (pos : 1 ≤ size) where
   some_batch count = omega arith
 
 module _ (size : ℕ) (books : Books) (month : ℕ) (pos : 1 ≤ size) (are : AreNumbered books) where
+  -- the places of a branch's dues are 0, 1, 2 and so on
   pub places_numbered : (branch : List ℕ) → Numbered (place_among size (dues_of_branch books month branch)) 0 (dues_of_branch books month branch)
   places_numbered branch = places_are_numbered lease_of (dues_of_branch books month branch) (dues_of_branch_rise books month are branch)
 

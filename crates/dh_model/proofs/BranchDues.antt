@@ -1,10 +1,9 @@
 -- The dues of a branch: they rise by lease, and no two branches share one.
-use Rattle.std.proofs.Common.{◌≡◌, ◌∙◌, refl, sym, ap, inl, inr, ℕ, zero, suc, ◌+◌, ◌<◌, ◌≤◌, Bool, true, false, cond, T, ◌&&◌, nat_eq, List, [], ◌∷◌, ◌++◌, map, Option, Some, None, Ordering, Less, Equal, Greater, is_lt, is_eq, nat_cmp, arith}
+use Rattle.std.proofs.Common.{◌≡◌, ◌∙◌, refl, sym, ap, inl, inr, ℕ, zero, suc, ◌+◌, ◌<◌, Bool, true, false, cond, T, List, [], ◌∷◌, map, Option, Some, None, Ordering, Less, Equal, Greater, is_lt, is_eq, nat_cmp, arith}
 use Rattle.std.specs.List.{filter, flat_map, range_with_len}
 use Rattle.std.specs.Ordering.{eq_by_cmp, ordering_reverse}
 use Rattle.std.specs.Cmp.{IsTotalOrder}
-use Rattle.std.specs.Cmp.Lexicographic.{pointwise}
-use Rattle.std.specs.FinMap.{FinMap, entries, entries_sorted, find, get, get-entries, is_sorted, keys, values}
+use Rattle.std.specs.FinMap.{entries, entries_sorted, find, get, get-entries, is_sorted, values}
 use Rattle.std.specs.FinMap.Entries.{below_all}
 use Rattle.std.proofs.lemmas.Cmp.{nat_cmp_total, ranked, tied_itself}
 use Rattle.std.proofs.lemmas.Bool.{and_parts}
@@ -17,8 +16,8 @@ use Rattle.dh_model.specs.Books.{Books}
 use Rattle.dh_model.specs.Leases.{due, dues_among, dues_of}
 use Rattle.dh_model.specs.Runs.{dues_of_branch, is_property_of, leases_of_branch}
 use Rattle.dh_model.specs.BatchLaws.{AreNumbered}
-use Rattle.dh_model.proofs.Among.{Among, in_filter, in_flat_map, in_map, in_range, of_map}
-use Rattle.dh_model.proofs.DueLemmas.{falls_in, IsDue, is_due}
+use Rattle.dh_model.proofs.Among.{Among, in_filter, in_map, in_range}
+use Rattle.dh_model.proofs.DueLemmas.{falls_in, is_due}
 use Rattle.dh_model.proofs.Rising.{IsBefore, Lesser, Rises, append_rises, filter_rises}
 
 pub holds : (b : Bool) → T b → b ≡ true
@@ -31,11 +30,13 @@ tied_from_back Equal h = cc
 tied_from_back Greater h = refl
 
 module _ {K X : Type 0} (R : K → K → Ordering) where
+  -- a key that is below all is before each
   key_before : (k : K) (es : List (K × X)) (e : K × X) → below_all R k es ≡ true → Among es e → IsBefore R k e.0
   key_before k [] e h a = absurd a
   key_before k (f ∷ es) e h (inl s) = let parts = and_parts (is_lt (R k f.0)) (below_all R k es) h in rw s parts.0
   key_before k (f ∷ es) e h (inr a) = let parts = and_parts (is_lt (R k f.0)) (below_all R k es) h in key_before k es e parts.1 a
 
+  -- the keys of a map rise
   pub keys_rise : (es : List (K × X)) → is_sorted R es ≡ true → Rises (IsBefore R) (map (λ e. e.0) es)
   keys_rise [] h = tt
   keys_rise (e ∷ es) h =
@@ -72,6 +73,7 @@ is_before Less m n e h = ranked m n Less e
 is_before Equal m n e h = absurd (let no : false ≡ true = h in cc)
 is_before Greater m n e h = absurd (let no : false ≡ true = h in cc)
 
+-- leases in the order of their numbers
 rise_by_number : (es : List (ℕ × Lease)) → is_sorted nat_cmp es ≡ true → ((e : ℕ × Lease) → Among es e → e.1.terms.number ≡ e.0) → Rises (Lesser number_of) (map (λ e. e.1) es)
 rise_by_number [] h are = tt
 rise_by_number (e ∷ es) h are =
@@ -98,6 +100,7 @@ module _ (books : Books) (are : AreNumbered books) where
   leases_rise : Rises (Lesser number_of) (values books.leases)
   leases_rise = rise_by_number (entries books.leases) sorted under_number
 
+  -- each lease of the books is found under its number
   got_by_number : (lease : Lease) → Among (values books.leases) lease → get books.leases lease.terms.number ≡ Some lease
   got_by_number lease a =
       let of = in_map (λ e. e.1) (entries books.leases) lease a in
@@ -152,6 +155,7 @@ inside : (x y : Lease) → Some x ≡ Some y → x ≡ y
 inside x y e = cc
 
 module _ (books : Books) (month : ℕ) (are : AreNumbered books) where
+  -- the dues of a branch rise by lease
   pub dues_of_branch_rise : (branch : List ℕ) → Rises (Lesser lease_of) (dues_of_branch books month branch)
   dues_of_branch_rise branch =
       dues_rise (leases_of_branch books branch) month

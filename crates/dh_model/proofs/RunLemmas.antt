@@ -1,5 +1,5 @@
 -- An open run stands at one number of batches.
-use Rattle.std.proofs.Common.{◌≡◌, ◌∙◌, sym, ap, subst, inl, inr, ℕ, ◌+◌, ◌-◌, ◌*◌, ◌/◌, ◌<◌, ◌≤◌, true, nat_lt, List, length, Ordering, arith}
+use Rattle.std.proofs.Common.{◌≡◌, ◌∙◌, sym, ap, subst, inl, inr, ℕ, ◌+◌, ◌-◌, ◌*◌, ◌/◌, ◌<◌, ◌≤◌, nat_lt, List, length, arith}
 use Rattle.std.specs.FinMap.{entries, entries_sorted, is_sorted, keys}
 use Rattle.std.proofs.lemmas.Nat.{div-mul-add}
 use Rattle.std.proofs.lemmas.Cmp.{nat_list_cmp_total}
@@ -11,13 +11,14 @@ use Rattle.dh_model.specs.Runs.{batch_of, batches, batches_before, batches_of_br
 use Rattle.dh_model.specs.BatchLaws.{AreNumbered, OneNumberOfBatches}
 use Rattle.dh_model.specs.Rules.{ArePosted}
 use Rattle.dh_model.proofs.Among.{Among, among, in_filter, in_flat_map, in_map, is_among, of_filter, of_flat_map, of_map}
-use Rattle.dh_model.proofs.Rising.{IsBefore, Rises, numbered_at}
+use Rattle.dh_model.proofs.Rising.{numbered_at}
 use Rattle.dh_model.proofs.BranchSums.{holder}
 use Rattle.dh_model.proofs.BranchDues.{holds, keys_rise, one_branch_of_due}
 use Rattle.dh_model.proofs.BatchLemmas.{batch_begins, is_below, of_below, places_numbered}
 
 -- a branch that has begun after n batches has its first batch among them
-begun : (size : ℕ) (books : Books) (month n : ℕ) (branch : List ℕ) (part : Part) → part.branch ≡ branch → Among (posted_parts size books month n) part → batches_before size books month branch < n
+begun : (size : ℕ) (books : Books) (month n : ℕ) (branch : List ℕ) (part : Part) → part.branch ≡ branch → Among (posted_parts size books month n) part
+    → batches_before size books month branch < n
 begun size books month n branch part same a =
     let of = in_map (λ b. part_of month b (posted_of_branch size books month n b)) (begun_branches size books month n) part a in
     let kept = in_filter (λ b. nat_lt (batches_before size books month b) n) (keys books.branches) of.0 of.1 in
@@ -25,6 +26,7 @@ begun size books month n branch part same a =
     let one : of.0 ≡ branch = sym (ap (λ (p : Part). p.branch) of.2) ∙ same in
     subst (λ b. batches_before size books month b < n) one early
 
+-- and it has a part row
 of_begun : (size : ℕ) (books : Books) (month n : ℕ) (branch : List ℕ) → Among (keys books.branches) branch → batches_before size books month branch < n
     → Among (posted_parts size books month n) (part_of month branch (posted_of_branch size books month n branch))
 of_begun size books month n branch a early =
@@ -44,6 +46,7 @@ is_posted size books month n charge a =
     let kept = in_filter (λ c. nat_lt (batch_of size books month of.0 c) n) (dues_of_branch books month of.0) charge of.2 in
     record { branch = of.0; of = of.1; due = kept.0; early = is_below (batch_of size books month of.0 charge) n kept.1 }
 
+-- and each such due is posted
 of_posted : (size : ℕ) (books : Books) (month n : ℕ) (charge : Charge) → IsPosted size books month n charge → Among (posted_charges size books month n) charge
 of_posted size books month n charge p =
     of_flat_map (posted_of_branch size books month n) (keys books.branches) p.branch charge p.of
@@ -71,7 +74,8 @@ module _ (size : ℕ) (books : Books) (month j k : ℕ) (same : SaysTheSame size
 
   module _ (pos : 1 ≤ size) (are : AreNumbered books) where
     -- and no due is of the next batch
-    due_differs : (branch : List ℕ) (charge : Charge) → Among (keys books.branches) branch → Among (dues_of_branch books month branch) charge → batch_of size books month branch charge ≡ j → ⊥
+    due_differs : (branch : List ℕ) (charge : Charge) → Among (keys books.branches) branch → Among (dues_of_branch books month branch) charge
+        → batch_of size books month branch charge ≡ j → ⊥
     due_differs branch charge a due next =
         let there = of_posted size books month k charge (record { branch = branch; of = a; due = due; early = omega (arith, next, less) }) in
         let here = is_posted size books month j charge (same.charges charge there) in
@@ -79,7 +83,9 @@ module _ (size : ℕ) (books : Books) (month j k : ℕ) (same : SaysTheSame size
         let early : batch_of size books month branch charge < j = subst (λ b. batch_of size books month b charge < j) one here.early in
         omega (arith, early, next)
 
-    later_differs : (branch : List ℕ) → Among (keys books.branches) branch → batches_before size books month branch < j → j < batches_before size books month branch + batches_of_branch size books month branch → ⊥
+    -- so the next one is no later batch of a branch
+    later_differs : (branch : List ℕ) → Among (keys books.branches) branch
+        → batches_before size books month branch < j → j < batches_before size books month branch + batches_of_branch size books month branch → ⊥
     later_differs branch a from until =
         let before = batches_before size books month branch in
         let dues = dues_of_branch books month branch in
@@ -89,6 +95,7 @@ module _ (size : ℕ) (books : Books) (month j k : ℕ) (same : SaysTheSame size
         let number : place_among size dues at.0 / size ≡ q = ap (λ n. n / size) at.2 ∙ ap (λ n. n / size) (omega arith) ∙ div-mul-add q size 0 pos in
         due_differs branch at.0 a at.1 (omega (arith, number, from))
 
+    -- and there is no next one
     none_differs : j < batches size books month → ⊥
     none_differs few =
         let rise = keys_rise text_cmp (entries books.branches) (holds (is_sorted text_cmp (entries books.branches)) (entries_sorted books.branches)) in

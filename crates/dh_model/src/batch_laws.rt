@@ -1,7 +1,7 @@
 //! Laws of rent runs and their batches: each function does nothing, and its clause is the law.
 
 ghost use Rattle.std.specs.Prelude.{ℕ};
-ghost use Rattle.dh_model.specs.BatchLaws.{BatchesOfBranchesAreAmongAll, EachDueHasItsBatch, LastBatchPostsAll, NoBatchIsTooLarge};
+ghost use Rattle.dh_model.specs.BatchLaws.{BatchesOfBranchesAreAmongAll, EachDueHasItsBatch, LastBatchPostsAll, NoBatchIsTooLarge, OneNumberOfBatches};
 
 /// No batch has more charges than the size.
 pub fn no_batch_is_too_large()
@@ -21,4 +21,9 @@ pub fn batches_of_branches_are_among_all()
 /// After the last batch all dues of each branch are posted, and each branch has begun.
 pub fn last_batch_posts_all()
     ensures { (size : ℕ) → LastBatchPostsAll size }
+{}
+
+/// Of a month's rent run the books show one number of batches.
+pub fn one_number_of_batches()
+    ensures { (size : ℕ) → OneNumberOfBatches size }
 {}
