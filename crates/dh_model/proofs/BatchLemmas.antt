@@ -1,11 +1,10 @@
 -- Batches of rent runs.
-use Rattle.std.proofs.Common.{◌≡◌, ◌∙◌, refl, ap, inl, inr, ℕ, ◌+◌, ◌-◌, ◌*◌, ◌/◌, ◌<◌, ◌≤◌, Bool, true, cond, nat_eq, nat_lt, List, [], ◌∷◌, length, div-mul-le_self, le-div_iff_mul-le, arith}
+use Rattle.std.proofs.Common.{◌≡◌, ◌∙◌, refl, ap, inl, inr, ℕ, ◌+◌, ◌-◌, ◌*◌, ◌/◌, ◌<◌, ◌≤◌, Bool, true, cond, nat_eq, nat_lt, List, [], ◌∷◌, length, div-mul-le_self, le-div_iff_mul-le, lt-ltb, arith}
 use Rattle.std.specs.List.{filter}
 use Rattle.std.specs.FinMap.{keys}
 use Rattle.std.proofs.Math.Nat.{lt-div-mul-add}
 use Rattle.std.proofs.lemmas.Nat.{le-div}
 use Rattle.std.proofs.lemmas.Cmp.{nat_list_cmp_total}
-use Rattle.std.proofs.lemmas.Bool.Decides.{nat_tests}
 use Rattle.dh_types.specs.declared.lease.Charge.{Charge}
 use Rattle.dh_types.proofs.SameValues.{numbers}
 use Rattle.dh_model.specs.Books.{Books, text_cmp}
@@ -15,12 +14,6 @@ use Rattle.dh_model.proofs.Among.{Among, among}
 use Rattle.dh_model.proofs.Rising.{Numbered, no_more_than, numbered_within, places_are_numbered}
 use Rattle.dh_model.proofs.BranchSums.{own_is_among_all}
 use Rattle.dh_model.proofs.BranchDues.{dues_of_branch_rise, lease_of}
-
-pub is_below : (m n : ℕ) → nat_lt m n ≡ true → m < n
-is_below m n h = grind (arith, nat_tests)
-
-pub of_below : (m n : ℕ) → m < n → nat_lt m n ≡ true
-of_below m n h = grind (arith, nat_tests)
 
 module _ (size : ℕ) (pos : 1 ≤ size) where
   -- the places of a batch
@@ -92,9 +85,9 @@ last_batch_posts_all size books month pos are = (
       let all = all_of_branch size books month branch (among (keys books.branches) branch h) in
       all_kept (λ charge. nat_lt (batch_of size books month branch charge) (batches size books month)) (dues_of_branch books month branch)
       (λ charge a. let its = each_has_its_batch size books month pos are branch charge a in
-      of_below (batch_of size books month branch charge) (batches size books month) (omega (arith, its, all))),
+      lt-ltb (batch_of size books month branch charge) (batches size books month) (omega (arith, its, all))),
   all_kept (λ branch. nat_lt (batches_before size books month branch) (batches size books month)) (keys books.branches)
       (λ branch a. let all = all_of_branch size books month branch a in
       let some = some_batch size pos (length (dues_of_branch books month branch)) in
-      of_below (batches_before size books month branch) (batches size books month) (omega (arith, all, some))),
+      lt-ltb (batches_before size books month branch) (batches size books month) (omega (arith, all, some))),
 )

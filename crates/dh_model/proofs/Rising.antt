@@ -1,8 +1,7 @@
 -- Lists whose elements rise, and the numbers of their places.
-use Rattle.std.proofs.Common.{◌≡◌, ◌∙◌, refl, ap, inl, inr, ℕ, zero, suc, ◌+◌, ◌-◌, ◌<◌, ◌≤◌, Bool, true, false, cond, nat_lt, List, [], ◌∷◌, ◌++◌, length, Ordering, is_lt, arith}
+use Rattle.std.proofs.Common.{◌≡◌, ◌∙◌, refl, ap, inl, inr, ℕ, zero, suc, ◌+◌, ◌-◌, ◌<◌, ◌≤◌, Bool, true, false, cond, nat_lt, List, [], ◌∷◌, ◌++◌, length, Ordering, is_lt, le-ltb, lt-ltb, arith}
 use Rattle.std.specs.List.{count_by, filter}
 use Rattle.std.proofs.lemmas.Bool.{cases_Bool, cases_lt}
-use Rattle.std.proofs.lemmas.Bool.Decides.{nat_tests}
 use Rattle.std.proofs.lemmas.List.Sums.{sum_by-cons}
 use Rattle.dh_model.proofs.Among.{Among, in_append, in_filter}
 
@@ -51,12 +50,6 @@ abbrev pub Numbered : {X : Type 0} → (X → ℕ) → ℕ → List X → Type 0
 Numbered number a [] = Unit {0}
 Numbered number a (x ∷ xs) = (number x ≡ a) × Numbered number (a + 1) xs
 
-below : (m n : ℕ) → m < n → nat_lt m n ≡ true
-below m n h = grind (arith, nat_tests)
-
-not_below : (m n : ℕ) → n ≤ m → nat_lt m n ≡ false
-not_below m n h = grind (arith, nat_tests)
-
 module _ {X : Type 0} (n : X → ℕ) where
   abbrev pub Lesser : X → X → Type 0
   Lesser x y = n x < n y
@@ -68,19 +61,19 @@ module _ {X : Type 0} (n : X → ℕ) where
   no_lesser : (x : X) (xs : List X) → ((y : X) → Among xs y → n x < n y) → place xs x ≡ 0
   no_lesser x [] above = refl
   no_lesser x (y ∷ ys) above =
-      let first : nat_lt (n y) (n x) ≡ false = let h : n x < n y = above y (inl refl) in not_below (n y) (n x) (omega (arith, h)) in
+      let first : nat_lt (n y) (n x) ≡ false = let h : n x < n y = above y (inl refl) in le-ltb (n y) (n x) (omega (arith, h)) in
       let rest = no_lesser x ys (λ z h. above z (inr h)) in
       let counted = count_no (λ z. nat_lt (n z) (n x)) y ys first in
       omega (arith, counted, rest)
 
   place_of_first : (x : X) (xs : List X) → ((y : X) → Among xs y → n x < n y) → place (x ∷ xs) x ≡ 0
   place_of_first x xs above =
-      let counted = count_no (λ z. nat_lt (n z) (n x)) x xs (not_below (n x) (n x) (omega arith)) in
+      let counted = count_no (λ z. nat_lt (n z) (n x)) x xs (le-ltb (n x) (n x) (omega arith)) in
       let none = no_lesser x xs above in
       omega (arith, counted, none)
 
   place_of_later : (x y : X) (xs : List X) → n x < n y → place (x ∷ xs) y ≡ 1 + place xs y
-  place_of_later x y xs h = count_yes (λ z. nat_lt (n z) (n y)) x xs (below (n x) (n y) h)
+  place_of_later x y xs h = count_yes (λ z. nat_lt (n z) (n y)) x xs (lt-ltb (n x) (n y) h)
 
   numbered_from : (number : X → ℕ) (a : ℕ) (xs : List X) → Rises Lesser xs → ((x : X) → Among xs x → number x ≡ a + place xs x) → Numbered number a xs
   numbered_from number a [] r is = tt

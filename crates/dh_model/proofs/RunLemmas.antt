@@ -1,5 +1,5 @@
 -- An open run stands at one number of batches.
-use Rattle.std.proofs.Common.{◌≡◌, ◌∙◌, sym, ap, subst, inl, inr, ℕ, ◌+◌, ◌-◌, ◌*◌, ◌/◌, ◌<◌, ◌≤◌, nat_lt, List, length, arith}
+use Rattle.std.proofs.Common.{◌≡◌, ◌∙◌, sym, ap, subst, inl, inr, ℕ, ◌+◌, ◌-◌, ◌*◌, ◌/◌, ◌<◌, ◌≤◌, nat_lt, List, length, lt-ltb, ltb-true, arith}
 use Rattle.std.specs.FinMap.{entries, entries_sorted, is_sorted, keys}
 use Rattle.std.proofs.lemmas.Nat.{div-mul-add}
 use Rattle.std.proofs.lemmas.Cmp.{nat_list_cmp_total}
@@ -14,7 +14,7 @@ use Rattle.dh_model.proofs.Among.{Among, among, in_filter, in_flat_map, in_map, 
 use Rattle.dh_model.proofs.Rising.{numbered_at}
 use Rattle.dh_model.proofs.BranchSums.{holder}
 use Rattle.dh_model.proofs.BranchDues.{holds, keys_rise, one_branch_of_due}
-use Rattle.dh_model.proofs.BatchLemmas.{batch_begins, is_below, of_below, places_numbered}
+use Rattle.dh_model.proofs.BatchLemmas.{batch_begins, places_numbered}
 
 -- a branch that has begun after n batches has its first batch among them
 begun : (size : ℕ) (books : Books) (month n : ℕ) (branch : List ℕ) (part : Part) → part.branch ≡ branch → Among (posted_parts size books month n) part
@@ -22,7 +22,7 @@ begun : (size : ℕ) (books : Books) (month n : ℕ) (branch : List ℕ) (part :
 begun size books month n branch part same a =
     let of = in_map (λ b. part_of month b (posted_of_branch size books month n b)) (begun_branches size books month n) part a in
     let kept = in_filter (λ b. nat_lt (batches_before size books month b) n) (keys books.branches) of.0 of.1 in
-    let early = is_below (batches_before size books month of.0) n kept.1 in
+    let early = ltb-true (batches_before size books month of.0) n kept.1 in
     let one : of.0 ≡ branch = sym (ap (λ (p : Part). p.branch) of.2) ∙ same in
     subst (λ b. batches_before size books month b < n) one early
 
@@ -31,7 +31,7 @@ of_begun : (size : ℕ) (books : Books) (month n : ℕ) (branch : List ℕ) → 
     → Among (posted_parts size books month n) (part_of month branch (posted_of_branch size books month n branch))
 of_begun size books month n branch a early =
     of_map (λ b. part_of month b (posted_of_branch size books month n b)) (begun_branches size books month n) branch
-    (of_filter (λ b. nat_lt (batches_before size books month b) n) (keys books.branches) branch (of_below (batches_before size books month branch) n early) a)
+    (of_filter (λ b. nat_lt (batches_before size books month b) n) (keys books.branches) branch (lt-ltb (batches_before size books month branch) n early) a)
 
 -- a charge that is posted after n batches is some branch's due, of a batch among them
 record IsPosted (size : ℕ) (books : Books) (month n : ℕ) (charge : Charge) : Type 0 where
@@ -44,13 +44,13 @@ is_posted : (size : ℕ) (books : Books) (month n : ℕ) (charge : Charge) → A
 is_posted size books month n charge a =
     let of = in_flat_map (posted_of_branch size books month n) (keys books.branches) charge a in
     let kept = in_filter (λ c. nat_lt (batch_of size books month of.0 c) n) (dues_of_branch books month of.0) charge of.2 in
-    record { branch = of.0; of = of.1; due = kept.0; early = is_below (batch_of size books month of.0 charge) n kept.1 }
+    record { branch = of.0; of = of.1; due = kept.0; early = ltb-true (batch_of size books month of.0 charge) n kept.1 }
 
 -- and each such due is posted
 of_posted : (size : ℕ) (books : Books) (month n : ℕ) (charge : Charge) → IsPosted size books month n charge → Among (posted_charges size books month n) charge
 of_posted size books month n charge p =
     of_flat_map (posted_of_branch size books month n) (keys books.branches) p.branch charge p.of
-    (of_filter (λ c. nat_lt (batch_of size books month p.branch c) n) (dues_of_branch books month p.branch) charge (of_below (batch_of size books month p.branch charge) n p.early) p.due)
+    (of_filter (λ c. nat_lt (batch_of size books month p.branch c) n) (dues_of_branch books month p.branch) charge (lt-ltb (batch_of size books month p.branch charge) n p.early) p.due)
 
 -- what is posted after more batches is so after fewer
 record SaysTheSame (size : ℕ) (books : Books) (month j k : ℕ) : Type 0 where
