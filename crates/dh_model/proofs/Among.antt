@@ -86,7 +86,7 @@ module _ {X Y : Type 0} (f : X → Y) where
   of_map (z ∷ xs) x (inr h) = inr (of_map xs x h)
 
 module _ {X : Type 0} where
-  in_append : (xs ys : List X) (v : X) → Among (xs ++ ys) v → Among xs v ⊎ Among ys v
+  pub in_append : (xs ys : List X) (v : X) → Among (xs ++ ys) v → Among xs v ⊎ Among ys v
   in_append [] ys v h = inr h
   in_append (x ∷ xs) ys v (inl e) = inl (inl e)
   in_append (x ∷ xs) ys v (inr h) = elim (in_append xs ys v h) [

@@ -14,18 +14,18 @@ use Rattle.dh_model.specs.Laws.{DuesAreThoseOfLeases, DuesLieInTheirMonth, DuesN
 use Rattle.dh_model.proofs.Among.{Among, among, in_filter, in_flat_map, in_map, in_range, is_among, of_filter, of_flat_map, of_map, of_range}
 
 -- the lease and the index of a charge that falls due in a month
-record IsDue (leases : List Lease) (month : ℕ) (charge : Charge) : Type 0 where
-  lease : Lease
-  k : ℕ
-  of : Among leases lease
-  within : k < lease.terms.months
-  is : charge ≡ due lease k
-  month_is : charge.month ≡ month
+pub record IsDue (leases : List Lease) (month : ℕ) (charge : Charge) : Type 0 where
+  pub lease : Lease
+  pub k : ℕ
+  pub of : Among leases lease
+  pub within : k < lease.terms.months
+  pub is : charge ≡ due lease k
+  pub month_is : charge.month ≡ month
 
-abbrev falls_in : ℕ → Charge → Bool
+abbrev pub falls_in : ℕ → Charge → Bool
 falls_in month charge = nat_eq charge.month month
 
-is_due : (leases : List Lease) (month : ℕ) (charge : Charge) → Among (dues_among leases month) charge → IsDue leases month charge
+pub is_due : (leases : List Lease) (month : ℕ) (charge : Charge) → Among (dues_among leases month) charge → IsDue leases month charge
 is_due leases month charge h =
     let kept = in_filter (falls_in month) (flat_map dues_of leases) charge h in
     let made = in_flat_map dues_of leases charge kept.0 in

@@ -2,6 +2,7 @@
 //! The definitions are in specs/; laws say what they owe each other.
 #![tactic(auto)]
 
+pub mod batch_laws;
 pub mod laws;
 pub mod machine_laws;
 mod open_run;
