@@ -7,3 +7,4 @@ pub mod BranchSums
 pub mod BranchDues
 pub mod BatchLemmas
 pub mod RunLemmas
+pub mod MapLemmas

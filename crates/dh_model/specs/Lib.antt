@@ -1,4 +1,5 @@
 pub mod Books
+pub mod Codes
 pub mod Leases
 pub mod Runs
 pub mod Checks

@@ -3,7 +3,7 @@ use Rattle.std.specs.FinMap as map
 use Rattle.std.specs.Cmp.Lexicographic.{nat_list_cmp_total}
 use Rattle.std.proofs.lemmas.Map.Lookups.{exact_bytes}
 use Rattle.dh_rules.specs.Books.{State}
-use Rattle.dh_rules.proofs.MapLemmas.{one-given}
+use Rattle.dh_model.proofs.MapLemmas.{one-given}
 use Rattle.dh_rules.proofs.books.Books.add_branch.Goals as goal
 
 pub returns-clause-ok : goal.returns-clause-ok

@@ -4,7 +4,7 @@ use Rattle.std.specs.Map.Iter.{deref}
 use Rattle.std.specs.Cmp.Lexicographic.{nat_list_cmp_total}
 use Rattle.std.proofs.lemmas.Map.Iter.{iter_end}
 use Rattle.dh_rules.specs.Books.{State}
-use Rattle.dh_rules.proofs.MapLemmas.{entries-made}
+use Rattle.dh_model.proofs.MapLemmas.{entries-made}
 use Rattle.dh_rules.proofs.books.Books.branches.Goals as goal
 
 pub returns : goal.returns

@@ -1,0 +1,9 @@
+//! The books of an agency in memory.
+#![tactic(auto)]
+
+mod books;
+
+pub use books::Books;
+
+#[cfg(test)]
+mod tests;
