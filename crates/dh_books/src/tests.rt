@@ -2,7 +2,8 @@ ghost use Rattle.std.specs.Prelude.{◌≡◌};
 
 use crate::Books;
 use dh_types::{
-    Branch, EntryDay, Id, Lease, LeaseMonths, LeaseNo, LeaseTerms, Month, PaymentMethod, Registration, Rent, Text60,
+    Branch, EntryDay, Id, Lease, LeaseMonths, LeaseNo, LeaseTerms, Month, PaymentMethod,
+    Registration, Rent, Text60,
 };
 use std::alloc::Global;
 use std::test::Fail;
@@ -55,9 +56,21 @@ fn registrations_are_found_by_client_and_branch(rt: HostRuntime) -> Result<(), F
     let mut books = Books::new(rt.alloc(), january(), january());
     books.put_registration(registration("C1", "B2")?)?;
     books.put_registration(registration("C2", "B1")?)?;
-    assert!(rt; books.registration(&(Id::read("C1")?, Id::read("B2")?)).is_some());
-    assert!(rt; books.registration(&(Id::read("C2")?, Id::read("B2")?)).is_none());
-    assert!(rt; books.registration(&(Id::read("B2")?, Id::read("C1")?)).is_none());
+    assert!(rt;
+        books
+            .registration(&(Id::read("C1")?, Id::read("B2")?))
+            .is_some()
+    );
+    assert!(rt;
+        books
+            .registration(&(Id::read("C2")?, Id::read("B2")?))
+            .is_none()
+    );
+    assert!(rt;
+        books
+            .registration(&(Id::read("B2")?, Id::read("C1")?))
+            .is_none()
+    );
     Ok(())
 }
 
