@@ -41,6 +41,6 @@ module _ (size : ℕ) where
   abbrev pub whole : Books → Books
   whole books = completed books (open_row books)
 
-  -- the rules hold; then those of the whole books do, which have no open run
+  -- the rules hold
   abbrev pub IsSound : Books → Type 0
   IsSound books = MeetsRules books size
