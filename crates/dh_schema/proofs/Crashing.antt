@@ -7,7 +7,7 @@ use Rattle.sqlite.specs.Store.{Ghosts}
 use Rattle.sqlite.specs.Held.{Held, state}
 use Rattle.sqlite.proofs.StateLemmas.{survives_then, survives_weaker}
 use Rattle.sqlite.proofs.Callers.{survives_begin}
-use Rattle.dh_rules.specs.Books as machine
+use Rattle.dh_model.specs.Books as machine
 use Rattle.dh_schema.specs.Store.{AreTables, IsReady, Leaves, LeavesItsTables, tables}
 
 -- nothing is committed by either

@@ -11,9 +11,9 @@ use Rattle.std.proofs.lemmas.Map.Keys.{IsDistinct-push}
 use Rattle.sqlite_trees.proofs.ListLemmas.{map-map}
 use Rattle.sqlite_value.specs.Order.{Row}
 use Rattle.dh_types.specs.declared.branch.Branch.{Branch}
-use Rattle.dh_rules.specs.Books.{State, text_cmp}
-use Rattle.dh_rules.specs.Machine.{changed}
-use Rattle.dh_rules.specs.declared.change.Change.TheVariants as change
+use Rattle.dh_model.specs.Books.{State, text_cmp}
+use Rattle.dh_model.specs.Machine.{changed}
+use Rattle.dh_model.specs.declared.rows.Change.TheVariants as change
 use Rattle.dh_rows.specs.BranchRows.{branch_in, branch_row, is_branch_row}
 use Rattle.dh_schema.specs.Tables.{by_number}
 use Rattle.dh_schema.specs.Gathered.{AreBranches}

@@ -3,7 +3,7 @@ use Rattle.std.specs.Prelude.{◌≡◌, ◌⊎◌, false, IsTrue, [], ◌∷◌
 use Rattle.sqlite_schema.specs.declared.schema.Schema.{Schema}
 use Rattle.sqlite_trees.specs.Tree.{Trees}
 use Rattle.sqlite.specs.State.{State, Survives}
-use Rattle.dh_rules.specs.Books as machine
+use Rattle.dh_model.specs.Books as machine
 use Rattle.dh_schema.specs.Layout.{our_schema}
 use Rattle.dh_schema.specs.Tables.{tables_in, IsSound}
 
