@@ -2,5 +2,8 @@
 #![tactic(auto)]
 
 mod branches;
+mod checks;
+mod properties;
 
-pub use branches::decide_branch;
+pub use branches::{decide_branch, decide_owner, decide_staff};
+pub use properties::{decide_assign, decide_property, decide_rent};
