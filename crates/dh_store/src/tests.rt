@@ -1,7 +1,7 @@
 ghost use Rattle.std.specs.Prelude.{◌≡◌};
 
 use crate::{apply, ask, look_up};
-use dh_rules::{Change, Verdict};
+use dh_model::{Change, Verdict};
 use dh_schema::install;
 use dh_types::{Answer, Branch, Command, Fault, Id, Month, Question, Refusal, Reply, Text60};
 use sqlite::Connection;
