@@ -1,5 +1,5 @@
 -- Tables that were just made.
-use Rattle.std.proofs.Common.{◌≡◌, ◌∙◌, true, false, IsTrue, None, List, [], ◌∷◌, map, refl, sym, ap, ap₂, subst}
+use Rattle.std.proofs.Common.{◌≡◌, ◌∙◌, true, false, List, [], ◌∷◌, map, sym, ap, ap₂, subst}
 use Rattle.std.specs.List.{IsDistinct}
 use Rattle.std.specs.FinMap as map
 use Rattle.sqlite_value.specs.Order.{Row}
@@ -13,7 +13,7 @@ use Rattle.dh_rows.specs.BranchRows.{branch_in}
 use Rattle.dh_schema.specs.MetaTable.{meta_rows}
 use Rattle.dh_schema.specs.BranchTable.{branch_columns}
 use Rattle.dh_schema.specs.Layout.{our_schema}
-use Rattle.dh_schema.specs.Tables.{books_over, tables_in, only_months, by_number, empty_over, IsSound}
+use Rattle.dh_schema.specs.Tables.{books_over, only_months, by_number, empty_over, IsSound}
 use Rattle.dh_schema.specs.Store.{AreTables, IsReady, tables}
 
 module _ (trees : Trees) (months : Months) (grammar : is_meta_row (meta_row months) ≡ true) (meta : meta_rows trees ≡ meta_row months ∷ []) (none : trees 1 ≡ []) where

@@ -1,5 +1,5 @@
 -- What was read is what the tables mean.
-use Rattle.std.proofs.Common.{◌≡◌, ◌∙◌, ℤ, List, [], ◌∷◌, length, map, Option, None, refl, sym, ap, ap₂, subst, arith, ℕ, IsPermutation}
+use Rattle.std.proofs.Common.{◌≡◌, ◌∙◌, List, [], ◌∷◌, map, refl, sym, ap, ap₂, subst, arith, ℕ, IsPermutation}
 use Rattle.std.specs.List.{IsDistinct}
 use Rattle.std.specs.Ordering.{eq_by_cmp}
 use Rattle.std.specs.FinMap as map
@@ -13,11 +13,10 @@ use Rattle.sqlite.proofs.Callers.{one_permutation}
 use Rattle.dh_types.specs.declared.branch.Branch.{Branch}
 use Rattle.dh_model.specs.Books.{State, text_cmp}
 use Rattle.dh_rows.specs.Months.{Months}
-use Rattle.dh_rows.specs.MetaRows.{meta_row, months_in}
-use Rattle.dh_rows.specs.BranchRows.{branch_in, is_branch_row}
+use Rattle.dh_rows.specs.MetaRows.{meta_row}
 use Rattle.dh_schema.specs.MetaTable.{meta_rows, only_version}
 use Rattle.dh_schema.specs.BranchTable.{branch_rows}
-use Rattle.dh_schema.specs.Tables.{books_over, tables_in, by_number, only_months, empty_over, HasValues}
+use Rattle.dh_schema.specs.Tables.{books_over, tables_in, only_months, empty_over, HasValues}
 use Rattle.dh_schema.specs.Gathered.{IsOnlyMeta, AreBranches}
 use Rattle.dh_schema.proofs.MapLemmas.{from_permutation}
 use Rattle.dh_schema.proofs.BranchLemmas.{all_moved}

@@ -1,7 +1,6 @@
 -- The machine on what has a table, which is the branches so far. What has none is answered as a line of an unknown word:
 -- a command is refused for its first field, a question for its second.
 use Rattle.std.specs.Prelude.{Bool, true, false, Option}
-use Rattle.std.specs.FinMap.{values}
 use Rattle.dh_types.specs.declared.command.Command.{Command}
 use Rattle.dh_types.specs.declared.command.Command.TheVariants as command
 use Rattle.dh_types.specs.declared.question.Question.{Question}

@@ -1,5 +1,5 @@
 -- What a connection shows of the agency's tables, and what a crash may leave of them.
-use Rattle.std.specs.Prelude.{◌≡◌, ◌⊎◌, false, IsTrue, [], ◌∷◌}
+use Rattle.std.specs.Prelude.{◌≡◌, false, IsTrue, []}
 use Rattle.sqlite_schema.specs.declared.schema.Schema.{Schema}
 use Rattle.sqlite_trees.specs.Tree.{Trees}
 use Rattle.sqlite.specs.State.{State, Survives}

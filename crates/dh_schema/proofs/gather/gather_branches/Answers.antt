@@ -1,4 +1,4 @@
-use Rattle.std.proofs.Common.{◌≡◌, ◌<◌, ◌∙◌, length, take, None, Some, IfSome, IsSome, is_some, false, refl, Bor, ◌↔◌, Option, true, sym, subst, arith, rules}
+use Rattle.std.proofs.Common.{◌≡◌, ◌<◌, ◌∙◌, length, None, Some, IfSome, IsSome, is_some, false, refl, Bor, ◌↔◌, Option, true, sym, subst, arith}
 use Rattle.std.specs.Option.{option_copied}
 use Rattle.std.proofs.lemmas.List.{take_more, take_all}
 use Rattle.dh_types.specs.declared.branch.Branch.{Branch}
