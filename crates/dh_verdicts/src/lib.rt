@@ -3,7 +3,11 @@
 
 mod branches;
 mod checks;
+mod clients;
 mod properties;
 
 pub use branches::{decide_branch, decide_owner, decide_staff};
+pub use clients::{
+    decide_client, decide_comment, decide_inspection, decide_register, decide_viewing,
+};
 pub use properties::{decide_assign, decide_property, decide_rent};
