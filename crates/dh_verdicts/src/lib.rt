@@ -5,6 +5,7 @@ mod branches;
 mod checks;
 mod clients;
 mod properties;
+mod receipts;
 
 pub use branches::{decide_branch, decide_owner, decide_staff};
 pub use clients::{
