@@ -12,3 +12,4 @@ pub use clients::{
     decide_client, decide_comment, decide_inspection, decide_register, decide_viewing,
 };
 pub use properties::{decide_assign, decide_property, decide_rent};
+pub use receipts::{decide_receipt, decide_run};

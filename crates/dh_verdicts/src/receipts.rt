@@ -12,8 +12,8 @@ ghost use Rattle.dh_model.specs.Verdicts.{receipt_verdict, run_verdict};
 use dh_books::Books;
 use dh_model::{Change, Verdict};
 use dh_types::{
-    Key, LeaseNo, Payment, Pence, Receipt, ReceiptKind, ReceiptNo, ReceiptOrder, Refusal, Rent, Reply,
-    Run, RunOrder, RunSum,
+    Key, LeaseNo, Payment, Pence, Receipt, ReceiptKind, ReceiptNo, ReceiptOrder, Refusal, Rent,
+    Reply, Run, RunOrder, RunSum,
 };
 
 // The receipt that has this key.
@@ -67,13 +67,6 @@ fn payment_refusal(books: &Books, payment: &Payment) -> Option<Refusal>
     }
 }
 
-// How many receipts there are.
-fn receipt_count(books: &Books) -> usize
-    ensures { result ≡ fin.len books.now.books.receipts }
-{
-    books.receipts().count()
-}
-
 /// What the books say of a payment under a key that no other receipt or run has: its receipt, with the next number.
 pub fn decide_receipt(books: &Books, order: &ReceiptOrder) -> Verdict
     ensures { result ≡ receipt_verdict books.now.books order.now }
@@ -91,7 +84,7 @@ pub fn decide_receipt(books: &Books, order: &ReceiptOrder) -> Verdict
     if let Some(refusal) = payment_refusal(books, &order.payment) {
         return Verdict::Refused(refusal);
     }
-    let count = receipt_count(books);
+    let count = books.receipt_count();
     if count >= 99_999_999 {
         return Verdict::Refused(Refusal::Full);
     }
