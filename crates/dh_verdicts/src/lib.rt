@@ -4,6 +4,7 @@
 mod branches;
 mod checks;
 mod clients;
+mod leases;
 mod properties;
 mod receipts;
 
