@@ -1,8 +1,7 @@
-//! What the books know of members of staff.
+//! Checks of members of staff.
 
-ghost use Rattle.std.specs.Prelude.{◌≡◌, IfOk};
-ghost use Rattle.dh_model.specs.Checks.{managed_besides, of_branch, has_room, names};
-ghost use Rattle.std.specs.FinMap as fin;
+ghost use Rattle.std.specs.Prelude.{◌≡◌};
+ghost use Rattle.dh_model.specs.Checks.{has_room, managed_besides, of_branch};
 
 use dh_books::Books;
 use dh_types::{Id, Refusal};
