@@ -1,10 +1,16 @@
 mod branches;
+mod clients;
+mod deciding;
+mod leases;
 mod properties;
+mod receipts;
 
 use dh_books::Books;
 use dh_model::Verdict;
 use dh_types::{
-    Branch, Id, Month, Owner, Position, Property, PropertyType, Rent, Reply, Rooms, Staff, Text60,
+    Amount, Branch, Client, Comment, EntryDay, EntryMonth, Id, Inspection, Key, Lease, LeaseMonths,
+    LeaseNo, LeaseTerms, Month, Owner, Payment, PaymentMethod, Position, Property, PropertyType,
+    ReceiptKind, ReceiptOrder, Registration, Rent, Reply, Rooms, RunOrder, Staff, Text60, Viewing,
 };
 use std::alloc::Global;
 use std::test::Fail;
@@ -85,5 +91,98 @@ fn offices(alloc: Global) -> Result<Books, Fail> {
     books.put_member(member(alloc, "S2", "Kim Fox", "B002")?)?;
     books.put_owner(owner(alloc, "O1", "Tom Ray")?)?;
     books.put_property(property(alloc, "P101", "O1", "S1", "B001")?)?;
+    Ok(books)
+}
+
+fn client(alloc: Global, number: &str, name: &str) -> Result<Client, Fail> {
+    Ok(Client {
+        number: Id::read(number)?,
+        name: Text60::read(alloc, name)??,
+        telephone: Text60::read(alloc, "0113 2")??,
+        preferred_type: PropertyType::Flat,
+        greatest_rent: Rent::read("700.00")?,
+    })
+}
+
+fn registration(client: &str, branch: &str, staff: &str) -> Result<Registration, Fail> {
+    Ok(Registration {
+        client: Id::read(client)?,
+        branch: Id::read(branch)?,
+        staff: Id::read(staff)?,
+        day: EntryDay::read("2025-01-02")?,
+    })
+}
+
+// With no comment where the text is empty.
+fn viewing(alloc: Global, client: &str, property: &str, comment: &str) -> Result<Viewing, Fail> {
+    let comment = if comment.is_empty() {
+        None
+    } else {
+        Some(Comment::read(alloc, comment)??)
+    };
+    Ok(Viewing {
+        client: Id::read(client)?,
+        property: Id::read(property)?,
+        day: EntryDay::read("2025-01-03")?,
+        comment,
+    })
+}
+
+fn inspection(
+    alloc: Global,
+    property: &str,
+    day: &str,
+    staff: &str,
+    comment: &str,
+) -> Result<Inspection, Fail> {
+    Ok(Inspection {
+        property: Id::read(property)?,
+        day: EntryDay::read(day)?,
+        staff: Id::read(staff)?,
+        comment: Comment::read(alloc, comment)??,
+    })
+}
+
+// Three months, paid in cash.
+fn terms(number: &str, client: &str, property: &str, start: &str) -> Result<LeaseTerms, Fail> {
+    Ok(LeaseTerms {
+        number: LeaseNo::read(number)?,
+        client: Id::read(client)?,
+        property: Id::read(property)?,
+        start: EntryDay::read(start)?,
+        months: LeaseMonths::read("3")?,
+        method: PaymentMethod::Cash,
+    })
+}
+
+fn receipt_order(key: &str, lease: &str, kind: &str, amount: &str) -> Result<ReceiptOrder, Fail> {
+    Ok(ReceiptOrder {
+        key: Key::read(key)?,
+        payment: Payment {
+            lease: LeaseNo::read(lease)?,
+            kind: ReceiptKind::read(kind)?,
+            amount: Amount::read(amount)?,
+            day: EntryDay::read("2025-02-01")?,
+        },
+    })
+}
+
+fn run_order(key: &str, month: &str) -> Result<RunOrder, Fail> {
+    Ok(RunOrder {
+        key: Key::read(key)?,
+        month: EntryMonth::read(month)?,
+    })
+}
+
+// The offices with a second property there, a client registered at the first branch, and his lease.
+fn base(alloc: Global) -> Result<Books, Fail> {
+    let mut books = offices(alloc)?;
+    books.put_property(property(alloc, "P102", "O1", "", "B001")?)?;
+    books.put_client(client(alloc, "C001", "Eve Orr")?)?;
+    books.put_registration(registration("C001", "B001", "S1")?)?;
+    books.put_lease(Lease {
+        terms: terms("10001", "C001", "P101", "2025-01-31")?,
+        rent: Rent::read("650.00")?,
+    })?;
     Ok(books)
 }
