@@ -4,7 +4,7 @@ ghost use Rattle.std.specs.Prelude.{◌≡◌, IfOk};
 ghost use Rattle.dh_model.specs.Checks.{first_failing};
 ghost use Rattle.dh_model.specs.Verdicts.{assign_verdict, manager_checks, property_checks, property_verdict, rent_verdict};
 
-use crate::checks::{has_room, of_branch};
+use crate::checks::may_manage;
 use dh_books::Books;
 use dh_model::{Change, Verdict};
 use dh_types::{Assignment, Id, Property, Refusal, RentChange, Reply};
@@ -28,7 +28,7 @@ fn property_refusal(books: &Books, property: &Property) -> Option<Refusal>
     let Some(member) = &property.staff else {
         return None;
     };
-    of_branch(books, member, &property.branch).or_else(|| has_room(books, member, &property.number))
+    may_manage(books, member, property)
 }
 
 /// What the books say of a new property, which has an owner, a branch and maybe a manager of that branch, with fewer
@@ -60,11 +60,7 @@ fn manager_refusal(books: &Books, property: &Property, member: Option<Id>) -> Op
     if books.member(&member).is_none() {
         return Some(Refusal::Unknown(3));
     }
-    of_branch(books, &member, &property.branch).or_else(|| has_room(
-        books,
-        &member,
-        &property.number,
-    ))
+    may_manage(books, &member, property)
 }
 
 /// What the books say of a property's manager, who belongs to its branch and manages fewer than 100 others.
