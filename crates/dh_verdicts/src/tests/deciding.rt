@@ -33,6 +33,14 @@ fn frozen_are_refused(rt: HostRuntime) -> Result<(), Fail> {
     assert_eq!(rt; decided(alloc, &books, lease)?.as_str(), want);
     let receipt = Command::Receipt(receipt_order("K-1", "10001", "rent", "650.00")?);
     assert_eq!(rt; decided(alloc, &books, receipt)?.as_str(), want);
+    Ok(())
+}
+
+#[test]
+fn runs_are_refused(rt: HostRuntime) -> Result<(), Fail> {
+    let alloc = rt.alloc();
+    let books = running(alloc)?;
+    let want = "refused 10 2025-01";
     let run = Command::Run(run_order("R-1", "2025-01")?);
     assert_eq!(rt; decided(alloc, &books, run)?.as_str(), want);
     let opening = Command::Open(run_order("R-1", "2025-01")?);
@@ -48,10 +56,16 @@ fn free_are_served(rt: HostRuntime) -> Result<(), Fail> {
     assert_eq!(rt; decided(alloc, &books, new)?.as_str(), "ok");
     let post = Command::Post(BatchCount::read("9")?);
     assert_eq!(rt; decided(alloc, &books, post)?.as_str(), "ok");
-    let idle = base(alloc)?;
+    Ok(())
+}
+
+#[test]
+fn without_a_run(rt: HostRuntime) -> Result<(), Fail> {
+    let alloc = rt.alloc();
+    let books = base(alloc)?;
     let post = Command::Post(BatchCount::read("1")?);
-    assert_eq!(rt; decided(alloc, &idle, post)?.as_str(), "refused 14");
+    assert_eq!(rt; decided(alloc, &books, post)?.as_str(), "refused 14");
     let opening = Command::Open(run_order("R-1", "2025-01")?);
-    assert_eq!(rt; decided(alloc, &idle, opening)?.as_str(), "ok");
+    assert_eq!(rt; decided(alloc, &books, opening)?.as_str(), "ok");
     Ok(())
 }
