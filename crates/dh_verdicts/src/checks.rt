@@ -1,14 +1,13 @@
-//! What the books know of members of staff.
+//! Checks of members of staff.
 
-ghost use Rattle.std.specs.Prelude.{◌≡◌, IfOk};
-ghost use Rattle.dh_model.specs.Checks.{managed_besides, of_branch, has_room, names};
-ghost use Rattle.std.specs.FinMap as fin;
+ghost use Rattle.std.specs.Prelude.{◌≡◌, [], ◌∷◌};
+ghost use Rattle.dh_model.specs.Checks.{first_failing, has_room, managed_besides, of_branch};
 
 use dh_books::Books;
-use dh_types::{Id, Refusal};
+use dh_types::{Id, Property, Refusal};
 
-/// How many properties the member of staff manages, but for this one.
-pub(crate) fn managed_besides(books: &Books, member: &Id, property: &Id) -> usize
+// How many properties the member of staff manages, but for this one.
+fn managed_besides(books: &Books, member: &Id, property: &Id) -> usize
     ensures { result ≡ managed_besides books.now.books member.now property.now }
 {
     books
@@ -27,8 +26,8 @@ pub(crate) fn of_branch(books: &Books, member: &Id, branch: &Id) -> Option<Refus
     }
 }
 
-/// `TooMany` where the member of staff manages 100 properties but for this one.
-pub(crate) fn has_room(books: &Books, member: &Id, property: &Id) -> Option<Refusal>
+// `TooMany` where the member of staff manages 100 properties but for this one.
+fn has_room(books: &Books, member: &Id, property: &Id) -> Option<Refusal>
     ensures { result ≡ has_room books.now.books member.now property.now }
 {
     if managed_besides(books, member, property) < 100 {
@@ -36,4 +35,11 @@ pub(crate) fn has_room(books: &Books, member: &Id, property: &Id) -> Option<Refu
     } else {
         Some(Refusal::TooMany)
     }
+}
+
+/// The first of these checks that fails: the member of staff belongs to the property's branch, and has room for it.
+pub(crate) fn may_manage(books: &Books, member: &Id, property: &Property) -> Option<Refusal>
+    ensures { result ≡ first_failing (of_branch books.now.books member.now property.now.branch ∷ has_room books.now.books member.now property.now.number ∷ []) }
+{
+    of_branch(books, member, &property.branch).or_else(|| has_room(books, member, &property.number))
 }

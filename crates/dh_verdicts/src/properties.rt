@@ -4,7 +4,7 @@ ghost use Rattle.std.specs.Prelude.{◌≡◌, IfOk};
 ghost use Rattle.dh_model.specs.Checks.{first_failing};
 ghost use Rattle.dh_model.specs.Verdicts.{assign_verdict, manager_checks, property_checks, property_verdict, rent_verdict};
 
-use crate::checks::{has_room, of_branch};
+use crate::checks::may_manage;
 use dh_books::Books;
 use dh_model::{Change, Verdict};
 use dh_types::{Assignment, Id, Property, Refusal, RentChange, Reply};
@@ -17,20 +17,18 @@ fn property_refusal(books: &Books, property: &Property) -> Option<Refusal>
     if books.owner(&property.owner).is_none() {
         return Some(Refusal::Unknown(9));
     }
-    let Some(member) = &property.staff else {
-        return if books.branch(&property.branch).is_none() {
-            Some(Refusal::Unknown(11))
-        } else {
-            None
-        };
-    };
-    if books.member(member).is_none() {
+    if let Some(member) = &property.staff
+        && books.member(member).is_none()
+    {
         return Some(Refusal::Unknown(10));
     }
     if books.branch(&property.branch).is_none() {
         return Some(Refusal::Unknown(11));
     }
-    of_branch(books, member, &property.branch).or_else(|| has_room(books, member, &property.number))
+    let Some(member) = &property.staff else {
+        return None;
+    };
+    may_manage(books, member, property)
 }
 
 /// What the books say of a new property, which has an owner, a branch and maybe a manager of that branch, with fewer
@@ -53,16 +51,16 @@ pub fn decide_property(
 }
 
 // The first check that the manager fails, if one is given.
-fn manager_refusal(books: &Books, property: &Property, member: &Option<Id>) -> Option<Refusal>
-    ensures { result ≡ first_failing (manager_checks books.now.books property.now member.now) }
+fn manager_refusal(books: &Books, property: &Property, member: Option<Id>) -> Option<Refusal>
+    ensures { result ≡ first_failing (manager_checks books.now.books property.now member) }
 {
     let Some(member) = member else {
         return None;
     };
-    if books.member(member).is_none() {
+    if books.member(&member).is_none() {
         return Some(Refusal::Unknown(3));
     }
-    of_branch(books, member, &property.branch).or_else(|| has_room(books, member, &property.number))
+    may_manage(books, &member, property)
 }
 
 /// What the books say of a property's manager, who belongs to its branch and manages fewer than 100 others.
@@ -75,7 +73,7 @@ pub fn decide_assign(books: &Books, assignment: &Assignment) -> Verdict
     if assignment.staff == property.staff {
         return Verdict::Already(Reply::Already);
     }
-    match manager_refusal(books, property, &assignment.staff) {
+    match manager_refusal(books, property, assignment.staff) {
         Some(refusal) => Verdict::Refused(refusal),
         None => Verdict::Change(Change::Assign(*assignment)),
     }

@@ -1,0 +1,88 @@
+-- The one due of a lease in a month.
+use Rattle.std.proofs.Common.{◌≡◌, ◌∙◌, ◌⊎◌, refl, sym, ap, inl, inr, ℕ, zero, suc, ◌+◌, ◌-◌, ◌<◌, ◌≤◌, Bool, true, false, cond, nat_eq, List, [], ◌∷◌, ◌++◌, map, append-nil, arith}
+use Rattle.std.specs.List.{filter, flat_map, range_with_len}
+use Rattle.std.proofs.lemmas.Bool.Decides.{nat_tests}
+use Rattle.std.proofs.lemmas.List.Elements.{filter-append}
+use Rattle.dh_days.specs.Days.{month_of_day, plus_months}
+use Rattle.dh_types.specs.declared.lease.Lease.{Lease}
+use Rattle.dh_types.specs.declared.lease.Charge.{Charge}
+use Rattle.dh_model.specs.Leases.{due, dues_among, dues_of}
+
+differs : (m n : ℕ) → (m < n) ⊎ (n < m) → nat_eq m n ≡ false
+differs m n (inl h) = grind (arith, nat_tests)
+differs m n (inr h) = grind (arith, nat_tests)
+
+same : (m n : ℕ) → m ≡ n → nat_eq m n ≡ true
+same m n h = grind (arith, nat_tests)
+
+-- a month before or after those of the indices from a on
+abbrev Outside : ℕ → ℕ → ℕ → ℕ → Type 0
+Outside first month a n = (month < first + a) ⊎ (first + (a + n) ≤ month)
+
+first_out : (first month a n : ℕ) → Outside first month a (suc n) → (first + a < month) ⊎ (month < first + a)
+first_out first month a n (inl h) = inr h
+first_out first month a n (inr h) = inl (omega (arith, h))
+
+rest_out : (first month a n : ℕ) → Outside first month a (suc n) → Outside first month (a + 1) n
+rest_out first month a n (inl h) = inl (omega (arith, h))
+rest_out first month a n (inr h) = inr (omega (arith, h))
+
+module _ (lease : Lease) (month : ℕ) where
+  abbrev falls : Charge → Bool
+  falls charge = nat_eq charge.month month
+
+  abbrev first : ℕ
+  first = month_of_day lease.terms.start
+
+  abbrev those : ℕ → ℕ → List Charge
+  those a n = filter falls (map (due lease) (range_with_len a n))
+
+  step : (a n : ℕ) (b : Bool) → nat_eq (first + a) month ≡ b → those a (suc n) ≡ cond b (due lease a ∷ those (a + 1) n) (those (a + 1) n)
+  step a n b e = ap (λ b. cond b (due lease a ∷ those (a + 1) n) (those (a + 1) n)) e
+
+  no_due : (a n : ℕ) → Outside first month a n → those a n ≡ []
+  no_due a zero h = refl
+  no_due a (suc n) h = step a n false (differs (first + a) month (first_out first month a n h)) ∙ no_due (a + 1) n (rest_out first month a n h)
+
+  one_due : (a n k : ℕ) → first + (a + k) ≡ month → k < n → those a n ≡ due lease (a + k) ∷ []
+  one_due a zero k e h = absurd (omega (arith, h))
+  one_due a (suc n) zero e h =
+      let here : a + 0 ≡ a = omega arith in
+      let rest = no_due (a + 1) n (inl (omega (arith, e))) in
+      step a n true (same (first + a) month (omega (arith, e))) ∙ ap (λ cs. due lease a ∷ cs) rest ∙ ap (λ i. due lease i ∷ []) (sym here)
+  one_due a (suc n) (suc k) e h =
+      let here : a + 1 + k ≡ a + suc k = omega arith in
+      step a n false (differs (first + a) month (inl (omega (arith, e)))) ∙ one_due (a + 1) n k (omega (arith, e)) (omega (arith, h)) ∙ ap (λ i. due lease i ∷ []) here
+
+  of_one : dues_among (lease ∷ []) month ≡ those 0 lease.terms.months
+  of_one = ap (filter falls) (append-nil (dues_of lease))
+
+  before_all : month < first → month < first + 0
+  before_all h = omega (arith, h)
+
+  pub none_before : month < first → [] ≡ dues_among (lease ∷ []) month
+  none_before h = sym (of_one ∙ no_due 0 lease.terms.months (inl (before_all h)))
+
+  after_all : first + lease.terms.months ≤ month → first + (0 + lease.terms.months) ≤ month
+  after_all h = omega (arith, h)
+
+  pub none_after : first + lease.terms.months ≤ month → [] ≡ dues_among (lease ∷ []) month
+  none_after h = sym (of_one ∙ no_due 0 lease.terms.months (inr (after_all h)))
+
+  at_start : (k : ℕ) → first + k ≡ month → first + (0 + k) ≡ month
+  at_start k e = omega (arith, e)
+
+  charged : (k i m d : ℕ) → i ≡ k → m ≡ first + k → d ≡ plus_months lease.terms.start k
+      → ◌≡◌ {A = Charge} (record { lease = lease.terms.number; index = i; month = m; day = d; amount = lease.rent }) (due lease k)
+  charged k i m d p q r =
+      ap (λ (x : ℕ). let c : Charge = record { lease = lease.terms.number; index = x; month = m; day = d; amount = lease.rent } in c) p
+      ∙ ap (λ (x : ℕ). let c : Charge = record { lease = lease.terms.number; index = k; month = x; day = d; amount = lease.rent } in c) q
+      ∙ ap (λ (x : ℕ). let c : Charge = record { lease = lease.terms.number; index = k; month = first + k; day = x; amount = lease.rent } in c) r
+
+  -- the charge with these parts is what falls due
+  pub its_due : (k i m d : ℕ) → first + k ≡ month → k < lease.terms.months → i ≡ k → m ≡ month → d ≡ plus_months lease.terms.start k
+      → ◌≡◌ {A = List Charge} (record { lease = lease.terms.number; index = i; month = m; day = d; amount = lease.rent } ∷ []) (dues_among (lease ∷ []) month)
+  its_due k i m d e h p q r =
+      let here : 0 + k ≡ k = omega arith in
+      ap (λ c. c ∷ []) (charged k i m d p (q ∙ sym e) r) ∙ ap (λ x. due lease x ∷ []) (sym here)
+      ∙ sym (of_one ∙ one_due 0 lease.terms.months k (at_start k e) h)
