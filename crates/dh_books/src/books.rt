@@ -1,5 +1,6 @@
 //! All rows in memory, by key.
 
+mod changes;
 mod leases;
 mod people;
 mod properties;

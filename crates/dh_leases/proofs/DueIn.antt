@@ -1,8 +1,7 @@
 -- The one due of a lease in a month.
-use Rattle.std.proofs.Common.{◌≡◌, ◌∙◌, ◌⊎◌, refl, sym, ap, inl, inr, ℕ, zero, suc, ◌+◌, ◌-◌, ◌<◌, ◌≤◌, Bool, true, false, cond, nat_eq, List, [], ◌∷◌, ◌++◌, map, append-nil, arith}
-use Rattle.std.specs.List.{filter, flat_map, range_with_len}
+use Rattle.std.proofs.Common.{◌≡◌, ◌∙◌, ◌⊎◌, refl, sym, ap, inl, inr, ℕ, zero, suc, ◌+◌, ◌<◌, ◌≤◌, Bool, true, false, cond, nat_eq, List, [], ◌∷◌, map, append-nil, arith}
+use Rattle.std.specs.List.{filter, range_with_len}
 use Rattle.std.proofs.lemmas.Bool.Decides.{nat_tests}
-use Rattle.std.proofs.lemmas.List.Elements.{filter-append}
 use Rattle.dh_days.specs.Days.{month_of_day, plus_months}
 use Rattle.dh_types.specs.declared.lease.Lease.{Lease}
 use Rattle.dh_types.specs.declared.lease.Charge.{Charge}

@@ -1,6 +1,6 @@
 //! The days that a lease covers.
 
-ghost use Rattle.std.specs.Prelude.{◌≡◌, ◌<◌};
+ghost use Rattle.std.specs.Prelude.{◌≡◌, ◌<◌, nat_lt};
 ghost use Rattle.dh_days.specs.Days.{IsDay};
 ghost use Rattle.dh_model.specs.Leases.{covers, end_of, overlap};
 
@@ -23,11 +23,24 @@ pub fn covers(lease: &LeaseTerms, day: EntryDay) -> bool
     lease.start <= day && day.day() < end_of(lease)
 }
 
+// Whether the lease starts before the other's end.
+fn starts_before_end_of(lease: &LeaseTerms, other: &LeaseTerms) -> bool
+    ensures value { result ≡ nat_lt lease.now.start (end_of other.now) }
+    ensures day { IsDay lease.now.start }
+    ensures later { other.now.start < end_of other.now }
+{
+    lease.start.day() < end_of(other)
+}
+
 /// Whether the leases are of one property and some day is covered by both.
+#[tactic(auto, using(crate::proofs::Overlaps::overlap_by_ends))]
 pub fn overlap(lease: &LeaseTerms, other: &LeaseTerms) -> bool
     ensures { result ≡ overlap lease.now other.now }
 {
-    let (start, end) = (lease.start.day(), end_of(lease));
-    let (other_start, other_end) = (other.start.day(), end_of(other));
-    lease.property == other.property && start < other_end && other_start < end
+    let starts_before = starts_before_end_of(lease, other);
+    let ends_after = starts_before_end_of(other, lease);
+    if lease.property != other.property {
+        return false;
+    }
+    starts_before && ends_after
 }

@@ -6,7 +6,7 @@ ghost use Rattle.std.specs.FinMap as fin;
 use super::Books;
 use dh_types::{Branch, Client, Id, Owner, Staff};
 use std::alloc::AllocError;
-use std::collections::btree_map::Values;
+use std::collections::btree_map::{Keys, Values};
 
 impl Books {
     /// The branch of this number.
@@ -30,6 +30,13 @@ impl Books {
         ensures { result ≡ fin.values self.now.books.branches }
     {
         self.branches.values()
+    }
+
+    /// The numbers of all branches, rising.
+    pub fn branch_numbers(&self) -> Keys<'_, Id, Branch>
+        ensures { result ≡ fin.keys self.now.books.branches }
+    {
+        self.branches.keys()
     }
 
     /// The member of staff of this number.

@@ -1,6 +1,6 @@
-use Rattle.std.proofs.Common.{◌≡◌, ◌∙◌, ◌+◌, ◌≤◌, ap, arith, rules}
+use Rattle.std.proofs.Common.{◌≡◌, ◌∙◌, ap, arith, rules}
 use Rattle.std.specs.Option.{option_to_list}
-use Rattle.dh_days.specs.Days.{month_of_day, plus_months}
+use Rattle.dh_days.specs.Days.{month_of_day}
 use Rattle.dh_leases.proofs.DueIn.{its_due, none_after, none_before}
 use Rattle.dh_leases.proofs.charges.due_in.Goals as goal
 
