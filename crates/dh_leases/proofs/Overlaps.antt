@@ -1,0 +1,50 @@
+-- Overlap by the starts and the ends.
+use Rattle.std.proofs.Common.{◌≡◌, ℕ, ◌<◌, ◌≤◌, Bool, true, ◌&&◌, nat_eq, nat_lt, arith}
+use Rattle.std.specs.Cmp.Lexicographic.{pointwise}
+use Rattle.std.proofs.lemmas.Bool.{and_from, and_parts}
+use Rattle.std.proofs.lemmas.Bool.Decides.{nat_tests, same_from_decides}
+use Rattle.dh_days.specs.Days.{IsDay, plus_months}
+use Rattle.dh_days.proofs.DayMonths.{more_months_later, no_month_later}
+use Rattle.dh_types.specs.declared.lease.LeaseTerms.{LeaseTerms}
+use Rattle.dh_types.proofs.SameValues.{texts}
+use Rattle.dh_model.specs.Leases.{end_of, overlap}
+use Rattle.dh_model.proofs.LeaseLemmas.{overlap_is_by_ends}
+
+-- a start lies before the end
+pub starts_before : (start months : ℕ) → IsDay start → 1 ≤ months → start < plus_months start months
+starts_before start months is some =
+    let first = no_month_later start is in
+    let more = more_months_later start 0 months (omega arith) in
+    omega (arith, first, more)
+
+below : (m n : ℕ) → nat_lt m n ≡ true → m < n
+below m n h = grind (arith, nat_tests)
+
+of_below : (m n : ℕ) → m < n → nat_lt m n ≡ true
+of_below m n h = grind (arith, nat_tests)
+
+-- of one property, the one starts before the other's end, and the other before the one's
+abbrev pub by_ends : LeaseTerms → LeaseTerms → Bool
+by_ends lease other = (pointwise nat_eq lease.property other.property && nat_lt lease.start (end_of other)) && nat_lt other.start (end_of lease)
+
+abbrev ByEnds : LeaseTerms → LeaseTerms → Type 0
+ByEnds lease other = (lease.property ≡ other.property) × (lease.start < end_of other) × (other.start < end_of lease)
+
+tested : (lease other : LeaseTerms) → by_ends lease other ≡ true → ByEnds lease other
+tested lease other h =
+    let parts = and_parts (pointwise nat_eq lease.property other.property && nat_lt lease.start (end_of other)) (nat_lt other.start (end_of lease)) h in
+    let first = and_parts (pointwise nat_eq lease.property other.property) (nat_lt lease.start (end_of other)) parts.0 in
+    ((texts lease.property other.property).0 first.0, below lease.start (end_of other) first.1, below other.start (end_of lease) parts.1)
+
+of_tested : (lease other : LeaseTerms) → ByEnds lease other → by_ends lease other ≡ true
+of_tested lease other h =
+    and_from (pointwise nat_eq lease.property other.property && nat_lt lease.start (end_of other)) (nat_lt other.start (end_of lease))
+    (and_from (pointwise nat_eq lease.property other.property) (nat_lt lease.start (end_of other)) ((texts lease.property other.property).1 h.0) (of_below lease.start (end_of other) h.1))
+    (of_below other.start (end_of lease) h.2)
+
+pub overlap_by_ends : (lease other : LeaseTerms) → IsDay lease.start → IsDay other.start → lease.start < end_of lease → other.start < end_of other
+    → overlap lease other ≡ by_ends lease other
+overlap_by_ends lease other s t p q =
+    same_from_decides {P = ByEnds lease other} (overlap lease other) (by_ends lease other)
+    (overlap_is_by_ends lease other s t p q)
+    (tested lease other, of_tested lease other)
