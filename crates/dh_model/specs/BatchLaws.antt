@@ -1,16 +1,15 @@
 -- What the definitions of rent runs owe each other.
-use Rattle.std.specs.Prelude.{◌≡◌, ◌≤◌, ◌<◌, ℕ, ◌+◌, List, Some, nat_eq}
+use Rattle.std.specs.Prelude.{◌≡◌, ◌≤◌, ◌<◌, ℕ, ◌+◌, List, nat_eq}
 use Rattle.std.specs.List.{IsAmong, count_by}
-use Rattle.std.specs.FinMap.{get, keys}
-use Rattle.dh_types.specs.declared.lease.Lease.{Lease}
+use Rattle.std.specs.FinMap.{keys}
 use Rattle.dh_types.specs.declared.lease.Charge.{Charge}
-use Rattle.dh_model.specs.Books.{Books}
+use Rattle.dh_model.specs.Books.{Books, StandUnderTheirNumbers}
 use Rattle.dh_model.specs.Runs.{batch_of, batches, batches_before, batches_of_branch, begun_branches, dues_of_branch, posted_of_branch}
 use Rattle.dh_model.specs.Rules.{ArePosted}
 
--- leases stand under their numbers
+-- the books' leases stand under their numbers
 abbrev pub AreNumbered : Books → Type 0
-AreNumbered books = (number : ℕ) (lease : Lease) → get books.leases number ≡ Some lease → lease.terms.number ≡ number
+AreNumbered books = StandUnderTheirNumbers books.leases
 
 module _ (size : ℕ) where
   -- no batch has more charges than the size

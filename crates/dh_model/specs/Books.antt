@@ -1,9 +1,9 @@
 -- What an agency has on its books, apart from how it is kept: rows by their keys, and no order.
-use Rattle.std.specs.Prelude.{ℕ, List, ◌++◌, map, Option, None}
+use Rattle.std.specs.Prelude.{◌≡◌, ℕ, List, ◌++◌, map, Option, Some, None}
 use Rattle.std.specs.declared.cmp.Ordering.{Ordering}
 use Rattle.std.specs.Ordering.{nat_cmp, ordering_then}
 use Rattle.std.specs.Cmp.Lexicographic.{slice_cmp}
-use Rattle.std.specs.FinMap.{FinMap, empty, entries, from_entries}
+use Rattle.std.specs.FinMap.{FinMap, empty, entries, from_entries, get}
 use Rattle.dh_types.specs.declared.branch.Branch.{Branch}
 use Rattle.dh_types.specs.declared.staff.Staff.{Staff}
 use Rattle.dh_types.specs.declared.owner.Owner.{Owner}
@@ -78,6 +78,10 @@ empty_books month = record {
 
 abbrev pub start : ℕ → State
 start month = record { books = empty_books month; open_run = None }
+
+-- each lease stands under its number
+abbrev pub StandUnderTheirNumbers : FinMap nat_cmp Lease → Type 0
+StandUnderTheirNumbers leases = (number : ℕ) (lease : Lease) → get leases number ≡ Some lease → lease.terms.number ≡ number
 
 -- the map with these rows under their keys, in the place of those that have the same
 abbrev pub with_rows : {K X : Type 0} {R : K → K → Ordering} → (X → K) → List X → FinMap R X → FinMap R X
