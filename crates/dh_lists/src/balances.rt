@@ -13,6 +13,7 @@ fn charged(books: &Books, lease: LeaseNo) -> u128
     ensures range { result ≤ 999999 * 2 ^ 64 }
 {
     let charges = books.charges();
+    // No more than this many, so that their sum fits.
     let _count = charges.len();
     let mut sum = 0u128;
     for charge in charges {
@@ -29,6 +30,7 @@ fn rent_paid(books: &Books, lease: LeaseNo) -> u128
     ensures range { result ≤ 99999999 * 2 ^ 64 }
 {
     let receipts = books.receipts();
+    // No more than this many, so that their sum fits.
     let _count = receipts.len();
     let mut sum = 0u128;
     for receipt in receipts {
