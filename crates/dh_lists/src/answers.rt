@@ -5,7 +5,6 @@ ghost use Rattle.std.specs.FinMap as fin;
 ghost use Rattle.dh_types.specs.declared.reply.Refusal.TheVariants.{RunOpen};
 ghost use Rattle.dh_types.specs.Reports.{report_of};
 ghost use Rattle.dh_model.specs.Answers.{matching_report, report};
-ghost use Rattle.dh_lists.specs.Debtors.{ClientsAreThere};
 
 use crate::{arrears, branches, matching, run_report, statement, vacant};
 use dh_books::Books;
@@ -34,7 +33,6 @@ fn open_refusal(books: &Books) -> Option<Refusal>
 /// What the books answer to the question. While a run is open, `statement`, `arrears` and `run` are refused 10 with its
 /// month. It fails where memory runs out.
 pub fn answer(alloc: Global, books: &Books, question: Question) -> Result<Answer, AllocError>
-    requires { ClientsAreThere books.now.books }
     ensures { IfOk result (λ answer. report_of answer ≡ report books.now question) }
 {
     match question {

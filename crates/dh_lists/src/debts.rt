@@ -1,26 +1,25 @@
 //! The rent that is owed at a branch.
 
-ghost use Rattle.std.specs.Prelude.{◌≡◌, ◌&&◌, true, pos, int_lt, IfOk};
+ghost use Rattle.std.specs.Prelude.{◌≡◌, ◌&&◌, true, pos, int_lt, IfOk, option_map};
 ghost use Rattle.std.specs.FinMap as fin;
 ghost use Rattle.dh_types.specs.Reports.{report_of};
 ghost use Rattle.dh_model.specs.Answers as answers;
-ghost use Rattle.dh_model.specs.Answers.{arrears, debt, debts, name_of, owed};
-ghost use Rattle.dh_model.specs.Rules.{IsThere};
+ghost use Rattle.dh_model.specs.Answers.{arrears, debt, debts, owed};
 ghost use Rattle.dh_model.specs.Runs.{is_property_of};
-ghost use Rattle.dh_lists.specs.Debtors.{ClientsAreThere};
 
 use crate::accounts::Accounts;
 use dh_books::Books;
 use dh_types::{Answer, Arrears, Balance, Debt, Id, Lease, Refusal, Text60};
 use std::alloc::{AllocError, Global};
 
-// The name of the client of this number.
-fn name_of(alloc: Global, books: &Books, client: &Id) -> Result<Text60, AllocError>
-    requires { IsThere books.now.books.clients client.now }
-    ensures { IfOk result (λ name. name ≡ name_of books.now.books (fin.get books.now.books.clients client.now)) }
+// The name of the client of this number, where he is in the books.
+fn name_of(alloc: Global, books: &Books, client: &Id) -> Result<Option<Text60>, AllocError>
+    ensures { IfOk result (λ name. name ≡ option_map (λ client. client.name) (fin.get books.now.books.clients client.now)) }
 {
-    let client = books.client(client).unwrap();
-    client.name.try_clone(alloc)
+    match books.client(client) {
+        Some(client) => Ok(Some(client.name.try_clone(alloc)?)),
+        None => Ok(None),
+    }
 }
 
 // Whether the lease is one of the branch's properties.
@@ -42,8 +41,7 @@ fn is_debt(books: &Books, lease: &Lease, branch: &Id, balance: Balance) -> bool
 
 // The lease with its client and its balance.
 fn debt(alloc: Global, books: &Books, lease: &Lease, balance: Balance) -> Result<Debt, AllocError>
-    requires balance { balance ≡ answers.balance books.now.books lease.now.terms.number }
-    requires client { IsThere books.now.books.clients lease.now.terms.client }
+    requires { balance ≡ answers.balance books.now.books lease.now.terms.number }
     ensures { IfOk result (λ it. it ≡ debt books.now.books lease.now) }
 {
     Ok(Debt {
@@ -56,7 +54,6 @@ fn debt(alloc: Global, books: &Books, lease: &Lease, balance: Balance) -> Result
 
 // The debts at the branch, rising by lease, and their sum.
 fn arrears_of(alloc: Global, books: &Books, branch: &Id) -> Result<Arrears, AllocError>
-    requires { ClientsAreThere books.now.books }
     ensures debts { IfOk result (λ arrears. arrears.debts.items ≡ debts books.now.books branch.now) }
     ensures total { IfOk result (λ arrears. arrears.total ≡ owed books.now.books arrears.debts.items) }
 {
@@ -82,7 +79,6 @@ fn arrears_of(alloc: Global, books: &Books, branch: &Id) -> Result<Arrears, Allo
 /// in pence, and the sum of these; refused 2 with field 3 where no branch has the number. It fails where memory runs
 /// out.
 pub fn arrears(alloc: Global, books: &Books, branch: &Id) -> Result<Answer, AllocError>
-    requires { ClientsAreThere books.now.books }
     ensures { IfOk result (λ answer. report_of answer ≡ arrears books.now.books branch.now) }
 {
     if books.branch(branch).is_none() {

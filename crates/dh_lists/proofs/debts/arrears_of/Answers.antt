@@ -39,7 +39,6 @@ loop-lease-init c =
       few = omega (arith, c.new-debts.ensures.len);
       above = λ lease h. omega (arith, c.new-debts.ensures.len);
       rising = subst (Rises (Lesser number_of)) (sym all) (leases_rise books c.leases_are_numbered.ensures);
-      known = λ lease h. c.requires lease (is_among _ lease (subst (λ leases. Among leases lease) all h));
     }
 
 pub loop-lease-preserved-then-is_debt : goal.loop-lease-preserved-then-is_debt
@@ -61,7 +60,6 @@ loop-lease-preserved-then-is_debt c =
       few = omega (arith, c.loop-lease.invariant.above lease (is_here number_of lease _ _ front), c.key-number.ensures, c.number-most.ensures.range, c.in_ok-push.ensures.len);
       above = above_more number_of lease _ _ front c.loop-lease.invariant.rising _ _ (c.loop-lease.invariant.above lease (is_here number_of lease _ _ front)) (omega (arith, c.in_ok-push.ensures.len));
       rising = rest_rises number_of lease _ _ front c.loop-lease.invariant.rising;
-      known = λ other h. c.loop-lease.invariant.known other (is_later number_of lease _ _ front other h);
     }
 
 pub loop-lease-preserved : goal.loop-lease-preserved
@@ -80,5 +78,4 @@ loop-lease-preserved c =
       few = inv.few;
       above = λ other h. inv.above other (is_later number_of lease _ _ front other h);
       rising = rest_rises number_of lease _ _ front inv.rising;
-      known = λ other h. inv.known other (is_later number_of lease _ _ front other h);
     }

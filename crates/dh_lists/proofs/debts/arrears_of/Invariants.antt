@@ -3,7 +3,6 @@ use Rattle.std.specs.List.{filter}
 use Rattle.std.specs.FinMap as fin
 use Rattle.dh_types.specs.declared.lease.Lease.{Lease}
 use Rattle.dh_model.specs.Answers.{balance, debt, debts, owed}
-use Rattle.dh_model.specs.Rules.{IsThere}
 use Rattle.dh_model.specs.Runs.{is_property_of}
 use Rattle.dh_model.proofs.Among.{Among}
 use Rattle.dh_model.proofs.BranchDues.{number_of}
@@ -21,5 +20,4 @@ invariant-loop-lease l = record {
   few : vec_len l.debts ≤ 100000000;
   above : (lease : Lease) → Among l.lease-iterator lease → vec_len l.debts ≤ lease.terms.number;
   rising : Rises (Lesser number_of) l.lease-iterator;
-  known : (lease : Lease) → Among l.lease-iterator lease → IsThere l.books.books.clients lease.terms.client;
 }
