@@ -1,8 +1,5 @@
 //! What is owed on leases.
 
-ghost use Rattle.std.specs.Prelude.{◌≡◌, true};
-ghost use Rattle.dh_lists.specs.Debtors.{ClientsAreThere};
-
 use super::{base, branch, charge, client, lease, property};
 use crate::{arrears, balance, statement};
 use dh_books::Books;
@@ -62,15 +59,6 @@ pub(crate) fn charged(alloc: Global) -> Result<Books, Fail> {
     Ok(books)
 }
 
-// Whether the client of each lease is in the books.
-pub(crate) fn clients_are_there(books: &Books) -> bool
-    ensures { result ≡ true → ClientsAreThere books.now.books }
-{
-    books
-        .leases()
-        .all(|lease| books.client(&lease.terms.client).is_some())
-}
-
 #[test]
 fn balances_are_charges_less_rent(rt: HostRuntime) -> Result<(), Fail> {
     let books = charged(rt.alloc())?;
@@ -107,7 +95,11 @@ fn a_statement_has_charges_and_receipts(rt: HostRuntime) -> Result<(), Fail> {
 
 fn debt_text(alloc: Global, debt: &Debt) -> Result<String, Fail> {
     let (lease, client) = (debt.lease.number(), debt.client);
-    let (pence, name) = (debt.balance.pence(), debt.name.as_str());
+    let name = match &debt.name {
+        Some(name) => name.as_str(),
+        None => "nobody",
+    };
+    let pence = debt.balance.pence();
     Ok(format!(in alloc; "{lease} {client} {pence} {name}")?)
 }
 
@@ -117,7 +109,6 @@ fn arrears_are_those_of_the_branch(rt: HostRuntime) -> Result<(), Fail> {
     let mut books = charged(alloc)?;
     books.put_lease(lease("12", "C002", "P102", "2025-08-01")?)?;
     books.put_charge(charge("12", 0, "2025-08-01", "1.00")?)?;
-    assert!(rt; clients_are_there(&books));
     for (number, want, total) in [
         ("B001", "12 C002 100 Ian Poe", 130100),
         ("B002", "9 C002 37500 Ian Poe", 37500),
