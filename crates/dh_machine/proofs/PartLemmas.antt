@@ -28,7 +28,7 @@ use Rattle.dh_books.proofs.Orders.{text_ties, text_total}
 use Rattle.dh_leases.proofs.DueIn.{its_due, none_after, none_before}
 
 -- of one lease's dues a month has one at most
-at_most_one : (lease : Lease) (month : ℕ) → length (dues_among (lease ∷ []) month) ≤ 1
+pub at_most_one : (lease : Lease) (month : ℕ) → length (dues_among (lease ∷ []) month) ≤ 1
 at_most_one lease month =
     let first = month_of_day lease.terms.start in
     elim (cases_lt month first) [
@@ -42,7 +42,7 @@ at_most_one lease month =
       ]
     ]
 
-dues_of_two : (xs ys : List Lease) (month : ℕ) → dues_among (xs ++ ys) month ≡ dues_among xs month ++ dues_among ys month
+pub dues_of_two : (xs ys : List Lease) (month : ℕ) → dues_among (xs ++ ys) month ≡ dues_among xs month ++ dues_among ys month
 dues_of_two xs ys month =
     ap (filter (λ charge. nat_eq charge.month month)) (flat_map-append dues_of xs ys) ∙ filter-append (λ charge. nat_eq charge.month month) (flat_map dues_of xs) (flat_map dues_of ys)
 
@@ -172,3 +172,7 @@ pub place_in_books : (books : Books) → AreNumbered books → (done rest : List
 place_in_books books are done rest lease is =
     let h = bounded done lease rest 0 (subst (Rises (Lesser number_of)) is (leases_rise books are)) (λ other a. omega arith) in
     omega (arith, h)
+
+pub one_due_more : (leases : List Lease) (lease : Lease) (charge : Charge) (month : ℕ) → charge ∷ [] ≡ dues_among (lease ∷ []) month
+    → dues_among leases month ++ charge ∷ [] ≡ dues_among (leases ++ lease ∷ []) month
+one_due_more leases lease charge month its = ap (λ cs. dues_among leases month ++ cs) its ∙ sym (dues_of_two leases (lease ∷ []) month)

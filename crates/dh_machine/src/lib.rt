@@ -3,6 +3,7 @@
 
 mod batching;
 mod parts;
+mod posting;
 
 pub use batching::{BATCH_SIZE, batches};
 

@@ -63,7 +63,7 @@ fn charged_parts(
     books.leases_are_numbered();
     let mut parts = BTreeMap::new(alloc);
     for lease in books.leases() {
-        let number = lease.terms.number.number();
+        let _number = lease.terms.number.number();
         let Some(charge) = due_in(lease, month.month()) else {
             continue;
         };

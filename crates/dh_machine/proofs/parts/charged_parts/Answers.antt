@@ -19,12 +19,12 @@ with_charge-requires-clause-few c =
     let k = c.in-Some-property.property.now.branch in
     let done = map deref c.loop-lease.yielded in
     let is = c.unwrap_or-part.ensures ∙ ap (λ o. unwrap_or o c.without_charges.result) (c.copied-found.ensures ∙ c.get.ensures.value)
-        ∙ ap (unwrap_or (tree.get text_cmp c.loop-lease.parts k)) c.without_charges.ensures ∙ c.loop-lease.invariant.rows k in
+    ∙ ap (unwrap_or (tree.get text_cmp c.loop-lease.parts k)) c.without_charges.ensures ∙ c.loop-lease.invariant.rows k in
     let count = ap (λ (p : Part). p.count) is in
     let few = few_so_far b.properties c.args.month done k in
     let all = sym (c.into_iter-lease-iterator.ensures.into_iter_gives ∙ c.leases-lease-items.ensures)
-        ∙ rest_so_far deref c.loop-lease.yielded _ _ c.loop-lease.yielded_by
-        ∙ ap (λ rest. done ++ rest) (rest_more deref _ _ _ c.in-Some.lease c.in-Some.is c.next.ensures.steps) in
+    ∙ rest_so_far deref c.loop-lease.yielded _ _ c.loop-lease.yielded_by
+    ∙ ap (λ rest. done ++ rest) (rest_more deref _ _ _ c.in-Some.lease c.in-Some.is c.next.ensures.steps) in
     let place = place_in_books b c.leases_are_numbered.ensures done _ c.in-Some.lease.now all in
     omega (arith, count, few, place, c.number-number.ensures.value, c.number-number.ensures.range.1)
 
@@ -32,7 +32,7 @@ pub with_charge-requires-clause-small : goal.with_charge-requires-clause-small
 with_charge-requires-clause-small c =
     let k = c.in-Some-property.property.now.branch in
     let is = c.unwrap_or-part.ensures ∙ ap (λ o. unwrap_or o c.without_charges.result) (c.copied-found.ensures ∙ c.get.ensures.value)
-        ∙ ap (unwrap_or (tree.get text_cmp c.loop-lease.parts k)) c.without_charges.ensures in
+    ∙ ap (unwrap_or (tree.get text_cmp c.loop-lease.parts k)) c.without_charges.ensures in
     let count = ap (λ (p : Part). p.count) is in
     let total = ap (λ (p : Part). p.total) is in
     omega (arith, count, total, c.loop-lease.invariant.small k)
@@ -46,7 +46,7 @@ loop-lease-preserved c =
     let done = map deref c.loop-lease.yielded in
     let part = c.with_charge.result in
     let read = c.unwrap_or-part.ensures ∙ ap (λ o. unwrap_or o c.without_charges.result) (c.copied-found.ensures ∙ c.get.ensures.value)
-        ∙ ap (unwrap_or (tree.get text_cmp c.loop-lease.parts k)) c.without_charges.ensures in
+    ∙ ap (unwrap_or (tree.get text_cmp c.loop-lease.parts k)) c.without_charges.ensures in
     let count = ap (λ (p : Part). p.count) read in
     let total = ap (λ (p : Part). p.total) read in
     let charge = c.in-Some-due_in.charge in
