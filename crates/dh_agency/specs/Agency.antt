@@ -6,8 +6,8 @@ use Rattle.sqlite.specs.State.{HasCleanDisk}
 use Rattle.sqlite.specs.Held.{state}
 use Rattle.sqlite_trees.specs.View.{doubt}
 use Rattle.dh_types.specs.declared.command.Command.{Command}
-use Rattle.dh_rules.specs.Books.{State}
-use Rattle.dh_rules.specs.Machine.{step}
+use Rattle.dh_model.specs.Books.{State}
+use Rattle.dh_schema.specs.Known.{known_step}
 use Rattle.dh_schema.specs.Store as store
 use Rattle.dh_schema.specs.Store.{IsReady, tables}
 use Rattle.dh_agency.specs.Seat.{Seat}
@@ -41,7 +41,7 @@ Leaves g a P = store.Leaves (shown_by g a) P
 
 -- The state before the command, or the one after it.
 abbrev pub IsBeforeOrAfter : State → Command → State → Type 0
-IsBeforeOrAfter before command left = (left ≡ before) ⊎ (left ≡ (step before command).0)
+IsBeforeOrAfter before command left = (left ≡ before) ⊎ (left ≡ (known_step before command).0)
 
 -- Between calls an agency that has not stopped has sound tables, which are the last commit.
 abbrev pub IsInOrder : {S : Type 0} → Ghosts S → Seat S → Type 0

@@ -4,8 +4,8 @@ ghost use Rattle.std.specs.Prelude.{◌≡◌, true, false, IfOk, IfErr, OnOk, O
 ghost use Rattle.sqlite.specs.State.{HasCleanDisk};
 ghost use Rattle.sqlite.specs.Held.{state};
 ghost use Rattle.dh_types.specs.Reports.{report_of};
-ghost use Rattle.dh_rules.specs.Machine.{step, report};
 ghost use Rattle.dh_schema.specs.Faults.{IsFirstFault};
+ghost use Rattle.dh_schema.specs.Known.{known_report, known_step};
 ghost use Rattle.dh_schema.specs.Store.{IsReady};
 ghost use Rattle.dh_agency.specs.Agency.{IsClean, IsOpen, WasClean, LeavesItsTables, Leaves, IsBeforeOrAfter, machine};
 
@@ -53,7 +53,7 @@ impl<S: Alter> Agency<S> {
     /// Carries out the command and gives its reply; a refusal is a reply and changes nothing. At fault 21 or 22 the
     /// command happened or not, and the agency has stopped; where it had stopped, fault 23.
     pub fn step(&mut self, alloc: Global, command: &Command) -> Result<Reply, Fault>
-        ensures said { IsClean S.Store self.new → IfOk result (λ reply. step (machine S.Store self.old) command.now ≡ (machine S.Store self.new, reply)) }
+        ensures said { IsClean S.Store self.new → IfOk result (λ reply. known_step (machine S.Store self.old) command.now ≡ (machine S.Store self.new, reply)) }
         ensures left { IsClean S.Store self.new → OnOk result (LeavesItsTables S.Store self.new) }
         ensures crash { IsClean S.Store self.new → self.old.is_stopped ≡ false → Leaves S.Store self.new (IsBeforeOrAfter (machine S.Store self.old) command.now) }
         ensures undone { IsClean S.Store self.new → IsOpen S.Store self.new → OnErr result (machine S.Store self.new ≡ machine S.Store self.old) }
@@ -77,7 +77,7 @@ impl<S: Alter> Agency<S> {
 
     /// Answers the question and changes nothing. At fault 21 or 22 the agency has stopped; where it had stopped, fault 23.
     pub fn show(&mut self, alloc: Global, question: Question) -> Result<Answer, Fault>
-        ensures said { IsClean S.Store self.new → IfOk result (λ answer. report_of answer ≡ report (machine S.Store self.old) question) }
+        ensures said { IsClean S.Store self.new → IfOk result (λ answer. report_of answer ≡ known_report (machine S.Store self.old) question) }
         ensures same { IsClean S.Store self.new → OnOk result (machine S.Store self.new ≡ machine S.Store self.old) }
         ensures left { IsClean S.Store self.new → OnOk result (LeavesItsTables S.Store self.new) }
         ensures crash { IsClean S.Store self.new → self.old.is_stopped ≡ false → Leaves S.Store self.new (λ left. left ≡ machine S.Store self.old) }

@@ -4,7 +4,7 @@ ghost use Rattle.std.specs.Prelude.{◌≡◌, ◌≢◌, ◌⊎◌, ◌↔◌, 
 ghost use Rattle.std.specs.Io.KnownBytes.{Appends};
 ghost use Rattle.dh_types.specs.Output.{Puts};
 ghost use Rattle.dh_types.specs.Replies.{fault_text};
-ghost use Rattle.dh_rules.specs.Books.{start};
+ghost use Rattle.dh_model.specs.Books.{start};
 ghost use Rattle.dh_agency.specs.Agency.{IsClean, machine};
 ghost use Rattle.dh_lines.specs.Session.{lines_from, newline, records_of, refused_in};
 ghost use Rattle.dh_desk.specs.Statuses.{status_code};

@@ -2,7 +2,7 @@
 use Rattle.std.proofs.Common.{◌≡◌, ◌⊎◌, sym, subst, refl, inl}
 use Rattle.sqlite.specs.Store.{Ghosts}
 use Rattle.dh_schema.specs.Store.{AreTables}
-use Rattle.dh_rules.specs.Books.{State}
+use Rattle.dh_model.specs.Books.{State}
 use Rattle.dh_agency.specs.Seat.{Seat}
 use Rattle.dh_agency.specs.Agency.{Leaves, LeavesItsTables, machine}
 use Rattle.dh_lines.specs.Batch.{LeavesEither}

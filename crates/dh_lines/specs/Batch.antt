@@ -3,7 +3,7 @@ use Rattle.std.specs.Prelude.{◌≡◌, ◌⊎◌, ◌≤◌, ℕ, ◌+◌, Boo
 use Rattle.std.specs.Io.KnownBytes.{Appends}
 use Rattle.sqlite.specs.Store.{Ghosts}
 use Rattle.dh_types.specs.declared.reply.Fault.{Fault}
-use Rattle.dh_rules.specs.Books.{State}
+use Rattle.dh_model.specs.Books.{State}
 use Rattle.dh_schema.specs.Faults.{IsFirstFault}
 use Rattle.dh_agency.specs.Seat.{Seat}
 use Rattle.dh_agency.specs.Agency.{IsOpen, Leaves, machine}

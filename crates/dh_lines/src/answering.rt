@@ -3,8 +3,7 @@
 ghost use Rattle.std.specs.Prelude.{◌≡◌, ◌⊎◌, ℕ, take, true, false, IfErr};
 ghost use Rattle.std.specs.Io.KnownBytes.{Appends};
 ghost use Rattle.csv.specs.Records.{fields_of};
-ghost use Rattle.dh_types.specs.Replies.{is_refusal};
-ghost use Rattle.dh_rules.specs.Machine.{step, report};
+ghost use Rattle.dh_schema.specs.Known.{known_report, known_step};
 ghost use Rattle.dh_agency.specs.Agency.{IsClean, LeavesItsTables, WasClean, machine};
 ghost use Rattle.dh_lines.specs.Session.{answered, fault_line, replied, reported};
 ghost use Rattle.dh_lines.specs.Batch.{Answers, IsAgencyFault, IsFirst, LeavesEither};
@@ -15,7 +14,7 @@ use crate::reading::read_line;
 use crate::replies::{put_answer_line, put_fault_line, put_refused_line, put_reply_line};
 use csv::ByteRecord;
 use dh_agency::Agency;
-use dh_types::{Answer, Command, Fault, Question, Reply};
+use dh_types::{Answer, Command, Fault, Question};
 use sqlite::Alter;
 use std::alloc::Global;
 use std::io::Write;
@@ -29,12 +28,6 @@ pub fn end_by_fault<W: Write>(writer: &mut W, number: u64, fault: Fault) -> Batc
     BatchFault::Agency(fault)
 }
 
-fn is_refusal(reply: &Reply) -> bool
-    ensures { result ≡ is_refusal reply.now }
-{
-    matches!(reply, Reply::Refused(_))
-}
-
 fn answer_command<S: Alter, W: Write>(
     alloc: Global,
     agency: &mut Agency<S>,
@@ -42,8 +35,8 @@ fn answer_command<S: Alter, W: Write>(
     command: &Command,
     writer: &mut W,
 ) -> Result<bool, BatchFault>
-    ensures answers { IsClean S.Store agency.new → Answers S.Store agency.old agency.new (W.contents writer.old) (W.contents writer.new) number (replied (step (machine S.Store agency.old) command.now)) result }
-    ensures crash { IsClean S.Store agency.new → agency.old.is_stopped ≡ false → LeavesEither S.Store agency.new (machine S.Store agency.old) (step (machine S.Store agency.old) command.now).0 }
+    ensures answers { IsClean S.Store agency.new → Answers S.Store agency.old agency.new (W.contents writer.old) (W.contents writer.new) number (replied (known_step (machine S.Store agency.old) command.now)) result }
+    ensures crash { IsClean S.Store agency.new → agency.old.is_stopped ≡ false → LeavesEither S.Store agency.new (machine S.Store agency.old) (known_step (machine S.Store agency.old) command.now).0 }
     ensures left { IsClean S.Store agency.new → agency.new.is_stopped ≡ false → LeavesItsTables S.Store agency.new }
     ensures cause { agency.old.is_stopped ≡ false → IfErr result IsFirst }
     ensures stops { (agency.new.is_stopped ≡ agency.old.is_stopped) ⊎ (IsAgencyFault result × (agency.new.is_stopped ≡ true)) }
@@ -51,7 +44,7 @@ fn answer_command<S: Alter, W: Write>(
 {
     match agency.step(alloc, command) {
         Ok(reply) => {
-            let is_refused = is_refusal(&reply);
+            let is_refused = reply.is_refusal();
             put_reply_line(writer, number, reply)?;
             Ok(is_refused)
         }
@@ -66,7 +59,7 @@ fn answer_question<S: Alter, W: Write>(
     question: Question,
     writer: &mut W,
 ) -> Result<bool, BatchFault>
-    ensures answers { IsClean S.Store agency.new → Answers S.Store agency.old agency.new (W.contents writer.old) (W.contents writer.new) number (reported (machine S.Store agency.old) (report (machine S.Store agency.old) question)) result }
+    ensures answers { IsClean S.Store agency.new → Answers S.Store agency.old agency.new (W.contents writer.old) (W.contents writer.new) number (reported (machine S.Store agency.old) (known_report (machine S.Store agency.old) question)) result }
     ensures crash { IsClean S.Store agency.new → agency.old.is_stopped ≡ false → LeavesEither S.Store agency.new (machine S.Store agency.old) (machine S.Store agency.old) }
     ensures left { IsClean S.Store agency.new → agency.new.is_stopped ≡ false → LeavesItsTables S.Store agency.new }
     ensures cause { agency.old.is_stopped ≡ false → IfErr result IsFirst }

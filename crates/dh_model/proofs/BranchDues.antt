@@ -97,6 +97,7 @@ module _ (books : Books) (are : AreNumbered books) where
   under_number : (e : ℕ × Lease) → Among (entries books.leases) e → e.1.terms.number ≡ e.0
   under_number e a = are e.0 e.1 (got e a)
 
+  -- the leases of the books rise by number
   pub leases_rise : Rises (Lesser number_of) (values books.leases)
   leases_rise = rise_by_number (entries books.leases) sorted under_number
 

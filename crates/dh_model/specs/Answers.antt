@@ -1,5 +1,5 @@
 -- What each question is answered. A question changes nothing.
-use Rattle.std.specs.Prelude.{ℕ, ℤ, pos, ◌-ℤ◌, ◌+ℤ◌, Bool, not, ◌&&◌, nat_eq, nat_le, if◌then◌else◌, List, [], map, Option, Some, None, int_lt}
+use Rattle.std.specs.Prelude.{ℕ, ℤ, pos, ◌-ℤ◌, ◌+ℤ◌, Bool, not, ◌&&◌, nat_eq, nat_le, if◌then◌else◌, List, map, Option, Some, None, option_map, int_lt}
 use Rattle.std.specs.List.{filter, fold, list_any, sum_by}
 use Rattle.std.specs.Ordering.{nat_cmp}
 use Rattle.std.specs.FinMap.{FinMap, contains_key, from_entries, get, values}
@@ -55,12 +55,8 @@ module _ (books : Books) where
   abbrev pub balance : ℕ → ℤ
   balance lease = pos (total_of (charges_of lease)) -ℤ pos (rent_paid lease)
 
-  abbrev pub name_of : Option Client → List ℕ
-  name_of None = []
-  name_of (Some client) = client.name
-
   abbrev pub debt : Lease → Debt
-  debt lease = record { lease = lease.terms.number; client = lease.terms.client; balance = balance lease.terms.number; name = name_of (get books.clients lease.terms.client) }
+  debt lease = record { lease = lease.terms.number; client = lease.terms.client; balance = balance lease.terms.number; name = option_map (λ client. client.name) (get books.clients lease.terms.client) }
 
   -- the leases of the branch's properties on which rent is owed, rising by number
   abbrev pub debts : List ℕ → List Debt

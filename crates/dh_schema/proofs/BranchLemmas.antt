@@ -1,6 +1,6 @@
 -- A branch that was added.
-use Rattle.std.proofs.Common.{◌≡◌, ◌∙◌, ◌&&◌, ℕ, ℤ, List, [], ◌∷◌, length, ◌==◌, map, Bool, true, false, not, Ok, None, refl, sym, ap, ap₂, subst, IsPermutation}
-use Rattle.std.specs.List.{AllByRecursion, IsDistinct, list_all}
+use Rattle.std.proofs.Common.{◌≡◌, ◌∙◌, ◌&&◌, ℕ, List, [], ◌∷◌, length, ◌==◌, map, Bool, true, false, Ok, refl, sym, ap, ap₂, subst, IsPermutation}
+use Rattle.std.specs.List.{AllByRecursion, IsDistinct}
 use Rattle.std.specs.FinMap as map
 use Rattle.std.specs.Ordering.{eq_by_cmp, is_eq, nat_cmp}
 use Rattle.std.specs.Cmp.Lexicographic.{slice_cmp, nat_list_cmp_total}
@@ -19,21 +19,19 @@ use Rattle.sqlite_trees.specs.View.{is_int}
 use Rattle.sqlite_schema.specs.declared.schema.Constraint.TheVariants.{Unique}
 use Rattle.sqlite_schema.specs.Rules.{agree, clashes, equal, passes, Fits}
 use Rattle.sqlite.specs.Cast.{cast_row}
-use Rattle.sqlite.specs.Edit.{with_rowid, next_rowid, is_taken}
+use Rattle.sqlite.specs.Edit.{with_rowid, next_rowid}
 use Rattle.sqlite.specs.Rowids.TheVariants.{Chosen}
-use Rattle.sqlite.specs.Tree.{put_row}
 use Rattle.sqlite.specs.State.{State, Executes}
 use Rattle.dh_types.specs.declared.branch.Branch.{Branch}
-use Rattle.dh_rules.specs.Books as machine
-use Rattle.dh_rules.specs.Books.{text_cmp}
-use Rattle.dh_rules.specs.Machine.{changed}
-use Rattle.dh_rules.specs.declared.change.Change.TheVariants as change
+use Rattle.dh_model.specs.Books.{text_cmp}
+use Rattle.dh_model.specs.Machine.{changed}
+use Rattle.dh_model.specs.declared.rows.Change.TheVariants as change
 use Rattle.dh_rows.specs.Cells.{is_id_cell, is_text_cell, text_in}
 use Rattle.dh_rows.specs.BranchRows.{branch_row, branch_in, is_branch_row}
 use Rattle.dh_schema.specs.MetaTable.{meta_columns}
 use Rattle.dh_schema.specs.BranchTable.{branch, branch_columns, branch_rows}
 use Rattle.dh_schema.specs.Layout.{our_schema}
-use Rattle.dh_schema.specs.Tables.{tables_in, only_months, by_number, IsSound}
+use Rattle.dh_schema.specs.Tables.{books_over, tables_in, only_months, by_number, IsSound}
 use Rattle.dh_schema.proofs.Casting.{cast_null}
 use Rattle.dh_schema.proofs.Running.{and_first, and_second, not_true, put_fresh}
 use Rattle.dh_schema.proofs.Inserting.{inserts, Puts}
@@ -123,7 +121,7 @@ module _ (b : Branch) (grammar : is_branch_row (branch_row b) ≡ true) (old new
       (rw (map-map (λ (e : List ℕ × Branch). e.0) (λ (r : Row). by_number (branch_in (branch_columns r))) (old 1)) distinct) in
       let made : (trees : Trees) → map (λ r. by_number (branch_in (branch_columns r))) (trees 1) ≡ map (λ r. by_number (branch_in r)) (branch_rows trees) = λ trees. sym (map-map (λ (r : Row). by_number (branch_in r)) branch_columns (trees 1)) in
       let branches = ap (map.from_entries {R = text_cmp}) (sym (made new)) ∙ more ∙ ap (λ es. map.insert (map.from_entries {R = text_cmp} es) b.number b) (made old) in
-      ap₂ (λ bs months. let s : machine.State = record { books = record { branches = bs; first = (only_months months).first; next = (only_months months).next }; open_run = None } in s) branches months_same
+      ap₂ (λ bs months. books_over (only_months months) bs) branches months_same
 
 pub adds_branch : (old new : State) (b : Branch) (count : ℕ) → is_branch_row (branch_row b) ≡ true → old.now.schema ≡ our_schema → IsSound old.now.trees → Executes insert_branch (branch_row b) old new (Ok count)
     → (new.now.schema ≡ our_schema) × IsSound new.now.trees × (tables_in new.now.trees ≡ record (tables_in old.now.trees) { books = changed (change.Branch b) (tables_in old.now.trees).books })

@@ -1,13 +1,13 @@
 -- What a crash leaves, from what calls may commit.
-use Rattle.std.proofs.Common.{◌≡◌, inl, inr, true, IsTrue, ap, sym, subst, ◌∙◌, arith}
+use Rattle.std.proofs.Common.{◌≡◌, true, IsTrue, ap, sym, subst, ◌∙◌, arith}
 use Rattle.sqlite.specs.Tree.{Trees}
 use Rattle.sqlite.specs.Effect.{Database}
 use Rattle.sqlite.specs.State.{State, HasCleanDisk, Survives}
 use Rattle.sqlite.specs.Store.{Ghosts}
 use Rattle.sqlite.specs.Held.{Held, state}
-use Rattle.sqlite.proofs.StateLemmas.{survives_then, survives_weaker}
+use Rattle.sqlite.proofs.StateLemmas.{survives_then}
 use Rattle.sqlite.proofs.Callers.{survives_begin}
-use Rattle.dh_rules.specs.Books as machine
+use Rattle.dh_model.specs.Books as machine
 use Rattle.dh_schema.specs.Store.{AreTables, IsReady, Leaves, LeavesItsTables, tables}
 
 -- nothing is committed by either

@@ -1,5 +1,5 @@
 -- One more row that was read.
-use Rattle.std.proofs.Common.{◌≡◌, ◌∙◌, ◌+◌, ◌<◌, ◌||◌, ℕ, List, [], ◌∷◌, ◌++◌, length, map, take, get_or, slice_get, Bool, true, false, cond, Option, None, Some, refl, sym, ap, subst, arith}
+use Rattle.std.proofs.Common.{◌≡◌, ◌∙◌, ◌||◌, ℕ, List, [], ◌∷◌, ◌++◌, map, Bool, true, false, cond, Option, None, Some, refl, sym, ap}
 use Rattle.std.specs.List.{AllByRecursion, IsDistinct, list_any}
 use Rattle.std.specs.Ordering.{eq_by_cmp}
 use Rattle.std.specs.FinMap as map
@@ -11,9 +11,9 @@ use Rattle.std.proofs.lemmas.Map.Keys.{IsDistinct-push}
 use Rattle.sqlite_trees.proofs.ListLemmas.{map-map}
 use Rattle.sqlite_value.specs.Order.{Row}
 use Rattle.dh_types.specs.declared.branch.Branch.{Branch}
-use Rattle.dh_rules.specs.Books.{State, text_cmp}
-use Rattle.dh_rules.specs.Machine.{changed}
-use Rattle.dh_rules.specs.declared.change.Change.TheVariants as change
+use Rattle.dh_model.specs.Books.{State, text_cmp}
+use Rattle.dh_model.specs.Machine.{changed}
+use Rattle.dh_model.specs.declared.rows.Change.TheVariants as change
 use Rattle.dh_rows.specs.BranchRows.{branch_in, branch_row, is_branch_row}
 use Rattle.dh_schema.specs.Tables.{by_number}
 use Rattle.dh_schema.specs.Gathered.{AreBranches}

@@ -1,5 +1,5 @@
 -- What an INSERT of one row of values does, to any table without AUTOINCREMENT.
-use Rattle.std.proofs.Common.{◌≡◌, ◌≢◌, ◌/◌, ℕ, List, [], ◌∷◌, length, slice_get, Bool, cond, false, Some, None, Ok, refl, sym, ap, subst, ◌∙◌}
+use Rattle.std.proofs.Common.{◌≡◌, ◌≢◌, ℕ, List, [], ◌∷◌, cond, false, None, Ok, ap, subst, ◌∙◌}
 use Rattle.std.specs.List.{AllByRecursion}
 use Rattle.sqlite.specs.Order.{Row}
 use Rattle.sqlite.specs.Term.{Term}
@@ -12,13 +12,13 @@ use Rattle.sqlite_rules.specs.Action.{works}
 use Rattle.sqlite.specs.Edit.{edit_of, is_taken, put_all, with_rowid}
 use Rattle.sqlite.specs.Cast.{cast_row}
 use Rattle.sqlite.specs.Rowids.TheVariants.{Chosen, Above}
-use Rattle.sqlite.specs.Effect.{Database, value_rows}
+use Rattle.sqlite.specs.Effect.{Database}
 use Rattle.sqlite.specs.Does.{Tally, Does, AtPlace, OnRows}
-use Rattle.sqlite.specs.Rows.{Written, Task, stamped, rowids_for, count_of}
+use Rattle.sqlite.specs.Rows.{Written, rowids_for, count_of}
 use Rattle.sqlite.specs.Tree.{Trees, put_row}
 use Rattle.sqlite.specs.Listing.{understood}
-use Rattle.sqlite.specs.State.{State, mode_of, Writes, Executes}
-use Rattle.sqlite.proofs.Callers.{IsPlain, command_of, statement_of, runs_as, one_step}
+use Rattle.sqlite.specs.State.{State, mode_of, Executes}
+use Rattle.sqlite.proofs.Callers.{statement_of, runs_as, one_step}
 use Rattle.dh_schema.proofs.TextMeanings.{IsInsertText}
 use Rattle.dh_schema.proofs.Running.{went, same_value, not_true, and_first, no_count}
 use Rattle.sqlite_schema.specs.Rules.{Fits}

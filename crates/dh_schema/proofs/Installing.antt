@@ -1,20 +1,19 @@
 -- Tables that were just made.
-use Rattle.std.proofs.Common.{◌≡◌, ◌∙◌, true, false, IsTrue, None, List, [], ◌∷◌, map, refl, sym, ap, ap₂, subst}
+use Rattle.std.proofs.Common.{◌≡◌, ◌∙◌, true, false, List, [], ◌∷◌, map, sym, ap, ap₂, subst}
 use Rattle.std.specs.List.{IsDistinct}
 use Rattle.std.specs.FinMap as map
 use Rattle.sqlite_value.specs.Order.{Row}
 use Rattle.sqlite_trees.specs.Tree.{Trees}
 use Rattle.sqlite.specs.Effect.{Database}
 use Rattle.sqlite.specs.State.{State, Shows}
-use Rattle.dh_rules.specs.Books as machine
-use Rattle.dh_rules.specs.Books.{text_cmp}
+use Rattle.dh_model.specs.Books as machine
 use Rattle.dh_rows.specs.Months.{Months}
 use Rattle.dh_rows.specs.MetaRows.{meta_row, is_meta_row}
 use Rattle.dh_rows.specs.BranchRows.{branch_in}
 use Rattle.dh_schema.specs.MetaTable.{meta_rows}
 use Rattle.dh_schema.specs.BranchTable.{branch_columns}
 use Rattle.dh_schema.specs.Layout.{our_schema}
-use Rattle.dh_schema.specs.Tables.{tables_in, only_months, by_number, empty_over, IsSound}
+use Rattle.dh_schema.specs.Tables.{books_over, only_months, by_number, empty_over, IsSound}
 use Rattle.dh_schema.specs.Store.{AreTables, IsReady, tables}
 
 module _ (trees : Trees) (months : Months) (grammar : is_meta_row (meta_row months) ≡ true) (meta : meta_rows trees ≡ meta_row months ∷ []) (none : trees 1 ≡ []) where
@@ -29,7 +28,7 @@ module _ (trees : Trees) (months : Months) (grammar : is_meta_row (meta_row mont
   pub new_tables : AreTables (λ t. t ≡ empty_over months) trees
   new_tables = (
     sound,
-    ap₂ (λ (rows : List Row) (ms : List Row). let s : machine.State = record { books = record { branches = map.from_entries {R = text_cmp} (map (λ r. by_number (branch_in r)) (map branch_columns rows)); first = (only_months ms).first; next = (only_months ms).next }; open_run = None } in s)
+    ap₂ (λ (rows : List Row) (ms : List Row). books_over (only_months ms) (map.from_entries (map (λ r. by_number (branch_in r)) (map branch_columns rows))))
         none meta,
   )
 

@@ -1,5 +1,5 @@
 -- What was read is what the tables mean.
-use Rattle.std.proofs.Common.{◌≡◌, ◌∙◌, ℤ, List, [], ◌∷◌, length, map, Option, None, refl, sym, ap, ap₂, subst, arith, ℕ, IsPermutation}
+use Rattle.std.proofs.Common.{◌≡◌, ◌∙◌, List, [], ◌∷◌, map, refl, sym, ap, ap₂, subst, arith, ℕ, IsPermutation}
 use Rattle.std.specs.List.{IsDistinct}
 use Rattle.std.specs.Ordering.{eq_by_cmp}
 use Rattle.std.specs.FinMap as map
@@ -11,13 +11,12 @@ use Rattle.sqlite_value.specs.Order.{Row}
 use Rattle.sqlite_trees.specs.Tree.{Trees}
 use Rattle.sqlite.proofs.Callers.{one_permutation}
 use Rattle.dh_types.specs.declared.branch.Branch.{Branch}
-use Rattle.dh_rules.specs.Books.{State, text_cmp}
+use Rattle.dh_model.specs.Books.{State, text_cmp}
 use Rattle.dh_rows.specs.Months.{Months}
-use Rattle.dh_rows.specs.MetaRows.{meta_row, months_in}
-use Rattle.dh_rows.specs.BranchRows.{branch_in, is_branch_row}
+use Rattle.dh_rows.specs.MetaRows.{meta_row}
 use Rattle.dh_schema.specs.MetaTable.{meta_rows, only_version}
 use Rattle.dh_schema.specs.BranchTable.{branch_rows}
-use Rattle.dh_schema.specs.Tables.{tables_in, by_number, only_months, empty_over, HasValues}
+use Rattle.dh_schema.specs.Tables.{books_over, tables_in, only_months, empty_over, HasValues}
 use Rattle.dh_schema.specs.Gathered.{IsOnlyMeta, AreBranches}
 use Rattle.dh_schema.proofs.MapLemmas.{from_permutation}
 use Rattle.dh_schema.proofs.BranchLemmas.{all_moved}
@@ -58,4 +57,4 @@ module _ (trees : Trees) (metas rows : List Row) (read_meta : IsPermutation (met
         let distinct : IsDistinct (eq_by_cmp text_cmp) (map (λ (e : List ℕ × Branch). e.0) (map entry rows)) = rw (map-map (λ (e : List ℕ × Branch). e.0) entry rows) gathered.distinct in
         let same : map.from_entries {R = text_cmp} (map entry (branch_rows trees)) ≡ map.from_entries (map entry rows) =
         from_permutation nat_list_cmp_total exact_bytes (map entry rows) (map entry (branch_rows trees)) (IsPermutation-map entry rows (branch_rows trees) (IsPermutation-sym (branch_rows trees) rows read_branches)) distinct in
-        gathered.books ∙ ap₂ (λ bs (m : Months). let s : State = record { books = record { branches = bs; first = m.first; next = m.next }; open_run = None } in s) (sym same) (sym (ap only_months (meta_is months is)))
+        gathered.books ∙ ap₂ (λ bs (m : Months). books_over m bs) (sym same) (sym (ap only_months (meta_is months is)))

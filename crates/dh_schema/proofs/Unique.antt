@@ -1,8 +1,8 @@
 -- A row that was put in under a unique key of one text shares it with no other.
-use Rattle.std.proofs.Common.{◌≡◌, ◌∙◌, ◌&&◌, ◌||◌, not, ℕ, ℤ, List, [], ◌∷◌, map, Bool, true, false, Some, refl, sym, ap, IsPermutation, Less, Equal, Greater}
+use Rattle.std.proofs.Common.{◌≡◌, ◌∙◌, ◌&&◌, ℕ, ℤ, List, [], ◌∷◌, Bool, true, false, Some, refl, IsPermutation, Less, Equal, Greater}
 use Rattle.std.specs.declared.cmp.Ordering.{Ordering}
-use Rattle.std.specs.List.{AllByRecursion, list_any, list_all}
-use Rattle.std.specs.Ordering.{is_eq, is_ne, nat_cmp, eq_by_cmp}
+use Rattle.std.specs.List.{AllByRecursion, list_any}
+use Rattle.std.specs.Ordering.{is_eq, is_ne, nat_cmp}
 use Rattle.std.specs.Cmp.Lexicographic.{slice_cmp}
 use Rattle.std.proofs.lemmas.List.Sorted.{list_any-IsPermutation}
 use Rattle.sqlite.specs.declared.types.Value.{Value}
@@ -15,7 +15,7 @@ use Rattle.sqlite_trees.specs.View.{is_int}
 use Rattle.sqlite_sql.specs.Ops.{binary, is_true, from_truth}
 use Rattle.sqlite_schema.specs.Rules.{agree, clashes, differ, equal}
 use Rattle.sqlite.specs.Edit.{is_taken}
-use Rattle.dh_schema.proofs.Running.{or_left, or_right, not_other, and_first}
+use Rattle.dh_schema.proofs.Running.{or_left, or_right, not_other}
 
 told : (b : Bool) → is_true (from_truth (Some b)) ≡ b
 told true = refl

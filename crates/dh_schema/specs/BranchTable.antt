@@ -1,5 +1,5 @@
 -- branch: a row a branch, by its number.
-use Rattle.std.specs.Prelude.{ℕ, false, [], ◌∷◌, None, List, map, codes}
+use Rattle.std.specs.Prelude.{false, [], ◌∷◌, None, List, map, codes}
 use Rattle.sqlite_value.specs.Keys.{plain}
 use Rattle.sqlite_value.specs.Order.{Row, column}
 use Rattle.sqlite_trees.specs.Tree.{Trees}

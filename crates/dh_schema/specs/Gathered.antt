@@ -4,7 +4,7 @@ use Rattle.std.specs.List.{AllByRecursion, IsDistinct}
 use Rattle.std.specs.Ordering.{eq_by_cmp}
 use Rattle.std.specs.FinMap as map
 use Rattle.sqlite_value.specs.Order.{Row}
-use Rattle.dh_rules.specs.Books.{State, text_cmp}
+use Rattle.dh_model.specs.Books.{State, text_cmp}
 use Rattle.dh_rows.specs.Months.{Months}
 use Rattle.dh_rows.specs.BranchRows.{branch_in, is_branch_row}
 use Rattle.dh_rows.specs.MetaRows.{meta_row, is_meta_row}

@@ -5,4 +5,5 @@ pub mod Layout
 pub mod Tables
 pub mod Gathered
 pub mod Store
+pub mod Known
 pub mod Faults

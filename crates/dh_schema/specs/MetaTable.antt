@@ -1,5 +1,5 @@
 -- meta: one row with the version and the months.
-use Rattle.std.specs.Prelude.{ℕ, ℤ, false, [], ◌∷◌, Some, None, Option, List, map, codes}
+use Rattle.std.specs.Prelude.{ℤ, false, [], ◌∷◌, Some, None, Option, List, map, codes}
 use Rattle.sqlite_value.specs.declared.value.Value.{Value}
 use Rattle.sqlite_value.specs.declared.value.Value.TheVariants.{Int}
 use Rattle.sqlite_value.specs.Order.{Row, column}

@@ -1,9 +1,9 @@
 -- What a connection shows of the agency's tables, and what a crash may leave of them.
-use Rattle.std.specs.Prelude.{◌≡◌, ◌⊎◌, false, IsTrue, [], ◌∷◌}
+use Rattle.std.specs.Prelude.{◌≡◌, false, IsTrue, []}
 use Rattle.sqlite_schema.specs.declared.schema.Schema.{Schema}
 use Rattle.sqlite_trees.specs.Tree.{Trees}
 use Rattle.sqlite.specs.State.{State, Survives}
-use Rattle.dh_rules.specs.Books as machine
+use Rattle.dh_model.specs.Books as machine
 use Rattle.dh_schema.specs.Layout.{our_schema}
 use Rattle.dh_schema.specs.Tables.{tables_in, IsSound}
 

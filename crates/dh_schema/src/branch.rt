@@ -3,10 +3,10 @@
 ghost use Rattle.std.specs.Prelude.{◌≡◌, ◌⊎◌, true, [], map, IsPermutation, IfOk, OnOk, OnErr};
 ghost use Rattle.sqlite.specs.State.{HasCleanDisk, KeepsCommit, Survives, Shows, IsUnchanged, IsRolledBack};
 ghost use Rattle.sqlite.specs.Held.{state};
-ghost use Rattle.dh_rules.specs.Machine.{changed};
-ghost use Rattle.dh_rules.specs.declared.change.Change.TheVariants as change;
+ghost use Rattle.dh_model.specs.declared.rows.Change.TheVariants as change;
 ghost use Rattle.dh_schema.specs.BranchTable.{branch_rows};
 ghost use Rattle.dh_schema.specs.Layout.{meta_schema, our_schema};
+ghost use Rattle.dh_schema.specs.Known.{with_change};
 ghost use Rattle.dh_schema.specs.Store.{IsWriting, IsWritingOn, HasTables, tables};
 
 use dh_rows::Record;
@@ -38,7 +38,7 @@ pub fn insert_branch<S: Alter>(
     requires { HasCleanDisk (state S.Store tx.old.conn.now) → IsWriting (state S.Store tx.old.conn.now) }
     ensures same_reference { tx.new.conn.ghost_name ≡ tx.old.conn.ghost_name }
     ensures added { HasCleanDisk (state S.Store tx.new.conn.now) → OnOk result (IsWriting (state S.Store tx.new.conn.now)
-        × (tables (state S.Store tx.new.conn.now) ≡ record (tables (state S.Store tx.old.conn.now)) { books = changed (change.Branch branch.now) (tables (state S.Store tx.old.conn.now)).books })) }
+        × (tables (state S.Store tx.new.conn.now) ≡ with_change (change.Branch branch.now) (tables (state S.Store tx.old.conn.now)))) }
     ensures shown { HasCleanDisk (state S.Store tx.new.conn.now) → OnOk result (Shows (state S.Store tx.old.conn.now) (state S.Store tx.new.conn.now) (state S.Store tx.new.conn.now).now (state S.Store tx.old.conn.now).committed true) }
     ensures undone { HasCleanDisk (state S.Store tx.new.conn.now) → OnErr result (IsUnchanged (state S.Store tx.old.conn.now) (state S.Store tx.new.conn.now) ⊎ IsRolledBack (state S.Store tx.old.conn.now) (state S.Store tx.new.conn.now)) }
     ensures crash { Survives (state S.Store tx.old.conn.now) (state S.Store tx.new.conn.now) (λ _. ⊥) }

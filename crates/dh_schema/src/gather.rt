@@ -9,8 +9,8 @@ ghost use Rattle.dh_schema.specs.Gathered.{AreBranches, IsOnlyMeta};
 ghost use Rattle.dh_schema.specs.Faults.{IsLoadFault};
 
 use crate::fault::LoadFault;
+use dh_books::Books;
 use dh_rows::{Meta, Record};
-use dh_rules::Books;
 use dh_types::{Branch, Fault};
 use sqlite::Row;
 use std::alloc::Global;
@@ -50,7 +50,7 @@ pub(crate) fn gather_branches(
         if books.branch(&branch.number).is_some() {
             return Err(LoadFault::Fault(Fault::Store));
         }
-        books.add_branch(branch)?;
+        books.put_branch(branch)?;
     }
     Ok(())
 }

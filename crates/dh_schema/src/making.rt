@@ -3,7 +3,7 @@
 ghost use Rattle.std.specs.Prelude.{◌≡◌, ◌≤◌, false, IsTrue, Err, IfErr, OnOk, OnErr};
 ghost use Rattle.sqlite.specs.State.{HasCleanDisk};
 ghost use Rattle.sqlite.specs.Held.{state};
-ghost use Rattle.dh_rules.specs.Books.{start};
+ghost use Rattle.dh_model.specs.Books.{start};
 ghost use Rattle.dh_schema.specs.Tables.{empty_over};
 ghost use Rattle.dh_schema.specs.Faults.{IsFirstFault};
 ghost use Rattle.dh_schema.specs.Store.{IsReady, IsBlank, LeavesItsTables, Commits, tables};

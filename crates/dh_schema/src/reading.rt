@@ -12,7 +12,7 @@ use crate::branch::select_branches;
 use crate::fault::LoadFault;
 use crate::gather::{gather_branches, only_meta};
 use crate::meta::select_meta;
-use dh_rules::Books;
+use dh_books::Books;
 use sqlite::types::ValueRef;
 use sqlite::{Alter, Connection, Row};
 use std::alloc::Global;

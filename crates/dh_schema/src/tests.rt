@@ -3,7 +3,7 @@ ghost use Rattle.std.specs.Prelude.{◌≡◌};
 use crate::gather::{gather_branches, only_meta};
 use crate::reading::version_of;
 use crate::{LoadFault, fault_of, install, load, version};
-use dh_rules::Books;
+use dh_books::Books;
 use dh_types::{Fault, Month};
 use sqlite::{Connection, Error, ErrorCode, Row};
 use std::alloc::Global;
@@ -25,7 +25,7 @@ fn empty_books_are_installed_and_loaded(rt: HostRuntime) -> Result<(), Fail> {
     let mut conn = Connection::open_in_memory(alloc)?;
     install(alloc, &mut conn, january())?;
     let books = load(alloc, &mut conn)?;
-    assert_eq!(rt; books.branches(alloc)?.len(), 0);
+    assert_eq!(rt; books.branches().count(), 0);
     assert_eq!(rt; version(&mut conn)?, 1);
     Ok(())
 }

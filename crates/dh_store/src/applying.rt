@@ -1,24 +1,31 @@
 //! One change in one transaction.
 
-ghost use Rattle.std.specs.Prelude.{◌≡◌, ◌⊎◌, false, IsTrue, IfErr, OnOk, OnErr};
+ghost use Rattle.std.specs.Prelude.{◌≡◌, ◌⊎◌, true, false, IsTrue, Err, IfErr, OnOk, OnErr};
 ghost use Rattle.sqlite.specs.State.{HasCleanDisk};
 ghost use Rattle.sqlite.specs.Held.{state};
 ghost use Rattle.dh_schema.specs.Faults.{IsFirstFault};
+ghost use Rattle.dh_schema.specs.Known.{has_table, with_change};
 ghost use Rattle.dh_schema.specs.Store.{IsReady, LeavesItsTables, Leaves, Commits, tables};
-ghost use Rattle.dh_store.specs.Store.{with_change};
 
-use dh_rules::Change;
+use dh_model::Change;
 use dh_schema::{fault_of, insert_branch};
 use dh_types::Fault;
 use sqlite::{Alter, Connection, Error};
 use std::alloc::Global;
 
-// Puts the rows of the change into the tables and commits them.
+fn has_table(change: &Change) -> bool
+    ensures { result ≡ has_table change.now }
+{
+    matches!(change, Change::Branch(_))
+}
+
+// Puts the rows of the change into their table and commits them.
 fn commit_change<S: Alter>(
     alloc: Global,
     conn: &mut Connection<S>,
     change: &Change,
 ) -> Result<(), Error>
+    requires table { has_table change.now ≡ true }
     requires autocommit { (state S.Store conn.old).in_transaction ≡ false }
     requires ready { HasCleanDisk (state S.Store conn.old) → IsReady (state S.Store conn.old) }
     ensures done { HasCleanDisk (state S.Store conn.new) → OnOk result (IsReady (state S.Store conn.new) × (tables (state S.Store conn.new) ≡ with_change change.now (tables (state S.Store conn.old)))) }
@@ -29,13 +36,15 @@ fn commit_change<S: Alter>(
     let mut tx = conn.transaction();
     match change {
         Change::Branch(branch) => insert_branch(alloc, &mut tx, branch)?,
+        _ => {}
     }
     tx.commit()?;
     Ok(())
 }
 
 /// Puts exactly the rows of the change into the tables, in one transaction; at a fault the tables are these or those
-/// before, and while the store is open those before.
+/// before, and while the store is open those before. Rows of a kind that has no table are a fault of the store, and
+/// nothing is touched.
 pub fn apply<S: Alter>(
     alloc: Global,
     conn: &mut Connection<S>,
@@ -46,10 +55,11 @@ pub fn apply<S: Alter>(
     ensures left { HasCleanDisk (state S.Store conn.new) → OnOk result (LeavesItsTables (state S.Store conn.new)) }
     ensures undone { HasCleanDisk (state S.Store conn.new) → IsTrue (state S.Store conn.new).is_open → OnErr result (tables (state S.Store conn.new) ≡ tables (state S.Store conn.old)) }
     ensures cause { IfErr result IsFirstFault }
+    ensures unknown { has_table change.now ≡ false → (result ≡ Err Fault.Store) × (conn.new ≡ conn.old) }
     ensures crash { HasCleanDisk (state S.Store conn.new) → Leaves (state S.Store conn.new) (λ t. (t ≡ tables (state S.Store conn.old)) ⊎ (t ≡ with_change change.now (tables (state S.Store conn.old)))) }
     ensures survives { Commits (state S.Store conn.old) (state S.Store conn.new) (λ t. t ≡ with_change change.now (tables (state S.Store conn.old))) }
 {
-    if !conn.is_autocommit() {
+    if !has_table(change) || !conn.is_autocommit() {
         return Err(Fault::Store);
     }
     match commit_change(alloc, conn, change) {

@@ -42,7 +42,8 @@ pub struct Debt {
     pub lease: LeaseNo,
     pub client: Id,
     pub balance: Balance,
-    pub name: Text60,
+    /// The client's name, where he is in the books.
+    pub name: Option<Text60>,
 }
 
 /// The parts of a closed run, rising by branch, and what it comes to.

@@ -1,6 +1,6 @@
 use Rattle.std.proofs.Common.{◌≡◌, sym, subst}
 use Rattle.sqlite.specs.Held.{state}
-use Rattle.dh_rules.specs.Books.{start}
+use Rattle.dh_model.specs.Books.{start}
 use Rattle.dh_schema.specs.Store.{Commits}
 use Rattle.dh_agency.specs.Seat.{Seat}
 use Rattle.dh_agency.specs.Agency.{shown_by}

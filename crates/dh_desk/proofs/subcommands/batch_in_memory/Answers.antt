@@ -1,7 +1,7 @@
 use Rattle.std.proofs.Common.{◌≡◌, ◌∙◌, ◌<◌, IfSome, ap, subst}
 use Rattle.std.specs.Io.KnownBytes.{Appends}
 use Rattle.sqlite.proofs.Callers.{memory_is_clean}
-use Rattle.dh_rules.specs.Books.{State, start}
+use Rattle.dh_model.specs.Books.{State, start}
 use Rattle.dh_lines.specs.Session.{lines_from, records_of, refused_in}
 use Rattle.dh_desk.proofs.subcommands.batch_in_memory.Goals as goal
 

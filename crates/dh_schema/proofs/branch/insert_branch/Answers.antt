@@ -1,4 +1,4 @@
-use Rattle.std.proofs.Common.{◌≡◌, arith}
+use Rattle.std.proofs.Common.{arith}
 use Rattle.sqlite.specs.Held.{state}
 use Rattle.dh_schema.proofs.BranchLemmas.{adds_branch}
 use Rattle.dh_schema.proofs.branch.insert_branch.Goals as goal

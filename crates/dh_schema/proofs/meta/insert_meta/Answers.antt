@@ -1,4 +1,4 @@
-use Rattle.std.proofs.Common.{◌≡◌, [], arith}
+use Rattle.std.proofs.Common.{arith}
 use Rattle.sqlite.specs.Held.{state}
 use Rattle.dh_schema.proofs.MetaLemmas.{adds_meta}
 use Rattle.dh_schema.proofs.meta.insert_meta.Goals as goal

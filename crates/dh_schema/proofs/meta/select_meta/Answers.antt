@@ -1,4 +1,4 @@
-use Rattle.std.proofs.Common.{◌≡◌, [], arith}
+use Rattle.std.proofs.Common.{[], arith}
 use Rattle.sqlite.specs.Held.{state}
 use Rattle.dh_schema.specs.Layout.{our_schema}
 use Rattle.dh_schema.proofs.Selecting.{shows_ok, same_ok, undone_err, commits_nothing}

@@ -1,9 +1,9 @@
-use Rattle.std.proofs.Common.{◌≡◌, ◌∙◌, [], Err, sym, ap, ap₂, subst, arith, IsPermutation}
+use Rattle.std.proofs.Common.{◌≡◌, ◌∙◌, [], Err, ap, ap₂, subst, arith, IsPermutation}
 use Rattle.std.proofs.lemmas.Result.{err_from_is_err_and}
 use Rattle.sqlite.specs.Effect.{Database}
 use Rattle.sqlite.specs.State.{HasCleanDisk}
 use Rattle.sqlite.specs.Held.{state}
-use Rattle.dh_rules.specs.Books.{State}
+use Rattle.dh_model.specs.Books.{State}
 use Rattle.dh_schema.specs.BranchTable.{branch_rows}
 use Rattle.dh_schema.specs.Tables.{empty_over}
 use Rattle.dh_schema.specs.Gathered.{AreBranches}

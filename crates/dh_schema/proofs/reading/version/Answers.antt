@@ -1,5 +1,4 @@
-use Rattle.std.proofs.Common.{◌≡◌, ◌∙◌, Some, None, IfOk, Option, ℤ, sym, subst}
-use Rattle.sqlite.specs.Held.{state}
+use Rattle.std.proofs.Common.{◌≡◌, ◌∙◌, Some, IfOk, Option, ℤ, sym, subst}
 use Rattle.dh_schema.proofs.Loading.{version_moved}
 use Rattle.dh_schema.proofs.reading.version.Goals as goal
 

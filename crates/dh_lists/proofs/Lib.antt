@@ -1,0 +1,2 @@
+pub mod FirstWins
+pub mod Owing

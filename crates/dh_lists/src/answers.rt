@@ -1,0 +1,55 @@
+//! The answer to each question.
+
+ghost use Rattle.std.specs.Prelude.{◌≡◌, option_map, IfOk};
+ghost use Rattle.std.specs.FinMap as fin;
+ghost use Rattle.dh_types.specs.declared.reply.Refusal.TheVariants.{RunOpen};
+ghost use Rattle.dh_types.specs.Reports.{report_of};
+ghost use Rattle.dh_model.specs.Answers.{matching_report, report};
+
+use crate::{arrears, branches, matching, run_report, statement, vacant};
+use dh_books::Books;
+use dh_types::{Answer, ClientDay, Question, Refusal};
+use std::alloc::{AllocError, Global};
+
+// The properties that match; refused 2 with field 3 where no client has the number.
+fn matching_report(alloc: Global, books: &Books, asked: ClientDay) -> Result<Answer, AllocError>
+    ensures { IfOk result (λ answer. report_of answer ≡ matching_report books.now.books (fin.get books.now.books.clients asked.client) asked.day) }
+{
+    let Some(client) = books.client(&asked.client) else {
+        return Ok(Answer::Refused(Refusal::Unknown(3)));
+    };
+    Ok(Answer::Matching(matching(alloc, books, client, asked.day)?))
+}
+
+// The refusal of what an open run would show half made.
+fn open_refusal(books: &Books) -> Option<Refusal>
+    ensures { result ≡ option_map (λ run. RunOpen run.month) books.now.open_run }
+{
+    books
+        .open_run()
+        .map(|run| Refusal::RunOpen(run.month.month()))
+}
+
+/// What the books answer to the question. While a run is open, `statement`, `arrears` and `run` are refused 10 with its
+/// month. It fails where memory runs out.
+pub fn answer(alloc: Global, books: &Books, question: Question) -> Result<Answer, AllocError>
+    ensures { IfOk result (λ answer. report_of answer ≡ report books.now question) }
+{
+    match question {
+        Question::Branches => Ok(Answer::Branches(branches(alloc, books)?)),
+        Question::Vacant(day) => Ok(Answer::Vacant(vacant(alloc, books, day)?)),
+        Question::Matching(asked) => matching_report(alloc, books, asked),
+        Question::Statement(lease) => match open_refusal(books) {
+            Some(refusal) => Ok(Answer::Refused(refusal)),
+            None => statement(alloc, books, lease),
+        },
+        Question::Arrears(branch) => match open_refusal(books) {
+            Some(refusal) => Ok(Answer::Refused(refusal)),
+            None => arrears(alloc, books, &branch),
+        },
+        Question::Run(month) => match open_refusal(books) {
+            Some(refusal) => Ok(Answer::Refused(refusal)),
+            None => run_report(alloc, books, month),
+        },
+    }
+}

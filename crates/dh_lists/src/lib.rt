@@ -1,0 +1,22 @@
+//! What questions are answered, from the books in memory.
+#![tactic(auto)]
+
+mod accounts;
+mod answers;
+mod balances;
+mod debts;
+mod lists;
+mod run_reports;
+mod statements;
+mod vacancies;
+
+pub use answers::answer;
+pub use balances::balance;
+pub use debts::arrears;
+pub use lists::branches;
+pub use run_reports::run_report;
+pub use statements::statement;
+pub use vacancies::{matching, vacant};
+
+#[cfg(test)]
+mod tests;

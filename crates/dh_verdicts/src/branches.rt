@@ -1,0 +1,45 @@
+//! Branches, staff and owners.
+
+ghost use Rattle.std.specs.Prelude.{◌≡◌, IfOk};
+ghost use Rattle.dh_model.specs.Verdicts.{branch_verdict, owner_verdict, staff_verdict};
+
+use dh_books::Books;
+use dh_model::{Change, Verdict};
+use dh_types::{Branch, Owner, Refusal, Reply, Staff};
+use std::alloc::{AllocError, Global};
+
+/// What the books say of a new branch: its row; that it is there already; or that its number is taken.
+pub fn decide_branch(alloc: Global, books: &Books, branch: &Branch) -> Result<Verdict, AllocError>
+    ensures { IfOk result (λ v. v ≡ branch_verdict books.now.books branch.now) }
+{
+    match books.branch(&branch.number) {
+        None => Ok(Verdict::Change(Change::Branch(branch.try_clone(alloc)?))),
+        Some(there) if branch == there => Ok(Verdict::Already(Reply::Already)),
+        Some(_) => Ok(Verdict::Refused(Refusal::Taken)),
+    }
+}
+
+/// What the books say of a new member of staff, who belongs to a branch that is there.
+pub fn decide_staff(alloc: Global, books: &Books, member: &Staff) -> Result<Verdict, AllocError>
+    ensures { IfOk result (λ v. v ≡ staff_verdict books.now.books member.now) }
+{
+    match books.member(&member.number) {
+        None if books.branch(&member.branch).is_none() => {
+            Ok(Verdict::Refused(Refusal::Unknown(5)))
+        }
+        None => Ok(Verdict::Change(Change::Staff(member.try_clone(alloc)?))),
+        Some(there) if member == there => Ok(Verdict::Already(Reply::Already)),
+        Some(_) => Ok(Verdict::Refused(Refusal::Taken)),
+    }
+}
+
+/// What the books say of a new owner: its row; that it is there already; or that its number is taken.
+pub fn decide_owner(alloc: Global, books: &Books, owner: &Owner) -> Result<Verdict, AllocError>
+    ensures { IfOk result (λ v. v ≡ owner_verdict books.now.books owner.now) }
+{
+    match books.owner(&owner.number) {
+        None => Ok(Verdict::Change(Change::Owner(owner.try_clone(alloc)?))),
+        Some(there) if owner == there => Ok(Verdict::Already(Reply::Already)),
+        Some(_) => Ok(Verdict::Refused(Refusal::Taken)),
+    }
+}

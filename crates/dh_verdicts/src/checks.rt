@@ -1,0 +1,45 @@
+//! Checks of members of staff.
+
+ghost use Rattle.std.specs.Prelude.{◌≡◌, [], ◌∷◌};
+ghost use Rattle.dh_model.specs.Checks.{first_failing, has_room, managed_besides, of_branch};
+
+use dh_books::Books;
+use dh_types::{Id, Property, Refusal};
+
+// How many properties the member of staff manages, but for this one.
+fn managed_besides(books: &Books, member: &Id, property: &Id) -> usize
+    ensures { result ≡ managed_besides books.now.books member.now property.now }
+{
+    books
+        .properties()
+        .filter(|other| other.staff == Some(*member) && other.number != *property)
+        .count()
+}
+
+/// `WrongBranch` unless the member of staff is there and belongs to the branch.
+pub(crate) fn of_branch(books: &Books, member: &Id, branch: &Id) -> Option<Refusal>
+    ensures { result ≡ of_branch books.now.books member.now branch.now }
+{
+    match books.member(member) {
+        Some(member) if member.branch == *branch => None,
+        _ => Some(Refusal::WrongBranch),
+    }
+}
+
+// `TooMany` where the member of staff manages 100 properties but for this one.
+fn has_room(books: &Books, member: &Id, property: &Id) -> Option<Refusal>
+    ensures { result ≡ has_room books.now.books member.now property.now }
+{
+    if managed_besides(books, member, property) < 100 {
+        None
+    } else {
+        Some(Refusal::TooMany)
+    }
+}
+
+/// The first of these checks that fails: the member of staff belongs to the property's branch, and has room for it.
+pub(crate) fn may_manage(books: &Books, member: &Id, property: &Property) -> Option<Refusal>
+    ensures { result ≡ first_failing (of_branch books.now.books member.now property.now.branch ∷ has_room books.now.books member.now property.now.number ∷ []) }
+{
+    of_branch(books, member, &property.branch).or_else(|| has_room(books, member, &property.number))
+}

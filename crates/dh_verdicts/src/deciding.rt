@@ -1,0 +1,56 @@
+//! Any command.
+
+ghost use Rattle.std.specs.Prelude.{◌≡◌, IfOk};
+ghost use Rattle.dh_types.specs.declared.reply.Refusal.TheVariants as refusal;
+ghost use Rattle.dh_model.specs.declared.rows.Verdict.TheVariants as verdict;
+ghost use Rattle.dh_model.specs.Verdicts.{verdict_on};
+
+use crate::{
+    decide_assign, decide_branch, decide_client, decide_comment, decide_inspection, decide_lease,
+    decide_owner, decide_property, decide_receipt, decide_register, decide_rent, decide_run,
+    decide_staff, decide_viewing,
+};
+use dh_books::Books;
+use dh_model::{Change, OpenRun, Verdict};
+use dh_types::{Command, Refusal};
+use std::alloc::{AllocError, Global};
+
+// What an open run says of what is frozen.
+fn frozen(run: &OpenRun) -> Verdict
+    ensures { result ≡ verdict.Refused (refusal.RunOpen run.now.month) }
+{
+    Verdict::Refused(Refusal::RunOpen(run.month.month()))
+}
+
+/// What the books say of the command: the first check that fails, what it was answered before, or the rows that it adds
+/// or replaces. While a run is open, branches, leases, receipts and runs are refused.
+pub fn decide(alloc: Global, books: &Books, command: &Command) -> Result<Verdict, AllocError>
+    ensures { IfOk result (λ v. v ≡ verdict_on books.now.books books.now.open_run command.now) }
+{
+    match (command, books.open_run()) {
+        (
+            Command::Branch(_)
+            | Command::Lease(_)
+            | Command::Receipt(_)
+            | Command::Run(_)
+            | Command::Open(_),
+            Some(run),
+        ) => Ok(frozen(&run)),
+        (Command::Post(_), Some(_)) => Ok(Verdict::Change(Change::Post)),
+        (Command::Post(_), None) => Ok(Verdict::Refused(Refusal::NoRun)),
+        (Command::Branch(branch), None) => decide_branch(alloc, books, branch),
+        (Command::Lease(terms), None) => Ok(decide_lease(books, terms)),
+        (Command::Receipt(order), None) => Ok(decide_receipt(books, order)),
+        (Command::Run(order) | Command::Open(order), None) => Ok(decide_run(books, order)),
+        (Command::Staff(member), _) => decide_staff(alloc, books, member),
+        (Command::Owner(owner), _) => decide_owner(alloc, books, owner),
+        (Command::Property(property), _) => decide_property(alloc, books, property),
+        (Command::Assign(assignment), _) => Ok(decide_assign(books, assignment)),
+        (Command::Rent(change), _) => Ok(decide_rent(books, change)),
+        (Command::Client(client), _) => decide_client(alloc, books, client),
+        (Command::Register(registration), _) => Ok(decide_register(books, registration)),
+        (Command::Viewing(viewing), _) => decide_viewing(alloc, books, viewing),
+        (Command::Comment(comment), _) => decide_comment(alloc, books, comment),
+        (Command::Inspection(inspection), _) => decide_inspection(alloc, books, inspection),
+    }
+}

@@ -1,0 +1,22 @@
+//! What the books say of each command: the plain program of the verdicts.
+#![tactic(auto)]
+
+mod branches;
+mod checks;
+mod clients;
+mod deciding;
+mod leases;
+mod properties;
+mod receipts;
+
+pub use branches::{decide_branch, decide_owner, decide_staff};
+pub use clients::{
+    decide_client, decide_comment, decide_inspection, decide_register, decide_viewing,
+};
+pub use deciding::decide;
+pub use leases::decide_lease;
+pub use properties::{decide_assign, decide_property, decide_rent};
+pub use receipts::{decide_receipt, decide_run};
+
+#[cfg(test)]
+mod tests;

@@ -1,0 +1,91 @@
+//! Properties, their managers and their rents.
+
+ghost use Rattle.std.specs.Prelude.{◌≡◌, IfOk};
+ghost use Rattle.dh_model.specs.Checks.{first_failing};
+ghost use Rattle.dh_model.specs.Verdicts.{assign_verdict, manager_checks, property_checks, property_verdict, rent_verdict};
+
+use crate::checks::may_manage;
+use dh_books::Books;
+use dh_model::{Change, Verdict};
+use dh_types::{Assignment, Id, Property, Refusal, RentChange, Reply};
+use std::alloc::{AllocError, Global};
+
+// The first check that a new property fails.
+fn property_refusal(books: &Books, property: &Property) -> Option<Refusal>
+    ensures { result ≡ first_failing (property_checks books.now.books property.now) }
+{
+    if books.owner(&property.owner).is_none() {
+        return Some(Refusal::Unknown(9));
+    }
+    if let Some(member) = &property.staff
+        && books.member(member).is_none()
+    {
+        return Some(Refusal::Unknown(10));
+    }
+    if books.branch(&property.branch).is_none() {
+        return Some(Refusal::Unknown(11));
+    }
+    let Some(member) = &property.staff else {
+        return None;
+    };
+    may_manage(books, member, property)
+}
+
+/// What the books say of a new property, which has an owner, a branch and maybe a manager of that branch, with fewer
+/// than 100 others.
+pub fn decide_property(
+    alloc: Global,
+    books: &Books,
+    property: &Property,
+) -> Result<Verdict, AllocError>
+    ensures { IfOk result (λ v. v ≡ property_verdict books.now.books property.now) }
+{
+    match books.property(&property.number) {
+        None => match property_refusal(books, property) {
+            Some(refusal) => Ok(Verdict::Refused(refusal)),
+            None => Ok(Verdict::Change(Change::Property(property.try_clone(alloc)?))),
+        },
+        Some(there) if property == there => Ok(Verdict::Already(Reply::Already)),
+        Some(_) => Ok(Verdict::Refused(Refusal::Taken)),
+    }
+}
+
+// The first check that the manager fails, if one is given.
+fn manager_refusal(books: &Books, property: &Property, member: Option<Id>) -> Option<Refusal>
+    ensures { result ≡ first_failing (manager_checks books.now.books property.now member) }
+{
+    let Some(member) = member else {
+        return None;
+    };
+    if books.member(&member).is_none() {
+        return Some(Refusal::Unknown(3));
+    }
+    may_manage(books, &member, property)
+}
+
+/// What the books say of a property's manager, who belongs to its branch and manages fewer than 100 others.
+pub fn decide_assign(books: &Books, assignment: &Assignment) -> Verdict
+    ensures { result ≡ assign_verdict books.now.books assignment.now }
+{
+    let Some(property) = books.property(&assignment.property) else {
+        return Verdict::Refused(Refusal::Unknown(2));
+    };
+    if assignment.staff == property.staff {
+        return Verdict::Already(Reply::Already);
+    }
+    match manager_refusal(books, property, assignment.staff) {
+        Some(refusal) => Verdict::Refused(refusal),
+        None => Verdict::Change(Change::Assign(*assignment)),
+    }
+}
+
+/// What the books say of a property's rent.
+pub fn decide_rent(books: &Books, change: &RentChange) -> Verdict
+    ensures { result ≡ rent_verdict books.now.books change.now }
+{
+    match books.property(&change.property) {
+        None => Verdict::Refused(Refusal::Unknown(2)),
+        Some(property) if change.rent == property.rent => Verdict::Already(Reply::Already),
+        Some(_) => Verdict::Change(Change::Rent(*change)),
+    }
+}

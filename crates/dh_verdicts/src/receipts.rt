@@ -1,0 +1,134 @@
+//! Receipts and rent runs, each accepted once for its key.
+
+ghost use Rattle.std.specs.Prelude.{◌≡◌, ◌∷◌, ◌*◌, ◌&&◌, nat_eq, option_copied};
+ghost use Rattle.std.specs.List.{list_any};
+ghost use Rattle.std.specs.FinMap as fin;
+ghost use Rattle.dh_values.specs.declared.receipt_kind.ReceiptKind.TheVariants.{Deposit};
+ghost use Rattle.dh_types.specs.Records.{is_same_receipt_kind};
+ghost use Rattle.dh_model.specs.Checks.{deposit_checks, first_failing, names, receipt_of_key, run_of_key};
+ghost use Rattle.dh_model.specs.Runs.{sum_of};
+ghost use Rattle.dh_model.specs.Verdicts.{receipt_verdict, run_verdict};
+
+use dh_books::Books;
+use dh_model::{Change, Verdict};
+use dh_types::{
+    Key, LeaseNo, Payment, Pence, Receipt, ReceiptKind, ReceiptNo, ReceiptOrder, Refusal, Rent,
+    Reply, Run, RunOrder, RunSum,
+};
+
+// The receipt that has this key.
+fn receipt_of_key<'a>(books: &'a Books, key: &Key) -> Option<&'a Receipt>
+    ensures { option_copied result ≡ receipt_of_key books.now.books key.now }
+{
+    books.receipts().find(|receipt| receipt.key == *key)
+}
+
+// The run that has this key.
+fn run_of_key<'a>(books: &'a Books, key: &Key) -> Option<&'a Run>
+    ensures { option_copied result ≡ run_of_key books.now.books key.now }
+{
+    books.runs().find(|run| run.key == *key)
+}
+
+// Whether the lease has a deposit receipt.
+fn has_deposit(books: &Books, lease: LeaseNo) -> bool
+    ensures { result ≡ list_any (λ receipt. nat_eq receipt.payment.lease lease && is_same_receipt_kind receipt.payment.kind Deposit) (fin.values books.now.books.receipts) }
+{
+    books.receipts().any(|receipt| {
+        receipt.payment.lease == lease && receipt.payment.kind == ReceiptKind::Deposit
+    })
+}
+
+// What the deposit on a lease of this rent is.
+fn deposit_on(rent: Rent) -> Pence
+    ensures { result ≡ 2 * rent }
+{
+    Pence::of_pence(2 * rent.pence() as u64)
+}
+
+// The first check that the payment fails.
+fn payment_refusal(books: &Books, payment: &Payment) -> Option<Refusal>
+    ensures { result ≡ first_failing (names books.now.books.leases payment.now.lease 3 ∷ deposit_checks books.now.books payment.now) }
+{
+    let Some(lease) = books.lease(&payment.lease) else {
+        return Some(Refusal::Unknown(3));
+    };
+    if payment.kind != ReceiptKind::Deposit {
+        return None;
+    }
+    if has_deposit(books, payment.lease) {
+        return Some(Refusal::DepositPaid);
+    }
+    let expected = deposit_on(lease.rent);
+    if payment.amount.pence() as u64 == expected.pence() {
+        None
+    } else {
+        Some(Refusal::DepositAmount(expected))
+    }
+}
+
+/// What the books say of a payment under a key that no other receipt or run has: its receipt, with the next number.
+pub fn decide_receipt(books: &Books, order: &ReceiptOrder) -> Verdict
+    ensures { result ≡ receipt_verdict books.now.books order.now }
+{
+    if let Some(receipt) = receipt_of_key(books, &order.key) {
+        return if order.payment == receipt.payment {
+            Verdict::Already(Reply::AlreadyReceipt(receipt.number))
+        } else {
+            Verdict::Refused(Refusal::KeyUsed)
+        };
+    }
+    if run_of_key(books, &order.key).is_some() {
+        return Verdict::Refused(Refusal::KeyUsed);
+    }
+    if let Some(refusal) = payment_refusal(books, &order.payment) {
+        return Verdict::Refused(refusal);
+    }
+    let count = books.receipt_count();
+    if count >= 99_999_999 {
+        return Verdict::Refused(Refusal::Full);
+    }
+    Verdict::Change(Change::Receipt(Receipt {
+        number: ReceiptNo::of_number(count as u32 + 1),
+        key: order.key,
+        payment: order.payment,
+    }))
+}
+
+// What the run comes to.
+fn sum_of(run: &Run) -> RunSum
+    ensures { result ≡ sum_of run.now }
+{
+    RunSum {
+        month: run.month,
+        count: run.count,
+        total: run.total,
+    }
+}
+
+/// What the books say of a month's rent run under a key that no receipt or other run has: the run's row, open.
+pub fn decide_run(books: &Books, order: &RunOrder) -> Verdict
+    ensures { result ≡ run_verdict books.now.books order.now }
+{
+    if let Some(run) = run_of_key(books, &order.key) {
+        return if order.month == run.month {
+            Verdict::Already(Reply::AlreadyPosted(sum_of(run)))
+        } else {
+            Verdict::Refused(Refusal::KeyUsed)
+        };
+    }
+    if receipt_of_key(books, &order.key).is_some() {
+        return Verdict::Refused(Refusal::KeyUsed);
+    }
+    let next = books.next();
+    if order.month.month() != next {
+        return Verdict::Refused(Refusal::NotNextMonth(next));
+    }
+    Verdict::Change(Change::Open(Run {
+        month: order.month,
+        key: order.key,
+        count: 0,
+        total: Pence::of_pence(0),
+        is_closed: false,
+    }))
+}
