@@ -134,7 +134,7 @@ module _ (lease : Lease) (month : ℕ) where
       ap (λ (c : Charge). c.lease) of.2
 
 -- the dues of leases that rise by number rise by lease
-dues_rise : (leases : List Lease) (month : ℕ) → Rises (Lesser number_of) leases → Rises (Lesser lease_of) (dues_among leases month)
+pub dues_rise : (leases : List Lease) (month : ℕ) → Rises (Lesser number_of) leases → Rises (Lesser lease_of) (dues_among leases month)
 dues_rise [] month r = tt
 dues_rise (lease ∷ leases) month r =
     rw (filter-append (falls_in month) (dues_of lease) (flat_map dues_of leases))

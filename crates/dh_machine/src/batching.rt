@@ -1,0 +1,33 @@
+//! How many batches a rent run takes.
+
+ghost use Rattle.std.specs.Prelude.{◌≡◌, ◌≤◌, IfOk};
+ghost use Rattle.dh_model.specs.Runs.{batch_size, batches, batches_for};
+
+use crate::parts::branch_parts;
+use dh_books::Books;
+use dh_types::EntryMonth;
+use std::alloc::{AllocError, Global};
+
+/// How many charges one batch has at most.
+pub const BATCH_SIZE: u64 = 50;
+
+// The batches of a branch with so many dues: one at least.
+fn batches_for(count: u32) -> u128
+    ensures value { result ≡ batches_for batch_size count }
+    ensures bound { result ≤ 4294967296 }
+{
+    let full = (u64::from(count) + (BATCH_SIZE - 1)) / BATCH_SIZE;
+    u128::from(full.max(1))
+}
+
+/// How many batches the month's rent run takes, over all branches.
+pub fn batches(alloc: Global, books: &Books, month: EntryMonth) -> Result<u128, AllocError>
+    ensures { IfOk result (λ n. n ≡ batches batch_size books.now.books month) }
+{
+    let parts = branch_parts(alloc, books, month)?;
+    let mut all = 0;
+    for part in parts.iter() {
+        all += batches_for(part.count);
+    }
+    Ok(all)
+}
