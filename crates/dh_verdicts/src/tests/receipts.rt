@@ -100,11 +100,17 @@ fn months_in_order(rt: HostRuntime) -> Result<(), Fail> {
 }
 
 #[test]
-fn keys_of_runs(rt: HostRuntime) -> Result<(), Fail> {
+fn key_of_a_run(rt: HostRuntime) -> Result<(), Fail> {
     let alloc = rt.alloc();
     let books = closed(alloc)?;
     let verdict = decide_receipt(&books, &receipt_order("R-1", "10001", "rent", "1.00")?);
     assert_eq!(rt; told(alloc, &verdict)?.as_str(), "refused 9");
+    Ok(())
+}
+
+#[test]
+fn key_of_a_receipt(rt: HostRuntime) -> Result<(), Fail> {
+    let alloc = rt.alloc();
     let books = paid(alloc)?;
     let verdict = decide_run(&books, &run_order("K-1", "2025-01")?);
     assert_eq!(rt; told(alloc, &verdict)?.as_str(), "refused 9");
