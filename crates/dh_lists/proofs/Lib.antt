@@ -1,2 +1,3 @@
+pub mod Debtors
 pub mod FirstWins
 pub mod Owing
