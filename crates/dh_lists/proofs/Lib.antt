@@ -1,3 +1,2 @@
-pub mod Debtors
 pub mod FirstWins
 pub mod Owing
