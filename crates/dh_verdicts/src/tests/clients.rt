@@ -1,6 +1,7 @@
 use super::{base, client, inspection, registration, told, viewing};
 use crate::{decide_client, decide_comment, decide_inspection, decide_register, decide_viewing};
 use dh_types::{Comment, Id, ViewingComment};
+use std::alloc::Global;
 use std::test::Fail;
 
 #[test]
@@ -54,24 +55,35 @@ fn viewings(rt: HostRuntime) -> Result<(), Fail> {
     Ok(())
 }
 
+fn comment(alloc: Global, property: &str, text: &str) -> Result<ViewingComment, Fail> {
+    Ok(ViewingComment {
+        client: Id::read("C001")?,
+        property: Id::read(property)?,
+        comment: Comment::read(alloc, text)??,
+    })
+}
+
+#[test]
+fn first_comment(rt: HostRuntime) -> Result<(), Fail> {
+    let alloc = rt.alloc();
+    let mut books = base(alloc)?;
+    books.put_viewing(viewing(alloc, "C001", "P101", "")?)?;
+    let verdict = decide_comment(alloc, &books, &comment(alloc, "P101", "Too small")?)?;
+    assert_eq!(rt; told(alloc, &verdict)?.as_str(), "ok");
+    Ok(())
+}
+
 #[test]
 fn comments(rt: HostRuntime) -> Result<(), Fail> {
     let alloc = rt.alloc();
     let mut books = base(alloc)?;
-    books.put_viewing(viewing(alloc, "C001", "P101", "")?)?;
     books.put_viewing(viewing(alloc, "C001", "P102", "Too small")?)?;
     for (property, text, want) in [
-        ("P101", "Too small", "ok"),
         ("P102", "Too small", "already"),
         ("P102", "Too big", "ok"),
         ("P109", "x", "refused 2 2"),
     ] {
-        let comment = ViewingComment {
-            client: Id::read("C001")?,
-            property: Id::read(property)?,
-            comment: Comment::read(alloc, text)??,
-        };
-        let verdict = decide_comment(alloc, &books, &comment)?;
+        let verdict = decide_comment(alloc, &books, &comment(alloc, property, text)?)?;
         assert_eq!(rt; told(alloc, &verdict)?.as_str(), want);
     }
     Ok(())

@@ -1,4 +1,4 @@
-use super::{base, property, registration, terms, told};
+use super::{base, property, terms, told};
 use crate::decide_lease;
 use dh_model::{Change, Verdict};
 use dh_types::{Lease, Month, Rent};
@@ -55,7 +55,6 @@ fn months_that_were_run(rt: HostRuntime) -> Result<(), Fail> {
 fn least_of_those_that_overlap(rt: HostRuntime) -> Result<(), Fail> {
     let alloc = rt.alloc();
     let mut books = base(alloc)?;
-    books.put_registration(registration("C002", "B001", "S1")?)?;
     for (number, client, start) in [
         ("20", "C001", "2025-08-01"),
         ("3", "C002", "2025-05-01"),
@@ -68,8 +67,6 @@ fn least_of_those_that_overlap(rt: HostRuntime) -> Result<(), Fail> {
     }
     let verdict = decide_lease(&books, &terms("10002", "C001", "P102", "2025-07-31")?);
     assert_eq!(rt; told(alloc, &verdict)?.as_str(), "refused 5 3");
-    let verdict = decide_lease(&books, &terms("10002", "C001", "P102", "2025-08-02")?);
-    assert_eq!(rt; told(alloc, &verdict)?.as_str(), "refused 5 20");
     Ok(())
 }
 
