@@ -1,6 +1,6 @@
 -- What a branch has of a run, lease by lease.
-use Rattle.std.proofs.Common.{◌≡◌, ◌∙◌, refl, sym, ap, subst, inl, inr, ℕ, zero, suc, ◌+◌, ◌-◌, ◌*◌, ◌<◌, ◌≤◌, Bool, true, false, cond, nat_eq, is_eq, List, [], ◌∷◌, ◌++◌, map, length, Option, Some, None, append-nil, arith, length-append}
-use Rattle.std.specs.List.{filter, flat_map, sum_by}
+use Rattle.std.proofs.Common.{◌≡◌, ◌∙◌, refl, sym, ap, subst, inl, inr, ℕ, ◌+◌, ◌-◌, ◌*◌, ◌≤◌, Bool, true, false, cond, nat_eq, is_eq, List, [], ◌∷◌, ◌++◌, length, Option, Some, None, append-nil, arith, length-append}
+use Rattle.std.specs.List.{filter, flat_map}
 use Rattle.std.specs.FinMap.{FinMap, get, values}
 use Rattle.std.specs.Option.{unwrap_or}
 use Rattle.std.specs.BTreeMap.{is_at}
@@ -17,7 +17,7 @@ use Rattle.dh_types.specs.declared.lease.Lease.{Lease}
 use Rattle.dh_types.specs.declared.lease.Charge.{Charge}
 use Rattle.dh_types.specs.declared.run.Part.{Part}
 use Rattle.dh_model.specs.Books.{Books, text_cmp}
-use Rattle.dh_model.specs.Leases.{due, dues_among, dues_of}
+use Rattle.dh_model.specs.Leases.{dues_among, dues_of}
 use Rattle.dh_model.specs.Runs.{at_least, greatest_lease, is_property_of, part_of, total_of}
 use Rattle.dh_model.specs.BatchLaws.{AreNumbered}
 use Rattle.dh_model.proofs.Among.{Among}

@@ -1,7 +1,6 @@
 -- The rows of a run that is made to its end.
 use Rattle.std.proofs.Common.{◌≡◌, ◌∙◌, refl, sym, ap, inl, inr, ℕ, ◌+◌, ◌≤◌, List, [], ◌∷◌, map}
 use Rattle.std.specs.FinMap.{insert, keys}
-use Rattle.dh_types.specs.declared.lease.Lease.{Lease}
 use Rattle.dh_types.specs.declared.lease.Charge.{Charge}
 use Rattle.dh_types.specs.declared.run.Run.{Run}
 use Rattle.dh_types.specs.declared.run.Part.{Part}

@@ -2,10 +2,15 @@
 #![tactic(auto)]
 
 mod batching;
+mod changes;
+mod machine;
 mod parts;
 mod posting;
+mod runs;
 
 pub use batching::{BATCH_SIZE, batches};
+pub use changes::{accepted, apply_change};
+pub use machine::{Stepped, step};
 
 #[cfg(test)]
 mod tests;

@@ -1,4 +1,4 @@
-use Rattle.std.proofs.Common.{◌≡◌, ◌∙◌, ◌++◌, ◌≤◌, ap, inl, inr, map, sym, List, [], ◌∷◌, Some, arith, rules}
+use Rattle.std.proofs.Common.{◌≡◌, ◌∙◌, ◌++◌, ap, inl, inr, map, sym, [], ◌∷◌, Some, arith}
 use Rattle.std.specs.Option.{unwrap_or}
 use Rattle.std.specs.BTreeMap as tree
 use Rattle.std.specs.FinMap.{get}

@@ -1,4 +1,4 @@
-use Rattle.std.proofs.Common.{◌≡◌, ℕ, vec_len}
+use Rattle.std.proofs.Common.{◌≡◌, vec_len}
 use Rattle.dh_model.specs.Books.{State, with_rows}
 use Rattle.dh_model.specs.Runs.{charge_key}
 use Rattle.dh_machine.proofs.posting.put_charges.Given as goal

@@ -1,4 +1,4 @@
-use Rattle.std.proofs.Common.{◌≡◌, ◌∙◌, ◌+◌, ◌++◌, ◌≤◌, ap, length, length-append, List, [], ◌∷◌, map, sym, true, arith, rules}
+use Rattle.std.proofs.Common.{◌∙◌, ◌++◌, ap, length, length-append, [], ◌∷◌, map, sym, true, arith}
 use Rattle.std.specs.Map.Iter.{deref}
 use Rattle.std.proofs.lemmas.List.{map-append}
 use Rattle.std.proofs.lemmas.List.Sums.{sum_by_push}
@@ -6,7 +6,7 @@ use Rattle.std.proofs.lemmas.Map.Iter.{iter_end, rest_more, rest_so_far}
 use Rattle.dh_types.specs.declared.lease.Charge.{Charge}
 use Rattle.dh_types.specs.declared.run.Run.{Run}
 use Rattle.dh_model.specs.Leases.{dues, dues_among}
-use Rattle.dh_model.specs.Runs.{closed_run, total_of}
+use Rattle.dh_model.specs.Runs.{total_of}
 use Rattle.dh_machine.proofs.PartLemmas.{no_more_dues, one_due_more, place_in_books}
 use Rattle.dh_machine.proofs.posting.summed_up.Goals as goal
 

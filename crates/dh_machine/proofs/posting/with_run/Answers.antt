@@ -1,4 +1,4 @@
-use Rattle.std.proofs.Common.{◌≡◌, ◌∙◌, ◌+◌, ap, sym, arith, rules}
+use Rattle.std.proofs.Common.{◌∙◌, ap, arith, rules}
 use Rattle.dh_model.specs.Leases.{dues}
 use Rattle.dh_model.specs.Runs.{batch_size}
 use Rattle.dh_machine.proofs.RunLemmas.{run_made}
