@@ -1,1 +1,6 @@
+pub mod KeyOrders
+pub mod Pairs
+pub mod MapRows
 pub mod MonthAlike
+pub mod MonthShown
+pub mod MonthDues
