@@ -1,0 +1,3 @@
+pub mod KeyOrders
+pub mod Pairs
+pub mod MapRows
