@@ -1,3 +1,4 @@
 pub mod KeyOrders
 pub mod Pairs
 pub mod MapRows
+pub mod MapMerges

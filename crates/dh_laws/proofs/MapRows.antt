@@ -22,7 +22,7 @@ use Rattle.dh_laws.proofs.Pairs.{rises_put, pairs_rise, rising_pairs}
 pub inside : {X : Type 0} (x y : X) → Some x ≡ Some y → x ≡ y
 inside x y e = cc
 
-is_less : (r : Ordering) → is_lt r ≡ true → r ≡ Less
+pub is_less : (r : Ordering) → is_lt r ≡ true → r ≡ Less
 is_less Less e = refl
 is_less Equal e = cc
 is_less Greater e = cc
@@ -52,13 +52,13 @@ kept_if test None = None
 kept_if test (Some x) = cond (test x) (Some x) None
 
 module _ {K : Type 0} {R : K → K → Ordering} (o : IsTotalOrder R) (anti : IsAntisymmetric R) where
-  same_key : (q k : K) → eq_by_cmp R q k ≡ true → q ≡ k
+  pub same_key : (q k : K) → eq_by_cmp R q k ≡ true → q ≡ k
   same_key q k e = anti q k (is_equal (R q k) e)
 
-  key_itself : (k : K) → eq_by_cmp R k k ≡ true
+  pub key_itself : (k : K) → eq_by_cmp R k k ≡ true
   key_itself k = ap is_eq (tied_itself o k)
 
-  keys_differ : (q k : K) → q ≢ k → eq_by_cmp R q k ≡ false
+  pub keys_differ : (q k : K) → q ≢ k → eq_by_cmp R q k ≡ false
   keys_differ q k apart = false_from_ne_true (eq_by_cmp R q k) (λ e. apart (same_key q k e))
 
   by_tie : (q k : K) (b : Bool) → eq_by_cmp R q k ≡ b → (q ≡ k) ⊎ (q ≢ k)
@@ -68,7 +68,7 @@ module _ {K : Type 0} {R : K → K → Ordering} (o : IsTotalOrder R) (anti : Is
   pub cases_key : (q k : K) → (q ≡ k) ⊎ (q ≢ k)
   cases_key q k = by_tie q k (eq_by_cmp R q k) refl
 
-  turned_back : (x y : K) → is_lt (R y x) ≡ true → R x y ≡ Greater
+  pub turned_back : (x y : K) → is_lt (R y x) ≡ true → R x y ≡ Greater
   turned_back x y h = o.antisymm x y ∙ ap ordering_reverse (is_less (R y x) h)
 
 module _ {K X : Type 0} where
@@ -93,7 +93,7 @@ module _ {K X : Type 0} where
 
     -- ---- lists of entries
 
-    below_at : (k : K) (es : List (K × X)) (e : K × X) → below_all R k es ≡ true → Among es e → is_lt (R k e.0) ≡ true
+    pub below_at : (k : K) (es : List (K × X)) (e : K × X) → below_all R k es ≡ true → Among es e → is_lt (R k e.0) ≡ true
     below_at k [] e h a = absurd a
     below_at k (f ∷ es) e h (inl s) = let parts = and_parts (is_lt (R k f.0)) (below_all R k es) h in rw s parts.0
     below_at k (f ∷ es) e h (inr a) = let parts = and_parts (is_lt (R k f.0)) (below_all R k es) h in below_at k es e parts.1 a
@@ -109,7 +109,7 @@ module _ {K X : Type 0} where
     found_entry (e ∷ es) q x h = found_by (eq_by_cmp R q e.0) e es q x refl (found_entry es q x) h
 
     -- and each entry is found
-    entry_found : (es : List (K × X)) (e : K × X) → is_sorted R es ≡ true → Among es e → find R e.0 es ≡ Some e.1
+    pub entry_found : (es : List (K × X)) (e : K × X) → is_sorted R es ≡ true → Among es e → find R e.0 es ≡ Some e.1
     entry_found [] e h a = absurd a
     entry_found (f ∷ es) e h (inl s) =
         let ties : eq_by_cmp R e.0 f.0 ≡ true = rw s (key_itself o anti f.0) in
@@ -119,7 +119,7 @@ module _ {K X : Type 0} where
         let differ : eq_by_cmp R e.0 f.0 ≡ false = ap is_eq (turned_back o anti e.0 f.0 (below_at f.0 es e parts.0 a)) in
         ap (λ b. cond b (Some f.1) (find R e.0 es)) differ ∙ entry_found es e parts.1 a
 
-    sorted : (m : FinMap R X) → is_sorted R (entries m) ≡ true
+    pub sorted : (m : FinMap R X) → is_sorted R (entries m) ≡ true
     sorted m = holds (is_sorted R (entries m)) (entries_sorted m)
 
     -- ---- rows
