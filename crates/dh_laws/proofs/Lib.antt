@@ -1,6 +1,7 @@
 pub mod KeyOrders
 pub mod Pairs
 pub mod MapRows
+pub mod MapMerges
 pub mod MonthAlike
 pub mod MonthShown
 pub mod MonthDues
