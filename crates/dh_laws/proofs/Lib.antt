@@ -5,3 +5,4 @@ pub mod MapMerges
 pub mod MonthAlike
 pub mod MonthShown
 pub mod MonthDues
+pub mod MonthKeep
