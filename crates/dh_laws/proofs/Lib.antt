@@ -6,3 +6,4 @@ pub mod MonthAlike
 pub mod MonthShown
 pub mod MonthDues
 pub mod MonthKeep
+pub mod MonthOpen
