@@ -2,3 +2,5 @@ pub mod KeyOrders
 pub mod Pairs
 pub mod MapRows
 pub mod MapMerges
+pub mod PostMonth
+pub mod PostDues
