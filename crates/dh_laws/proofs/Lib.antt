@@ -7,3 +7,5 @@ pub mod MonthShown
 pub mod MonthDues
 pub mod MonthKeep
 pub mod MonthOpen
+pub mod PostMonth
+pub mod PostDues
