@@ -9,3 +9,4 @@ pub mod MonthKeep
 pub mod MonthOpen
 pub mod PostMonth
 pub mod PostDues
+pub mod MonthSums

@@ -39,7 +39,7 @@ module _ {X : Type 0} where
 -- ---- a new lease
 
 module _ (month : ℕ) where
-  dues_first : (lease : Lease) (leases : List Lease) → dues_among (lease ∷ leases) month ≡ filter (falls_in month) (dues_of lease) ++ dues_among leases month
+  pub dues_first : (lease : Lease) (leases : List Lease) → dues_among (lease ∷ leases) month ≡ filter (falls_in month) (dues_of lease) ++ dues_among leases month
   dues_first lease leases = filter-append (falls_in month) (dues_of lease) (flat_map dues_of leases)
 
   module _ (lease : Lease) (none : filter (falls_in month) (dues_of lease) ≡ []) where
