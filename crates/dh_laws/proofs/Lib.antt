@@ -4,3 +4,4 @@ pub mod MapRows
 pub mod MapMerges
 pub mod PostMonth
 pub mod PostDues
+pub mod PostCharged
