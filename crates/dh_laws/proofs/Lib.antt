@@ -10,3 +10,4 @@ pub mod MonthOpen
 pub mod PostMonth
 pub mod PostDues
 pub mod MonthSums
+pub mod PostCharged

@@ -75,10 +75,10 @@ module _ {K X : Type 0} {R : K → K → Ordering} (key : X → K) (month_of : X
     pub of_others : (m : FinMap R X) (month : ℕ) (k : K) (x : X) → Has m k x → (month_of x ≡ month → ⊥) → Has (others m month) k x
     of_others m month k x h n = get_kept o anti (λ x. not (nat_eq (month_of x) month)) m k x h (is_other (month_of x) month n)
 
-    in_rows : (m : FinMap R X) (month : ℕ) (x : X) → Among (rows_in m month) x → Among (values m) x × (month_of x ≡ month)
+    pub in_rows : (m : FinMap R X) (month : ℕ) (x : X) → Among (rows_in m month) x → Among (values m) x × (month_of x ≡ month)
     in_rows m month x a = let kept = in_filter (λ x. nat_eq (month_of x) month) (values m) x a in (kept.0, (numbers (month_of x) month).0 kept.1)
 
-    of_rows : (m : FinMap R X) (month : ℕ) (x : X) → Among (values m) x → month_of x ≡ month → Among (rows_in m month) x
+    pub of_rows : (m : FinMap R X) (month : ℕ) (x : X) → Among (values m) x → month_of x ≡ month → Among (rows_in m month) x
     of_rows m month x a e = of_filter (λ x. nat_eq (month_of x) month) (values m) x ((numbers (month_of x) month).1 e) a
 
     -- where no row is of the month, all stay
