@@ -11,3 +11,4 @@ pub mod PostMonth
 pub mod PostDues
 pub mod MonthSums
 pub mod PostCharged
+pub mod MonthClose

@@ -95,7 +95,7 @@ due_made lease k charge is within =
 
 -- ---- a lease's branch
 
-key_among : {X : Type 0} (m : FinMap text_cmp X) (k : List ℕ) → IsThere m k → Among (keys m) k
+pub key_among : {X : Type 0} (m : FinMap text_cmp X) (k : List ℕ) → IsThere m k → Among (keys m) k
 key_among m k h =
     let is = (there text_total text_ties m k).0 h in
     of_map (λ e. e.0) (entries m) (k, is.0) (found_entry text_total text_ties (entries m) k is.0 (sym (get-entries m k) ∙ is.1))
