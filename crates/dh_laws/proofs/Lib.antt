@@ -12,3 +12,7 @@ pub mod PostDues
 pub mod MonthSums
 pub mod PostCharged
 pub mod MonthClose
+pub mod VerdictChecks
+pub mod Acceptance
+pub mod VerdictCases
+pub mod MonthChanges
