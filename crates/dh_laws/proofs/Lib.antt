@@ -5,3 +5,4 @@ pub mod MapMerges
 pub mod PostMonth
 pub mod PostDues
 pub mod PostCharged
+pub mod PostRules
