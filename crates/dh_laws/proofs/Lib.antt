@@ -16,3 +16,4 @@ pub mod VerdictChecks
 pub mod Acceptance
 pub mod VerdictCases
 pub mod MonthChanges
+pub mod PostRules
