@@ -17,3 +17,4 @@ pub mod Acceptance
 pub mod VerdictCases
 pub mod MonthChanges
 pub mod PostRules
+pub mod MonthWhole
