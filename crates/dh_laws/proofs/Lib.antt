@@ -18,3 +18,4 @@ pub mod VerdictCases
 pub mod MonthChanges
 pub mod PostRules
 pub mod MonthWhole
+pub mod MonthSteps
