@@ -6,3 +6,4 @@ pub mod PostMonth
 pub mod PostDues
 pub mod PostCharged
 pub mod PostRules
+pub mod PostWhole
