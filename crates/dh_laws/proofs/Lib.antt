@@ -19,3 +19,4 @@ pub mod MonthChanges
 pub mod PostRules
 pub mod MonthWhole
 pub mod MonthSteps
+pub mod PostWhole
