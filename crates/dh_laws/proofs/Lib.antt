@@ -5,3 +5,5 @@ pub mod MapMerges
 pub mod VerdictChecks
 pub mod Acceptance
 pub mod VerdictCases
+pub mod KeyedRows
+pub mod KeepKeys
