@@ -20,3 +20,5 @@ pub mod PostRules
 pub mod MonthWhole
 pub mod MonthSteps
 pub mod PostWhole
+pub mod KeyedRows
+pub mod KeepKeys
