@@ -1,1 +1,3 @@
 pub mod OweSums
+pub mod OweCharges
+pub mod OweDues
