@@ -5,3 +5,5 @@ pub mod KeyOrders
 pub mod Pairs
 pub mod MapRows
 pub mod MapMerges
+pub mod OweMoves
+pub mod OweBalances

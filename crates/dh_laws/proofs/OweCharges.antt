@@ -1,5 +1,5 @@
 -- What is charged in whole books.
-use Rattle.std.proofs.Common.{◌≡◌, ◌∙◌, subst, ℕ}
+use Rattle.std.proofs.Common.{subst, ℕ}
 use Rattle.std.specs.FinMap.{values}
 use Rattle.dh_types.specs.declared.lease.Charge.{Charge}
 use Rattle.dh_types.proofs.SameValues.{numbers}

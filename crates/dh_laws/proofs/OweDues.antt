@@ -17,7 +17,8 @@ use Rattle.dh_model.proofs.Rising.{Lesser, Rises}
 use Rattle.dh_laws.specs.InOrder.{AreKeyed}
 use Rattle.dh_laws.specs.Balances.{due_on}
 use Rattle.dh_laws.proofs.KeyOrders.{nat_ties, nat_total, nats_tie, nats_total}
-use Rattle.dh_laws.proofs.MapRows.{inside, of_row, row_of}
+use Rattle.dh_laws.proofs.MapMerges.{one_row}
+use Rattle.dh_laws.proofs.MapRows.{of_row}
 use Rattle.dh_laws.proofs.OweCharges.{charged_is_due, charged_was_run}
 use Rattle.dh_laws.proofs.OweSums.{Apart, kept_added}
 
@@ -41,14 +42,6 @@ dues_apart books month keyed =
     rises_by (Lesser lease_of) (Apart nats_total nats_tie charge_key) by_lease (dues books month)
     (dues_rise (values books.leases) month (leases_rise books keyed.leases))
 
--- two leases of one number are one
-one_lease : (books : Books) → AreKeyed books → (a b : Lease) → Among (values books.leases) a → Among (values books.leases) b → a.terms.number ≡ b.terms.number → a ≡ b
-one_lease books keyed a b p q e =
-    let at = row_of nat_total nat_ties books.leases a p in
-    let other = row_of nat_total nat_ties books.leases b q in
-    let same : at.0 ≡ other.0 = sym (keyed.leases at.0 a at.1) ∙ e ∙ keyed.leases other.0 b other.1 in
-    inside a b (sym at.1 ∙ ap (get books.leases) same ∙ other.1)
-
 -- two dues of one key fall in one month
 one_month : (books : Books) → AreKeyed books → (m n : ℕ) (a b : Charge) → Among (dues books m) a → Among (dues books n) b → charge_key a ≡ charge_key b → m ≡ n
 one_month books keyed m n a b p q e =
@@ -58,7 +51,8 @@ one_month books keyed m n a b p q e =
     let index = ap (λ (k : ℕ × ℕ). k.1) e in
     let number : x.lease.terms.number ≡ y.lease.terms.number = sym (ap (λ (c : Charge). c.lease) x.is) ∙ lease ∙ ap (λ (c : Charge). c.lease) y.is in
     let k : x.k ≡ y.k = sym (ap (λ (c : Charge). c.index) x.is) ∙ index ∙ ap (λ (c : Charge). c.index) y.is in
-    let start = ap (λ (l : Lease). month_of_day l.terms.start) (one_lease books keyed x.lease y.lease x.of y.of number) in
+    let same = one_row nat_total nat_ties (λ it. it.terms.number) books.leases keyed.leases x.lease y.lease x.of y.of number in
+    let start = ap (λ (it : Lease). month_of_day it.terms.start) same in
     let first = ap (λ (c : Charge). c.month) x.is in
     let second = ap (λ (c : Charge). c.month) y.is in
     let here = x.month_is in

@@ -1,5 +1,5 @@
 -- Sums over what a filter keeps of a map's rows, after new ones.
-use Rattle.std.proofs.Common.{◌≡◌, ◌≢◌, ◌∙◌, refl, sym, ap, inl, inr, ℕ, ◌+◌, Bool, true, false, cond, List, [], ◌∷◌, Option, Some, None, Ordering, arith}
+use Rattle.std.proofs.Common.{◌≡◌, ◌≢◌, ◌∙◌, refl, sym, ap, inl, inr, ℕ, ◌+◌, Bool, true, false, cond, List, [], ◌∷◌, None, Ordering, arith}
 use Rattle.std.specs.List.{filter, sum_by}
 use Rattle.std.specs.Cmp.{IsTotalOrder}
 use Rattle.std.specs.FinMap.{FinMap, IsAntisymmetric, entries, get, get-entries, get-from_entries, insert, same_map, values}
@@ -7,7 +7,8 @@ use Rattle.std.proofs.lemmas.List.Sums.{sum_by-cons}
 use Rattle.dh_model.specs.Books.{with_rows}
 use Rattle.dh_model.proofs.Among.{Among}
 use Rattle.dh_model.proofs.Rising.{Rises}
-use Rattle.dh_laws.proofs.MapRows.{get_other, sum_new}
+use Rattle.dh_laws.proofs.MapMerges.{get_past_rows}
+use Rattle.dh_laws.proofs.MapRows.{sum_new}
 
 module _ {X : Type 0} (f : X → ℕ) where
   sum_if : (b : Bool) (x : X) (xs : List X) → sum_by f (cond b (x ∷ xs) xs) ≡ cond b (f x) 0 + sum_by f xs
@@ -46,18 +47,12 @@ module _ {K X : Type 0} {R : K → K → Ordering} (o : IsTotalOrder R) (anti : 
     abbrev pub Apart : X → X → Type 0
     Apart x y = key x ≢ key y
 
-    -- rows of other keys don't answer a key
-    none_among : (x : X) (rows : List X) (m : FinMap R X) → ((y : X) → Among rows y → Apart x y) → get m (key x) ≡ None → get (with_rows key rows m) (key x) ≡ None
-    none_among x [] m apart none = ap (λ n. get n (key x)) (as_it_is m) ∙ none
-    none_among x (y ∷ rows) m apart none =
-        get_other o anti (with_rows key rows m) (key y) y (key x) (apart y (inl refl)) ∙ none_among x rows m (λ z a. apart z (inr a)) none
-
     -- rows under new keys, each its own, add theirs
     sum_added : (f : X → ℕ) (rows : List X) (m : FinMap R X) → Rises Apart rows → ((x : X) → Among rows x → get m (key x) ≡ None)
         → sum_by f (values (with_rows key rows m)) ≡ sum_by f (values m) + sum_by f rows
     sum_added f [] m apart none = let same = ap (λ n. sum_by f (values n)) (as_it_is m) in omega (arith, same)
     sum_added f (x ∷ rows) m apart none =
-        let first = sum_new o anti f (with_rows key rows m) (key x) x (none_among x rows m apart.0 (none x (inl refl))) in
+        let first = sum_new o anti f (with_rows key rows m) (key x) x (get_past_rows o anti key rows m (key x) (λ y a e. apart.0 y a (sym e)) ∙ none x (inl refl)) in
         let rest = sum_added f rows m apart.1 (λ y a. none y (inr a)) in
         let all = sum_by-cons f x rows in
         omega (arith, first, rest, all)
