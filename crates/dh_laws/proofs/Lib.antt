@@ -1,3 +1,6 @@
+pub mod OweSums
+pub mod OweCharges
+pub mod OweDues
 pub mod KeyOrders
 pub mod Pairs
 pub mod MapRows
@@ -22,3 +25,5 @@ pub mod MonthSteps
 pub mod PostWhole
 pub mod KeyedRows
 pub mod KeepKeys
+pub mod OweMoves
+pub mod OweBalances
