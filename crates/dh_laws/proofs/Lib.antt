@@ -27,3 +27,4 @@ pub mod KeyedRows
 pub mod KeepKeys
 pub mod OweMoves
 pub mod OweBalances
+pub mod PostCounts
