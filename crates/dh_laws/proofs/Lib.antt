@@ -28,3 +28,4 @@ pub mod KeepKeys
 pub mod OweMoves
 pub mod OweBalances
 pub mod PostCounts
+pub mod PostSmall
