@@ -29,3 +29,5 @@ pub mod OweMoves
 pub mod OweBalances
 pub mod PostCounts
 pub mod PostSmall
+pub mod PostClosing
+pub mod PostOpening
