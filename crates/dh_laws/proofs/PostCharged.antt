@@ -1,7 +1,6 @@
 -- Batches fit into books whose rules hold.
-use Rattle.std.proofs.Common.{◌≡◌, ◌∙◌, refl, sym, ap, subst, ℕ, Bool, true, false, List, Option, Some}
-use Rattle.std.specs.List.{IsAmong}
-use Rattle.std.specs.FinMap.{get, values}
+use Rattle.std.proofs.Common.{◌≡◌, ◌∙◌, refl, sym, ap, ℕ, Bool, true, false, List}
+use Rattle.std.specs.FinMap.{values}
 use Rattle.dh_types.specs.declared.lease.Charge.{Charge}
 use Rattle.dh_types.specs.declared.run.Run.{Run}
 use Rattle.dh_types.specs.declared.run.Part.{Part}

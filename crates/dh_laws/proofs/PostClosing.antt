@@ -1,6 +1,5 @@
 -- Where no batch is left, closing makes the books whole.
 use Rattle.std.proofs.Common.{◌≡◌, ◌∙◌, sym, ap, subst, ℕ, ◌≤◌, nat_eq, true, List, length, Some}
-use Rattle.std.specs.List.{filter}
 use Rattle.std.specs.FinMap.{insert, values}
 use Rattle.dh_types.specs.declared.lease.Charge.{Charge}
 use Rattle.dh_types.specs.declared.run.Run.{Run}
@@ -8,7 +7,7 @@ use Rattle.dh_model.specs.Books.{Books}
 use Rattle.dh_model.specs.Leases.{dues}
 use Rattle.dh_model.specs.Runs.{batches, charge_key, closed_run, part_key, posted_charges, posted_parts, total_of}
 use Rattle.dh_model.specs.Rules.{ArePosted, MeetsRules, Rule, charges_in}
-use Rattle.dh_model.specs.Whole.{completed, open_row, whole}
+use Rattle.dh_model.specs.Whole.{completed}
 use Rattle.dh_model.proofs.Among.{Among, among, is_among}
 use Rattle.dh_model.proofs.BranchDues.{dues_rise, lease_of, leases_rise}
 use Rattle.dh_model.proofs.Rising.{Rises, filter_rises}
@@ -28,7 +27,6 @@ module _ (size : ℕ) (books : Books) (pos : 1 ≤ size) (keyed : AreKeyed books
   -- a charge of the month is one of its dues
   to_due : (charge : Charge) → Among (charges_in books run.month) charge → Among (dues books run.month) charge
   to_due charge a =
-      let all = posted_charges size books run.month (batches size books run.month) in
       among (dues books run.month) charge
       ((all_are_dues books (rules Rule.References) run.month size pos keyed.leases charge).0 ((posted.charges charge).0 (is_among (charges_in books run.month) charge a)))
 

@@ -1,11 +1,11 @@
 -- Sums over lists in which nothing stands twice.
-use Rattle.std.proofs.Common.{◌≡◌, ◌≢◌, ◌⊎◌, ◌∙◌, refl, sym, ap, subst, inl, inr, ℕ, zero, suc, ◌+◌, ◌<◌, ◌≤◌, List, [], ◌∷◌, ◌++◌, length, Ordering, is_lt, length-append, arith}
+use Rattle.std.proofs.Common.{◌≡◌, ◌≢◌, ◌⊎◌, ◌∙◌, refl, sym, ap, subst, inl, inr, ℕ, ◌+◌, ◌<◌, ◌≤◌, List, [], ◌∷◌, ◌++◌, length, Ordering, is_lt, length-append, arith}
 use lib.ListN.{length-map}
 use Rattle.std.specs.List.{flat_map, sum_by}
 use Rattle.std.specs.Cmp.{IsTotalOrder}
 use Rattle.std.specs.FinMap.{FinMap, IsAntisymmetric, entries, len, len-entries, values}
 use Rattle.std.proofs.lemmas.Cmp.{tied_itself}
-use Rattle.std.proofs.lemmas.List.Sums.{sum_by-append, sum_by-cons}
+use Rattle.std.proofs.lemmas.List.Sums.{sum_by-cons}
 use Rattle.dh_model.proofs.Among.{Among, in_flat_map}
 use Rattle.dh_model.proofs.Rising.{IsBefore, Lesser, Rises}
 use Rattle.dh_laws.specs.InOrder.{StandUnder}
@@ -114,8 +114,8 @@ module _ {K X : Type 0} (f : K → List X) (size : ℕ) (small : (k : K) → len
   by_first [] k ks e r one few rest = rest
   by_first (x ∷ xs) k ks e r one few rest =
       let none = no_element (flat_map f ks) (λ y a.
-          let of = in_flat_map f ks y a in
-          r.0 of.0 of.1 (one k of.0 x y (inl refl) (inr of.1) (subst (λ l. Among l x) e (inl refl)) of.2)) in
+      let of = in_flat_map f ks y a in
+      r.0 of.0 of.1 (one k of.0 x y (inl refl) (inr of.1) (subst (λ l. Among l x) e (inl refl)) of.2)) in
       let all = length-append (x ∷ xs) (flat_map f ks) in
       omega (arith, none, all, few)
 

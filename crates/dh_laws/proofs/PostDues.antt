@@ -1,7 +1,6 @@
 -- What is charged falls due on a lease of the books, and a lease and an index say what.
-use Rattle.std.proofs.Common.{◌≡◌, ◌∙◌, refl, sym, ap, subst, ℕ, ◌<◌, ◌≤◌, nat_lt, List, Option, Some, ltb-true, lt-ltb, arith}
-use Rattle.std.specs.List.{IsAmong, filter}
-use Rattle.std.specs.FinMap.{entries, get, keys, values}
+use Rattle.std.proofs.Common.{◌≡◌, ◌∙◌, sym, ap, ℕ, ◌<◌, nat_lt, List, ltb-true, lt-ltb}
+use Rattle.std.specs.FinMap.{get, keys, values}
 use Rattle.dh_types.specs.declared.lease.Lease.{Lease}
 use Rattle.dh_types.specs.declared.lease.Charge.{Charge}
 use Rattle.dh_types.specs.declared.run.Part.{Part}
@@ -9,8 +8,8 @@ use Rattle.dh_model.specs.Books.{Books}
 use Rattle.dh_model.specs.Leases.{due, dues, dues_among}
 use Rattle.dh_model.specs.Runs.{batch_of, batches_before, begun_branches, charge_key, dues_of_branch, is_property_of, leases_of_branch, part_key, part_of, posted_charges, posted_of_branch, posted_parts}
 use Rattle.dh_model.proofs.Among.{Among, in_filter, in_flat_map, in_map, of_filter, of_flat_map}
-use Rattle.dh_model.proofs.DueLemmas.{IsDue, is_due}
-use Rattle.dh_laws.specs.InOrder.{AreKeyed, StandUnder}
+use Rattle.dh_model.proofs.DueLemmas.{is_due}
+use Rattle.dh_laws.specs.InOrder.{StandUnder}
 use Rattle.dh_laws.proofs.KeyOrders.{nat_ties, nat_total}
 use Rattle.dh_laws.proofs.MapMerges.{one_row}
 use Rattle.dh_laws.proofs.PostMonth.{OneEach}

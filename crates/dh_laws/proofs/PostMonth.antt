@@ -1,6 +1,6 @@
 -- The rows of a month in the place of those that a map has of it.
-use Rattle.std.proofs.Common.{◌≡◌, ◌≢◌, ◌⊎◌, ◌∙◌, refl, sym, ap, inl, inr, ℕ, Bool, true, false, not, nat_eq, List, Option, Some, None, Ordering}
-use Rattle.std.specs.List.{IsAmong, filter}
+use Rattle.std.proofs.Common.{◌≡◌, ◌⊎◌, ◌∙◌, refl, sym, ap, inl, inr, ℕ, Bool, true, false, not, nat_eq, List, Option, Some, None, Ordering}
+use Rattle.std.specs.List.{filter}
 use Rattle.std.specs.Cmp.{IsTotalOrder}
 use Rattle.std.specs.FinMap.{FinMap, IsAntisymmetric, get, same_map, values}
 use Rattle.dh_types.proofs.SameValues.{numbers}

@@ -1,9 +1,8 @@
 -- A run in one step is its opening made whole.
-use Rattle.std.proofs.Common.{◌≡◌, ◌≢◌, ◌⊎◌, ◌∙◌, refl, sym, ap, subst, inl, inr, ℕ, ◌+◌, ◌<◌, ◌≤◌, Bool, true, false, cond, List, Option, Some, None, Ordering, arith}
-use Rattle.std.specs.Ordering.{eq_by_cmp, nat_cmp}
+use Rattle.std.proofs.Common.{◌≡◌, ◌∙◌, refl, sym, ap, inl, inr, ℕ, ◌+◌, ◌≤◌, Bool, true, false, cond, List, Option, Some, None, Ordering, arith}
+use Rattle.std.specs.Ordering.{eq_by_cmp}
 use Rattle.std.specs.Cmp.{IsTotalOrder}
 use Rattle.std.specs.FinMap.{FinMap, IsAntisymmetric, get, get-insert, insert, same_map, values}
-use Rattle.dh_types.specs.declared.command.RunOrder.{RunOrder}
 use Rattle.dh_types.specs.declared.lease.Charge.{Charge}
 use Rattle.dh_types.specs.declared.run.Run.{Run}
 use Rattle.dh_types.specs.declared.run.Part.{Part}
@@ -14,7 +13,7 @@ use Rattle.dh_model.specs.Machine.{changed}
 use Rattle.dh_model.specs.Runs.{batches, charge_key, closed_run, part_key, posted_charges, posted_parts, ran}
 use Rattle.dh_model.specs.Rules.{HaveTheSame, IsThere, MeetsRules, Rule}
 use Rattle.dh_model.specs.Verdicts.{opened_run}
-use Rattle.dh_model.specs.Whole.{completed, open_row, whole}
+use Rattle.dh_model.specs.Whole.{completed, open_row}
 use Rattle.dh_model.proofs.Among.{Among, among, is_among}
 use Rattle.dh_laws.specs.InOrder.{AreKeyed}
 use Rattle.dh_laws.specs.Posting.{RunIsOpeningMadeWhole}

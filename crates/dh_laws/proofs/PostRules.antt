@@ -1,23 +1,22 @@
 -- With so many batches of the open month in the place of what they have of it, books keep the rules.
-use Rattle.std.proofs.Common.{◌≡◌, ◌⊎◌, ◌∙◌, refl, sym, ap, subst, inl, inr, ℕ, ◌+◌, ◌<◌, ◌≤◌, Bool, true, false, not, List, Option, Some, None, cond, arith}
+use Rattle.std.proofs.Common.{◌≡◌, ◌⊎◌, ◌∙◌, sym, ap, subst, inl, inr, ℕ, ◌+◌, ◌≤◌, true, false, List, Some, arith}
 use Rattle.std.specs.Ordering.{eq_by_cmp}
-use Rattle.std.specs.List.{IsAmong, find}
+use Rattle.std.specs.List.{IsAmong}
 use Rattle.std.specs.FinMap.{contains_key-keys, get, keys, values}
 use Rattle.std.proofs.lemmas.Bool.{cases_lt, true≢false}
 use Rattle.dh_types.specs.declared.lease.Charge.{Charge}
 use Rattle.dh_types.specs.declared.run.Run.{Run}
 use Rattle.dh_types.specs.declared.run.Part.{Part}
 use Rattle.dh_model.specs.Books.{Books, text_cmp}
-use Rattle.dh_model.specs.Leases.{dues}
 use Rattle.dh_model.specs.Runs.{batches, charge_key, part_key, posted_charges, posted_parts}
-use Rattle.dh_model.specs.Rules.{ArePosted, Holds, IsThere, MeetsRules, MonthIsClosed, MonthIsOpen, MonthsInOrder, RunsInOrder, DepositsInOrder, KeysInOrder, StaffOfTheBranch, NamesWhatIsThere, Rule, charges_in, parts_in}
+use Rattle.dh_model.specs.Rules.{ArePosted, IsThere, MeetsRules, MonthIsClosed, MonthsInOrder, NamesWhatIsThere, Rule}
 use Rattle.dh_model.specs.Whole.{with_posted}
 use Rattle.dh_model.proofs.Among.{Among, among, is_among, of_passes}
 use Rattle.dh_laws.specs.InOrder.{AreKeyed}
 use Rattle.dh_laws.proofs.KeyOrders.{nat_text_ties, nat_text_total, nat_ties, nat_total, nats_tie, nats_total, text_ties, text_total}
 use Rattle.dh_laws.proofs.MapRows.{key_itself, of_row, there}
 use Rattle.dh_laws.proofs.MapMerges.{one_row, own_row}
-use Rattle.dh_laws.proofs.PostMonth.{Fits, in_month, in_other_month, keyed_replaced, of_old, value_of_replaced}
+use Rattle.dh_laws.proofs.PostMonth.{in_month, in_other_month, keyed_replaced, of_old, value_of_replaced}
 use Rattle.dh_laws.proofs.PostDues.{IsOwed, is_begun, month_of_begun, owed_posted}
 use Rattle.dh_laws.proofs.PostCharged.{charge_month, charges_fit, part_month, parts_fit}
 

@@ -1,10 +1,10 @@
 -- A batch has no more charges than the size.
-use Rattle.std.proofs.Common.{◌≡◌, ◌⊎◌, ◌∙◌, refl, sym, ap, subst, inl, inr, ℕ, ◌+◌, ◌/◌, ◌<◌, ◌≤◌, Bool, true, false, cond, nat_eq, List, [], ◌∷◌, ◌++◌, length, Ordering, Less, Equal, Greater, is_lt, le-add_right, length-append, arith}
+use Rattle.std.proofs.Common.{◌≡◌, ◌∙◌, refl, sym, ap, subst, inl, inr, ℕ, ◌+◌, ◌/◌, ◌≤◌, Bool, true, false, cond, nat_eq, List, [], ◌∷◌, ◌++◌, length, Ordering, Less, Equal, Greater, is_lt, le-add_right, length-append, arith}
 use Rattle.std.specs.Ordering.{ordering_reverse}
-use Rattle.std.specs.List.{IsAmong, count_by, filter, flat_map, sum_by}
+use Rattle.std.specs.List.{filter, flat_map, sum_by}
 use Rattle.std.specs.Cmp.{IsTotalOrder}
 use Rattle.std.specs.FinMap.{entries, entries_sorted, is_sorted, keys, len, values}
-use Rattle.std.proofs.lemmas.Bool.{cases_Bool, cases_lt}
+use Rattle.std.proofs.lemmas.Bool.{cases_lt}
 use Rattle.std.proofs.lemmas.Cmp.{tied_itself}
 use Rattle.std.proofs.lemmas.List.Sums.{length-filter}
 use Rattle.dh_types.specs.declared.lease.Charge.{Charge}
@@ -26,7 +26,7 @@ use Rattle.dh_laws.proofs.Pairs.{among_left, among_right}
 use Rattle.dh_laws.proofs.PostMonth.{in_rows, value_of_replaced}
 use Rattle.dh_laws.proofs.PostDues.{is_posted, of_posted}
 use Rattle.dh_laws.proofs.PostCharged.{charge_month, charges_fit}
-use Rattle.dh_laws.proofs.PostCounts.{Differ, OneHolds, at_most_one, no_longer, rows_counted, rows_differ, weaker}
+use Rattle.dh_laws.proofs.PostCounts.{Differ, at_most_one, no_longer, rows_counted, rows_differ, weaker}
 use Rattle.dh_laws.proofs.PostRules.{posted_keyed}
 
 module _ {X : Type 0} (p q : X → Bool) (implies : (x : X) → p x ≡ true → q x ≡ true) where
@@ -47,8 +47,8 @@ module _ {K : Type 0} (f : K → ℕ) (R : K → K → Ordering) (o : IsTotalOrd
       let before : List K = filter (λ other. is_lt (R other b)) ks in
       let all = own_is_among_all f R o before a (of_filter (λ other. is_lt (R other b)) ks a less h) in
       let same : sum_by f (filter (λ other. is_lt (R other a)) before) ≡ sum_before f R o ks a =
-          ap (sum_by f) (filter_twice (λ other. is_lt (R other a)) (λ other. is_lt (R other b))
-          (λ x h. ap is_lt (o.trans x a b (is_less (R x a) h) (is_less (R a b) less))) ks) in
+      ap (sum_by f) (filter_twice (λ other. is_lt (R other a)) (λ other. is_lt (R other b))
+      (λ x h. ap is_lt (o.trans x a b (is_less (R x a) h) (is_less (R a b) less))) ks) in
       omega (arith, all, same)
 
 module _ (size : ℕ) (books : Books) (month : ℕ) where

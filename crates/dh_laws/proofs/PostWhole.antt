@@ -1,15 +1,13 @@
 -- The next batch keeps the order of the books, and their whole.
-use Rattle.std.proofs.Common.{◌≡◌, ◌∙◌, sym, ap, subst, ℕ, ◌+◌, ◌<◌, ◌≤◌, false, Some, arith}
-use Rattle.std.specs.FinMap.{FinMap, get, insert, values}
-use Rattle.dh_types.specs.declared.lease.Charge.{Charge}
+use Rattle.std.proofs.Common.{◌≡◌, ◌∙◌, sym, ap, subst, ℕ, ◌+◌, ◌≤◌, false, Some, arith}
+use Rattle.std.specs.FinMap.{get, insert, values}
 use Rattle.dh_types.specs.declared.run.Run.{Run}
-use Rattle.dh_types.specs.declared.run.Part.{Part}
-use Rattle.dh_model.specs.Books.{Books, pair_cmp, text_cmp, with_rows}
+use Rattle.dh_model.specs.Books.{Books, with_rows}
 use Rattle.dh_model.specs.Runs.{batches, charge_key, closed_run, part_key, posted_charges, posted_parts}
-use Rattle.dh_model.specs.Rules.{ArePosted, MeetsRules}
-use Rattle.dh_model.specs.Whole.{completed, open_row, whole, with_posted}
+use Rattle.dh_model.specs.Rules.{MeetsRules}
+use Rattle.dh_model.specs.Whole.{completed, open_row, with_posted}
 use Rattle.dh_model.proofs.Among.{Among}
-use Rattle.dh_laws.specs.InOrder.{AreKeyed, IsInOrder}
+use Rattle.dh_laws.specs.InOrder.{AreKeyed}
 use Rattle.dh_laws.specs.Posting.{NextBatchKeepsTheWhole}
 use Rattle.dh_laws.proofs.KeyOrders.{nat_text_ties, nat_text_total, nat_ties, nat_total, nats_tie, nats_total}
 use Rattle.dh_laws.proofs.MapMerges.{own_row}
@@ -51,8 +49,7 @@ next_batch_keeps_the_whole size books month done pos order more =
     let own = order.shown.2 in
     let at = is_open books row keyed shown in
     let here : get books.runs month ≡ Some row = subst (λ m. get books.runs m ≡ Some row) own at.is in
-    let few : done + 1 ≤ batches size books month = omega (arith, more) in
-    (
+    let few : done + 1 ≤ batches size books month = omega (arith, more) in (
       record {
         keyed = posted_keyed size books keyed rules month (done + 1);
         rules = posted_rules size books keyed rules month (done + 1) row here at.open_still few;
