@@ -7,3 +7,5 @@ pub mod Acceptance
 pub mod VerdictCases
 pub mod KeyedRows
 pub mod KeepKeys
+pub mod KeepGrowth
+pub mod KeepReferences
