@@ -9,3 +9,5 @@ pub mod KeyedRows
 pub mod KeepKeys
 pub mod KeepGrowth
 pub mod KeepReferences
+pub mod KeepStaff
+pub mod KeepManagers
