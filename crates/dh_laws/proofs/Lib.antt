@@ -11,3 +11,4 @@ pub mod KeepGrowth
 pub mod KeepReferences
 pub mod KeepStaff
 pub mod KeepManagers
+pub mod KeepLeases
