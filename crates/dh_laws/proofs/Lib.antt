@@ -11,4 +11,3 @@ pub mod KeepGrowth
 pub mod KeepReferences
 pub mod KeepStaff
 pub mod KeepManagers
-pub mod KeepLeases
