@@ -22,3 +22,4 @@ pub mod MonthSteps
 pub mod PostWhole
 pub mod KeyedRows
 pub mod KeepKeys
+pub mod KeepLeases
