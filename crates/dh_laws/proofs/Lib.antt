@@ -23,3 +23,5 @@ pub mod PostWhole
 pub mod KeyedRows
 pub mod KeepKeys
 pub mod KeepLeases
+pub mod KeepGrowth
+pub mod KeepReferences
