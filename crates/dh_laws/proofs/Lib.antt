@@ -25,3 +25,5 @@ pub mod KeepKeys
 pub mod KeepLeases
 pub mod KeepGrowth
 pub mod KeepReferences
+pub mod KeepStaff
+pub mod KeepManagers
