@@ -22,8 +22,9 @@ pub mod MonthSteps
 pub mod PostWhole
 pub mod KeyedRows
 pub mod KeepKeys
-pub mod KeepLeases
+pub mod Settled
 pub mod KeepGrowth
 pub mod KeepReferences
 pub mod KeepStaff
 pub mod KeepManagers
+pub mod KeepOrder

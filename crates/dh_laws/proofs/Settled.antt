@@ -1,7 +1,6 @@
 -- Leases, receipts and keys stay in order after every change.
-use Rattle.std.proofs.Common.{◌≡◌, ◌≢◌, ◌∙◌, refl, sym, ap, subst, inl, inr, ℕ, ◌+◌, ◌*◌, ◌<◌, ◌≤◌, Bool, true, false, ◌&&◌, cond, nat_eq, List, [], ◌∷◌, ◌++◌, map, Option, Some, None, IfSome, AllPairs, is_some, arith}
-use Rattle.std.specs.List.{IsAmong}
-use Rattle.std.specs.FinMap.{FinMap, contains_key, get, insert, len, len-insert, values}
+use Rattle.std.proofs.Common.{◌≡◌, ◌≢◌, ◌∙◌, refl, sym, ap, subst, inl, inr, ℕ, ◌+◌, ◌*◌, ◌≤◌, false, ◌&&◌, cond, nat_eq, List, [], ◌∷◌, ◌++◌, map, Option, Some, None, IfSome, AllPairs, is_some, arith}
+use Rattle.std.specs.FinMap.{get, insert, len, len-insert, values}
 use Rattle.std.proofs.lemmas.Bool.{false_from_ne_true, and_parts, and_from}
 use Rattle.dh_values.specs.declared.receipt_kind.ReceiptKind.TheVariants.{Deposit}
 use Rattle.dh_days.specs.Days.{month_of_day}
@@ -16,14 +15,14 @@ use Rattle.dh_model.specs.Books.{Books}
 use Rattle.dh_model.specs.Checks.{is_same_text}
 use Rattle.dh_model.specs.Leases.{overlap}
 use Rattle.dh_model.specs.Machine.{at_rent, changed, managed, with_comment}
-use Rattle.dh_model.specs.Rules.{DepositsInOrder, Each, EachTwo, IsThere, KeysInOrder, LeasesInTime, LeasesNeverOverlap, NamesWhatIsThere, OneStartADay, RunsInOrder}
+use Rattle.dh_model.specs.Rules.{DepositsInOrder, Each, EachTwo, KeysInOrder, LeasesInTime, LeasesNeverOverlap, NamesWhatIsThere, OneStartADay, RunsInOrder}
 use Rattle.dh_model.proofs.Among.{Among, in_append, in_map, is_among}
 use Rattle.dh_model.proofs.LeaseLemmas.{overlap_goes_both_ways}
 use Rattle.dh_model.proofs.Rising.{Rises}
-use Rattle.dh_laws.specs.InOrder.{AreKeyed, StandUnder}
+use Rattle.dh_laws.specs.InOrder.{AreKeyed}
 use Rattle.dh_laws.proofs.Acceptance.{Accepted, AddsLease, AddsReceipt, OpensRun}
 use Rattle.dh_laws.proofs.KeyOrders.{nat_total, nat_ties}
-use Rattle.dh_laws.proofs.MapRows.{each_got, each_insert, each_two_insert, get_other, of_row, there, values_new}
+use Rattle.dh_laws.proofs.MapRows.{each_insert, each_two_insert, get_other, of_row, there, values_new}
 use Rattle.dh_laws.proofs.Pairs.{pairs_rise, rises_put, rising_pairs}
 use Rattle.dh_laws.proofs.VerdictCases.{IsLimited}
 use Rattle.dh_laws.proofs.VerdictChecks.{IsNewKey}
@@ -113,7 +112,7 @@ module _ (b : Books) (keyed : AreKeyed b) (settled : AreSettled b) where
   with_key key new front back keys was is =
       let own = settled.keys in
       let rises : Rises (λ k other. is_same_text k other ≡ false) (front ++ back)
-          = subst (Rises (λ k other. is_same_text k other ≡ false)) was (pairs_rise (λ k other. is_same_text k other ≡ false) (receipt_keys ++ run_keys) own.keys) in
+      = subst (Rises (λ k other. is_same_text k other ≡ false)) was (pairs_rise (λ k other. is_same_text k other ≡ false) (receipt_keys ++ run_keys) own.keys) in
       rising_pairs (λ k other. is_same_text k other ≡ false) keys
       (subst (Rises (λ k other. is_same_text k other ≡ false)) (sym is) (rises_put (λ k other. is_same_text k other ≡ false) front back key rises
       (λ other a. new_key_apart key new other (subst (λ ks. Among ks other) (sym was) a))))
