@@ -1,3 +1,6 @@
+pub mod OweSums
+pub mod OweCharges
+pub mod OweDues
 pub mod KeyOrders
 pub mod Pairs
 pub mod MapRows
@@ -28,3 +31,9 @@ pub mod KeepReferences
 pub mod KeepStaff
 pub mod KeepManagers
 pub mod KeepOrder
+pub mod OweMoves
+pub mod OweBalances
+pub mod PostCounts
+pub mod PostSmall
+pub mod PostClosing
+pub mod PostOpening

@@ -1,5 +1,5 @@
 -- The next batch keeps the order of the books, and their whole.
-use Rattle.std.proofs.Common.{◌≡◌, ◌∙◌, refl, sym, ap, subst, inl, inr, ℕ, ◌+◌, ◌<◌, ◌≤◌, Bool, true, false, not, cond, List, [], ◌∷◌, Option, Some, None, find, arith}
+use Rattle.std.proofs.Common.{◌≡◌, ◌∙◌, sym, ap, subst, ℕ, ◌+◌, ◌<◌, ◌≤◌, false, Some, arith}
 use Rattle.std.specs.FinMap.{FinMap, get, insert, values}
 use Rattle.dh_types.specs.declared.lease.Charge.{Charge}
 use Rattle.dh_types.specs.declared.run.Run.{Run}
@@ -12,25 +12,11 @@ use Rattle.dh_model.proofs.Among.{Among}
 use Rattle.dh_laws.specs.InOrder.{AreKeyed, IsInOrder}
 use Rattle.dh_laws.specs.Posting.{NextBatchKeepsTheWhole}
 use Rattle.dh_laws.proofs.KeyOrders.{nat_text_ties, nat_text_total, nat_ties, nat_total, nats_tie, nats_total}
-use Rattle.dh_laws.proofs.MapRows.{inside}
 use Rattle.dh_laws.proofs.MapMerges.{own_row}
-use Rattle.dh_laws.proofs.PostMonth.{others, others_stay}
+use Rattle.dh_laws.proofs.MonthShown.{shown_row}
+use Rattle.dh_laws.proofs.PostMonth.{others_stay}
 use Rattle.dh_laws.proofs.PostCharged.{charge_month, charges_fit, part_month, parts_fit}
 use Rattle.dh_laws.proofs.PostRules.{are_posted, posted_keyed, posted_rules}
-
-found_by : {X : Type 0} (test : X → Bool) (b : Bool) (y : X) (xs : List X) (x : X) → test y ≡ b → (find test xs ≡ Some x → Among xs x × (test x ≡ true))
-    → cond b (Some y) (find test xs) ≡ Some x → Among (y ∷ xs) x × (test x ≡ true)
-found_by test true y xs x t rest h = let same = inside y x h in (inl (sym same), ap test (sym same) ∙ t)
-found_by test false y xs x t rest h = let r = rest h in (inr r.0, r.1)
-
--- what a search finds is there, and passes
-found_in : {X : Type 0} (test : X → Bool) (xs : List X) (x : X) → find test xs ≡ Some x → Among xs x × (test x ≡ true)
-found_in test [] x h = cc
-found_in test (y ∷ xs) x h = found_by test (test y) y xs x refl (found_in test xs x) h
-
-not_closed : (b : Bool) → not b ≡ true → b ≡ false
-not_closed true h = cc
-not_closed false h = refl
 
 -- the open run stands among the runs
 pub record IsOpen (books : Books) (row : Run) : Type 0 where
@@ -39,9 +25,9 @@ pub record IsOpen (books : Books) (row : Run) : Type 0 where
   pub open_still : row.is_closed ≡ false
 
 pub is_open : (books : Books) (row : Run) → AreKeyed books → open_row books ≡ Some row → IsOpen books row
-is_open books row keyed h =
-    let found = found_in (λ run. not run.is_closed) (values books.runs) row h in
-    record { of = found.0; is = own_row nat_total nat_ties (λ it. it.month) books.runs keyed.runs row found.0; open_still = not_closed row.is_closed found.1 }
+is_open books row keyed shown =
+    let found = shown_row books row shown in
+    record { of = found.0; is = own_row nat_total nat_ties (λ it. it.month) books.runs keyed.runs row found.0; open_still = found.1 }
 
 module _ (size : ℕ) (books : Books) (keyed : AreKeyed books) (rules : MeetsRules books size) where
   -- whatever batches are in the books, the rest leads to the same
