@@ -97,7 +97,7 @@ module _ (books : Books) (are : AreNumbered books) where
   under_number : (e : ℕ × Lease) → Among (entries books.leases) e → e.1.terms.number ≡ e.0
   under_number e a = are e.0 e.1 (got e a)
 
-  leases_rise : Rises (Lesser number_of) (values books.leases)
+  pub leases_rise : Rises (Lesser number_of) (values books.leases)
   leases_rise = rise_by_number (entries books.leases) sorted under_number
 
   -- each lease of the books is found under its number
@@ -133,7 +133,7 @@ module _ (lease : Lease) (month : ℕ) where
       ap (λ (c : Charge). c.lease) of.2
 
 -- the dues of leases that rise by number rise by lease
-dues_rise : (leases : List Lease) (month : ℕ) → Rises (Lesser number_of) leases → Rises (Lesser lease_of) (dues_among leases month)
+pub dues_rise : (leases : List Lease) (month : ℕ) → Rises (Lesser number_of) leases → Rises (Lesser lease_of) (dues_among leases month)
 dues_rise [] month r = tt
 dues_rise (lease ∷ leases) month r =
     rw (filter-append (falls_in month) (dues_of lease) (flat_map dues_of leases))
