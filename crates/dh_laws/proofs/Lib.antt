@@ -25,6 +25,12 @@ pub mod MonthSteps
 pub mod PostWhole
 pub mod KeyedRows
 pub mod KeepKeys
+pub mod Settled
+pub mod KeepGrowth
+pub mod KeepReferences
+pub mod KeepStaff
+pub mod KeepManagers
+pub mod KeepOrder
 pub mod OweMoves
 pub mod OweBalances
 pub mod PostCounts

@@ -158,6 +158,9 @@ module _ {K X : Type 0} where
       | inr s ↦ old q x s.0 s.1
     ])
 
+    pub each_put : (m : FinMap R X) (k : K) (v : X) (P : X → Type 0) → Each m P → P v → Each (insert m k v) P
+    each_put m k v P each new = each_insert m k v P new (λ q x apart e. each_got m P each q x e)
+
     some_row : (found : Option X) → is_some found ≡ true → (x : X) × (found ≡ Some x)
     some_row None h = cc
     some_row (Some x) h = (x, refl)

@@ -1,14 +1,12 @@
 -- Books that have the same of a month.
-use Rattle.std.proofs.Common.{◌≡◌, ◌≢◌, ◌∙◌, refl, sym, ap, subst, ℕ, ◌+◌, ◌/◌, ◌<◌, ◌≤◌, nat_lt, List, [], length, map, is_lt}
-use Rattle.std.specs.List.{IsAmong, filter, flat_map, sum_by}
-use Rattle.std.specs.FinMap.{keys, values}
-use Rattle.dh_types.specs.declared.lease.Charge.{Charge}
-use Rattle.dh_types.specs.declared.run.Part.{Part}
+use Rattle.std.proofs.Common.{◌≡◌, ◌≢◌, ◌∙◌, refl, sym, ap, subst, ℕ, ◌+◌, ◌/◌, ◌≤◌, nat_lt, List, [], length, map, is_lt}
+use Rattle.std.specs.List.{filter, flat_map, sum_by}
+use Rattle.std.specs.FinMap.{keys}
 use Rattle.dh_types.specs.declared.run.Run.{Run}
 use Rattle.dh_model.specs.Books.{Books, text_cmp}
 use Rattle.dh_model.specs.Leases.{dues}
-use Rattle.dh_model.specs.Runs.{batch_of, batches, batches_before, batches_for, batches_of_branch, begun_branches, dues_of_branch, part_of, place_among, posted_charges, posted_of_branch, posted_parts, total_of}
-use Rattle.dh_model.specs.Rules.{ArePosted, Each, HaveTheSame, IsThere, MonthIsClosed, MonthIsOpen, MonthsInOrder, charges_in, parts_in}
+use Rattle.dh_model.specs.Runs.{batches, batches_before, batches_for, dues_of_branch, part_of, place_among, posted_charges, posted_of_branch, posted_parts, total_of}
+use Rattle.dh_model.specs.Rules.{ArePosted, HaveTheSame, IsThere, MonthIsClosed, MonthIsOpen, charges_in, parts_in}
 
 module _ {X : Type 0} where
   pub have_same : (xs : List X) → HaveTheSame xs xs

@@ -1,6 +1,6 @@
 -- Books with all batches of the open run posted, and it closed.
-use Rattle.std.proofs.Common.{◌≡◌, ◌≢◌, ◌∙◌, refl, sym, ap, subst, inl, inr, ℕ, ◌+◌, ◌<◌, ◌≤◌, Bool, true, false, nat_eq, nat_lt, List, [], ◌∷◌, ◌++◌, map, length, Option, Some, None, AllPairs, is_some, arith}
-use Rattle.std.specs.List.{IsAmong, filter}
+use Rattle.std.proofs.Common.{◌≡◌, ◌≢◌, ◌∙◌, refl, sym, ap, subst, inl, inr, ℕ, ◌+◌, ◌<◌, ◌≤◌, true, false, nat_eq, nat_lt, List, [], ◌∷◌, ◌++◌, map, Some, AllPairs, is_some, arith}
+use Rattle.std.specs.List.{IsAmong}
 use Rattle.std.specs.FinMap.{get, insert, keys, values}
 use Rattle.dh_types.specs.declared.lease.Charge.{Charge}
 use Rattle.std.proofs.lemmas.Bool.{cases_lt}
@@ -8,18 +8,18 @@ use Rattle.dh_types.specs.declared.run.Run.{Run}
 use Rattle.dh_types.specs.declared.run.Part.{Part}
 use Rattle.dh_model.specs.Books.{Books}
 use Rattle.dh_model.specs.Leases.{dues}
-use Rattle.dh_model.specs.Runs.{batches, begun_branches, closed_run, dues_of_branch, part_key, part_of, posted_charges, posted_of_branch, posted_parts, total_of, batches_before}
+use Rattle.dh_model.specs.Runs.{batches, begun_branches, closed_run, dues_of_branch, part_key, part_of, posted_charges, posted_of_branch, posted_parts, batches_before}
 use Rattle.dh_model.specs.BatchLaws.{AreNumbered}
 use Rattle.dh_model.specs.Checks.{is_same_text}
-use Rattle.dh_model.specs.Rules.{ArePosted, DepositsInOrder, Each, HaveTheSame, IsLawful, IsThere, KeysInOrder, MeetsRules, MonthIsClosed, MonthIsOpen, MonthsInOrder, NamesWhatIsThere, Rule, RunsInOrder, StaffOfTheBranch, charges_in, parts_in}
+use Rattle.dh_model.specs.Rules.{ArePosted, IsLawful, IsThere, KeysInOrder, MeetsRules, MonthIsClosed, MonthIsOpen, MonthsInOrder, NamesWhatIsThere, Rule, RunsInOrder, charges_in, parts_in}
 use Rattle.dh_model.specs.Whole.{open_row}
 use Rattle.dh_model.proofs.Among.{Among, among, in_filter, in_map, is_among, of_map}
 use Rattle.dh_model.proofs.BatchLemmas.{last_batch_posts_all}
 use Rattle.dh_laws.specs.InOrder.{AreKeyed}
 use Rattle.dh_laws.proofs.KeyOrders.{nat_text_ties, nat_text_total, nat_ties, nat_total}
-use Rattle.dh_laws.proofs.MapRows.{cases_key, each_insert, got_after, inside, new_is_there, of_row, row_of, there, there_after, values_old}
+use Rattle.dh_laws.proofs.MapRows.{each_insert, got_after, of_row, there, there_after, values_old}
 use Rattle.dh_laws.proofs.MapMerges.{insert_keyed, own_row}
-use Rattle.dh_laws.proofs.MonthAlike.{SameMonth, closed_alike, have_same, have_trans}
+use Rattle.dh_laws.proofs.MonthAlike.{closed_alike, have_trans}
 use Rattle.dh_laws.proofs.MonthKeep.{untouched}
 use Rattle.dh_laws.proofs.MonthShown.{shown_row}
 use Rattle.dh_laws.proofs.MonthSums.{all_are_dues, count_of_all, key_among, total_of_all}
@@ -47,11 +47,13 @@ module _ (size : ℕ) (b : Books) (row : Run) (pos : 1 ≤ size) (keyed : AreKey
   open_within =
       let runs = rules Rule.Runs in
       let within = (runs.run row.month).0 row_there in
-      let is = shown_row b row shown in
-      (within.1, elim (cases_lt (row.month + 1) b.next) [
-        | inl less ↦ absurd (let closed = runs.closed row (is_among (values b.runs) row is.0) less in let open_is = is.1 in cc)
-        | inr last ↦ last
-      ])
+      let is = shown_row b row shown in (
+        within.1,
+        elim (cases_lt (row.month + 1) b.next) [
+          | inl less ↦ absurd (let closed = runs.closed row (is_among (values b.runs) row is.0) less in let open_is = is.1 in cc)
+          | inr last ↦ last
+        ],
+      )
 
   -- a run of another month is closed
   closed_before : (k : ℕ) (run : Run) → k ≢ row.month → get b.runs k ≡ Some run → run.is_closed ≡ true
@@ -116,7 +118,7 @@ module _ (size : ℕ) (b : Books) (row : Run) (pos : 1 ≤ size) (keyed : AreKey
       let keys = rules Rule.Keys in
       let p = values_old nat_total nat_ties b.runs row.month done row is_row in
       let same : map (λ (run : Run). run.key) (values c.runs) ≡ map (λ (run : Run). run.key) (values b.runs)
-          = ap (map (λ (run : Run). run.key)) p.is ∙ keys_put p.before p.after ∙ sym (ap (map (λ (run : Run). run.key)) p.was) in
+      = ap (map (λ (run : Run). run.key)) p.is ∙ keys_put p.before p.after ∙ sym (ap (map (λ (run : Run). run.key)) p.was) in
       record {
         keys = subst (λ ks. AllPairs (λ key other. is_same_text key other ≡ false) (map (λ receipt. receipt.key) (values b.receipts) ++ ks)) (sym same) keys.keys;
         numbers = keys.numbers;
@@ -140,7 +142,7 @@ module _ (size : ℕ) (b : Books) (row : Run) (pos : 1 ≤ size) (keyed : AreKey
   part_is part a =
       let n = batches size b row.month in
       let of = in_map (λ branch. part_of row.month branch (posted_of_branch size b row.month n branch)) (begun_branches size b row.month n) part
-          (among (posted_parts size b row.month n) part ((posted.parts part).0 a)) in
+      (among (posted_parts size b row.month n) part ((posted.parts part).0 a)) in
       let kept = in_filter (λ branch. nat_lt (batches_before size b row.month branch) n) (keys b.branches) of.0 of.1 in
       let dues = (last_batch_posts_all size b row.month pos numbered).0 of.0 (is_among (keys b.branches) of.0 kept.0) in
       let whole : part ≡ part_of row.month of.0 (dues_of_branch b row.month of.0) = of.2 ∙ ap (part_of row.month of.0) dues in
@@ -196,7 +198,10 @@ module _ (size : ℕ) (b : Books) (row : Run) (pos : 1 ≤ size) (keyed : AreKey
 
   pub closing_is_lawful : AreKeyed (record b { runs = insert b.runs row.month (closed_run row.month row.key (posted_charges size b row.month (batches size b row.month))) })
       × IsLawful (record b { runs = insert b.runs row.month (closed_run row.month row.key (posted_charges size b row.month (batches size b row.month))) }) size
-  closing_is_lawful = (keyed_after, record {
-    rules = rules_after;
-    closed = each_insert nat_total nat_ties b.runs row.month done (λ run. run.is_closed ≡ true) refl (λ k run other e. closed_before k run other e);
-  })
+  closing_is_lawful = (
+    keyed_after,
+    record {
+      rules = rules_after;
+      closed = each_insert nat_total nat_ties b.runs row.month done (λ run. run.is_closed ≡ true) refl (λ k run other e. closed_before k run other e);
+    },
+  )

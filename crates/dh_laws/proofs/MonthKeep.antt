@@ -1,24 +1,19 @@
 -- Runs, months and the open run, where rows are added.
-use Rattle.std.proofs.Common.{◌≡◌, ◌≢◌, ◌∙◌, refl, sym, ap, subst, inl, inr, ℕ, ◌+◌, ◌<◌, ◌≤◌, Bool, true, false, not, nat_eq, nat_lt, List, [], Option, Some, None, ltb-true, arith}
+use Rattle.std.proofs.Common.{◌≡◌, refl, sym, ap, subst, ℕ, ◌≤◌, false, not, nat_eq, List, Option, Some, None, arith}
 use Rattle.std.specs.List.{IsAmong, filter, find}
-use Rattle.std.specs.FinMap.{FinMap, get, insert, keys, values}
-use Rattle.dh_days.specs.Days.{month_of_day}
+use Rattle.std.specs.FinMap.{FinMap, get, insert, values}
 use Rattle.dh_types.specs.declared.branch.Branch.{Branch}
 use Rattle.dh_types.specs.declared.property.Property.{Property}
-use Rattle.dh_types.specs.declared.lease.Lease.{Lease}
-use Rattle.dh_types.specs.declared.lease.Charge.{Charge}
 use Rattle.dh_types.specs.declared.run.Run.{Run}
-use Rattle.dh_types.specs.declared.run.Part.{Part}
-use Rattle.dh_types.proofs.SameValues.{numbers}
 use Rattle.dh_model.specs.declared.open_run.OpenRun.{OpenRun}
 use Rattle.dh_model.specs.Books.{Books, text_cmp}
 use Rattle.dh_model.specs.Leases.{dues_among}
-use Rattle.dh_model.specs.Runs.{batch_of, batches, batches_before, begun_branches, dues_of_branch, is_property_of, part_of, posted_charges, posted_of_branch, posted_parts}
-use Rattle.dh_model.specs.Rules.{ArePosted, Each, HaveTheSame, IsThere, MonthIsClosed, MonthIsOpen, MonthsInOrder, NamesWhatIsThere, RunsInOrder, charges_in, parts_in}
+use Rattle.dh_model.specs.Runs.{is_property_of}
+use Rattle.dh_model.specs.Rules.{IsThere, MonthsInOrder, NamesWhatIsThere, RunsInOrder, charges_in, parts_in}
 use Rattle.dh_model.specs.Whole.{IsOpenAt, open_row}
-use Rattle.dh_model.proofs.Among.{Among, among, in_filter, in_flat_map, in_map, is_among}
+use Rattle.dh_model.proofs.Among.{Among, among}
 use Rattle.dh_laws.proofs.MonthAlike.{SameBatches, SameMonth, closed_alike, have_instead, have_same, open_alike, posted_alike}
-use Rattle.dh_laws.proofs.MonthDues.{StandAsBefore, branch_after_lease, branch_after_property, dues_after_lease, owing_is_there}
+use Rattle.dh_laws.proofs.MonthDues.{StandAsBefore, branch_after_property, owing_is_there}
 use Rattle.dh_laws.proofs.MonthShown.{all_closed}
 
 -- the runs are the months up to the next one, charged as they say, and this one is open

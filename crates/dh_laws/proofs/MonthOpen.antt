@@ -1,7 +1,7 @@
 -- Runs, months and the open run, where a lease is added or a run begins.
-use Rattle.std.proofs.Common.{◌≡◌, ◌∙◌, refl, sym, ap, subst, inl, inr, ℕ, ◌+◌, ◌<◌, ◌≤◌, Bool, true, false, not, nat_eq, nat_lt, List, Option, Some, None, is_some, ltb-true, arith}
-use Rattle.std.specs.List.{IsAmong, filter, find}
-use Rattle.std.specs.FinMap.{FinMap, get, insert, keys, values}
+use Rattle.std.proofs.Common.{◌≡◌, ◌∙◌, refl, sym, ap, subst, inl, inr, ℕ, ◌+◌, ◌<◌, ◌≤◌, true, false, not, nat_eq, nat_lt, Option, Some, None, is_some, ltb-true, arith}
+use Rattle.std.specs.List.{IsAmong, find}
+use Rattle.std.specs.FinMap.{get, insert, keys, values}
 use Rattle.std.proofs.lemmas.Bool.{cases_lt}
 use Rattle.dh_days.specs.Days.{month_of_day}
 use Rattle.dh_types.specs.declared.lease.Lease.{Lease}
@@ -9,11 +9,10 @@ use Rattle.dh_types.specs.declared.lease.Charge.{Charge}
 use Rattle.dh_types.specs.declared.run.Run.{Run}
 use Rattle.dh_types.specs.declared.run.Part.{Part}
 use Rattle.dh_types.proofs.SameValues.{numbers}
-use Rattle.dh_model.specs.declared.open_run.OpenRun.{OpenRun}
 use Rattle.dh_model.specs.Books.{Books}
 use Rattle.dh_model.specs.Runs.{batch_of, batches_before, begun_branches, dues_of_branch, part_of, posted_charges, posted_of_branch, posted_parts}
 use Rattle.dh_model.specs.Rules.{ArePosted, IsThere, MonthIsClosed, MonthIsOpen, MonthsInOrder, RunsInOrder, charges_in, parts_in}
-use Rattle.dh_model.specs.Whole.{IsOpenAt, open_row}
+use Rattle.dh_model.specs.Whole.{open_row}
 use Rattle.dh_model.proofs.Among.{Among, among, in_filter, in_flat_map, in_map, is_among}
 use Rattle.dh_laws.specs.InOrder.{StandUnder}
 use Rattle.dh_laws.proofs.KeyOrders.{nat_total, nat_ties}
@@ -97,10 +96,13 @@ module _ (size : ℕ) (b : Books) (row : Run) (keyed : StandUnder (λ (it : Run)
   runs_after : RunsInOrder after
   runs_after = record {
     months = let from = in_order.runs.months in omega (arith, from, next);
-    run = λ month. (there_or_new month, λ h. elim (cases_lt month b.next) [
-      | inl less ↦ there_after nat_total nat_ties b.runs row.month row month ((in_order.runs.run month).1 (h.0, less))
-      | inr more ↦ let same : month ≡ row.month = (let until = h.1 in omega (arith, until, more, next)) in subst (λ m. IsThere after.runs m) (sym same) (new_is_there nat_total nat_ties b.runs row.month row)
-    ]);
+    run = λ month. (
+      there_or_new month,
+      λ h. elim (cases_lt month b.next) [
+        | inl less ↦ there_after nat_total nat_ties b.runs row.month row month ((in_order.runs.run month).1 (h.0, less))
+        | inr more ↦ let same : month ≡ row.month = (let until = h.1 in omega (arith, until, more, next)) in subst (λ m. IsThere after.runs m) (sym same) (new_is_there nat_total nat_ties b.runs row.month row)
+      ],
+    );
     closed = each_insert nat_total nat_ties b.runs row.month row (λ run. run.month + 1 < row.month + 1 → run.is_closed ≡ true)
         (λ less. absurd (omega (arith, less))) (λ q run other e less. closed_before q run e);
   }

@@ -1,8 +1,7 @@
 -- The run that books show as open.
-use Rattle.std.proofs.Common.{◌≡◌, ◌∙◌, refl, sym, ap, inl, inr, Bool, true, false, cond, not, List, [], ◌∷◌, ◌++◌, Option, Some, None}
+use Rattle.std.proofs.Common.{◌≡◌, ◌∙◌, refl, sym, ap, inl, inr, Bool, true, false, cond, not, List, [], ◌∷◌, ◌++◌, Some, None}
 use Rattle.std.specs.List.{find}
-use Rattle.std.specs.FinMap.{get, insert, values}
-use Rattle.std.proofs.lemmas.Bool.{cases_Bool}
+use Rattle.std.specs.FinMap.{values}
 use Rattle.dh_types.specs.declared.run.Run.{Run}
 use Rattle.dh_model.specs.Books.{Books}
 use Rattle.dh_model.specs.Whole.{open_row}

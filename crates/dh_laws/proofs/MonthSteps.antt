@@ -15,8 +15,8 @@ use Rattle.dh_model.specs.Books.{Books, State}
 use Rattle.dh_model.specs.Rules.{IsLawful}
 use Rattle.dh_model.specs.Runs.{batches, ran}
 use Rattle.dh_model.specs.Verdicts.{opened_run, signed, verdict_on}
-use Rattle.dh_model.specs.Machine.{carried_out, changed, posted, posted_sum, resumed, settled, step}
-use Rattle.dh_model.specs.Whole.{IsOpenAt, open_row, whole}
+use Rattle.dh_model.specs.Machine.{carried_out, changed, posted_sum, resumed, settled}
+use Rattle.dh_model.specs.Whole.{IsOpenAt, open_row}
 use Rattle.dh_model.proofs.Among.{is_among}
 use Rattle.dh_laws.specs.InOrder.{AreKeyed, IsEntered, IsInOrder, run_after}
 use Rattle.dh_laws.specs.Keeping.{ChangesKeepOrder, StepsKeepTheLaw, WholeIsLawful}

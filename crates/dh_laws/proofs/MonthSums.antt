@@ -1,12 +1,11 @@
 -- What falls due in a month, branch by branch and in all.
-use Rattle.std.proofs.Common.{◌≡◌, ◌≢◌, ◌∙◌, refl, sym, ap, subst, inl, inr, ℕ, ◌+◌, ◌<◌, ◌≤◌, Bool, true, false, cond, List, [], ◌∷◌, ◌++◌, map, length, Some, Ordering, is_lt, arith}
-use Rattle.std.specs.List.{IsAmong, filter, flat_map, range_with_len, sum_by}
+use Rattle.std.proofs.Common.{◌≡◌, ◌≢◌, ◌∙◌, refl, sym, ap, subst, inl, inr, ℕ, ◌+◌, ◌<◌, ◌≤◌, Bool, true, false, cond, List, [], ◌∷◌, ◌++◌, length, Ordering, is_lt, arith}
+use Rattle.std.specs.List.{filter, flat_map, range_with_len, sum_by}
 use Rattle.std.specs.Cmp.{IsTotalOrder}
 use Rattle.std.specs.FinMap.{FinMap, entries, entries_sorted, get, get-entries, is_sorted, keys, values}
 use Rattle.std.proofs.lemmas.Bool.{false_from_ne_true}
 use Rattle.std.proofs.lemmas.Cmp.{tied_itself}
 use Rattle.std.proofs.lemmas.List.Sums.{sum_by-append, sum_by-cons}
-use Rattle.dh_types.specs.declared.property.Property.{Property}
 use Rattle.dh_types.specs.declared.lease.Lease.{Lease}
 use Rattle.dh_types.specs.declared.lease.Charge.{Charge}
 use Rattle.dh_types.proofs.SameValues.{numbers, texts}
@@ -127,10 +126,13 @@ module _ (books : Books) (names : NamesWhatIsThere books) where
     due_at_branch charge a =
         let d = is_due (values books.leases) month charge a in
         let at = branch_of d.lease d.of in
-        let made = due_made d.lease d.k charge d.is d.within in
-        (at.branch, at.of, of_filter (falls_in month) (flat_map dues_of (leases_of_branch books at.branch)) charge ((numbers charge.month month).1 d.month_is)
-        (of_flat_map dues_of (leases_of_branch books at.branch) d.lease charge
-        (of_filter (λ lease. is_property_of at.branch (get books.properties lease.terms.property)) (values books.leases) d.lease at.is d.of) made))
+        let made = due_made d.lease d.k charge d.is d.within in (
+          at.branch,
+          at.of,
+          of_filter (falls_in month) (flat_map dues_of (leases_of_branch books at.branch)) charge ((numbers charge.month month).1 d.month_is)
+              (of_flat_map dues_of (leases_of_branch books at.branch) d.lease charge
+              (of_filter (λ lease. is_property_of at.branch (get books.properties lease.terms.property)) (values books.leases) d.lease at.is d.of) made),
+        )
 
     -- and what is a branch's is due
     pub of_due_at_branch : (branch : List ℕ) (charge : Charge) → Among (dues_of_branch books month branch) charge → Among (dues books month) charge
@@ -166,8 +168,8 @@ module _ (books : Books) (names : NamesWhatIsThere books) where
           let rest = branch_by_branch leases (λ other a. at other (inr a)) in
           let its = at lease (inl refl) in
           let split : sum_by (λ branch. sum_by of_lease (filter (is_at branch) (lease ∷ leases))) (keys books.branches)
-              ≡ sum_by (λ branch. cond (is_at branch lease) (of_lease lease) 0 + sum_by of_lease (filter (is_at branch) leases)) (keys books.branches)
-              = λ i. sum_by (λ branch. sum_if of_lease (is_at branch lease) lease (filter (is_at branch) leases) i) (keys books.branches) in
+          ≡ sum_by (λ branch. cond (is_at branch lease) (of_lease lease) 0 + sum_by of_lease (filter (is_at branch) leases)) (keys books.branches)
+          = λ i. sum_by (λ branch. sum_if of_lease (is_at branch lease) lease (filter (is_at branch) leases) i) (keys books.branches) in
           let both = sum_both (λ branch. cond (is_at branch lease) (of_lease lease) 0) (λ branch. sum_by of_lease (filter (is_at branch) leases)) (keys books.branches) in
           let own = sum_one text_cmp text_total (λ branch. is_at branch lease) (of_lease lease) its.branch its.is its.one (keys books.branches) branches_rise its.of in
           let all = sum_by-cons of_lease lease leases in

@@ -1,8 +1,7 @@
 -- Books in order are lawful once their open run is made to its end.
-use Rattle.std.proofs.Common.{◌≡◌, ◌∙◌, refl, sym, ap, ℕ, ◌≤◌, Option, Some, None, le_refl}
-use Rattle.std.specs.FinMap.{get, insert, values}
+use Rattle.std.proofs.Common.{◌≡◌, refl, ℕ, ◌≤◌, Option, Some, None, le_refl}
+use Rattle.std.specs.FinMap.{get, values}
 use Rattle.dh_types.specs.declared.run.Run.{Run}
-use Rattle.dh_model.specs.declared.open_run.OpenRun.{OpenRun}
 use Rattle.dh_model.specs.Books.{Books}
 use Rattle.dh_model.specs.Runs.{batches}
 use Rattle.dh_model.specs.Rules.{IsLawful, MeetsRules}

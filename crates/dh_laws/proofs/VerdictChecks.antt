@@ -129,7 +129,7 @@ found_none p (y ∷ xs) h x a = found_none_by p (p y) y x xs refl (λ g b. found
 
 -- ---- the checks of a lease
 
-some_property : (books : Books) (client : List ℕ) (found : Option Property) → is_registered books client found ≡ true
+pub some_property : (books : Books) (client : List ℕ) (found : Option Property) → is_registered books client found ≡ true
     → (property : Property) × (found ≡ Some property) × IsThere books.registrations (client, property.branch)
 some_property books client None h = cc
 some_property books client (Some property) h = (property, refl, h)
