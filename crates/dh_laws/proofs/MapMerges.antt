@@ -1,5 +1,5 @@
 -- Rows put into a map all at once, and rows kept by a test.
-use Rattle.std.proofs.Common.{◌≡◌, ◌≢◌, ◌⊎◌, ◌∙◌, refl, sym, ap, subst, inl, inr, Bool, true, false, cond, List, [], ◌∷◌, ◌++◌, map, Option, Some, None, Ordering, is_lt, is_eq}
+use Rattle.std.proofs.Common.{◌≡◌, ◌≢◌, ◌⊎◌, ◌∙◌, refl, sym, ap, inl, inr, Bool, true, false, cond, List, [], ◌∷◌, ◌++◌, map, Option, Some, None, Ordering, is_eq}
 use Rattle.std.specs.List.{filter}
 use Rattle.std.specs.List as list
 use Rattle.std.specs.Option.{option_or}
@@ -14,7 +14,7 @@ use Rattle.dh_model.specs.Whole.{rows_where}
 use Rattle.dh_model.proofs.Among.{Among, in_filter, in_map}
 use Rattle.dh_model.proofs.Rising.{IsBefore, Rises}
 use Rattle.dh_laws.specs.InOrder.{StandUnder}
-use Rattle.dh_laws.proofs.MapRows.{below_at, cases_key, entry_found, get_new, got_after, inside, is_less, key_itself, kept_if, keys_differ, of_row, row_of, same_key, sorted, turned_back}
+use Rattle.dh_laws.proofs.MapRows.{below_at, entry_found, got_after, inside, is_less, key_itself, kept_if, keys_differ, row_of, same_key, sorted}
 
 none_found : {K X : Type 0} (R : K → K → Ordering) (q : K) (es : List (K × X)) → ((e : K × X) → Among es e → eq_by_cmp R q e.0 ≡ false) → find R q es ≡ None
 none_found R q [] apart = refl

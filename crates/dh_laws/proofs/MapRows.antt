@@ -1,22 +1,17 @@
 -- Rows of finite maps, by their keys.
 use Rattle.std.proofs.Common.{◌≡◌, ◌≢◌, ◌↔◌, ◌⊎◌, ◌∙◌, refl, sym, ap, subst, inl, inr, ℕ, ◌+◌, Bool, true, false, cond, List, [], ◌∷◌, ◌++◌, map, Option, Some, None, is_some, Ordering, Less, Equal, Greater, is_lt, is_eq, arith}
-use Rattle.std.specs.List.{IsAmong, filter, sum_by}
-use Rattle.std.specs.List as list
-use Rattle.std.specs.Option.{option_or}
+use Rattle.std.specs.List.{IsAmong, sum_by}
 use Rattle.std.specs.Ordering.{eq_by_cmp, ordering_reverse}
 use Rattle.std.specs.Cmp.{IsTotalOrder}
-use Rattle.std.specs.FinMap.{FinMap, IsAntisymmetric, contains_key, entries, entries_sorted, find, from_entries, get, get-entries, get-from_entries, get-insert, entries-insert, insert, is_sorted, values}
+use Rattle.std.specs.FinMap.{FinMap, IsAntisymmetric, contains_key, entries, entries_sorted, find, get, get-entries, get-insert, entries-insert, insert, is_sorted, values}
 use Rattle.std.specs.FinMap.Entries.{below_all, by_order, put}
 use Rattle.std.proofs.lemmas.Cmp.{tied_itself}
-use Rattle.std.proofs.lemmas.Bool.{and_parts, cases_Bool, false_from_ne_true}
+use Rattle.std.proofs.lemmas.Bool.{and_parts, false_from_ne_true}
 use Rattle.std.proofs.lemmas.List.Sums.{sum_by-append, sum_by-cons}
-use Rattle.dh_model.specs.Books.{with_rows}
 use Rattle.dh_model.specs.Rules.{Each, EachTwo, IsThere}
-use Rattle.dh_model.specs.Whole.{rows_where}
-use Rattle.dh_model.proofs.Among.{Among, among, in_append, in_map, is_among}
+use Rattle.dh_model.proofs.Among.{Among, among, in_map, is_among}
 use Rattle.dh_model.proofs.BranchDues.{holds}
 use Rattle.dh_model.proofs.Rising.{Rises}
-use Rattle.dh_laws.specs.InOrder.{StandUnder}
 use Rattle.dh_laws.proofs.Pairs.{rises_put, pairs_rise, rising_pairs}
 
 pub inside : {X : Type 0} (x y : X) → Some x ≡ Some y → x ≡ y

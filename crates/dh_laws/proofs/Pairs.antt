@@ -1,5 +1,5 @@
 -- What holds of any two elements of a list, the first before the second.
-use Rattle.std.proofs.Common.{◌≡◌, sym, subst, inl, inr, refl, ℕ, zero, suc, ◌<◌, List, [], ◌∷◌, ◌++◌, length, slice_index_or, arith}
+use Rattle.std.proofs.Common.{sym, subst, inl, inr, refl, ℕ, zero, suc, ◌<◌, List, [], ◌∷◌, ◌++◌, length, slice_index_or, arith}
 use Rattle.std.specs.List.{AllPairs}
 use Rattle.dh_model.proofs.Among.{Among, in_append, is_among}
 use Rattle.dh_model.proofs.Rising.{Rises}
