@@ -99,7 +99,7 @@ module _ {K X : Type 0} where
     found_by false e es q x t rest h = inr (rest h)
 
     -- what is found is an entry
-    found_entry : (es : List (K × X)) (q : K) (x : X) → find R q es ≡ Some x → Among es (q, x)
+    pub found_entry : (es : List (K × X)) (q : K) (x : X) → find R q es ≡ Some x → Among es (q, x)
     found_entry [] q x h = cc
     found_entry (e ∷ es) q x h = found_by (eq_by_cmp R q e.0) e es q x refl (found_entry es q x) h
 
