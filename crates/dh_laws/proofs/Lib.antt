@@ -16,6 +16,8 @@ pub mod OweDues
 pub mod OweMoves
 pub mod OweSums
 pub mod Pairs
+pub mod PassChanges
+pub mod PassVerdicts
 pub mod PostCharged
 pub mod PostDues
 pub mod PostMonth
