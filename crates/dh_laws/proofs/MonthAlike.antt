@@ -56,7 +56,7 @@ module _ (size : ℕ) (b c : Books) (month : ℕ) (alike : SameBatches b c month
   dues_alike : dues_of_branch c month ≡ dues_of_branch b month
   dues_alike = λ i branch. alike.same.of_branch branch i
 
-  batches_alike : batches size c month ≡ batches size b month
+  pub batches_alike : batches size c month ≡ batches size b month
   batches_alike = λ i. sum_by (λ branch. batches_for size (length (dues_alike i branch))) (keys_alike i)
 
   before_alike : batches_before size c month ≡ batches_before size b month
@@ -65,10 +65,10 @@ module _ (size : ℕ) (b c : Books) (month : ℕ) (alike : SameBatches b c month
   of_branch_alike : (done : ℕ) → posted_of_branch size c month done ≡ posted_of_branch size b month done
   of_branch_alike done = λ i branch. filter (λ charge. nat_lt (before_alike i branch + place_among size (dues_alike i branch) charge / size) done) (dues_alike i branch)
 
-  charges_alike : (done : ℕ) → posted_charges size c month done ≡ posted_charges size b month done
+  pub charges_alike : (done : ℕ) → posted_charges size c month done ≡ posted_charges size b month done
   charges_alike done = λ i. flat_map (of_branch_alike done i) (keys_alike i)
 
-  parts_alike : (done : ℕ) → posted_parts size c month done ≡ posted_parts size b month done
+  pub parts_alike : (done : ℕ) → posted_parts size c month done ≡ posted_parts size b month done
   parts_alike done = λ i. map (λ branch. part_of month branch (of_branch_alike done i branch)) (filter (λ branch. nat_lt (before_alike i branch) done) (keys_alike i))
 
   -- so the same batches are posted

@@ -92,22 +92,25 @@ module _ (size : ℕ) (b c : Books) (runs : c.runs ≡ b.runs) where
     shown = shown_none in_order.shown;
   }
 
+-- properties that stand as before
+pub properties_alike : (b : Books) (properties : FinMap text_cmp Property) → StandAsBefore b properties → (month : ℕ) → SameBatches b (record b { properties = properties }) month
+properties_alike b properties stand month = record {
+  same = record {
+    charges = have_same (charges_in b month);
+    parts = have_same (parts_in b month);
+    part = λ branch h. h;
+    branches = λ branch h owing. h;
+    dues = refl;
+    of_branch = branch_after_property b properties stand month;
+  };
+  branches = refl;
+}
+
 module _ (size : ℕ) (b : Books) where
-  -- properties that stand as before
   pub properties_keep : (run : Option OpenRun) (properties : FinMap text_cmp Property) → StandAsBefore b properties → RunInMonths size b run → RunInMonths size (record b { properties = properties }) run
   properties_keep run properties stand in_order =
       let c : Books = record b { properties = properties } in
-      free_keeps size b c refl run refl refl refl refl (λ month. record {
-        same = record {
-          charges = have_same (charges_in b month);
-          parts = have_same (parts_in b month);
-          part = λ branch h. h;
-          branches = λ branch h owing. h;
-          dues = refl;
-          of_branch = branch_after_property b properties stand month;
-        };
-        branches = refl;
-      }) in_order
+      free_keeps size b c refl run refl refl refl refl (properties_alike b properties stand) in_order
 
   pub branch_keeps : (number : List ℕ) (branch : Branch) → NamesWhatIsThere b → RunInMonths size b None → RunInMonths size (record b { branches = insert b.branches number branch }) None
   branch_keeps number branch names in_order =
