@@ -198,18 +198,9 @@ module _ (books : Books) (run : Option OpenRun) (keyed : AreKeyed books) (names 
   managers_comment it row is = subst (λ found. ManagesAtMostHundred (with_comment books it found)) (sym is) rules
 
   pub keeps_managers : (rows : Change) → Accepted books run rows → ManagesAtMostHundred (changed rows books)
-  keeps_managers (change.Branch it) h = rules
   keeps_managers (change.Staff it) h = managers_staff it h
-  keeps_managers (change.Owner it) h = rules
   keeps_managers (change.Property it) h = managers_property it h
   keeps_managers (change.Assign it) h = managers_assigned it h
   keeps_managers (change.Rent it) h = managers_at_rent it h.0 h.1
-  keeps_managers (change.Client it) h = rules
-  keeps_managers (change.Register it) h = rules
-  keeps_managers (change.Viewing it) h = rules
   keeps_managers (change.Comment it) h = managers_comment it h.0 h.1
-  keeps_managers (change.Inspection it) h = rules
-  keeps_managers (change.Lease it) h = rules
-  keeps_managers (change.Receipt it) h = rules
-  keeps_managers (change.Open it) h = rules
-  keeps_managers change.Post h = rules
+  keeps_managers _ h = rules

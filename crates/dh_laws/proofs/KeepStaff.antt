@@ -71,18 +71,10 @@ module _ (books : Books) (run : Option OpenRun) (rules : StaffOfTheBranch books)
       subst (λ found. StaffOfTheBranch (with_comment books it found)) (sym is) (record { managers = rules.managers; registrars = rules.registrars })
 
   pub keeps_branches : (rows : Change) → Accepted books run rows → StaffOfTheBranch (changed rows books)
-  keeps_branches (change.Branch it) h = record { managers = rules.managers; registrars = rules.registrars }
   keeps_branches (change.Staff it) h = staff_added it h
-  keeps_branches (change.Owner it) h = record { managers = rules.managers; registrars = rules.registrars }
   keeps_branches (change.Property it) h = property_put it.number it (if_some it.staff (λ m c. c.of_branch) h.staff)
   keeps_branches (change.Assign it) h = assigned_staff it h
   keeps_branches (change.Rent it) h = staff_at_rent it h.0 h.1
-  keeps_branches (change.Client it) h = record { managers = rules.managers; registrars = rules.registrars }
   keeps_branches (change.Register it) h = registration_added it h
-  keeps_branches (change.Viewing it) h = record { managers = rules.managers; registrars = rules.registrars }
   keeps_branches (change.Comment it) h = staff_commented it h.0 h.1
-  keeps_branches (change.Inspection it) h = record { managers = rules.managers; registrars = rules.registrars }
-  keeps_branches (change.Lease it) h = record { managers = rules.managers; registrars = rules.registrars }
-  keeps_branches (change.Receipt it) h = record { managers = rules.managers; registrars = rules.registrars }
-  keeps_branches (change.Open it) h = record { managers = rules.managers; registrars = rules.registrars }
-  keeps_branches change.Post h = rules
+  keeps_branches _ h = record { managers = rules.managers; registrars = rules.registrars }
