@@ -1,0 +1,106 @@
+-- Over whole books each step of the machine leaves them lawful.
+use Rattle.std.proofs.Common.{◌≡◌, ◌∙◌, refl, sym, ap, subst, ℕ, ◌+◌, ◌≤◌, Bool, true, false, nat_le, if◌then◌else◌, Option, Some, None}
+use Rattle.std.specs.FinMap.{get, len, values}
+use Rattle.dh_types.specs.declared.command.Command.{Command}
+use Rattle.dh_types.specs.declared.command.Command.TheVariants as command
+use Rattle.dh_types.specs.declared.command.RunOrder.{RunOrder}
+use Rattle.dh_types.specs.declared.reply.Reply.{Reply}
+use Rattle.dh_types.specs.declared.reply.Reply.TheVariants as reply
+use Rattle.dh_model.specs.declared.open_run.OpenRun.{OpenRun}
+use Rattle.dh_model.specs.declared.rows.Change.{Change}
+use Rattle.dh_model.specs.declared.rows.Change.TheVariants as change
+use Rattle.dh_model.specs.declared.rows.Verdict.{Verdict}
+use Rattle.dh_model.specs.declared.rows.Verdict.TheVariants as verdict
+use Rattle.dh_model.specs.Books.{Books, State}
+use Rattle.dh_model.specs.Rules.{IsLawful}
+use Rattle.dh_model.specs.Runs.{batches, ran}
+use Rattle.dh_model.specs.Verdicts.{opened_run, signed, verdict_on}
+use Rattle.dh_model.specs.Machine.{carried_out, changed, posted_sum, resumed, settled}
+use Rattle.dh_model.specs.Whole.{IsOpenAt, open_row}
+use Rattle.dh_model.proofs.Among.{is_among}
+use Rattle.dh_laws.specs.InOrder.{AreKeyed, IsEntered, IsInOrder, run_after}
+use Rattle.dh_laws.specs.Keeping.{ChangesKeepOrder, StepsKeepTheLaw, WholeIsLawful}
+use Rattle.dh_laws.specs.Posting.{RunIsOpeningMadeWhole}
+use Rattle.dh_laws.proofs.MonthShown.{none_open}
+use Rattle.dh_laws.proofs.MonthWhole.{lawful_closed}
+use Rattle.dh_laws.proofs.VerdictCases.{assign_case, branch_case, client_case, comment_case, inspection_case, lease_case, owner_case, post_case, property_case, receipt_case, register_case, rent_case, run_case, staff_case, viewing_case}
+
+either_books : (b : Bool) (x y : State × Reply) (books : Books) → x.0.books ≡ books → y.0.books ≡ books → (if b then x else y).0.books ≡ books
+either_books true x y books p q = p
+either_books false x y books p q = q
+
+-- batches leave the books, which are those with the run made
+resumed_books : (size : ℕ) (books : Books) (count : ℕ) (run : Option OpenRun) → (resumed size books count run).0.books ≡ books
+resumed_books size books count None = refl
+resumed_books size books count (Some run) =
+    let all = batches size books run.month in
+    either_books (nat_le all (run.done + count))
+    (record { books = books; open_run = None }, reply.Posted (posted_sum run.month (get books.runs run.month)))
+    (record { books = books; open_run = Some (record { month = run.month; done = run.done + count }) }, reply.Part (record { month = run.month; done = run.done + count; of = all }))
+    books refl refl
+
+module _ (size : ℕ) (changes : ChangesKeepOrder size) (wholes : WholeIsLawful size) (runs : RunIsOpeningMadeWhole size) (s : State) (pos : 1 ≤ size) (keyed : AreKeyed s.books) (lawful : IsLawful s.books size) where
+  abbrev Law : Books → Type 0
+  Law books = AreKeyed books × IsLawful books size
+
+  in_order : IsInOrder size s.books None
+  in_order = record { keyed = keyed; rules = lawful.rules; shown = none_open s.books (λ run a. lawful.closed run (is_among (values s.books.runs) run a)) }
+
+  -- rows that open no run
+  kept : (told : Command) (rows given : Change) → IsEntered told → verdict_on s.books None told ≡ verdict.Change rows → rows ≡ given → run_after None given ≡ None → Law (changed rows s.books)
+  kept told rows given entered h same none =
+      let after = changes s.books None told rows pos in_order entered h in
+      let shown : open_row (changed rows s.books) ≡ None = subst (λ run. IsOpenAt size (changed rows s.books) run) (ap (run_after None) same ∙ none) after.shown in
+      (after.keyed, lawful_closed size (changed rows s.books) pos after.keyed after.rules shown)
+
+  -- what is accepted only where no run is open
+  where_closed : (told : Command) (rows : Change) → s.open_run ≡ None → verdict_on s.books s.open_run told ≡ verdict.Change rows → verdict_on s.books None told ≡ verdict.Change rows
+  where_closed told rows none h = subst (λ run. verdict_on s.books run told ≡ verdict.Change rows) none h
+
+  ran_kept : (order : RunOrder) → verdict_on s.books None (command.Open order) ≡ verdict.Change (change.Open (opened_run s.books order)) → Law (ran size s.books order.key)
+  ran_kept order h =
+      let row = opened_run s.books order in
+      let after = changes s.books None (command.Open order) (change.Open row) pos in_order tt h in
+      let law = wholes (changed (change.Open row) s.books) (Some (record { month = row.month; done = 0 })) pos after in
+      subst Law (runs s.books order pos in_order h) law
+
+  -- a run and its opening have the same rows
+  opening : (order : RunOrder) (rows : Change) → verdict_on s.books s.open_run (command.Open order) ≡ verdict.Change rows → (rows ≡ change.Open (opened_run s.books order)) × Law (ran size s.books order.key)
+  opening order rows h =
+      let case = run_case s.books s.open_run rows order h in
+      let given = subst (λ r. verdict_on s.books s.open_run (command.Open order) ≡ verdict.Change r) case.0 h in
+      (case.0, ran_kept order (where_closed (command.Open order) (change.Open (opened_run s.books order)) case.1.closed given))
+
+  carried : (told : Command) (rows : Change) → IsEntered told → verdict_on s.books s.open_run told ≡ verdict.Change rows → Law (carried_out size s told rows).0.books
+  carried (command.Branch it) rows e h =
+      let case = branch_case s.books s.open_run rows it h in
+      kept (command.Branch it) rows (change.Branch it) e (where_closed (command.Branch it) rows case.1.closed h) case.0 refl
+  carried (command.Staff it) rows e h = kept (command.Staff it) rows (change.Staff it) e h (staff_case s.books s.open_run rows it h).0 refl
+  carried (command.Owner it) rows e h = kept (command.Owner it) rows (change.Owner it) e h (owner_case s.books s.open_run rows it h).0 refl
+  carried (command.Property it) rows e h = kept (command.Property it) rows (change.Property it) e h (property_case s.books s.open_run rows it h).0 refl
+  carried (command.Assign it) rows e h = kept (command.Assign it) rows (change.Assign it) e h (assign_case s.books s.open_run rows it h).0 refl
+  carried (command.Rent it) rows e h = kept (command.Rent it) rows (change.Rent it) e h (rent_case s.books s.open_run rows it h).0 refl
+  carried (command.Client it) rows e h = kept (command.Client it) rows (change.Client it) e h (client_case s.books s.open_run rows it h).0 refl
+  carried (command.Register it) rows e h = kept (command.Register it) rows (change.Register it) e h (register_case s.books s.open_run rows it h).0 refl
+  carried (command.Viewing it) rows e h = kept (command.Viewing it) rows (change.Viewing it) e h (viewing_case s.books s.open_run rows it h).0 refl
+  carried (command.Comment it) rows e h = kept (command.Comment it) rows (change.Comment it) e h (comment_case s.books s.open_run rows it h).0 refl
+  carried (command.Inspection it) rows e h = kept (command.Inspection it) rows (change.Inspection it) e h (inspection_case s.books s.open_run rows it h).0 refl
+  carried (command.Lease terms) rows e h =
+      let case = lease_case s.books s.open_run rows terms h in
+      kept (command.Lease terms) rows (change.Lease (signed s.books terms (get s.books.properties terms.property))) e (where_closed (command.Lease terms) rows case.1.closed h) case.0 refl
+  carried (command.Receipt order) rows e h =
+      let case = receipt_case s.books s.open_run rows order h in
+      kept (command.Receipt order) rows (change.Receipt (record { number = len s.books.receipts + 1; key = order.key; payment = order.payment })) e (where_closed (command.Receipt order) rows case.1.closed h) case.0 refl
+  carried (command.Run order) rows e h = let case = opening order rows h in subst (λ r. Law (carried_out size s (command.Run order) r).0.books) (sym case.0) case.1
+  carried (command.Open order) rows e h = let case = opening order rows h in subst (λ r. Law (carried_out size s (command.Open order) r).0.books) (sym case.0) case.1
+  carried (command.Post count) rows e h =
+      subst (λ r. Law (carried_out size s (command.Post count) r).0.books) (sym (post_case s.books s.open_run rows count h).0)
+      (subst Law (sym (resumed_books size s.books count s.open_run)) (keyed, lawful))
+
+  settled_kept : (told : Command) (v : Verdict) → IsEntered told → verdict_on s.books s.open_run told ≡ v → Law (settled size s told v).0.books
+  settled_kept told (verdict.Change rows) e h = carried told rows e h
+  settled_kept told (verdict.Already kept) e h = (keyed, lawful)
+  settled_kept told (verdict.Refused why) e h = (keyed, lawful)
+
+pub steps_keep : (size : ℕ) → ChangesKeepOrder size → WholeIsLawful size → RunIsOpeningMadeWhole size → StepsKeepTheLaw size
+steps_keep size changes wholes runs s told pos keyed lawful entered = settled_kept size changes wholes runs s pos keyed lawful told (verdict_on s.books s.open_run told) entered refl

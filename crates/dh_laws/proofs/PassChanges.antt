@@ -1,0 +1,141 @@
+-- Rows that are added while a run is open, and the rest of the run, in either order.
+use Rattle.std.proofs.Common.{◌≡◌, ◌∙◌, refl, sym, ap, ℕ, not, nat_eq, List, Option, Some, None}
+use Rattle.std.specs.FinMap.{FinMap, get, insert}
+use Rattle.dh_types.specs.declared.property.Property.{Property}
+use Rattle.dh_types.specs.declared.viewing.Viewing.{Viewing}
+use Rattle.dh_types.specs.declared.command.Assignment.{Assignment}
+use Rattle.dh_types.specs.declared.command.RentChange.{RentChange}
+use Rattle.dh_types.specs.declared.command.ViewingComment.{ViewingComment}
+use Rattle.dh_types.specs.declared.lease.Charge.{Charge}
+use Rattle.dh_types.specs.declared.run.Part.{Part}
+use Rattle.dh_types.specs.declared.run.Run.{Run}
+use Rattle.dh_model.specs.declared.open_run.OpenRun.{OpenRun}
+use Rattle.dh_model.specs.declared.rows.Change.{Change}
+use Rattle.dh_model.specs.declared.rows.Change.TheVariants as change
+use Rattle.dh_model.specs.Books.{Books, text_cmp, with_rows}
+use Rattle.dh_model.specs.Runs.{batches, charge_key, closed_run, part_key, posted_charges, posted_parts}
+use Rattle.dh_model.specs.Machine.{at_rent, changed, managed, with_comment}
+use Rattle.dh_model.specs.Rules.{NamesWhatIsThere, Rule}
+use Rattle.dh_model.specs.Whole.{completed, open_row, rows_where, whole}
+use Rattle.dh_laws.specs.Passing.{FreeChangesPassTheRun}
+use Rattle.dh_laws.proofs.Acceptance.{Accepted}
+use Rattle.dh_laws.proofs.VerdictCases.{accepted}
+use Rattle.dh_laws.proofs.MonthAlike.{batches_alike, charges_alike, parts_alike}
+use Rattle.dh_laws.proofs.MonthDues.{StandAsBefore, new_property, same_property}
+use Rattle.dh_laws.proofs.MonthKeep.{properties_alike}
+
+module _ (size : ℕ) (b : Books) where
+  -- properties that stand as before leave what the rest of a run adds
+  module _ (properties : FinMap text_cmp Property) (stand : StandAsBefore b properties) where
+    abbrev after : Books
+    after = record b { properties = properties }
+
+    all_charges : (month : ℕ) → posted_charges size after month (batches size after month) ≡ posted_charges size b month (batches size b month)
+    all_charges month =
+        let alike = properties_alike b properties stand month in
+        charges_alike size b after month alike (batches size after month) ∙ ap (posted_charges size b month) (batches_alike size b after month alike)
+
+    all_parts : (month : ℕ) → posted_parts size after month (batches size after month) ≡ posted_parts size b month (batches size b month)
+    all_parts month =
+        let alike = properties_alike b properties stand month in
+        parts_alike size b after month alike (batches size after month) ∙ ap (posted_parts size b month) (batches_alike size b after month alike)
+
+    abbrev with_all : Run → List Charge → List Part → Books
+    with_all run charges parts = record after {
+      charges = with_rows charge_key charges (rows_where (λ charge. not (nat_eq charge.month run.month)) b.charges);
+      parts = with_rows part_key parts (rows_where (λ part. not (nat_eq part.month run.month)) b.parts);
+      runs = insert b.runs run.month (closed_run run.month run.key charges);
+    }
+
+    completed_alike : (found : Option Run) → completed size after found ≡ record (completed size b found) { properties = properties }
+    completed_alike None = refl
+    completed_alike (Some run) = λ i. with_all run (all_charges run.month i) (all_parts run.month i)
+
+    properties_pass : whole size after ≡ record (whole size b) { properties = properties }
+    properties_pass = completed_alike (open_row b)
+
+  -- where no run is open there is nothing to pass
+  on_whole : (f : Books → Books) → ((row : Run) → completed size (f b) (Some row) ≡ f (completed size b (Some row))) → (found : Option Run) → completed size (f b) found ≡ f (completed size b found)
+  on_whole f passes None = refl
+  on_whole f passes (Some row) = passes row
+
+  properties_stay : (found : Option Run) → (completed size b found).properties ≡ b.properties
+  properties_stay None = refl
+  properties_stay (Some row) = refl
+
+  viewings_stay : (found : Option Run) → (completed size b found).viewings ≡ b.viewings
+  viewings_stay None = refl
+  viewings_stay (Some row) = refl
+
+  -- a row in the place of an old one, in books that have the same ones
+  module _ (w : Books) where
+    managed_there : (it : Assignment) (row : Property) → w.properties ≡ b.properties → get b.properties it.property ≡ Some row
+        → managed w it (get w.properties it.property) ≡ record w { properties = insert b.properties it.property (record row { staff = it.staff }) }
+    managed_there it row same is =
+        ap (managed w it) (ap (λ rows. get rows it.property) same ∙ is) ∙ ap (λ rows. record w { properties = insert rows it.property (record row { staff = it.staff }) }) same
+
+    rent_there : (it : RentChange) (row : Property) → w.properties ≡ b.properties → get b.properties it.property ≡ Some row
+        → at_rent w it (get w.properties it.property) ≡ record w { properties = insert b.properties it.property (record row { rent = it.rent }) }
+    rent_there it row same is =
+        ap (at_rent w it) (ap (λ rows. get rows it.property) same ∙ is) ∙ ap (λ rows. record w { properties = insert rows it.property (record row { rent = it.rent }) }) same
+
+    comment_there : (it : ViewingComment) (row : Viewing) → w.viewings ≡ b.viewings → get b.viewings (it.client, it.property) ≡ Some row
+        → with_comment w it (get w.viewings (it.client, it.property)) ≡ record w { viewings = insert b.viewings (it.client, it.property) (record row { comment = Some it.comment }) }
+    comment_there it row same is =
+        ap (with_comment w it) (ap (λ rows. get rows (it.client, it.property)) same ∙ is)
+        ∙ ap (λ rows. record w { viewings = insert rows (it.client, it.property) (record row { comment = Some it.comment }) }) same
+
+  abbrev Pass : Change → Type 0
+  Pass rows = whole size (changed rows b) ≡ changed rows (whole size b)
+
+  assigned_passes : (it : Assignment) (row : Property) → get b.properties it.property ≡ Some row → Pass (change.Assign it)
+  assigned_passes it row is =
+      let new : Property = record row { staff = it.staff } in
+      ap (λ found. whole size (managed b it found)) is
+      ∙ properties_pass (insert b.properties it.property new) (same_property b it.property new row is refl)
+      ∙ sym (managed_there (whole size b) it row (properties_stay (open_row b)) is)
+
+  rent_passes : (it : RentChange) (row : Property) → get b.properties it.property ≡ Some row → Pass (change.Rent it)
+  rent_passes it row is =
+      let new : Property = record row { rent = it.rent } in
+      ap (λ found. whole size (at_rent b it found)) is
+      ∙ properties_pass (insert b.properties it.property new) (same_property b it.property new row is refl)
+      ∙ sym (rent_there (whole size b) it row (properties_stay (open_row b)) is)
+
+  comment_passes : (it : ViewingComment) (row : Viewing) → get b.viewings (it.client, it.property) ≡ Some row → Pass (change.Comment it)
+  comment_passes it row is =
+      let viewings = insert b.viewings (it.client, it.property) (record row { comment = Some it.comment }) in
+      ap (λ found. whole size (with_comment b it found)) is
+      ∙ on_whole (λ w. record w { viewings = viewings }) (λ row. refl) (open_row b)
+      ∙ sym (comment_there (whole size b) it row (viewings_stay (open_row b)) is)
+
+  added_passes : (it : Property) → NamesWhatIsThere b → get b.properties it.number ≡ None → Pass (change.Property it)
+  added_passes it names new =
+      properties_pass (insert b.properties it.number it) (new_property b it.number it names new)
+      ∙ sym (ap (λ rows. record (whole size b) { properties = insert rows it.number it }) (properties_stay (open_row b)))
+
+  -- of an open run
+  module _ (run : OpenRun) (names : NamesWhatIsThere b) where
+    never : {X : Type 0} → Some run ≡ None → X
+    never e = cc
+
+    changes_pass : (rows : Change) → Accepted b (Some run) rows → Pass rows
+    changes_pass (change.Branch it) a = never a.closed
+    changes_pass (change.Staff it) a = on_whole (changed (change.Staff it)) (λ row. refl) (open_row b)
+    changes_pass (change.Owner it) a = on_whole (changed (change.Owner it)) (λ row. refl) (open_row b)
+    changes_pass (change.Property it) a = added_passes it names a.new
+    changes_pass (change.Assign it) a = assigned_passes it a.row a.is
+    changes_pass (change.Rent it) a = rent_passes it a.0 a.1
+    changes_pass (change.Client it) a = on_whole (changed (change.Client it)) (λ row. refl) (open_row b)
+    changes_pass (change.Register it) a = on_whole (changed (change.Register it)) (λ row. refl) (open_row b)
+    changes_pass (change.Viewing it) a = on_whole (changed (change.Viewing it)) (λ row. refl) (open_row b)
+    changes_pass (change.Comment it) a = comment_passes it a.0 a.1
+    changes_pass (change.Inspection it) a = on_whole (changed (change.Inspection it)) (λ row. refl) (open_row b)
+    changes_pass (change.Lease it) a = never a.closed
+    changes_pass (change.Receipt it) a = never a.closed
+    changes_pass (change.Open it) a = never a.closed
+    changes_pass change.Post a = refl
+
+pub free_changes_pass_the_run : (size : ℕ) → FreeChangesPassTheRun size
+free_changes_pass_the_run size books run told rows pos in_order free is =
+    changes_pass size books run (in_order.rules Rule.References) rows (accepted books (Some run) rows told is)

@@ -1,0 +1,317 @@
+-- Each accepted command's rows, and what its checks found.
+use Rattle.std.proofs.Common.{◌≡◌, refl, sym, subst, ℕ, ◌+◌, ◌≤◌, Bool, true, false, nat_eq, nat_lt, ◌&&◌, if◌then◌else◌, [], ◌∷◌, ◌++◌, Option, Some, None, IfSome}
+use Rattle.std.specs.FinMap.{contains_key, get, len, values}
+use Rattle.dh_types.specs.declared.branch.Branch.{Branch}
+use Rattle.dh_types.specs.declared.staff.Staff.{Staff}
+use Rattle.dh_types.specs.declared.owner.Owner.{Owner}
+use Rattle.dh_types.specs.declared.property.Property.{Property}
+use Rattle.dh_types.specs.declared.client.Client.{Client}
+use Rattle.dh_types.specs.declared.client.Registration.{Registration}
+use Rattle.dh_types.specs.declared.viewing.Viewing.{Viewing}
+use Rattle.dh_types.specs.declared.viewing.Inspection.{Inspection}
+use Rattle.dh_types.specs.declared.lease.LeaseTerms.{LeaseTerms}
+use Rattle.dh_types.specs.declared.lease.Receipt.{Receipt}
+use Rattle.dh_types.specs.declared.command.Command.{Command}
+use Rattle.dh_types.specs.declared.command.Command.TheVariants as command
+use Rattle.dh_types.specs.declared.command.Assignment.{Assignment}
+use Rattle.dh_types.specs.declared.command.RentChange.{RentChange}
+use Rattle.dh_types.specs.declared.command.ViewingComment.{ViewingComment}
+use Rattle.dh_types.specs.declared.command.ReceiptOrder.{ReceiptOrder}
+use Rattle.dh_types.specs.declared.command.RunOrder.{RunOrder}
+use Rattle.dh_types.specs.declared.reply.Refusal.TheVariants as refusal
+use Rattle.dh_types.specs.declared.reply.Reply.TheVariants as reply
+use Rattle.dh_types.specs.Records.{is_same_branch, is_same_client, is_same_inspection, is_same_lease_terms, is_same_optional, is_same_owner, is_same_property, is_same_registration, is_same_staff, is_same_viewing}
+use Rattle.dh_types.proofs.SameValues.{numbers}
+use Rattle.dh_model.specs.declared.open_run.OpenRun.{OpenRun}
+use Rattle.dh_model.specs.declared.rows.Change.{Change}
+use Rattle.dh_model.specs.declared.rows.Change.TheVariants as change
+use Rattle.dh_model.specs.declared.rows.Verdict.TheVariants as verdict
+use Rattle.dh_model.specs.Books.{Books}
+use Rattle.dh_model.specs.Leases.{overlap}
+use Rattle.dh_model.specs.Checks.{deposit_checks, first_failing, first_that_day, free_of_others, has_room, in_time, is_same_text, names, of_branch, receipt_of_key, registered, run_of_key, unless, where_given, works_at}
+use Rattle.dh_model.specs.Verdicts.{assigned, branch_verdict, commented, judged, lease_checks, lease_verdict, manager_checks, opened_run, post_verdict, property_checks, receipt_checks, receipt_verdict, registration_checks, rent_changed, run_verdict, signed, unless_receipt, unless_run, verdict_on}
+use Rattle.dh_laws.proofs.VerdictChecks.{CanManage, all_pass, can_manage, deposit_of, first_passes, holds_of, new_key, none_of_leases, passed, property_of, starts_in_time, was_closed, was_new, was_no_receipt, was_no_run, was_unpaid, was_unposted}
+use Rattle.dh_laws.specs.InOrder.{IsEntered}
+use Rattle.dh_laws.proofs.Acceptance.{Accepted, AddsBranch, AddsInspection, AddsLease, AddsProperty, AddsReceipt, AddsStaff, AddsViewing, Assigns, OpensRun, Registers}
+
+same_given : (rows given : Change) → verdict.Change given ≡ verdict.Change rows → rows ≡ given
+same_given rows given h = let is : given ≡ rows = cc in sym is
+
+module _ (books : Books) (run : Option OpenRun) (rows : Change) where
+  pub branch_case : (it : Branch) → verdict_on books run (command.Branch it) ≡ verdict.Change rows → (rows ≡ change.Branch it) × AddsBranch books run it
+  branch_case it h =
+      let free = was_closed run (branch_verdict books it) rows h in
+      let new = was_new (is_same_branch it) (get books.branches it.number) (judged [] (change.Branch it)) rows free.1 in
+      ((passed [] rows (change.Branch it) new.1).0, record { closed = free.0; new = new.0 })
+
+  pub staff_case : (it : Staff) → verdict_on books run (command.Staff it) ≡ verdict.Change rows → (rows ≡ change.Staff it) × AddsStaff books run it
+  staff_case it h =
+      let checks = names books.branches it.branch 5 ∷ [] in
+      let new = was_new (is_same_staff it) (get books.staff it.number) (judged checks (change.Staff it)) rows h in
+      let all = passed checks rows (change.Staff it) new.1 in
+      let branch = first_passes (names books.branches it.branch 5) [] all.1 in
+      (all.0, record { new = new.0; branch = holds_of (contains_key books.branches it.branch) (refusal.Unknown 5) branch.0 })
+
+  pub owner_case : (it : Owner) → verdict_on books run (command.Owner it) ≡ verdict.Change rows → (rows ≡ change.Owner it) × (get books.owners it.number ≡ None)
+  owner_case it h =
+      let new = was_new (is_same_owner it) (get books.owners it.number) (judged [] (change.Owner it)) rows h in
+      ((passed [] rows (change.Owner it) new.1).0, new.0)
+
+  pub property_case : (it : Property) → verdict_on books run (command.Property it) ≡ verdict.Change rows → (rows ≡ change.Property it) × AddsProperty books run it
+  property_case it h =
+      let new = was_new (is_same_property it) (get books.properties it.number) (judged (property_checks books it) (change.Property it)) rows h in
+      let all = passed (property_checks books it) rows (change.Property it) new.1 in
+      let room = where_given it.staff (λ m. has_room books m it.number) in
+      let member = where_given it.staff (λ m. of_branch books m it.branch) in
+      let there = where_given it.staff (λ m. names books.staff m 10) in
+      let a = first_passes (names books.owners it.owner 9) (there ∷ names books.branches it.branch 11 ∷ member ∷ room ∷ []) all.1 in
+      let b = first_passes there (names books.branches it.branch 11 ∷ member ∷ room ∷ []) a.1 in
+      let c = first_passes (names books.branches it.branch 11) (member ∷ room ∷ []) b.1 in
+      let d = first_passes member (room ∷ []) c.1 in
+      (all.0, record {
+        new = new.0;
+        owner = holds_of (contains_key books.owners it.owner) (refusal.Unknown 9) a.0;
+        branch = holds_of (contains_key books.branches it.branch) (refusal.Unknown 11) c.0;
+        staff = can_manage books it.branch it.number it.staff 10 b.0 d.0 (first_passes room [] d.1).0;
+      })
+
+  managing : (it : Assignment) (row : Property) → judged (manager_checks books row it.staff) (change.Assign it) ≡ verdict.Change rows
+      → (rows ≡ change.Assign it) × IfSome it.staff (CanManage books row.branch row.number)
+  managing it row h =
+      let all = passed (manager_checks books row it.staff) rows (change.Assign it) h in
+      let room = where_given it.staff (λ m. has_room books m row.number) in
+      let member = where_given it.staff (λ m. of_branch books m row.branch) in
+      let there = where_given it.staff (λ m. names books.staff m 3) in
+      let a = first_passes there (member ∷ room ∷ []) all.1 in
+      let b = first_passes member (room ∷ []) a.1 in
+      (all.0, can_manage books row.branch row.number it.staff 3 a.0 b.0 (first_passes room [] b.1).0)
+
+  assigned_if : (b : Bool) (it : Assignment) (row : Property)
+      → (if b then verdict.Already reply.Already else judged (manager_checks books row it.staff) (change.Assign it)) ≡ verdict.Change rows
+      → (rows ≡ change.Assign it) × IfSome it.staff (CanManage books row.branch row.number)
+  assigned_if true it row h = cc
+  assigned_if false it row h = managing it row h
+
+  assigning : (it : Assignment) (found : Option Property) → get books.properties it.property ≡ found → assigned books it found ≡ verdict.Change rows
+      → (rows ≡ change.Assign it) × Assigns books run it
+  assigning it None e h = cc
+  assigning it (Some row) e h =
+      let case = assigned_if (is_same_optional is_same_text it.staff row.staff) it row h in
+      (case.0, record { row = row; is = e; staff = case.1 })
+
+  pub assign_case : (it : Assignment) → verdict_on books run (command.Assign it) ≡ verdict.Change rows → (rows ≡ change.Assign it) × Assigns books run it
+  assign_case it h = assigning it (get books.properties it.property) refl h
+
+  rent_if : (b : Bool) (given : Change) → (if b then verdict.Already reply.Already else verdict.Change given) ≡ verdict.Change rows → rows ≡ given
+  rent_if true given h = cc
+  rent_if false given h = same_given rows given h
+
+  renting : (it : RentChange) (found : Option Property) → get books.properties it.property ≡ found → rent_changed books it found ≡ verdict.Change rows
+      → (rows ≡ change.Rent it) × ((row : Property) × (get books.properties it.property ≡ Some row))
+  renting it None e h = cc
+  renting it (Some row) e h = (rent_if (nat_eq it.rent row.rent) (change.Rent it) h, (row, e))
+
+  pub rent_case : (it : RentChange) → verdict_on books run (command.Rent it) ≡ verdict.Change rows
+      → (rows ≡ change.Rent it) × ((row : Property) × (get books.properties it.property ≡ Some row))
+  rent_case it h = renting it (get books.properties it.property) refl h
+
+  pub client_case : (it : Client) → verdict_on books run (command.Client it) ≡ verdict.Change rows → (rows ≡ change.Client it) × (get books.clients it.number ≡ None)
+  client_case it h =
+      let new = was_new (is_same_client it) (get books.clients it.number) (judged [] (change.Client it)) rows h in
+      ((passed [] rows (change.Client it) new.1).0, new.0)
+
+  pub register_case : (it : Registration) → verdict_on books run (command.Register it) ≡ verdict.Change rows → (rows ≡ change.Register it) × Registers books run it
+  register_case it h =
+      let new = was_new (is_same_registration it) (get books.registrations (it.client, it.branch)) (judged (registration_checks books it) (change.Register it)) rows h in
+      let all = passed (registration_checks books it) rows (change.Register it) new.1 in
+      let a = first_passes (names books.clients it.client 2) (names books.branches it.branch 3 ∷ names books.staff it.staff 4 ∷ of_branch books it.staff it.branch ∷ []) all.1 in
+      let b = first_passes (names books.branches it.branch 3) (names books.staff it.staff 4 ∷ of_branch books it.staff it.branch ∷ []) a.1 in
+      let c = first_passes (names books.staff it.staff 4) (of_branch books it.staff it.branch ∷ []) b.1 in
+      (all.0, record {
+        new = new.0;
+        client = holds_of (contains_key books.clients it.client) (refusal.Unknown 2) a.0;
+        branch = holds_of (contains_key books.branches it.branch) (refusal.Unknown 3) b.0;
+        staff = holds_of (contains_key books.staff it.staff) (refusal.Unknown 4) c.0;
+        of_branch = holds_of (works_at it.branch (get books.staff it.staff)) refusal.WrongBranch (first_passes (of_branch books it.staff it.branch) [] c.1).0;
+      })
+
+  pub viewing_case : (it : Viewing) → verdict_on books run (command.Viewing it) ≡ verdict.Change rows → (rows ≡ change.Viewing it) × AddsViewing books run it
+  viewing_case it h =
+      let checks = names books.clients it.client 2 ∷ names books.properties it.property 3 ∷ [] in
+      let new = was_new (is_same_viewing it) (get books.viewings (it.client, it.property)) (judged checks (change.Viewing it)) rows h in
+      let all = passed checks rows (change.Viewing it) new.1 in
+      let a = first_passes (names books.clients it.client 2) (names books.properties it.property 3 ∷ []) all.1 in
+      (all.0, record {
+        new = new.0;
+        client = holds_of (contains_key books.clients it.client) (refusal.Unknown 2) a.0;
+        property = holds_of (contains_key books.properties it.property) (refusal.Unknown 3) (first_passes (names books.properties it.property 3) [] a.1).0;
+      })
+
+  commenting : (it : ViewingComment) (found : Option Viewing) → get books.viewings (it.client, it.property) ≡ found → commented books it found ≡ verdict.Change rows
+      → (rows ≡ change.Comment it) × ((row : Viewing) × (get books.viewings (it.client, it.property) ≡ Some row))
+  commenting it None e h = cc
+  commenting it (Some row) e h = (rent_if (is_same_optional is_same_text (Some it.comment) row.comment) (change.Comment it) h, (row, e))
+
+  pub comment_case : (it : ViewingComment) → verdict_on books run (command.Comment it) ≡ verdict.Change rows
+      → (rows ≡ change.Comment it) × ((row : Viewing) × (get books.viewings (it.client, it.property) ≡ Some row))
+  comment_case it h = commenting it (get books.viewings (it.client, it.property)) refl h
+
+  pub inspection_case : (it : Inspection) → verdict_on books run (command.Inspection it) ≡ verdict.Change rows → (rows ≡ change.Inspection it) × AddsInspection books run it
+  inspection_case it h =
+      let checks = names books.properties it.property 2 ∷ names books.staff it.staff 4 ∷ [] in
+      let new = was_new (is_same_inspection it) (get books.inspections (it.property, it.day)) (judged checks (change.Inspection it)) rows h in
+      let all = passed checks rows (change.Inspection it) new.1 in
+      let a = first_passes (names books.properties it.property 2) (names books.staff it.staff 4 ∷ []) all.1 in
+      (all.0, record {
+        new = new.0;
+        property = holds_of (contains_key books.properties it.property) (refusal.Unknown 2) a.0;
+        staff = holds_of (contains_key books.staff it.staff) (refusal.Unknown 4) (first_passes (names books.staff it.staff 4) [] a.1).0;
+      })
+
+  signing : (terms : LeaseTerms) → run ≡ None → get books.leases terms.number ≡ None → first_failing (lease_checks books terms) ≡ None
+      → AddsLease books run (signed books terms (get books.properties terms.property))
+  signing terms closed new h =
+      let d = free_of_others books terms ∷ [] in
+      let c = first_that_day books terms.client terms.start ∷ free_of_others books terms ∷ [] in
+      let b = in_time books terms.start ∷ first_that_day books terms.client terms.start ∷ free_of_others books terms ∷ [] in
+      let a = registered books terms.client terms.property ∷ in_time books terms.start ∷ first_that_day books terms.client terms.start ∷ free_of_others books terms ∷ [] in
+      let client = first_passes (names books.clients terms.client 3) (names books.properties terms.property 4 ∷ a) h in
+      let property = first_passes (names books.properties terms.property 4) a client.1 in
+      let branch = first_passes (registered books terms.client terms.property) b property.1 in
+      let start = first_passes (in_time books terms.start) c branch.1 in
+      let day = first_passes (first_that_day books terms.client terms.start) d start.1 in
+      let row = property_of books terms.client terms.property branch.0 in
+      subst (λ found. AddsLease books run (signed books terms found)) (sym row.1) (record {
+        closed = closed;
+        new = new;
+        client = holds_of (contains_key books.clients terms.client) (refusal.Unknown 3) client.0;
+        row = row.0;
+        is = row.1;
+        rent = refl;
+        registered = row.2;
+        in_time = starts_in_time books terms.start start.0;
+        first = none_of_leases (λ l. is_same_text l.terms.client terms.client && nat_eq l.terms.start terms.start) refusal.ClientStart (values books.leases) day.0;
+        free = none_of_leases (λ l. overlap terms l.terms) refusal.Overlap (values books.leases) (first_passes (free_of_others books terms) [] day.1).0;
+      })
+
+  pub lease_case : (terms : LeaseTerms) → verdict_on books run (command.Lease terms) ≡ verdict.Change rows
+      → (rows ≡ change.Lease (signed books terms (get books.properties terms.property))) × AddsLease books run (signed books terms (get books.properties terms.property))
+  lease_case terms h =
+      let free = was_closed run (lease_verdict books terms) rows h in
+      let given = change.Lease (signed books terms (get books.properties terms.property)) in
+      let new = was_new (λ l. is_same_lease_terms terms l.terms) (get books.leases terms.number) (judged (lease_checks books terms) given) rows free.1 in
+      let all = passed (lease_checks books terms) rows given new.1 in
+      (all.0, signing terms free.0 new.0 all.1)
+
+  abbrev receipt_for : ReceiptOrder → Receipt
+  receipt_for order = record { number = len books.receipts + 1; key = order.key; payment = order.payment }
+
+  pub receipt_case : (order : ReceiptOrder) → verdict_on books run (command.Receipt order) ≡ verdict.Change rows
+      → (rows ≡ change.Receipt (record { number = len books.receipts + 1; key = order.key; payment = order.payment }))
+      × AddsReceipt books run (record { number = len books.receipts + 1; key = order.key; payment = order.payment })
+  receipt_case order h =
+      let free = was_closed run (receipt_verdict books order) rows h in
+      let given = change.Receipt (receipt_for order) in
+      let accepted = judged (receipt_checks books order) given in
+      let no_receipt = was_unpaid books order (receipt_of_key books order.key) (unless_run books (run_of_key books order.key) accepted) rows free.1 in
+      let no_run = was_no_run books (run_of_key books order.key) accepted rows no_receipt.1 in
+      let all = passed (receipt_checks books order) rows given no_run.1 in
+      let lease = first_passes (names books.leases order.payment.lease 3) (deposit_checks books order.payment ++ unless (nat_lt (len books.receipts) 99999999) refusal.Full ∷ []) all.1 in
+      let deposit = all_pass (deposit_checks books order.payment) (unless (nat_lt (len books.receipts) 99999999) refusal.Full ∷ []) lease.1 in
+      (all.0, record {
+        closed = free.0;
+        number = refl;
+        lease = holds_of (contains_key books.leases order.payment.lease) (refusal.Unknown 3) lease.0;
+        deposit = deposit_of books order.payment deposit.0;
+        key = new_key books order.key no_receipt.0 no_run.0;
+      })
+
+  -- of `run` and of `open` alike
+  pub run_case : (order : RunOrder) → verdict_on books run (command.Open order) ≡ verdict.Change rows
+      → (rows ≡ change.Open (opened_run books order)) × OpensRun books run (opened_run books order)
+  run_case order h =
+      let free = was_closed run (run_verdict books order) rows h in
+      let given = change.Open (opened_run books order) in
+      let checks = unless (nat_eq order.month books.next) (refusal.NotNextMonth books.next) ∷ [] in
+      let no_run = was_unposted books order (run_of_key books order.key) (unless_receipt books (receipt_of_key books order.key) (judged checks given)) rows free.1 in
+      let no_receipt = was_no_receipt books (receipt_of_key books order.key) (judged checks given) rows no_run.1 in
+      let all = passed checks rows given no_receipt.1 in
+      let month = first_passes (unless (nat_eq order.month books.next) (refusal.NotNextMonth books.next)) [] all.1 in
+      (all.0, record {
+        closed = free.0;
+        month = (numbers order.month books.next).0 (holds_of (nat_eq order.month books.next) (refusal.NotNextMonth books.next) month.0);
+        is_open = refl;
+        count = refl;
+        total = refl;
+        key = new_key books order.key no_receipt.0 no_run.0;
+      })
+
+  posting : (at : Option OpenRun) → run ≡ at → post_verdict at ≡ verdict.Change rows → (rows ≡ change.Post) × ((at : OpenRun) × (run ≡ Some at))
+  posting None e h = cc
+  posting (Some at) e h = (same_given rows change.Post h, (at, e))
+
+  pub post_case : (count : ℕ) → verdict_on books run (command.Post count) ≡ verdict.Change rows → (rows ≡ change.Post) × ((at : OpenRun) × (run ≡ Some at))
+  post_case count h = posting run refl h
+
+  from_case : (given : Change) → (rows ≡ given) × Accepted books run given → Accepted books run rows
+  from_case given case = subst (Accepted books run) (sym case.0) case.1
+
+  -- the rows of an accepted command were found fit
+  pub accepted : (told : Command) → verdict_on books run told ≡ verdict.Change rows → Accepted books run rows
+  accepted (command.Branch it) h = from_case (change.Branch it) (branch_case it h)
+  accepted (command.Staff it) h = from_case (change.Staff it) (staff_case it h)
+  accepted (command.Owner it) h = from_case (change.Owner it) (owner_case it h)
+  accepted (command.Property it) h = from_case (change.Property it) (property_case it h)
+  accepted (command.Assign it) h = from_case (change.Assign it) (assign_case it h)
+  accepted (command.Rent it) h = from_case (change.Rent it) (rent_case it h)
+  accepted (command.Client it) h = from_case (change.Client it) (client_case it h)
+  accepted (command.Register it) h = from_case (change.Register it) (register_case it h)
+  accepted (command.Viewing it) h = from_case (change.Viewing it) (viewing_case it h)
+  accepted (command.Comment it) h = from_case (change.Comment it) (comment_case it h)
+  accepted (command.Inspection it) h = from_case (change.Inspection it) (inspection_case it h)
+  accepted (command.Lease terms) h = from_case (change.Lease (signed books terms (get books.properties terms.property))) (lease_case terms h)
+  accepted (command.Receipt order) h = from_case (change.Receipt (receipt_for order)) (receipt_case order h)
+  accepted (command.Run order) h = from_case (change.Open (opened_run books order)) (run_case order h)
+  accepted (command.Open order) h = from_case (change.Open (opened_run books order)) (run_case order h)
+  accepted (command.Post count) h = from_case change.Post (post_case count h)
+
+-- ---- what a line holds
+
+-- the months of a new lease
+abbrev pub IsLimited : Change → Type 0
+IsLimited (change.Lease lease) = (3 ≤ lease.terms.months) × (lease.terms.months ≤ 12)
+IsLimited _ = Unit {0}
+
+signed_terms : (books : Books) (terms : LeaseTerms) (found : Option Property) → (signed books terms found).terms ≡ terms
+signed_terms books terms None = refl
+signed_terms books terms (Some row) = refl
+
+limited_lease : (books : Books) (run : Option OpenRun) (rows : Change) (terms : LeaseTerms) → IsEntered (command.Lease terms)
+    → verdict_on books run (command.Lease terms) ≡ verdict.Change rows → IsLimited rows
+limited_lease books run rows terms entered h =
+    let same = signed_terms books terms (get books.properties terms.property) in
+    let lease = signed books terms (get books.properties terms.property) in
+    subst IsLimited (sym (lease_case books run rows terms h).0)
+    (subst (λ (t : LeaseTerms). (3 ≤ t.months) × (t.months ≤ 12)) (sym same) entered)
+
+unlimited : (books : Books) (run : Option OpenRun) (rows given : Change) → IsLimited given → rows ≡ given → IsLimited rows
+unlimited books run rows given fits same = subst IsLimited (sym same) fits
+
+module _ (books : Books) (run : Option OpenRun) (rows : Change) where
+  pub limited : (told : Command) → IsEntered told → verdict_on books run told ≡ verdict.Change rows → IsLimited rows
+  limited (command.Branch it) e h = unlimited books run rows (change.Branch it) tt (branch_case books run rows it h).0
+  limited (command.Staff it) e h = unlimited books run rows (change.Staff it) tt (staff_case books run rows it h).0
+  limited (command.Owner it) e h = unlimited books run rows (change.Owner it) tt (owner_case books run rows it h).0
+  limited (command.Property it) e h = unlimited books run rows (change.Property it) tt (property_case books run rows it h).0
+  limited (command.Assign it) e h = unlimited books run rows (change.Assign it) tt (assign_case books run rows it h).0
+  limited (command.Rent it) e h = unlimited books run rows (change.Rent it) tt (rent_case books run rows it h).0
+  limited (command.Client it) e h = unlimited books run rows (change.Client it) tt (client_case books run rows it h).0
+  limited (command.Register it) e h = unlimited books run rows (change.Register it) tt (register_case books run rows it h).0
+  limited (command.Viewing it) e h = unlimited books run rows (change.Viewing it) tt (viewing_case books run rows it h).0
+  limited (command.Comment it) e h = unlimited books run rows (change.Comment it) tt (comment_case books run rows it h).0
+  limited (command.Inspection it) e h = unlimited books run rows (change.Inspection it) tt (inspection_case books run rows it h).0
+  limited (command.Lease terms) e h = limited_lease books run rows terms e h
+  limited (command.Receipt order) e h = unlimited books run rows (change.Receipt (receipt_for books run rows order)) tt (receipt_case books run rows order h).0
+  limited (command.Run order) e h = unlimited books run rows (change.Open (opened_run books order)) tt (run_case books run rows order h).0
+  limited (command.Open order) e h = unlimited books run rows (change.Open (opened_run books order)) tt (run_case books run rows order h).0
+  limited (command.Post count) e h = unlimited books run rows change.Post tt (post_case books run rows count h).0

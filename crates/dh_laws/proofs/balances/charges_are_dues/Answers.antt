@@ -1,0 +1,5 @@
+use Rattle.dh_laws.proofs.OweCharges.{charges_are_dues}
+use Rattle.dh_laws.proofs.balances.charges_are_dues.Goals as goal
+
+pub returns : goal.returns
+returns c = charges_are_dues

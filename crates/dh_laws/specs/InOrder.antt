@@ -1,0 +1,47 @@
+-- Books that an office works on: each row under its key, the rules hold, and the open run is where the books show it.
+use Rattle.std.specs.Prelude.{◌≡◌, ◌≤◌, ℕ, Option, Some, None}
+use Rattle.std.specs.declared.cmp.Ordering.{Ordering}
+use Rattle.std.specs.FinMap.{FinMap, get}
+use Rattle.dh_types.specs.declared.command.Command.{Command}
+use Rattle.dh_types.specs.declared.command.Command.TheVariants as command
+use Rattle.dh_model.specs.declared.open_run.OpenRun.{OpenRun}
+use Rattle.dh_model.specs.declared.rows.Change.{Change}
+use Rattle.dh_model.specs.declared.rows.Change.TheVariants as change
+use Rattle.dh_model.specs.Books.{Books}
+use Rattle.dh_model.specs.Runs.{charge_key, part_key}
+use Rattle.dh_model.specs.Rules.{MeetsRules}
+use Rattle.dh_model.specs.Whole.{IsOpenAt}
+
+-- what stands under a key has it
+abbrev pub StandUnder : {K X : Type 0} {R : K → K → Ordering} → (X → K) → FinMap R X → Type 0
+StandUnder {K} {X} key rows = (k : K) (row : X) → get rows k ≡ Some row → key row ≡ k
+
+pub record AreKeyed (books : Books) : Type 0 where
+  pub branches : StandUnder (λ it. it.number) books.branches
+  pub staff : StandUnder (λ it. it.number) books.staff
+  pub owners : StandUnder (λ it. it.number) books.owners
+  pub properties : StandUnder (λ it. it.number) books.properties
+  pub clients : StandUnder (λ it. it.number) books.clients
+  pub registrations : StandUnder (λ it. (it.client, it.branch)) books.registrations
+  pub viewings : StandUnder (λ it. (it.client, it.property)) books.viewings
+  pub inspections : StandUnder (λ it. (it.property, it.day)) books.inspections
+  pub leases : StandUnder (λ it. it.terms.number) books.leases
+  pub charges : StandUnder charge_key books.charges
+  pub receipts : StandUnder (λ it. it.number) books.receipts
+  pub runs : StandUnder (λ it. it.month) books.runs
+  pub parts : StandUnder part_key books.parts
+
+pub record IsInOrder (size : ℕ) (books : Books) (run : Option OpenRun) : Type 0 where
+  pub keyed : AreKeyed books
+  pub rules : MeetsRules books size
+  pub shown : IsOpenAt size books run
+
+-- what a line can hold of a command, as far as a rule speaks of it
+abbrev pub IsEntered : Command → Type 0
+IsEntered (command.Lease terms) = (3 ≤ terms.months) × (terms.months ≤ 12)
+IsEntered _ = Unit {0}
+
+-- the open run after a change: an opening begins one with no batch done, all else leaves it
+abbrev pub run_after : Option OpenRun → Change → Option OpenRun
+run_after run (change.Open row) = Some (record { month = row.month; done = 0 })
+run_after run _ = run

@@ -1,0 +1,15 @@
+//! What the leases owe.
+
+ghost use Rattle.std.specs.Prelude.{ℕ};
+ghost use Rattle.dh_laws.specs.Balances.{BalancesMoveAsTold, ChargesAreDues};
+
+/// An accepted run raises a lease's balance by its due, an accepted rent receipt lowers it by its amount, and nothing else
+/// changes one.
+pub fn balances_move_as_told()
+    ensures { (size : ℕ) → BalancesMoveAsTold size }
+{}
+
+/// What is charged in whole books is what fell due in the months that were run, each once.
+pub fn charges_are_dues()
+    ensures { (size : ℕ) → ChargesAreDues size }
+{}

@@ -1,0 +1,20 @@
+//! What every change keeps.
+
+ghost use Rattle.std.specs.Prelude.{ℕ};
+ghost use Rattle.dh_laws.specs.Keeping.{ChangesKeepOrder, StepsKeepTheLaw, WholeIsLawful};
+
+/// The rows of an accepted command leave books in order, with the open run that the command leaves: none of another
+/// month, and after an opening one with no batch done.
+pub fn changes_keep_order()
+    ensures { (size : ℕ) → ChangesKeepOrder size }
+{}
+
+/// Books in order are lawful once their open run is made to its end.
+pub fn whole_is_lawful()
+    ensures { (size : ℕ) → WholeIsLawful size }
+{}
+
+/// Over whole books each step of the machine leaves them lawful.
+pub fn steps_keep_the_law()
+    ensures { (size : ℕ) → StepsKeepTheLaw size }
+{}

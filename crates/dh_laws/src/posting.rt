@@ -1,0 +1,24 @@
+//! Batches, one after the other, lead to the same whole books.
+
+ghost use Rattle.std.specs.Prelude.{ℕ};
+ghost use Rattle.dh_laws.specs.Posting.{ClosingMakesWhole, NextBatchIsSmall, NextBatchKeepsTheWhole, RunIsOpeningMadeWhole};
+
+/// The next batch leaves books in order, and the whole of them as it was.
+pub fn next_batch_keeps_the_whole()
+    ensures { (size : ℕ) → NextBatchKeepsTheWhole size }
+{}
+
+/// A batch has no more charges than the size.
+pub fn next_batch_is_small()
+    ensures { (size : ℕ) → NextBatchIsSmall size }
+{}
+
+/// Where no batch is left, closing the run makes the books whole.
+pub fn closing_makes_whole()
+    ensures { (size : ℕ) → ClosingMakesWhole size }
+{}
+
+/// A run in one step is its opening made whole.
+pub fn run_is_opening_made_whole()
+    ensures { (size : ℕ) → RunIsOpeningMadeWhole size }
+{}
