@@ -8,6 +8,7 @@ use std::alloc::Global;
 use std::test::Fail;
 
 mod batches;
+mod examples;
 mod receipts;
 mod runs;
 
