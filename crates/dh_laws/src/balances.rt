@@ -9,7 +9,7 @@ pub fn balances_move_as_told()
     ensures { (size : ℕ) → BalancesMoveAsTold size }
 {}
 
-/// What is charged in whole books is what fell due in the months that were run, each once.
+/// What is charged in whole books is what fell due in the months that were run, and nothing else.
 pub fn charges_are_dues()
     ensures { (size : ℕ) → ChargesAreDues size }
 {}
