@@ -130,7 +130,7 @@ module _ (books : Books) (keyed : AreKeyed books) (key : List ℕ) (it : Propert
       let stand = insert_keyed text_total text_ties (λ p. p.number) books.properties key it own keyed.properties in
       let rises = rows_rise text_total text_ties (λ p. p.number) after stand in
       let few = all_but_one (manages member) (is_it key) (values after)
-          (rises_as (λ x y. IsBefore text_cmp x.number y.number) (λ x y. is_it key x ≡ true → is_it key y ≡ true → ⊥) (values after) (numbers_rise key) rises) in
+      (rises_as (λ x y. IsBefore text_cmp x.number y.number) (λ x y. is_it key x ≡ true → is_it key y ≡ true → ⊥) (values after) (numbers_rise key) rises) in
       let same = besides_after (get books.properties key) refl in
       omega (arith, few, same, room)
 

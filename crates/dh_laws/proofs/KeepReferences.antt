@@ -49,8 +49,19 @@ module _ (books : Books) (run : Option OpenRun) (rules : NamesWhatIsThere books)
   names_property : (it : Property) → AddsProperty books run it → NamesWhatIsThere (record books { properties = insert books.properties it.number it })
   names_property it h =
       let s = still books (record books { properties = insert books.properties it.number it }) (grows_properties books it.number it (λ row is. never_there (get books.properties it.number) row (row.branch ≡ it.branch) h.new is)) rules in
-      record { staff = s.staff; properties = each_put text_total text_ties books.properties it.number it (PropertyRefers (record books { properties = insert books.properties it.number it })) s.properties
-          (record { owner = h.owner; staff = if_some it.staff (λ m c. c.there) h.staff; branch = h.branch }); registrations = s.registrations; viewings = s.viewings; inspections = s.inspections; leases = s.leases; charges = s.charges; receipts = s.receipts; part_runs = s.part_runs; part_branches = s.part_branches }
+      record {
+        staff = s.staff;
+        properties = each_put text_total text_ties books.properties it.number it (PropertyRefers (record books { properties = insert books.properties it.number it })) s.properties
+            (record { owner = h.owner; staff = if_some it.staff (λ m c. c.there) h.staff; branch = h.branch });
+        registrations = s.registrations;
+        viewings = s.viewings;
+        inspections = s.inspections;
+        leases = s.leases;
+        charges = s.charges;
+        receipts = s.receipts;
+        part_runs = s.part_runs;
+        part_branches = s.part_branches;
+      }
 
   names_client : (it : Client) → NamesWhatIsThere (record books { clients = insert books.clients it.number it })
   names_client it =
@@ -60,30 +71,74 @@ module _ (books : Books) (run : Option OpenRun) (rules : NamesWhatIsThere books)
   names_registration : (it : Registration) → Registers books run it → NamesWhatIsThere (record books { registrations = insert books.registrations (it.client, it.branch) it })
   names_registration it h =
       let s = still books (record books { registrations = insert books.registrations (it.client, it.branch) it }) (grows_registrations books (it.client, it.branch) it) rules in
-      record { staff = s.staff; properties = s.properties; registrations = each_put texts_total texts_tie books.registrations (it.client, it.branch) it (RegistrationRefers (record books { registrations = insert books.registrations (it.client, it.branch) it })) s.registrations
-          (record { client = h.client; branch = h.branch; staff = h.staff }); viewings = s.viewings; inspections = s.inspections; leases = s.leases; charges = s.charges; receipts = s.receipts; part_runs = s.part_runs; part_branches = s.part_branches }
+      record {
+        staff = s.staff;
+        properties = s.properties;
+        registrations = each_put texts_total texts_tie books.registrations (it.client, it.branch) it (RegistrationRefers (record books { registrations = insert books.registrations (it.client, it.branch) it })) s.registrations
+            (record { client = h.client; branch = h.branch; staff = h.staff });
+        viewings = s.viewings;
+        inspections = s.inspections;
+        leases = s.leases;
+        charges = s.charges;
+        receipts = s.receipts;
+        part_runs = s.part_runs;
+        part_branches = s.part_branches;
+      }
 
   names_viewing : (it : Viewing) → AddsViewing books run it → NamesWhatIsThere (record books { viewings = insert books.viewings (it.client, it.property) it })
   names_viewing it h =
       let s = still books (record books { viewings = insert books.viewings (it.client, it.property) it }) (grows_viewings books (it.client, it.property) it) rules in
-      record { staff = s.staff; properties = s.properties; registrations = s.registrations; viewings = each_put texts_total texts_tie books.viewings (it.client, it.property) it (ViewingRefers (record books { viewings = insert books.viewings (it.client, it.property) it })) s.viewings
-          (record { client = h.client; property = h.property }); inspections = s.inspections; leases = s.leases; charges = s.charges; receipts = s.receipts; part_runs = s.part_runs; part_branches = s.part_branches }
+      record {
+        staff = s.staff;
+        properties = s.properties;
+        registrations = s.registrations;
+        viewings = each_put texts_total texts_tie books.viewings (it.client, it.property) it (ViewingRefers (record books { viewings = insert books.viewings (it.client, it.property) it })) s.viewings
+            (record { client = h.client; property = h.property });
+        inspections = s.inspections;
+        leases = s.leases;
+        charges = s.charges;
+        receipts = s.receipts;
+        part_runs = s.part_runs;
+        part_branches = s.part_branches;
+      }
 
   names_inspection : (it : Inspection) → AddsInspection books run it → NamesWhatIsThere (record books { inspections = insert books.inspections (it.property, it.day) it })
   names_inspection it h =
       let s = still books (record books { inspections = insert books.inspections (it.property, it.day) it }) (grows_inspections books (it.property, it.day) it) rules in
-      record { staff = s.staff; properties = s.properties; registrations = s.registrations; viewings = s.viewings; inspections = each_put text_nat_total text_nat_ties books.inspections (it.property, it.day) it (InspectionRefers (record books { inspections = insert books.inspections (it.property, it.day) it })) s.inspections
-          (record { property = h.property; staff = h.staff }); leases = s.leases; charges = s.charges; receipts = s.receipts; part_runs = s.part_runs; part_branches = s.part_branches }
+      record {
+        staff = s.staff;
+        properties = s.properties;
+        registrations = s.registrations;
+        viewings = s.viewings;
+        inspections = each_put text_nat_total text_nat_ties books.inspections (it.property, it.day) it (InspectionRefers (record books { inspections = insert books.inspections (it.property, it.day) it })) s.inspections
+            (record { property = h.property; staff = h.staff });
+        leases = s.leases;
+        charges = s.charges;
+        receipts = s.receipts;
+        part_runs = s.part_runs;
+        part_branches = s.part_branches;
+      }
 
   names_lease : (it : Lease) → AddsLease books run it → NamesWhatIsThere (record books { leases = insert books.leases it.terms.number it })
   names_lease it h =
       let s = still books (record books { leases = insert books.leases it.terms.number it }) (grows_leases books it.terms.number it) rules in
-      record { staff = s.staff; properties = s.properties; registrations = s.registrations; viewings = s.viewings; inspections = s.inspections; leases = each_put nat_total nat_ties books.leases it.terms.number it (LeaseRefers (record books { leases = insert books.leases it.terms.number it })) s.leases
-          (record {
-            client = h.client;
-            property = (there text_total text_ties books.properties it.terms.property).1 (h.row, h.is);
-            registered = ap (is_registered (record books { leases = insert books.leases it.terms.number it }) it.terms.client) h.is ∙ h.registered;
-          }); charges = s.charges; receipts = s.receipts; part_runs = s.part_runs; part_branches = s.part_branches }
+      record {
+        staff = s.staff;
+        properties = s.properties;
+        registrations = s.registrations;
+        viewings = s.viewings;
+        inspections = s.inspections;
+        leases = each_put nat_total nat_ties books.leases it.terms.number it (LeaseRefers (record books { leases = insert books.leases it.terms.number it })) s.leases
+            (record {
+              client = h.client;
+              property = (there text_total text_ties books.properties it.terms.property).1 (h.row, h.is);
+              registered = ap (is_registered (record books { leases = insert books.leases it.terms.number it }) it.terms.client) h.is ∙ h.registered;
+            });
+        charges = s.charges;
+        receipts = s.receipts;
+        part_runs = s.part_runs;
+        part_branches = s.part_branches;
+      }
 
   names_receipt : (it : Receipt) → AddsReceipt books run it → NamesWhatIsThere (record books { receipts = insert books.receipts it.number it })
   names_receipt it h =
@@ -103,16 +158,38 @@ module _ (books : Books) (run : Option OpenRun) (rules : NamesWhatIsThere books)
       let stays = λ (other : Property) (e : get books.properties key ≡ Some other). ap (λ (p : Property). p.branch) (inside other row (sym e ∙ is)) ∙ sym branch in
       let s = still books (record books { properties = insert books.properties key it }) (grows_properties books key it stays) rules in
       let old = each_got text_total text_ties books.properties (PropertyRefers books) rules.properties key row is in
-      record { staff = s.staff; properties = each_put text_total text_ties books.properties key it (PropertyRefers (record books { properties = insert books.properties key it })) s.properties
-          (record { owner = subst (IsThere books.owners) (sym owner) old.owner; staff = staff; branch = subst (IsThere books.branches) (sym branch) old.branch }); registrations = s.registrations; viewings = s.viewings; inspections = s.inspections; leases = s.leases; charges = s.charges; receipts = s.receipts; part_runs = s.part_runs; part_branches = s.part_branches }
+      record {
+        staff = s.staff;
+        properties = each_put text_total text_ties books.properties key it (PropertyRefers (record books { properties = insert books.properties key it })) s.properties
+            (record { owner = subst (IsThere books.owners) (sym owner) old.owner; staff = staff; branch = subst (IsThere books.branches) (sym branch) old.branch });
+        registrations = s.registrations;
+        viewings = s.viewings;
+        inspections = s.inspections;
+        leases = s.leases;
+        charges = s.charges;
+        receipts = s.receipts;
+        part_runs = s.part_runs;
+        part_branches = s.part_branches;
+      }
 
   names_commented : (key : List ℕ × List ℕ) (row it : Viewing) → get books.viewings key ≡ Some row → it.client ≡ row.client → it.property ≡ row.property
       → NamesWhatIsThere (record books { viewings = insert books.viewings key it })
   names_commented key row it is client property =
       let s = still books (record books { viewings = insert books.viewings key it }) (grows_viewings books key it) rules in
       let old = each_got texts_total texts_tie books.viewings (ViewingRefers books) rules.viewings key row is in
-      record { staff = s.staff; properties = s.properties; registrations = s.registrations; viewings = each_put texts_total texts_tie books.viewings key it (ViewingRefers (record books { viewings = insert books.viewings key it })) s.viewings
-          (record { client = subst (IsThere books.clients) (sym client) old.client; property = subst (IsThere books.properties) (sym property) old.property }); inspections = s.inspections; leases = s.leases; charges = s.charges; receipts = s.receipts; part_runs = s.part_runs; part_branches = s.part_branches }
+      record {
+        staff = s.staff;
+        properties = s.properties;
+        registrations = s.registrations;
+        viewings = each_put texts_total texts_tie books.viewings key it (ViewingRefers (record books { viewings = insert books.viewings key it })) s.viewings
+            (record { client = subst (IsThere books.clients) (sym client) old.client; property = subst (IsThere books.properties) (sym property) old.property });
+        inspections = s.inspections;
+        leases = s.leases;
+        charges = s.charges;
+        receipts = s.receipts;
+        part_runs = s.part_runs;
+        part_branches = s.part_branches;
+      }
 
   names_assigned : (it : Assignment) → Assigns books run it → NamesWhatIsThere (managed books it (get books.properties it.property))
   names_assigned it h =

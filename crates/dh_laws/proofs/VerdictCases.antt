@@ -67,13 +67,15 @@ module _ (books : Books) (run : Option OpenRun) (rows : Change) where
       let a = first_passes (names books.owners it.owner 9) (there ∷ names books.branches it.branch 11 ∷ member ∷ room ∷ []) all.1 in
       let b = first_passes there (names books.branches it.branch 11 ∷ member ∷ room ∷ []) a.1 in
       let c = first_passes (names books.branches it.branch 11) (member ∷ room ∷ []) b.1 in
-      let d = first_passes member (room ∷ []) c.1 in
-      (all.0, record {
-        new = new.0;
-        owner = holds_of (contains_key books.owners it.owner) (refusal.Unknown 9) a.0;
-        branch = holds_of (contains_key books.branches it.branch) (refusal.Unknown 11) c.0;
-        staff = can_manage books it.branch it.number it.staff 10 b.0 d.0 (first_passes room [] d.1).0;
-      })
+      let d = first_passes member (room ∷ []) c.1 in (
+        all.0,
+        record {
+          new = new.0;
+          owner = holds_of (contains_key books.owners it.owner) (refusal.Unknown 9) a.0;
+          branch = holds_of (contains_key books.branches it.branch) (refusal.Unknown 11) c.0;
+          staff = can_manage books it.branch it.number it.staff 10 b.0 d.0 (first_passes room [] d.1).0;
+        },
+      )
 
   managing : (it : Assignment) (row : Property) → judged (manager_checks books row it.staff) (change.Assign it) ≡ verdict.Change rows
       → (rows ≡ change.Assign it) × IfSome it.staff (CanManage books row.branch row.number)
@@ -126,26 +128,30 @@ module _ (books : Books) (run : Option OpenRun) (rows : Change) where
       let all = passed (registration_checks books it) rows (change.Register it) new.1 in
       let a = first_passes (names books.clients it.client 2) (names books.branches it.branch 3 ∷ names books.staff it.staff 4 ∷ of_branch books it.staff it.branch ∷ []) all.1 in
       let b = first_passes (names books.branches it.branch 3) (names books.staff it.staff 4 ∷ of_branch books it.staff it.branch ∷ []) a.1 in
-      let c = first_passes (names books.staff it.staff 4) (of_branch books it.staff it.branch ∷ []) b.1 in
-      (all.0, record {
-        new = new.0;
-        client = holds_of (contains_key books.clients it.client) (refusal.Unknown 2) a.0;
-        branch = holds_of (contains_key books.branches it.branch) (refusal.Unknown 3) b.0;
-        staff = holds_of (contains_key books.staff it.staff) (refusal.Unknown 4) c.0;
-        of_branch = holds_of (works_at it.branch (get books.staff it.staff)) refusal.WrongBranch (first_passes (of_branch books it.staff it.branch) [] c.1).0;
-      })
+      let c = first_passes (names books.staff it.staff 4) (of_branch books it.staff it.branch ∷ []) b.1 in (
+        all.0,
+        record {
+          new = new.0;
+          client = holds_of (contains_key books.clients it.client) (refusal.Unknown 2) a.0;
+          branch = holds_of (contains_key books.branches it.branch) (refusal.Unknown 3) b.0;
+          staff = holds_of (contains_key books.staff it.staff) (refusal.Unknown 4) c.0;
+          of_branch = holds_of (works_at it.branch (get books.staff it.staff)) refusal.WrongBranch (first_passes (of_branch books it.staff it.branch) [] c.1).0;
+        },
+      )
 
   pub viewing_case : (it : Viewing) → verdict_on books run (command.Viewing it) ≡ verdict.Change rows → (rows ≡ change.Viewing it) × AddsViewing books run it
   viewing_case it h =
       let checks = names books.clients it.client 2 ∷ names books.properties it.property 3 ∷ [] in
       let new = was_new (is_same_viewing it) (get books.viewings (it.client, it.property)) (judged checks (change.Viewing it)) rows h in
       let all = passed checks rows (change.Viewing it) new.1 in
-      let a = first_passes (names books.clients it.client 2) (names books.properties it.property 3 ∷ []) all.1 in
-      (all.0, record {
-        new = new.0;
-        client = holds_of (contains_key books.clients it.client) (refusal.Unknown 2) a.0;
-        property = holds_of (contains_key books.properties it.property) (refusal.Unknown 3) (first_passes (names books.properties it.property 3) [] a.1).0;
-      })
+      let a = first_passes (names books.clients it.client 2) (names books.properties it.property 3 ∷ []) all.1 in (
+        all.0,
+        record {
+          new = new.0;
+          client = holds_of (contains_key books.clients it.client) (refusal.Unknown 2) a.0;
+          property = holds_of (contains_key books.properties it.property) (refusal.Unknown 3) (first_passes (names books.properties it.property 3) [] a.1).0;
+        },
+      )
 
   commenting : (it : ViewingComment) (found : Option Viewing) → get books.viewings (it.client, it.property) ≡ found → commented books it found ≡ verdict.Change rows
       → (rows ≡ change.Comment it) × ((row : Viewing) × (get books.viewings (it.client, it.property) ≡ Some row))
@@ -161,12 +167,14 @@ module _ (books : Books) (run : Option OpenRun) (rows : Change) where
       let checks = names books.properties it.property 2 ∷ names books.staff it.staff 4 ∷ [] in
       let new = was_new (is_same_inspection it) (get books.inspections (it.property, it.day)) (judged checks (change.Inspection it)) rows h in
       let all = passed checks rows (change.Inspection it) new.1 in
-      let a = first_passes (names books.properties it.property 2) (names books.staff it.staff 4 ∷ []) all.1 in
-      (all.0, record {
-        new = new.0;
-        property = holds_of (contains_key books.properties it.property) (refusal.Unknown 2) a.0;
-        staff = holds_of (contains_key books.staff it.staff) (refusal.Unknown 4) (first_passes (names books.staff it.staff 4) [] a.1).0;
-      })
+      let a = first_passes (names books.properties it.property 2) (names books.staff it.staff 4 ∷ []) all.1 in (
+        all.0,
+        record {
+          new = new.0;
+          property = holds_of (contains_key books.properties it.property) (refusal.Unknown 2) a.0;
+          staff = holds_of (contains_key books.staff it.staff) (refusal.Unknown 4) (first_passes (names books.staff it.staff 4) [] a.1).0;
+        },
+      )
 
   signing : (terms : LeaseTerms) → run ≡ None → get books.leases terms.number ≡ None → first_failing (lease_checks books terms) ≡ None
       → AddsLease books run (signed books terms (get books.properties terms.property))
@@ -217,14 +225,16 @@ module _ (books : Books) (run : Option OpenRun) (rows : Change) where
       let no_run = was_no_run books (run_of_key books order.key) accepted rows no_receipt.1 in
       let all = passed (receipt_checks books order) rows given no_run.1 in
       let lease = first_passes (names books.leases order.payment.lease 3) (deposit_checks books order.payment ++ unless (nat_lt (len books.receipts) 99999999) refusal.Full ∷ []) all.1 in
-      let deposit = all_pass (deposit_checks books order.payment) (unless (nat_lt (len books.receipts) 99999999) refusal.Full ∷ []) lease.1 in
-      (all.0, record {
-        closed = free.0;
-        number = refl;
-        lease = holds_of (contains_key books.leases order.payment.lease) (refusal.Unknown 3) lease.0;
-        deposit = deposit_of books order.payment deposit.0;
-        key = new_key books order.key no_receipt.0 no_run.0;
-      })
+      let deposit = all_pass (deposit_checks books order.payment) (unless (nat_lt (len books.receipts) 99999999) refusal.Full ∷ []) lease.1 in (
+        all.0,
+        record {
+          closed = free.0;
+          number = refl;
+          lease = holds_of (contains_key books.leases order.payment.lease) (refusal.Unknown 3) lease.0;
+          deposit = deposit_of books order.payment deposit.0;
+          key = new_key books order.key no_receipt.0 no_run.0;
+        },
+      )
 
   -- of `run` and of `open` alike
   pub run_case : (order : RunOrder) → verdict_on books run (command.Open order) ≡ verdict.Change rows
@@ -236,15 +246,17 @@ module _ (books : Books) (run : Option OpenRun) (rows : Change) where
       let no_run = was_unposted books order (run_of_key books order.key) (unless_receipt books (receipt_of_key books order.key) (judged checks given)) rows free.1 in
       let no_receipt = was_no_receipt books (receipt_of_key books order.key) (judged checks given) rows no_run.1 in
       let all = passed checks rows given no_receipt.1 in
-      let month = first_passes (unless (nat_eq order.month books.next) (refusal.NotNextMonth books.next)) [] all.1 in
-      (all.0, record {
-        closed = free.0;
-        month = (numbers order.month books.next).0 (holds_of (nat_eq order.month books.next) (refusal.NotNextMonth books.next) month.0);
-        is_open = refl;
-        count = refl;
-        total = refl;
-        key = new_key books order.key no_receipt.0 no_run.0;
-      })
+      let month = first_passes (unless (nat_eq order.month books.next) (refusal.NotNextMonth books.next)) [] all.1 in (
+        all.0,
+        record {
+          closed = free.0;
+          month = (numbers order.month books.next).0 (holds_of (nat_eq order.month books.next) (refusal.NotNextMonth books.next) month.0);
+          is_open = refl;
+          count = refl;
+          total = refl;
+          key = new_key books order.key no_receipt.0 no_run.0;
+        },
+      )
 
   posting : (at : Option OpenRun) → run ≡ at → post_verdict at ≡ verdict.Change rows → (rows ≡ change.Post) × ((at : OpenRun) × (run ≡ Some at))
   posting None e h = cc

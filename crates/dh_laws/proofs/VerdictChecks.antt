@@ -175,7 +175,7 @@ first_deposit books payment none amount =
       amount = twice (get books.leases payment.lease) payment.amount amount;
       first = λ receipt a kind same.
           let fails = none_passes (λ (r : Receipt). nat_eq r.payment.lease payment.lease && is_same_receipt_kind r.payment.kind Deposit) (values books.receipts)
-              (not-true some (holds_of (not some) refusal.DepositPaid none)) receipt a in
+          (not-true some (holds_of (not some) refusal.DepositPaid none)) receipt a in
           let apart = not_both (nat_eq receipt.payment.lease payment.lease) (is_same_receipt_kind receipt.payment.kind Deposit) fails ((receipt_kinds receipt.payment.kind Deposit).1 kind) in
           let alike = (numbers receipt.payment.lease payment.lease).1 same in
           cc;
