@@ -19,7 +19,7 @@ use Rattle.dh_model.specs.declared.rows.Change.TheVariants as change
 use Rattle.dh_model.specs.Books.{Books}
 use Rattle.dh_model.specs.Leases.{overlap}
 use Rattle.dh_model.specs.Rules.{IsThere}
-use Rattle.dh_model.specs.Checks.{in_time, is_same_text, of_branch, registered, works_at}
+use Rattle.dh_model.specs.Checks.{is_same_text, works_at}
 use Rattle.dh_model.proofs.Among.{Among}
 use Rattle.dh_laws.proofs.VerdictChecks.{CanManage, IsFirstDeposit, IsNewKey}
 

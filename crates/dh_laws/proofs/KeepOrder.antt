@@ -2,7 +2,6 @@
 use Rattle.std.proofs.Common.{ℕ, Option}
 use Rattle.dh_model.specs.declared.open_run.OpenRun.{OpenRun}
 use Rattle.dh_model.specs.declared.rows.Change.{Change}
-use Rattle.dh_model.specs.declared.rows.Verdict.TheVariants as verdict
 use Rattle.dh_model.specs.Books.{Books}
 use Rattle.dh_model.specs.Machine.{changed}
 use Rattle.dh_model.specs.Rules.{MeetsRules, Rule}

@@ -1,5 +1,5 @@
 -- What a check that passes says.
-use Rattle.std.proofs.Common.{◌≡◌, ◌∙◌, refl, sym, ap, ℕ, ◌+◌, ◌*◌, ◌<◌, ◌≤◌, Bool, true, false, not, nat_eq, nat_le, nat_lt, ◌&&◌, cond, List, [], ◌∷◌, ◌++◌, map, fold, Option, Some, None, IfSome, inl, inr, ◌≢◌, if◌then◌else◌}
+use Rattle.std.proofs.Common.{◌≡◌, ◌∙◌, refl, sym, ap, ℕ, ◌*◌, ◌<◌, ◌≤◌, Bool, true, false, not, nat_eq, nat_le, nat_lt, ◌&&◌, cond, List, [], ◌∷◌, ◌++◌, map, fold, Option, Some, None, IfSome, inl, inr, ◌≢◌, if◌then◌else◌}
 use Rattle.std.specs.Option.{option_map}
 use Rattle.std.specs.List.{filter, list_any}
 use Rattle.std.specs.List as list

@@ -1,5 +1,5 @@
 -- What the leases owe.
-use Rattle.std.specs.Prelude.{◌≡◌, ◌≤◌, ◌↔◌, ℕ, ℤ, pos, ◌+ℤ◌, ◌-ℤ◌, nat_eq, if◌then◌else◌, List, filter, Some, None}
+use Rattle.std.specs.Prelude.{◌≡◌, ◌≤◌, ◌↔◌, ℕ, ℤ, pos, ◌+ℤ◌, ◌-ℤ◌, nat_eq, if◌then◌else◌, List, filter}
 use Rattle.std.specs.List.{IsAmong}
 use Rattle.std.specs.FinMap.{values}
 use Rattle.dh_values.specs.declared.receipt_kind.ReceiptKind.TheVariants.{Rent}

@@ -1,5 +1,5 @@
 -- Books that an office works on: each row under its key, the rules hold, and the open run is where the books show it.
-use Rattle.std.specs.Prelude.{◌≡◌, ◌≤◌, ℕ, Option, Some, None}
+use Rattle.std.specs.Prelude.{◌≡◌, ◌≤◌, ℕ, Option, Some}
 use Rattle.std.specs.declared.cmp.Ordering.{Ordering}
 use Rattle.std.specs.FinMap.{FinMap, get}
 use Rattle.dh_types.specs.declared.command.Command.{Command}

@@ -1,5 +1,5 @@
 -- Batches, one after the other, lead to the same whole books.
-use Rattle.std.specs.Prelude.{◌≡◌, ◌≤◌, ◌<◌, ℕ, ◌+◌, length, Some, None}
+use Rattle.std.specs.Prelude.{◌≡◌, ◌≤◌, ◌<◌, ℕ, ◌+◌, Some, None}
 use Rattle.std.specs.FinMap.{insert, len}
 use Rattle.dh_types.specs.declared.command.RunOrder.{RunOrder}
 use Rattle.dh_types.specs.declared.command.Command.TheVariants as command
