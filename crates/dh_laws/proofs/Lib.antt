@@ -39,3 +39,4 @@ pub mod PostClosing
 pub mod PostOpening
 pub mod VerdictCases
 pub mod VerdictChecks
+pub mod EmptyBooks

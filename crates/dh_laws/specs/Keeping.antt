@@ -1,10 +1,10 @@
 -- What every change keeps.
-use Rattle.std.specs.Prelude.{◌≡◌, ◌≤◌, ℕ, Option}
+use Rattle.std.specs.Prelude.{◌≡◌, ◌≤◌, ℕ, Option, None}
 use Rattle.dh_types.specs.declared.command.Command.{Command}
 use Rattle.dh_model.specs.declared.open_run.OpenRun.{OpenRun}
 use Rattle.dh_model.specs.declared.rows.Change.{Change}
 use Rattle.dh_model.specs.declared.rows.Verdict.TheVariants as verdict
-use Rattle.dh_model.specs.Books.{Books, State}
+use Rattle.dh_model.specs.Books.{Books, State, empty_books}
 use Rattle.dh_model.specs.Rules.{IsLawful}
 use Rattle.dh_model.specs.Verdicts.{verdict_on}
 use Rattle.dh_model.specs.Machine.{changed, step}
@@ -25,3 +25,7 @@ module _ (size : ℕ) where
   abbrev pub StepsKeepTheLaw : Type 0
   StepsKeepTheLaw = (s : State) (told : Command) → 1 ≤ size → AreKeyed s.books → IsLawful s.books size → IsEntered told
       → AreKeyed (step size s told).0.books × IsLawful (step size s told).0.books size
+
+  -- books without a row are in order
+  abbrev pub EmptyBooksAreInOrder : Type 0
+  EmptyBooksAreInOrder = (month : ℕ) → IsInOrder size (empty_books month) None

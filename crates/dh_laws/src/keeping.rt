@@ -1,7 +1,7 @@
 //! What every change keeps.
 
 ghost use Rattle.std.specs.Prelude.{ℕ};
-ghost use Rattle.dh_laws.specs.Keeping.{ChangesKeepOrder, StepsKeepTheLaw, WholeIsLawful};
+ghost use Rattle.dh_laws.specs.Keeping.{ChangesKeepOrder, EmptyBooksAreInOrder, StepsKeepTheLaw, WholeIsLawful};
 
 /// The rows of an accepted command leave books in order, with the open run that the command leaves: none of another
 /// month, and after an opening one with no batch done.
@@ -17,4 +17,9 @@ pub fn whole_is_lawful()
 /// Over whole books each step of the machine leaves them lawful.
 pub fn steps_keep_the_law()
     ensures { (size : ℕ) → StepsKeepTheLaw size }
+{}
+
+/// Books without a row are in order.
+pub fn empty_books_are_in_order()
+    ensures { (size : ℕ) → EmptyBooksAreInOrder size }
 {}
