@@ -1,1 +1,2 @@
+pub mod LiveCommands
 pub mod LiveTables
