@@ -1,2 +1,3 @@
+pub mod LiveBeginnings
 pub mod LiveCommands
 pub mod LiveTables
