@@ -1,3 +1,4 @@
 pub mod LiveBeginnings
+pub mod LiveBooks
 pub mod LiveCommands
 pub mod LiveTables
