@@ -1,0 +1,4 @@
+pub mod LiveBeginnings
+pub mod LiveBooks
+pub mod LiveCommands
+pub mod LiveTables

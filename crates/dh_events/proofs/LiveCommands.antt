@@ -1,0 +1,54 @@
+-- The commands that stand behind the tables.
+use Rattle.std.proofs.Common.{◌≡◌, refl, ap, subst, inl, inr, ℕ, List, [], ◌∷◌, ◌++◌, None}
+use Rattle.dh_types.specs.declared.command.Command.{Command}
+use Rattle.dh_types.specs.declared.reply.Reply.{Reply}
+use Rattle.dh_model.specs.Books.{Books, State}
+use Rattle.dh_model.specs.Machine.{step}
+use Rattle.dh_model.specs.Whole.{whole}
+use Rattle.dh_events.specs.Events.{Event, Said, Cut, Taken, Torn, Mended, Follow, Tables, state_of}
+use Rattle.dh_events.specs.Kept.{Kept}
+use Rattle.dh_events.specs.Laws.{AllLives}
+use Rattle.dh_events.proofs.LiveTables.{mended_whole}
+
+module _ (size : ℕ) (after : Tables) where
+  -- some commands lead from the state to these tables, with no run open
+  abbrev Leads : State → List (Event × Tables) → Type 0
+  Leads s events = (told : List Command) × (last : State) × Kept size s events told last × (after.books ≡ last.books) × (last.open_run ≡ None)
+
+  answered : (s next : State) (it : Command) (reply : Reply) (t : Tables) (events : List (Event × Tables)) → step size s it ≡ (next, reply)
+      → Leads next events → Leads s ((Said it reply, t) ∷ events)
+  answered s next it reply t events e l = (it ∷ l.0, l.1, (l.0, next, refl, e, l.2), l.3, l.4)
+
+  left_out : (s : State) (it : Command) (t : Tables) (events : List (Event × Tables)) → Leads (record s { open_run = t.run }) events → Leads s ((Cut it, t) ∷ events)
+  left_out s it t events l = (l.0, l.1, inl l.2, l.3, l.4)
+
+  taken_in : (s : State) (it : Command) (t : Tables) (events : List (Event × Tables)) → Leads (record (step size s it).0 { open_run = t.run }) events
+      → Leads s ((Cut it, t) ∷ events)
+  taken_in s it t events l = (it ∷ l.0, l.1, inr (l.0, refl, l.2), l.3, l.4)
+
+  -- the tables stand for these books and their open run
+  moved : (t : Tables) (books : Books) (events : List (Event × Tables)) → whole size t.books ≡ books → Leads (state_of size t) events
+      → Leads (record { books = books; open_run = t.run }) events
+  moved t books events is l = subst (λ b. Leads (record { books = b; open_run = t.run }) events) is l
+
+  closed : (t : Tables) (books : Books) (events : List (Event × Tables)) → whole size t.books ≡ books → t.run ≡ None → Leads (state_of size t) events
+      → Leads (record { books = books; open_run = None }) events
+  closed t books events is none l = subst (λ run. Leads (record { books = books; open_run = run }) events) none (moved t books events is l)
+
+  abbrev to_the_end : List (Event × Tables) → List (Event × Tables)
+  to_the_end events = events ++ (Mended, after) ∷ []
+
+  lead : (start : Tables) (events : List (Event × Tables)) → Follow size start (to_the_end events) → Leads (state_of size start) (to_the_end events)
+  lead start [] f = ([], record { books = whole size start.books; open_run = None }, (refl, refl), ap (λ (t : Tables). t.books) f.1, refl)
+  lead start ((Said it reply, t) ∷ events) f = answered (state_of size start) (state_of size t) it reply t (to_the_end events) f.1 (lead t events f.2)
+  lead start ((Cut it, t) ∷ events) f = elim f.1 [
+    | inl undone ↦ left_out (state_of size start) it t (to_the_end events) (moved t (whole size start.books) (to_the_end events) undone.books (lead t events f.2))
+    | inr done ↦ taken_in (state_of size start) it t (to_the_end events) (moved t (step size (state_of size start) it).0.books (to_the_end events) done.books (lead t events f.2))
+  ]
+  lead start ((Taken, t) ∷ events) f = subst (λ u. Leads (state_of size u) (to_the_end events)) f.1 (lead t events f.2)
+  lead start ((Torn, t) ∷ events) f = moved t (whole size start.books) (to_the_end events) f.1.books (lead t events f.2)
+  lead start ((Mended, t) ∷ events) f =
+      closed t (whole size start.books) (to_the_end events) (mended_whole size t (whole size start.books) f.1 f.0) (ap (λ (u : Tables). u.run) f.1) (lead t events f.2)
+
+pub lives : (size : ℕ) → AllLives size
+lives size start after events shown f = lead size after start events f

@@ -1,0 +1,41 @@
+//! Laws of all lives. Each function does nothing, and its clause is the law.
+
+ghost use Rattle.std.specs.Prelude.{ℕ};
+ghost use Rattle.dh_events.specs.Laws.{AcknowledgedReceiptsStay, AllLives, EmptyTablesAreShown, MendedBooksAreLawful, MonthsAreChargedOnce, OneLifeKeepsABeginning, SentAgainIsOnce};
+
+/// Stopped before or within any write, any number of times, also within recovery: once recovery has come to its end the
+/// tables are those of the machine after a list of commands that keeps the order of the calls, holds every command that was
+/// acknowledged, and of the others only such as a stop cut, each once at most; a rent run is one command.
+pub fn lives()
+    ensures { (size : ℕ) → AllLives size }
+{}
+
+/// The books that an agency begins with are such tables.
+pub fn empty_tables_are_shown()
+    ensures { (size : ℕ) → EmptyTablesAreShown size }
+{}
+
+/// Within one life the list of commands is a beginning of the calls.
+pub fn one_life_keeps_a_beginning()
+    ensures { (size : ℕ) → OneLifeKeepsABeginning size }
+{}
+
+/// Once recovery has come to its end the books are lawful.
+pub fn mended_books_are_lawful()
+    ensures { (size : ℕ) → MendedBooksAreLawful size }
+{}
+
+/// A month is charged once or not at all, and never in part.
+pub fn months_are_charged_once()
+    ensures { (size : ℕ) → MonthsAreChargedOnce size }
+{}
+
+/// A receipt that was acknowledged is in the books for good.
+pub fn acknowledged_receipts_stay()
+    ensures { (size : ℕ) → AcknowledgedReceiptsStay size }
+{}
+
+/// A receipt or a run that was cut is sent again with its key: whichever way the cut went, the books are the same.
+pub fn sent_again_is_once()
+    ensures { (size : ℕ) → SentAgainIsOnce size }
+{}
