@@ -1,1 +1,4 @@
 mod AgainOrders
+mod ReceiptEvents
+mod ReceiptSteps
+mod ReceiptStays
