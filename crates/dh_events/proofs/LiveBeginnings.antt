@@ -1,5 +1,5 @@
 -- Within one life.
-use Rattle.std.proofs.Common.{◌≡◌, ◌∙◌, sym, ap, subst, inl, inr, ℕ, List, [], ◌∷◌, ◌++◌}
+use Rattle.std.proofs.Common.{◌≡◌, ◌∙◌, sym, ap, inl, inr, ℕ, List, [], ◌∷◌, ◌++◌, None}
 use Rattle.dh_types.specs.declared.command.Command.{Command}
 use Rattle.dh_model.specs.Books.{State}
 use Rattle.dh_model.specs.Machine.{step}
@@ -8,9 +8,17 @@ use Rattle.dh_events.specs.Kept.{Kept}
 use Rattle.dh_events.specs.Laws.{IsOneLife, OneLifeKeepsABeginning, calls}
 
 module _ (size : ℕ) where
-  -- where nothing happened, no command counts
-  none_counts : (s last : State) (events : List (Event × Tables)) (told : List Command) → events ≡ [] → Kept size s events told last → told ≡ []
-  none_counts s last events told none k = let last_told : Kept size s [] told last = subst (λ es. Kept size s es told last) none k in last_told.0
+  one_called : (it : Command) (called : List Command) → it ∷ called ≡ [] → ⊥
+  one_called it called e = cc
+
+  -- where nothing is called, no command counts
+  none_counts : (s last : State) (events : List (Event × Tables)) (told : List Command) → calls events ≡ [] → Kept size s events told last → told ≡ []
+  none_counts s last [] told none k = k.0
+  none_counts s last ((Said it reply, t) ∷ events) told none k = absurd (one_called it (calls events) none)
+  none_counts s last ((Cut it, t) ∷ events) told none k = absurd (one_called it (calls events) none)
+  none_counts s last ((Taken, t) ∷ events) told none k = none_counts s last events told none k
+  none_counts s last ((Torn, t) ∷ events) told none k = none_counts (record s { open_run = t.run }) last events told none k
+  none_counts s last ((Mended, t) ∷ events) told none k = none_counts (record s { open_run = None }) last events told none k
 
   abbrev IsBeginning : List Command → List Command → Type 0
   IsBeginning told called = (rest : List Command) × (called ≡ told ++ rest)
@@ -30,8 +38,8 @@ module _ (size : ℕ) where
         (nothing in_it.0 (calls events) (none_counts (record (step size s it).0 { open_run = t.run }) last events in_it.0 once in_it.2))
   ]
   begins s last ((Taken, t) ∷ events) told once k = begins s last events told once k
-  begins s last ((Torn, t) ∷ events) told once k = absurd once
-  begins s last ((Mended, t) ∷ events) told once k = absurd once
+  begins s last ((Torn, t) ∷ events) told once k = begins (record s { open_run = t.run }) last events told once k
+  begins s last ((Mended, t) ∷ events) told once k = begins (record s { open_run = None }) last events told once k
 
 pub one_life_keeps_a_beginning : (size : ℕ) → OneLifeKeepsABeginning size
 one_life_keeps_a_beginning size s last events told once k = begins size s last events told once k

@@ -39,13 +39,11 @@ calls ((Said it reply, after) ∷ events) = it ∷ calls events
 calls ((Cut it, after) ∷ events) = it ∷ calls events
 calls (_ ∷ events) = calls events
 
--- within one life: commands that were answered, the last of which may have been cut
+-- within one life: nothing is called after a command that was cut
 abbrev pub IsOneLife : List (Event × Tables) → Type 0
 IsOneLife [] = Unit {0}
-IsOneLife ((Said it reply, after) ∷ events) = IsOneLife events
-IsOneLife ((Cut it, after) ∷ events) = events ≡ []
-IsOneLife ((Taken, after) ∷ events) = IsOneLife events
-IsOneLife (_ ∷ events) = ⊥
+IsOneLife ((Cut it, after) ∷ events) = calls events ≡ []
+IsOneLife (_ ∷ events) = IsOneLife events
 
 module _ (size : ℕ) where
   -- Whatever was said, cut, taken, torn and mended, in whatever order: once recovery has come to its end the tables are the
