@@ -1,5 +1,5 @@
 -- What a test of all rows says of each row.
-use Rattle.std.proofs.Common.{◌≡◌, ◌↔◌, refl, sym, subst, ℕ, zero, suc, ◌<◌, ◌≤◌, Bool, true, false, List, [], ◌∷◌, length, slice_index_or, arith}
+use Rattle.std.proofs.Common.{◌≡◌, ◌↔◌, ◌∙◌, refl, sym, ap, subst, ℕ, zero, suc, ◌<◌, ◌≤◌, Bool, true, false, List, [], ◌∷◌, ◌++◌, map, append_assoc, length, slice_index_or, arith}
 use Rattle.std.specs.Bool.{MatchBool}
 use Rattle.std.specs.Fn.{Called}
 use Rattle.std.specs.Iterator.{YieldsThen}
@@ -34,3 +34,9 @@ module _ {S A B F : Type 0} {steps : S → Option A → S → Type 0} {v : A →
       (cases_from_all u f r P (λ x. P x → ⊥) ran yields
       (λ x q called. let t = tells x true q called in (t.0, t.1.0 refl))
       (λ x q called p. false≢true ((tells x false q called).1.1 p)))
+
+-- the first of what is left, put at the end of what was made
+pub one_pushed : {X Y : Type 0} (f : X → Y) (x : X) (xs ys : List X) (made next all : List Y) (y : Y) → xs ≡ x ∷ ys → next ≡ made ++ y ∷ [] → y ≡ f x → made ++ map f xs ≡ all → next ++ map f ys ≡ all
+one_pushed f x xs ys made next all y front added same so_far =
+    ap (λ zs. zs ++ map f ys) (added ∙ ap (λ z. made ++ z ∷ []) same) ∙ append_assoc made (f x ∷ []) (map f ys)
+    ∙ sym (ap (λ zs. made ++ map f zs) front) ∙ so_far
