@@ -12,7 +12,7 @@ use crate::{
 use dh_books::Books;
 use std::alloc::{AllocError, Global};
 
-// The least of rules 1 to 8 that is broken.
+/// The least of rules 1 to 8 that is broken: those of single rows and of what rows share. It fails where memory runs out.
 pub fn broken_by_rows(alloc: Global, books: &Books) -> Result<Option<u8>, AllocError>
     ensures { IfOk result (λ broken. MatchOption broken (HoldBelow books.now.books batch_size 9) (IsLeastBroken books.now.books batch_size)) }
 {

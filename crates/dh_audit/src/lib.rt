@@ -15,3 +15,6 @@ pub use receipts::{deposits_in_order, keys_in_order};
 pub use references::names_what_is_there;
 pub use staff::{manages_at_most_hundred, staff_of_the_branch};
 pub use stays::leases_never_overlap;
+
+#[cfg(test)]
+mod tests;
