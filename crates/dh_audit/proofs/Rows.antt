@@ -1,5 +1,5 @@
 -- What a test of all rows says of each row.
-use Rattle.std.proofs.Common.{◌≡◌, ◌↔◌, ◌∙◌, refl, sym, ap, subst, ℕ, zero, suc, ◌<◌, ◌≤◌, Bool, true, false, List, [], ◌∷◌, ◌++◌, map, append_assoc, length, slice_index_or, arith}
+use Rattle.std.proofs.Common.{◌≡◌, ◌↔◌, ◌∙◌, refl, sym, ap, subst, ℕ, zero, suc, ◌<◌, Bool, true, false, List, [], ◌∷◌, ◌++◌, map, append_assoc, length, slice_index_or, arith}
 use Rattle.std.specs.Bool.{MatchBool}
 use Rattle.std.specs.Fn.{Called}
 use Rattle.std.specs.Iterator.{YieldsThen}
@@ -8,7 +8,7 @@ use Rattle.std.specs.Option.{MatchOption}
 use Rattle.std.proofs.lemmas.Bool.{false≢true}
 use Rattle.std.proofs.lemmas.Iterator.{YieldsList, cases_from_all}
 use denote.Param.Members.{Mut}
-use Rattle.std.specs.Prelude.{Option, None, Some}
+use Rattle.std.specs.Prelude.{Option}
 
 module _ {X : Type 0} where
   -- the element at an index

@@ -1,10 +1,9 @@
-use Rattle.std.proofs.Common.{◌≡◌, ◌∙◌, refl, sym, ap, ◌+◌, ℕ, Some, cond}
+use Rattle.std.proofs.Common.{◌∙◌, refl, sym, ap, ◌+◌, ℕ, Some, cond}
 use Rattle.std.specs.Option.{unwrap_or}
 use Rattle.std.specs.BTreeMap.{get}
 use Rattle.std.specs.Cmp.Lexicographic.{texts_ties}
 use Rattle.dh_model.specs.Books.{text_cmp}
 use Rattle.dh_model.specs.Checks.{is_same_text}
-use Rattle.dh_audit.specs.Counts.{count_at}
 use Rattle.dh_audit.proofs.Counting.{one_more}
 use Rattle.dh_audit.proofs.staff.add.Goals as goal
 
