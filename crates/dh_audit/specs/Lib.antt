@@ -1,0 +1,3 @@
+pub mod Audit
+pub mod Counts
+pub mod Stays

@@ -1,0 +1,44 @@
+//! Leases: their months and starts, and what no two of them share.
+
+ghost use Rattle.std.specs.Prelude.{◌≡◌, ◌↔◌, ◌≤◌, true, map, IfOk};
+ghost use Rattle.std.specs.FinMap as fin;
+ghost use Rattle.dh_days.specs.Days.{month_of_day};
+ghost use Rattle.dh_model.specs.Rules.{LeasesInTime, OneStartADay};
+
+use crate::distinct::are_distinct;
+use dh_books::Books;
+use dh_types::{EntryDay, Id, Lease, Month};
+use std::alloc::{AllocError, Global};
+
+// Whether the lease has 3 to 12 months and starts in this month or later.
+fn is_in_time(lease: &Lease, first: Month) -> bool
+    ensures { (result ≡ true) ↔ ((3 ≤ lease.now.terms.months) × (lease.now.terms.months ≤ 12) × (first ≤ month_of_day lease.now.terms.start)) }
+{
+    let months = lease.terms.months.number();
+    3 <= months && months <= 12 && first <= lease.terms.start.day().month()
+}
+
+/// Whether each lease has 3 to 12 months and starts in the first month or later.
+pub fn leases_in_time(books: &Books) -> bool
+    ensures { (result ≡ true) ↔ LeasesInTime books.now.books }
+{
+    let first = books.first();
+    books.leases().all(|lease| is_in_time(lease, first))
+}
+
+// The client and the start of each lease.
+fn starts(alloc: Global, books: &Books) -> Result<Vec<(Id, EntryDay)>, AllocError>
+    ensures { IfOk result (λ starts. starts.items ≡ map (λ lease. (lease.terms.client, lease.terms.start)) (fin.values books.now.books.leases)) }
+{
+    books
+        .leases()
+        .map(|lease| (lease.terms.client, lease.terms.start))
+        .collect(alloc)
+}
+
+/// Whether no two leases of one client start on one day. It fails where memory runs out.
+pub fn one_start_a_day(alloc: Global, books: &Books) -> Result<bool, AllocError>
+    ensures { IfOk result (λ holds. (holds ≡ true) ↔ OneStartADay books.now.books) }
+{
+    are_distinct(alloc, starts(alloc, books)?)
+}

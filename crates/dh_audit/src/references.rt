@@ -1,0 +1,162 @@
+//! What a row names is there.
+
+ghost use Rattle.std.specs.Prelude.{◌≡◌, ◌↔◌, true, IfSome};
+ghost use Rattle.dh_model.specs.Rules.{Each, InspectionRefers, IsThere, LeaseRefers, NamesWhatIsThere, PropertyRefers, RegistrationRefers, ViewingRefers};
+
+use dh_books::Books;
+use dh_types::{Inspection, Lease, Property, Registration, Viewing};
+
+// Whether the property's manager, if any, is there.
+fn manager_is_there(books: &Books, property: &Property) -> bool
+    ensures { (result ≡ true) ↔ IfSome property.now.staff (λ member. IsThere books.now.books.staff member) }
+{
+    match &property.staff {
+        Some(member) => books.member(member).is_some(),
+        None => true,
+    }
+}
+
+// Whether what the property names is there.
+fn property_refers(books: &Books, property: &Property) -> bool
+    ensures { (result ≡ true) ↔ PropertyRefers books.now.books property.now }
+{
+    books.owner(&property.owner).is_some()
+        && manager_is_there(books, property)
+        && books.branch(&property.branch).is_some()
+}
+
+// Whether what the registration names is there.
+fn registration_refers(books: &Books, registration: &Registration) -> bool
+    ensures { (result ≡ true) ↔ RegistrationRefers books.now.books registration.now }
+{
+    books.client(&registration.client).is_some()
+        && books.branch(&registration.branch).is_some()
+        && books.member(&registration.staff).is_some()
+}
+
+// Whether what the viewing names is there.
+fn viewing_refers(books: &Books, viewing: &Viewing) -> bool
+    ensures { (result ≡ true) ↔ ViewingRefers books.now.books viewing.now }
+{
+    books.client(&viewing.client).is_some() && books.property(&viewing.property).is_some()
+}
+
+// Whether what the inspection names is there.
+fn inspection_refers(books: &Books, inspection: &Inspection) -> bool
+    ensures { (result ≡ true) ↔ InspectionRefers books.now.books inspection.now }
+{
+    books.property(&inspection.property).is_some() && books.member(&inspection.staff).is_some()
+}
+
+// Whether what the lease names is there, and its client is registered at its property's branch.
+fn lease_refers(books: &Books, lease: &Lease) -> bool
+    ensures { (result ≡ true) ↔ LeaseRefers books.now.books lease.now }
+{
+    let client = lease.terms.client;
+    let Some(property) = books.property(&lease.terms.property) else {
+        return false;
+    };
+    books.client(&client).is_some() && books.registration(&(client, property.branch)).is_some()
+}
+
+// Whether each member of staff belongs to a branch that is there.
+fn staff_refer(books: &Books) -> bool
+    ensures { (result ≡ true) ↔ Each books.now.books.staff (λ member. IsThere books.now.books.branches member.branch) }
+{
+    books
+        .staff()
+        .all(|member| books.branch(&member.branch).is_some())
+}
+
+// Whether what the properties name is there.
+fn properties_refer(books: &Books) -> bool
+    ensures { (result ≡ true) ↔ Each books.now.books.properties (PropertyRefers books.now.books) }
+{
+    books
+        .properties()
+        .all(|property| property_refers(books, property))
+}
+
+// Whether what the registrations name is there.
+fn registrations_refer(books: &Books) -> bool
+    ensures { (result ≡ true) ↔ Each books.now.books.registrations (RegistrationRefers books.now.books) }
+{
+    books
+        .registrations()
+        .all(|registration| registration_refers(books, registration))
+}
+
+// Whether what the viewings name is there.
+fn viewings_refer(books: &Books) -> bool
+    ensures { (result ≡ true) ↔ Each books.now.books.viewings (ViewingRefers books.now.books) }
+{
+    books
+        .viewings()
+        .all(|viewing| viewing_refers(books, viewing))
+}
+
+// Whether what the inspections name is there.
+fn inspections_refer(books: &Books) -> bool
+    ensures { (result ≡ true) ↔ Each books.now.books.inspections (InspectionRefers books.now.books) }
+{
+    books
+        .inspections()
+        .all(|inspection| inspection_refers(books, inspection))
+}
+
+// Whether what the leases name is there.
+fn leases_refer(books: &Books) -> bool
+    ensures { (result ≡ true) ↔ Each books.now.books.leases (LeaseRefers books.now.books) }
+{
+    books.leases().all(|lease| lease_refers(books, lease))
+}
+
+// Whether each charge is of a lease that is there.
+fn charges_refer(books: &Books) -> bool
+    ensures { (result ≡ true) ↔ Each books.now.books.charges (λ charge. IsThere books.now.books.leases charge.lease) }
+{
+    books
+        .charges()
+        .all(|charge| books.lease(&charge.lease).is_some())
+}
+
+// Whether each receipt is for a lease that is there.
+fn receipts_refer(books: &Books) -> bool
+    ensures { (result ≡ true) ↔ Each books.now.books.receipts (λ receipt. IsThere books.now.books.leases receipt.payment.lease) }
+{
+    books
+        .receipts()
+        .all(|receipt| books.lease(&receipt.payment.lease).is_some())
+}
+
+// Whether each part row is of a run that is there.
+fn parts_have_runs(books: &Books) -> bool
+    ensures { (result ≡ true) ↔ Each books.now.books.parts (λ part. IsThere books.now.books.runs part.month) }
+{
+    books.parts().all(|part| books.run(&part.month).is_some())
+}
+
+// Whether each part row is of a branch that is there.
+fn parts_have_branches(books: &Books) -> bool
+    ensures { (result ≡ true) ↔ Each books.now.books.parts (λ part. IsThere books.now.books.branches part.branch) }
+{
+    books
+        .parts()
+        .all(|part| books.branch(&part.branch).is_some())
+}
+
+/// Whether all that the rows name is there, and each lease's client is registered at the branch of its property.
+pub fn names_what_is_there(books: &Books) -> bool
+    ensures { (result ≡ true) ↔ NamesWhatIsThere books.now.books }
+{
+    staff_refer(books)
+        && properties_refer(books)
+        && registrations_refer(books)
+        && viewings_refer(books)
+        && inspections_refer(books)
+        && leases_refer(books)
+        && charges_refer(books)
+        && receipts_refer(books)
+        && parts_have_runs(books)
+        && parts_have_branches(books)
+}
