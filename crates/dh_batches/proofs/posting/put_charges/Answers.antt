@@ -3,8 +3,8 @@ use Rattle.std.proofs.lemmas.List.{nil_from_length}
 use Rattle.dh_model.specs.Books.{State, with_rows}
 use Rattle.dh_model.specs.Runs.{charge_key}
 use Rattle.dh_books.proofs.Orders.{nat_ties, nat_total, pair_ties, pair_total}
-use Rattle.dh_rules.proofs.RowLemmas.{last_row, no_rows}
-use Rattle.dh_rules.proofs.posting.put_charges.Goals as goal
+use Rattle.dh_batches.proofs.RowLemmas.{last_row, no_rows}
+use Rattle.dh_batches.proofs.posting.put_charges.Goals as goal
 
 pub loop-charge-preserved : goal.loop-charge-preserved
 loop-charge-preserved c =

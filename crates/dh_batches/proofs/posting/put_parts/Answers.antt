@@ -3,8 +3,8 @@ use Rattle.std.proofs.lemmas.List.{nil_from_length}
 use Rattle.dh_model.specs.Books.{State, with_rows}
 use Rattle.dh_model.specs.Runs.{part_key}
 use Rattle.dh_books.proofs.Orders.{nat_ties, nat_total, pair_ties, pair_total, text_ties, text_total}
-use Rattle.dh_rules.proofs.RowLemmas.{last_row, no_rows}
-use Rattle.dh_rules.proofs.posting.put_parts.Goals as goal
+use Rattle.dh_batches.proofs.RowLemmas.{last_row, no_rows}
+use Rattle.dh_batches.proofs.posting.put_parts.Goals as goal
 
 pub loop-part-preserved : goal.loop-part-preserved
 loop-part-preserved c =

@@ -7,8 +7,8 @@ use Rattle.dh_types.specs.declared.lease.Charge.{Charge}
 use Rattle.dh_types.specs.declared.run.Run.{Run}
 use Rattle.dh_model.specs.Leases.{dues, dues_among}
 use Rattle.dh_model.specs.Runs.{total_of}
-use Rattle.dh_rules.proofs.PartLemmas.{no_more_dues, one_due_more, place_in_books}
-use Rattle.dh_rules.proofs.posting.summed_up.Goals as goal
+use Rattle.dh_batches.proofs.PartLemmas.{no_more_dues, one_due_more, place_in_books}
+use Rattle.dh_batches.proofs.posting.summed_up.Goals as goal
 
 pub overflow_add-count : goal.overflow_add-count
 overflow_add-count c =

@@ -2,7 +2,7 @@ use Rattle.std.proofs.Common.{◌∙◌, ap, map}
 use Rattle.std.specs.Map.Iter.{deref}
 use Rattle.std.proofs.lemmas.Map.Iter.{iter_end}
 use Rattle.dh_model.specs.Runs.{dues_of_branch, part_of}
-use Rattle.dh_rules.proofs.parts.branch_parts.Goals as goal
+use Rattle.dh_batches.proofs.parts.branch_parts.Goals as goal
 
 pub returns : goal.returns
 returns c =

@@ -56,7 +56,7 @@ fn put_parts(books: &mut Books, mut parts: Vec<Part>) -> Result<(), AllocError>
 
 /// The books with the run of the next month made in one step: its dues are charged, each branch has its part row, the run
 /// is closed with its count and total, and the next month moves on.
-pub(crate) fn with_run(
+pub fn with_run(
     alloc: Global,
     mut books: Books,
     month: EntryMonth,

@@ -1,7 +1,7 @@
 use Rattle.std.proofs.Common.{◌≡◌, vec_len}
 use Rattle.dh_model.specs.Books.{State, with_rows}
 use Rattle.dh_model.specs.Runs.{charge_key}
-use Rattle.dh_rules.proofs.posting.put_charges.Given as goal
+use Rattle.dh_batches.proofs.posting.put_charges.Given as goal
 
 abbrev pub invariant-loop-charge : goal.invariant-loop-charge
 invariant-loop-charge l =

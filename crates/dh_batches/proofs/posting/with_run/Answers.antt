@@ -1,8 +1,8 @@
 use Rattle.std.proofs.Common.{◌∙◌, ap, arith, rules}
 use Rattle.dh_model.specs.Leases.{dues}
 use Rattle.dh_model.specs.Runs.{batch_size}
-use Rattle.dh_rules.proofs.RunLemmas.{run_made}
-use Rattle.dh_rules.proofs.posting.with_run.Goals as goal
+use Rattle.dh_batches.proofs.RunLemmas.{run_made}
+use Rattle.dh_batches.proofs.posting.with_run.Goals as goal
 
 pub returns : goal.returns
 returns c =

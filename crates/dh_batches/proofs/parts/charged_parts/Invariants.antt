@@ -7,7 +7,7 @@ use Rattle.std.specs.Map.Iter.{deref}
 use Rattle.dh_model.specs.Books.{text_cmp}
 use Rattle.dh_model.specs.Leases.{dues_among}
 use Rattle.dh_model.specs.Runs.{is_property_of, part_of}
-use Rattle.dh_rules.proofs.parts.charged_parts.Given as goal
+use Rattle.dh_batches.proofs.parts.charged_parts.Given as goal
 
 abbrev pub invariant-loop-lease : goal.invariant-loop-lease
 invariant-loop-lease l = record {

@@ -10,8 +10,8 @@ use Rattle.dh_types.specs.declared.run.Part.{Part}
 use Rattle.dh_model.specs.Books.{text_cmp}
 use Rattle.dh_model.specs.Leases.{dues_among}
 use Rattle.dh_model.specs.Runs.{part_of}
-use Rattle.dh_rules.proofs.PartLemmas.{few_so_far, place_in_books, row_added, row_kept, small_added, small_kept, so_far}
-use Rattle.dh_rules.proofs.parts.charged_parts.Goals as goal
+use Rattle.dh_batches.proofs.PartLemmas.{few_so_far, place_in_books, row_added, row_kept, small_added, small_kept, so_far}
+use Rattle.dh_batches.proofs.parts.charged_parts.Goals as goal
 
 pub with_charge-requires-clause-few : goal.with_charge-requires-clause-few
 with_charge-requires-clause-few c =
