@@ -6,8 +6,8 @@ use Rattle.std.specs.Option.{unwrap_or}
 use Rattle.std.specs.Cmp.{Equal-is}
 use Rattle.dh_types.specs.declared.lease.Lease.{Lease}
 use Rattle.dh_model.specs.Books.{StandUnderTheirNumbers}
+use Rattle.dh_model.proofs.KeyOrders.{nat_ties, nat_total}
 use Rattle.dh_model.proofs.MapLemmas.{get-made}
-use Rattle.dh_books.proofs.Orders.{nat_ties, nat_total}
 
 not_none : (lease : Lease) → None ≡ Some lease → ⊥
 not_none lease e = cc

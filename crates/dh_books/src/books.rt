@@ -2,6 +2,7 @@
 
 mod changes;
 mod leases;
+mod months;
 mod people;
 mod properties;
 mod runs;
@@ -106,19 +107,5 @@ impl Books {
         ensures { AreNumbered self.now.books }
     {
         let _leases = &self.leases;
-    }
-
-    /// From now on this is the month whose rent is to be run next.
-    pub fn set_next(&mut self, next: Month)
-        ensures { self.new ≡ record self.old { books = record self.old.books { next = next } } }
-    {
-        self.next = next;
-    }
-
-    /// From now on this run is under way, or none is.
-    pub fn set_open_run(&mut self, run: Option<OpenRun>)
-        ensures { self.new ≡ record self.old { open_run = run } }
-    {
-        self.open_run = run;
     }
 }

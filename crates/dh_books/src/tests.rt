@@ -1,6 +1,7 @@
 //! The books' rows, each put and found again.
 
 mod leases;
+mod months;
 mod people;
 mod properties;
 mod runs;

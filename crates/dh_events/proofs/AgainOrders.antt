@@ -22,8 +22,8 @@ use Rattle.dh_model.specs.Runs.{closed_run, ran, sum_of}
 use Rattle.dh_model.specs.Checks.{is_same_text, receipt_of_key, run_of_key}
 use Rattle.dh_model.specs.Verdicts.{unless_paid, unless_posted, verdict_on}
 use Rattle.dh_model.specs.Machine.{settled, step}
-use Rattle.dh_laws.proofs.KeyOrders.{nat_ties, nat_total}
-use Rattle.dh_laws.proofs.MapRows.{get_new, of_row}
+use Rattle.dh_model.proofs.KeyOrders.{nat_ties, nat_total}
+use Rattle.dh_model.proofs.MapRows.{get_new, of_row}
 use Rattle.dh_laws.proofs.VerdictCases.{receipt_case, run_case}
 use Rattle.dh_laws.proofs.VerdictChecks.{found_none}
 use Rattle.dh_events.specs.Laws.{SentAgainIsOnce}

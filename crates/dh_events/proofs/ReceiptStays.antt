@@ -22,10 +22,10 @@ use Rattle.dh_model.specs.Verdicts.{judged, receipt_checks, receipt_verdict, row
 use Rattle.dh_model.specs.Machine.{settled, step}
 use Rattle.dh_model.specs.Whole.{completed, whole}
 use Rattle.dh_model.proofs.Among.{is_among}
+use Rattle.dh_model.proofs.KeyOrders.{nat_ties, nat_total}
 use Rattle.dh_laws.specs.InOrder.{AreKeyed}
 use Rattle.dh_laws.proofs.KeepOrder.{changes_keep_order}
-use Rattle.dh_laws.proofs.KeyOrders.{nat_ties, nat_total}
-use Rattle.dh_laws.proofs.MapRows.{get_new}
+use Rattle.dh_model.proofs.MapRows.{get_new}
 use Rattle.dh_laws.proofs.MonthShown.{none_open}
 use Rattle.dh_laws.proofs.MonthSteps.{steps_keep}
 use Rattle.dh_laws.proofs.MonthWhole.{whole_is_lawful}

@@ -21,10 +21,10 @@ use Rattle.dh_model.specs.Rules.{KeysInOrder}
 use Rattle.dh_model.specs.Runs.{batches}
 use Rattle.dh_model.specs.Verdicts.{verdict_on}
 use Rattle.dh_model.specs.Machine.{at_rent, carried_out, changed, managed, posted_sum, resumed, settled, step, with_comment}
+use Rattle.dh_model.proofs.KeyOrders.{nat_ties, nat_total}
 use Rattle.dh_laws.specs.InOrder.{AreKeyed}
 use Rattle.dh_laws.proofs.Acceptance.{Accepted}
-use Rattle.dh_laws.proofs.KeyOrders.{nat_ties, nat_total}
-use Rattle.dh_laws.proofs.MapRows.{among_values, get_other}
+use Rattle.dh_model.proofs.MapRows.{among_values, get_other}
 use Rattle.dh_laws.proofs.OweDues.{none_if}
 use Rattle.dh_laws.proofs.VerdictCases.{accepted, post_case, run_case}
 

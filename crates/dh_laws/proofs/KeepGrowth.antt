@@ -15,8 +15,8 @@ use Rattle.dh_types.specs.declared.run.Run.{Run}
 use Rattle.dh_model.specs.Books.{Books}
 use Rattle.dh_model.specs.Checks.{is_registered}
 use Rattle.dh_model.specs.Rules.{Each, InspectionRefers, IsThere, LeaseRefers, NamesWhatIsThere, PropertyRefers, RegistrationRefers, ViewingRefers}
-use Rattle.dh_laws.proofs.KeyOrders.{nat_total, nat_ties, text_total, text_ties, texts_total, texts_tie}
-use Rattle.dh_laws.proofs.MapRows.{cases_key, get_new, get_other, there_after}
+use Rattle.dh_model.proofs.KeyOrders.{nat_total, nat_ties, text_total, text_ties, texts_total, texts_tie}
+use Rattle.dh_model.proofs.MapRows.{cases_key, get_new, get_other, there_after}
 use Rattle.dh_laws.proofs.VerdictChecks.{some_property}
 
 -- what is there in the books is there in those after

@@ -10,8 +10,8 @@ use Rattle.dh_model.specs.declared.rows.Change.{Change}
 use Rattle.dh_model.specs.declared.rows.Change.TheVariants as change
 use Rattle.dh_model.specs.Books.{Books}
 use Rattle.dh_model.specs.Machine.{at_rent, changed, managed, with_comment}
+use Rattle.dh_model.proofs.KeyOrders.{nat_total, nat_ties, text_total, text_ties, texts_total, texts_tie, text_nat_total, text_nat_ties}
 use Rattle.dh_laws.specs.InOrder.{AreKeyed}
-use Rattle.dh_laws.proofs.KeyOrders.{nat_total, nat_ties, text_total, text_ties, texts_total, texts_tie, text_nat_total, text_nat_ties}
 use Rattle.dh_laws.proofs.KeyedRows.{keyed_branches, keyed_staff, keyed_owners, keyed_properties, keyed_clients, keyed_registrations, keyed_viewings, keyed_inspections, keyed_leases, keyed_receipts, keyed_runs, keyed_next}
 use Rattle.dh_laws.proofs.MapMerges.{insert_keyed}
 

@@ -21,12 +21,12 @@ use Rattle.dh_model.specs.Checks.{is_same_text, managed_besides}
 use Rattle.dh_model.specs.Machine.{at_rent, changed, managed, with_comment}
 use Rattle.dh_model.specs.Rules.{IsThere, ManagesAtMostHundred, NamesWhatIsThere, managed_by}
 use Rattle.dh_model.proofs.Among.{Among, is_among}
-use Rattle.dh_model.proofs.Rising.{IsBefore, Rises}
+use Rattle.dh_model.proofs.KeyOrders.{text_total, text_ties}
+use Rattle.dh_model.proofs.Rising.{IsBefore, Rises, rises_by}
 use Rattle.dh_laws.specs.InOrder.{AreKeyed}
 use Rattle.dh_laws.proofs.Acceptance.{Accepted, AddsProperty, AddsStaff, Assigns}
-use Rattle.dh_laws.proofs.KeyOrders.{text_total, text_ties}
 use Rattle.dh_laws.proofs.MapMerges.{insert_keyed, rows_rise}
-use Rattle.dh_laws.proofs.MapRows.{each_put, sum_new, sum_old, there}
+use Rattle.dh_model.proofs.MapRows.{each_put, sum_new, sum_old, there}
 use Rattle.dh_laws.proofs.VerdictChecks.{CanManage}
 
 -- ---- counts
@@ -86,10 +86,6 @@ module _ {X : Type 0} where
               omega (arith, own, theirs, same, rest)
         ]
 
-rises_as : {X : Type 0} (P Q : X → X → Type 0) (xs : List X) → ((x y : X) → P x y → Q x y) → Rises P xs → Rises Q xs
-rises_as P Q [] says r = tt
-rises_as P Q (x ∷ xs) says r = (λ y a. says x y (r.0 y a), rises_as P Q xs says r.1)
-
 -- ---- one property put in
 
 abbrev manages : List ℕ → Property → Bool
@@ -130,7 +126,7 @@ module _ (books : Books) (keyed : AreKeyed books) (key : List ℕ) (it : Propert
       let stand = insert_keyed text_total text_ties (λ p. p.number) books.properties key it own keyed.properties in
       let rises = rows_rise text_total text_ties (λ p. p.number) after stand in
       let few = all_but_one (manages member) (is_it key) (values after)
-      (rises_as (λ x y. IsBefore text_cmp x.number y.number) (λ x y. is_it key x ≡ true → is_it key y ≡ true → ⊥) (values after) (numbers_rise key) rises) in
+      (rises_by (λ x y. IsBefore text_cmp x.number y.number) (λ x y. is_it key x ≡ true → is_it key y ≡ true → ⊥) (numbers_rise key) (values after) rises) in
       let same = besides_after (get books.properties key) refl in
       omega (arith, few, same, room)
 

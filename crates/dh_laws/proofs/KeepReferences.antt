@@ -22,10 +22,10 @@ use Rattle.dh_model.specs.Books.{Books}
 use Rattle.dh_model.specs.Checks.{is_registered}
 use Rattle.dh_model.specs.Machine.{at_rent, changed, managed, with_comment}
 use Rattle.dh_model.specs.Rules.{InspectionRefers, IsThere, LeaseRefers, NamesWhatIsThere, PropertyRefers, RegistrationRefers, ViewingRefers}
+use Rattle.dh_model.proofs.KeyOrders.{nat_total, nat_ties, text_total, text_ties, texts_total, texts_tie, text_nat_total, text_nat_ties}
 use Rattle.dh_laws.proofs.Acceptance.{Accepted, AddsInspection, AddsLease, AddsProperty, AddsReceipt, AddsStaff, AddsViewing, Assigns, Registers}
-use Rattle.dh_laws.proofs.KeyOrders.{nat_total, nat_ties, text_total, text_ties, texts_total, texts_tie, text_nat_total, text_nat_ties}
 use Rattle.dh_laws.proofs.KeepGrowth.{grows_branches, grows_clients, grows_inspections, grows_leases, grows_owners, grows_properties, grows_receipts, grows_registrations, grows_runs, grows_staff, grows_viewings, if_some, still}
-use Rattle.dh_laws.proofs.MapRows.{each_got, each_put, inside, there}
+use Rattle.dh_model.proofs.MapRows.{each_got, each_put, inside, there}
 
 never_there : (found : Option Property) (row : Property) (P : Type 0) → found ≡ None → found ≡ Some row → P
 never_there found row P none some = let no_row : None ≡ Some row = sym none ∙ some in cc

@@ -15,10 +15,10 @@ use Rattle.dh_model.specs.Books.{Books}
 use Rattle.dh_model.specs.Checks.{works_at}
 use Rattle.dh_model.specs.Machine.{at_rent, changed, managed, with_comment}
 use Rattle.dh_model.specs.Rules.{StaffOfTheBranch}
+use Rattle.dh_model.proofs.KeyOrders.{text_total, text_ties, texts_total, texts_tie}
 use Rattle.dh_laws.proofs.Acceptance.{Accepted, AddsStaff, Assigns, Registers}
 use Rattle.dh_laws.proofs.KeepGrowth.{if_some}
-use Rattle.dh_laws.proofs.KeyOrders.{text_total, text_ties, texts_total, texts_tie}
-use Rattle.dh_laws.proofs.MapRows.{cases_key, each_got, each_put, get_other}
+use Rattle.dh_model.proofs.MapRows.{cases_key, each_got, each_put, get_other}
 
 -- of the branch, whoever that is
 abbrev pub IsStaffed : Books → Property → Type 0

@@ -1,7 +1,5 @@
 pub mod Acceptance
-pub mod KeyOrders
 pub mod MapMerges
-pub mod MapRows
 pub mod MonthAlike
 pub mod MonthChanges
 pub mod MonthClose
@@ -15,8 +13,8 @@ pub mod OweCharges
 pub mod OweDues
 pub mod OweMoves
 pub mod OweSums
-pub mod Pairs
 pub mod PassChanges
+pub mod PassEach
 pub mod PassVerdicts
 pub mod PostCharged
 pub mod PostDues

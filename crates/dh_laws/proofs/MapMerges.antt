@@ -14,7 +14,7 @@ use Rattle.dh_model.specs.Whole.{rows_where}
 use Rattle.dh_model.proofs.Among.{Among, in_filter, in_map}
 use Rattle.dh_model.proofs.Rising.{IsBefore, Rises}
 use Rattle.dh_laws.specs.InOrder.{StandUnder}
-use Rattle.dh_laws.proofs.MapRows.{below_at, entry_found, got_after, inside, is_less, key_itself, kept_if, keys_differ, row_of, same_key, sorted}
+use Rattle.dh_model.proofs.MapRows.{below_at, entry_found, got_after, inside, is_less, key_itself, kept_if, keys_differ, row_of, same_key, sorted}
 
 none_found : {K X : Type 0} (R : K → K → Ordering) (q : K) (es : List (K × X)) → ((e : K × X) → Among es e → eq_by_cmp R q e.0 ≡ false) → find R q es ≡ None
 none_found R q [] apart = refl

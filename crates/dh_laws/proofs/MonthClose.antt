@@ -15,9 +15,9 @@ use Rattle.dh_model.specs.Rules.{ArePosted, IsLawful, IsThere, KeysInOrder, Meet
 use Rattle.dh_model.specs.Whole.{open_row}
 use Rattle.dh_model.proofs.Among.{Among, among, in_filter, in_map, is_among, of_map}
 use Rattle.dh_model.proofs.BatchLemmas.{last_batch_posts_all}
+use Rattle.dh_model.proofs.KeyOrders.{nat_text_ties, nat_text_total, nat_ties, nat_total}
 use Rattle.dh_laws.specs.InOrder.{AreKeyed}
-use Rattle.dh_laws.proofs.KeyOrders.{nat_text_ties, nat_text_total, nat_ties, nat_total}
-use Rattle.dh_laws.proofs.MapRows.{each_insert, got_after, of_row, there, there_after, values_old}
+use Rattle.dh_model.proofs.MapRows.{each_insert, got_after, of_row, there, there_after, values_old}
 use Rattle.dh_laws.proofs.MapMerges.{insert_keyed, own_row}
 use Rattle.dh_laws.proofs.MonthAlike.{closed_alike, have_trans}
 use Rattle.dh_laws.proofs.MonthKeep.{untouched}

@@ -16,8 +16,8 @@ use Rattle.dh_model.specs.Runs.{dues_of_branch, is_property_of, leases_of_branch
 use Rattle.dh_model.specs.Rules.{IsThere, NamesWhatIsThere}
 use Rattle.dh_model.proofs.Among.{Among, in_filter, in_map, is_among}
 use Rattle.dh_model.proofs.DueLemmas.{falls_in, is_due}
-use Rattle.dh_laws.proofs.KeyOrders.{nat_total, nat_ties, text_total, text_ties}
-use Rattle.dh_laws.proofs.MapRows.{cases_key, get_new, get_other, of_row, there, values_new}
+use Rattle.dh_model.proofs.KeyOrders.{nat_total, nat_ties, text_total, text_ties}
+use Rattle.dh_model.proofs.MapRows.{cases_key, get_new, get_other, of_row, there, values_new}
 
 module _ {X : Type 0} where
   module _ (p : X → Bool) where

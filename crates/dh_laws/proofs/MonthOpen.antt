@@ -14,10 +14,10 @@ use Rattle.dh_model.specs.Runs.{batch_of, batches_before, begun_branches, dues_o
 use Rattle.dh_model.specs.Rules.{ArePosted, IsThere, MonthIsClosed, MonthIsOpen, MonthsInOrder, RunsInOrder, charges_in, parts_in}
 use Rattle.dh_model.specs.Whole.{open_row}
 use Rattle.dh_model.proofs.Among.{Among, among, in_filter, in_flat_map, in_map, is_among}
+use Rattle.dh_model.proofs.KeyOrders.{nat_total, nat_ties}
 use Rattle.dh_laws.specs.InOrder.{StandUnder}
-use Rattle.dh_laws.proofs.KeyOrders.{nat_total, nat_ties}
-use Rattle.dh_laws.proofs.Pairs.{among_left}
-use Rattle.dh_laws.proofs.MapRows.{each_insert, got_after, new_is_there, of_row, row_of, there, there_after, values_new}
+use Rattle.dh_model.proofs.Pairs.{among_left}
+use Rattle.dh_model.proofs.MapRows.{each_insert, got_after, new_is_there, of_row, row_of, there, there_after, values_new}
 use Rattle.dh_laws.proofs.MonthAlike.{closed_alike, have_same}
 use Rattle.dh_laws.proofs.MonthDues.{branch_after_lease, dues_after_lease}
 use Rattle.dh_laws.proofs.MonthShown.{all_closed, found_after}

@@ -18,10 +18,11 @@ use Rattle.dh_model.proofs.Among.{Among, among, in_filter, in_flat_map, is_among
 use Rattle.dh_model.proofs.BatchLemmas.{last_batch_posts_all}
 use Rattle.dh_model.proofs.BranchDues.{holds, keys_rise}
 use Rattle.dh_model.proofs.DueLemmas.{falls_in, is_due}
+use Rattle.dh_model.proofs.KeyOrders.{text_total, text_ties}
 use Rattle.dh_model.proofs.Rising.{IsBefore, Rises}
-use Rattle.dh_laws.proofs.KeyOrders.{text_total, text_ties}
-use Rattle.dh_laws.proofs.MapRows.{found_entry, of_row, there}
+use Rattle.dh_model.proofs.MapRows.{found_entry, of_row, there}
 use Rattle.dh_laws.proofs.MonthDues.{dues_first}
+use Rattle.dh_laws.proofs.PostCounts.{counted}
 
 -- ---- sums
 
@@ -42,13 +43,6 @@ module _ {X : Type 0} where
       let all = sum_by-cons f x xs in
       let first = none x (inl refl) in
       omega (arith, rest, all, first)
-
-  count_all : (xs : List X) → length xs ≡ sum_by (λ x. 1) xs
-  count_all [] = refl
-  count_all (x ∷ xs) =
-      let rest = count_all xs in
-      let all = sum_by-cons (λ (y : X). 1) x xs in
-      omega (arith, rest, all)
 
   sum_if : (w : X → ℕ) (b : Bool) (x : X) (xs : List X) → sum_by w (cond b (x ∷ xs) xs) ≡ cond b (w x) 0 + sum_by w xs
   sum_if w true x xs = sum_by-cons w x xs
@@ -202,7 +196,7 @@ module _ (books : Books) (names : NamesWhatIsThere books) where
 
       -- by number and by amount
       pub count_of_all : length all_posted ≡ length (dues books month)
-      count_of_all = count_all all_posted ∙ ap (sum_by (λ charge. 1)) all_of_branches ∙ sum_of_branches (λ charge. 1) ∙ sym (count_all (dues books month))
+      count_of_all = counted all_posted ∙ ap (sum_by (λ charge. 1)) all_of_branches ∙ sum_of_branches (λ charge. 1) ∙ sym (counted (dues books month))
 
       pub total_of_all : total_of all_posted ≡ total_of (dues books month)
       total_of_all = ap total_of all_of_branches ∙ sum_of_branches (λ charge. charge.amount)

@@ -7,9 +7,9 @@ use Rattle.dh_model.specs.Runs.{batches}
 use Rattle.dh_model.specs.Rules.{IsLawful, MeetsRules}
 use Rattle.dh_model.specs.Whole.{completed, open_row, with_posted}
 use Rattle.dh_model.proofs.Among.{among}
+use Rattle.dh_model.proofs.KeyOrders.{nat_ties, nat_total}
 use Rattle.dh_laws.specs.InOrder.{AreKeyed}
 use Rattle.dh_laws.specs.Keeping.{WholeIsLawful}
-use Rattle.dh_laws.proofs.KeyOrders.{nat_ties, nat_total}
 use Rattle.dh_laws.proofs.MapMerges.{own_row}
 use Rattle.dh_laws.proofs.MonthClose.{closing_is_lawful}
 use Rattle.dh_laws.proofs.MonthShown.{all_closed, shown_row}

@@ -23,10 +23,10 @@ use Rattle.dh_model.specs.Checks.{names, receipt_of_key, run_of_key, unless}
 use Rattle.dh_model.specs.Rules.{IsLawful, KeysInOrder}
 use Rattle.dh_model.specs.Rules.Rule.{Keys}
 use Rattle.dh_model.specs.Verdicts.{branch_verdict, judged, lease_checks, lease_verdict, opened_run, property_checks, receipt_checks, receipt_verdict, registration_checks, run_verdict, signed, unless_paid, unless_posted, unless_receipt, unless_run, verdict_on}
+use Rattle.dh_model.proofs.KeyOrders.{nat_ties, nat_total}
 use Rattle.dh_laws.specs.InOrder.{AreKeyed}
 use Rattle.dh_laws.specs.Balances.{BalancesMoveAsTold, due_on}
-use Rattle.dh_laws.proofs.KeyOrders.{nat_ties, nat_total}
-use Rattle.dh_laws.proofs.MapRows.{among_values}
+use Rattle.dh_model.proofs.MapRows.{among_values}
 use Rattle.dh_laws.proofs.OweSums.{kept_twice_new}
 use Rattle.dh_laws.proofs.OweDues.{none_if, ran_adds}
 use Rattle.dh_laws.proofs.OweMoves.{Moves, if_same, more_due, more_paid, on_assign, on_checks, on_comment, on_open, on_post, on_rent, on_row, own}

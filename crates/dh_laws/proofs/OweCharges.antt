@@ -9,10 +9,10 @@ use Rattle.dh_model.specs.Rules.{HaveTheSame, IsLawful, IsThere, MonthsInOrder, 
 use Rattle.dh_model.specs.Rules.Rule.{Months}
 use Rattle.dh_model.proofs.Among.{Among, among, in_filter, is_among, of_filter}
 use Rattle.dh_model.proofs.DueLemmas.{falls_in}
+use Rattle.dh_model.proofs.KeyOrders.{nat_ties, nat_total}
 use Rattle.dh_laws.specs.InOrder.{AreKeyed}
 use Rattle.dh_laws.specs.Balances.{ChargesAreDues}
-use Rattle.dh_laws.proofs.KeyOrders.{nat_ties, nat_total}
-use Rattle.dh_laws.proofs.MapRows.{among_values, there}
+use Rattle.dh_model.proofs.MapRows.{among_values, there}
 
 module _ (size : ℕ) (books : Books) (keyed : AreKeyed books) (lawful : IsLawful books size) where
   months : MonthsInOrder books size

@@ -1,5 +1,5 @@
 -- What falls due in the next month adds to what is charged.
-use Rattle.std.proofs.Common.{◌≡◌, ◌≢◌, ◌∙◌, sym, ap, ℕ, ◌+◌, ◌<◌, nat_eq, List, [], ◌∷◌, Option, Some, None, arith}
+use Rattle.std.proofs.Common.{◌≡◌, ◌≢◌, ◌∙◌, sym, ap, ℕ, ◌+◌, ◌<◌, nat_eq, List, Option, Some, None, arith}
 use Rattle.std.specs.FinMap.{get, values}
 use Rattle.dh_days.specs.Days.{month_of_day}
 use Rattle.dh_types.specs.declared.lease.Lease.{Lease}
@@ -13,22 +13,18 @@ use Rattle.dh_model.specs.Rules.Rule.{Runs}
 use Rattle.dh_model.proofs.Among.{Among}
 use Rattle.dh_model.proofs.BranchDues.{dues_rise, lease_of, leases_rise}
 use Rattle.dh_model.proofs.DueLemmas.{is_due}
-use Rattle.dh_model.proofs.Rising.{Lesser, Rises}
+use Rattle.dh_model.proofs.KeyOrders.{nat_ties, nat_total, nats_tie, nats_total}
+use Rattle.dh_model.proofs.Rising.{Lesser, Rises, rises_by}
 use Rattle.dh_laws.specs.InOrder.{AreKeyed}
 use Rattle.dh_laws.specs.Balances.{due_on}
-use Rattle.dh_laws.proofs.KeyOrders.{nat_ties, nat_total, nats_tie, nats_total}
 use Rattle.dh_laws.proofs.MapMerges.{one_row}
-use Rattle.dh_laws.proofs.MapRows.{of_row}
+use Rattle.dh_model.proofs.MapRows.{of_row}
 use Rattle.dh_laws.proofs.OweCharges.{charged_is_due, charged_was_run}
 use Rattle.dh_laws.proofs.OweSums.{Apart, kept_added}
 
 pub none_if : {X : Type 0} (found : Option X) → ((x : X) → found ≡ Some x → ⊥) → found ≡ None
 none_if None h = λ i. None
 none_if (Some x) h = absurd (h x (λ i. Some x))
-
-rises_by : {X : Type 0} (P Q : X → X → Type 0) → ((x y : X) → P x y → Q x y) → (xs : List X) → Rises P xs → Rises Q xs
-rises_by P Q by [] r = tt
-rises_by P Q by (x ∷ xs) r = (λ y a. by x y (r.0 y a), rises_by P Q by xs r.1)
 
 by_lease : (x y : Charge) → Lesser lease_of x y → charge_key x ≢ charge_key y
 by_lease x y less e =

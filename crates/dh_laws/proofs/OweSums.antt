@@ -8,7 +8,7 @@ use Rattle.dh_model.specs.Books.{with_rows}
 use Rattle.dh_model.proofs.Among.{Among}
 use Rattle.dh_model.proofs.Rising.{Rises}
 use Rattle.dh_laws.proofs.MapMerges.{get_past_rows}
-use Rattle.dh_laws.proofs.MapRows.{sum_new}
+use Rattle.dh_model.proofs.MapRows.{sum_new}
 
 module _ {X : Type 0} (f : X → ℕ) where
   sum_if : (b : Bool) (x : X) (xs : List X) → sum_by f (cond b (x ∷ xs) xs) ≡ cond b (f x) 0 + sum_by f xs

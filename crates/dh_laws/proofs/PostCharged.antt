@@ -9,9 +9,9 @@ use Rattle.dh_model.specs.Leases.{dues}
 use Rattle.dh_model.specs.Runs.{charge_key, part_key, posted_charges, posted_parts}
 use Rattle.dh_model.specs.Rules.{MeetsRules, Rule, charges_in}
 use Rattle.dh_model.proofs.Among.{Among, among, is_among}
+use Rattle.dh_model.proofs.KeyOrders.{nat_ties, nat_total, nats_tie, nats_total}
 use Rattle.dh_laws.specs.InOrder.{AreKeyed}
-use Rattle.dh_laws.proofs.KeyOrders.{nat_ties, nat_total, nats_tie, nats_total}
-use Rattle.dh_laws.proofs.MapRows.{of_row, there}
+use Rattle.dh_model.proofs.MapRows.{of_row, there}
 use Rattle.dh_laws.proofs.PostMonth.{Fits, of_rows}
 use Rattle.dh_laws.proofs.PostDues.{IsOwed, month_of_begun, one_begun, one_charge, one_posted, owed_due, owed_posted}
 

@@ -10,11 +10,11 @@ use Rattle.dh_model.specs.Rules.{ArePosted, MeetsRules, Rule, charges_in}
 use Rattle.dh_model.specs.Whole.{completed}
 use Rattle.dh_model.proofs.Among.{Among, among, is_among}
 use Rattle.dh_model.proofs.BranchDues.{dues_rise, lease_of, leases_rise}
+use Rattle.dh_model.proofs.KeyOrders.{nat_text_ties, nat_text_total, nats_tie, nats_total}
 use Rattle.dh_model.proofs.Rising.{Rises, filter_rises}
 use Rattle.dh_laws.specs.InOrder.{AreKeyed}
 use Rattle.dh_laws.specs.Posting.{ClosingMakesWhole, closed}
-use Rattle.dh_laws.proofs.KeyOrders.{nat_text_ties, nat_text_total, nats_tie, nats_total}
-use Rattle.dh_laws.proofs.MapRows.{inside}
+use Rattle.dh_model.proofs.MapRows.{inside}
 use Rattle.dh_laws.proofs.MonthSums.{all_are_dues, count_of_all, total_of_all}
 use Rattle.dh_laws.proofs.PostMonth.{stays}
 use Rattle.dh_laws.proofs.PostCharged.{charge_month, charges_fit, part_month, parts_fit}

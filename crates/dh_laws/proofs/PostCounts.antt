@@ -7,7 +7,7 @@ use Rattle.std.specs.FinMap.{FinMap, IsAntisymmetric, entries, len, len-entries,
 use Rattle.std.proofs.lemmas.Cmp.{tied_itself}
 use Rattle.std.proofs.lemmas.List.Sums.{sum_by-cons}
 use Rattle.dh_model.proofs.Among.{Among, in_flat_map}
-use Rattle.dh_model.proofs.Rising.{IsBefore, Lesser, Rises}
+use Rattle.dh_model.proofs.Rising.{IsBefore, Lesser, Rises, rises_by}
 use Rattle.dh_laws.specs.InOrder.{StandUnder}
 use Rattle.dh_laws.proofs.MapMerges.{rows_rise}
 
@@ -15,12 +15,8 @@ module _ {X : Type 0} where
   abbrev pub Differ : X → X → Type 0
   Differ x y = x ≢ y
 
-  pub weaker : (P Q : X → X → Type 0) → ((x y : X) → P x y → Q x y) → (xs : List X) → Rises P xs → Rises Q xs
-  weaker P Q by [] r = tt
-  weaker P Q by (x ∷ xs) r = (λ y a. by x y (r.0 y a), weaker P Q by xs r.1)
-
   pub lesser_differ : (n : X → ℕ) (xs : List X) → Rises (Lesser n) xs → Rises Differ xs
-  lesser_differ n = weaker (Lesser n) Differ (λ x y h e. let less : n x < n y = h in let same = ap n e in omega (arith, less, same))
+  lesser_differ n = rises_by (Lesser n) Differ (λ x y h e. let less : n x < n y = h in let same = ap n e in omega (arith, less, same))
 
   -- the list without the element, which stands in it
   record Without (f : X → ℕ) (xs : List X) (x : X) : Type 0 where
@@ -126,7 +122,7 @@ module _ {K X : Type 0} (f : K → List X) (size : ℕ) (small : (k : K) → len
 module _ {K X : Type 0} {R : K → K → Ordering} (o : IsTotalOrder R) (anti : IsAntisymmetric R) where
   pub rows_differ : (key : X → K) (m : FinMap R X) → StandUnder key m → Rises Differ (values m)
   rows_differ key m keyed =
-      weaker (λ x y. IsBefore R (key x) (key y)) Differ
+      rises_by (λ x y. IsBefore R (key x) (key y)) Differ
       (λ x y before same.
       let itself : IsBefore R (key x) (key x) = subst (λ k. IsBefore R (key x) k) (sym (ap key same)) before in
       let never = ap is_lt (tied_itself o (key x)) in

@@ -9,8 +9,8 @@ use Rattle.dh_model.specs.Leases.{due, dues, dues_among}
 use Rattle.dh_model.specs.Runs.{batch_of, batches_before, begun_branches, charge_key, dues_of_branch, is_property_of, leases_of_branch, part_key, part_of, posted_charges, posted_of_branch, posted_parts}
 use Rattle.dh_model.proofs.Among.{Among, in_filter, in_flat_map, in_map, of_filter, of_flat_map}
 use Rattle.dh_model.proofs.DueLemmas.{is_due}
+use Rattle.dh_model.proofs.KeyOrders.{nat_ties, nat_total}
 use Rattle.dh_laws.specs.InOrder.{StandUnder}
-use Rattle.dh_laws.proofs.KeyOrders.{nat_ties, nat_total}
 use Rattle.dh_laws.proofs.MapMerges.{one_row}
 use Rattle.dh_laws.proofs.PostMonth.{OneEach}
 

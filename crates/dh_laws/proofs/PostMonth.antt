@@ -9,7 +9,7 @@ use Rattle.dh_model.specs.Rules.{HaveTheSame}
 use Rattle.dh_model.specs.Whole.{rows_where}
 use Rattle.dh_model.proofs.Among.{Among, among, in_filter, is_among, of_filter}
 use Rattle.dh_laws.specs.InOrder.{StandUnder}
-use Rattle.dh_laws.proofs.MapRows.{of_row, row_of}
+use Rattle.dh_model.proofs.MapRows.{of_row, row_of}
 use Rattle.dh_laws.proofs.MapMerges.{get_kept, get_of_rows, get_past_rows, got_rows_where, got_with_rows, with_rows_keyed, rows_where_keyed}
 
 -- the row stands under the key

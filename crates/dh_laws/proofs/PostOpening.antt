@@ -15,10 +15,10 @@ use Rattle.dh_model.specs.Rules.{HaveTheSame, IsThere, MeetsRules, Rule}
 use Rattle.dh_model.specs.Verdicts.{opened_run}
 use Rattle.dh_model.specs.Whole.{completed, open_row}
 use Rattle.dh_model.proofs.Among.{Among, among, is_among}
+use Rattle.dh_model.proofs.KeyOrders.{nat_text_ties, nat_text_total, nat_ties, nat_total, nats_tie, nats_total}
 use Rattle.dh_laws.specs.InOrder.{AreKeyed}
 use Rattle.dh_laws.specs.Posting.{RunIsOpeningMadeWhole}
-use Rattle.dh_laws.proofs.KeyOrders.{nat_text_ties, nat_text_total, nat_ties, nat_total, nats_tie, nats_total}
-use Rattle.dh_laws.proofs.MapRows.{got_after, of_row, row_of}
+use Rattle.dh_model.proofs.MapRows.{got_after, of_row, row_of}
 use Rattle.dh_laws.proofs.MapMerges.{get_of_rows, get_past_rows, got_with_rows, row_at_own}
 use Rattle.dh_laws.proofs.MonthKeep.{RunInMonths}
 use Rattle.dh_laws.proofs.MonthOpen.{open_keeps}

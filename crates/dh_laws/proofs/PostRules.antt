@@ -12,9 +12,9 @@ use Rattle.dh_model.specs.Runs.{batches, charge_key, part_key, posted_charges, p
 use Rattle.dh_model.specs.Rules.{ArePosted, IsThere, MeetsRules, MonthIsClosed, MonthsInOrder, NamesWhatIsThere, Rule}
 use Rattle.dh_model.specs.Whole.{with_posted}
 use Rattle.dh_model.proofs.Among.{Among, among, is_among, of_passes}
+use Rattle.dh_model.proofs.KeyOrders.{nat_text_ties, nat_text_total, nat_ties, nat_total, nats_tie, nats_total, text_ties, text_total}
 use Rattle.dh_laws.specs.InOrder.{AreKeyed}
-use Rattle.dh_laws.proofs.KeyOrders.{nat_text_ties, nat_text_total, nat_ties, nat_total, nats_tie, nats_total, text_ties, text_total}
-use Rattle.dh_laws.proofs.MapRows.{key_itself, of_row, there}
+use Rattle.dh_model.proofs.MapRows.{key_itself, of_row, there}
 use Rattle.dh_laws.proofs.MapMerges.{one_row, own_row}
 use Rattle.dh_laws.proofs.PostMonth.{in_month, in_other_month, keyed_replaced, of_old, value_of_replaced}
 use Rattle.dh_laws.proofs.PostDues.{IsOwed, is_begun, month_of_begun, owed_posted}

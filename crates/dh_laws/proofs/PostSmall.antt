@@ -14,19 +14,19 @@ use Rattle.dh_model.specs.Runs.{batch_of, batches_before, batches_of_branch, cha
 use Rattle.dh_model.specs.Rules.{ArePosted, MeetsRules, charges_in}
 use Rattle.dh_model.specs.Whole.{with_posted}
 use Rattle.dh_model.proofs.Among.{Among, among, in_filter, is_among, of_filter, of_flat_map}
-use Rattle.dh_model.proofs.Rising.{IsBefore, Rises}
+use Rattle.dh_model.proofs.KeyOrders.{nats_tie, nats_total, text_ties, text_total}
+use Rattle.dh_model.proofs.Rising.{IsBefore, Rises, rises_by}
 use Rattle.dh_model.proofs.BatchLemmas.{each_due_has_its_batch, no_batch_is_too_large}
 use Rattle.dh_model.proofs.BranchDues.{holds, keys_rise}
 use Rattle.dh_model.proofs.BranchSums.{own_is_among_all, sum_before}
 use Rattle.dh_laws.specs.InOrder.{AreKeyed}
 use Rattle.dh_laws.specs.Posting.{NextBatchIsSmall}
-use Rattle.dh_laws.proofs.KeyOrders.{nats_tie, nats_total, text_ties, text_total}
-use Rattle.dh_laws.proofs.MapRows.{is_less}
-use Rattle.dh_laws.proofs.Pairs.{among_left, among_right}
+use Rattle.dh_model.proofs.MapRows.{is_less}
+use Rattle.dh_model.proofs.Pairs.{among_left, among_right}
 use Rattle.dh_laws.proofs.PostMonth.{in_rows, value_of_replaced}
 use Rattle.dh_laws.proofs.PostDues.{is_posted, of_posted}
 use Rattle.dh_laws.proofs.PostCharged.{charge_month, charges_fit}
-use Rattle.dh_laws.proofs.PostCounts.{Differ, at_most_one, no_longer, rows_counted, rows_differ, weaker}
+use Rattle.dh_laws.proofs.PostCounts.{Differ, at_most_one, no_longer, rows_counted, rows_differ}
 use Rattle.dh_laws.proofs.PostRules.{posted_keyed}
 
 module _ {X : Type 0} (p q : X → Bool) (implies : (x : X) → p x ≡ true → q x ≡ true) where
@@ -85,7 +85,7 @@ module _ (size : ℕ) (books : Books) (month : ℕ) where
 
     keys_differ : Rises Differ (keys books.branches)
     keys_differ =
-        weaker (IsBefore text_cmp) Differ
+        rises_by (IsBefore text_cmp) Differ
         (λ x y before same. let itself : IsBefore text_cmp x x = subst (λ k. IsBefore text_cmp x k) (sym same) before in let never = ap is_lt (tied_itself text_total x) in cc)
         (keys books.branches) (keys_rise text_cmp (entries books.branches) (holds (is_sorted text_cmp (entries books.branches)) (entries_sorted books.branches)))
 

@@ -7,9 +7,9 @@ use Rattle.dh_model.specs.Runs.{batches, charge_key, closed_run, part_key, poste
 use Rattle.dh_model.specs.Rules.{MeetsRules}
 use Rattle.dh_model.specs.Whole.{completed, open_row, with_posted}
 use Rattle.dh_model.proofs.Among.{Among}
+use Rattle.dh_model.proofs.KeyOrders.{nat_text_ties, nat_text_total, nat_ties, nat_total, nats_tie, nats_total}
 use Rattle.dh_laws.specs.InOrder.{AreKeyed}
 use Rattle.dh_laws.specs.Posting.{NextBatchKeepsTheWhole}
-use Rattle.dh_laws.proofs.KeyOrders.{nat_text_ties, nat_text_total, nat_ties, nat_total, nats_tie, nats_total}
 use Rattle.dh_laws.proofs.MapMerges.{own_row}
 use Rattle.dh_laws.proofs.MonthShown.{shown_row}
 use Rattle.dh_laws.proofs.PostMonth.{others_stay}

@@ -17,13 +17,13 @@ use Rattle.dh_model.specs.Leases.{overlap}
 use Rattle.dh_model.specs.Machine.{at_rent, changed, managed, with_comment}
 use Rattle.dh_model.specs.Rules.{DepositsInOrder, Each, EachTwo, KeysInOrder, LeasesInTime, LeasesNeverOverlap, NamesWhatIsThere, OneStartADay, RunsInOrder}
 use Rattle.dh_model.proofs.Among.{Among, in_append, in_map, is_among}
+use Rattle.dh_model.proofs.KeyOrders.{nat_total, nat_ties}
 use Rattle.dh_model.proofs.LeaseLemmas.{overlap_goes_both_ways}
 use Rattle.dh_model.proofs.Rising.{Rises}
 use Rattle.dh_laws.specs.InOrder.{AreKeyed}
 use Rattle.dh_laws.proofs.Acceptance.{Accepted, AddsLease, AddsReceipt, OpensRun}
-use Rattle.dh_laws.proofs.KeyOrders.{nat_total, nat_ties}
-use Rattle.dh_laws.proofs.MapRows.{each_insert, each_two_insert, get_other, of_row, there, values_new}
-use Rattle.dh_laws.proofs.Pairs.{pairs_rise, rises_put, rising_pairs}
+use Rattle.dh_model.proofs.MapRows.{each_insert, each_two_insert, get_other, of_row, there, values_new}
+use Rattle.dh_model.proofs.Pairs.{pairs_rise, rises_put, rising_pairs}
 use Rattle.dh_laws.proofs.VerdictCases.{IsLimited}
 use Rattle.dh_laws.proofs.VerdictChecks.{IsNewKey}
 

@@ -8,3 +8,6 @@ pub mod BranchDues
 pub mod BatchLemmas
 pub mod RunLemmas
 pub mod MapLemmas
+pub mod KeyOrders
+pub mod Pairs
+pub mod MapRows

@@ -38,6 +38,11 @@ module _ {X : Type 0} (Before : X → X → Type 0) where
     append_rises xs ys r.1 s (λ w z f g. before w z (inr f) g),
   )
 
+-- what rises in one order rises in each weaker one
+pub rises_by : {X : Type 0} (P Q : X → X → Type 0) → ((x y : X) → P x y → Q x y) → (xs : List X) → Rises P xs → Rises Q xs
+rises_by P Q by [] r = tt
+rises_by P Q by (x ∷ xs) r = (λ y a. by x y (r.0 y a), rises_by P Q by xs r.1)
+
 module _ {X : Type 0} (test : X → Bool) (x : X) (xs : List X) where
   count_yes : test x ≡ true → count_by test (x ∷ xs) ≡ 1 + count_by test xs
   count_yes e = sum_by-cons (λ y. cond (test y) 1 0) x xs ∙ ap (λ b. cond b 1 0 + count_by test xs) e

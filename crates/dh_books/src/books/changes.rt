@@ -1,11 +1,14 @@
-//! Rows that get another value in one field.
+//! What changes in place: the next month, the open run, and one field of a row.
 
 ghost use Rattle.std.specs.Prelude.{◌≡◌, Some};
 ghost use Rattle.std.specs.FinMap as fin;
 ghost use Rattle.dh_model.specs.Machine.{at_rent, managed, with_comment};
 
 use super::Books;
-use dh_types::{Assignment, Comment, Id, Property, Rent, RentChange, Viewing, ViewingComment};
+use dh_model::OpenRun;
+use dh_types::{
+    Assignment, Comment, Id, Month, Property, Rent, RentChange, Viewing, ViewingComment,
+};
 
 fn put_manager(property: &mut Property, staff: Option<Id>)
     ensures { property.new ≡ record property.old { staff = staff } }
@@ -55,5 +58,19 @@ impl Books {
             return;
         };
         put_comment(viewing, it.comment);
+    }
+
+    /// From now on this is the month whose rent is to be run next.
+    pub fn set_next(&mut self, next: Month)
+        ensures { self.new ≡ record self.old { books = record self.old.books { next = next } } }
+    {
+        self.next = next;
+    }
+
+    /// From now on this run is under way, or none is.
+    pub fn set_open_run(&mut self, run: Option<OpenRun>)
+        ensures { self.new ≡ record self.old { open_run = run } }
+    {
+        self.open_run = run;
     }
 }

@@ -6,7 +6,7 @@ ghost use Rattle.std.specs.FinMap as fin;
 use super::Books;
 use dh_types::{EntryMonth, Id, Part, Run};
 use std::alloc::AllocError;
-use std::collections::btree_map::Values;
+use std::collections::btree_map::{Keys, Values};
 
 impl Books {
     /// The run of this month.
@@ -30,6 +30,13 @@ impl Books {
         ensures { result ≡ fin.values self.now.books.runs }
     {
         self.runs.values()
+    }
+
+    /// The months that a run stands under, rising.
+    pub fn run_months(&self) -> Keys<'_, EntryMonth, Run>
+        ensures { result ≡ fin.keys self.now.books.runs }
+    {
+        self.runs.keys()
     }
 
     /// The part of this month and branch.

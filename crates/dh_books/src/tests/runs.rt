@@ -22,6 +22,12 @@ fn a_run_is_found_by_month(rt: HostRuntime) -> Result<(), Fail> {
     let found = books.run(&EntryMonth::read("2025-01")?).ok_or("no run")?;
     assert!(rt; *found == run()?);
     assert_eq!(rt; books.runs().count(), 1);
+    assert!(rt;
+        books
+            .run_months()
+            .copied()
+            .eq([EntryMonth::read("2025-01")?])
+    );
     Ok(())
 }
 

@@ -2,8 +2,8 @@ use Rattle.std.proofs.Common.{◌≡◌, ◌∙◌, sym, []}
 use Rattle.std.specs.FinMap.{same_map}
 use Rattle.std.specs.Map.Iter.{deref}
 use Rattle.std.proofs.lemmas.Map.Iter.{rest_all}
+use Rattle.dh_model.proofs.KeyOrders.{nat_total, nat_ties, pair_total, pair_ties, text_total, text_ties}
 use Rattle.dh_model.proofs.MapLemmas.{get-made}
-use Rattle.dh_books.proofs.Orders.{nat_total, nat_ties, pair_total, pair_ties, text_total, text_ties}
 use Rattle.dh_lists.proofs.FirstWins.{nothing_after}
 use Rattle.dh_lists.proofs.vacancies.by_rent.Goals as goal
 

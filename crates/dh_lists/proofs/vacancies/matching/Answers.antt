@@ -4,8 +4,8 @@ use Rattle.std.proofs.lemmas.Result.{IfOk-weaker}
 use Rattle.std.proofs.lemmas.Iterator.{YieldsList-from_map, items_from_collect}
 use Rattle.std.proofs.lemmas.Iterator.Consumers.{YieldsList-at, YieldsList-from_rest}
 use Rattle.dh_model.specs.Answers.{matching}
+use Rattle.dh_model.proofs.KeyOrders.{nat_total, pair_total, text_total}
 use Rattle.dh_model.proofs.MapLemmas.{entries-made}
-use Rattle.dh_books.proofs.Orders.{nat_total, pair_total, text_total}
 use Rattle.dh_lists.proofs.vacancies.matching.Goals as goal
 
 pub returns : goal.returns

@@ -3,7 +3,7 @@ use Rattle.std.specs.Ordering.{nat_cmp}
 use Rattle.std.specs.BTreeMap as tree
 use Rattle.std.specs.Cmp.{eq_by_cmp_equiv}
 use Rattle.dh_model.specs.Books.{pair_cmp, text_cmp}
-use Rattle.dh_books.proofs.Orders.{nat_total, nat_ties, pair_total, pair_ties, text_total, text_ties}
+use Rattle.dh_model.proofs.KeyOrders.{nat_total, nat_ties, pair_total, pair_ties, text_total, text_ties}
 use Rattle.dh_lists.proofs.FirstWins.{put_new, put_old}
 use Rattle.dh_lists.proofs.vacancies.put_first.Goals as goal
 

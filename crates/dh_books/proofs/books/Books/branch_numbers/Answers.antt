@@ -1,8 +1,8 @@
 use Rattle.std.proofs.Common.{◌∙◌, ap, sym, map}
 use Rattle.std.specs.FinMap as fin
 use Rattle.dh_model.specs.Books.{State}
+use Rattle.dh_model.proofs.KeyOrders.{text_total}
 use Rattle.dh_model.proofs.MapLemmas.{entries-made}
-use Rattle.dh_books.proofs.Orders.{text_total}
 use Rattle.dh_books.proofs.books.Books.branch_numbers.Goals as goal
 
 pub returns : goal.returns

@@ -1,8 +1,8 @@
 use Rattle.std.proofs.Common.{◌∙◌, sym, ap}
 use Rattle.std.specs.FinMap as fin
 use Rattle.dh_model.specs.Books.{State}
+use Rattle.dh_model.proofs.KeyOrders.{nat_total, pair_total, text_total}
 use Rattle.dh_model.proofs.MapLemmas.{get-made}
-use Rattle.dh_books.proofs.Orders.{nat_total, pair_total, text_total}
 use Rattle.dh_books.proofs.books.Books.inspection.Goals as goal
 
 pub returns : goal.returns

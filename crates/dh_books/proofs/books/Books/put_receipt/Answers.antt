@@ -1,8 +1,8 @@
 use Rattle.std.proofs.Common.{◌∙◌, ap}
 use Rattle.std.specs.FinMap as fin
 use Rattle.dh_model.specs.Books.{State}
+use Rattle.dh_model.proofs.KeyOrders.{nat_ties, nat_total}
 use Rattle.dh_model.proofs.MapLemmas.{one-given}
-use Rattle.dh_books.proofs.Orders.{nat_ties, nat_total}
 use Rattle.dh_books.proofs.books.Books.put_receipt.Goals as goal
 
 pub returns-clause-ok : goal.returns-clause-ok

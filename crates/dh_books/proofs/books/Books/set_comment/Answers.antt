@@ -4,8 +4,8 @@ use Rattle.std.specs.Option.{option_copied_mut}
 use Rattle.dh_types.specs.declared.viewing.Viewing.{Viewing}
 use Rattle.dh_model.specs.Books.{State}
 use Rattle.dh_model.specs.Machine.{with_comment}
+use Rattle.dh_model.proofs.KeyOrders.{pair_ties, pair_total, text_ties, text_total}
 use Rattle.dh_model.proofs.MapLemmas.{get-made, one-given}
-use Rattle.dh_books.proofs.Orders.{pair_ties, pair_total, text_ties, text_total}
 use Rattle.dh_books.proofs.Places.{with_viewings}
 use Rattle.dh_books.proofs.books.Books.set_comment.Goals as goal
 

@@ -4,8 +4,8 @@ use Rattle.std.specs.Option.{option_copied_mut}
 use Rattle.dh_types.specs.declared.property.Property.{Property}
 use Rattle.dh_model.specs.Books.{State}
 use Rattle.dh_model.specs.Machine.{at_rent}
+use Rattle.dh_model.proofs.KeyOrders.{text_ties, text_total}
 use Rattle.dh_model.proofs.MapLemmas.{get-made, one-given}
-use Rattle.dh_books.proofs.Orders.{text_ties, text_total}
 use Rattle.dh_books.proofs.Places.{with_properties}
 use Rattle.dh_books.proofs.books.Books.set_rent.Goals as goal
 

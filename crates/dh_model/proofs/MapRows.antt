@@ -12,7 +12,7 @@ use Rattle.dh_model.specs.Rules.{Each, EachTwo, IsThere}
 use Rattle.dh_model.proofs.Among.{Among, among, in_map, is_among}
 use Rattle.dh_model.proofs.BranchDues.{holds}
 use Rattle.dh_model.proofs.Rising.{Rises}
-use Rattle.dh_laws.proofs.Pairs.{rises_put, pairs_rise, rising_pairs}
+use Rattle.dh_model.proofs.Pairs.{rises_put, pairs_rise, rising_pairs}
 
 pub inside : {X : Type 0} (x y : X) → Some x ≡ Some y → x ≡ y
 inside x y e = cc
