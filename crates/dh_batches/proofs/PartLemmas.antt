@@ -22,9 +22,9 @@ use Rattle.dh_model.specs.Runs.{at_least, greatest_lease, is_property_of, part_o
 use Rattle.dh_model.specs.BatchLaws.{AreNumbered}
 use Rattle.dh_model.proofs.Among.{Among}
 use Rattle.dh_model.proofs.BranchDues.{leases_rise, number_of}
+use Rattle.dh_model.proofs.KeyOrders.{text_ties, text_total}
 use Rattle.dh_model.proofs.Rising.{Lesser, Rises}
 use Rattle.dh_types.proofs.SameValues.{texts}
-use Rattle.dh_books.proofs.Orders.{text_ties, text_total}
 use Rattle.dh_leases.proofs.DueIn.{its_due, none_after, none_before}
 
 -- of one lease's dues a month has one at most
@@ -61,13 +61,22 @@ module _ {X : Type 0} (p : X → Bool) where
   kept_or_not true x ks xs h = omega arith
   kept_or_not false x ks xs h = omega arith
 
-  no_more_kept : (xs : List X) → length (filter p xs) ≤ length xs
+  pub no_more_kept : (xs : List X) → length (filter p xs) ≤ length xs
   no_more_kept [] = omega arith
   no_more_kept (x ∷ xs) = kept_or_not (p x) x (filter p xs) xs (no_more_kept xs)
 
 -- a part with one charge more
 abbrev pub added : Part → Charge → Part
 added part charge = record part { through = Some (at_least part.through charge.lease); count = part.count + 1; total = part.total + charge.amount }
+
+pub charged : (month : ℕ) (branch : List ℕ) (charges : List Charge) (charge : Charge) → part_of month branch (charges ++ charge ∷ []) ≡ added (part_of month branch charges) charge
+charged month branch charges charge =
+    let through = fold-append (λ most c. Some (at_least most c.lease)) None charges (charge ∷ []) in
+    let count = length-append charges (charge ∷ []) in
+    let total = sum_by_push (λ c. c.amount) charges charge in
+    ap (λ (t : Option ℕ). let p : Part = record { month = month; branch = branch; through = t; count = length (charges ++ charge ∷ []); total = total_of (charges ++ charge ∷ []) } in p) through
+    ∙ ap (λ (n : ℕ). let p : Part = record { month = month; branch = branch; through = Some (at_least (greatest_lease charges) charge.lease); count = n; total = total_of (charges ++ charge ∷ []) } in p) count
+    ∙ ap (λ (n : ℕ). let p : Part = record { month = month; branch = branch; through = Some (at_least (greatest_lease charges) charge.lease); count = length charges + 1; total = n } in p) total
 
 module _ (properties : FinMap text_cmp Property) (month : ℕ) where
   abbrev pub of_branch : List ℕ → Lease → Bool
@@ -82,17 +91,14 @@ module _ (properties : FinMap text_cmp Property) (month : ℕ) where
       let kept = no_more_kept (of_branch branch) leases in
       omega (arith, dues, kept)
 
-  charged : (branch : List ℕ) (charges : List Charge) (charge : Charge) → part_of month branch (charges ++ charge ∷ []) ≡ added (part_of month branch charges) charge
-  charged branch charges charge =
-      let through = fold-append (λ most c. Some (at_least most c.lease)) None charges (charge ∷ []) in
-      let count = length-append charges (charge ∷ []) in
-      let total = sum_by_push (λ c. c.amount) charges charge in
-      ap (λ (t : Option ℕ). let p : Part = record { month = month; branch = branch; through = t; count = length (charges ++ charge ∷ []); total = total_of (charges ++ charge ∷ []) } in p) through
-      ∙ ap (λ (n : ℕ). let p : Part = record { month = month; branch = branch; through = Some (at_least (greatest_lease charges) charge.lease); count = n; total = total_of (charges ++ charge ∷ []) } in p) count
-      ∙ ap (λ (n : ℕ). let p : Part = record { month = month; branch = branch; through = Some (at_least (greatest_lease charges) charge.lease); count = length charges + 1; total = n } in p) total
-
   kept_last : (branch : List ℕ) (leases : List Lease) (lease : Lease) → of_branch branch lease ≡ true → filter (of_branch branch) (leases ++ lease ∷ []) ≡ filter (of_branch branch) leases ++ lease ∷ []
   kept_last branch leases lease e = filter-append (of_branch branch) leases (lease ∷ []) ∙ ap (λ b. filter (of_branch branch) leases ++ cond b (lease ∷ []) []) e
+
+  left_last : (branch : List ℕ) (leases : List Lease) (lease : Lease) → of_branch branch lease ≡ false → filter (of_branch branch) (leases ++ lease ∷ []) ≡ filter (of_branch branch) leases
+  left_last branch leases lease e =
+      filter-append (of_branch branch) leases (lease ∷ [])
+      ∙ ap (λ b. filter (of_branch branch) leases ++ cond b (lease ∷ []) []) e
+      ∙ append-nil (filter (of_branch branch) leases)
 
   pub one_charge_more : (branch : List ℕ) (leases : List Lease) (lease : Lease) (charge : Charge) → of_branch branch lease ≡ true → charge ∷ [] ≡ dues_among (lease ∷ []) month
       → so_far (leases ++ lease ∷ []) branch ≡ added (so_far leases branch) charge
@@ -100,14 +106,11 @@ module _ (properties : FinMap text_cmp Property) (month : ℕ) where
       ap (λ ls. part_of month branch (dues_among ls month)) (kept_last branch leases lease e)
       ∙ ap (part_of month branch) (dues_of_two (filter (of_branch branch) leases) (lease ∷ []) month)
       ∙ ap (λ cs. part_of month branch (dues_among (filter (of_branch branch) leases) month ++ cs)) (sym its)
-      ∙ charged branch (dues_among (filter (of_branch branch) leases) month) charge
+      ∙ charged month branch (dues_among (filter (of_branch branch) leases) month) charge
 
   pub no_charge_more : (branch : List ℕ) (leases : List Lease) (lease : Lease) → of_branch branch lease ≡ false → so_far (leases ++ lease ∷ []) branch ≡ so_far leases branch
   no_charge_more branch leases lease e =
-      ap (λ ls. part_of month branch (dues_among ls month))
-      (filter-append (of_branch branch) leases (lease ∷ [])
-      ∙ ap (λ b. filter (of_branch branch) leases ++ cond b (lease ∷ []) []) e
-      ∙ append-nil (filter (of_branch branch) leases))
+      ap (λ ls. part_of month branch (dues_among ls month)) (left_last branch leases lease e)
 
   same_branch : (branch q : List ℕ) → is_at (text_cmp branch) q ≡ true → branch ≡ q
   same_branch branch q e = text_ties branch q ((Equal-is (text_cmp branch q)).0 e)
@@ -120,6 +123,37 @@ module _ (properties : FinMap text_cmp Property) (month : ℕ) where
         absurd (false≢true (sym e ∙ ties))
     | inr differs ↦ differs
   ]
+
+  -- the charge comes behind those of its branch
+  pub due_put : (leases : List Lease) (lease : Lease) (property : Property) (charge : Charge) (q : List ℕ) → get properties lease.terms.property ≡ Some property
+      → charge ∷ [] ≡ dues_among (lease ∷ []) month
+      → dues_among (filter (of_branch q) leases) month ++ cond (is_at (text_cmp property.branch) q) (charge ∷ []) [] ≡ dues_among (filter (of_branch q) (leases ++ lease ∷ [])) month
+  due_put leases lease property charge q there its =
+      let dues = dues_among (filter (of_branch q) leases) month in
+      elim (cases_Bool (is_at (text_cmp property.branch) q)) [
+        | inl same ↦
+            ap (λ b. dues ++ cond b (charge ∷ []) []) same ∙ ap (λ cs. dues ++ cs) its ∙ sym (dues_of_two (filter (of_branch q) leases) (lease ∷ []) month)
+            ∙ ap (λ ls. dues_among ls month) (sym (kept_last q leases lease (ap (is_property_of q) there ∙ (texts property.branch q).1 (same_branch property.branch q same))))
+        | inr other ↦
+            ap (λ b. dues ++ cond b (charge ∷ []) []) other ∙ append-nil dues
+            ∙ ap (λ ls. dues_among ls month) (sym (left_last q leases lease (ap (is_property_of q) there ∙ other_branch property.branch q other)))
+      ]
+
+  -- what is not due, or at no branch, changes nothing
+  pub no_due_more : (leases : List Lease) (lease : Lease) (q : List ℕ) → [] ≡ dues_among (lease ∷ []) month
+      → dues_among (filter (of_branch q) leases) month ≡ dues_among (filter (of_branch q) (leases ++ lease ∷ [])) month
+  no_due_more leases lease q none =
+      let dues = dues_among (filter (of_branch q) leases) month in
+      elim (cases_Bool (of_branch q lease)) [
+        | inl its ↦
+            sym (append-nil dues) ∙ ap (λ cs. dues ++ cs) none ∙ sym (dues_of_two (filter (of_branch q) leases) (lease ∷ []) month)
+            ∙ ap (λ ls. dues_among ls month) (sym (kept_last q leases lease its))
+        | inr other ↦ ap (λ ls. dues_among ls month) (sym (left_last q leases lease other))
+      ]
+
+  pub no_branch_more : (leases : List Lease) (lease : Lease) (q : List ℕ) → get properties lease.terms.property ≡ None
+      → dues_among (filter (of_branch q) leases) month ≡ dues_among (filter (of_branch q) (leases ++ lease ∷ [])) month
+  no_branch_more leases lease q none = ap (λ ls. dues_among ls month) (sym (left_last q leases lease (ap (is_property_of q) none)))
 
   -- another branch keeps what it has
   pub row_kept : (leases : List Lease) (lease : Lease) (property : Property) (q : List ℕ) (old new : Option Part) (part : Part)

@@ -1,6 +1,6 @@
 //! How many batches a rent run takes.
 
-ghost use Rattle.std.specs.Prelude.{◌≡◌, ◌≤◌, IfOk};
+ghost use Rattle.std.specs.Prelude.{◌≡◌, ◌+◌, ◌≤◌, IfOk};
 ghost use Rattle.dh_model.specs.Runs.{batch_size, batches, batches_for};
 
 use crate::parts::branch_parts;
@@ -11,13 +11,13 @@ use std::alloc::{AllocError, Global};
 /// How many charges one batch has at most.
 pub const BATCH_SIZE: u64 = 50;
 
-// The batches of a branch with so many dues: one at least.
-fn batches_for(count: u32) -> u128
+/// The batches of a branch with so many dues: one at least.
+pub fn batches_for(count: u64) -> u128
     ensures value { result ≡ batches_for batch_size count }
-    ensures bound { result ≤ 4294967296 }
+    ensures bound { result ≤ count + 1 }
 {
-    let full = (u64::from(count) + (BATCH_SIZE - 1)) / BATCH_SIZE;
-    u128::from(full.max(1))
+    let full = (u128::from(count) + u128::from(BATCH_SIZE - 1)) / u128::from(BATCH_SIZE);
+    full.max(1)
 }
 
 /// How many batches the month's rent run takes, over all branches.
@@ -27,7 +27,7 @@ pub fn batches(alloc: Global, books: &Books, month: EntryMonth) -> Result<u128, 
     let parts = branch_parts(alloc, books, month)?;
     let mut all = 0;
     for part in parts.iter() {
-        all += batches_for(part.count);
+        all += batches_for(u64::from(part.count));
     }
     Ok(all)
 }

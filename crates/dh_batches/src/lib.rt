@@ -2,8 +2,15 @@
 #![tactic(auto)]
 
 mod batching;
+mod by_branch;
 mod parts;
+mod posted;
 mod posting;
 
-pub use batching::{BATCH_SIZE, batches};
+pub use batching::{BATCH_SIZE, batches, batches_for};
+pub use parts::branch_parts;
+pub use posted::{posted_charges, posted_parts, whole, with_posted};
 pub use posting::with_run;
+
+#[cfg(test)]
+mod tests;

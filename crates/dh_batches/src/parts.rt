@@ -1,6 +1,6 @@
 //! What each branch has of a rent run.
 
-ghost use Rattle.std.specs.Prelude.{◌≡◌, ℕ, ◌+◌, ◌*◌, ◌<◌, ◌≤◌, List, [], Some, IfOk, map};
+ghost use Rattle.std.specs.Prelude.{◌≡◌, ℕ, ◌+◌, ◌*◌, ◌<◌, ◌≤◌, List, [], Some, IfOk, length, map};
 ghost use Rattle.std.specs.Option.{unwrap_or};
 ghost use Rattle.std.specs.BTreeMap as tree;
 ghost use Rattle.std.specs.FinMap.{keys};
@@ -52,6 +52,18 @@ fn with_charge(part: Part, charge: &Charge) -> Part
     }
 }
 
+/// What the branch has where these are its charges.
+pub(crate) fn part_with(month: EntryMonth, branch: Id, charges: &[Charge]) -> Part
+    requires { length charges.now ≤ 100000000 }
+    ensures { result ≡ part_of month branch charges.now }
+{
+    let mut part = without_charges(month, branch);
+    for charge in charges {
+        part = with_charge(part, charge);
+    }
+    part
+}
+
 // What each branch with dues in the month has of them.
 fn charged_parts(
     alloc: Global,
@@ -79,7 +91,7 @@ fn charged_parts(
 }
 
 /// The part row that each branch has after the month's last batch, rising by branch.
-pub(crate) fn branch_parts(
+pub fn branch_parts(
     alloc: Global,
     books: &Books,
     month: EntryMonth,

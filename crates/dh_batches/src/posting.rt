@@ -35,7 +35,7 @@ fn summed_up(books: &Books, month: EntryMonth, key: Key) -> Run
 }
 
 // Puts the charges, of which the first counts where two have one key.
-fn put_charges(books: &mut Books, mut charges: Vec<Charge>) -> Result<(), AllocError>
+pub(crate) fn put_charges(books: &mut Books, mut charges: Vec<Charge>) -> Result<(), AllocError>
     ensures { OnOk result (books.new ≡ record books.old { books = record books.old.books { charges = with_rows charge_key charges.items books.old.books.charges } }) }
 {
     while let Some(charge) = charges.pop() {
@@ -45,7 +45,7 @@ fn put_charges(books: &mut Books, mut charges: Vec<Charge>) -> Result<(), AllocE
 }
 
 // Puts the parts, of which the first counts where two have one key.
-fn put_parts(books: &mut Books, mut parts: Vec<Part>) -> Result<(), AllocError>
+pub(crate) fn put_parts(books: &mut Books, mut parts: Vec<Part>) -> Result<(), AllocError>
     ensures { OnOk result (books.new ≡ record books.old { books = record books.old.books { parts = with_rows part_key parts.items books.old.books.parts } }) }
 {
     while let Some(part) = parts.pop() {

@@ -2,7 +2,7 @@ use Rattle.std.proofs.Common.{◌∙◌, ap, sym, arith}
 use Rattle.std.proofs.lemmas.List.{nil_from_length}
 use Rattle.dh_model.specs.Books.{State, with_rows}
 use Rattle.dh_model.specs.Runs.{part_key}
-use Rattle.dh_books.proofs.Orders.{nat_ties, nat_total, pair_ties, pair_total, text_ties, text_total}
+use Rattle.dh_model.proofs.KeyOrders.{nat_ties, nat_total, pair_ties, pair_total, text_ties, text_total}
 use Rattle.dh_batches.proofs.RowLemmas.{last_row, no_rows}
 use Rattle.dh_batches.proofs.posting.put_parts.Goals as goal
 

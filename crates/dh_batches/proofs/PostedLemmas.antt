@@ -1,0 +1,143 @@
+-- What is posted after so many batches: the first of each branch's dues.
+use Rattle.std.proofs.Common.{◌≡◌, ◌∙◌, refl, sym, ap, subst, inl, inr, ℕ, suc, ◌+◌, ◌-◌, ◌*◌, ◌/◌, ◌<◌, ◌≤◌, Bool, true, false, cond, nat_lt, List, [], ◌∷◌, ◌++◌, length, map, take, append-nil, Ordering, Less, Equal, Greater, is_lt, le-div_iff_mul-le, le-ltb, lt-ltb, arith}
+use Rattle.std.specs.List.{filter, flat_map, sum_by}
+use Rattle.std.specs.Ordering.{ordering_reverse}
+use Rattle.std.specs.Cmp.{IsTotalOrder}
+use Rattle.std.specs.FinMap.{entries, entries_sorted, is_sorted, keys}
+use Rattle.std.proofs.lemmas.Bool.{cases_lt}
+use Rattle.std.proofs.lemmas.Cmp.{nat_list_cmp_total, tied_itself}
+use Rattle.std.proofs.lemmas.Grind.{flat_map-append}
+use Rattle.std.proofs.lemmas.List.{map-append, take_all}
+use Rattle.std.proofs.lemmas.List.Elements.{filter-append}
+use Rattle.std.proofs.lemmas.List.Sums.{sum_by_push}
+use Rattle.dh_types.specs.declared.lease.Charge.{Charge}
+use Rattle.dh_types.specs.declared.run.Part.{Part}
+use Rattle.dh_model.specs.Books.{Books, text_cmp}
+use Rattle.dh_model.specs.Runs.{batches_before, batches_for, batches_of_branch, dues_of_branch, part_of, place_among, posted_of_branch}
+use Rattle.dh_model.specs.BatchLaws.{AreNumbered}
+use Rattle.dh_model.proofs.Among.{Among}
+use Rattle.dh_model.proofs.BatchLemmas.{places_numbered}
+use Rattle.dh_model.proofs.BranchDues.{holds, keys_rise}
+use Rattle.dh_model.proofs.Rising.{IsBefore, Numbered, Rises}
+
+is_less : (r : Ordering) → is_lt r ≡ true → r ≡ Less
+is_less Less e = refl
+is_less Equal e = cc
+is_less Greater e = cc
+
+in_the_middle : {X : Type 0} (xs ys : List X) (x : X) → Among (xs ++ x ∷ ys) x
+in_the_middle [] ys x = inl refl
+in_the_middle (y ∷ xs) ys x = inr (in_the_middle xs ys x)
+
+module _ {K : Type 0} (R : K → K → Ordering) (o : IsTotalOrder R) where
+  not_back : (x y : K) → IsBefore R x y → is_lt (R y x) ≡ false
+  not_back x y h = ap is_lt (o.antisymm y x ∙ ap ordering_reverse (is_less (R x y) h))
+
+  none_lesser : (k : K) (ks : List K) → ((y : K) → Among ks y → IsBefore R k y) → filter (λ other. is_lt (R other k)) ks ≡ []
+  none_lesser k [] above = refl
+  none_lesser k (y ∷ ks) above =
+      ap (λ b. cond b (y ∷ filter (λ other. is_lt (R other k)) ks) (filter (λ other. is_lt (R other k)) ks)) (not_back k y (above y (inl refl)))
+      ∙ none_lesser k ks (λ z a. above z (inr a))
+
+  -- of keys that rise the lesser ones stand before
+  lesser_are : (xs ys : List K) (k : K) → Rises (IsBefore R) (xs ++ k ∷ ys) → filter (λ other. is_lt (R other k)) (xs ++ k ∷ ys) ≡ xs
+  lesser_are [] ys k r =
+      ap (λ b. cond b (k ∷ filter (λ other. is_lt (R other k)) ys) (filter (λ other. is_lt (R other k)) ys)) (ap is_lt (tied_itself o k))
+      ∙ none_lesser k ys r.0
+  lesser_are (x ∷ xs) ys k r =
+      ap (λ b. cond b (x ∷ filter (λ other. is_lt (R other k)) (xs ++ k ∷ ys)) (filter (λ other. is_lt (R other k)) (xs ++ k ∷ ys))) (r.0 k (in_the_middle xs ys k))
+      ∙ ap (λ zs. x ∷ zs) (lesser_are xs ys k r.1)
+
+module _ {X : Type 0} (number : X → ℕ) (test : ℕ → Bool) (limit : ℕ) (passes : (n : ℕ) → n < limit → test n ≡ true) (fails : (n : ℕ) → limit ≤ n → test n ≡ false) where
+  -- of elements that are numbered those below the limit are the first ones
+  first_kept : (a : ℕ) (xs : List X) → Numbered number a xs → filter (λ x. test (number x)) xs ≡ take (limit - a) xs
+  first_kept a [] is = sym (take_all (limit - a) [] (omega arith))
+  first_kept a (x ∷ xs) is =
+      let rest = first_kept (a + 1) xs is.1 in
+      elim (cases_lt a limit) [
+        | inl below ↦
+            let more : limit - a ≡ suc (limit - (a + 1)) = omega (arith, below) in
+            ap (λ b. cond b (x ∷ filter (λ y. test (number y)) xs) (filter (λ y. test (number y)) xs)) (ap test is.0 ∙ passes a below)
+            ∙ ap (λ ys. x ∷ ys) rest ∙ sym (ap (λ m. take m (x ∷ xs)) more)
+        | inr above ↦
+            let none : limit - a ≡ 0 = omega (arith, above) in
+            let still : limit - (a + 1) ≡ 0 = omega (arith, above) in
+            ap (λ b. cond b (x ∷ filter (λ y. test (number y)) xs) (filter (λ y. test (number y)) xs)) (ap test is.0 ∙ fails a above)
+            ∙ rest ∙ ap (λ m. take m xs) still ∙ sym (ap (λ m. take m (x ∷ xs)) none)
+      ]
+
+module _ (size : ℕ) (pos : 1 ≤ size) (before done : ℕ) where
+  early : (place : ℕ) → place < (done - before) * size → nat_lt (before + place / size) done ≡ true
+  early place h = elim (cases_lt (place / size) (done - before)) [
+    | inl less ↦ lt-ltb (before + place / size) done (omega (arith, less))
+    | inr more ↦ let enough = le-div_iff_mul-le pos in let over : (done - before) * size ≤ place = enough.0 more in absurd (omega (arith, h, over))
+  ]
+
+  late : (place : ℕ) → (done - before) * size ≤ place → nat_lt (before + place / size) done ≡ false
+  late place h =
+      let enough = le-div_iff_mul-le pos in
+      let over : done - before ≤ place / size = enough.1 h in
+      le-ltb (before + place / size) done (omega (arith, over))
+
+-- the batches that are left after those of these branches
+abbrev pub left_after : ℕ → Books → ℕ → ℕ → List (List ℕ) → ℕ
+left_after size books month done branches = done - sum_by (batches_of_branch size books month) branches
+
+module _ (size : ℕ) (books : Books) (month done : ℕ) (pos : 1 ≤ size) (are : AreNumbered books) where
+  rise : Rises (IsBefore text_cmp) (keys books.branches)
+  rise = keys_rise text_cmp (entries books.branches) (holds (is_sorted text_cmp (entries books.branches)) (entries_sorted books.branches))
+
+  first_posted : (branch : List ℕ) → posted_of_branch size books month done branch ≡ take ((done - batches_before size books month branch) * size) (dues_of_branch books month branch)
+  first_posted branch =
+      let before = batches_before size books month branch in
+      let dues = dues_of_branch books month branch in
+      first_kept (place_among size dues) (λ place. nat_lt (before + place / size) done) ((done - before) * size) (early size pos before done) (late size pos before done)
+      0 dues (places_numbered size books month pos are branch)
+      ∙ ap (λ m. take m dues) (omega arith)
+
+  module _ (xs ys : List (List ℕ)) (branch : List ℕ) (all : keys books.branches ≡ xs ++ branch ∷ ys) (left : ℕ) (is : left ≡ left_after size books month done xs) where
+    before_are : batches_before size books month branch ≡ sum_by (batches_of_branch size books month) xs
+    before_are =
+        ap (λ ks. sum_by (batches_of_branch size books month) (filter (λ other. is_lt (text_cmp other branch)) ks)) all
+        ∙ ap (sum_by (batches_of_branch size books month)) (lesser_are text_cmp nat_list_cmp_total xs ys branch (subst (Rises (IsBefore text_cmp)) all rise))
+
+    left_before : left ≡ done - batches_before size books month branch
+    left_before = is ∙ ap (λ n. done - n) (sym before_are)
+
+    module _ (charges : List Charge) (dues : charges ≡ dues_of_branch books month branch) where
+      pub posted_next : take (left * size) charges ≡ posted_of_branch size books month done branch
+      posted_next = ap (take (left * size)) dues ∙ ap (λ n. take (n * size) (dues_of_branch books month branch)) left_before ∙ sym (first_posted branch)
+
+      pub charges_next : (posted : List Charge) → posted ≡ flat_map (posted_of_branch size books month done) xs
+          → posted ++ take (left * size) charges ≡ flat_map (posted_of_branch size books month done) (xs ++ branch ∷ [])
+      charges_next posted had =
+          ap (λ cs. cs ++ take (left * size) charges) had
+          ∙ ap (λ cs. flat_map (posted_of_branch size books month done) xs ++ cs) (posted_next ∙ sym (append-nil (posted_of_branch size books month done branch)))
+          ∙ sym (flat_map-append (posted_of_branch size books month done) xs (branch ∷ []))
+
+      pub left_next : left - batches_for size (length charges) ≡ left_after size books month done (xs ++ branch ∷ [])
+      left_next =
+          let all_of = sum_by_push (batches_of_branch size books month) xs branch in
+          let its = ap (λ cs. batches_for size (length cs)) dues in
+          omega (arith, is, all_of, its)
+
+      pub parts_next : (parts : List Part) (part : Part) → parts ≡ map (λ b. part_of month b (posted_of_branch size books month done b)) (filter (λ b. nat_lt (batches_before size books month b) done) xs)
+          → 0 < left → part ≡ part_of month branch (take (left * size) charges)
+          → parts ++ part ∷ [] ≡ map (λ b. part_of month b (posted_of_branch size books month done b)) (filter (λ b. nat_lt (batches_before size books month b) done) (xs ++ branch ∷ []))
+      parts_next parts part had some its =
+          let row = λ (b : List ℕ). part_of month b (posted_of_branch size books month done b) in
+          let begun = λ (b : List ℕ). nat_lt (batches_before size books month b) done in
+          let begins : nat_lt (batches_before size books month branch) done ≡ true = lt-ltb (batches_before size books month branch) done (omega (arith, some, left_before)) in
+          ap (λ ps. ps ++ part ∷ []) had
+          ∙ ap (λ p. map row (filter begun xs) ++ p ∷ []) (its ∙ ap (part_of month branch) posted_next)
+          ∙ sym (map-append row (filter begun xs) (branch ∷ []))
+          ∙ ap (map row) (sym (filter-append begun xs (branch ∷ []) ∙ ap (λ b. filter begun xs ++ cond b (branch ∷ []) []) begins))
+
+    pub no_part_next : (parts : List Part) → parts ≡ map (λ b. part_of month b (posted_of_branch size books month done b)) (filter (λ b. nat_lt (batches_before size books month b) done) xs)
+        → left ≡ 0
+        → parts ≡ map (λ b. part_of month b (posted_of_branch size books month done b)) (filter (λ b. nat_lt (batches_before size books month b) done) (xs ++ branch ∷ []))
+    no_part_next parts had none =
+        let row = λ (b : List ℕ). part_of month b (posted_of_branch size books month done b) in
+        let begun = λ (b : List ℕ). nat_lt (batches_before size books month b) done in
+        let waits : nat_lt (batches_before size books month branch) done ≡ false = le-ltb (batches_before size books month branch) done (omega (arith, none, left_before)) in
+        had ∙ ap (map row) (sym (filter-append begun xs (branch ∷ []) ∙ ap (λ b. filter begun xs ++ cond b (branch ∷ []) []) waits ∙ append-nil (filter begun xs)))
