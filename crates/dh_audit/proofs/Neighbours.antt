@@ -15,9 +15,9 @@ use Rattle.dh_model.specs.Books.{pair_cmp, text_cmp}
 use Rattle.dh_model.specs.Checks.{is_same_text}
 use Rattle.dh_model.specs.Leases.{overlap}
 use Rattle.dh_model.proofs.Among.{Among, is_among, of_map}
+use Rattle.dh_model.proofs.KeyOrders.{nat_total, pair_total, text_ties, text_total}
 use Rattle.dh_model.proofs.LeaseLemmas.{overlap_is_by_ends}
 use Rattle.dh_model.proofs.Rising.{Rises}
-use Rattle.dh_books.proofs.Orders.{nat_total, pair_total, text_ties, text_total}
 use Rattle.dh_audit.specs.declared.stays.Stay.{Stay}
 use Rattle.dh_audit.specs.Stays.{IsSound, makes_way, stay_key, stay_of}
 use Rattle.dh_audit.proofs.Pairs.{false_from_not, pairs_from_rises, rises_from_pairs, rises_like, rises_mapped, rises_unmapped}

@@ -17,8 +17,8 @@ use Rattle.dh_types.proofs.SameValues.{numbers, receipt_kinds, texts}
 use Rattle.dh_model.specs.Books.{pair_cmp, text_cmp}
 use Rattle.dh_model.specs.Checks.{is_same_text}
 use Rattle.dh_model.proofs.Among.{Among, in_filter, in_map, is_among, of_filter, of_map}
+use Rattle.dh_model.proofs.KeyOrders.{nat_ties, nat_total, pair_ties, pair_total, text_ties, text_total}
 use Rattle.dh_model.proofs.Rising.{Rises}
-use Rattle.dh_books.proofs.Orders.{nat_ties, nat_total, pair_ties, pair_total, text_ties, text_total}
 
 pub among_at : {X : Type 0} (xs : List X) (i : ℕ) (d : X) → i < length xs → Among xs (slice_index_or xs i d)
 among_at [] i d h = absurd (omega (arith, h))
@@ -81,7 +81,7 @@ false_from_not true h = absurd (h refl)
 false_from_not false h = refl
 
 module _ {K : Type 0} {R : K → K → Ordering} (o : IsTotalOrder R) (ties : IsAntisymmetric R) where
-  same_key : (a b : K) → Decides (eq_by_cmp R a b) (a ≡ b)
+  pub same_key : (a b : K) → Decides (eq_by_cmp R a b) (a ≡ b)
   same_key a b = (λ h. ties a b ((Equal-is (R a b)).0 h), λ e. subst (λ b. is_eq (R a b) ≡ true) e ((Equal-is (R a a)).1 (tied_itself o a)))
 
   -- no two are the same

@@ -1,3 +1,5 @@
 pub mod Audit
+pub mod ClosedMonths
 pub mod Counts
+pub mod OpenFields
 pub mod Stays

@@ -1,8 +1,11 @@
 //! Books of a few rows, and the rules that rows beside them break.
 
+mod closed_months;
 mod leases;
+mod open_months;
 mod receipts;
 mod references;
+mod runs;
 mod staff;
 
 ghost use Rattle.std.specs.Prelude.{◌≡◌};

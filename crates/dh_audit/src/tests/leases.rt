@@ -1,7 +1,8 @@
 //! The months and starts of leases, and what no two of them share.
 
 use super::{base, lease};
-use crate::{broken_by_rows, leases_in_time, leases_never_overlap, one_start_a_day};
+use crate::auditing::broken_by_rows;
+use crate::{leases_in_time, leases_never_overlap, one_start_a_day};
 use std::test::Fail;
 
 #[test]

@@ -1,7 +1,8 @@
 //! Deposits, keys and the numbers of receipts.
 
 use super::base;
-use crate::{broken_by_rows, deposits_in_order, keys_in_order};
+use crate::auditing::broken_by_rows;
+use crate::{deposits_in_order, keys_in_order};
 use dh_types::{
     Amount, EntryDay, EntryMonth, Key, LeaseNo, Payment, Pence, Receipt, ReceiptKind, ReceiptNo,
     Run,

@@ -1,7 +1,8 @@
 //! What a row names is there.
 
 use super::{base, client, lease, member, property, registration};
-use crate::{broken_by_rows, names_what_is_there};
+use crate::auditing::broken_by_rows;
+use crate::names_what_is_there;
 use dh_types::{
     Amount, Charge, ChargeIndex, Comment, Day, EntryDay, EntryMonth, Id, Inspection, Key, LeaseNo,
     Part, Payment, Pence, Receipt, ReceiptKind, ReceiptNo, Rent, Run, Viewing,

@@ -1,7 +1,8 @@
 //! Whose branch members of staff are of, and how much they manage.
 
 use super::{base, property, registration};
-use crate::{broken_by_rows, manages_at_most_hundred, staff_of_the_branch};
+use crate::auditing::broken_by_rows;
+use crate::{manages_at_most_hundred, staff_of_the_branch};
 use std::test::Fail;
 
 #[test]
