@@ -6,6 +6,7 @@ mod machine;
 mod runs;
 
 pub use changes::{accepted, apply_change};
+pub use dh_audit::audit;
 pub use dh_batches::{BATCH_SIZE, batches};
 pub use dh_books::Books;
 pub use dh_leases::dues;

@@ -7,8 +7,10 @@ use dh_types::{
 use std::alloc::Global;
 use std::test::Fail;
 
+mod audits;
 mod batches;
 mod examples;
+mod judged;
 mod receipts;
 mod runs;
 

@@ -13,7 +13,7 @@ use std::alloc::Global;
 use std::test::Fail;
 
 // The books after the line, whose reply is the one behind the arrow.
-fn told(alloc: Global, books: Books, line: &str) -> Result<Books, Fail> {
+pub(super) fn told(alloc: Global, books: Books, line: &str) -> Result<Books, Fail> {
     let (line, want) = line.split_once(" -> ").ok_or("no arrow")?;
     let command = command(alloc, line)?;
     let stepped = step(alloc, books, &command)?;
@@ -25,7 +25,7 @@ fn told(alloc: Global, books: Books, line: &str) -> Result<Books, Fail> {
 }
 
 // The books after the script.
-fn play(alloc: Global, books: Books, script: &str) -> Result<Books, Fail> {
+pub(super) fn play(alloc: Global, books: Books, script: &str) -> Result<Books, Fail> {
     let mut books = books;
     for line in script.lines() {
         books = told(alloc, books, line)?;
@@ -33,11 +33,11 @@ fn play(alloc: Global, books: Books, script: &str) -> Result<Books, Fail> {
     Ok(books)
 }
 
-fn base(alloc: Global) -> Result<Books, Fail> {
+pub(super) fn base(alloc: Global) -> Result<Books, Fail> {
     play(alloc, empty(alloc)?, BASE)
 }
 
-fn three(alloc: Global) -> Result<Books, Fail> {
+pub(super) fn three(alloc: Global) -> Result<Books, Fail> {
     play(alloc, base(alloc)?, THREE)
 }
 
