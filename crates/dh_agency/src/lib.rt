@@ -6,6 +6,7 @@ mod carrying;
 mod opening;
 
 pub use agency::Agency;
+pub use dh_events::laws;
 pub use opening::{NotOpened, create};
 
 #[cfg(test)]

@@ -1,0 +1,121 @@
+-- Commands that are told while a run is open, other than batches of it.
+use Rattle.std.proofs.Common.{◌≡◌, ◌∙◌, refl, sym, ap, subst, ℕ, ◌≤◌, true, false, Option, Some, None}
+use Rattle.std.specs.Option.{IsSome}
+use Rattle.dh_types.specs.declared.command.Command.{Command}
+use Rattle.dh_types.specs.declared.command.Command.TheVariants as command
+use Rattle.dh_types.specs.declared.reply.Reply.{Reply}
+use Rattle.dh_model.specs.declared.open_run.OpenRun.{OpenRun}
+use Rattle.dh_model.specs.declared.rows.Change.{Change}
+use Rattle.dh_model.specs.declared.rows.Verdict.TheVariants as verdict
+use Rattle.dh_model.specs.Books.{Books, State}
+use Rattle.dh_model.specs.Machine.{accepted, carried_out, changed, settled}
+use Rattle.dh_model.specs.MachineLaws.{is_post}
+use Rattle.dh_model.specs.Verdicts.{verdict_on}
+use Rattle.dh_model.specs.Whole.{whole}
+use Rattle.dh_laws.specs.InOrder.{IsEntered, IsInOrder, run_after}
+use Rattle.dh_laws.specs.Passing.{is_free}
+use Rattle.dh_laws.proofs.KeepOrder.{changes_keep_order}
+use Rattle.dh_laws.proofs.PassChanges.{free_changes_pass_the_run}
+use Rattle.dh_laws.proofs.PassVerdicts.{free_are_judged_alike}
+use Rattle.dh_laws.proofs.VerdictCases.{assign_case, client_case, comment_case, inspection_case, owner_case, property_case, register_case, rent_case, staff_case, viewing_case}
+use Rattle.dh_events.specs.Events.{state_of}
+use Rattle.dh_player.specs.Player.{tables}
+use Rattle.dh_player.specs.Telling.{IsTold}
+
+module _ (size : ℕ) where
+  carried_free : (s : State) (told : Command) (rows : Change) → is_free told ≡ true → carried_out size s told rows ≡ (record s { books = changed rows s.books }, accepted rows)
+  carried_free s (command.Staff it) rows free = refl
+  carried_free s (command.Owner it) rows free = refl
+  carried_free s (command.Property it) rows free = refl
+  carried_free s (command.Assign it) rows free = refl
+  carried_free s (command.Rent it) rows free = refl
+  carried_free s (command.Client it) rows free = refl
+  carried_free s (command.Register it) rows free = refl
+  carried_free s (command.Viewing it) rows free = refl
+  carried_free s (command.Comment it) rows free = refl
+  carried_free s (command.Inspection it) rows free = refl
+  carried_free s _ rows free = cc
+
+module _ (size : ℕ) (books : Books) (run : OpenRun) (pos : 1 ≤ size) (in_order : IsInOrder size books (Some run)) where
+  abbrev at : State
+  at = record { books = books; open_run = Some run }
+
+  alike : (told : Command) → is_free told ≡ true → verdict_on books (Some run) told ≡ verdict_on (whole size books) None told
+  alike told free = free_are_judged_alike size books run told pos in_order free
+
+  -- each command is judged as over the whole books
+  pub judged_whole : (told : Command) → verdict_on (whole size books) (Some run) told ≡ verdict_on books (Some run) told
+  judged_whole (command.Branch it) = refl
+  judged_whole (command.Staff it) = sym (alike (command.Staff it) refl)
+  judged_whole (command.Owner it) = sym (alike (command.Owner it) refl)
+  judged_whole (command.Property it) = sym (alike (command.Property it) refl)
+  judged_whole (command.Assign it) = sym (alike (command.Assign it) refl)
+  judged_whole (command.Rent it) = sym (alike (command.Rent it) refl)
+  judged_whole (command.Client it) = sym (alike (command.Client it) refl)
+  judged_whole (command.Register it) = sym (alike (command.Register it) refl)
+  judged_whole (command.Viewing it) = sym (alike (command.Viewing it) refl)
+  judged_whole (command.Comment it) = sym (alike (command.Comment it) refl)
+  judged_whole (command.Inspection it) = sym (alike (command.Inspection it) refl)
+  judged_whole (command.Lease it) = refl
+  judged_whole (command.Receipt it) = refl
+  judged_whole (command.Run it) = refl
+  judged_whole (command.Open it) = refl
+  judged_whole (command.Post count) = refl
+
+  module _ (rows : Change) where
+    -- what is frozen is not accepted
+    accepted_free : (told : Command) → is_post told ≡ false → verdict_on books (Some run) told ≡ verdict.Change rows → is_free told ≡ true
+    accepted_free (command.Staff it) other h = refl
+    accepted_free (command.Owner it) other h = refl
+    accepted_free (command.Property it) other h = refl
+    accepted_free (command.Assign it) other h = refl
+    accepted_free (command.Rent it) other h = refl
+    accepted_free (command.Client it) other h = refl
+    accepted_free (command.Register it) other h = refl
+    accepted_free (command.Viewing it) other h = refl
+    accepted_free (command.Comment it) other h = refl
+    accepted_free (command.Inspection it) other h = refl
+    accepted_free (command.Post count) other h = cc
+    accepted_free _ other h = cc
+
+    -- and opens no run
+    run_stays : (told : Command) → is_free told ≡ true → verdict_on books (Some run) told ≡ verdict.Change rows → run_after (Some run) rows ≡ Some run
+    run_stays (command.Staff it) free h = ap (run_after (Some run)) (staff_case books (Some run) rows it h).0
+    run_stays (command.Owner it) free h = ap (run_after (Some run)) (owner_case books (Some run) rows it h).0
+    run_stays (command.Property it) free h = ap (run_after (Some run)) (property_case books (Some run) rows it h).0
+    run_stays (command.Assign it) free h = ap (run_after (Some run)) (assign_case books (Some run) rows it h).0
+    run_stays (command.Rent it) free h = ap (run_after (Some run)) (rent_case books (Some run) rows it h).0
+    run_stays (command.Client it) free h = ap (run_after (Some run)) (client_case books (Some run) rows it h).0
+    run_stays (command.Register it) free h = ap (run_after (Some run)) (register_case books (Some run) rows it h).0
+    run_stays (command.Viewing it) free h = ap (run_after (Some run)) (viewing_case books (Some run) rows it h).0
+    run_stays (command.Comment it) free h = ap (run_after (Some run)) (comment_case books (Some run) rows it h).0
+    run_stays (command.Inspection it) free h = ap (run_after (Some run)) (inspection_case books (Some run) rows it h).0
+    run_stays _ free h = cc
+
+    -- rows that are put while the run is open
+    pub change_told : (told : Command) → is_post told ≡ false → IsEntered told → verdict_on books (Some run) told ≡ verdict.Change rows
+        → IsTold size told (accepted rows) at (record { books = changed rows books; open_run = Some run })
+    change_told told other entered h =
+        let free = accepted_free told other h in
+        let s = state_of size (tables at) in (
+          ap (settled size s told) (judged_whole told ∙ h) ∙ carried_free size s told rows free
+              ∙ ap (λ (b : Books). (record { books = b; open_run = Some run }, accepted rows)) (sym (free_changes_pass_the_run size books run told rows pos in_order free h)),
+          subst (λ after. IsInOrder size (changed rows books) after) (run_stays told free h) (changes_keep_order size books (Some run) told rows pos in_order entered h),
+        )
+
+no_run : IsSome {T = OpenRun} None → ⊥
+no_run some = cc
+
+module _ (size : ℕ) (books : Books) (told : Command) (rows : Change) (pos : 1 ≤ size) (other : is_post told ≡ false) (entered : IsEntered told) where
+  open_told : (run : Option OpenRun) → IsSome run → IsInOrder size books run → verdict_on books run told ≡ verdict.Change rows
+      → IsTold size told (accepted rows) (record { books = books; open_run = run }) (record { books = changed rows books; open_run = run })
+  open_told None some in_order h = absurd (no_run some)
+  open_told (Some run) some in_order h = change_told size books run pos in_order rows told other entered h
+
+pub rows_told : (size : ℕ) (before after : State) (told : Command) (rows : Change) (reply : Reply) → 1 ≤ size → IsSome before.open_run → is_post told ≡ false
+    → IsInOrder size before.books before.open_run → IsEntered told → verdict_on before.books before.open_run told ≡ verdict.Change rows
+    → after ≡ record before { books = changed rows before.books } → reply ≡ accepted rows → IsTold size told reply before after
+rows_told size before after told rows reply pos some other in_order entered h is answered =
+    subst (λ (s : State). IsTold size told reply before s) (sym is)
+    (subst (λ r. IsTold size told r before (record before { books = changed rows before.books })) (sym answered)
+    (open_told size before.books told rows pos other entered before.open_run some in_order h))

@@ -1,0 +1,7 @@
+pub mod Player
+pub mod Reaches
+pub mod Telling
+pub mod Playing
+pub use Rattle.dh_types.specs.Records
+pub use Rattle.dh_types.specs.Reports
+pub use Rattle.dh_types.specs.Replies
