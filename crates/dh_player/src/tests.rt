@@ -114,11 +114,10 @@ fn same_runs(books: &Books, other: &Books) -> bool {
         && books.next() == other.next()
 }
 
-// The lines of the scripts, that of this place cut in this way: recovered at the end, the tables are the machine's books.
-fn played(alloc: Global, scripts: &[&str], place: usize, way: Way) -> Result<(), Fail> {
+// The lines, that of this place cut in this way: recovered at the end, the tables are the machine's books.
+fn played(alloc: Global, lines: &[&str], place: usize, way: Way) -> Result<(), Fail> {
     let mut both = empty(alloc)?;
-    let lines = scripts.iter().flat_map(|script| script.lines());
-    for (at, line) in lines.enumerate() {
+    for (at, line) in lines.iter().enumerate() {
         both = if at == place {
             let after = cut(alloc, both, line, way)?;
             recovered(alloc, after, Reach::Batches(1))?
@@ -136,12 +135,23 @@ fn played(alloc: Global, scripts: &[&str], place: usize, way: Way) -> Result<(),
     Ok(())
 }
 
+// The lines of the scripts, one after the other.
+fn lines_of<'a>(alloc: Global, scripts: &[&'a str]) -> Result<Vec<&'a str>, Fail> {
+    let mut lines = Vec::new(alloc);
+    for script in scripts {
+        for line in script.lines() {
+            lines.push(line)?;
+        }
+    }
+    Ok(lines)
+}
+
 // The scripts one after the other, with each line in turn cut in each way.
 fn played_with_cuts(alloc: Global, scripts: &[&str]) -> Result<(), Fail> {
-    let count = scripts.iter().flat_map(|script| script.lines()).count();
-    for place in 0..count {
+    let lines = lines_of(alloc, scripts)?;
+    for place in 0..lines.len() {
         for way in WAYS {
-            played(alloc, scripts, place, way)?;
+            played(alloc, lines.as_slice(), place, way)?;
         }
     }
     Ok(())
@@ -180,15 +190,17 @@ fn a_run_in_parts(rt: HostRuntime) -> Result<(), Fail> {
     played_with_cuts(rt.alloc(), &[BASE, THREE, OPEN_AND_POST])
 }
 
-// What happens: the lines are answered but the last, which is cut and carried out, and a recovery comes to its end.
-fn happenings(alloc: Global, scripts: &[&str]) -> Result<Vec<Happening>, Fail> {
+// What happens: the lines are answered, an opening is cut and comes to nothing, another is carried out, and a recovery is cut
+// before one comes to its end.
+fn happenings(alloc: Global, lines: &[&str]) -> Result<Vec<Happening>, Fail> {
     let mut happenings = Vec::new(alloc);
-    for line in scripts.iter().flat_map(|script| script.lines()) {
+    for line in lines {
         happenings.push(Happening::Said(command(alloc, words(line))?))?;
     }
-    let last = command(alloc, "open,R-2,2025-02")?;
-    happenings.push(Happening::Undone(command(alloc, "open,R-9,2025-02")?, Reach::End))?;
-    happenings.push(Happening::Done(last, None))?;
+    let undone = command(alloc, "open,R-9,2025-02")?;
+    happenings.push(Happening::Undone(undone, Reach::End))?;
+    let done = command(alloc, "open,R-2,2025-02")?;
+    happenings.push(Happening::Done(done, None))?;
     happenings.push(Happening::Taken)?;
     happenings.push(Happening::Torn(Reach::Batches(1)))?;
     happenings.push(Happening::Mended)?;
@@ -198,14 +210,13 @@ fn happenings(alloc: Global, scripts: &[&str]) -> Result<Vec<Happening>, Fail> {
 #[test]
 fn a_list_is_played(rt: HostRuntime) -> Result<(), Fail> {
     let alloc = rt.alloc();
-    let scripts = [BASE, THREE, RUN_OF_THREE];
-    let happenings = happenings(alloc, &scripts)?;
+    let lines = lines_of(alloc, &[BASE, THREE, RUN_OF_THREE])?;
+    let happenings = happenings(alloc, lines.as_slice())?;
     let played = play(alloc, empty(alloc)?.tables, happenings.as_slice())?;
-    let lines = scripts.iter().flat_map(|script| script.lines());
-    assert_eq!(rt; played.replies.len(), lines.count());
-    assert_eq!(rt; played.tables.charges().count(), 6);
-    assert_eq!(rt; played.tables.runs().count(), 2);
-    assert_eq!(rt; played.tables.parts().count(), 6);
+    assert_eq!(rt; played.replies.len(), lines.len());
+    assert_eq!(rt; played.tables.charges().len(), 6);
+    assert_eq!(rt; played.tables.runs().len(), 2);
+    assert_eq!(rt; played.tables.parts().len(), 6);
     assert!(rt; played.tables.open_run().is_none());
     Ok(())
 }
