@@ -1,5 +1,6 @@
 -- Commands that were cut and yet carried out.
-use Rattle.std.proofs.Common.{◌≡◌, ◌∙◌, refl, sym, ap, subst, ℕ, ◌+◌, ◌≤◌, Option, Some, None}
+use Rattle.std.proofs.Common.{◌≡◌, ◌∙◌, refl, sym, ap, subst, ℕ, ◌+◌, ◌≤◌, false, Option, Some, None}
+use Rattle.std.proofs.lemmas.Bool.{false≢true}
 use Rattle.dh_types.specs.declared.command.Command.{Command}
 use Rattle.dh_types.specs.declared.command.Command.TheVariants as command
 use Rattle.dh_types.specs.declared.command.RunOrder.{RunOrder}
@@ -17,7 +18,7 @@ use Rattle.dh_model.specs.Whole.{whole}
 use Rattle.dh_laws.specs.InOrder.{IsInOrder}
 use Rattle.dh_events.specs.Events.{IsOfMonth, RunIfDone, state_of}
 use Rattle.dh_player.specs.Player.{tables}
-use Rattle.dh_player.specs.Telling.{IsCutDone, IsTold, begun}
+use Rattle.dh_player.specs.Telling.{IsCutDone, IsTold, Stands, StandsAt, begun, is_run}
 use Rattle.dh_player.proofs.TellingRuns.{at_most, at_most_all, batches_whole, begun_is, none_in_order, opened_whole, opening_judged, opening_verdict}
 use Rattle.dh_player.proofs.TellingWhole.{shows_none, whole_itself}
 
@@ -62,3 +63,26 @@ module _ (size : ℕ) where
         },
         ordered,
       )
+
+-- no other command than a run stands anywhere
+pub other_stands : (before after : State) (told : Command) (count : ℕ) → is_run told ≡ false → Stands before (Some count) told after
+other_stands before after (command.Run order) count h = absurd (false≢true (sym h))
+other_stands before after (command.Branch it) count h = tt
+other_stands before after (command.Staff it) count h = tt
+other_stands before after (command.Owner it) count h = tt
+other_stands before after (command.Property it) count h = tt
+other_stands before after (command.Assign it) count h = tt
+other_stands before after (command.Rent it) count h = tt
+other_stands before after (command.Client it) count h = tt
+other_stands before after (command.Register it) count h = tt
+other_stands before after (command.Viewing it) count h = tt
+other_stands before after (command.Comment it) count h = tt
+other_stands before after (command.Inspection it) count h = tt
+other_stands before after (command.Lease it) count h = tt
+other_stands before after (command.Receipt it) count h = tt
+other_stands before after (command.Open it) count h = tt
+other_stands before after (command.Post it) count h = tt
+
+-- a run stands as the verdict on it says
+pub judged_stands : (before after : State) (order : RunOrder) (count : ℕ) → before.open_run ≡ None → StandsAt order count (run_verdict before.books order) after → Stands before (Some count) (command.Run order) after
+judged_stands before after order count none h = subst (λ (o : Option OpenRun). StandsAt order count (verdict_on before.books o (command.Run order)) after) (sym none) h

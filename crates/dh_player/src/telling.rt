@@ -1,13 +1,14 @@
 //! Commands that are answered, and cut ones that were carried out.
 
-ghost use Rattle.std.specs.Prelude.{◌≡◌, false, Some, None, IfOk, IsSome};
+ghost use Rattle.std.specs.Prelude.{◌≡◌, ℕ, false, Some, None, IfOk, IsSome};
 ghost use Rattle.dh_types.specs.declared.command.Command.TheVariants as command;
 ghost use Rattle.dh_model.specs.MachineLaws.{is_post};
 ghost use Rattle.dh_model.specs.Runs.{batch_size};
+ghost use Rattle.dh_model.specs.Verdicts.{run_verdict};
 ghost use Rattle.dh_laws.specs.InOrder.{IsEntered};
 ghost use Rattle.dh_events.specs.Events.{Happens, IsDone, Said};
 ghost use Rattle.dh_player.specs.Player.{AreInOrder, tables};
-ghost use Rattle.dh_player.specs.Telling.{IsCutDone, IsTold, begun, is_opening};
+ghost use Rattle.dh_player.specs.Telling.{IsCutDone, IsTold, Stands, StandsAt, begun, is_opening, is_run};
 
 use crate::moving::{advanced, mended};
 use dh_books::Books;
@@ -149,11 +150,39 @@ pub fn said(alloc: Global, before: Books, command: &Command) -> Result<Told, All
 // `run` over tables without an open run, cut after so many batches.
 fn cut_run(alloc: Global, before: Books, order: &RunOrder, count: u128) -> Result<Books, AllocError>
     requires { before.open_run ≡ None }
-    ensures { IfOk result (λ after. AreInOrder before → IsCutDone batch_size (command.Run order.now) before after) }
+    ensures { IfOk result (λ after. AreInOrder before → IsCutDone batch_size (command.Run order.now) before after × StandsAt order.now count (run_verdict before.books order.now) after) }
 {
     match decide_run(&before, order) {
         Verdict::Change(rows) => advanced(alloc, begun(before, order, rows)?, count),
         Verdict::Already(_) | Verdict::Refused(_) => Ok(before),
+    }
+}
+
+// Any other command than `run`, cut and carried out: as if it had been answered.
+fn cut_other(alloc: Global, before: Books, command: &Command) -> Result<Books, AllocError>
+    requires { is_run command.now ≡ false }
+    ensures done { IfOk result (λ after. AreInOrder before → IsEntered command.now → IsCutDone batch_size command.now before after) }
+    ensures stands { IfOk result (λ after. (count : ℕ) → Stands before (Some count) command.now after) }
+{
+    Ok(said(alloc, before, command)?.tables)
+}
+
+// A command that was cut and carried out: an accepted `run` stands at so many batches.
+fn cut_standing(
+    alloc: Global,
+    before: Books,
+    command: &Command,
+    count: u128,
+) -> Result<Books, AllocError>
+    ensures done { IfOk result (λ after. AreInOrder before → IsEntered command.now → IsCutDone batch_size command.now before after) }
+    ensures stands { IfOk result (λ after. AreInOrder before → Stands before (Some count) command.now after) }
+{
+    match command {
+        Command::Run(order) => match before.open_run() {
+            None => cut_run(alloc, before, order, count),
+            Some(_) => Ok(said(alloc, before, command)?.tables),
+        },
+        _ => cut_other(alloc, before, command),
     }
 }
 
@@ -165,12 +194,11 @@ pub fn cut_done(
     command: &Command,
     standing: Option<u128>,
 ) -> Result<Books, AllocError>
-    ensures { IfOk result (λ after. AreInOrder before → IsEntered command.now → IsDone batch_size command.now (tables before) (tables after) × AreInOrder after) }
+    ensures done { IfOk result (λ after. AreInOrder before → IsEntered command.now → IsDone batch_size command.now (tables before) (tables after) × AreInOrder after) }
+    ensures stands { IfOk result (λ after. AreInOrder before → Stands before standing command.now after) }
 {
-    if before.open_run().is_none() {
-        if let (Command::Run(order), Some(count)) = (command, standing) {
-            return cut_run(alloc, before, order, count);
-        }
+    match standing {
+        Some(count) => cut_standing(alloc, before, command, count),
+        None => Ok(said(alloc, before, command)?.tables),
     }
-    Ok(said(alloc, before, command)?.tables)
 }
