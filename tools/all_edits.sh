@@ -1,0 +1,39 @@
+#!/usr/bin/env bash
+# Tries every wrong body of the named crates, or of all: those that the gate tries (must-fail/*.edit) and those put aside, which
+# show the same form at an alike function (must-fail/*.aside). It works on a copy, and ends as `rt must-fail` does.
+#   tools/all_edits.sh [CRATE..]
+#   tools/all_edits.sh --texts     only: that each old text stands once in its file
+set -eu
+cd "$(dirname "$0")/.."
+if [ "${1:-}" = --texts ]; then
+    exec python3 - <<'PY'
+import glob, re, sys
+wrong = 0
+for path in sorted(glob.glob('crates/*/must-fail/*.edit') + glob.glob('crates/*/must-fail/*.aside')):
+    crate, texts, name = path.rsplit('/must-fail/', 1)[0], {}, None
+    old = None
+    for line in open(path, encoding='utf-8'):
+        key, _, text = line.rstrip('\n').partition(': ') if ': ' in line else (line.rstrip('\n').rstrip(':'), '', '')
+        if key == 'file':
+            name = text
+            texts.setdefault(name, open(f'{crate}/{name}', encoding='utf-8').read())
+        elif key == 'old':
+            old = text
+        elif key == 'new':
+            if texts[name].count(old) != 1:
+                print(f'{path}: stands {texts[name].count(old)} times: {old}')
+                wrong += 1
+            texts[name] = texts[name].replace(old, text, 1)
+print(f'{wrong} texts that do not stand once')
+sys.exit(wrong > 0)
+PY
+fi
+copy=$(mktemp -d)
+trap 'rm -rf "$copy"' EXIT
+git ls-files -z --cached --others --exclude-standard | xargs -0 cp --parents -t "$copy" 2>/dev/null || true
+cd "$copy"
+git init -q .
+for aside in crates/*/must-fail/*.aside; do
+    mv "$aside" "${aside%.aside}.edit"
+done
+rt must-fail "$@"
