@@ -1,0 +1,82 @@
+#!/usr/bin/env python3
+"""Runs the gate and tells what each crate took of it: processor seconds and the most memory of its proof, its tests and its edits.
+
+    tools/gate_times.py [LOG]     runs `rt ci` at the top of the repository, with its output in LOG (gate.log beside the repository)
+
+Twice a second it looks at the toolchain's processes. So a time may lack the last half second of each process; the sum over all,
+in the last line, is the system's own. The status is that of `rt ci`.
+"""
+import os
+import re
+import resource
+import subprocess
+import sys
+import time
+
+TICK = os.sysconf('SC_CLK_TCK')
+PAGE = os.sysconf('SC_PAGE_SIZE')
+
+
+def read(path, mode='r'):
+    with open(path, mode) as file:
+        return file.read()
+
+
+def process(pid):
+    """The crate that a process of the toolchain works on, for what, its processor seconds and its memory; None for another process."""
+    try:
+        words = read(f'/proc/{pid}/cmdline', 'rb').decode(errors='replace').split('\0')
+        if os.path.basename(words[0]) != 'rattle' or '--crate-name' not in words:
+            return None
+        folder = os.readlink(f'/proc/{pid}/cwd')
+        fields = read(f'/proc/{pid}/stat').rpartition(') ')[2].split()
+        seconds = (int(fields[11]) + int(fields[12])) / TICK
+        memory = int(read(f'/proc/{pid}/statm').split()[1]) * PAGE
+    except (OSError, IndexError):
+        return None
+    crate = words[words.index('--crate-name') + 1]
+    if crate.endswith('_tests'):
+        crate = crate[:-len('_tests')]
+    work = 'edits' if 'rt-edit-' in folder else 'tests' if '--test' in words else 'proof'
+    return crate, work, seconds, memory
+
+
+def main():
+    top = subprocess.run(['git', 'rev-parse', '--show-toplevel'], capture_output=True, text=True, check=True).stdout.strip()
+    log = sys.argv[1] if len(sys.argv) > 1 else f'{os.path.dirname(top)}/gate.log'
+    begun = time.monotonic()
+    seconds, peaks = {}, {}
+    with open(log, 'w') as out:
+        gate = subprocess.Popen(['rt', 'ci'], cwd=top, stdin=subprocess.DEVNULL, stdout=out, stderr=subprocess.STDOUT)
+        while gate.poll() is None:
+            now = {}
+            for pid in filter(str.isdigit, os.listdir('/proc')):
+                seen = process(pid)
+                if seen:
+                    crate, work, taken, memory = seen
+                    seconds[crate, work, pid] = max(taken, seconds.get((crate, work, pid), 0))
+                    now[crate, work] = now.get((crate, work), 0) + memory
+            for key, memory in now.items():
+                peaks[key] = max(memory, peaks.get(key, 0))
+            time.sleep(0.5)
+    text = read(log)
+    tried = {}
+    for crate in re.findall(r'^rt: must-fail ([a-z_0-9]+)/', text, re.M):
+        tried[crate] = tried.get(crate, 0) + 1
+    order = [line.split(':')[0].split()[0] for line in read(f'{top}/crates.txt').splitlines() if re.match(r'[a-z]', line)]
+    print('| crate | proof | its tests | edits | edits tried | memory, proof | memory, tests |')
+    print('|---|---|---|---|---|---|---|')
+    for crate in order:
+        def took(work):
+            found = [taken for key, taken in seconds.items() if key[:2] == (crate, work)]
+            return f'{sum(found):.0f} s' if found else '-'
+
+        def most(work):
+            return f'{peaks[crate, work] / 1e9:.1f} GB' if (crate, work) in peaks else '-'
+        print(f"| `{crate}` | {took('proof')} | {took('tests')} | {took('edits')} | {tried.get(crate, 0)} | {most('proof')} | {most('tests')} |")
+    used = resource.getrusage(resource.RUSAGE_CHILDREN)
+    print(f'{(used.ru_utime + used.ru_stime) / 60:.1f} processor minutes, {(time.monotonic() - begun) / 60:.1f} minutes; {text.rstrip().splitlines()[-1]}')
+    return gate.returncode
+
+
+sys.exit(main())
