@@ -6,7 +6,7 @@ mod carrying;
 mod opening;
 
 pub use agency::Agency;
-pub use dh_events::laws;
+pub use dh_laws::lives as laws;
 pub use opening::{NotOpened, create};
 
 #[cfg(test)]

@@ -38,3 +38,11 @@ pub mod PostOpening
 pub mod VerdictCases
 pub mod VerdictChecks
 pub mod EmptyBooks
+mod AgainOrders
+mod ReceiptEvents
+mod ReceiptStays
+mod ReceiptSteps
+pub mod LiveBeginnings
+pub mod LiveBooks
+pub mod LiveCommands
+pub mod LiveTables

@@ -3,6 +3,9 @@ pub mod Keeping
 pub mod Passing
 pub mod Posting
 pub mod Balances
+pub mod Events
+pub mod Kept
+pub mod Lives
 pub use Rattle.dh_types.specs.Records
 pub use Rattle.dh_types.specs.Reports
 pub use Rattle.dh_types.specs.Replies

@@ -8,7 +8,7 @@ use Rattle.dh_model.specs.Books.{Books, State}
 use Rattle.dh_model.specs.Runs.{batch_size, batches}
 use Rattle.dh_model.specs.Whole.{whole, with_posted}
 use Rattle.dh_laws.specs.InOrder.{IsInOrder}
-use Rattle.dh_events.specs.Events.{IsMovedBy, IsMovedOn, IsTorn, IsUndone, RunIfUndone}
+use Rattle.dh_laws.specs.Events.{IsMovedBy, IsMovedOn, IsTorn, IsUndone, RunIfUndone}
 use Rattle.dh_player.specs.declared.moving.Reach.{Reach}
 use Rattle.dh_player.specs.declared.moving.Reach.TheVariants as reach
 use Rattle.dh_player.specs.Player.{AreInOrder, advanced_run, tables}

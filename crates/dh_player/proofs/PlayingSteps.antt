@@ -5,9 +5,9 @@ use Rattle.std.proofs.lemmas.List.{append-nil, append_assoc, drop_all}
 use Rattle.dh_types.specs.declared.reply.Reply.{Reply}
 use Rattle.dh_model.specs.Books.{Books, State}
 use Rattle.dh_laws.specs.InOrder.{IsInOrder}
-use Rattle.dh_events.specs.Events.{Said, Cut, Taken, Torn, Mended, Tables, state_of}
-use Rattle.dh_events.specs.Kept.{Kept}
-use Rattle.dh_events.proofs.LiveTables.{mended_whole}
+use Rattle.dh_laws.specs.Events.{Said, Cut, Taken, Torn, Mended, Tables, state_of}
+use Rattle.dh_laws.specs.Kept.{Kept}
+use Rattle.dh_laws.proofs.LiveTables.{mended_whole}
 use Rattle.dh_player.specs.declared.playing.Happening.{Happening}
 use Rattle.dh_player.specs.declared.playing.Happening.TheVariants as happening
 use Rattle.dh_player.specs.Player.{tables}

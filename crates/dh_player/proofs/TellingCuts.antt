@@ -16,7 +16,7 @@ use Rattle.dh_model.specs.Runs.{batches, ran}
 use Rattle.dh_model.specs.Verdicts.{opened_run, run_verdict, verdict_on}
 use Rattle.dh_model.specs.Whole.{whole}
 use Rattle.dh_laws.specs.InOrder.{IsInOrder}
-use Rattle.dh_events.specs.Events.{IsOfMonth, RunIfDone, state_of}
+use Rattle.dh_laws.specs.Events.{IsOfMonth, RunIfDone, state_of}
 use Rattle.dh_player.specs.Player.{tables}
 use Rattle.dh_player.specs.Telling.{IsCutDone, IsTold, Stands, StandsAt, begun, is_run}
 use Rattle.dh_player.proofs.TellingRuns.{at_most, at_most_all, batches_whole, begun_is, none_in_order, opened_whole, opening_judged, opening_verdict}

@@ -18,7 +18,7 @@ use Rattle.dh_laws.proofs.KeepOrder.{changes_keep_order}
 use Rattle.dh_laws.proofs.PassChanges.{free_changes_pass_the_run}
 use Rattle.dh_laws.proofs.PassVerdicts.{free_are_judged_alike}
 use Rattle.dh_laws.proofs.VerdictCases.{assign_case, client_case, comment_case, inspection_case, owner_case, property_case, register_case, rent_case, staff_case, viewing_case}
-use Rattle.dh_events.specs.Events.{state_of}
+use Rattle.dh_laws.specs.Events.{state_of}
 use Rattle.dh_player.specs.Player.{tables}
 use Rattle.dh_player.specs.Telling.{IsTold}
 

@@ -20,7 +20,7 @@ use Rattle.dh_laws.specs.InOrder.{IsInOrder}
 use Rattle.dh_laws.proofs.KeepOrder.{changes_keep_order}
 use Rattle.dh_laws.proofs.PostOpening.{run_is_opening_made_whole}
 use Rattle.dh_laws.proofs.VerdictCases.{run_case}
-use Rattle.dh_events.specs.Events.{state_of}
+use Rattle.dh_laws.specs.Events.{state_of}
 use Rattle.dh_player.specs.Player.{tables}
 use Rattle.dh_player.specs.Telling.{IsTold, begun}
 use Rattle.dh_player.proofs.TellingWhole.{own_state, shows_none, whole_itself}

@@ -22,7 +22,7 @@ use Rattle.dh_laws.proofs.MonthShown.{none_open}
 use Rattle.dh_laws.proofs.MonthSteps.{steps_keep}
 use Rattle.dh_laws.proofs.MonthWhole.{lawful_closed, whole_is_lawful}
 use Rattle.dh_laws.proofs.PostOpening.{run_is_opening_made_whole}
-use Rattle.dh_events.specs.Events.{state_of}
+use Rattle.dh_laws.specs.Events.{state_of}
 use Rattle.dh_player.specs.Player.{tables}
 use Rattle.dh_player.specs.Telling.{IsTold, is_opening}
 

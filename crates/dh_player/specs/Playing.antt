@@ -4,8 +4,8 @@ use Rattle.dh_types.specs.declared.command.Command.{Command}
 use Rattle.dh_types.specs.declared.reply.Reply.{Reply}
 use Rattle.dh_model.specs.Books.{State}
 use Rattle.dh_laws.specs.InOrder.{IsEntered}
-use Rattle.dh_events.specs.Events.{Event, Said, Cut, Taken, Torn, Mended, Follow, Happens, IsDone, IsTorn, IsUndone, Tables, state_of}
-use Rattle.dh_events.specs.Kept.{Kept}
+use Rattle.dh_laws.specs.Events.{Event, Said, Cut, Taken, Torn, Mended, Follow, Happens, IsDone, IsTorn, IsUndone, Tables, state_of}
+use Rattle.dh_laws.specs.Kept.{Kept}
 use Rattle.dh_player.specs.declared.playing.Happening.{Happening}
 use Rattle.dh_player.specs.declared.playing.Happening.TheVariants as happening
 use Rattle.dh_player.specs.Player.{tables}

@@ -13,7 +13,7 @@ use Rattle.dh_model.specs.Runs.{batch_size}
 use Rattle.dh_model.specs.Verdicts.{verdict_on}
 use Rattle.dh_model.specs.Whole.{whole}
 use Rattle.dh_laws.specs.InOrder.{IsInOrder}
-use Rattle.dh_events.specs.Events.{Happens, IsDone, Said}
+use Rattle.dh_laws.specs.Events.{Happens, IsDone, Said}
 use Rattle.dh_player.specs.Player.{advanced_run, tables}
 
 abbrev pub is_opening : Command → Bool

@@ -6,7 +6,7 @@ ghost use Rattle.dh_model.specs.MachineLaws.{is_post};
 ghost use Rattle.dh_model.specs.Runs.{batch_size};
 ghost use Rattle.dh_model.specs.Verdicts.{run_verdict};
 ghost use Rattle.dh_laws.specs.InOrder.{IsEntered};
-ghost use Rattle.dh_events.specs.Events.{Happens, IsDone, Said};
+ghost use Rattle.dh_laws.specs.Events.{Happens, IsDone, Said};
 ghost use Rattle.dh_player.specs.Player.{AreInOrder, tables};
 ghost use Rattle.dh_player.specs.Telling.{IsCutDone, IsTold, Stands, StandsAt, begun, is_opening, is_run};
 

@@ -18,9 +18,9 @@ use Rattle.dh_laws.proofs.MonthSteps.{steps_keep}
 use Rattle.dh_laws.proofs.MonthWhole.{whole_is_lawful}
 use Rattle.dh_laws.proofs.OweCharges.{charges_are_dues}
 use Rattle.dh_laws.proofs.PostOpening.{run_is_opening_made_whole}
-use Rattle.dh_events.specs.Events.{Event, Said, Cut, Taken, Torn, Mended, Follow, Tables, state_of}
-use Rattle.dh_events.specs.Laws.{AreEntered, MendedBooksAreLawful, MonthsAreChargedOnce}
-use Rattle.dh_events.proofs.LiveTables.{mended_whole}
+use Rattle.dh_laws.specs.Events.{Event, Said, Cut, Taken, Torn, Mended, Follow, Tables, state_of}
+use Rattle.dh_laws.specs.Lives.{AreEntered, MendedBooksAreLawful, MonthsAreChargedOnce}
+use Rattle.dh_laws.proofs.LiveTables.{mended_whole}
 
 module _ (size : ℕ) (pos : 1 ≤ size) where
   -- each row is under its key, the rules hold, and no run is open

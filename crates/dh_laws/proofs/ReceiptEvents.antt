@@ -6,8 +6,8 @@ use Rattle.dh_model.specs.Books.{Books, State}
 use Rattle.dh_model.specs.Machine.{step}
 use Rattle.dh_model.specs.Whole.{whole}
 use Rattle.dh_laws.specs.InOrder.{IsEntered}
-use Rattle.dh_events.specs.Events.{Cut, Event, Follow, Happens, Mended, Said, Tables, Taken, Torn, state_of}
-use Rattle.dh_events.specs.Laws.{AreEntered}
+use Rattle.dh_laws.specs.Events.{Cut, Event, Follow, Happens, Mended, Said, Tables, Taken, Torn, state_of}
+use Rattle.dh_laws.specs.Lives.{AreEntered}
 
 pub entered_both : (before later : List (Event × Tables)) → AreEntered (before ++ later) → AreEntered before × AreEntered later
 entered_both [] later e = (tt, e)

@@ -5,10 +5,10 @@ use Rattle.dh_types.specs.declared.reply.Reply.{Reply}
 use Rattle.dh_model.specs.Books.{Books, State}
 use Rattle.dh_model.specs.Machine.{step}
 use Rattle.dh_model.specs.Whole.{whole}
-use Rattle.dh_events.specs.Events.{Event, Said, Cut, Taken, Torn, Mended, Follow, Tables, state_of}
-use Rattle.dh_events.specs.Kept.{Kept}
-use Rattle.dh_events.specs.Laws.{AllLives}
-use Rattle.dh_events.proofs.LiveTables.{mended_whole}
+use Rattle.dh_laws.specs.Events.{Event, Said, Cut, Taken, Torn, Mended, Follow, Tables, state_of}
+use Rattle.dh_laws.specs.Kept.{Kept}
+use Rattle.dh_laws.specs.Lives.{AllLives}
+use Rattle.dh_laws.proofs.LiveTables.{mended_whole}
 
 module _ (size : ℕ) (after : Tables) where
   -- some commands lead from the state to these tables, with no run open

@@ -6,8 +6,8 @@ use Rattle.std.specs.FinMap.{FinMap, empty, entries, len-empty, len-entries}
 use Rattle.dh_types.specs.declared.run.Run.{Run}
 use Rattle.dh_model.specs.Books.{Books}
 use Rattle.dh_model.specs.Whole.{IsOpenAt, completed, whole}
-use Rattle.dh_events.specs.Events.{IsShown, Tables}
-use Rattle.dh_events.specs.Laws.{EmptyTablesAreShown}
+use Rattle.dh_laws.specs.Events.{IsShown, Tables}
+use Rattle.dh_laws.specs.Lives.{EmptyTablesAreShown}
 
 module _ (size : ℕ) where
   whole_itself : (t : Tables) → t.run ≡ None → IsShown size t → whole size t.books ≡ t.books

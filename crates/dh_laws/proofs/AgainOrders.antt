@@ -26,7 +26,7 @@ use Rattle.dh_model.proofs.KeyOrders.{nat_ties, nat_total}
 use Rattle.dh_model.proofs.MapRows.{get_new, of_row}
 use Rattle.dh_laws.proofs.VerdictCases.{receipt_case, run_case}
 use Rattle.dh_laws.proofs.VerdictChecks.{found_none}
-use Rattle.dh_events.specs.Laws.{SentAgainIsOnce}
+use Rattle.dh_laws.specs.Lives.{SentAgainIsOnce}
 
 -- a key that was used is told as such, or refused: either way the state stays
 module _ (size : ℕ) (s : State) (told : Command) (books : Books) where

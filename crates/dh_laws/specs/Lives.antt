@@ -18,8 +18,8 @@ use Rattle.dh_model.specs.Verdicts.{verdict_on}
 use Rattle.dh_model.specs.Machine.{step}
 use Rattle.dh_model.specs.Whole.{whole}
 use Rattle.dh_laws.specs.InOrder.{AreKeyed, IsEntered, IsInOrder}
-use Rattle.dh_events.specs.Events.{Event, Said, Cut, Taken, Torn, Mended, Follow, IsShown, Tables, state_of}
-use Rattle.dh_events.specs.Kept.{Kept}
+use Rattle.dh_laws.specs.Events.{Event, Said, Cut, Taken, Torn, Mended, Follow, IsShown, Tables, state_of}
+use Rattle.dh_laws.specs.Kept.{Kept}
 
 -- the tables of books without a row
 abbrev pub empty_tables : ℕ → Tables

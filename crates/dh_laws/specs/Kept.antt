@@ -4,7 +4,7 @@ use Rattle.dh_types.specs.declared.command.Command.{Command}
 use Rattle.dh_model.specs.Books.{State}
 use Rattle.dh_model.specs.Machine.{step}
 use Rattle.dh_laws.specs.InOrder.{AreKeyed, IsEntered, IsInOrder}
-use Rattle.dh_events.specs.Events.{Event, Said, Cut, Taken, Torn, Mended, Follow, IsShown, Tables, state_of}
+use Rattle.dh_laws.specs.Events.{Event, Said, Cut, Taken, Torn, Mended, Follow, IsShown, Tables, state_of}
 
 module _ (size : ℕ) where
   -- The commands are those of the events in their order: each that was answered once, each that was cut once or not at all, and

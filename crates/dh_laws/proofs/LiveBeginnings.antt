@@ -3,9 +3,9 @@ use Rattle.std.proofs.Common.{◌≡◌, ◌∙◌, sym, ap, inl, inr, ℕ, List
 use Rattle.dh_types.specs.declared.command.Command.{Command}
 use Rattle.dh_model.specs.Books.{State}
 use Rattle.dh_model.specs.Machine.{step}
-use Rattle.dh_events.specs.Events.{Event, Said, Cut, Taken, Torn, Mended, Tables}
-use Rattle.dh_events.specs.Kept.{Kept}
-use Rattle.dh_events.specs.Laws.{IsOneLife, OneLifeKeepsABeginning, calls}
+use Rattle.dh_laws.specs.Events.{Event, Said, Cut, Taken, Torn, Mended, Tables}
+use Rattle.dh_laws.specs.Kept.{Kept}
+use Rattle.dh_laws.specs.Lives.{IsOneLife, OneLifeKeepsABeginning, calls}
 
 module _ (size : ℕ) where
   one_called : (it : Command) (called : List Command) → it ∷ called ≡ [] → ⊥

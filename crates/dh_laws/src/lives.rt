@@ -1,7 +1,7 @@
 //! Laws of all lives. Each function does nothing, and its clause is the law.
 
 ghost use Rattle.std.specs.Prelude.{ℕ};
-ghost use Rattle.dh_events.specs.Laws.{AcknowledgedReceiptsStay, AllLives, EmptyTablesAreShown, MendedBooksAreLawful, MonthsAreChargedOnce, OneLifeKeepsABeginning, SentAgainIsOnce};
+ghost use Rattle.dh_laws.specs.Lives.{AcknowledgedReceiptsStay, AllLives, EmptyTablesAreShown, MendedBooksAreLawful, MonthsAreChargedOnce, OneLifeKeepsABeginning, SentAgainIsOnce};
 
 /// Stopped before or within any write, any number of times, also within recovery: once recovery has come to its end the
 /// tables are those of the machine after a list of commands that keeps the order of the calls, holds every command that was

@@ -30,10 +30,10 @@ use Rattle.dh_laws.proofs.MonthShown.{none_open}
 use Rattle.dh_laws.proofs.MonthSteps.{steps_keep}
 use Rattle.dh_laws.proofs.MonthWhole.{whole_is_lawful}
 use Rattle.dh_laws.proofs.PostOpening.{run_is_opening_made_whole}
-use Rattle.dh_events.specs.Events.{Event, Follow, Happens, Mended, Said, Tables, state_of}
-use Rattle.dh_events.specs.Laws.{AcknowledgedReceiptsStay}
-use Rattle.dh_events.proofs.ReceiptEvents.{AreWhole, StepsKeep, entered_both, said_keeps, through}
-use Rattle.dh_events.proofs.ReceiptSteps.{Has, step_has}
+use Rattle.dh_laws.specs.Events.{Event, Follow, Happens, Mended, Said, Tables, state_of}
+use Rattle.dh_laws.specs.Lives.{AcknowledgedReceiptsStay}
+use Rattle.dh_laws.proofs.ReceiptEvents.{AreWhole, StepsKeep, entered_both, said_keeps, through}
+use Rattle.dh_laws.proofs.ReceiptSteps.{Has, step_has}
 
 -- ---- a receipt's number is told only where its row is put in
 

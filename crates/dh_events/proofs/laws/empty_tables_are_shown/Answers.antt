@@ -1,5 +1,0 @@
-use Rattle.dh_events.proofs.LiveTables.{empty_tables_are_shown}
-use Rattle.dh_events.proofs.laws.empty_tables_are_shown.Goals as goal
-
-pub returns : goal.returns
-returns c = empty_tables_are_shown

@@ -1,5 +1,0 @@
-use Rattle.dh_events.proofs.LiveBooks.{months_are_charged_once}
-use Rattle.dh_events.proofs.laws.months_are_charged_once.Goals as goal
-
-pub returns : goal.returns
-returns c = months_are_charged_once

@@ -1,0 +1,5 @@
+use Rattle.dh_laws.proofs.ReceiptStays.{acknowledged_receipts_stay}
+use Rattle.dh_laws.proofs.lives.acknowledged_receipts_stay.Goals as goal
+
+pub returns : goal.returns
+returns c = acknowledged_receipts_stay

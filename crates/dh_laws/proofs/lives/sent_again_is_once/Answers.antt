@@ -1,0 +1,5 @@
+use Rattle.dh_laws.proofs.AgainOrders.{sent_again_is_once}
+use Rattle.dh_laws.proofs.lives.sent_again_is_once.Goals as goal
+
+pub returns : goal.returns
+returns c = sent_again_is_once
