@@ -1,7 +1,8 @@
 //! Leases, their charges, and receipts.
 
-ghost use Rattle.std.specs.Prelude.{◌≡◌, OnOk, OnErr, option_copied};
+ghost use Rattle.std.specs.Prelude.{◌≡◌, ◌≤◌, length, OnOk, OnErr, option_copied};
 ghost use Rattle.std.specs.FinMap as fin;
+ghost use Rattle.dh_model.specs.BatchLaws.{AreNumbered};
 
 use super::Books;
 use dh_types::{Charge, ChargeIndex, Lease, LeaseNo, Receipt, ReceiptNo};
@@ -11,7 +12,8 @@ use std::collections::btree_map::Values;
 impl Books {
     /// The lease of this number.
     pub fn lease(&self, key: &LeaseNo) -> Option<&Lease>
-        ensures { option_copied result ≡ fin.get self.now.books.leases key.now }
+        ensures value { option_copied result ≡ fin.get self.now.books.leases key.now }
+        ensures numbered { AreNumbered self.now.books }
     {
         self.leases.get(key)
     }
@@ -26,9 +28,11 @@ impl Books {
         Ok(())
     }
 
-    /// All of them, rising by key.
+    /// All leases, rising by number. Each stands under its number, so there are no more than numbers.
     pub fn leases(&self) -> Values<'_, LeaseNo, Lease>
-        ensures { result ≡ fin.values self.now.books.leases }
+        ensures rows { result ≡ fin.values self.now.books.leases }
+        ensures numbered { AreNumbered self.now.books }
+        ensures few { length (fin.values self.now.books.leases) ≤ 99999999 }
     {
         self.leases.values()
     }
