@@ -1,7 +1,7 @@
 //! All rules.
 
 ghost use Rattle.std.specs.Prelude.{IfOk};
-ghost use Rattle.std.specs.Option.{MatchOption};
+ghost use Rattle.std.specs.Result.{MatchResult};
 ghost use Rattle.dh_model.specs.Rules.{MeetsRules};
 ghost use Rattle.dh_model.specs.Runs.{batch_size};
 ghost use Rattle.dh_audit.specs.Audit.{HoldBelow, IsLeastBroken};
@@ -14,49 +14,49 @@ use crate::{
 use dh_books::Books;
 use std::alloc::{AllocError, Global};
 
-// The least of rules 1 to 8 that is broken: those of single rows and of what rows share. It fails where memory runs out.
-pub(crate) fn broken_by_rows(alloc: Global, books: &Books) -> Result<Option<u8>, AllocError>
-    ensures { IfOk result (λ broken. MatchOption broken (HoldBelow books.now.books batch_size 9) (IsLeastBroken books.now.books batch_size)) }
+// Whether rules 1 to 8 hold, those of single rows and of what rows share; else the least of them that is broken.
+fn audit_of_rows(alloc: Global, books: &Books) -> Result<Result<(), u8>, AllocError>
+    ensures { IfOk result (λ found. MatchResult found (λ _. HoldBelow books.now.books batch_size 9) (IsLeastBroken books.now.books batch_size)) }
 {
     if !names_what_is_there(books) {
-        return Ok(Some(1));
+        return Ok(Err(1));
     }
     if !staff_of_the_branch(books) {
-        return Ok(Some(2));
+        return Ok(Err(2));
     }
     if !manages_at_most_hundred(alloc, books)? {
-        return Ok(Some(3));
+        return Ok(Err(3));
     }
     if !leases_never_overlap(alloc, books)? {
-        return Ok(Some(4));
+        return Ok(Err(4));
     }
     if !one_start_a_day(alloc, books)? {
-        return Ok(Some(5));
+        return Ok(Err(5));
     }
     if !leases_in_time(books) {
-        return Ok(Some(6));
+        return Ok(Err(6));
     }
     if !deposits_in_order(alloc, books)? {
-        return Ok(Some(7));
+        return Ok(Err(7));
     }
     if !keys_in_order(alloc, books)? {
-        return Ok(Some(8));
+        return Ok(Err(8));
     }
-    Ok(None)
+    Ok(Ok(()))
 }
 
-/// The least rule that is broken, and none where all ten hold. It fails where memory runs out.
-pub fn audit(alloc: Global, books: &Books) -> Result<Option<u8>, AllocError>
-    ensures { IfOk result (λ broken. MatchOption broken (MeetsRules books.now.books batch_size) (IsLeastBroken books.now.books batch_size)) }
+/// Whether all ten rules hold; else `Err` of the least that is broken, by its number. It fails where memory runs out.
+pub fn audit(alloc: Global, books: &Books) -> Result<Result<(), u8>, AllocError>
+    ensures { IfOk result (λ found. MatchResult found (λ _. MeetsRules books.now.books batch_size) (IsLeastBroken books.now.books batch_size)) }
 {
-    if let Some(rule) = broken_by_rows(alloc, books)? {
-        return Ok(Some(rule));
+    if let Err(rule) = audit_of_rows(alloc, books)? {
+        return Ok(Err(rule));
     }
     if !runs_in_order(books) {
-        return Ok(Some(9));
+        return Ok(Err(9));
     }
     if !months_in_order(alloc, books)? {
-        return Ok(Some(10));
+        return Ok(Err(10));
     }
-    Ok(None)
+    Ok(Ok(()))
 }

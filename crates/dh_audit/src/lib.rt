@@ -1,34 +1,21 @@
-//! The audit of the books: whether what must hold of them does.
+//! The audit of the books: whether what must hold of them does. Read `audit` first; each rule has a function of its own, those of
+//! months and runs in the crate below.
 #![tactic(auto)]
 
 mod auditing;
-mod closed_charges;
-mod closed_dues;
-mod closed_months;
-mod closed_parts;
-mod closed_sums;
 mod distinct;
 mod leases;
-mod months;
-mod open_months;
-mod open_same;
-mod open_shown;
 mod receipts;
 mod references;
-mod runs;
 mod staff;
 mod stays;
 
 pub use auditing::audit;
-pub use closed_months::closed_months_are_in_order;
+pub use dh_month_audit::{
+    closed_months_are_in_order, months_in_order, open_months_are_in_order, runs_in_order,
+};
 pub use leases::{leases_in_time, one_start_a_day};
-pub use months::months_in_order;
-pub use open_months::open_months_are_in_order;
 pub use receipts::{deposits_in_order, keys_in_order};
 pub use references::names_what_is_there;
-pub use runs::runs_in_order;
 pub use staff::{manages_at_most_hundred, staff_of_the_branch};
 pub use stays::leases_never_overlap;
-
-#[cfg(test)]
-mod tests;

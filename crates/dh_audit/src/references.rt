@@ -4,6 +4,7 @@ ghost use Rattle.std.specs.Prelude.{◌≡◌, ◌↔◌, true, IfSome};
 ghost use Rattle.dh_model.specs.Rules.{Each, InspectionRefers, IsThere, LeaseRefers, NamesWhatIsThere, PropertyRefers, RegistrationRefers, ViewingRefers};
 
 use dh_books::Books;
+use dh_month_audit::parts_have_runs;
 use dh_types::{Inspection, Lease, Property, Registration, Viewing};
 
 // Whether the property's manager, if any, is there.
@@ -127,13 +128,6 @@ fn receipts_refer(books: &Books) -> bool
     books
         .receipts()
         .all(|receipt| books.lease(&receipt.payment.lease).is_some())
-}
-
-// Whether each part row is of a run that is there.
-pub(crate) fn parts_have_runs(books: &Books) -> bool
-    ensures { (result ≡ true) ↔ Each books.now.books.parts (λ part. IsThere books.now.books.runs part.month) }
-{
-    books.parts().all(|part| books.run(&part.month).is_some())
 }
 
 // Whether each part row is of a branch that is there.

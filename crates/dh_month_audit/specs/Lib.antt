@@ -1,0 +1,2 @@
+pub mod ClosedMonths
+pub mod OpenFields
