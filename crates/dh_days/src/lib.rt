@@ -1,4 +1,5 @@
-//! Days and months.
+//! Days and months of the calendar, and those of them that a line can spell.
+//! Read `Day` first: `plus_months` is what leases rest on.
 #![tactic(auto)]
 
 mod day;
@@ -11,6 +12,3 @@ pub use day::Day;
 pub use entry_day::EntryDay;
 pub use entry_month::EntryMonth;
 pub use month::Month;
-
-#[cfg(test)]
-mod tests;

@@ -1,4 +1,5 @@
 //! The values, records, commands, replies and faults of a letting agency, and their texts.
+//! Read `Command` and `Reply` first, then `Lease` and the records beside it.
 #![tactic(auto)]
 
 mod answer;
@@ -36,6 +37,3 @@ pub use run::{Part, Run, RunSum};
 pub use staff::Staff;
 pub use viewing::{Inspection, Viewing};
 pub use writing::Output;
-
-#[cfg(test)]
-mod tests;

@@ -1,4 +1,5 @@
 //! The values of a letting agency: codes, texts and numbers, and which texts are values.
+//! Read `LeaseNo` first: the other numbers have its form. Then `Pence` for money, and `Id` for codes.
 #![tactic(auto)]
 
 mod amount;
@@ -44,6 +45,3 @@ pub use text::{Comment, Text60};
 /// A text that is not in the grammar of a value.
 #[derive(Clone, Copy, Debug, PartialEq, Eq)]
 pub struct BadText;
-
-#[cfg(test)]
-mod tests;

@@ -1,2 +1,0 @@
-mod days;
-mod months;
