@@ -46,3 +46,4 @@ pub mod LiveBeginnings
 pub mod LiveBooks
 pub mod LiveCommands
 pub mod LiveTables
+mod ShownRun

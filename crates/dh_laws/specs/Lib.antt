@@ -6,6 +6,7 @@ pub mod Balances
 pub mod Events
 pub mod Kept
 pub mod Lives
+pub mod Shown
 pub use Rattle.dh_types.specs.Records
 pub use Rattle.dh_types.specs.Reports
 pub use Rattle.dh_types.specs.Replies
