@@ -47,3 +47,5 @@ pub mod LiveBooks
 pub mod LiveCommands
 pub mod LiveTables
 mod ShownRun
+mod AskAnswers
+mod AskRefusals

@@ -7,6 +7,7 @@ pub mod Events
 pub mod Kept
 pub mod Lives
 pub mod Shown
+pub mod Asking
 pub use Rattle.dh_types.specs.Records
 pub use Rattle.dh_types.specs.Reports
 pub use Rattle.dh_types.specs.Replies
