@@ -49,3 +49,6 @@ pub mod LiveTables
 mod ShownRun
 mod AskAnswers
 mod AskRefusals
+mod RunTold
+mod RunSteps
+mod RunStays
