@@ -49,6 +49,9 @@ pub mod LiveTables
 mod ShownRun
 mod AskAnswers
 mod AskRefusals
+mod FindKeys
+mod RepeatReplies
 mod RunTold
 mod RunSteps
 mod RunStays
+mod RepeatAgain

@@ -9,4 +9,5 @@ pub mod keeping;
 pub mod lives;
 pub mod passing;
 pub mod posting;
+pub mod repeating;
 pub mod shown;
