@@ -46,3 +46,12 @@ pub mod LiveBeginnings
 pub mod LiveBooks
 pub mod LiveCommands
 pub mod LiveTables
+mod ShownRun
+mod AskAnswers
+mod AskRefusals
+mod FindKeys
+mod RepeatReplies
+mod RunTold
+mod RunSteps
+mod RunStays
+mod RepeatAgain

@@ -20,7 +20,7 @@ module _ (size : ℕ) (books : Books) (pos : 1 ≤ size) (keyed : AreKeyed books
   pub lawful_closed : open_row books ≡ None → IsLawful books size
   lawful_closed none = record { rules = rules; closed = λ run a. all_closed books none run (among (values books.runs) run a) }
 
-  whole_of : (found : Option Run) → open_row books ≡ found → AreKeyed (completed size books found) × IsLawful (completed size books found) size
+  pub whole_of : (found : Option Run) → open_row books ≡ found → AreKeyed (completed size books found) × IsLawful (completed size books found) size
   whole_of None shown = (keyed, lawful_closed shown)
   whole_of (Some row) shown =
       let all = batches size books row.month in

@@ -76,7 +76,7 @@ module _ (size : ℕ) (s : State) (order : ReceiptOrder) (number : ℕ) where
   told_open None v t = t
   told_open (Some run) v t = λ e. cc
 
-  told : IsToldOf (step size s (command.Receipt order))
+  pub told : IsToldOf (step size s (command.Receipt order))
   told =
       let checked = judged (receipt_checks s.books order) (change.Receipt (receipt next)) in
       let no_run = unless_run s.books (run_of_key s.books order.key) checked in
@@ -87,16 +87,16 @@ module _ (size : ℕ) (s : State) (order : ReceiptOrder) (number : ℕ) where
 -- ---- what is kept from then on
 
 module _ (size : ℕ) where
-  record IsKept (books : Books) : Type 0 where
-    keyed : AreKeyed books
-    lawful : IsLawful books size
+  pub record IsKept (books : Books) : Type 0 where
+    pub keyed : AreKeyed books
+    pub lawful : IsLawful books size
 
-  kept_steps : 1 ≤ size → StepsKeep size IsKept
+  pub kept_steps : 1 ≤ size → StepsKeep size IsKept
   kept_steps pos s told entered kept =
       let after = steps_keep size (changes_keep_order size) (whole_is_lawful size) (run_is_opening_made_whole size) s told pos kept.keyed kept.lawful entered in
       record { keyed = after.0; lawful = after.1 }
 
-  kept_whole : AreWhole size IsKept
+  pub kept_whole : AreWhole size IsKept
   kept_whole books kept = ap (completed size books) (none_open books (λ run a. kept.lawful.closed run (is_among (values books.runs) run a)))
 
   module _ (number : ℕ) (receipt : Receipt) where

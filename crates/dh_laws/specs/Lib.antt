@@ -6,6 +6,9 @@ pub mod Balances
 pub mod Events
 pub mod Kept
 pub mod Lives
+pub mod Shown
+pub mod Asking
+pub mod Repeating
 pub use Rattle.dh_types.specs.Records
 pub use Rattle.dh_types.specs.Reports
 pub use Rattle.dh_types.specs.Replies

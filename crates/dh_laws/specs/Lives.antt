@@ -3,6 +3,8 @@ use Rattle.std.specs.Prelude.{◌≡◌, ◌≤◌, ◌↔◌, ℕ, List, [], �
 use Rattle.std.specs.List.{IsAmong}
 use Rattle.std.specs.FinMap.{get, values}
 use Rattle.dh_types.specs.declared.lease.Charge.{Charge}
+use Rattle.dh_types.specs.declared.run.Run.{Run}
+use Rattle.dh_types.specs.declared.run.RunSum.{RunSum}
 use Rattle.dh_types.specs.declared.command.Command.{Command}
 use Rattle.dh_types.specs.declared.command.Command.TheVariants as command
 use Rattle.dh_types.specs.declared.command.ReceiptOrder.{ReceiptOrder}
@@ -13,7 +15,8 @@ use Rattle.dh_model.specs.declared.rows.Change.{Change}
 use Rattle.dh_model.specs.declared.rows.Verdict.TheVariants as verdict
 use Rattle.dh_model.specs.Books.{Books, State, empty_books}
 use Rattle.dh_model.specs.Leases.{dues}
-use Rattle.dh_model.specs.Rules.{IsLawful, IsThere}
+use Rattle.dh_model.specs.Rules.{IsLawful, IsThere, MonthIsClosed}
+use Rattle.dh_model.specs.Runs.{sum_of}
 use Rattle.dh_model.specs.Verdicts.{verdict_on}
 use Rattle.dh_model.specs.Machine.{step}
 use Rattle.dh_model.specs.Whole.{whole}
@@ -44,6 +47,10 @@ abbrev pub IsOneLife : List (Event × Tables) → Type 0
 IsOneLife [] = Unit {0}
 IsOneLife ((Cut it, after) ∷ events) = calls events ≡ []
 IsOneLife (_ ∷ events) = IsOneLife events
+
+-- the run stands under the order's month and has its key, and the month is charged with all its dues and nothing else
+abbrev pub IsRunFor : Books → RunOrder → Run → Type 0
+IsRunFor books order run = (get books.runs order.month ≡ Some run) × (run.key ≡ order.key) × MonthIsClosed books run
 
 module _ (size : ℕ) where
   -- Whatever was said, cut, taken, torn and mended, in whatever order: once recovery has come to its end the tables are the
@@ -80,6 +87,15 @@ module _ (size : ℕ) where
       → IsInOrder size start.books start.run → AreEntered (before ++ later)
       → Follow size start (before ++ (Said (command.Receipt order) (reply.Receipt number), said) ∷ later ++ (Mended, after) ∷ [])
       → get after.books.receipts number ≡ Some (record { number = number; key = order.key; payment = order.payment })
+
+  -- a run or an opening that was acknowledged is in the books for good, and its month is charged exactly once
+  abbrev pub AcknowledgedRunsStay : Type 0
+  AcknowledgedRunsStay = (start after said : Tables) (before later : List (Event × Tables)) (order : RunOrder) → 1 ≤ size
+      → IsInOrder size start.books start.run → AreEntered (before ++ later)
+      → ((sum : RunSum) → Follow size start (before ++ (Said (command.Run order) (reply.Posted sum), said) ∷ later ++ (Mended, after) ∷ [])
+      → (run : Run) × IsRunFor after.books order run × (sum_of run ≡ sum))
+      × ((month : ℕ) → Follow size start (before ++ (Said (command.Open order) (reply.Opened month), said) ∷ later ++ (Mended, after) ∷ [])
+      → (run : Run) × IsRunFor after.books order run × (month ≡ order.month))
 
   -- a receipt or a run that was carried out and is sent again changes nothing more
   abbrev pub SentAgainIsOnce : Type 0

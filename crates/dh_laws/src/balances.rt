@@ -1,4 +1,4 @@
-//! What the leases owe.
+//! What the leases owe. Read `balances_move_as_told` first.
 
 ghost use Rattle.std.specs.Prelude.{ℕ};
 ghost use Rattle.dh_laws.specs.Balances.{BalancesMoveAsTold, ChargesAreDues};

@@ -1,4 +1,4 @@
-//! What every change keeps.
+//! What every change keeps. Read `changes_keep_order` first.
 
 ghost use Rattle.std.specs.Prelude.{ℕ};
 ghost use Rattle.dh_laws.specs.Keeping.{ChangesKeepOrder, EmptyBooksAreInOrder, StepsKeepTheLaw, WholeIsLawful};

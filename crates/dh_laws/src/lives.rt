@@ -1,7 +1,7 @@
-//! Laws of all lives. Each function does nothing, and its clause is the law.
+//! Laws of all lives. Each function does nothing, and its clause is the law. Read `lives` first.
 
 ghost use Rattle.std.specs.Prelude.{ℕ};
-ghost use Rattle.dh_laws.specs.Lives.{AcknowledgedReceiptsStay, AllLives, EmptyTablesAreShown, MendedBooksAreLawful, MonthsAreChargedOnce, OneLifeKeepsABeginning, SentAgainIsOnce};
+ghost use Rattle.dh_laws.specs.Lives.{AcknowledgedReceiptsStay, AcknowledgedRunsStay, AllLives, EmptyTablesAreShown, MendedBooksAreLawful, MonthsAreChargedOnce, OneLifeKeepsABeginning, SentAgainIsOnce};
 
 /// Stopped before or within any write, any number of times, also within recovery: once recovery has come to its end the
 /// tables are those of the machine after a list of commands that keeps the order of the calls, holds every command that was
@@ -33,6 +33,11 @@ pub fn months_are_charged_once()
 /// A receipt that was acknowledged is in the books for good.
 pub fn acknowledged_receipts_stay()
     ensures { (size : ℕ) → AcknowledgedReceiptsStay size }
+{}
+
+/// A rent run or an opening that was acknowledged is in the books for good, and its month is charged exactly once.
+pub fn acknowledged_runs_stay()
+    ensures { (size : ℕ) → AcknowledgedRunsStay size }
 {}
 
 /// A receipt or a run that was cut is sent again with its key: whichever way the cut went, the books are the same.

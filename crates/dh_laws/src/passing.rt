@@ -1,4 +1,4 @@
-//! What is free and an open run pass each other by.
+//! What is free and an open run pass each other by. Read `free_changes_pass_the_run` first; the laws of each command follow.
 
 ghost use Rattle.std.specs.Prelude.{ℕ};
 ghost use Rattle.dh_types.specs.declared.command.Command.TheVariants as command;

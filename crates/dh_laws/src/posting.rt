@@ -1,4 +1,4 @@
-//! Batches, one after the other, lead to the same whole books.
+//! Batches, one after the other, lead to the same whole books. Read `next_batch_keeps_the_whole` first.
 
 ghost use Rattle.std.specs.Prelude.{ℕ};
 ghost use Rattle.dh_laws.specs.Posting.{ClosingMakesWhole, NextBatchIsSmall, NextBatchKeepsTheWhole, RunIsOpeningMadeWhole};

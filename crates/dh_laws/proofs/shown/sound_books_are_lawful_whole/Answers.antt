@@ -1,0 +1,5 @@
+use Rattle.dh_laws.proofs.ShownRun.{sound_books_are_lawful_whole}
+use Rattle.dh_laws.proofs.shown.sound_books_are_lawful_whole.Goals as goal
+
+pub returns : goal.returns
+returns c = sound_books_are_lawful_whole

@@ -1,0 +1,19 @@
+//! The open run that books show. Read `one_run_is_shown` first.
+
+ghost use Rattle.std.specs.Prelude.{ℕ};
+ghost use Rattle.dh_laws.specs.Shown.{OneRunIsShown, OpenRowIsFound, SoundBooksAreLawfulWhole};
+
+/// A run row that is not closed is at exactly one number of batches, in keyed books that meet the rules.
+pub fn open_row_is_found()
+    ensures { (size : ℕ) → OpenRowIsFound size }
+{}
+
+/// Keyed books that meet the rules show exactly one open run, or none; one exactly where a run row is open.
+pub fn one_run_is_shown()
+    ensures { (size : ℕ) → OneRunIsShown size }
+{}
+
+/// Keyed books that meet the rules have a lawful whole, whatever run they show.
+pub fn sound_books_are_lawful_whole()
+    ensures { (size : ℕ) → SoundBooksAreLawfulWhole size }
+{}
