@@ -4,6 +4,7 @@
 
 pub mod batch_laws;
 pub mod laws;
+pub mod list_laws;
 pub mod machine_laws;
 mod open_run;
 mod rows;
