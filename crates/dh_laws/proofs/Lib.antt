@@ -33,6 +33,7 @@ pub mod KeepManagers
 pub mod KeepOrder
 pub mod PostCounts
 pub mod PostSmall
+pub mod PostNext
 pub mod PostClosing
 pub mod PostOpening
 pub mod VerdictCases
@@ -45,4 +46,12 @@ mod ReceiptSteps
 pub mod LiveBeginnings
 pub mod LiveBooks
 pub mod LiveCommands
+pub mod LiveParts
 pub mod LiveTables
+pub mod MovingBatches
+pub mod TellingWhole
+pub mod TellingMeanwhile
+pub mod TellingRuns
+pub mod TellingCuts
+pub mod Standing
+pub mod Carrying

@@ -2,10 +2,15 @@ pub mod InOrder
 pub mod Keeping
 pub mod Passing
 pub mod Posting
+pub mod NextBatch
 pub mod Balances
 pub mod Events
 pub mod Kept
 pub mod Lives
+pub mod EachLife
+pub mod StateTables
+pub mod Telling
+pub mod Batches
 pub use Rattle.dh_types.specs.Records
 pub use Rattle.dh_types.specs.Reports
 pub use Rattle.dh_types.specs.Replies

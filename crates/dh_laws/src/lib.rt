@@ -4,6 +4,7 @@
 #![tactic(auto)]
 
 pub mod balances;
+pub mod entering;
 pub mod keeping;
 pub mod lives;
 pub mod passing;
