@@ -2,10 +2,7 @@
 use Rattle.std.proofs.Common.{◌<◌, ap, ℕ, arith}
 use Rattle.std.specs.FinMap.{values}
 use Rattle.dh_types.specs.declared.lease.Charge.{Charge}
-use Rattle.dh_model.specs.Books.{Books}
 use Rattle.dh_model.specs.Leases.{dues}
-use Rattle.dh_model.specs.Runs.{charge_key}
-use Rattle.dh_model.specs.BatchLaws.{AreNumbered}
 use Rattle.dh_model.specs.ListLaws.{DuesRiseByLease, EachDueIsListedOnce}
 use Rattle.dh_model.proofs.BranchDues.{dues_rise, leases_rise}
 use Rattle.dh_model.proofs.Pairs.{rising_pairs}

@@ -1,5 +1,5 @@
 -- Which properties are vacant, and which suit a client, and in which order they are listed.
-use Rattle.std.proofs.Common.{◌≡◌, ◌≢◌, ◌⊎◌, ◌<◌, ◌≤◌, ◌∙◌, refl, sym, ap, inl, inr, ℕ, Bool, true, false, cond, not, nat_eq, nat_le, nat_lt, ◌&&◌, List, [], ◌∷◌, map, Some, Ordering, Less, Equal, Greater, is_lt, nat_cmp, arith}
+use Rattle.std.proofs.Common.{◌≡◌, ◌∙◌, refl, sym, ap, inl, inr, ℕ, Bool, true, false, cond, not, nat_le, nat_lt, ◌&&◌, List, [], ◌∷◌, map, Some, Ordering, Less, Equal, Greater, is_lt, nat_cmp, arith}
 use Rattle.std.specs.List.{filter, list_any}
 use Rattle.std.specs.Ordering.{eq_by_cmp, ordering_then}
 use Rattle.std.specs.Cmp.{IsTotalOrder}
@@ -17,7 +17,7 @@ use Rattle.dh_types.proofs.SameValues.{property_types, texts}
 use Rattle.dh_model.specs.Books.{Books, pair_cmp, text_cmp}
 use Rattle.dh_model.specs.Leases.{Covers, covers, end_of}
 use Rattle.dh_model.specs.Checks.{is_same_text}
-use Rattle.dh_model.specs.Answers.{by_rent, is_vacant, matches, matching, vacant}
+use Rattle.dh_model.specs.Answers.{is_vacant, matches, matching, vacant}
 use Rattle.dh_model.specs.ListLaws.{IsCheaper, IsNotLet, MatchingRiseByRent, MatchingSuitTheClient, PropertiesAreNumbered, Suits, VacantAreNotLet, VacantRiseByNumber}
 use Rattle.dh_model.proofs.Among.{Among, among, in_filter, in_map, is_among, of_filter, of_passes, some_passes}
 use Rattle.dh_model.proofs.KeyOrders.{nat_text_ties, nat_text_total, nat_ties, text_ties, text_total}
