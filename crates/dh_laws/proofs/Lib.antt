@@ -33,6 +33,7 @@ pub mod KeepManagers
 pub mod KeepOrder
 pub mod PostCounts
 pub mod PostSmall
+pub mod PostNext
 pub mod PostClosing
 pub mod PostOpening
 pub mod VerdictCases
@@ -45,6 +46,7 @@ mod ReceiptSteps
 pub mod LiveBeginnings
 pub mod LiveBooks
 pub mod LiveCommands
+pub mod LiveParts
 pub mod LiveTables
 mod ShownRun
 mod AskAnswers
@@ -55,3 +57,10 @@ mod RunTold
 mod RunSteps
 mod RunStays
 mod RepeatAgain
+pub mod MovingBatches
+pub mod TellingWhole
+pub mod TellingMeanwhile
+pub mod TellingRuns
+pub mod TellingCuts
+pub mod Standing
+pub mod Carrying

@@ -17,7 +17,7 @@ module _ (size : ℕ) where
   none_counts s last ((Said it reply, t) ∷ events) told none k = absurd (one_called it (calls events) none)
   none_counts s last ((Cut it, t) ∷ events) told none k = absurd (one_called it (calls events) none)
   none_counts s last ((Taken, t) ∷ events) told none k = none_counts s last events told none k
-  none_counts s last ((Torn, t) ∷ events) told none k = none_counts (record s { open_run = t.run }) last events told none k
+  none_counts s last ((Torn, t) ∷ events) told none k = none_counts (record s { open_run = t.run }) last events told none k.1
   none_counts s last ((Mended, t) ∷ events) told none k = none_counts (record s { open_run = None }) last events told none k
 
   abbrev IsBeginning : List Command → List Command → Type 0
@@ -33,12 +33,12 @@ module _ (size : ℕ) where
   begins s last [] told once k = nothing told [] k.0
   begins s last ((Said it reply, t) ∷ events) told once k = one_more it told k.0 (calls events) k.2 (begins k.1 last events k.0 once k.4)
   begins s last ((Cut it, t) ∷ events) told once k = elim k [
-    | inl left ↦ nothing told (it ∷ calls events) (none_counts (record s { open_run = t.run }) last events told once left)
+    | inl left ↦ nothing told (it ∷ calls events) (none_counts (record s { open_run = t.run }) last events told once left.1)
     | inr in_it ↦ one_more it told in_it.0 (calls events) in_it.1
-        (nothing in_it.0 (calls events) (none_counts (record (step size s it).0 { open_run = t.run }) last events in_it.0 once in_it.2))
+        (nothing in_it.0 (calls events) (none_counts (record (step size s it).0 { open_run = t.run }) last events in_it.0 once in_it.3))
   ]
   begins s last ((Taken, t) ∷ events) told once k = begins s last events told once k
-  begins s last ((Torn, t) ∷ events) told once k = begins (record s { open_run = t.run }) last events told once k
+  begins s last ((Torn, t) ∷ events) told once k = begins (record s { open_run = t.run }) last events told once k.1
   begins s last ((Mended, t) ∷ events) told once k = begins (record s { open_run = None }) last events told once k
 
 pub one_life_keeps_a_beginning : (size : ℕ) → OneLifeKeepsABeginning size

@@ -4,8 +4,9 @@ use Rattle.dh_types.specs.declared.command.Command.{Command}
 use Rattle.dh_types.specs.declared.reply.Reply.{Reply}
 use Rattle.dh_model.specs.Books.{Books, State}
 use Rattle.dh_model.specs.Machine.{step}
+use Rattle.dh_model.specs.Verdicts.{verdict_on}
 use Rattle.dh_model.specs.Whole.{whole}
-use Rattle.dh_laws.specs.Events.{Event, Said, Cut, Taken, Torn, Mended, Follow, Tables, state_of}
+use Rattle.dh_laws.specs.Events.{Event, Said, Cut, Taken, Torn, Mended, Follow, IsMovedOn, RunIfDone, RunIfUndone, Tables, state_of}
 use Rattle.dh_laws.specs.Kept.{Kept}
 use Rattle.dh_laws.specs.Lives.{AllLives}
 use Rattle.dh_laws.proofs.LiveTables.{mended_whole}
@@ -19,12 +20,17 @@ module _ (size : ℕ) (after : Tables) where
       → Leads next events → Leads s ((Said it reply, t) ∷ events)
   answered s next it reply t events e l = (it ∷ l.0, l.1, (l.0, next, refl, e, l.2), l.3, l.4)
 
-  left_out : (s : State) (it : Command) (t : Tables) (events : List (Event × Tables)) → Leads (record s { open_run = t.run }) events → Leads s ((Cut it, t) ∷ events)
-  left_out s it t events l = (l.0, l.1, inl l.2, l.3, l.4)
+  left_out : (s : State) (it : Command) (t : Tables) (events : List (Event × Tables)) → RunIfUndone size s.books it s.open_run t.run
+      → Leads (record s { open_run = t.run }) events → Leads s ((Cut it, t) ∷ events)
+  left_out s it t events run l = (l.0, l.1, inl (run, l.2), l.3, l.4)
 
-  taken_in : (s : State) (it : Command) (t : Tables) (events : List (Event × Tables)) → Leads (record (step size s it).0 { open_run = t.run }) events
-      → Leads s ((Cut it, t) ∷ events)
-  taken_in s it t events l = (it ∷ l.0, l.1, inr (l.0, refl, l.2), l.3, l.4)
+  taken_in : (s : State) (it : Command) (t : Tables) (events : List (Event × Tables)) → RunIfDone size s it (verdict_on s.books s.open_run it) t.run
+      → Leads (record (step size s it).0 { open_run = t.run }) events → Leads s ((Cut it, t) ∷ events)
+  taken_in s it t events run l = (it ∷ l.0, l.1, inr (l.0, refl, run, l.2), l.3, l.4)
+
+  moved_on : (s : State) (t : Tables) (events : List (Event × Tables)) → IsMovedOn size s.books s.open_run t.run → Leads (record s { open_run = t.run }) events
+      → Leads s ((Torn, t) ∷ events)
+  moved_on s t events run l = (l.0, l.1, (run, l.2), l.3, l.4)
 
   -- the tables stand for these books and their open run
   moved : (t : Tables) (books : Books) (events : List (Event × Tables)) → whole size t.books ≡ books → Leads (state_of size t) events
@@ -42,11 +48,11 @@ module _ (size : ℕ) (after : Tables) where
   lead start [] f = ([], record { books = whole size start.books; open_run = None }, (refl, refl), ap (λ (t : Tables). t.books) f.1, refl)
   lead start ((Said it reply, t) ∷ events) f = answered (state_of size start) (state_of size t) it reply t (to_the_end events) f.1 (lead t events f.2)
   lead start ((Cut it, t) ∷ events) f = elim f.1 [
-    | inl undone ↦ left_out (state_of size start) it t (to_the_end events) (moved t (whole size start.books) (to_the_end events) undone.books (lead t events f.2))
-    | inr done ↦ taken_in (state_of size start) it t (to_the_end events) (moved t (step size (state_of size start) it).0.books (to_the_end events) done.books (lead t events f.2))
+    | inl undone ↦ left_out (state_of size start) it t (to_the_end events) undone.run (moved t (whole size start.books) (to_the_end events) undone.books (lead t events f.2))
+    | inr done ↦ taken_in (state_of size start) it t (to_the_end events) done.run (moved t (step size (state_of size start) it).0.books (to_the_end events) done.books (lead t events f.2))
   ]
   lead start ((Taken, t) ∷ events) f = subst (λ u. Leads (state_of size u) (to_the_end events)) f.1 (lead t events f.2)
-  lead start ((Torn, t) ∷ events) f = moved t (whole size start.books) (to_the_end events) f.1.books (lead t events f.2)
+  lead start ((Torn, t) ∷ events) f = moved_on (state_of size start) t (to_the_end events) f.1.run (moved t (whole size start.books) (to_the_end events) f.1.books (lead t events f.2))
   lead start ((Mended, t) ∷ events) f =
       closed t (whole size start.books) (to_the_end events) (mended_whole size t (whole size start.books) f.1 f.0) (ap (λ (u : Tables). u.run) f.1) (lead t events f.2)
 

@@ -43,7 +43,7 @@ of_other n month h e =
     let no : not true ≡ true = rw same at h in
     cc
 
-same_or_other : (n month : ℕ) → (n ≡ month) ⊎ (n ≡ month → ⊥)
+pub same_or_other : (n month : ℕ) → (n ≡ month) ⊎ (n ≡ month → ⊥)
 same_or_other n month = by (nat_eq n month) refl
   where
     by : (b : Bool) → nat_eq n month ≡ b → (n ≡ month) ⊎ (n ≡ month → ⊥)

@@ -42,7 +42,7 @@ module _ {X : Type 0} (p q : X → Bool) (implies : (x : X) → p x ≡ true →
 
 module _ {K : Type 0} (f : K → ℕ) (R : K → K → Ordering) (o : IsTotalOrder R) where
   -- a lesser key's own are among those before a greater one
-  own_is_before : (ks : List K) (a b : K) → Among ks a → IsBefore R a b → sum_before f R o ks a + f a ≤ sum_before f R o ks b
+  pub own_is_before : (ks : List K) (a b : K) → Among ks a → IsBefore R a b → sum_before f R o ks a + f a ≤ sum_before f R o ks b
   own_is_before ks a b h less =
       let before : List K = filter (λ other. is_lt (R other b)) ks in
       let all = own_is_among_all f R o before a (of_filter (λ other. is_lt (R other b)) ks a less h) in

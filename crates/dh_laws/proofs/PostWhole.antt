@@ -29,7 +29,7 @@ is_open books row keyed shown =
 
 module _ (size : ℕ) (books : Books) (keyed : AreKeyed books) (rules : MeetsRules books size) where
   -- whatever batches are in the books, the rest leads to the same
-  completed_same : (row : Run) (n : ℕ) → completed size (with_posted size books row.month n) (Some row) ≡ completed size books (Some row)
+  pub completed_same : (row : Run) (n : ℕ) → completed size (with_posted size books row.month n) (Some row) ≡ completed size books (Some row)
   completed_same row n =
       let all = batches size books row.month in
       let charges = others_stay charge_key charge_month nats_total nats_tie books.charges row.month (posted_charges size books row.month n) (charges_fit size books keyed rules row.month n) in

@@ -2,6 +2,7 @@ pub mod InOrder
 pub mod Keeping
 pub mod Passing
 pub mod Posting
+pub mod NextBatch
 pub mod Balances
 pub mod Events
 pub mod Kept
@@ -9,6 +10,10 @@ pub mod Lives
 pub mod Shown
 pub mod Asking
 pub mod Repeating
+pub mod EachLife
+pub mod StateTables
+pub mod Telling
+pub mod Batches
 pub use Rattle.dh_types.specs.Records
 pub use Rattle.dh_types.specs.Reports
 pub use Rattle.dh_types.specs.Replies

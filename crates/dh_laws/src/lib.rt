@@ -5,6 +5,7 @@
 
 pub mod asking;
 pub mod balances;
+pub mod entering;
 pub mod keeping;
 pub mod lives;
 pub mod passing;

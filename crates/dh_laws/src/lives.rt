@@ -1,6 +1,7 @@
 //! Laws of all lives. Each function does nothing, and its clause is the law. Read `lives` first.
 
 ghost use Rattle.std.specs.Prelude.{ℕ};
+ghost use Rattle.dh_laws.specs.EachLife.{EachLifeKeepsABeginning};
 ghost use Rattle.dh_laws.specs.Lives.{AcknowledgedReceiptsStay, AcknowledgedRunsStay, AllLives, EmptyTablesAreShown, MendedBooksAreLawful, MonthsAreChargedOnce, OneLifeKeepsABeginning, SentAgainIsOnce};
 
 /// Stopped before or within any write, any number of times, also within recovery: once recovery has come to its end the
@@ -18,6 +19,11 @@ pub fn empty_tables_are_shown()
 /// Within one life the list of commands is a beginning of the calls.
 pub fn one_life_keeps_a_beginning()
     ensures { (size : ℕ) → OneLifeKeepsABeginning size }
+{}
+
+/// Life after life the commands that count are a beginning of its calls: all, or all but the last, which was cut.
+pub fn each_life_keeps_a_beginning()
+    ensures { (size : ℕ) → EachLifeKeepsABeginning size }
 {}
 
 /// Once recovery has come to its end the books are lawful.

@@ -11,3 +11,5 @@ pub mod MapLemmas
 pub mod KeyOrders
 pub mod Pairs
 pub mod MapRows
+pub mod ListedDues
+pub mod ListedProperties

@@ -11,6 +11,7 @@ pub mod Whole
 pub mod Laws
 pub mod BatchLaws
 pub mod MachineLaws
+pub mod ListLaws
 pub use Rattle.dh_types.specs.Records
 pub use Rattle.dh_types.specs.Reports
 pub use Rattle.dh_types.specs.Replies

@@ -5,6 +5,7 @@
 pub mod batch_laws;
 pub mod laws;
 mod limits;
+pub mod list_laws;
 pub mod machine_laws;
 mod open_run;
 mod rows;

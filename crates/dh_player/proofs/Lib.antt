@@ -1,7 +1,2 @@
-pub mod MovingBatches
 pub mod MovingRuns
-pub mod TellingWhole
-pub mod TellingMeanwhile
-pub mod TellingRuns
-pub mod TellingCuts
 pub mod PlayingSteps

@@ -1,6 +1,4 @@
-pub mod Player
 pub mod Reaches
-pub mod Telling
 pub mod Playing
 pub use Rattle.dh_types.specs.Records
 pub use Rattle.dh_types.specs.Reports

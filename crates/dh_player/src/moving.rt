@@ -5,7 +5,7 @@ ghost use Rattle.std.specs.Prelude.{◌≡◌, None, IfOk};
 ghost use Rattle.dh_model.specs.Runs.{batch_size};
 ghost use Rattle.dh_model.specs.Whole.{whole};
 ghost use Rattle.dh_laws.specs.Events.{Happens, IsUndone, Mended, Torn};
-ghost use Rattle.dh_player.specs.Player.{AreInOrder, advanced_run, tables};
+ghost use Rattle.dh_laws.specs.StateTables.{AreInOrder, advanced_run, tables};
 ghost use Rattle.dh_player.specs.Reaches.{batches_left, moved_run, reach_within, undone_run};
 
 use dh_batches::{batches, whole, with_posted};

@@ -5,13 +5,13 @@ ghost use Rattle.dh_types.specs.declared.command.Command.TheVariants as command;
 ghost use Rattle.dh_model.specs.MachineLaws.{is_post};
 ghost use Rattle.dh_model.specs.Runs.{batch_size};
 ghost use Rattle.dh_model.specs.Verdicts.{run_verdict};
-ghost use Rattle.dh_laws.specs.InOrder.{IsEntered};
 ghost use Rattle.dh_laws.specs.Events.{Happens, IsDone, Said};
-ghost use Rattle.dh_player.specs.Player.{AreInOrder, tables};
-ghost use Rattle.dh_player.specs.Telling.{IsCutDone, IsTold, Stands, StandsAt, begun, is_opening, is_run};
+ghost use Rattle.dh_laws.specs.StateTables.{AreInOrder, tables};
+ghost use Rattle.dh_laws.specs.Telling.{IsCutDone, IsTold, Stands, StandsAt, begun, is_opening, is_run};
 
 use crate::moving::{advanced, mended};
 use dh_books::Books;
+use dh_laws::entering::commands_are_entered;
 use dh_model::{Change, OpenRun, Verdict};
 use dh_rules::{accepted, apply_change, batches, decide, step};
 use dh_types::{BatchCount, Command, Progress, Reply, RunOrder};
@@ -62,8 +62,9 @@ fn told_opening(before: Books, order: &RunOrder) -> Result<Told, AllocError>
 fn told_over_whole(alloc: Global, before: Books, command: &Command) -> Result<Told, AllocError>
     requires run { before.open_run ≡ None }
     requires command { is_opening command.now ≡ false }
-    ensures { IfOk result (λ it. AreInOrder before → IsEntered command.now → IsTold batch_size command.now it.reply before it.tables) }
+    ensures { IfOk result (λ it. AreInOrder before → IsTold batch_size command.now it.reply before it.tables) }
 {
+    commands_are_entered(command);
     let stepped = step(alloc, before, command)?;
     Ok(Told {
         tables: stepped.books,
@@ -108,8 +109,9 @@ fn told_post(
 fn told_meanwhile(alloc: Global, mut before: Books, command: &Command) -> Result<Told, AllocError>
     requires run { IsSome before.open_run }
     requires command { is_post command.now ≡ false }
-    ensures { IfOk result (λ it. AreInOrder before → IsEntered command.now → IsTold batch_size command.now it.reply before it.tables) }
+    ensures { IfOk result (λ it. AreInOrder before → IsTold batch_size command.now it.reply before it.tables) }
 {
+    commands_are_entered(command);
     let verdict = decide(alloc, &before, command)?;
     match verdict {
         Verdict::Change(rows) => {
@@ -133,7 +135,7 @@ fn told_meanwhile(alloc: Global, mut before: Books, command: &Command) -> Result
 
 /// What an answered command makes of the tables: the reply is the machine's over the whole books.
 pub fn said(alloc: Global, before: Books, command: &Command) -> Result<Told, AllocError>
-    ensures { IfOk result (λ it. AreInOrder before → IsEntered command.now → Happens batch_size (Said command.now it.reply) (tables before) (tables it.tables) × AreInOrder it.tables) }
+    ensures { IfOk result (λ it. AreInOrder before → Happens batch_size (Said command.now it.reply) (tables before) (tables it.tables) × AreInOrder it.tables) }
 {
     match before.open_run() {
         None => match command {
@@ -161,7 +163,7 @@ fn cut_run(alloc: Global, before: Books, order: &RunOrder, count: u128) -> Resul
 // Any other command than `run`, cut and carried out: as if it had been answered.
 fn cut_other(alloc: Global, before: Books, command: &Command) -> Result<Books, AllocError>
     requires { is_run command.now ≡ false }
-    ensures done { IfOk result (λ after. AreInOrder before → IsEntered command.now → IsCutDone batch_size command.now before after) }
+    ensures done { IfOk result (λ after. AreInOrder before → IsCutDone batch_size command.now before after) }
     ensures stands { IfOk result (λ after. (count : ℕ) → Stands before (Some count) command.now after) }
 {
     Ok(said(alloc, before, command)?.tables)
@@ -174,7 +176,7 @@ fn cut_standing(
     command: &Command,
     count: u128,
 ) -> Result<Books, AllocError>
-    ensures done { IfOk result (λ after. AreInOrder before → IsEntered command.now → IsCutDone batch_size command.now before after) }
+    ensures done { IfOk result (λ after. AreInOrder before → IsCutDone batch_size command.now before after) }
     ensures stands { IfOk result (λ after. AreInOrder before → Stands before (Some count) command.now after) }
 {
     match command {
@@ -194,7 +196,7 @@ pub fn cut_done(
     command: &Command,
     standing: Option<u128>,
 ) -> Result<Books, AllocError>
-    ensures done { IfOk result (λ after. AreInOrder before → IsEntered command.now → IsDone batch_size command.now (tables before) (tables after) × AreInOrder after) }
+    ensures done { IfOk result (λ after. AreInOrder before → IsDone batch_size command.now (tables before) (tables after) × AreInOrder after) }
     ensures stands { IfOk result (λ after. AreInOrder before → Stands before standing command.now after) }
 {
     match standing {

@@ -2,7 +2,7 @@ use Rattle.std.proofs.Common.{◌≡◌, ◌∙◌, sym, ap, ◌+◌, ◌-◌, m
 use Rattle.dh_model.specs.Books.{State}
 use Rattle.dh_model.specs.Runs.{batch_size}
 use Rattle.dh_model.specs.Whole.{whole}
-use Rattle.dh_player.specs.Player.{advanced_run}
+use Rattle.dh_laws.specs.StateTables.{advanced_run}
 use Rattle.dh_player.proofs.MovingRuns.{batches_done}
 use Rattle.dh_player.proofs.moving.advanced.Goals as goal
 

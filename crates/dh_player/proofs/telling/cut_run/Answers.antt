@@ -4,10 +4,10 @@ use Rattle.dh_model.specs.declared.rows.Verdict.{Verdict}
 use Rattle.dh_model.specs.Books.{Books, State}
 use Rattle.dh_model.specs.Runs.{batch_size}
 use Rattle.dh_model.specs.Whole.{whole}
-use Rattle.dh_player.specs.Player.{AreInOrder, advanced_run}
-use Rattle.dh_player.specs.Telling.{StandsAt}
-use Rattle.dh_player.proofs.TellingCuts.{standing_done}
-use Rattle.dh_player.proofs.TellingRuns.{begun_in_order}
+use Rattle.dh_laws.specs.StateTables.{AreInOrder, advanced_run}
+use Rattle.dh_laws.specs.Telling.{StandsAt}
+use Rattle.dh_laws.proofs.TellingCuts.{standing_done}
+use Rattle.dh_laws.proofs.TellingRuns.{begun_in_order}
 use Rattle.dh_player.proofs.telling.cut_run.Goals as goal
 
 pub returns-in_ok-begun-in-Change : goal.returns-in_ok-begun-in-Change

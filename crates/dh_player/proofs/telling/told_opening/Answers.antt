@@ -3,8 +3,8 @@ use Rattle.dh_types.specs.declared.command.Command.TheVariants as command
 use Rattle.dh_types.specs.declared.reply.Reply.TheVariants as reply
 use Rattle.dh_model.specs.Books.{State}
 use Rattle.dh_model.specs.Runs.{batch_size}
-use Rattle.dh_player.specs.Telling.{IsTold}
-use Rattle.dh_player.proofs.TellingRuns.{opening_told}
+use Rattle.dh_laws.specs.Telling.{IsTold}
+use Rattle.dh_laws.proofs.TellingRuns.{opening_told}
 use Rattle.dh_player.proofs.telling.told_opening.Goals as goal
 
 pub returns-in_ok-begun-in-Change : goal.returns-in_ok-begun-in-Change

@@ -7,9 +7,9 @@ use Rattle.dh_model.specs.Books.{State}
 use Rattle.dh_model.specs.Machine.{step}
 use Rattle.dh_model.specs.Runs.{batch_size, batches}
 use Rattle.dh_model.specs.Whole.{whole}
-use Rattle.dh_player.specs.Player.{advanced_run}
-use Rattle.dh_player.specs.Telling.{IsTold}
-use Rattle.dh_player.proofs.TellingRuns.{closing_told, part_told}
+use Rattle.dh_laws.specs.StateTables.{advanced_run}
+use Rattle.dh_laws.specs.Telling.{IsTold}
+use Rattle.dh_laws.proofs.TellingRuns.{closing_told, part_told}
 use Rattle.dh_player.proofs.telling.told_post.Goals as goal
 
 pub returns-then-saturating_sub-more : goal.returns-then-saturating_sub-more

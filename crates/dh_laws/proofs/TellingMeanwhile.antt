@@ -19,8 +19,8 @@ use Rattle.dh_laws.proofs.PassChanges.{free_changes_pass_the_run}
 use Rattle.dh_laws.proofs.PassVerdicts.{free_are_judged_alike}
 use Rattle.dh_laws.proofs.VerdictCases.{assign_case, client_case, comment_case, inspection_case, owner_case, property_case, register_case, rent_case, staff_case, viewing_case}
 use Rattle.dh_laws.specs.Events.{state_of}
-use Rattle.dh_player.specs.Player.{tables}
-use Rattle.dh_player.specs.Telling.{IsTold}
+use Rattle.dh_laws.specs.StateTables.{tables}
+use Rattle.dh_laws.specs.Telling.{IsTold}
 
 module _ (size : ℕ) where
   carried_free : (s : State) (told : Command) (rows : Change) → is_free told ≡ true → carried_out size s told rows ≡ (record s { books = changed rows s.books }, accepted rows)

@@ -1,5 +1,5 @@
--- What a command makes of tables.
-use Rattle.std.specs.Prelude.{◌≡◌, ℕ, Bool, true, false, Option, Some}
+-- What a command makes of tables, answered or cut.
+use Rattle.std.specs.Prelude.{◌≡◌, ℕ, Bool, true, false, Option, Some, None}
 use Rattle.dh_types.specs.declared.command.Command.{Command}
 use Rattle.dh_types.specs.declared.command.Command.TheVariants as command
 use Rattle.dh_types.specs.declared.command.RunOrder.{RunOrder}
@@ -8,13 +8,13 @@ use Rattle.dh_model.specs.declared.rows.Change.{Change}
 use Rattle.dh_model.specs.declared.rows.Verdict.{Verdict}
 use Rattle.dh_model.specs.declared.rows.Verdict.TheVariants as verdict
 use Rattle.dh_model.specs.Books.{State}
-use Rattle.dh_model.specs.Machine.{changed}
+use Rattle.dh_model.specs.Machine.{changed, step}
 use Rattle.dh_model.specs.Runs.{batch_size}
 use Rattle.dh_model.specs.Verdicts.{verdict_on}
 use Rattle.dh_model.specs.Whole.{whole}
 use Rattle.dh_laws.specs.InOrder.{IsInOrder}
-use Rattle.dh_laws.specs.Events.{Happens, IsDone, Said}
-use Rattle.dh_player.specs.Player.{advanced_run, tables}
+use Rattle.dh_laws.specs.Events.{Happens, IsDone, Said, state_of}
+use Rattle.dh_laws.specs.StateTables.{advanced_run, tables}
 
 abbrev pub is_opening : Command → Bool
 is_opening (command.Open order) = true
@@ -33,10 +33,11 @@ abbrev pub StandsAt : RunOrder → ℕ → Verdict → State → Type 0
 StandsAt order count (verdict.Change rows) after = after.open_run ≡ advanced_run (whole batch_size after.books) count (Some (record { month = order.month; done = 0 }))
 StandsAt order count _ after = Unit {0}
 
--- so does such a command where so many are named
+-- so does such a command where so many are named; with none named the open run is the machine's
 abbrev pub Stands : State → Option ℕ → Command → State → Type 0
 Stands before (Some count) (command.Run order) after = StandsAt order count (verdict_on before.books before.open_run (command.Run order)) after
-Stands before _ _ after = Unit {0}
+Stands before (Some count) _ after = Unit {0}
+Stands before None told after = after.open_run ≡ (step batch_size (state_of batch_size (tables before)) told).0.open_run
 
 module _ (size : ℕ) where
   -- the command was answered so, and left these tables in order

@@ -15,24 +15,16 @@ use Rattle.dh_model.specs.Books.{Books, State}
 use Rattle.dh_model.specs.Machine.{posted_sum, settled, step}
 use Rattle.dh_model.specs.Runs.{batches, ran}
 use Rattle.dh_model.specs.Verdicts.{opened_run, run_verdict, verdict_on}
-use Rattle.dh_model.specs.Whole.{completed, open_row, whole}
+use Rattle.dh_model.specs.Whole.{whole}
 use Rattle.dh_laws.specs.InOrder.{IsInOrder}
 use Rattle.dh_laws.proofs.KeepOrder.{changes_keep_order}
 use Rattle.dh_laws.proofs.PostOpening.{run_is_opening_made_whole}
 use Rattle.dh_laws.proofs.VerdictCases.{run_case}
 use Rattle.dh_laws.specs.Events.{state_of}
-use Rattle.dh_player.specs.Player.{tables}
-use Rattle.dh_player.specs.Telling.{IsTold, begun}
-use Rattle.dh_player.proofs.TellingWhole.{own_state, shows_none, whole_itself}
-
-module _ (size : ℕ) where
-  -- the run has no say in how many batches there are
-  pub batches_completed : (books : Books) (month : ℕ) (found : Option Run) → batches size (completed size books found) month ≡ batches size books month
-  batches_completed books month None = refl
-  batches_completed books month (Some row) = refl
-
-  pub batches_whole : (books : Books) (month : ℕ) → batches size (whole size books) month ≡ batches size books month
-  batches_whole books month = batches_completed books month (open_row books)
+use Rattle.dh_laws.specs.StateTables.{tables}
+use Rattle.dh_laws.specs.Telling.{IsTold, begun}
+use Rattle.dh_laws.proofs.MovingBatches.{batches_of_whole}
+use Rattle.dh_laws.proofs.TellingWhole.{own_state, shows_none, whole_itself}
 
 -- ---- openings
 
@@ -122,7 +114,7 @@ module _ (size : ℕ) (before : State) (run : OpenRun) (count : ℕ) (is : befor
       → whole_books.books ≡ whole size before.books → whole_books.open_run ≡ None → batches size before.books run.month ≤ run.done + count
       → (after, reply) ≡ step size (record whole_books { open_run = Some run }) (command.Post count) → IsTold size (command.Post count) reply before after
   closing_told whole_books after reply in_order same none few stepped =
-      let enough : nat_le all (run.done + count) ≡ true = let alike = batches_whole size before.books run.month in grind (arith, nat_tests, few, alike) in
+      let enough : nat_le all (run.done + count) ≡ true = let alike = batches_of_whole size before.books run.month in grind (arith, nat_tests, few, alike) in
       let started : state_of size (tables before) ≡ record whole_books { open_run = Some run } = λ i. record { books = sym same i; open_run = is i } in
       let made : step size (state_of size (tables before)) (command.Post count) ≡ (after, reply) = ap (λ (s : State). step size s (command.Post count)) started ∙ sym stepped in
       let left : whole_books ≡ after = (λ i. record { books = same i; open_run = none i }) ∙ ap (λ (m : State × Reply). m.0) (sym (posted_as true enough) ∙ made) in
@@ -135,7 +127,7 @@ module _ (size : ℕ) (before : State) (run : OpenRun) (count : ℕ) (is : befor
       → after.open_run ≡ Some (record { month = run.month; done = at_most all (run.done + count) }) → run.done + count < batches size before.books run.month
       → IsTold size (command.Post count) (reply.Part (record { month = run.month; done = run.done + count; of = batches size before.books run.month })) before after
   part_told after in_order same stands more =
-      let alike = batches_whole size before.books run.month in
+      let alike = batches_of_whole size before.books run.month in
       let rest : nat_le all (run.done + count) ≡ false = grind (arith, nat_tests, more, alike) in
       let done : after.open_run ≡ Some (record { month = run.month; done = run.done + count }) =
       stands ∙ ap (λ (b : Bool). Some (record { month = run.month; done = if b then all else run.done + count })) rest in (

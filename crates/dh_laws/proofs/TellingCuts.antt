@@ -12,15 +12,16 @@ use Rattle.dh_model.specs.declared.rows.Verdict.{Verdict}
 use Rattle.dh_model.specs.declared.rows.Verdict.TheVariants as verdict
 use Rattle.dh_model.specs.Books.{State}
 use Rattle.dh_model.specs.Machine.{settled, step}
-use Rattle.dh_model.specs.Runs.{batches, ran}
+use Rattle.dh_model.specs.Runs.{batch_size, batches, ran}
 use Rattle.dh_model.specs.Verdicts.{opened_run, run_verdict, verdict_on}
 use Rattle.dh_model.specs.Whole.{whole}
 use Rattle.dh_laws.specs.InOrder.{IsInOrder}
 use Rattle.dh_laws.specs.Events.{IsOfMonth, RunIfDone, state_of}
-use Rattle.dh_player.specs.Player.{tables}
-use Rattle.dh_player.specs.Telling.{IsCutDone, IsTold, Stands, StandsAt, begun, is_run}
-use Rattle.dh_player.proofs.TellingRuns.{at_most, at_most_all, batches_whole, begun_is, none_in_order, opened_whole, opening_judged, opening_verdict}
-use Rattle.dh_player.proofs.TellingWhole.{shows_none, whole_itself}
+use Rattle.dh_laws.specs.StateTables.{tables}
+use Rattle.dh_laws.specs.Telling.{IsCutDone, IsTold, Stands, StandsAt, begun, is_run}
+use Rattle.dh_laws.proofs.MovingBatches.{batches_of_whole}
+use Rattle.dh_laws.proofs.TellingRuns.{at_most, at_most_all, begun_is, none_in_order, opened_whole, opening_judged, opening_verdict}
+use Rattle.dh_laws.proofs.TellingWhole.{shows_none, whole_itself}
 
 module _ (size : ℕ) where
   run_done : (s : State) (told : Command) (v : Verdict) (after : Option OpenRun) → after ≡ (settled size s told v).0.open_run → after ≡ (step size s told).0.open_run → RunIfDone size s told v after
@@ -54,7 +55,7 @@ module _ (size : ℕ) where
       let at : opened ≡ begun order (change.Open row) before = is ∙ begun_is size before order pos none in_order rows h in
       let made = opened_whole size before.books order pos (none_in_order size before order pos none in_order) accepted in
       let all : batches size (whole size opened.books) order.month ≡ batches size (whole size before.books) order.month =
-      batches_whole size opened.books order.month ∙ ap (λ (o : State). batches size o.books order.month) at ∙ sym (batches_whole size before.books order.month) in
+      batches_of_whole size opened.books order.month ∙ ap (λ (o : State). batches size o.books order.month) at ∙ sym (batches_of_whole size before.books order.month) in
       let few = subst (λ n. at_most (batches size (whole size opened.books) order.month) (0 + count) ≤ n) all (at_most_all (batches size (whole size opened.books) order.month) (0 + count)) in
       let of_month : IsOfMonth size (whole size before.books) row.month after.open_run = subst (λ run. IsOfMonth size (whole size before.books) row.month run) (sym stands) (refl, few) in (
         record {
@@ -86,3 +87,7 @@ other_stands before after (command.Post it) count h = tt
 -- a run stands as the verdict on it says
 pub judged_stands : (before after : State) (order : RunOrder) (count : ℕ) → before.open_run ≡ None → StandsAt order count (run_verdict before.books order) after → Stands before (Some count) (command.Run order) after
 judged_stands before after order count none h = subst (λ (o : Option OpenRun). StandsAt order count (verdict_on before.books o (command.Run order)) after) (sym none) h
+
+-- what was answered stands where the machine does
+pub told_stands : (before after : State) (told : Command) (reply : Reply) → IsTold batch_size told reply before after → Stands before None told after
+told_stands before after told reply h = ap (λ (m : State × Reply). m.0.open_run) (sym h.0)

@@ -23,8 +23,8 @@ use Rattle.dh_laws.proofs.MonthSteps.{steps_keep}
 use Rattle.dh_laws.proofs.MonthWhole.{lawful_closed, whole_is_lawful}
 use Rattle.dh_laws.proofs.PostOpening.{run_is_opening_made_whole}
 use Rattle.dh_laws.specs.Events.{state_of}
-use Rattle.dh_player.specs.Player.{tables}
-use Rattle.dh_player.specs.Telling.{IsTold, is_opening}
+use Rattle.dh_laws.specs.StateTables.{tables}
+use Rattle.dh_laws.specs.Telling.{IsTold, is_opening}
 
 module _ (size : ℕ) where
   -- books that show no open run are their own whole

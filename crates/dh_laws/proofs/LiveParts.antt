@@ -1,0 +1,120 @@
+-- Life after life, the commands that count are a beginning of its calls.
+use Rattle.std.proofs.Common.{◌≡◌, ◌∙◌, refl, sym, ap, inl, inr, ℕ, ◌≤◌, List, [], ◌∷◌, ◌++◌, length, None, arith}
+use Rattle.dh_types.specs.declared.command.Command.{Command}
+use Rattle.dh_types.specs.declared.reply.Reply.{Reply}
+use Rattle.dh_model.specs.Books.{State}
+use Rattle.dh_model.specs.Machine.{step}
+use Rattle.dh_laws.specs.Events.{Event, Said, Cut, Taken, Torn, Mended, Tables}
+use Rattle.dh_laws.specs.Kept.{Kept}
+use Rattle.dh_laws.specs.Lives.{IsOneLife, calls}
+use Rattle.dh_laws.specs.EachLife.{AreBeginnings, AreLives, EachLifeKeepsABeginning, IsBeginningOf, joined, lives_of, with_first}
+
+-- the commands fall into beginnings of these lives
+record Falls (told : List Command) (lives : List (List (Event × Tables))) : Type 0 where
+  parts : List (List Command)
+  is : told ≡ joined parts
+  begin : AreBeginnings parts lives
+
+one_called : (it : Command) (called : List Command) → it ∷ called ≡ [] → ⊥
+one_called it called e = cc
+
+no_front : (part rest : List Command) → [] ≡ part ++ rest → part ≡ []
+no_front [] rest e = refl
+no_front (it ∷ part) rest e = cc
+
+-- where nothing is called, nothing is called after a cut
+calm : (life : List (Event × Tables)) → calls life ≡ [] → IsOneLife life
+calm [] none = tt
+calm ((Said it reply, t) ∷ life) none = absurd (one_called it (calls life) none)
+calm ((Cut it, t) ∷ life) none = absurd (one_called it (calls life) none)
+calm ((Taken, t) ∷ life) none = calm life none
+calm ((Torn, t) ∷ life) none = calm life none
+calm ((Mended, t) ∷ life) none = calm life none
+
+-- ---- one event more in the first life
+
+later_said : (it : Command) (reply : Reply) (t : Tables) (lives : List (List (Event × Tables))) → AreLives (with_first (Said it reply, t) lives) → AreLives lives
+later_said it reply t [] are = tt
+later_said it reply t (life ∷ lives) are = are
+
+later_torn : (t : Tables) (lives : List (List (Event × Tables))) → AreLives (with_first (Torn, t) lives) → AreLives lives
+later_torn t [] are = tt
+later_torn t (life ∷ lives) are = are
+
+later_cut : (it : Command) (t : Tables) (lives : List (List (Event × Tables))) → AreLives (with_first (Cut it, t) lives) → AreLives lives
+later_cut it t [] are = tt
+later_cut it t (life ∷ lives) are = (calm life are.0, are.1)
+
+module _ (it : Command) (told later : List Command) (told_is : told ≡ it ∷ later) where
+  -- a command that counts is the first of its part
+  said_first : (reply : Reply) (t : Tables) (lives : List (List (Event × Tables))) (parts : List (List Command)) → later ≡ joined parts → AreBeginnings parts lives
+      → Falls told (with_first (Said it reply, t) lives)
+  said_first reply t [] [] is b = record { parts = (it ∷ []) ∷ []; is = told_is ∙ ap (λ ts. it ∷ ts) is; begin = (([], refl, omega arith), tt) }
+  said_first reply t (life ∷ lives) (part ∷ parts) is b = record {
+    parts = (it ∷ part) ∷ parts;
+    is = told_is ∙ ap (λ ts. it ∷ ts) is;
+    begin = ((b.0.0, ap (λ ts. it ∷ ts) b.0.1, b.0.2), b.1);
+  }
+  said_first reply t [] (part ∷ parts) is b = absurd b
+  said_first reply t (life ∷ lives) [] is b = absurd b
+
+  cut_first : (t : Tables) (lives : List (List (Event × Tables))) (parts : List (List Command)) → later ≡ joined parts → AreBeginnings parts lives
+      → Falls told (with_first (Cut it, t) lives)
+  cut_first t [] [] is b = record { parts = (it ∷ []) ∷ []; is = told_is ∙ ap (λ ts. it ∷ ts) is; begin = (([], refl, omega arith), tt) }
+  cut_first t (life ∷ lives) (part ∷ parts) is b = record {
+    parts = (it ∷ part) ∷ parts;
+    is = told_is ∙ ap (λ ts. it ∷ ts) is;
+    begin = ((b.0.0, ap (λ ts. it ∷ ts) b.0.1, b.0.2), b.1);
+  }
+  cut_first t [] (part ∷ parts) is b = absurd b
+  cut_first t (life ∷ lives) [] is b = absurd b
+
+-- a cut command that doesn't count is the last call of its life, and its part is empty
+left_out : (it : Command) (told : List Command) (t : Tables) (lives : List (List (Event × Tables))) (parts : List (List Command)) → AreLives (with_first (Cut it, t) lives)
+    → told ≡ joined parts → AreBeginnings parts lives → Falls told (with_first (Cut it, t) lives)
+left_out it told t [] [] are is b = record { parts = [] ∷ []; is = is; begin = ((it ∷ [], refl, omega arith), tt) }
+left_out it told t (life ∷ lives) (part ∷ parts) are is b =
+    let none : part ≡ [] = no_front part b.0.0 (sym are.0 ∙ b.0.1) in
+    record {
+      parts = part ∷ parts;
+      is = is;
+      begin = ((it ∷ [], ap (λ ts. it ∷ ts) are.0 ∙ ap (λ ts. ts ++ it ∷ []) (sym none), omega arith), b.1);
+    }
+left_out it told t [] (part ∷ parts) are is b = absurd b
+left_out it told t (life ∷ lives) [] are is b = absurd b
+
+torn_first : (told : List Command) (t : Tables) (lives : List (List (Event × Tables))) (parts : List (List Command)) → told ≡ joined parts → AreBeginnings parts lives
+    → Falls told (with_first (Torn, t) lives)
+torn_first told t [] [] is b = record { parts = [] ∷ []; is = is; begin = (([], refl, omega arith), tt) }
+torn_first told t (life ∷ lives) (part ∷ parts) is b = record { parts = part ∷ parts; is = is; begin = b }
+torn_first told t [] (part ∷ parts) is b = absurd b
+torn_first told t (life ∷ lives) [] is b = absurd b
+
+-- a life that begins
+next_life : (told : List Command) (lives : List (List (Event × Tables))) → Falls told lives → Falls told ([] ∷ lives)
+next_life told lives f = record { parts = [] ∷ f.parts; is = f.is; begin = (([], refl, omega arith), f.begin) }
+
+module _ (size : ℕ) (last : State) where
+  fall : (s : State) (events : List (Event × Tables)) (told : List Command) → AreLives (lives_of events) → Kept size s events told last → Falls told (lives_of events)
+  fall s [] told are k = record { parts = [] ∷ []; is = k.0; begin = (([], refl, omega arith), tt) }
+  fall s ((Said it reply, t) ∷ events) told are k =
+      let f = fall k.1 events k.0 (later_said it reply t (lives_of events) are) k.4 in
+      said_first it told k.0 k.2 reply t (lives_of events) f.parts f.is f.begin
+  fall s ((Cut it, t) ∷ events) told are k =
+      let rest = later_cut it t (lives_of events) are in
+      elim k [
+        | inl undone ↦
+            let f = fall (record s { open_run = t.run }) events told rest undone.1 in
+            left_out it told t (lives_of events) f.parts are f.is f.begin
+        | inr done ↦
+            let f = fall (record (step size s it).0 { open_run = t.run }) events done.0 rest done.3 in
+            cut_first it told done.0 done.1 t (lives_of events) f.parts f.is f.begin
+      ]
+  fall s ((Taken, t) ∷ events) told are k = next_life told (lives_of events) (fall s events told are.1 k)
+  fall s ((Torn, t) ∷ events) told are k =
+      let f = fall (record s { open_run = t.run }) events told (later_torn t (lives_of events) are) k.1 in
+      torn_first told t (lives_of events) f.parts f.is f.begin
+  fall s ((Mended, t) ∷ events) told are k = next_life told (lives_of events) (fall (record s { open_run = None }) events told are.1 k)
+
+pub each_life_keeps_a_beginning : (size : ℕ) → EachLifeKeepsABeginning size
+each_life_keeps_a_beginning size s last events told are k = let f = fall size last s events told are k in (f.parts, f.is, f.begin)
