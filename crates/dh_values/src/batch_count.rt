@@ -3,9 +3,11 @@
 ghost use Rattle.std.specs.Prelude.{◌≡◌, ◌≤◌, ◌↔◌, IsSome, IfSome, MatchResult, None, Some, pos, ◌≤ℤ◌};
 ghost use Rattle.std.specs.Fmt.{decimal};
 ghost use Rattle.dh_values.specs.Counts.{IsBatchCount, batch_count_of};
+ghost use Rattle.dh_values.specs.declared.limits.TheConstants.{MOST_BATCHES};
 
 use crate::BadText;
 use crate::digits::read_within;
+use crate::limits::MOST_BATCHES;
 use std::fmt;
 use std::marker::Model;
 
@@ -34,16 +36,16 @@ impl BatchCount {
     pub fn read(text: &str) -> Result<BatchCount, BadText>
         ensures { MatchResult result (λ n. batch_count_of text.now ≡ Some n) (λ _. batch_count_of text.now ≡ None) }
     {
-        let number = read_within(1, 1_000_000, text)?;
+        let number = read_within(1, MOST_BATCHES, text)?;
         Ok(BatchCount { number })
     }
 
     /// The value of this number, 1 to 1,000,000. `None` for any other number.
     pub fn try_of_number(number: i64) -> Option<BatchCount>
         ensures value { IfSome result (λ n. pos n ≡ number) }
-        ensures exact { IsSome result ↔ ((pos 1 ≤ℤ number) × (number ≤ℤ pos 1000000)) }
+        ensures exact { IsSome result ↔ ((pos 1 ≤ℤ number) × (number ≤ℤ pos MOST_BATCHES)) }
     {
-        if number < 1 || number > 1_000_000 {
+        if number < 1 || number > MOST_BATCHES as i64 {
             return None;
         }
         Some(BatchCount {

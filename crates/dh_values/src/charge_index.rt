@@ -3,7 +3,9 @@
 ghost use Rattle.std.specs.Prelude.{◌≡◌, ◌≤◌, ◌↔◌, IsSome, IfSome, Some, pos, ◌≤ℤ◌};
 ghost use Rattle.std.specs.Fmt.{decimal};
 ghost use Rattle.dh_values.specs.Counts.{IsChargeIndex};
+ghost use Rattle.dh_values.specs.declared.limits.TheConstants.{MOST_CHARGE_INDEX};
 
+use crate::limits::MOST_CHARGE_INDEX;
 use std::fmt;
 use std::marker::Model;
 
@@ -30,9 +32,9 @@ impl ChargeIndex {
     /// The value of this number, 0 to 11. `None` for any other number.
     pub fn try_of_number(number: i64) -> Option<ChargeIndex>
         ensures value { IfSome result (λ n. pos n ≡ number) }
-        ensures exact { IsSome result ↔ ((pos 0 ≤ℤ number) × (number ≤ℤ pos 11)) }
+        ensures exact { IsSome result ↔ ((pos 0 ≤ℤ number) × (number ≤ℤ pos MOST_CHARGE_INDEX)) }
     {
-        if number < 0 || number > 11 {
+        if number < 0 || number > MOST_CHARGE_INDEX as i64 {
             return None;
         }
         Some(ChargeIndex {

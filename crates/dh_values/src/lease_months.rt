@@ -3,9 +3,11 @@
 ghost use Rattle.std.specs.Prelude.{◌≡◌, ◌≤◌, ◌↔◌, IsSome, IfSome, MatchResult, None, Some, pos, ◌≤ℤ◌};
 ghost use Rattle.std.specs.Fmt.{decimal};
 ghost use Rattle.dh_values.specs.Counts.{IsLeaseMonths, lease_months_of};
+ghost use Rattle.dh_values.specs.declared.limits.TheConstants.{LEAST_LEASE_MONTHS, MOST_LEASE_MONTHS};
 
 use crate::BadText;
 use crate::digits::read_within;
+use crate::limits::{LEAST_LEASE_MONTHS, MOST_LEASE_MONTHS};
 use std::fmt;
 use std::marker::Model;
 
@@ -34,16 +36,16 @@ impl LeaseMonths {
     pub fn read(text: &str) -> Result<LeaseMonths, BadText>
         ensures { MatchResult result (λ n. lease_months_of text.now ≡ Some n) (λ _. lease_months_of text.now ≡ None) }
     {
-        let number = read_within(3, 12, text)?;
+        let number = read_within(LEAST_LEASE_MONTHS, MOST_LEASE_MONTHS, text)?;
         Ok(LeaseMonths { number })
     }
 
     /// The value of this number, 3 to 12. `None` for any other number.
     pub fn try_of_number(number: i64) -> Option<LeaseMonths>
         ensures value { IfSome result (λ n. pos n ≡ number) }
-        ensures exact { IsSome result ↔ ((pos 3 ≤ℤ number) × (number ≤ℤ pos 12)) }
+        ensures exact { IsSome result ↔ ((pos LEAST_LEASE_MONTHS ≤ℤ number) × (number ≤ℤ pos MOST_LEASE_MONTHS)) }
     {
-        if number < 3 || number > 12 {
+        if number < LEAST_LEASE_MONTHS as i64 || number > MOST_LEASE_MONTHS as i64 {
             return None;
         }
         Some(LeaseMonths {

@@ -3,9 +3,11 @@
 ghost use Rattle.std.specs.Prelude.{◌≡◌, ◌≤◌, ◌↔◌, IsSome, IfSome, MatchResult, None, Some, pos, ◌≤ℤ◌};
 ghost use Rattle.std.specs.Fmt.{decimal};
 ghost use Rattle.dh_values.specs.Counts.{IsLeaseNo, lease_no_of};
+ghost use Rattle.dh_values.specs.declared.limits.TheConstants.{MOST_NUMBER};
 
 use crate::BadText;
 use crate::digits::read_within;
+use crate::limits::MOST_NUMBER;
 use std::fmt;
 use std::marker::Model;
 
@@ -34,16 +36,16 @@ impl LeaseNo {
     pub fn read(text: &str) -> Result<LeaseNo, BadText>
         ensures { MatchResult result (λ n. lease_no_of text.now ≡ Some n) (λ _. lease_no_of text.now ≡ None) }
     {
-        let number = read_within(1, 99_999_999, text)?;
+        let number = read_within(1, MOST_NUMBER, text)?;
         Ok(LeaseNo { number })
     }
 
     /// The value of this number, 1 to 99,999,999. `None` for any other number.
     pub fn try_of_number(number: i64) -> Option<LeaseNo>
         ensures value { IfSome result (λ n. pos n ≡ number) }
-        ensures exact { IsSome result ↔ ((pos 1 ≤ℤ number) × (number ≤ℤ pos 99999999)) }
+        ensures exact { IsSome result ↔ ((pos 1 ≤ℤ number) × (number ≤ℤ pos MOST_NUMBER)) }
     {
-        if number < 1 || number > 99_999_999 {
+        if number < 1 || number > MOST_NUMBER as i64 {
             return None;
         }
         Some(LeaseNo {

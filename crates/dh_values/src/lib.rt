@@ -12,6 +12,7 @@ mod key;
 pub mod laws;
 mod lease_months;
 mod lease_no;
+pub mod limits;
 mod money;
 mod payment_method;
 mod pence;

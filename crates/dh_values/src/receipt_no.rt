@@ -3,7 +3,9 @@
 ghost use Rattle.std.specs.Prelude.{◌≡◌, ◌≤◌, ◌↔◌, IsSome, IfSome, Some, pos, ◌≤ℤ◌};
 ghost use Rattle.std.specs.Fmt.{decimal};
 ghost use Rattle.dh_values.specs.Counts.{IsReceiptNo};
+ghost use Rattle.dh_values.specs.declared.limits.TheConstants.{MOST_NUMBER};
 
+use crate::limits::MOST_NUMBER;
 use std::fmt;
 use std::marker::Model;
 
@@ -30,9 +32,9 @@ impl ReceiptNo {
     /// The value of this number, 1 to 99,999,999. `None` for any other number.
     pub fn try_of_number(number: i64) -> Option<ReceiptNo>
         ensures value { IfSome result (λ n. pos n ≡ number) }
-        ensures exact { IsSome result ↔ ((pos 1 ≤ℤ number) × (number ≤ℤ pos 99999999)) }
+        ensures exact { IsSome result ↔ ((pos 1 ≤ℤ number) × (number ≤ℤ pos MOST_NUMBER)) }
     {
-        if number < 1 || number > 99_999_999 {
+        if number < 1 || number > MOST_NUMBER as i64 {
             return None;
         }
         Some(ReceiptNo {

@@ -3,9 +3,11 @@
 ghost use Rattle.std.specs.Prelude.{◌≡◌, ◌≤◌, ◌↔◌, IsSome, IfSome, MatchResult, None, Some, pos, ◌≤ℤ◌};
 ghost use Rattle.std.specs.Fmt.{decimal};
 ghost use Rattle.dh_values.specs.Counts.{IsRooms, rooms_of};
+ghost use Rattle.dh_values.specs.declared.limits.TheConstants.{MOST_ROOMS};
 
 use crate::BadText;
 use crate::digits::read_within;
+use crate::limits::MOST_ROOMS;
 use std::fmt;
 use std::marker::Model;
 
@@ -34,16 +36,16 @@ impl Rooms {
     pub fn read(text: &str) -> Result<Rooms, BadText>
         ensures { MatchResult result (λ n. rooms_of text.now ≡ Some n) (λ _. rooms_of text.now ≡ None) }
     {
-        let number = read_within(1, 15, text)?;
+        let number = read_within(1, MOST_ROOMS, text)?;
         Ok(Rooms { number })
     }
 
     /// The value of this number, 1 to 15. `None` for any other number.
     pub fn try_of_number(number: i64) -> Option<Rooms>
         ensures value { IfSome result (λ n. pos n ≡ number) }
-        ensures exact { IsSome result ↔ ((pos 1 ≤ℤ number) × (number ≤ℤ pos 15)) }
+        ensures exact { IsSome result ↔ ((pos 1 ≤ℤ number) × (number ≤ℤ pos MOST_ROOMS)) }
     {
-        if number < 1 || number > 15 {
+        if number < 1 || number > MOST_ROOMS as i64 {
             return None;
         }
         Some(Rooms {
