@@ -1,5 +1,6 @@
 -- Days by place. A month has 31 places, of which those past its last day stay empty: 31 * (the month's number) + (the day's number in the month) - 1.
-use Rattle.std.specs.Prelude.{ℕ, ◌+◌, ◌-◌, ◌*◌, ◌/◌, ◌%◌, ◌≤◌, min, Bool, not, ◌&&◌, ◌||◌, ◌==◌, nat_le, nat_eq, if◌then◌else◌, Option, Some, None, option_and_then, List, ◌∷◌, ◌++◌, length, take, drop, slice_index}
+use Rattle.std.specs.Prelude.{ℕ, ◌+◌, ◌-◌, ◌*◌, ◌/◌, ◌%◌, ◌≤◌, min, Bool, not, ◌&&◌, ◌||◌, ◌==◌, nat_le, nat_eq, if◌then◌else◌, Option, Some, None}
+use Rattle.std.specs.Prelude.{option_and_then, List, ◌∷◌, ◌++◌, length, take, drop, slice_index}
 use Rattle.std.specs.List.{list_all}
 use Rattle.std.specs.Char.{is_ascii_digit}
 use Rattle.dh_values.specs.Numbers.{number}
@@ -46,7 +47,8 @@ has_day_form text = nat_eq (length text) 10 && nat_eq (slice_index text 7) 45 &&
 
 -- the day of this number in a month, if lines know it
 abbrev pub entry_day_at : ℕ → ℕ → Option ℕ
-entry_day_at number month = if nat_le month LAST_MONTH_OF_ENTRY_DAYS && nat_le 1 number && nat_le number (days_in month) then Some (day_at month number) else None
+entry_day_at number month = if nat_le month LAST_MONTH_OF_ENTRY_DAYS && nat_le 1 number
+    && nat_le number (days_in month) then Some (day_at month number) else None
 
 -- the day that a text YYYY-MM-DD spells, 2000-01-01 to 2199-12-31
 abbrev pub day_of : List ℕ → Option ℕ

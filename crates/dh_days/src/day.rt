@@ -37,7 +37,7 @@ impl Model for Day {
     ghost inverse = { λ n. record { place = n } };
 }
 
-// Whether it is seven bytes, a dash and two digits.
+// Whether the text is seven bytes, a dash and two digits.
 fn has_day_form(bytes: &[u8]) -> bool
     ensures { result ≡ has_day_form bytes.now }
 {
@@ -113,7 +113,7 @@ impl Day {
         }
     }
 
-    /// Its month.
+    /// The month of the day.
     pub fn month(&self) -> Month
         ensures value { result ≡ month_of_day self.now }
         ensures range { IsDay self.now }

@@ -42,7 +42,7 @@ impl EntryDay {
         }
     }
 
-    /// The same day, if it can be entered. `None` exactly after 2199-12-31.
+    /// The day, if it can be entered. `None` exactly after 2199-12-31.
     pub fn of(day: Day) -> Option<EntryDay>
         ensures value { IfSome result (λ d. d ≡ day) }
         ensures exact { IsSome result ↔ (month_of_day day ≤ LAST_MONTH_OF_ENTRY_DAYS) }
@@ -53,7 +53,7 @@ impl EntryDay {
         Some(EntryDay { day })
     }
 
-    /// The same day among all days.
+    /// The day among all days.
     pub fn day(self) -> Day
         ensures value { result ≡ self }
         ensures range { IsEntryDay self }

@@ -64,7 +64,7 @@ impl EntryMonth {
         EntryMonth { number }
     }
 
-    /// The same month, if it can be entered. `None` exactly after 2200-12.
+    /// The month, if it can be entered. `None` exactly after 2200-12.
     pub fn of(month: Month) -> Option<EntryMonth>
         ensures value { IfSome result (λ m. m ≡ month) }
         ensures exact { IsSome result ↔ (month ≤ LAST_ENTRY_MONTH) }
@@ -76,7 +76,7 @@ impl EntryMonth {
         Some(EntryMonth { number })
     }
 
-    /// The same month among all months.
+    /// The month among all months.
     pub fn month(self) -> Month
         ensures value { result ≡ self }
         ensures range { IsEntryMonth self }

@@ -30,7 +30,7 @@ impl Model for Month {
     ghost inverse = { λ n. record { number = n } };
 }
 
-// Whether it is four digits, a dash and two digits.
+// Whether the text is four digits, a dash and two digits.
 fn has_month_form(bytes: &[u8]) -> bool
     ensures { result ≡ has_month_form bytes.now }
 {

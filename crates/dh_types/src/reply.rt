@@ -16,7 +16,7 @@ pub enum Reply {
     Already,
     /// The payment was accepted and got this number.
     Receipt(ReceiptNo),
-    /// It was accepted before, with this number; nothing changed.
+    /// The payment was accepted before, with this number; nothing changed.
     AlreadyReceipt(ReceiptNo),
     /// The rent run of this month was opened.
     Opened(EntryMonth),
@@ -24,7 +24,7 @@ pub enum Reply {
     Part(Progress),
     /// The rent run was closed.
     Posted(RunSum),
-    /// It was closed before; nothing changed.
+    /// The rent run was closed before; nothing changed.
     AlreadyPosted(RunSum),
     /// The command was refused; nothing changed.
     Refused(Refusal),

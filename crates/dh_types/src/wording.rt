@@ -55,7 +55,7 @@ fn of_month(lead: &'static str, month: Month) -> Words
     }
 }
 
-/// What a closed run comes to.
+/// The words of what a closed run comes to.
 pub(crate) fn words_of_sum(sum: RunSum) -> Words
     ensures { words_text result ≡ posted_text sum }
 {
@@ -65,7 +65,7 @@ pub(crate) fn words_of_sum(sum: RunSum) -> Words
     }
 }
 
-/// Why it is refused.
+/// The words of a refusal.
 pub(crate) fn words_of_refusal(refusal: Refusal) -> Words
     ensures { words_text result ≡ refusal_text refusal }
 {
@@ -97,7 +97,7 @@ pub(crate) fn words_of_refusal(refusal: Refusal) -> Words
     }
 }
 
-/// What a command is answered.
+/// The words of a reply.
 pub(crate) fn words_of_reply(reply: Reply) -> Words
     ensures { words_text result ≡ reply_text reply }
 {
@@ -120,7 +120,7 @@ pub(crate) fn words_of_reply(reply: Reply) -> Words
     }
 }
 
-/// What went wrong.
+/// The words of a fault.
 pub(crate) fn words_of_fault(fault: Fault) -> Words
     ensures { words_text result ≡ fault_text fault }
 {
