@@ -4,7 +4,8 @@ use Rattle.std.proofs.lemmas.Bool.{cases_lt}
 use Rattle.dh_days.specs.Days.{IsDay, days_in, day_at, month_of_day, number_in_month, plus_months}
 use Rattle.dh_days.specs.Laws.{LiesByMonth}
 
-one_of_four : (a b c : Bool) → (28 ≤ (if a then (if b then 29 else 28) else (if c then 30 else 31))) × ((if a then (if b then 29 else 28) else (if c then 30 else 31)) ≤ 31)
+one_of_four : (a b c : Bool) → (28 ≤ (if a then (if b then 29 else 28) else (if c then 30 else 31)))
+    × ((if a then (if b then 29 else 28) else (if c then 30 else 31)) ≤ 31)
 one_of_four true true c = (omega arith, omega arith)
 one_of_four true false c = (omega arith, omega arith)
 one_of_four false b true = (omega arith, omega arith)

@@ -24,7 +24,8 @@ shown d h =
     let y = m / 12 in
     let text = seven_text m h.0.0 in
     record {
-      form = ap (λ t. has_day_form (t ++ 45 ∷ two_digits k)) text ∙ seven_and_two_form (y / 10 / 10 / 10) (y / 10 / 10 % 10) (y / 10 % 10) (y % 10) ((m % 12 + 1) / 10) ((m % 12 + 1) % 10) k (omega arith);
+      form = ap (λ t. has_day_form (t ++ 45 ∷ two_digits k)) text ∙ seven_and_two_form (y / 10 / 10 / 10) (y / 10 / 10 % 10) (y / 10 % 10) (y % 10)
+          ((m % 12 + 1) / 10) ((m % 12 + 1) % 10) k (omega arith);
       month = ap (λ t. take 7 (t ++ 45 ∷ two_digits k)) text ∙ sym text;
       number_is = ap (λ t. number (drop 8 (t ++ 45 ∷ two_digits k))) text ∙ two_digits_number k;
     }
@@ -38,5 +39,6 @@ pub printed_day_read : (d : ℕ) → IsEntryDay d → day_of (day_text d) ≡ So
 printed_day_read d h =
     let s = shown d h in
     let same : day_at (month_of_day d) (number_in_month d) ≡ d = omega arith in
-    read_parts (day_text d) (month_of_day d) (number_in_month d) s.form (ap month_of s.month ∙ printed_read (month_of_day d) (h.0.0.0, omega (arith, h.1))) s.number_is h.1 (omega arith) h.0.1
+    read_parts (day_text d) (month_of_day d) (number_in_month d) s.form (ap month_of s.month ∙ printed_read (month_of_day d) (h.0.0.0, omega (arith, h.1)))
+    s.number_is h.1 (omega arith) h.0.1
     ∙ ap (λ k. Some k) same

@@ -42,7 +42,8 @@ record Shown (n : ℕ) : Type 0 where
   year : number (take 4 (month_text n)) ≡ n / 12
   month : number (drop 5 (month_text n)) ≡ n % 12 + 1
 
-pub seven_text : (n : ℕ) → IsMonth n → month_text n ≡ seven (n / 12 / 10 / 10 / 10) (n / 12 / 10 / 10 % 10) (n / 12 / 10 % 10) (n / 12 % 10) ((n % 12 + 1) / 10) ((n % 12 + 1) % 10)
+pub seven_text : (n : ℕ) → IsMonth n → month_text n ≡ seven (n / 12 / 10 / 10 / 10) (n / 12 / 10 / 10 % 10) (n / 12 / 10 % 10) (n / 12 % 10)
+    ((n % 12 + 1) / 10) ((n % 12 + 1) % 10)
 seven_text n h = rw (four_digits (n / 12) (omega arith) (omega arith)) refl
 
 year_again : (y : ℕ) → 1000 * (y / 10 / 10 / 10) + 100 * (y / 10 / 10 % 10) + 10 * (y / 10 % 10) + y % 10 ≡ y
@@ -63,7 +64,8 @@ shown n h =
     record {
       form = ap has_month_form text ∙ seven_form _ _ _ _ _ _ d.0 d.1 d.2 d.3 tens ones;
       year = ap (λ t. number (take 4 t)) text ∙ seven_year _ _ _ _ ((n % 12 + 1) / 10) ((n % 12 + 1) % 10) ∙ year_again (n / 12);
-      month = ap (λ t. number (drop 5 t)) text ∙ seven_month (n / 12 / 10 / 10 / 10) (n / 12 / 10 / 10 % 10) (n / 12 / 10 % 10) (n / 12 % 10) _ _ ∙ month_again (n % 12 + 1);
+      month = ap (λ t. number (drop 5 t)) text ∙ seven_month (n / 12 / 10 / 10 / 10) (n / 12 / 10 / 10 % 10) (n / 12 / 10 % 10) (n / 12 % 10) _ _
+          ∙ month_again (n % 12 + 1);
     }
 
 read_parts : (text : List ℕ) (y m : ℕ) → has_month_form text ≡ true → number (take 4 text) ≡ y → number (drop 5 text) ≡ m

@@ -21,7 +21,15 @@ module _ (a : Date) (n : ℤ) (s : Span) (h : IsOnly Month n s) where
   months_are = omega (arith, signed_arith, h.months)
 
   no_clock : clock_days s ≡ pos 0
-  no_clock = signed_zero s.negative _ (omega (arith, h.others Hour (omega arith), h.others Minute (omega arith), h.others Second (omega arith), h.others Millisecond (omega arith), h.others Microsecond (omega arith), h.others Nanosecond (omega arith)))
+  no_clock = signed_zero s.negative _ (omega (
+    arith,
+    h.others Hour (omega arith),
+    h.others Minute (omega arith),
+    h.others Second (omega arith),
+    h.others Millisecond (omega arith),
+    h.others Microsecond (omega arith),
+    h.others Nanosecond (omega arith),
+  ))
 
   add_only : date_add a s ≡ add_months a n
   add_only =
@@ -60,7 +68,8 @@ month_number_is day a h = omega (arith, signed_arith, h.0, h.1)
 later_month : (d e : ℕ) (a b : Date) (n : ℕ) → IsDateOf d a → IsDateOf e b → IsLater a b (pos n) → month_of_day e ≡ month_of_day d + n
 later_month d e a b n p q h = omega (arith, signed_arith, h.number, month_number_is d a p, month_number_is e b q)
 
-later_number : (d e : ℕ) (a b : Date) (n : ℕ) → IsDateOf d a → IsDateOf e b → IsLater a b (pos n) → number_in_month e ≡ min (number_in_month d) (days_in (month_of_day e))
+later_number : (d e : ℕ) (a b : Date) (n : ℕ) → IsDateOf d a → IsDateOf e b → IsLater a b (pos n) → number_in_month e
+    ≡ min (number_in_month d) (days_in (month_of_day e))
 later_number d e a b n p q h =
     let day = h.day in
     sym q.2 ∙ (rw (p.2, q.0, q.1) at day)
@@ -70,7 +79,8 @@ place_is d e n m k =
     let last : number_in_month e ≡ min (number_in_month d) (days_in (month_of_day d + n)) = rw m at k in
     omega (arith, m, last)
 
-pub later_day : (d e n : ℕ) (a b : Date) (s : Span) → IsDateOf d a → IsDateOf e b → IsOnly Month (pos n) s → CanAddToDate a s → epoch_day b ≡ date_add a s → e ≡ plus_months d n
+pub later_day : (d e n : ℕ) (a b : Date) (s : Span) → IsDateOf d a → IsDateOf e b → IsOnly Month (pos n) s → CanAddToDate a s → epoch_day b ≡ date_add a s
+    → e ≡ plus_months d n
 later_day d e n a b s p q only can same =
     let h = date_later a b (pos n) s only can same in
     place_is d e n (later_month d e a b n p q h) (later_number d e a b n p q h)
@@ -87,7 +97,8 @@ can_add d n a s p h = (
 )
 
 -- no date before 2000 is reached
-pub later_year : (d n : ℕ) (a b : Date) (s : Span) → IsDay d → IsDateOf d a → IsOnly Month (pos n) s → CanAddToDate a s → epoch_day b ≡ date_add a s → pos 2000 ≤ℤ b.year
+pub later_year : (d n : ℕ) (a b : Date) (s : Span) → IsDay d → IsDateOf d a → IsOnly Month (pos n) s → CanAddToDate a s → epoch_day b ≡ date_add a s
+    → pos 2000 ≤ℤ b.year
 later_year d n a b s known p only can same =
     let h = date_later a b (pos n) s only can same in
     omega (arith, signed_arith, h.number, month_number_is d a p, known.0, b.month_in)

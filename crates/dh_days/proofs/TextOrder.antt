@@ -50,7 +50,8 @@ then_then Equal p q = refl
 then_then Greater p q = refl
 
 -- two texts in parts, of which the first are as long
-cmp_append : (xs ys us vs : List ℕ) → length xs ≡ length ys → slice_cmp nat_cmp (xs ++ us) (ys ++ vs) ≡ ordering_then (slice_cmp nat_cmp xs ys) (slice_cmp nat_cmp us vs)
+cmp_append : (xs ys us vs : List ℕ) → length xs ≡ length ys → slice_cmp nat_cmp (xs ++ us) (ys ++ vs)
+    ≡ ordering_then (slice_cmp nat_cmp xs ys) (slice_cmp nat_cmp us vs)
 cmp_append [] [] us vs h = refl
 cmp_append [] (y ∷ ys) us vs h = absurd (omega arith)
 cmp_append (x ∷ xs) [] us vs h = absurd (omega arith)
@@ -74,16 +75,19 @@ two_digits_cmp m n = rw (then_equal (nat_cmp (48 + m % 10) (48 + n % 10)), shift
 abbrev pub four : ℕ → List ℕ
 four y = (48 + y / 10 / 10 / 10) ∷ (48 + y / 10 / 10 % 10) ∷ (48 + y / 10 % 10) ∷ (48 + y % 10) ∷ []
 
-regrouped : (a b c d : Ordering) → ordering_then a (ordering_then b (ordering_then c (ordering_then d Equal))) ≡ ordering_then (ordering_then (ordering_then a b) c) d
+regrouped : (a b c d : Ordering) → ordering_then a (ordering_then b (ordering_then c (ordering_then d Equal)))
+    ≡ ordering_then (ordering_then (ordering_then a b) c) d
 regrouped a b c d = rw (then_equal d, then_then a b (ordering_then c d), then_then (ordering_then a b) c d) refl
 
 four_cmp : (x y : ℕ) → slice_cmp nat_cmp (four x) (four y) ≡ nat_cmp x y
 four_cmp x y =
-    regrouped (nat_cmp (48 + x / 10 / 10 / 10) (48 + y / 10 / 10 / 10)) (nat_cmp (48 + x / 10 / 10 % 10) (48 + y / 10 / 10 % 10)) (nat_cmp (48 + x / 10 % 10) (48 + y / 10 % 10)) (nat_cmp (48 + x % 10) (48 + y % 10))
+    regrouped (nat_cmp (48 + x / 10 / 10 / 10) (48 + y / 10 / 10 / 10)) (nat_cmp (48 + x / 10 / 10 % 10) (48 + y / 10 / 10 % 10))
+    (nat_cmp (48 + x / 10 % 10) (48 + y / 10 % 10)) (nat_cmp (48 + x % 10) (48 + y % 10))
     ∙ rw (shifted_cmp 48 (x / 10 / 10 / 10) (y / 10 / 10 / 10), digit_cmp (x / 10 / 10) (y / 10 / 10), digit_cmp (x / 10) (y / 10)) (digit_cmp x y)
 
 -- behind a first part of one length, a dash and two digits
-dashed_cmp : (xs ys : List ℕ) (m n : ℕ) → length xs ≡ length ys → slice_cmp nat_cmp (xs ++ 45 ∷ two_digits m) (ys ++ 45 ∷ two_digits n) ≡ ordering_then (slice_cmp nat_cmp xs ys) (nat_cmp m n)
+dashed_cmp : (xs ys : List ℕ) (m n : ℕ) → length xs ≡ length ys → slice_cmp nat_cmp (xs ++ 45 ∷ two_digits m) (ys ++ 45 ∷ two_digits n)
+    ≡ ordering_then (slice_cmp nat_cmp xs ys) (nat_cmp m n)
 dashed_cmp xs ys m n h =
     cmp_append xs ys (45 ∷ two_digits m) (45 ∷ two_digits n) h
     ∙ ap (ordering_then (slice_cmp nat_cmp xs ys)) (two_digits_cmp m n)

@@ -1,8 +1,10 @@
 -- Days by place. A month has 31 places, of which those past its last day stay empty: 31 * (the month's number) + (the day's number in the month) - 1.
-use Rattle.std.specs.Prelude.{ℕ, ◌+◌, ◌-◌, ◌*◌, ◌/◌, ◌%◌, ◌≤◌, min, Bool, not, ◌&&◌, ◌||◌, ◌==◌, nat_le, nat_eq, if◌then◌else◌, Option, Some, None, option_and_then, List, ◌∷◌, ◌++◌, length, take, drop, slice_index}
+use Rattle.std.specs.Prelude.{ℕ, ◌+◌, ◌-◌, ◌*◌, ◌/◌, ◌%◌, ◌≤◌, min, Bool, not, ◌&&◌, ◌||◌, ◌==◌, nat_le, nat_eq, if◌then◌else◌, Option, Some, None}
+use Rattle.std.specs.Prelude.{option_and_then, List, ◌∷◌, ◌++◌, length, take, drop, slice_index}
 use Rattle.std.specs.List.{list_all}
 use Rattle.std.specs.Char.{is_ascii_digit}
 use Rattle.dh_values.specs.Numbers.{number}
+use Rattle.dh_days.specs.declared.limits.TheConstants.{LAST_MONTH_OF_ENTRY_DAYS}
 use Rattle.dh_days.specs.Months.{IsMonth, month_of, month_text, two_digits}
 
 -- every fourth year, but of the centuries only every fourth
@@ -37,7 +39,7 @@ IsDay day = IsMonth (month_of_day day) × (number_in_month day ≤ days_in (mont
 
 -- a day that lines know, 2000-01-01 to 2199-12-31
 abbrev pub IsEntryDay : ℕ → Type 0
-IsEntryDay day = IsDay day × (month_of_day day ≤ 26399)
+IsEntryDay day = IsDay day × (month_of_day day ≤ LAST_MONTH_OF_ENTRY_DAYS)
 
 -- the form YYYY-MM-DD, where YYYY-MM is a matter of the month
 abbrev pub has_day_form : List ℕ → Bool
@@ -45,7 +47,8 @@ has_day_form text = nat_eq (length text) 10 && nat_eq (slice_index text 7) 45 &&
 
 -- the day of this number in a month, if lines know it
 abbrev pub entry_day_at : ℕ → ℕ → Option ℕ
-entry_day_at number month = if nat_le month 26399 && nat_le 1 number && nat_le number (days_in month) then Some (day_at month number) else None
+entry_day_at number month = if nat_le month LAST_MONTH_OF_ENTRY_DAYS && nat_le 1 number
+    && nat_le number (days_in month) then Some (day_at month number) else None
 
 -- the day that a text YYYY-MM-DD spells, 2000-01-01 to 2199-12-31
 abbrev pub day_of : List ℕ → Option ℕ

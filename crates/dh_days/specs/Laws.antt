@@ -2,6 +2,7 @@
 use Rattle.std.specs.Prelude.{ℕ, ◌≡◌, ◌+◌, ◌<◌, ◌≤◌, Some}
 use Rattle.std.specs.Ordering.{nat_cmp}
 use Rattle.std.specs.Cmp.Lexicographic.{slice_cmp}
+use Rattle.dh_days.specs.declared.limits.TheConstants.{LAST_MONTH}
 use Rattle.dh_days.specs.Months.{IsMonth, IsEntryMonth, month_of, month_text}
 use Rattle.dh_days.specs.Days.{IsDay, IsEntryDay, day_of, day_text, month_of_day, plus_months}
 
@@ -31,7 +32,7 @@ DayTextsAreInOrder = (d e : ℕ) → IsDay d → IsDay e → slice_cmp nat_cmp (
 
 -- a day of the calendar some months later is one
 abbrev pub MonthsLaterIsDay : Type 0
-MonthsLaterIsDay = (d n : ℕ) → IsDay d → month_of_day d + n ≤ 119999 → IsDay (plus_months d n)
+MonthsLaterIsDay = (d n : ℕ) → IsDay d → month_of_day d + n ≤ LAST_MONTH → IsDay (plus_months d n)
 
 -- no month later is the day itself
 abbrev pub NoMonthLater : Type 0

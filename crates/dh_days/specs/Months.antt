@@ -1,17 +1,19 @@
 -- Months by number: 12 * year + month - 1.
-use Rattle.std.specs.Prelude.{ℕ, ◌+◌, ◌-◌, ◌*◌, ◌/◌, ◌%◌, ◌≤◌, Bool, ◌&&◌, nat_le, nat_eq, if◌then◌else◌, Option, Some, None, List, [], ◌∷◌, ◌++◌, length, take, drop, slice_index}
+use Rattle.std.specs.Prelude.{ℕ, ◌+◌, ◌-◌, ◌*◌, ◌/◌, ◌%◌, ◌≤◌, Bool, ◌&&◌, nat_le, nat_eq, if◌then◌else◌, Option, Some, None, List, [], ◌∷◌, ◌++◌, length}
+use Rattle.std.specs.Prelude.{take, drop, slice_index}
 use Rattle.std.specs.List.{list_all}
 use Rattle.std.specs.Char.{is_ascii_digit}
 use Rattle.std.specs.Fmt.{decimal}
 use Rattle.dh_values.specs.Numbers.{number}
+use Rattle.dh_days.specs.declared.limits.TheConstants.{FIRST_MONTH, LAST_ENTRY_MONTH, LAST_MONTH}
 
 -- 2000-01 to 9999-12
 abbrev pub IsMonth : ℕ → Type 0
-IsMonth n = (24000 ≤ n) × (n ≤ 119999)
+IsMonth n = (FIRST_MONTH ≤ n) × (n ≤ LAST_MONTH)
 
 -- a month that lines know, 2000-01 to 2200-12
 abbrev pub IsEntryMonth : ℕ → Type 0
-IsEntryMonth n = (24000 ≤ n) × (n ≤ 26411)
+IsEntryMonth n = (FIRST_MONTH ≤ n) × (n ≤ LAST_ENTRY_MONTH)
 
 -- the form YYYY-MM
 abbrev pub has_month_form : List ℕ → Bool

@@ -4,8 +4,10 @@ ghost use Rattle.std.specs.Prelude.{◌≡◌, ◌↔◌, ◌+◌, ◌<◌, ◌�
 ghost use Rattle.dh_days.specs.Months.{IsMonth};
 ghost use Rattle.dh_days.specs.Days.{IsDay, IsEntryDay, days_in, day_at, day_of, day_text, has_day_form, month_of_day, number_in_month, plus_months};
 ghost use Rattle.dh_days.specs.Dates.{IsDateOf};
+ghost use Rattle.dh_days.specs.declared.limits.TheConstants.{LAST_MONTH};
 
 use crate::Month;
+use crate::limits::{FIRST_MONTH, LAST_MONTH, LAST_MONTH_OF_ENTRY_DAYS};
 use crate::month::spelled_month;
 use dh_values::BadText;
 use dh_values::digits::{are_digits, number};
@@ -35,7 +37,7 @@ impl Model for Day {
     ghost inverse = { λ n. record { place = n } };
 }
 
-// Whether it is seven bytes, a dash and two digits.
+// Whether the text is seven bytes, a dash and two digits.
 fn has_day_form(bytes: &[u8]) -> bool
     ensures { result ≡ has_day_form bytes.now }
 {
@@ -51,7 +53,7 @@ pub(crate) fn spelled_day(bytes: &[u8]) -> Option<Day>
         return None;
     }
     let month = spelled_month(&bytes[..7])?;
-    if month > 26399 {
+    if month > LAST_MONTH_OF_ENTRY_DAYS {
         return None;
     }
     Day::try_of(Month::of_number(month), number(&bytes[8..]))
@@ -111,7 +113,7 @@ impl Day {
         }
     }
 
-    /// Its month.
+    /// The month of the day.
     pub fn month(&self) -> Month
         ensures value { result ≡ month_of_day self.now }
         ensures range { IsDay self.now }
@@ -130,10 +132,10 @@ impl Day {
     /// shorter. `None` exactly where that month is after 9999-12.
     pub fn plus_months(&self, n: u32) -> Option<Day>
         ensures later { IfSome result (λ d. d ≡ plus_months self.now n) }
-        ensures exact { IsSome result ↔ (month_of_day self.now + n ≤ 119999) }
+        ensures exact { IsSome result ↔ (month_of_day self.now + n ≤ LAST_MONTH) }
     {
         let date = self.date();
-        if n > 95_999 {
+        if n > LAST_MONTH - FIRST_MONTH {
             return None;
         }
         match date.checked_add((n as i64).months()) {

@@ -2,9 +2,11 @@
 
 ghost use Rattle.std.specs.Prelude.{◌≡◌, ◌↔◌, ◌≤◌, IsSome, IfSome, MatchResult, None, Some};
 ghost use Rattle.dh_days.specs.Days.{IsEntryDay, day_of, day_text, month_of_day};
+ghost use Rattle.dh_days.specs.declared.limits.TheConstants.{LAST_MONTH_OF_ENTRY_DAYS};
 
 use crate::Day;
 use crate::day::spelled_day;
+use crate::limits::LAST_MONTH_OF_ENTRY_DAYS;
 use dh_values::BadText;
 use std::fmt;
 use std::marker::Model;
@@ -40,18 +42,18 @@ impl EntryDay {
         }
     }
 
-    /// The same day, if it can be entered. `None` exactly after 2199-12-31.
+    /// The day, if it can be entered. `None` exactly after 2199-12-31.
     pub fn of(day: Day) -> Option<EntryDay>
         ensures value { IfSome result (λ d. d ≡ day) }
-        ensures exact { IsSome result ↔ (month_of_day day ≤ 26399) }
+        ensures exact { IsSome result ↔ (month_of_day day ≤ LAST_MONTH_OF_ENTRY_DAYS) }
     {
-        if day.month().number() > 26399 {
+        if day.month().number() > LAST_MONTH_OF_ENTRY_DAYS {
             return None;
         }
         Some(EntryDay { day })
     }
 
-    /// The same day among all days.
+    /// The day among all days.
     pub fn day(self) -> Day
         ensures value { result ≡ self }
         ensures range { IsEntryDay self }

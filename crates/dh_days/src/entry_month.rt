@@ -2,8 +2,10 @@
 
 ghost use Rattle.std.specs.Prelude.{◌≡◌, ◌↔◌, ◌≤◌, IsSome, IfSome, MatchResult, None, Some, pos, ◌≤ℤ◌};
 ghost use Rattle.dh_days.specs.Months.{IsEntryMonth, month_of, month_text};
+ghost use Rattle.dh_days.specs.declared.limits.TheConstants.{FIRST_MONTH, LAST_ENTRY_MONTH};
 
 use crate::Month;
+use crate::limits::{FIRST_MONTH, LAST_ENTRY_MONTH};
 use crate::month::spelled_month;
 use dh_values::BadText;
 use std::fmt;
@@ -41,12 +43,12 @@ impl EntryMonth {
         }
     }
 
-    /// The month of this number, 24000 to 26411. `None` for any other number.
+    /// The month of this number, of 2000-01 to 2200-12. `None` for any other number.
     pub fn try_of_number(number: i64) -> Option<EntryMonth>
         ensures value { IfSome result (λ m. pos m ≡ number) }
-        ensures exact { IsSome result ↔ ((pos 24000 ≤ℤ number) × (number ≤ℤ pos 26411)) }
+        ensures exact { IsSome result ↔ ((pos FIRST_MONTH ≤ℤ number) × (number ≤ℤ pos LAST_ENTRY_MONTH)) }
     {
-        if number < 24000 || number > 26411 {
+        if number < FIRST_MONTH as i64 || number > LAST_ENTRY_MONTH as i64 {
             return None;
         }
         Some(EntryMonth {
@@ -62,19 +64,19 @@ impl EntryMonth {
         EntryMonth { number }
     }
 
-    /// The same month, if it can be entered. `None` exactly after 2200-12.
+    /// The month, if it can be entered. `None` exactly after 2200-12.
     pub fn of(month: Month) -> Option<EntryMonth>
         ensures value { IfSome result (λ m. m ≡ month) }
-        ensures exact { IsSome result ↔ (month ≤ 26411) }
+        ensures exact { IsSome result ↔ (month ≤ LAST_ENTRY_MONTH) }
     {
         let number = month.number();
-        if number > 26411 {
+        if number > LAST_ENTRY_MONTH {
             return None;
         }
         Some(EntryMonth { number })
     }
 
-    /// The same month among all months.
+    /// The month among all months.
     pub fn month(self) -> Month
         ensures value { result ≡ self }
         ensures range { IsEntryMonth self }

@@ -1,6 +1,7 @@
 //! Laws of days and months: each function does nothing, and its clause is the law.
 
-ghost use Rattle.dh_days.specs.Laws.{DayTextsAreInOrder, DaysLieByMonth, DaysPrintApart, MonthOfMonthsLater, MonthTextsAreInOrder, MonthsLaterInOrder, MonthsLaterIsDay, MonthsPrintApart, MoreMonthsLater, NoMonthLater, PrintedDaysAreRead, PrintedMonthsAreRead};
+ghost use Rattle.dh_days.specs.Laws.{DayTextsAreInOrder, DaysLieByMonth, DaysPrintApart, MonthOfMonthsLater, MonthTextsAreInOrder, MonthsLaterInOrder};
+ghost use Rattle.dh_days.specs.Laws.{MonthsLaterIsDay, MonthsPrintApart, MoreMonthsLater, NoMonthLater, PrintedDaysAreRead, PrintedMonthsAreRead};
 
 /// A month that lines know, printed and read, is itself.
 pub fn printed_months_are_read()

@@ -6,6 +6,7 @@ mod day;
 mod entry_day;
 mod entry_month;
 pub mod laws;
+pub mod limits;
 mod month;
 
 pub use day::Day;

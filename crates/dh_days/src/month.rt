@@ -2,7 +2,9 @@
 
 ghost use Rattle.std.specs.Prelude.{◌≡◌, ◌↔◌, ◌+◌, ◌<◌, ◌≤◌, IsSome, IfSome, MatchResult, None, Some, pos, ◌≤ℤ◌};
 ghost use Rattle.dh_days.specs.Months.{IsMonth, IsEntryMonth, has_month_form, month_of, month_text};
+ghost use Rattle.dh_days.specs.declared.limits.TheConstants.{FIRST_MONTH, LAST_MONTH};
 
+use crate::limits::{FIRST_MONTH, LAST_MONTH};
 use dh_values::BadText;
 use dh_values::digits::{are_digits, number};
 use std::fmt;
@@ -28,7 +30,7 @@ impl Model for Month {
     ghost inverse = { λ n. record { number = n } };
 }
 
-// Whether it is four digits, a dash and two digits.
+// Whether the text is four digits, a dash and two digits.
 fn has_month_form(bytes: &[u8]) -> bool
     ensures { result ≡ has_month_form bytes.now }
 {
@@ -63,12 +65,12 @@ impl Month {
         }
     }
 
-    /// The month of this number, 24000 to 119999. `None` for any other number.
+    /// The month of this number, of 2000-01 to 9999-12. `None` for any other number.
     pub fn try_of_number(number: i64) -> Option<Month>
         ensures value { IfSome result (λ m. pos m ≡ number) }
-        ensures exact { IsSome result ↔ ((pos 24000 ≤ℤ number) × (number ≤ℤ pos 119999)) }
+        ensures exact { IsSome result ↔ ((pos FIRST_MONTH ≤ℤ number) × (number ≤ℤ pos LAST_MONTH)) }
     {
-        if number < 24000 || number > 119999 {
+        if number < FIRST_MONTH as i64 || number > LAST_MONTH as i64 {
             return None;
         }
         Some(Month {
@@ -95,9 +97,9 @@ impl Month {
     /// The month after this one. `None` exactly after 9999-12.
     pub fn next(self) -> Option<Month>
         ensures value { IfSome result (λ m. m ≡ self + 1) }
-        ensures exact { IsSome result ↔ (self < 119999) }
+        ensures exact { IsSome result ↔ (self < LAST_MONTH) }
     {
-        if self.number >= 119999 {
+        if self.number >= LAST_MONTH {
             return None;
         }
         Some(Month {

@@ -18,7 +18,10 @@ use Rattle.dh_types.specs.declared.lease.Receipt.{Receipt}
 use Rattle.dh_types.specs.declared.run.Run.{Run}
 use Rattle.dh_types.specs.declared.run.Part.{Part}
 use Rattle.dh_types.specs.Laws.{TellsApart}
-use Rattle.dh_types.specs.Records.{is_same_optional, is_same_property_type, is_same_position, is_same_payment_method, is_same_receipt_kind, is_same_flag, is_same_branch, is_same_staff, is_same_owner, is_same_property, is_same_client, is_same_registration, is_same_viewing, is_same_inspection, is_same_lease_terms, is_same_lease, is_same_charge, is_same_payment, is_same_receipt, is_same_run, is_same_part}
+use Rattle.dh_types.specs.Records.{is_same_optional, is_same_property_type, is_same_position, is_same_payment_method, is_same_receipt_kind, is_same_flag}
+use Rattle.dh_types.specs.Records.{is_same_branch, is_same_staff, is_same_owner, is_same_property, is_same_client, is_same_registration, is_same_viewing}
+use Rattle.dh_types.specs.Records.{is_same_inspection, is_same_lease_terms, is_same_lease, is_same_charge, is_same_payment, is_same_receipt, is_same_run}
+use Rattle.dh_types.specs.Records.{is_same_part}
 use Rattle.dh_types.proofs.SameValues.{texts, numbers, flags, optional, property_types, positions, payment_methods, receipt_kinds}
 
 equal_branch : (a b : Branch) → is_same_branch a b ≡ true → a ≡ b
@@ -33,7 +36,12 @@ equal_branch a b h =
     λ i. record { number = number i; street = street i; city = city i; postcode = postcode i }
 
 branch_itself : (a : Branch) → is_same_branch a a ≡ true
-branch_itself a = rw ((texts a.number a.number).1 refl, (texts a.street a.street).1 refl, (texts a.city a.city).1 refl, (texts a.postcode a.postcode).1 refl) refl
+branch_itself a = rw (
+  (texts a.number a.number).1 refl,
+  (texts a.street a.street).1 refl,
+  (texts a.city a.city).1 refl,
+  (texts a.postcode a.postcode).1 refl,
+) refl
 
 pub same_branch : TellsApart is_same_branch
 same_branch a b = (equal_branch a b, λ e. rw (← e) (branch_itself a))
@@ -50,7 +58,12 @@ equal_staff a b h =
     λ i. record { number = number i; name = name i; position = position i; branch = branch i }
 
 staff_itself : (a : Staff) → is_same_staff a a ≡ true
-staff_itself a = rw ((texts a.number a.number).1 refl, (texts a.name a.name).1 refl, (positions a.position a.position).1 refl, (texts a.branch a.branch).1 refl) refl
+staff_itself a = rw (
+  (texts a.number a.number).1 refl,
+  (texts a.name a.name).1 refl,
+  (positions a.position a.position).1 refl,
+  (texts a.branch a.branch).1 refl,
+) refl
 
 pub same_staff : TellsApart is_same_staff
 same_staff a b = (equal_staff a b, λ e. rw (← e) (staff_itself a))
@@ -67,7 +80,12 @@ equal_owner a b h =
     λ i. record { number = number i; name = name i; address = address i; telephone = telephone i }
 
 owner_itself : (a : Owner) → is_same_owner a a ≡ true
-owner_itself a = rw ((texts a.number a.number).1 refl, (texts a.name a.name).1 refl, (texts a.address a.address).1 refl, (texts a.telephone a.telephone).1 refl) refl
+owner_itself a = rw (
+  (texts a.number a.number).1 refl,
+  (texts a.name a.name).1 refl,
+  (texts a.address a.address).1 refl,
+  (texts a.telephone a.telephone).1 refl,
+) refl
 
 pub same_owner : TellsApart is_same_owner
 same_owner a b = (equal_owner a b, λ e. rw (← e) (owner_itself a))
@@ -84,7 +102,8 @@ equal_property a b h =
     let to_rooms = and_left _ (nat_eq a.rent b.rent) to_rent in
     let rooms = (numbers a.rooms b.rooms).0 (and_right _ (nat_eq a.rooms b.rooms) to_rooms) in
     let to_property_type = and_left _ (nat_eq a.rooms b.rooms) to_rooms in
-    let property_type = (property_types a.property_type b.property_type).0 (and_right _ (is_same_property_type a.property_type b.property_type) to_property_type) in
+    let property_type = (property_types a.property_type b.property_type).0
+    (and_right _ (is_same_property_type a.property_type b.property_type) to_property_type) in
     let to_postcode = and_left _ (is_same_property_type a.property_type b.property_type) to_property_type in
     let postcode = (texts a.postcode b.postcode).0 (and_right _ (pointwise nat_eq a.postcode b.postcode) to_postcode) in
     let to_city = and_left _ (pointwise nat_eq a.postcode b.postcode) to_postcode in
@@ -93,10 +112,32 @@ equal_property a b h =
     let street = (texts a.street b.street).0 (and_right _ (pointwise nat_eq a.street b.street) to_street) in
     let to_number = and_left _ (pointwise nat_eq a.street b.street) to_street in
     let number = (texts a.number b.number).0 to_number in
-    λ i. record { number = number i; street = street i; city = city i; postcode = postcode i; property_type = property_type i; rooms = rooms i; rent = rent i; owner = owner i; staff = staff i; branch = branch i }
+    λ i. record {
+      number = number i;
+      street = street i;
+      city = city i;
+      postcode = postcode i;
+      property_type = property_type i;
+      rooms = rooms i;
+      rent = rent i;
+      owner = owner i;
+      staff = staff i;
+      branch = branch i;
+    }
 
 property_itself : (a : Property) → is_same_property a a ≡ true
-property_itself a = rw ((texts a.number a.number).1 refl, (texts a.street a.street).1 refl, (texts a.city a.city).1 refl, (texts a.postcode a.postcode).1 refl, (property_types a.property_type a.property_type).1 refl, (numbers a.rooms a.rooms).1 refl, (numbers a.rent a.rent).1 refl, (texts a.owner a.owner).1 refl, (optional (pointwise nat_eq) texts a.staff a.staff).1 refl, (texts a.branch a.branch).1 refl) refl
+property_itself a = rw (
+  (texts a.number a.number).1 refl,
+  (texts a.street a.street).1 refl,
+  (texts a.city a.city).1 refl,
+  (texts a.postcode a.postcode).1 refl,
+  (property_types a.property_type a.property_type).1 refl,
+  (numbers a.rooms a.rooms).1 refl,
+  (numbers a.rent a.rent).1 refl,
+  (texts a.owner a.owner).1 refl,
+  (optional (pointwise nat_eq) texts a.staff a.staff).1 refl,
+  (texts a.branch a.branch).1 refl,
+) refl
 
 pub same_property : TellsApart is_same_property
 same_property a b = (equal_property a b, λ e. rw (← e) (property_itself a))
@@ -105,7 +146,8 @@ equal_client : (a b : Client) → is_same_client a b ≡ true → a ≡ b
 equal_client a b h =
     let greatest_rent = (numbers a.greatest_rent b.greatest_rent).0 (and_right _ (nat_eq a.greatest_rent b.greatest_rent) h) in
     let to_preferred_type = and_left _ (nat_eq a.greatest_rent b.greatest_rent) h in
-    let preferred_type = (property_types a.preferred_type b.preferred_type).0 (and_right _ (is_same_property_type a.preferred_type b.preferred_type) to_preferred_type) in
+    let preferred_type = (property_types a.preferred_type b.preferred_type).0
+    (and_right _ (is_same_property_type a.preferred_type b.preferred_type) to_preferred_type) in
     let to_telephone = and_left _ (is_same_property_type a.preferred_type b.preferred_type) to_preferred_type in
     let telephone = (texts a.telephone b.telephone).0 (and_right _ (pointwise nat_eq a.telephone b.telephone) to_telephone) in
     let to_name = and_left _ (pointwise nat_eq a.telephone b.telephone) to_telephone in
@@ -115,7 +157,13 @@ equal_client a b h =
     λ i. record { number = number i; name = name i; telephone = telephone i; preferred_type = preferred_type i; greatest_rent = greatest_rent i }
 
 client_itself : (a : Client) → is_same_client a a ≡ true
-client_itself a = rw ((texts a.number a.number).1 refl, (texts a.name a.name).1 refl, (texts a.telephone a.telephone).1 refl, (property_types a.preferred_type a.preferred_type).1 refl, (numbers a.greatest_rent a.greatest_rent).1 refl) refl
+client_itself a = rw (
+  (texts a.number a.number).1 refl,
+  (texts a.name a.name).1 refl,
+  (texts a.telephone a.telephone).1 refl,
+  (property_types a.preferred_type a.preferred_type).1 refl,
+  (numbers a.greatest_rent a.greatest_rent).1 refl,
+) refl
 
 pub same_client : TellsApart is_same_client
 same_client a b = (equal_client a b, λ e. rw (← e) (client_itself a))
@@ -132,7 +180,12 @@ equal_registration a b h =
     λ i. record { client = client i; branch = branch i; staff = staff i; day = day i }
 
 registration_itself : (a : Registration) → is_same_registration a a ≡ true
-registration_itself a = rw ((texts a.client a.client).1 refl, (texts a.branch a.branch).1 refl, (texts a.staff a.staff).1 refl, (numbers a.day a.day).1 refl) refl
+registration_itself a = rw (
+  (texts a.client a.client).1 refl,
+  (texts a.branch a.branch).1 refl,
+  (texts a.staff a.staff).1 refl,
+  (numbers a.day a.day).1 refl,
+) refl
 
 pub same_registration : TellsApart is_same_registration
 same_registration a b = (equal_registration a b, λ e. rw (← e) (registration_itself a))
@@ -149,7 +202,12 @@ equal_viewing a b h =
     λ i. record { client = client i; property = property i; day = day i; comment = comment i }
 
 viewing_itself : (a : Viewing) → is_same_viewing a a ≡ true
-viewing_itself a = rw ((texts a.client a.client).1 refl, (texts a.property a.property).1 refl, (numbers a.day a.day).1 refl, (optional (pointwise nat_eq) texts a.comment a.comment).1 refl) refl
+viewing_itself a = rw (
+  (texts a.client a.client).1 refl,
+  (texts a.property a.property).1 refl,
+  (numbers a.day a.day).1 refl,
+  (optional (pointwise nat_eq) texts a.comment a.comment).1 refl,
+) refl
 
 pub same_viewing : TellsApart is_same_viewing
 same_viewing a b = (equal_viewing a b, λ e. rw (← e) (viewing_itself a))
@@ -166,7 +224,12 @@ equal_inspection a b h =
     λ i. record { property = property i; day = day i; staff = staff i; comment = comment i }
 
 inspection_itself : (a : Inspection) → is_same_inspection a a ≡ true
-inspection_itself a = rw ((texts a.property a.property).1 refl, (numbers a.day a.day).1 refl, (texts a.staff a.staff).1 refl, (texts a.comment a.comment).1 refl) refl
+inspection_itself a = rw (
+  (texts a.property a.property).1 refl,
+  (numbers a.day a.day).1 refl,
+  (texts a.staff a.staff).1 refl,
+  (texts a.comment a.comment).1 refl,
+) refl
 
 pub same_inspection : TellsApart is_same_inspection
 same_inspection a b = (equal_inspection a b, λ e. rw (← e) (inspection_itself a))
@@ -187,7 +250,14 @@ equal_lease_terms a b h =
     λ i. record { number = number i; client = client i; property = property i; start = start i; months = months i; method = method i }
 
 lease_terms_itself : (a : LeaseTerms) → is_same_lease_terms a a ≡ true
-lease_terms_itself a = rw ((numbers a.number a.number).1 refl, (texts a.client a.client).1 refl, (texts a.property a.property).1 refl, (numbers a.start a.start).1 refl, (numbers a.months a.months).1 refl, (payment_methods a.method a.method).1 refl) refl
+lease_terms_itself a = rw (
+  (numbers a.number a.number).1 refl,
+  (texts a.client a.client).1 refl,
+  (texts a.property a.property).1 refl,
+  (numbers a.start a.start).1 refl,
+  (numbers a.months a.months).1 refl,
+  (payment_methods a.method a.method).1 refl,
+) refl
 
 pub same_lease_terms : TellsApart is_same_lease_terms
 same_lease_terms a b = (equal_lease_terms a b, λ e. rw (← e) (lease_terms_itself a))
@@ -219,7 +289,13 @@ equal_charge a b h =
     λ i. record { lease = lease i; index = index i; month = month i; day = day i; amount = amount i }
 
 charge_itself : (a : Charge) → is_same_charge a a ≡ true
-charge_itself a = rw ((numbers a.lease a.lease).1 refl, (numbers a.index a.index).1 refl, (numbers a.month a.month).1 refl, (numbers a.day a.day).1 refl, (numbers a.amount a.amount).1 refl) refl
+charge_itself a = rw (
+  (numbers a.lease a.lease).1 refl,
+  (numbers a.index a.index).1 refl,
+  (numbers a.month a.month).1 refl,
+  (numbers a.day a.day).1 refl,
+  (numbers a.amount a.amount).1 refl,
+) refl
 
 pub same_charge : TellsApart is_same_charge
 same_charge a b = (equal_charge a b, λ e. rw (← e) (charge_itself a))
@@ -236,7 +312,12 @@ equal_payment a b h =
     λ i. record { lease = lease i; kind = kind i; amount = amount i; day = day i }
 
 payment_itself : (a : Payment) → is_same_payment a a ≡ true
-payment_itself a = rw ((numbers a.lease a.lease).1 refl, (receipt_kinds a.kind a.kind).1 refl, (numbers a.amount a.amount).1 refl, (numbers a.day a.day).1 refl) refl
+payment_itself a = rw (
+  (numbers a.lease a.lease).1 refl,
+  (receipt_kinds a.kind a.kind).1 refl,
+  (numbers a.amount a.amount).1 refl,
+  (numbers a.day a.day).1 refl,
+) refl
 
 pub same_payment : TellsApart is_same_payment
 same_payment a b = (equal_payment a b, λ e. rw (← e) (payment_itself a))
@@ -270,7 +351,13 @@ equal_run a b h =
     λ i. record { month = month i; key = key i; count = count i; total = total i; is_closed = is_closed i }
 
 run_itself : (a : Run) → is_same_run a a ≡ true
-run_itself a = rw ((numbers a.month a.month).1 refl, (texts a.key a.key).1 refl, (numbers a.count a.count).1 refl, (numbers a.total a.total).1 refl, (flags a.is_closed a.is_closed).1 refl) refl
+run_itself a = rw (
+  (numbers a.month a.month).1 refl,
+  (texts a.key a.key).1 refl,
+  (numbers a.count a.count).1 refl,
+  (numbers a.total a.total).1 refl,
+  (flags a.is_closed a.is_closed).1 refl,
+) refl
 
 pub same_run : TellsApart is_same_run
 same_run a b = (equal_run a b, λ e. rw (← e) (run_itself a))
@@ -289,7 +376,13 @@ equal_part a b h =
     λ i. record { month = month i; branch = branch i; through = through i; count = count i; total = total i }
 
 part_itself : (a : Part) → is_same_part a a ≡ true
-part_itself a = rw ((numbers a.month a.month).1 refl, (texts a.branch a.branch).1 refl, (optional nat_eq numbers a.through a.through).1 refl, (numbers a.count a.count).1 refl, (numbers a.total a.total).1 refl) refl
+part_itself a = rw (
+  (numbers a.month a.month).1 refl,
+  (texts a.branch a.branch).1 refl,
+  (optional nat_eq numbers a.through a.through).1 refl,
+  (numbers a.count a.count).1 refl,
+  (numbers a.total a.total).1 refl,
+) refl
 
 pub same_part : TellsApart is_same_part
 same_part a b = (equal_part a b, λ e. rw (← e) (part_itself a))

@@ -1,6 +1,8 @@
 -- What the definitions owe each other.
 use Rattle.std.specs.Prelude.{Bool, true, ◌≡◌, ◌↔◌}
-use Rattle.dh_types.specs.Records.{is_same_branch, is_same_staff, is_same_owner, is_same_property, is_same_client, is_same_registration, is_same_viewing, is_same_inspection, is_same_lease_terms, is_same_lease, is_same_charge, is_same_payment, is_same_receipt, is_same_run, is_same_part}
+use Rattle.dh_types.specs.Records.{is_same_branch, is_same_staff, is_same_owner, is_same_property, is_same_client, is_same_registration, is_same_viewing}
+use Rattle.dh_types.specs.Records.{is_same_inspection, is_same_lease_terms, is_same_lease, is_same_charge, is_same_payment, is_same_receipt, is_same_run}
+use Rattle.dh_types.specs.Records.{is_same_part}
 
 -- two are the same exactly where they are one
 abbrev pub TellsApart : {T : Type 0} → (T → T → Bool) → Type 0

@@ -72,8 +72,10 @@ is_same_owner a b = pointwise nat_eq a.number b.number && pointwise nat_eq a.nam
     && pointwise nat_eq a.address b.address && pointwise nat_eq a.telephone b.telephone
 
 abbrev pub is_same_property : Property → Property → Bool
-is_same_property a b = pointwise nat_eq a.number b.number && pointwise nat_eq a.street b.street && pointwise nat_eq a.city b.city && pointwise nat_eq a.postcode b.postcode && is_same_property_type a.property_type b.property_type
-    && nat_eq a.rooms b.rooms && nat_eq a.rent b.rent && pointwise nat_eq a.owner b.owner && is_same_optional (pointwise nat_eq) a.staff b.staff && pointwise nat_eq a.branch b.branch
+is_same_property a b = pointwise nat_eq a.number b.number && pointwise nat_eq a.street b.street && pointwise nat_eq a.city b.city
+    && pointwise nat_eq a.postcode b.postcode && is_same_property_type a.property_type b.property_type
+    && nat_eq a.rooms b.rooms && nat_eq a.rent b.rent && pointwise nat_eq a.owner b.owner && is_same_optional (pointwise nat_eq) a.staff b.staff
+    && pointwise nat_eq a.branch b.branch
 
 abbrev pub is_same_client : Client → Client → Bool
 is_same_client a b = pointwise nat_eq a.number b.number && pointwise nat_eq a.name b.name && pointwise nat_eq a.telephone b.telephone

@@ -1,5 +1,5 @@
 -- The texts of replies, refusals and faults.
-use Rattle.std.specs.Prelude.{ℕ, Bool, true, false, List, ◌∷◌, ◌++◌, codes}
+use Rattle.std.specs.Prelude.{ℕ, Bool, true, false, List, [], ◌∷◌, ◌++◌, codes}
 use Rattle.std.specs.Fmt.{decimal, signed_decimal}
 use Rattle.dh_values.specs.Money.{pence_text}
 use Rattle.dh_days.specs.Months.{month_text}
@@ -11,6 +11,9 @@ use Rattle.dh_types.specs.declared.reply.Refusal.{Refusal}
 use Rattle.dh_types.specs.declared.reply.Refusal.TheVariants as refusal
 use Rattle.dh_types.specs.declared.reply.Fault.{Fault}
 use Rattle.dh_types.specs.declared.reply.Fault.TheVariants as fault
+use Rattle.dh_types.specs.declared.wording.Words.{Words}
+use Rattle.dh_types.specs.declared.wording.Value.{Value}
+use Rattle.dh_types.specs.declared.wording.Value.TheVariants as value
 
 -- a refusal by its number, and the value that it carries
 abbrev pub refusal_text : Refusal → List ℕ
@@ -63,3 +66,17 @@ fault_text fault.Stopped = codes "fault 23"
 abbrev pub is_refusal : Reply → Bool
 is_refusal (reply.Refused why) = true
 is_refusal _ = false
+
+-- a value behind words
+abbrev pub value_text : Value → List ℕ
+value_text value.Nothing = []
+value_text (value.Number number) = decimal number
+value_text (value.Signed number) = signed_decimal number
+value_text (value.Month month) = month_text month
+value_text (value.Money money) = pence_text money
+value_text (value.Progress run) = progress_text run
+value_text (value.Sum sum) = sum_text sum
+
+-- words, and the value behind them
+abbrev pub words_text : Words → List ℕ
+words_text words = words.lead.now ++ value_text words.value

@@ -1,6 +1,8 @@
 //! Laws of the records: each function does nothing, and its clause is the law.
 
-ghost use Rattle.dh_types.specs.Laws.{SameBranchesAreEqual, SameStaffAreEqual, SameOwnersAreEqual, SamePropertiesAreEqual, SameClientsAreEqual, SameRegistrationsAreEqual, SameViewingsAreEqual, SameInspectionsAreEqual, SameLeaseTermsAreEqual, SameLeasesAreEqual, SameChargesAreEqual, SamePaymentsAreEqual, SameReceiptsAreEqual, SameRunsAreEqual, SamePartsAreEqual};
+ghost use Rattle.dh_types.specs.Laws.{SameBranchesAreEqual, SameStaffAreEqual, SameOwnersAreEqual, SamePropertiesAreEqual, SameClientsAreEqual};
+ghost use Rattle.dh_types.specs.Laws.{SameRegistrationsAreEqual, SameViewingsAreEqual, SameInspectionsAreEqual, SameLeaseTermsAreEqual, SameLeasesAreEqual};
+ghost use Rattle.dh_types.specs.Laws.{SameChargesAreEqual, SamePaymentsAreEqual, SameReceiptsAreEqual, SameRunsAreEqual, SamePartsAreEqual};
 
 /// Branches whose fields are equal are one.
 pub fn same_branches_are_equal()

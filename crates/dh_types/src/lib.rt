@@ -16,6 +16,7 @@ mod reply_text;
 mod run;
 mod staff;
 mod viewing;
+mod wording;
 pub mod writing;
 
 pub use answer::{Answer, Arrears, Debt, RunReport, Statement};

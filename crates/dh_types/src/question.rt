@@ -9,7 +9,7 @@ pub enum Question {
     Branches,
     /// The properties that no lease covers that day.
     Vacant(EntryDay),
-    /// Those of them that the client would take.
+    /// The vacant properties that the client would take.
     Matching(ClientDay),
     /// What a lease was charged and what was paid on it.
     Statement(LeaseNo),

@@ -3,6 +3,7 @@
 ghost use Rattle.std.specs.Prelude.{◌≡◌, Some};
 ghost use Rattle.dh_types.specs.Replies.{fault_text, is_refusal, refusal_text, reply_text};
 
+use crate::wording::{words_of_fault, words_of_refusal, words_of_reply, words_of_sum};
 use crate::{EntryMonth, LeaseNo, Month, Pence, ReceiptNo, RunSum};
 use std::fmt;
 
@@ -15,7 +16,7 @@ pub enum Reply {
     Already,
     /// The payment was accepted and got this number.
     Receipt(ReceiptNo),
-    /// It was accepted before, with this number; nothing changed.
+    /// The payment was accepted before, with this number; nothing changed.
     AlreadyReceipt(ReceiptNo),
     /// The rent run of this month was opened.
     Opened(EntryMonth),
@@ -23,7 +24,7 @@ pub enum Reply {
     Part(Progress),
     /// The rent run was closed.
     Posted(RunSum),
-    /// It was closed before; nothing changed.
+    /// The rent run was closed before; nothing changed.
     AlreadyPosted(RunSum),
     /// The command was refused; nothing changed.
     Refused(Refusal),
@@ -105,7 +106,7 @@ impl fmt::Display for RunSum {
     ghost output = { λ sum. Some (posted_text sum) };
 
     fn fmt<W: fmt::Write>(&self, f: &mut fmt::Formatter<W>) -> fmt::Result {
-        write!(f, "posted {} {} {}", self.month, self.count, self.total)
+        fmt::Display::fmt(&words_of_sum(*self), f)
     }
 }
 
@@ -113,17 +114,7 @@ impl fmt::Display for Reply {
     ghost output = { λ r. Some (reply_text r) };
 
     fn fmt<W: fmt::Write>(&self, f: &mut fmt::Formatter<W>) -> fmt::Result {
-        match self {
-            Reply::Accepted => write!(f, "ok"),
-            Reply::Already => write!(f, "already"),
-            Reply::Receipt(number) => write!(f, "receipt {number}"),
-            Reply::AlreadyReceipt(number) => write!(f, "already receipt {number}"),
-            Reply::Opened(month) => write!(f, "opened {month}"),
-            Reply::Part(run) => write!(f, "part {} {} of {}", run.month, run.done, run.of),
-            Reply::Posted(sum) => write!(f, "{sum}"),
-            Reply::AlreadyPosted(sum) => write!(f, "already {sum}"),
-            Reply::Refused(refusal) => write!(f, "{refusal}"),
-        }
+        fmt::Display::fmt(&words_of_reply(*self), f)
     }
 }
 
@@ -131,26 +122,7 @@ impl fmt::Display for Refusal {
     ghost output = { λ r. Some (refusal_text r) };
 
     fn fmt<W: fmt::Write>(&self, f: &mut fmt::Formatter<W>) -> fmt::Result {
-        match self {
-            Refusal::Taken => write!(f, "refused 1"),
-            Refusal::Unknown(field) => write!(f, "refused 2 {field}"),
-            Refusal::WrongBranch => write!(f, "refused 3"),
-            Refusal::TooMany => write!(f, "refused 4"),
-            Refusal::Overlap(lease) => write!(f, "refused 5 {lease}"),
-            Refusal::ClientStart(lease) => write!(f, "refused 6 {lease}"),
-            Refusal::MonthPosted(next) => write!(f, "refused 7 {next}"),
-            Refusal::NotNextMonth(next) => write!(f, "refused 8 {next}"),
-            Refusal::KeyUsed => write!(f, "refused 9"),
-            Refusal::RunOpen(month) => write!(f, "refused 10 {month}"),
-            Refusal::DepositAmount(expected) => write!(f, "refused 11 {expected}"),
-            Refusal::DepositPaid => write!(f, "refused 12"),
-            Refusal::NotRegistered => write!(f, "refused 13"),
-            Refusal::NoRun => write!(f, "refused 14"),
-            Refusal::BadLine(field) => write!(f, "bad field {field}"),
-            Refusal::Version(found) => write!(f, "refused 16 {found}"),
-            Refusal::Damaged(rule) => write!(f, "refused 17 {rule}"),
-            Refusal::Full => write!(f, "refused 18"),
-        }
+        fmt::Display::fmt(&words_of_refusal(*self), f)
     }
 }
 
@@ -158,10 +130,6 @@ impl fmt::Display for Fault {
     ghost output = { λ f. Some (fault_text f) };
 
     fn fmt<W: fmt::Write>(&self, f: &mut fmt::Formatter<W>) -> fmt::Result {
-        match self {
-            Fault::Memory => write!(f, "fault 21"),
-            Fault::Store => write!(f, "fault 22"),
-            Fault::Stopped => write!(f, "fault 23"),
-        }
+        fmt::Display::fmt(&words_of_fault(*self), f)
     }
 }

@@ -1,13 +1,13 @@
 //! Writing replies, refusals and faults to any writer. It takes no memory.
 
 ghost use Rattle.std.specs.Prelude.{◌≡◌, ◌≤◌, ◌++◌, ◌∷◌, ◌/◌, ◌%◌, ◌+◌, []};
-ghost use Rattle.std.specs.Fmt.{decimal};
 ghost use Rattle.dh_values.specs.Money.{pence_text};
 ghost use Rattle.dh_days.specs.Months.{IsMonth, month_text};
 ghost use Rattle.dh_types.specs.Output.{Puts};
-ghost use Rattle.dh_types.specs.Replies.{fault_text, posted_text, progress_text, refusal_text, reply_text, sum_text};
+ghost use Rattle.dh_types.specs.Replies.{fault_text, progress_text, refusal_text, reply_text, sum_text, value_text};
 
 use crate::reply::Progress;
+use crate::wording::{Value, words_of_fault, words_of_refusal, words_of_reply};
 use crate::writing::{Output, put, put_parts};
 use crate::{Fault, Month, Pence, Refusal, Reply, RunSum};
 use std::io::Write;
@@ -30,14 +30,6 @@ fn pence_behind(money: Pence) -> [u8; 3]
 {
     let pence = money.pence() % 100;
     [b'.', b'0' + (pence / 10) as u8, b'0' + (pence % 10) as u8]
-}
-
-// Writes the lead and then the number.
-fn put_number<W: Write>(writer: &mut W, lead: &[u8], number: u32) -> Result<(), Output>
-    ensures { Puts (W.contents writer.old) (W.contents writer.new) result (lead.now ++ decimal number) }
-{
-    let mut digits = itoa::Buffer::new();
-    put_parts(writer, &[lead, digits.format(number).as_bytes()])
 }
 
 // Writes the lead and then the month, as YYYY-MM.
@@ -101,35 +93,29 @@ fn put_sum<W: Write>(writer: &mut W, lead: &[u8], sum: RunSum) -> Result<(), Out
     )
 }
 
+// Writes the lead and then the value.
+fn put_value<W: Write>(writer: &mut W, lead: &[u8], value: Value) -> Result<(), Output>
+    ensures { Puts (W.contents writer.old) (W.contents writer.new) result (lead.now ++ value_text value) }
+{
+    let mut digits = itoa::Buffer::new();
+    match value {
+        Value::Nothing => put(writer, lead),
+        Value::Number(number) => put_parts(writer, &[lead, digits.format(number).as_bytes()]),
+        Value::Signed(number) => put_parts(writer, &[lead, digits.format(number).as_bytes()]),
+        Value::Month(month) => put_month(writer, lead, month),
+        Value::Money(money) => put_money(writer, lead, money),
+        Value::Progress(run) => put_progress(writer, lead, run),
+        Value::Sum(sum) => put_sum(writer, lead, sum),
+    }
+}
+
 /// Writes the text of the refusal: its number, and what it carries. It ends with no line feed.
 /// At an `Output` a beginning of the text was written.
 pub fn put_refusal<W: Write>(writer: &mut W, refusal: Refusal) -> Result<(), Output>
     ensures { Puts (W.contents writer.old) (W.contents writer.new) result (refusal_text refusal) }
 {
-    let mut digits = itoa::Buffer::new();
-    match refusal {
-        Refusal::Taken => put(writer, b"refused 1"),
-        Refusal::Unknown(field) => put_number(writer, b"refused 2 ", u32::from(field)),
-        Refusal::WrongBranch => put(writer, b"refused 3"),
-        Refusal::TooMany => put(writer, b"refused 4"),
-        Refusal::Overlap(lease) => put_number(writer, b"refused 5 ", lease.number()),
-        Refusal::ClientStart(lease) => put_number(writer, b"refused 6 ", lease.number()),
-        Refusal::MonthPosted(next) => put_month(writer, b"refused 7 ", next),
-        Refusal::NotNextMonth(next) => put_month(writer, b"refused 8 ", next),
-        Refusal::KeyUsed => put(writer, b"refused 9"),
-        Refusal::RunOpen(month) => put_month(writer, b"refused 10 ", month),
-        Refusal::DepositAmount(expected) => put_money(writer, b"refused 11 ", expected),
-        Refusal::DepositPaid => put(writer, b"refused 12"),
-        Refusal::NotRegistered => put(writer, b"refused 13"),
-        Refusal::NoRun => put(writer, b"refused 14"),
-        Refusal::BadLine(field) => put_number(writer, b"bad field ", u32::from(field)),
-        Refusal::Version(found) => put_parts(
-            writer,
-            &[b"refused 16 ", digits.format(found).as_bytes()],
-        ),
-        Refusal::Damaged(rule) => put_number(writer, b"refused 17 ", u32::from(rule)),
-        Refusal::Full => put(writer, b"refused 18"),
-    }
+    let words = words_of_refusal(refusal);
+    put_value(writer, words.lead.as_bytes(), words.value)
 }
 
 /// Writes the text of the reply, with no line feed.
@@ -137,17 +123,8 @@ pub fn put_refusal<W: Write>(writer: &mut W, refusal: Refusal) -> Result<(), Out
 pub fn put_reply<W: Write>(writer: &mut W, reply: Reply) -> Result<(), Output>
     ensures { Puts (W.contents writer.old) (W.contents writer.new) result (reply_text reply) }
 {
-    match reply {
-        Reply::Accepted => put(writer, b"ok"),
-        Reply::Already => put(writer, b"already"),
-        Reply::Receipt(number) => put_number(writer, b"receipt ", number.number()),
-        Reply::AlreadyReceipt(number) => put_number(writer, b"already receipt ", number.number()),
-        Reply::Opened(month) => put_month(writer, b"opened ", month.month()),
-        Reply::Part(run) => put_progress(writer, b"part ", run),
-        Reply::Posted(sum) => put_sum(writer, b"posted ", sum),
-        Reply::AlreadyPosted(sum) => put_sum(writer, b"already posted ", sum),
-        Reply::Refused(refusal) => put_refusal(writer, refusal),
-    }
+    let words = words_of_reply(reply);
+    put_value(writer, words.lead.as_bytes(), words.value)
 }
 
 /// Writes the text of the fault, with no line feed.
@@ -155,9 +132,6 @@ pub fn put_reply<W: Write>(writer: &mut W, reply: Reply) -> Result<(), Output>
 pub fn put_fault<W: Write>(writer: &mut W, fault: Fault) -> Result<(), Output>
     ensures { Puts (W.contents writer.old) (W.contents writer.new) result (fault_text fault) }
 {
-    match fault {
-        Fault::Memory => put(writer, b"fault 21"),
-        Fault::Store => put(writer, b"fault 22"),
-        Fault::Stopped => put(writer, b"fault 23"),
-    }
+    let words = words_of_fault(fault);
+    put_value(writer, words.lead.as_bytes(), words.value)
 }

@@ -1,5 +1,7 @@
 -- What money prints as, and reading it.
-use Rattle.std.proofs.Common.{◌≡◌, ◌∙◌, sym, ap, refl, ℕ, suc, ◌+◌, ◌-◌, ◌*◌, ◌/◌, ◌%◌, ◌^◌, ◌<◌, ◌≤◌, Bool, true, false, ◌&&◌, nat_le, nat_eq, if◌then◌else◌, Option, Some, None, List, [], ◌∷◌, ◌++◌, length, take, drop, slice_index, ℤ, pos, negsuc, arith, length-append, length-drop}
+use Rattle.std.proofs.Common.{◌≡◌, ◌∙◌, sym, ap, refl, ℕ, suc, ◌+◌, ◌-◌, ◌*◌, ◌/◌, ◌%◌, ◌^◌, ◌<◌, ◌≤◌, Bool, true, false, ◌&&◌, nat_le, nat_eq}
+use Rattle.std.proofs.Common.{if◌then◌else◌, Option, Some, None, List, [], ◌∷◌, ◌++◌, length, take, drop, slice_index, ℤ, pos, negsuc, arith, length-append}
+use Rattle.std.proofs.Common.{length-drop}
 use Rattle.std.specs.Char.{is_ascii_digit}
 use Rattle.std.specs.Fmt.{decimal}
 use Rattle.std.specs.List.{list_all}
@@ -117,12 +119,14 @@ and_false false = refl
 
 no_pounds : (ds : List ℕ) (a b : ℕ) → is_pounds (parts ds a b) ≡ false
 no_pounds ds a b =
-    let digits : list_all is_ascii_digit (parts ds a b) ≡ false = list_all-append is_ascii_digit ds (46 ∷ (48 + a) ∷ (48 + b) ∷ []) ∙ and_false (list_all is_ascii_digit ds) in
+    let digits : list_all is_ascii_digit (parts ds a b) ≡ false = list_all-append is_ascii_digit ds (46 ∷ (48 + a) ∷ (48 + b) ∷ [])
+    ∙ and_false (list_all is_ascii_digit ds) in
     rw digits (and_false (nat_le 1 (length (parts ds a b)) && nat_le (length (parts ds a b)) 6))
 
 pounds_of_decimal : (n : ℕ) → n < 10 ^ 6 → is_pounds (decimal n) ≡ true
 pounds_of_decimal n h =
-    all_three _ _ _ (at_least 1 (length (decimal n)) (decimal_nonempty n (omega arith))) (at_least (length (decimal n)) 6 (length-decimal-le 6 n (omega arith) (omega arith) (omega arith)))
+    all_three _ _ _ (at_least 1 (length (decimal n)) (decimal_nonempty n (omega arith)))
+    (at_least (length (decimal n)) 6 (length-decimal-le 6 n (omega arith) (omega arith) (omega arith)))
     (digits_of_decimal n (omega arith))
 
 -- what a text of pounds is
@@ -161,7 +165,8 @@ pence_read p h =
     let ds = decimal (p / 100) in
     let a = p % 100 / 10 in
     let b = p % 100 % 10 in
-    read_parts (pence_text p) p (no_pounds ds a b) (with_pence ds a b (pounds_of_decimal (p / 100) (omega arith)) (omega arith) (omega arith)) (value_of_text p (omega arith))
+    read_parts (pence_text p) p (no_pounds ds a b) (with_pence ds a b (pounds_of_decimal (p / 100) (omega arith)) (omega arith) (omega arith))
+    (value_of_text p (omega arith))
 
 -- a rent or an amount that is printed and read is itself
 pub range_read : (low high p : ℕ) → high ≤ 99999999 → low ≤ p → p ≤ high → within low high (pence_of (pence_text p)) ≡ Some p
@@ -187,5 +192,9 @@ pence_small p text =
     let size = nat_le 4 (length text) && nat_eq (slice_index text (length text - 3)) 46 in
     let pounds = is_pounds (take (length text - 3) text) in
     let digits = list_all is_ascii_digit (drop (length text - 2) text) in
-    omega (arith, pounds_small (take (length text - 3) text) (and_right size pounds (and_left (size && pounds) digits h)), two_small text (and_right (size && pounds) digits h)))
+    omega (
+      arith,
+      pounds_small (take (length text - 3) text) (and_right size pounds (and_left (size && pounds) digits h)),
+      two_small text (and_right (size && pounds) digits h),
+    ))
     (λ h. absurd (cc)))

@@ -13,7 +13,7 @@ abbrev pub property_type_text : PropertyType → List ℕ
 property_type_text House = codes "House"
 property_type_text Flat = codes "Flat"
 
--- the one that a text names
+-- the type that a text names
 abbrev pub property_type_of : List ℕ → Option PropertyType
 property_type_of text =
     if bytes_eq text (codes "House") then Some House
@@ -25,7 +25,7 @@ position_text Manager = codes "Manager"
 position_text Supervisor = codes "Supervisor"
 position_text Assistant = codes "Assistant"
 
--- the one that a text names
+-- the position that a text names
 abbrev pub position_of : List ℕ → Option Position
 position_of text =
     if bytes_eq text (codes "Manager") then Some Manager
@@ -39,7 +39,7 @@ payment_method_text Cheque = codes "Cheque"
 payment_method_text Card = codes "Card"
 payment_method_text Transfer = codes "Transfer"
 
--- the one that a text names
+-- the method that a text names
 abbrev pub payment_method_of : List ℕ → Option PaymentMethod
 payment_method_of text =
     if bytes_eq text (codes "Cash") then Some Cash
@@ -52,7 +52,7 @@ abbrev pub receipt_kind_text : ReceiptKind → List ℕ
 receipt_kind_text Rent = codes "rent"
 receipt_kind_text Deposit = codes "deposit"
 
--- the one that a text names
+-- the kind that a text names
 abbrev pub receipt_kind_of : List ℕ → Option ReceiptKind
 receipt_kind_of text =
     if bytes_eq text (codes "rent") then Some Rent

@@ -1,6 +1,7 @@
 -- What the definitions owe each other.
 use Rattle.std.specs.Prelude.{ℕ, pos, ◌≡◌, ◌≤◌, FitsSigned, Option, Some, List}
 use mir.Syntax.{w128}
+use Rattle.dh_values.specs.declared.limits.TheConstants.{MOST_AMOUNT}
 use Rattle.dh_values.specs.Money.{pence_of, pence_text, money_text}
 
 -- a value that is printed and read is itself
@@ -19,9 +20,9 @@ ArePrintedBack {A} text_of read = (x : A) (text : List ℕ) → read text ≡ So
 abbrev pub IsAny : {A : Type 0} → A → Type 0
 IsAny _ = Unit {0}
 
--- pence that a text spells, at most 99,999,999, are read as they are printed
+-- pence that a text can spell are read as they are printed
 abbrev pub PenceAreReadBack : Type 0
-PenceAreReadBack = AreReadBack (λ p. p ≤ 99999999) pence_text pence_of
+PenceAreReadBack = AreReadBack (λ p. p ≤ MOST_AMOUNT) pence_text pence_of
 
 -- any two balances that print as one are one
 abbrev pub BalancesPrintApart : Type 0

@@ -1,9 +1,11 @@
 -- Money in pence, and the texts that spell it.
-use Rattle.std.specs.Prelude.{ℕ, ◌+◌, ◌-◌, ◌*◌, ◌/◌, ◌%◌, ◌≤◌, Bool, ◌&&◌, nat_le, nat_eq, if◌then◌else◌, ℤ, pos, negsuc, suc, Option, Some, None, List, [], ◌∷◌, ◌++◌, length, take, drop, slice_index}
+use Rattle.std.specs.Prelude.{ℕ, ◌+◌, ◌-◌, ◌*◌, ◌/◌, ◌%◌, ◌≤◌, Bool, ◌&&◌, nat_le, nat_eq, if◌then◌else◌, ℤ, pos, negsuc, suc, Option, Some, None, List, []}
+use Rattle.std.specs.Prelude.{◌∷◌, ◌++◌, length, take, drop, slice_index}
 use Rattle.std.specs.List.{list_all}
 use Rattle.std.specs.Char.{is_ascii_digit}
 use Rattle.std.specs.Fmt.{decimal}
 use Rattle.dh_values.specs.Numbers.{number, within}
+use Rattle.dh_values.specs.declared.limits.TheConstants.{MOST_AMOUNT, MOST_PENCE, MOST_RENT}
 
 -- 1 to 6 digits
 abbrev pub is_pounds : List ℕ → Bool
@@ -33,18 +35,18 @@ money_text (negsuc n) = 45 ∷ pence_text (suc n)
 
 -- at most 2^63 - 1, as a table keeps it
 abbrev pub IsPence : ℕ → Type 0
-IsPence p = p ≤ 9223372036854775807
+IsPence p = p ≤ MOST_PENCE
 
 -- a monthly rent
 abbrev pub IsRent : ℕ → Type 0
-IsRent p = (1 ≤ p) × (p ≤ 999999)
+IsRent p = (1 ≤ p) × (p ≤ MOST_RENT)
 
 abbrev pub rent_of : List ℕ → Option ℕ
-rent_of text = within 1 999999 (pence_of text)
+rent_of text = within 1 MOST_RENT (pence_of text)
 
 -- what a receipt takes
 abbrev pub IsAmount : ℕ → Type 0
-IsAmount p = (1 ≤ p) × (p ≤ 99999999)
+IsAmount p = (1 ≤ p) × (p ≤ MOST_AMOUNT)
 
 abbrev pub amount_of : List ℕ → Option ℕ
-amount_of text = within 1 99999999 (pence_of text)
+amount_of text = within 1 MOST_AMOUNT (pence_of text)

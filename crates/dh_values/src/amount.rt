@@ -2,7 +2,9 @@
 
 ghost use Rattle.std.specs.Prelude.{◌≡◌, ◌≤◌, ◌↔◌, IsSome, IfSome, MatchResult, None, Some, pos, ◌≤ℤ◌};
 ghost use Rattle.dh_values.specs.Money.{IsAmount, pence_text, amount_of};
+ghost use Rattle.dh_values.specs.declared.limits.TheConstants.{MOST_AMOUNT};
 
+use crate::limits::MOST_AMOUNT;
 use crate::money::read_pence_within;
 use crate::{BadText, Pence};
 use std::fmt;
@@ -33,16 +35,16 @@ impl Amount {
     pub fn read(text: &str) -> Result<Amount, BadText>
         ensures { MatchResult result (λ p. amount_of text.now ≡ Some p) (λ _. amount_of text.now ≡ None) }
     {
-        let pence = read_pence_within(1, 99_999_999, text)?;
+        let pence = read_pence_within(1, MOST_AMOUNT, text)?;
         Ok(Amount { pence })
     }
 
     /// The amount of so many pence, 1 to 99,999,999. `None` for any other number.
     pub fn try_of_pence(pence: i64) -> Option<Amount>
         ensures value { IfSome result (λ p. pos p ≡ pence) }
-        ensures exact { IsSome result ↔ ((pos 1 ≤ℤ pence) × (pence ≤ℤ pos 99999999)) }
+        ensures exact { IsSome result ↔ ((pos 1 ≤ℤ pence) × (pence ≤ℤ pos MOST_AMOUNT)) }
     {
-        if pence < 1 || pence > 99_999_999 {
+        if pence < 1 || pence > MOST_AMOUNT as i64 {
             return None;
         }
         Some(Amount {

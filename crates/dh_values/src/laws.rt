@@ -2,7 +2,8 @@
 
 ghost use Rattle.std.specs.Fmt.{decimal};
 ghost use Rattle.dh_values.specs.Counts.{IsBatchCount, IsLeaseMonths, IsLeaseNo, IsReceiptNo, IsRooms, batch_count_of, lease_months_of, lease_no_of, rooms_of};
-ghost use Rattle.dh_values.specs.Kinds.{payment_method_of, payment_method_text, position_of, position_text, property_type_of, property_type_text, receipt_kind_of, receipt_kind_text};
+ghost use Rattle.dh_values.specs.Kinds.{payment_method_of, payment_method_text, position_of, position_text, property_type_of, property_type_text};
+ghost use Rattle.dh_values.specs.Kinds.{receipt_kind_of, receipt_kind_text};
 ghost use Rattle.dh_values.specs.Laws.{ArePrintedBack, AreReadBack, IsAny, MoneyIsReadAgain, BalancesPrintApart, PenceAreReadBack, PrintApart};
 ghost use Rattle.dh_values.specs.Money.{IsAmount, IsPence, IsRent, amount_of, pence_text, rent_of};
 

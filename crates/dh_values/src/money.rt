@@ -13,7 +13,7 @@ fn is_pounds(bytes: &[u8]) -> bool
     1 <= bytes.len() && bytes.len() <= 6 && are_digits(bytes)
 }
 
-// Whether it is pounds, a point and two digits.
+// Whether the text is pounds, a point and two digits.
 fn has_pence(bytes: &[u8]) -> bool
     ensures { result ≡ has_pence bytes.now }
 {

@@ -16,7 +16,7 @@ pub enum PaymentMethod {
 }
 
 impl PaymentMethod {
-    /// The one that the text names: `Cash`, `Cheque`, `Card` or `Transfer`. It takes no memory. `BadText` for any
+    /// The method that the text names: `Cash`, `Cheque`, `Card` or `Transfer`. It takes no memory. `BadText` for any
     /// other text; upper and lower case differ.
     pub fn read(text: &str) -> Result<PaymentMethod, BadText>
         ensures { MatchResult result (λ k. payment_method_of text.now ≡ Some k) (λ _. payment_method_of text.now ≡ None) }
@@ -30,7 +30,7 @@ impl PaymentMethod {
         }
     }
 
-    /// The text that names it.
+    /// The text that names the method.
     pub fn as_str(self) -> &'static str
         ensures { result.now ≡ payment_method_text self }
     {

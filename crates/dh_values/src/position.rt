@@ -15,7 +15,7 @@ pub enum Position {
 }
 
 impl Position {
-    /// The one that the text names: `Manager`, `Supervisor` or `Assistant`. It takes no memory. `BadText` for any
+    /// The position that the text names: `Manager`, `Supervisor` or `Assistant`. It takes no memory. `BadText` for any
     /// other text; upper and lower case differ.
     pub fn read(text: &str) -> Result<Position, BadText>
         ensures { MatchResult result (λ k. position_of text.now ≡ Some k) (λ _. position_of text.now ≡ None) }
@@ -28,7 +28,7 @@ impl Position {
         }
     }
 
-    /// The text that names it.
+    /// The text that names the position.
     pub fn as_str(self) -> &'static str
         ensures { result.now ≡ position_text self }
     {

@@ -14,7 +14,7 @@ pub enum PropertyType {
 }
 
 impl PropertyType {
-    /// The one that the text names: `House` or `Flat`. It takes no memory. `BadText` for any
+    /// The type that the text names: `House` or `Flat`. It takes no memory. `BadText` for any
     /// other text; upper and lower case differ.
     pub fn read(text: &str) -> Result<PropertyType, BadText>
         ensures { MatchResult result (λ k. property_type_of text.now ≡ Some k) (λ _. property_type_of text.now ≡ None) }
@@ -26,7 +26,7 @@ impl PropertyType {
         }
     }
 
-    /// The text that names it.
+    /// The text that names the type.
     pub fn as_str(self) -> &'static str
         ensures { result.now ≡ property_type_text self }
     {

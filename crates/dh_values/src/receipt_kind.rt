@@ -14,7 +14,7 @@ pub enum ReceiptKind {
 }
 
 impl ReceiptKind {
-    /// The one that the text names: `rent` or `deposit`. It takes no memory. `BadText` for any
+    /// The kind that the text names: `rent` or `deposit`. It takes no memory. `BadText` for any
     /// other text; upper and lower case differ.
     pub fn read(text: &str) -> Result<ReceiptKind, BadText>
         ensures { MatchResult result (λ k. receipt_kind_of text.now ≡ Some k) (λ _. receipt_kind_of text.now ≡ None) }
@@ -26,7 +26,7 @@ impl ReceiptKind {
         }
     }
 
-    /// The text that names it.
+    /// The text that names the kind.
     pub fn as_str(self) -> &'static str
         ensures { result.now ≡ receipt_kind_text self }
     {

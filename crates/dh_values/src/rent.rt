@@ -2,7 +2,9 @@
 
 ghost use Rattle.std.specs.Prelude.{◌≡◌, ◌≤◌, ◌↔◌, IsSome, IfSome, MatchResult, None, Some, pos, ◌≤ℤ◌};
 ghost use Rattle.dh_values.specs.Money.{IsRent, pence_text, rent_of};
+ghost use Rattle.dh_values.specs.declared.limits.TheConstants.{MOST_RENT};
 
+use crate::limits::MOST_RENT;
 use crate::money::read_pence_within;
 use crate::{BadText, Pence};
 use std::fmt;
@@ -33,16 +35,16 @@ impl Rent {
     pub fn read(text: &str) -> Result<Rent, BadText>
         ensures { MatchResult result (λ p. rent_of text.now ≡ Some p) (λ _. rent_of text.now ≡ None) }
     {
-        let pence = read_pence_within(1, 999_999, text)?;
+        let pence = read_pence_within(1, MOST_RENT, text)?;
         Ok(Rent { pence })
     }
 
     /// The rent of so many pence, 1 to 999,999. `None` for any other number.
     pub fn try_of_pence(pence: i64) -> Option<Rent>
         ensures value { IfSome result (λ p. pos p ≡ pence) }
-        ensures exact { IsSome result ↔ ((pos 1 ≤ℤ pence) × (pence ≤ℤ pos 999999)) }
+        ensures exact { IsSome result ↔ ((pos 1 ≤ℤ pence) × (pence ≤ℤ pos MOST_RENT)) }
     {
-        if pence < 1 || pence > 999_999 {
+        if pence < 1 || pence > MOST_RENT as i64 {
             return None;
         }
         Some(Rent {

@@ -46,7 +46,7 @@ fn filled<const N: usize>(bytes: &[u8]) -> [u8; N]
 }
 
 impl<const N: usize> Short<N> {
-    /// These bytes.
+    /// The value of these bytes.
     pub(crate) fn of(bytes: &[u8]) -> Self
         requires fit { length bytes.now ≤ N }
         requires few { N ≤ 255 }

@@ -53,7 +53,7 @@ fn are_printable(text: &str) -> bool
     text.chars().all(is_printable)
 }
 
-// Whether it has 1 to so many characters, each of them printable.
+// Whether the text has 1 to so many characters, each of them printable.
 fn is_text(most: usize, text: &str) -> bool
     ensures { result ≡ is_text most text.now }
 {

@@ -15,7 +15,9 @@ pub returns-clause-read_back : goal.returns-clause-read_back
 returns-clause-read_back c x _ = read_back x
 
 pub returns-clause-printed_back : goal.returns-clause-printed_back
-returns-clause-printed_back c x text = named payment_method_text text (codes "Cash") Cash x _ refl (named payment_method_text text (codes "Cheque") Cheque x _ refl (named payment_method_text text (codes "Card") Card x _ refl (named payment_method_text text (codes "Transfer") Transfer x _ refl (no_word x text _))))
+returns-clause-printed_back c x text = named payment_method_text text (codes "Cash") Cash x _ refl
+    (named payment_method_text text (codes "Cheque") Cheque x _ refl (named payment_method_text text (codes "Card") Card x _ refl
+    (named payment_method_text text (codes "Transfer") Transfer x _ refl (no_word x text _))))
 
 pub returns-clause-apart : goal.returns-clause-apart
 returns-clause-apart c x y _ _ e = apart payment_method_text payment_method_of read_back x y e

@@ -13,7 +13,8 @@ pub returns-clause-read_back : goal.returns-clause-read_back
 returns-clause-read_back c x _ = read_back x
 
 pub returns-clause-printed_back : goal.returns-clause-printed_back
-returns-clause-printed_back c x text = named receipt_kind_text text (codes "rent") Rent x _ refl (named receipt_kind_text text (codes "deposit") Deposit x _ refl (no_word x text _))
+returns-clause-printed_back c x text = named receipt_kind_text text (codes "rent") Rent x _ refl
+    (named receipt_kind_text text (codes "deposit") Deposit x _ refl (no_word x text _))
 
 pub returns-clause-apart : goal.returns-clause-apart
 returns-clause-apart c x y _ _ e = apart receipt_kind_text receipt_kind_of read_back x y e

@@ -17,4 +17,5 @@ returns-then-count-most c =
     let t = c.args.text.now in
     let low : 1 ≤ length (chars t) = omega (arith, c.if-count-most.true.0, c.character_count-count.ensures) in
     let high : length (chars t) ≤ c.args.most = omega (arith, c.if-count-most.true.1, c.character_count-count.ensures) in
-    rw c.are_printable.ensures (whole (is_utf8 t) (nat_le 1 (length (chars t))) (nat_le (length (chars t)) c.args.most) (list_all is_printable (chars t)) (is_utf8-from_IsUtf8 t c.utf8.text) (least _ _ low) (least _ _ high))
+    rw c.are_printable.ensures (whole (is_utf8 t) (nat_le 1 (length (chars t))) (nat_le (length (chars t)) c.args.most) (list_all is_printable (chars t))
+    (is_utf8-from_IsUtf8 t c.utf8.text) (least _ _ low) (least _ _ high))

@@ -6,12 +6,14 @@ use Rattle.dh_days.proofs.day.Day.plus_months.Goals as goal
 pub of_date-requires : goal.of_date-requires
 of_date-requires c =
     let only = rw (to_z_pos w64 c.args.n (omega arith)) at c.months.ensures in
-    later_year c.args.self.now c.args.n c.date-date.result c.in-Ok.date c.months.result c.date-date.ensures.range c.date-date.ensures.value only (c.in-Ok.ensures.succeeds.0 refl) c.in-Ok.ensures.value
+    later_year c.args.self.now c.args.n c.date-date.result c.in-Ok.date c.months.result c.date-date.ensures.range c.date-date.ensures.value only
+    (c.in-Ok.ensures.succeeds.0 refl) c.in-Ok.ensures.value
 
 pub returns-in-Ok-clause-later : goal.returns-in-Ok-clause-later
 returns-in-Ok-clause-later c =
     let only = rw (to_z_pos w64 c.args.n (omega arith)) at c.months.ensures in
-    later_day c.args.self.now c.of_date.result c.args.n c.date-date.result c.in-Ok.date c.months.result c.date-date.ensures.value c.of_date.ensures only (c.in-Ok.ensures.succeeds.0 refl) c.in-Ok.ensures.value
+    later_day c.args.self.now c.of_date.result c.args.n c.date-date.result c.in-Ok.date c.months.result c.date-date.ensures.value c.of_date.ensures only
+    (c.in-Ok.ensures.succeeds.0 refl) c.in-Ok.ensures.value
 
 pub returns-in-Ok-clause-exact : goal.returns-in-Ok-clause-exact
 returns-in-Ok-clause-exact c =

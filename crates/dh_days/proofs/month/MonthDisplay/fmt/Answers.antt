@@ -9,5 +9,6 @@ shown n = rw (decimal_digit ((n % 12 + 1) / 10) (omega arith), decimal_digit ((n
 
 pub returns-clause-writes : goal.returns-clause-writes
 returns-clause-writes g c plain ok =
-    let written = subst (λ (t : List ℕ). HasWritten g.W.Write.write_str_gives c.args.f.now t c.write.new.self) (shown c.self.inside.number) (c.write.ensures.writes plain ok) in
+    let written = subst (λ (t : List ℕ). HasWritten g.W.Write.write_str_gives c.args.f.now t c.write.new.self) (shown c.self.inside.number)
+    (c.write.ensures.writes plain ok) in
     rw (← c.self.view_is) written

@@ -24,4 +24,5 @@ returns-else-self-lt0-clause-writes g c plain ok =
     let same : to_z w128 (of_z w128 z) ≡ z = to_z-of_z w128 z fits in
     let not_below : lt_z z (pos 0) ≡ false = rw (← same) c.if-self-lt0.false in
     let text = money_shown z c.unsigned_abs-pence.result (c.unsigned_abs-pence.ensures.value ∙ ap nat_abs same) not_below in
-    rw (← c.self.view_is) (subst (λ (t : List ℕ). HasWritten g.W.Write.write_str_gives c.args.f.now t c.write-else-self-lt0.new.self) text (c.write-else-self-lt0.ensures.writes plain ok))
+    rw (← c.self.view_is) (subst (λ (t : List ℕ). HasWritten g.W.Write.write_str_gives c.args.f.now t c.write-else-self-lt0.new.self) text
+    (c.write-else-self-lt0.ensures.writes plain ok))

@@ -5,5 +5,6 @@ use Rattle.dh_values.proofs.pence.PenceDisplay.fmt.Goals as goal
 
 pub returns-clause-writes : goal.returns-clause-writes
 returns-clause-writes g c plain ok =
-    let written = subst (λ (t : List ℕ). HasWritten g.W.Write.write_str_gives c.args.f.now t c.write.new.self) (pence_shown c.self.inside.pence) (c.write.ensures.writes plain ok) in
+    let written = subst (λ (t : List ℕ). HasWritten g.W.Write.write_str_gives c.args.f.now t c.write.new.self) (pence_shown c.self.inside.pence)
+    (c.write.ensures.writes plain ok) in
     rw (← c.self.view_is) written
