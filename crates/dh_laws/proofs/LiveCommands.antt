@@ -48,13 +48,19 @@ module _ (size : ℕ) (after : Tables) where
   lead start [] f = ([], record { books = whole size start.books; open_run = None }, (refl, refl), ap (λ (t : Tables). t.books) f.1, refl)
   lead start ((Said it reply, t) ∷ events) f = answered (state_of size start) (state_of size t) it reply t (to_the_end events) f.1 (lead t events f.2)
   lead start ((Cut it, t) ∷ events) f = elim f.1 [
-    | inl undone ↦ left_out (state_of size start) it t (to_the_end events) undone.run (moved t (whole size start.books) (to_the_end events) undone.books (lead t events f.2))
-    | inr done ↦ taken_in (state_of size start) it t (to_the_end events) done.run (moved t (step size (state_of size start) it).0.books (to_the_end events) done.books (lead t events f.2))
+    | inl undone ↦
+        left_out (state_of size start) it t (to_the_end events) undone.run
+        (moved t (whole size start.books) (to_the_end events) undone.books (lead t events f.2))
+    | inr done ↦
+        taken_in (state_of size start) it t (to_the_end events) done.run
+        (moved t (step size (state_of size start) it).0.books (to_the_end events) done.books (lead t events f.2))
   ]
   lead start ((Taken, t) ∷ events) f = subst (λ u. Leads (state_of size u) (to_the_end events)) f.1 (lead t events f.2)
-  lead start ((Torn, t) ∷ events) f = moved_on (state_of size start) t (to_the_end events) f.1.run (moved t (whole size start.books) (to_the_end events) f.1.books (lead t events f.2))
+  lead start ((Torn, t) ∷ events) f =
+      moved_on (state_of size start) t (to_the_end events) f.1.run (moved t (whole size start.books) (to_the_end events) f.1.books (lead t events f.2))
   lead start ((Mended, t) ∷ events) f =
-      closed t (whole size start.books) (to_the_end events) (mended_whole size t (whole size start.books) f.1 f.0) (ap (λ (u : Tables). u.run) f.1) (lead t events f.2)
+      closed t (whole size start.books) (to_the_end events) (mended_whole size t (whole size start.books) f.1 f.0) (ap (λ (u : Tables). u.run) f.1)
+      (lead t events f.2)
 
 pub lives : (size : ℕ) → AllLives size
 lives size start after events shown f = lead size after start events f

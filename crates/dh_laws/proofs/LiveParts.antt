@@ -33,7 +33,8 @@ calm ((Mended, t) ∷ life) none = calm life none
 
 -- ---- one event more in the first life
 
-later_said : (it : Command) (reply : Reply) (t : Tables) (lives : List (List (Event × Tables))) → AreLives (with_first (Said it reply, t) lives) → AreLives lives
+later_said : (it : Command) (reply : Reply) (t : Tables) (lives : List (List (Event × Tables))) → AreLives (with_first (Said it reply, t) lives)
+    → AreLives lives
 later_said it reply t [] are = tt
 later_said it reply t (life ∷ lives) are = are
 
@@ -47,7 +48,8 @@ later_cut it t (life ∷ lives) are = (calm life are.0, are.1)
 
 module _ (it : Command) (told later : List Command) (told_is : told ≡ it ∷ later) where
   -- a command that counts is the first of its part
-  said_first : (reply : Reply) (t : Tables) (lives : List (List (Event × Tables))) (parts : List (List Command)) → later ≡ joined parts → AreBeginnings parts lives
+  said_first : (reply : Reply) (t : Tables) (lives : List (List (Event × Tables))) (parts : List (List Command)) → later ≡ joined parts
+      → AreBeginnings parts lives
       → Falls told (with_first (Said it reply, t) lives)
   said_first reply t [] [] is b = record { parts = (it ∷ []) ∷ []; is = told_is ∙ ap (λ ts. it ∷ ts) is; begin = (([], refl, omega arith), tt) }
   said_first reply t (life ∷ lives) (part ∷ parts) is b = record {
@@ -70,7 +72,8 @@ module _ (it : Command) (told later : List Command) (told_is : told ≡ it ∷ l
   cut_first t (life ∷ lives) [] is b = absurd b
 
 -- a cut command that doesn't count is the last call of its life, and its part is empty
-left_out : (it : Command) (told : List Command) (t : Tables) (lives : List (List (Event × Tables))) (parts : List (List Command)) → AreLives (with_first (Cut it, t) lives)
+left_out : (it : Command) (told : List Command) (t : Tables) (lives : List (List (Event × Tables))) (parts : List (List Command))
+    → AreLives (with_first (Cut it, t) lives)
     → told ≡ joined parts → AreBeginnings parts lives → Falls told (with_first (Cut it, t) lives)
 left_out it told t [] [] are is b = record { parts = [] ∷ []; is = is; begin = ((it ∷ [], refl, omega arith), tt) }
 left_out it told t (life ∷ lives) (part ∷ parts) are is b =
@@ -83,7 +86,8 @@ left_out it told t (life ∷ lives) (part ∷ parts) are is b =
 left_out it told t [] (part ∷ parts) are is b = absurd b
 left_out it told t (life ∷ lives) [] are is b = absurd b
 
-torn_first : (told : List Command) (t : Tables) (lives : List (List (Event × Tables))) (parts : List (List Command)) → told ≡ joined parts → AreBeginnings parts lives
+torn_first : (told : List Command) (t : Tables) (lives : List (List (Event × Tables))) (parts : List (List Command)) → told ≡ joined parts
+    → AreBeginnings parts lives
     → Falls told (with_first (Torn, t) lives)
 torn_first told t [] [] is b = record { parts = [] ∷ []; is = is; begin = (([], refl, omega arith), tt) }
 torn_first told t (life ∷ lives) (part ∷ parts) is b = record { parts = part ∷ parts; is = is; begin = b }
@@ -95,7 +99,8 @@ next_life : (told : List Command) (lives : List (List (Event × Tables))) → Fa
 next_life told lives f = record { parts = [] ∷ f.parts; is = f.is; begin = (([], refl, omega arith), f.begin) }
 
 module _ (size : ℕ) (last : State) where
-  fall : (s : State) (events : List (Event × Tables)) (told : List Command) → AreLives (lives_of events) → Kept size s events told last → Falls told (lives_of events)
+  fall : (s : State) (events : List (Event × Tables)) (told : List Command) → AreLives (lives_of events) → Kept size s events told last
+      → Falls told (lives_of events)
   fall s [] told are k = record { parts = [] ∷ []; is = k.0; begin = (([], refl, omega arith), tt) }
   fall s ((Said it reply, t) ∷ events) told are k =
       let f = fall k.1 events k.0 (later_said it reply t (lives_of events) are) k.4 in

@@ -48,7 +48,8 @@ lesser_too n a b less h = grind (arith, nat_tests)
 no_more_batches : (m n k : ℕ) → 1 ≤ k → m ≤ n → m / k ≤ n / k
 no_more_batches m n k pos h = let low = div-mul-le_self m k in le-div (m / k) n k pos (omega (arith, low, h))
 
-module _ (size : ℕ) (books : Books) (month done : ℕ) (pos : 1 ≤ size) (keyed : AreKeyed books) (rules : MeetsRules books size) (posted : ArePosted books size month done) where
+module _ (size : ℕ) (books : Books) (month done : ℕ) (pos : 1 ≤ size) (keyed : AreKeyed books) (rules : MeetsRules books size)
+    (posted : ArePosted books size month done) where
   abbrev after : Books
   after = with_posted size books month (done + 1)
 
@@ -65,12 +66,14 @@ module _ (size : ℕ) (books : Books) (month done : ℕ) (pos : 1 ≤ size) (key
   of_charged : (charge : Charge) → Charged charge → charge.month ≡ month → Among (posted_charges size books month done) charge
   of_charged charge a is =
       among (posted_charges size books month done) charge
-      ((posted.charges charge).0 (is_among (charges_in books month) charge (of_rows charge_key charge_month nats_total nats_tie books.charges month charge a is)))
+      ((posted.charges charge).0 (is_among (charges_in books month) charge
+      (of_rows charge_key charge_month nats_total nats_tie books.charges month charge a is)))
 
   newly : (charge : Charge) → Among (posted_charges size books month (done + 1)) charge → Among (values after.charges) charge
   newly charge a =
       of_row nats_total nats_tie after.charges (charge_key charge) charge
-      (of_new charge_key charge_month nats_total nats_tie books.charges month (posted_charges size books month (done + 1)) (charges_fit size books keyed rules month (done + 1)) charge a)
+      (of_new charge_key charge_month nats_total nats_tie books.charges month (posted_charges size books month (done + 1))
+      (charges_fit size books keyed rules month (done + 1)) charge a)
 
   stays : (charge : Charge) → Charged charge → Among (values after.charges) charge
   stays charge a = elim (same_or_other charge.month month) [
@@ -81,12 +84,15 @@ module _ (size : ℕ) (books : Books) (month done : ℕ) (pos : 1 ≤ size) (key
     | inr other ↦
         let at = row_of nats_total nats_tie books.charges charge a in
         of_row nats_total nats_tie after.charges at.0 charge
-        (of_old charge_key charge_month nats_total nats_tie books.charges month (posted_charges size books month (done + 1)) (charges_fit size books keyed rules month (done + 1)) at.0 charge at.1 other)
+        (of_old charge_key charge_month nats_total nats_tie books.charges month (posted_charges size books month (done + 1))
+        (charges_fit size books keyed rules month (done + 1)) at.0 charge at.1 other)
   ]
 
-  was_or_posted : (charge : Charge) → Among (values after.charges) charge → Among (posted_charges size books month (done + 1)) charge ⊎ (Charged charge × (charge.month ≡ month → ⊥))
+  was_or_posted : (charge : Charge) → Among (values after.charges) charge
+      → Among (posted_charges size books month (done + 1)) charge ⊎ (Charged charge × (charge.month ≡ month → ⊥))
   was_or_posted charge a =
-      value_of_replaced charge_key charge_month nats_total nats_tie books.charges month (posted_charges size books month (done + 1)) (charges_fit size books keyed rules month (done + 1)) charge a
+      value_of_replaced charge_key charge_month nats_total nats_tie books.charges month (posted_charges size books month (done + 1))
+      (charges_fit size books keyed rules month (done + 1)) charge a
 
   abbrev before : List ℕ → ℕ
   before branch = batches_before size books month branch
@@ -94,14 +100,16 @@ module _ (size : ℕ) (books : Books) (month done : ℕ) (pos : 1 ≤ size) (key
   abbrev own : List ℕ → ℕ
   own branch = batches_of_branch size books month branch
 
-  until : (branch : List ℕ) (charge : Charge) → Among (dues_of_branch books month branch) charge → batch_of size books month branch charge < before branch + own branch
+  until : (branch : List ℕ) (charge : Charge) → Among (dues_of_branch books month branch) charge
+      → batch_of size books month branch charge < before branch + own branch
   until branch charge a = each_due_has_its_batch size books month branch charge pos keyed.leases (is_among (dues_of_branch books month branch) charge a)
 
   from : (branch : List ℕ) (charge : Charge) → before branch ≤ batch_of size books month branch charge
   from branch charge = le-add_right (before branch) (place_among size (dues_of_branch books month branch) charge / size)
 
   -- a due that was not posted yet is of no batch that was
-  not_early : (branch : List ℕ) (charge : Charge) → Among (dues_of_branch books month branch) charge → Charged charge → batch_of size books month branch charge < done
+  not_early : (branch : List ℕ) (charge : Charge) → Among (dues_of_branch books month branch) charge → Charged charge
+      → batch_of size books month branch charge < done
   not_early branch charge due a =
       let p = is_posted size books month done charge (of_charged charge a (owed_of_branch books month branch charge due).1) in
       subst (λ b. batch_of size books month b charge < done) (one_branch_of_due books month keyed.leases p.branch branch charge p.due due) p.early
@@ -111,7 +119,8 @@ module _ (size : ℕ) (books : Books) (month done : ℕ) (pos : 1 ≤ size) (key
     key = held.key
 
     -- the branch of the next batch
-    of_key : (r : Ordering) (branch : List ℕ) (charge : Charge) → text_cmp branch key ≡ r → Among (keys books.branches) branch → Among (dues_of_branch books month branch) charge
+    of_key : (r : Ordering) (branch : List ℕ) (charge : Charge) → text_cmp branch key ≡ r → Among (keys books.branches) branch
+        → Among (dues_of_branch books month branch) charge
         → batch_of size books month branch charge ≡ done → branch ≡ key
     of_key Less branch charge e a due is =
         let all = own_is_before (batches_of_branch size books month) text_cmp text_total (keys books.branches) branch key a (ap is_lt e) in
@@ -120,7 +129,8 @@ module _ (size : ℕ) (books : Books) (month done : ℕ) (pos : 1 ≤ size) (key
         absurd (omega (arith, all, last, first, is))
     of_key Equal branch charge e a due is = text_ties branch key e
     of_key Greater branch charge e a due is =
-        let all = own_is_before (batches_of_branch size books month) text_cmp text_total (keys books.branches) key branch held.of (ap is_lt (text_total.antisymm key branch ∙ ap ordering_reverse e)) in
+        let all = own_is_before (batches_of_branch size books month) text_cmp text_total (keys books.branches) key branch held.of
+        (ap is_lt (text_total.antisymm key branch ∙ ap ordering_reverse e)) in
         let first = from branch charge in
         let last = held.until in
         absurd (omega (arith, all, first, last, is))
@@ -141,19 +151,22 @@ module _ (size : ℕ) (books : Books) (month done : ℕ) (pos : 1 ≤ size) (key
       | inr old ↦ inl (is_among (values books.charges) charge old.0)
     ]
 
-    lesser_done : (other : List ℕ) (charge : Charge) → Among (keys books.branches) other → text_cmp other key ≡ Less → Among (dues_of_branch books month other) charge → Charged charge
+    lesser_done : (other : List ℕ) (charge : Charge) → Among (keys books.branches) other → text_cmp other key ≡ Less
+        → Among (dues_of_branch books month other) charge → Charged charge
     lesser_done other charge a less due =
         let all = own_is_before (batches_of_branch size books month) text_cmp text_total (keys books.branches) other key a (ap is_lt less) in
         let last = until other charge due in
         let first = held.from in
         is_charged charge (of_posted size books month done charge (record { branch = other; of = a; due = due; early = omega (arith, all, last, first) }))
 
-    by_lease : (charge later : Charge) → Among (dues_of_branch books month key) charge → Among (dues_of_branch books month key) later → charge.lease < later.lease
+    by_lease : (charge later : Charge) → Among (dues_of_branch books month key) charge → Among (dues_of_branch books month key) later
+        → charge.lease < later.lease
         → Among (values after.charges) later → Among (values after.charges) charge
     by_lease charge later due later_due less a =
         let dues = dues_of_branch books month key in
         let at_most : place_among size dues charge ≤ place_among size dues later =
-        counted_too (λ (other : Charge). nat_lt other.lease charge.lease) (λ (other : Charge). nat_lt other.lease later.lease) dues (λ other h. lesser_too other.lease charge.lease later.lease less h) in
+        counted_too (λ (other : Charge). nat_lt other.lease charge.lease) (λ (other : Charge). nat_lt other.lease later.lease) dues
+        (λ other h. lesser_too other.lease charge.lease later.lease less h) in
         let batches_at_most = no_more_batches (place_among size dues charge) (place_among size dues later) size pos at_most in
         let late : batch_of size books month key later < done + 1 = elim (was_or_posted later a) [
           | inl is ↦
@@ -161,7 +174,8 @@ module _ (size : ℕ) (books : Books) (month done : ℕ) (pos : 1 ≤ size) (key
               subst (λ b. batch_of size books month b later < done + 1) (one_branch_of_due books month keyed.leases p.branch key later p.due later_due) p.early
           | inr old ↦ absurd (old.1 (owed_of_branch books month key later later_due).1)
         ] in
-        newly charge (of_posted size books month (done + 1) charge (record { branch = key; of = held.of; due = due; early = omega (arith, batches_at_most, late) }))
+        newly charge (of_posted size books month (done + 1) charge
+        (record { branch = key; of = held.of; due = due; early = omega (arith, batches_at_most, late) }))
 
     abbrev Lacks : Type 0
     Lacks = (get books.parts (month, key) ≡ None) ⊎ ((charge : Charge) × IsDueOn books month key charge × (IsCharged books charge → ⊥))
@@ -187,8 +201,12 @@ module _ (size : ℕ) (books : Books) (month done : ℕ) (pos : 1 ≤ size) (key
         let last = held.until in
         let begins = batch_begins size pos (length dues) q (omega (arith, begun)) (omega (arith, begun, last)) in
         let at = numbered_at (place_among size dues) 0 dues (q * size) (places_numbered size books month pos keyed.leases key) begins in
-        let number : place_among size dues at.0 / size ≡ q = ap (λ n. n / size) at.2 ∙ ap (λ n. n / size) (omega arith) ∙ div-mul-add q size 0 pos in
-        (at.0, is_among dues at.0 at.1, λ charged. let early = not_early key at.0 at.1 (among (values books.charges) at.0 charged) in absurd (omega (arith, early, number, begun)))
+        let number : place_among size dues at.0 / size ≡ q = ap (λ n. n / size) at.2 ∙ ap (λ n. n / size) (omega arith) ∙ div-mul-add q size 0 pos in (
+          at.0,
+          is_among dues at.0 at.1,
+          λ charged. let early = not_early key at.0 at.1 (among (values books.charges) at.0 charged) in absurd
+              (omega (arith, early, number, begun)),
+        )
 
     unfinished : Lacks
     unfinished = elim (cases_lt (before key) done) [
@@ -212,7 +230,8 @@ next_batch_adds_the_next size books month done pos order more =
         few = next_batch_is_small size books month done pos order;
         lesser_done = λ other charge a less due.
             is_among (values books.charges) charge
-            (lesser_done size books month done pos keyed rules posted held other charge (among (keys books.branches) other a) less (among (dues_of_branch books month other) charge due));
+            (lesser_done size books month done pos keyed rules posted held other charge (among (keys books.branches) other a) less
+            (among (dues_of_branch books month other) charge due));
         unfinished = unfinished size books month done pos keyed rules posted held;
         by_lease = λ charge later due later_due less a.
             is_among now charge

@@ -43,5 +43,6 @@ AreBeginnings _ _ = ⊥
 
 -- life after life, the commands that count are a beginning of its calls: all, or all but the last
 abbrev pub EachLifeKeepsABeginning : ℕ → Type 0
-EachLifeKeepsABeginning size = (s last : State) (events : List (Event × Tables)) (told : List Command) → AreLives (lives_of events) → Kept size s events told last
+EachLifeKeepsABeginning size =
+    (s last : State) (events : List (Event × Tables)) (told : List Command) → AreLives (lives_of events) → Kept size s events told last
     → (parts : List (List Command)) × (told ≡ joined parts) × AreBeginnings parts (lives_of events)

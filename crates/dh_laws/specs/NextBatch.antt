@@ -25,7 +25,8 @@ pub record IsNextBatch (size : ℕ) (books after : Books) (month : ℕ) (branch 
   -- no more charges than the size are new
   pub few : len after.charges ≤ len books.charges + size
   -- all dues of branches of lesser number were charged, and the branch wasn't done: it lacked its part row, or a due
-  pub lesser_done : (other : List ℕ) (charge : Charge) → IsAmong (keys books.branches) other → text_cmp other branch ≡ Less → IsDueOn books month other charge → IsCharged books charge
+  pub lesser_done : (other : List ℕ) (charge : Charge) → IsAmong (keys books.branches) other → text_cmp other branch ≡ Less
+      → IsDueOn books month other charge → IsCharged books charge
   pub unfinished : (get books.parts (month, branch) ≡ None) ⊎ ((charge : Charge) × IsDueOn books month branch charge × ¬ IsCharged books charge)
   -- of the branch's dues those of lesser leases come first
   pub by_lease : (charge later : Charge) → IsDueOn books month branch charge → IsDueOn books month branch later → charge.lease < later.lease
@@ -33,5 +34,6 @@ pub record IsNextBatch (size : ℕ) (books after : Books) (month : ℕ) (branch 
 
 -- the next batch adds the next charges
 abbrev pub NextBatchAddsTheNext : ℕ → Type 0
-NextBatchAddsTheNext size = (books : Books) (month done : ℕ) → 1 ≤ size → IsInOrder size books (Some (record { month = month; done = done })) → done < batches size books month
+NextBatchAddsTheNext size =
+    (books : Books) (month done : ℕ) → 1 ≤ size → IsInOrder size books (Some (record { month = month; done = done })) → done < batches size books month
     → (branch : List ℕ) × IsNextBatch size books (with_posted size books month (done + 1)) month branch

@@ -21,7 +21,7 @@ pub fn one_life_keeps_a_beginning()
     ensures { (size : ℕ) → OneLifeKeepsABeginning size }
 {}
 
-/// Life after life the commands that count are a beginning of its calls: all, or all but the last, which was cut.
+/// Life after life the commands that count are a beginning of its calls: all, or all but the last.
 pub fn each_life_keeps_a_beginning()
     ensures { (size : ℕ) → EachLifeKeepsABeginning size }
 {}
