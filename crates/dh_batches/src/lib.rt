@@ -9,5 +9,5 @@ mod posting;
 
 pub use batching::{BATCH_SIZE, batches, batches_for};
 pub use parts::branch_parts;
-pub use posted::{posted_charges, posted_parts, whole, with_posted};
+pub use posted::{open_row, posted_charges, posted_parts, whole, with_posted};
 pub use posting::with_run;

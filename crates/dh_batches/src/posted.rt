@@ -96,8 +96,8 @@ pub fn with_posted(
     Ok(books)
 }
 
-// The run that is open.
-fn open_row(books: &Books) -> Option<&Run>
+/// The first run that is open, if one is.
+pub fn open_row(books: &Books) -> Option<&Run>
     ensures { option_copied result ≡ open_row books.now.books }
 {
     books.runs().find(|run| !run.is_closed)

@@ -1,60 +1,20 @@
 -- All that ever falls due, against what falls due in a month.
-use Rattle.std.proofs.Common.{◌≡◌, ◌↔◌, ◌∙◌, refl, sym, ap, subst, inl, inr, ℕ, suc, ◌+◌, ◌-◌, ◌<◌, ◌≤◌, Bool, true, false, cond, ◌&&◌, nat_eq, List, [], ◌∷◌, ◌++◌, map, Option, Some, None, append_assoc, arith}
-use Rattle.std.specs.List.{IsAmong, filter, flat_map, range_with_len}
+use Rattle.std.proofs.Common.{◌≡◌, ◌∙◌, refl, sym, ap, ℕ, suc, ◌+◌, ◌-◌, ◌<◌, ◌≤◌, Bool, true, false, cond, ◌&&◌, nat_eq, List, [], ◌∷◌, ◌++◌, map, Option, Some, None, append_assoc, arith}
+use Rattle.std.specs.List.{filter, flat_map, range_with_len}
 use Rattle.std.specs.FinMap.{get, values}
-use Rattle.std.proofs.lemmas.Bool.{and_from, and_parts}
 use Rattle.std.proofs.lemmas.List.{map-append}
 use Rattle.std.proofs.lemmas.List.Elements.{filter-append}
 use Rattle.dh_days.specs.Days.{month_of_day, plus_months}
 use Rattle.dh_types.specs.declared.property.Property.{Property}
 use Rattle.dh_types.specs.declared.lease.Lease.{Lease}
 use Rattle.dh_types.specs.declared.lease.Charge.{Charge}
-use Rattle.dh_types.proofs.SameValues.{numbers}
 use Rattle.dh_model.specs.Books.{Books}
 use Rattle.dh_model.specs.Leases.{due, dues, dues_among, dues_of}
 use Rattle.dh_model.specs.Runs.{dues_of_branch, is_property_of}
-use Rattle.dh_model.specs.BatchLaws.{AreNumbered}
-use Rattle.dh_model.proofs.Among.{Among, among, is_among, of_filter, of_flat_map, of_map, of_range}
-use Rattle.dh_model.proofs.DueLemmas.{dues_are_those_of_leases, falls_in, is_due}
-use Rattle.dh_model.proofs.MapRows.{inside, of_row, row_of}
-use Rattle.dh_model.proofs.KeyOrders.{nat_ties, nat_total}
+use Rattle.dh_model.proofs.DueLemmas.{falls_in}
 use Rattle.dh_leases.proofs.DueIn.{its_due}
 use Rattle.dh_month_audit.specs.declared.closed_dues.Due.{Due}
 use Rattle.dh_month_audit.specs.ClosedMonths.{all_dues, branch_of, charges_of_branch, charges_of_month, due_at, dues_at, is_at_branch, is_in}
-
-pub only_one : {X : Type 0} (x y : X) → Among (y ∷ []) x → x ≡ y
-only_one x y (inl e) = e
-only_one x y (inr h) = absurd h
-
-abbrev same_cells : Charge → Charge → Bool
-same_cells a b = nat_eq a.lease b.lease && (nat_eq a.index b.index && (nat_eq a.month b.month && (nat_eq a.day b.day && nat_eq a.amount b.amount)))
-
-abbrev charge_from : ℕ → ℕ → ℕ → ℕ → ℕ → Charge
-charge_from lease index month day amount = record { lease = lease; index = index; month = month; day = day; amount = amount }
-
--- charges that compare as the same are one
-pub same_charges : (a b : Charge) → (same_cells a b ≡ true) ↔ (a ≡ b)
-same_charges a b =
-    let amount = nat_eq a.amount b.amount in
-    let day = nat_eq a.day b.day && amount in
-    let month = nat_eq a.month b.month && day in
-    let index = nat_eq a.index b.index && month in (
-      λ h.
-          let one = and_parts (nat_eq a.lease b.lease) index h in
-          let two = and_parts (nat_eq a.index b.index) month one.1 in
-          let three = and_parts (nat_eq a.month b.month) day two.1 in
-          let four = and_parts (nat_eq a.day b.day) amount three.1 in
-          let leases = (numbers a.lease b.lease).0 one.0 in
-          let indices = (numbers a.index b.index).0 two.0 in
-          let months = (numbers a.month b.month).0 three.0 in
-          let days = (numbers a.day b.day).0 four.0 in
-          let amounts = (numbers a.amount b.amount).0 four.1 in
-          λ i. charge_from (leases i) (indices i) (months i) (days i) (amounts i),
-      λ e. and_from (nat_eq a.lease b.lease) index ((numbers a.lease b.lease).1 (ap (λ (c : Charge). c.lease) e))
-          (and_from (nat_eq a.index b.index) month ((numbers a.index b.index).1 (ap (λ (c : Charge). c.index) e))
-          (and_from (nat_eq a.month b.month) day ((numbers a.month b.month).1 (ap (λ (c : Charge). c.month) e))
-          (and_from (nat_eq a.day b.day) amount ((numbers a.day b.day).1 (ap (λ (c : Charge). c.day) e)) ((numbers a.amount b.amount).1 (ap (λ (c : Charge). c.amount) e))))),
-    )
 
 abbrev charge_of : Due → Charge
 charge_of due = due.charge
@@ -134,33 +94,6 @@ module _ (books : Books) where
     -- and those of a month at a branch are what falls due there
     pub branch_of_all : charges_of_branch (all_dues books) (month, branch) ≡ dues_of_branch books month branch
     branch_of_all = of_leases (values books.leases)
-
-  module _ (are : AreNumbered books) (charge : Charge) where
-    -- a due is one of the lease under its number
-    pub due_of_lease : (lease : Lease) → get books.leases charge.lease ≡ Some lease → IsAmong (dues books charge.month) charge → Among (dues_among (lease ∷ []) charge.month) charge
-    due_of_lease lease there a =
-        let d = is_due (values books.leases) charge.month charge (among (dues books charge.month) charge a) in
-        let row = row_of nat_total nat_ties books.leases d.lease d.of in
-        let number : charge.lease ≡ row.0 = ap (λ (c : Charge). c.lease) d.is ∙ are row.0 d.lease row.1 in
-        let same : d.lease ≡ lease = inside d.lease lease (sym row.1 ∙ sym (ap (get books.leases) number) ∙ there) in
-        let k_of : Among (dues_of d.lease) (due d.lease d.k) = of_map (due d.lease) (range_with_len 0 d.lease.terms.months) d.k (of_range 0 d.lease.terms.months d.k (omega arith) (omega (arith, d.within))) in
-        let of : Among (dues_of lease) charge = subst (λ l. Among (dues_of l) charge) same (subst (Among (dues_of d.lease)) (sym d.is) k_of) in
-        of_filter (falls_in charge.month) (flat_map dues_of (lease ∷ [])) charge ((numbers charge.month charge.month).1 refl) (of_flat_map dues_of (lease ∷ []) lease charge (inl refl) of)
-
-    pub of_due_of_lease : (lease : Lease) → get books.leases charge.lease ≡ Some lease → Among (dues_among (lease ∷ []) charge.month) charge → IsAmong (dues books charge.month) charge
-    of_due_of_lease lease there a =
-        let d = is_due (lease ∷ []) charge.month charge a in
-        let same : d.lease ≡ lease = only_one d.lease lease d.of in
-        let row = of_row nat_total nat_ties books.leases charge.lease lease there in
-        (dues_are_those_of_leases books charge.month charge).1 (d.lease, d.k, is_among (values books.leases) d.lease (subst (Among (values books.leases)) (sym same) row), d.within, d.is, d.month_is)
-
-    pub no_due_without_lease : get books.leases charge.lease ≡ None → IsAmong (dues books charge.month) charge → ⊥
-    no_due_without_lease none a =
-        let d = is_due (values books.leases) charge.month charge (among (dues books charge.month) charge a) in
-        let row = row_of nat_total nat_ties books.leases d.lease d.of in
-        let number : charge.lease ≡ row.0 = ap (λ (c : Charge). c.lease) d.is ∙ are row.0 d.lease row.1 in
-        let no : None ≡ Some d.lease = sym none ∙ ap (get books.leases) number ∙ row.1 in
-        cc
 
 -- what falls due on the lease from an index on
 abbrev pub left : Option (List ℕ) → Lease → ℕ → List Due

@@ -1,5 +1,5 @@
 -- Closed months are in order exactly where their rows, each by itself, are.
-use Rattle.std.proofs.Common.{◌≡◌, ◌≢◌, ◌↔◌, ◌∙◌, refl, sym, ap, subst, inl, ℕ, true, nat_eq, List, [], ◌∷◌, Option, Some, None, IfSome}
+use Rattle.std.proofs.Common.{◌≡◌, ◌≢◌, ◌↔◌, ◌∙◌, refl, sym, ap, subst, inl, ℕ, true, nat_eq, List, [], ◌∷◌, map, length, Option, Some, None, IfSome}
 use Rattle.std.specs.BTreeSet as set
 use Rattle.std.specs.List.{IsAmong, filter}
 use Rattle.std.specs.Ordering.{nat_cmp}
@@ -11,12 +11,12 @@ use Rattle.dh_types.specs.declared.run.Part.{Part}
 use Rattle.dh_types.proofs.SameValues.{numbers, texts}
 use Rattle.dh_model.specs.Books.{Books}
 use Rattle.dh_model.specs.Leases.{dues}
-use Rattle.dh_model.specs.Runs.{dues_of_branch, part_of}
+use Rattle.dh_model.specs.Runs.{dues_of_branch, part_of, total_of}
 use Rattle.dh_model.specs.Rules.{Each, HaveTheSame, IsThere, MonthIsClosed, charges_in, parts_in}
 use Rattle.dh_model.proofs.Among.{Among, among, in_filter, in_map, is_among, of_filter, of_map}
 use Rattle.dh_month_audit.specs.declared.closed_dues.Due.{Due}
 use Rattle.dh_month_audit.specs.declared.closed_sums.Sum.{Sum}
-use Rattle.dh_month_audit.specs.ClosedMonths.{RunIsSum, all_dues, charges_of_branch, charges_of_month, closed_months, is_at_branch, is_in, sum_of, sum_of_part}
+use Rattle.dh_month_audit.specs.ClosedMonths.{DuesHaveParts, IsOf, IsSumIfOf, RunsAreSums, all_dues, charges_of_branch, charges_of_month, charges_of_months, closed_months, dues_of_months, is_at_branch, is_in, sum_of, sum_of_part}
 use Rattle.dh_month_audit.proofs.ClosedDues.{branch_of_all, month_of_all}
 use Rattle.dh_month_audit.proofs.ClosedSums.{at_key, branch_tells, is_under}
 
@@ -47,33 +47,18 @@ at_branch : (o : Option (List ℕ)) (P : List ℕ → Type 0) (branch : List ℕ
 at_branch None P branch e h = absurd (false≢true e)
 at_branch (Some other) P branch e h = subst P ((texts other branch).0 e) h
 
-module _ (books : Books) (months : set.BTreeSet ℕ) (are : (month : ℕ) → (set.contains nat_cmp months month ≡ true) ↔ IsAmong (closed_months books) month)
-    (ds : List Due) (all_are : ds ≡ all_dues books)
-    (of_month : ℕ → Sum) (month_sums : (month : ℕ) → of_month month ≡ sum_of (charges_of_month ds month))
-    (of_branch : ℕ × List ℕ → Sum) (branch_sums : (key : ℕ × List ℕ) → of_branch key ≡ sum_of (charges_of_branch ds key)) where
-  abbrev IsIn : ℕ → Type 0
-  IsIn month = set.contains nat_cmp months month ≡ true
-
+module _ (books : Books) (months : set.BTreeSet ℕ) (are : (month : ℕ) → IsOf months month ↔ IsAmong (closed_months books) month) (ds : List Due) (all_are : ds ≡ all_dues books) where
   abbrev AllClosed : Type 0
   AllClosed = Each books.runs (λ run. run.is_closed ≡ true → MonthIsClosed books run)
 
-  abbrev RunsAreSums : Type 0
-  RunsAreSums = Each books.runs (λ run. run.is_closed ≡ true → RunIsSum run (of_month run.month))
+  abbrev month_sum : ℕ → Sum
+  month_sum month = sum_of (charges_of_month ds month)
 
-  abbrev ChargesAreDue : Type 0
-  ChargesAreDue = Each books.charges (λ charge. IsIn charge.month → IsAmong (dues books charge.month) charge)
+  abbrev branch_sum : ℕ × List ℕ → Sum
+  branch_sum key = sum_of (charges_of_branch ds key)
 
-  abbrev PartsAreSums : Type 0
-  PartsAreSums = Each books.parts (λ part. IsIn part.month → sum_of_part part ≡ of_branch (part.month, part.branch))
-
-  abbrev HasItsPart : ℕ → List ℕ → Type 0
-  HasItsPart month branch = IsThere books.branches branch → IsThere books.parts (month, branch)
-
-  abbrev DuesHaveParts : Type 0
-  DuesHaveParts = (due : Due) → IsAmong ds due → IsIn due.charge.month → IfSome due.branch (HasItsPart due.charge.month)
-
-  abbrev DuesAreCharged : Type 0
-  DuesAreCharged = (due : Due) → IsAmong ds due → IsIn due.charge.month → IsAmong (values books.charges) due.charge
+  abbrev SameCharges : Type 0
+  SameCharges = HaveTheSame (charges_of_months books months) (dues_of_months ds months)
 
   -- ---- months of closed runs
 
@@ -83,24 +68,18 @@ module _ (books : Books) (months : set.BTreeSet ℕ) (are : (month : ℕ) → (s
     closed : run.is_closed ≡ true
     month_is : run.month ≡ month
 
-  closed_run : (month : ℕ) → IsIn month → ClosedRun month
+  closed_run : (month : ℕ) → IsOf months month → ClosedRun month
   closed_run month h =
       let of = in_map (λ run. run.month) (filter (λ run. run.is_closed) (values books.runs)) month (among (closed_months books) month ((are month).0 h)) in
       let kept = in_filter (λ run. run.is_closed) (values books.runs) of.0 of.1 in
       record { run = of.0; is = is_among (values books.runs) of.0 kept.0; closed = kept.1; month_is = sym of.2 }
 
-  month_in : (run : Run) → IsAmong (values books.runs) run → run.is_closed ≡ true → IsIn run.month
+  month_in : (run : Run) → IsAmong (values books.runs) run → run.is_closed ≡ true → IsOf months run.month
   month_in run a closed =
       (are run.month).1 (is_among (closed_months books) run.month (of_map (λ run. run.month) (filter (λ run. run.is_closed) (values books.runs)) run
       (of_filter (λ run. run.is_closed) (values books.runs) run closed (among (values books.runs) run a))))
 
   -- ---- what falls due in a month, and at a branch
-
-  month_sum : (month : ℕ) → of_month month ≡ sum_of (dues books month)
-  month_sum month = month_sums month ∙ ap (λ ds. sum_of (charges_of_month ds month)) all_are ∙ ap sum_of (month_of_all books month)
-
-  branch_sum : (month : ℕ) (branch : List ℕ) → of_branch (month, branch) ≡ sum_of (dues_of_branch books month branch)
-  branch_sum month branch = branch_sums (month, branch) ∙ ap (λ ds. sum_of (charges_of_branch ds (month, branch))) all_are ∙ ap sum_of (branch_of_all books month branch)
 
   month_charges : (month : ℕ) → charges_of_month ds month ≡ dues books month
   month_charges month = ap (λ ds. charges_of_month ds month) all_are ∙ month_of_all books month
@@ -108,11 +87,14 @@ module _ (books : Books) (months : set.BTreeSet ℕ) (are : (month : ℕ) → (s
   branch_charges : (month : ℕ) (branch : List ℕ) → charges_of_branch ds (month, branch) ≡ dues_of_branch books month branch
   branch_charges month branch = ap (λ ds. charges_of_branch ds (month, branch)) all_are ∙ branch_of_all books month branch
 
-  falls_due : (due : Due) → IsAmong ds due → IsAmong (dues books due.charge.month) due.charge
-  falls_due due a =
+  falls_due : (charge : Charge) → Among (map charge_of ds) charge → IsAmong (dues books charge.month) charge
+  falls_due charge a =
+      let of = in_map charge_of ds charge a in
+      let due = of.0 in
       let month = due.charge.month in
-      subst (λ cs. IsAmong cs due.charge) (month_charges month)
-      (is_among (charges_of_month ds month) due.charge (of_map charge_of (filter (is_in month) ds) due (of_filter (is_in month) ds due ((numbers month month).1 refl) (among ds due a))))
+      let there : IsAmong (dues books month) due.charge = subst (λ cs. IsAmong cs due.charge) (month_charges month)
+      (is_among (charges_of_month ds month) due.charge (of_map charge_of (filter (is_in month) ds) due (of_filter (is_in month) ds due ((numbers month month).1 refl) of.1))) in
+      subst (λ (c : Charge). IsAmong (dues books c.month) c) (sym of.2) there
 
   -- the due of a charge that falls due in the month
   record DueOf (month : ℕ) (charge : Charge) : Type 0 where
@@ -138,26 +120,38 @@ module _ (books : Books) (months : set.BTreeSet ℕ) (are : (month : ℕ) → (s
       let kept = in_filter (λ charge. nat_eq charge.month month) (values books.charges) charge (among (charges_in books month) charge a) in
       (is_among (values books.charges) charge kept.0, (numbers charge.month month).0 kept.1)
 
-  charges_at : AllClosed → (month : ℕ) → IsIn month → HaveTheSame (charges_in books month) (dues books month)
+  charges_at : AllClosed → (month : ℕ) → IsOf months month → HaveTheSame (charges_in books month) (dues books month)
   charges_at all month h =
       let r = closed_run month h in
       subst (λ m. HaveTheSame (charges_in books m) (dues books m)) r.month_is (all r.run r.is r.closed).charges
 
-  pub charges_due : AllClosed → ChargesAreDue
-  charges_due all = λ charge a h. (charges_at all charge.month h charge).0 (charge_in charge charge.month a refl)
+  pub all_charges : AllClosed → SameCharges
+  all_charges all = λ charge. (
+    λ a.
+        let kept = in_filter (λ charge. set.contains nat_cmp months charge.month) (values books.charges) charge (among (charges_of_months books months) charge a) in
+        let d = due_of charge.month charge ((charges_at all charge.month kept.1 charge).0 (charge_in charge charge.month (is_among (values books.charges) charge kept.0) refl)) in
+        is_among (dues_of_months ds months) charge (of_filter (λ charge. set.contains nat_cmp months charge.month) (map charge_of ds) charge kept.1
+        (subst (Among (map charge_of ds)) (sym d.charge_is) (of_map charge_of ds d.due (among ds d.due d.is)))),
+    λ a.
+        let kept = in_filter (λ charge. set.contains nat_cmp months charge.month) (map charge_of ds) charge (among (dues_of_months ds months) charge a) in
+        let row = in_charges charge charge.month ((charges_at all charge.month kept.1 charge).1 (falls_due charge kept.0)) in
+        is_among (charges_of_months books months) charge (of_filter (λ charge. set.contains nat_cmp months charge.month) (values books.charges) charge kept.1 (among (values books.charges) charge row.0)),
+  )
 
-  pub dues_charged : AllClosed → DuesAreCharged
-  dues_charged all = λ due a h. (in_charges due.charge due.charge.month ((charges_at all due.charge.month h due.charge).1 (falls_due due a))).0
-
-  same_charges : ChargesAreDue → DuesAreCharged → (month : ℕ) → IsIn month → HaveTheSame (charges_in books month) (dues books month)
-  same_charges due_each charged_each month h = λ charge. (
+  same_charges : SameCharges → (month : ℕ) → IsOf months month → HaveTheSame (charges_in books month) (dues books month)
+  same_charges same month h = λ charge. (
     λ a.
         let kept = in_charges charge month a in
-        subst (λ m. IsAmong (dues books m) charge) kept.1 (due_each charge kept.0 (subst IsIn (sym kept.1) h)),
+        let row : Among (charges_of_months books months) charge = of_filter (λ charge. set.contains nat_cmp months charge.month) (values books.charges) charge (subst (IsOf months) (sym kept.1) h) (among (values books.charges) charge kept.0) in
+        let due = in_filter (λ charge. set.contains nat_cmp months charge.month) (map charge_of ds) charge (among (dues_of_months ds months) charge ((same charge).0 (is_among (charges_of_months books months) charge row))) in
+        subst (λ m. IsAmong (dues books m) charge) kept.1 (falls_due charge due.0),
     λ a.
         let d = due_of month charge a in
-        let row : IsAmong (values books.charges) charge = subst (IsAmong (values books.charges)) (sym d.charge_is) (charged_each d.due d.is (subst IsIn (sym d.month_is) h)) in
-        charge_in charge month row (ap (λ (c : Charge). c.month) d.charge_is ∙ d.month_is),
+        let month_is : charge.month ≡ month = ap (λ (c : Charge). c.month) d.charge_is ∙ d.month_is in
+        let due : Among (dues_of_months ds months) charge = of_filter (λ charge. set.contains nat_cmp months charge.month) (map charge_of ds) charge (subst (IsOf months) (sym month_is) h)
+        (subst (Among (map charge_of ds)) (sym d.charge_is) (of_map charge_of ds d.due (among ds d.due d.is))) in
+        let row = in_filter (λ charge. set.contains nat_cmp months charge.month) (values books.charges) charge (among (charges_of_months books months) charge ((same charge).1 (is_among (dues_of_months ds months) charge due))) in
+        charge_in charge month (is_among (values books.charges) charge row.0) month_is,
   )
 
   -- ---- parts
@@ -174,17 +168,17 @@ module _ (books : Books) (months : set.BTreeSet ℕ) (are : (month : ℕ) → (s
   abbrev PartsAt : ℕ → Type 0
   PartsAt month = (part : Part) → IsAmong (parts_in books month) part → part ≡ part_of month part.branch (dues_of_branch books month part.branch)
 
-  pub parts_sums : AllClosed → PartsAreSums
+  pub parts_sums : AllClosed → Each books.parts (IsSumIfOf months branch_sum)
   parts_sums all = λ part a h.
       let r = closed_run part.month h in
       let parts : PartsAt part.month = subst PartsAt r.month_is (all r.run r.is r.closed).parts in
-      of_part_from part (dues_of_branch books part.month part.branch) (parts part (part_in part part.month a refl)) ∙ sym (branch_sum part.month part.branch)
+      of_part_from part (dues_of_branch books part.month part.branch) (parts part (part_in part part.month a refl)) ∙ ap sum_of (sym (branch_charges part.month part.branch))
 
-  parts_at : PartsAreSums → (month : ℕ) → IsIn month → PartsAt month
+  parts_at : Each books.parts (IsSumIfOf months branch_sum) → (month : ℕ) → IsOf months month → PartsAt month
   parts_at sums month h = λ part a.
       let kept = in_parts part month a in
       let is : part ≡ part_of part.month part.branch (dues_of_branch books part.month part.branch) =
-      part_from part (dues_of_branch books part.month part.branch) (sums part kept.0 (subst IsIn (sym kept.1) h) ∙ branch_sum part.month part.branch) in
+      part_from part (dues_of_branch books part.month part.branch) (sums part kept.0 (subst (IsOf months) (sym kept.1) h) ∙ ap sum_of (branch_charges part.month part.branch)) in
       subst (λ m. part ≡ part_of m part.branch (dues_of_branch books m part.branch)) kept.1 is
 
   abbrev AllPartsAt : ℕ → Type 0
@@ -196,14 +190,17 @@ module _ (books : Books) (months : set.BTreeSet ℕ) (are : (month : ℕ) → (s
       subst (λ cs. Among cs due.charge) (branch_charges month branch)
       (of_map charge_of (filter (is_under (at_key month branch)) ds) due (of_filter (is_under (at_key month branch)) ds due ((branch_tells due branch is (at_key month branch)).1 refl) (among ds due a)))
 
-  pub dues_parts : AllClosed → DuesHaveParts
+  abbrev HasItsPart : ℕ → List ℕ → Type 0
+  HasItsPart month branch = IsThere books.branches branch → IsThere books.parts (month, branch)
+
+  pub dues_parts : AllClosed → DuesHaveParts books ds months
   dues_parts all = λ due a h.
       let month = due.charge.month in
       let r = closed_run month h in
       let parts : AllPartsAt month = subst AllPartsAt r.month_is (all r.run r.is r.closed).all_parts in
       if_some due.branch (HasItsPart month) (λ branch is there. parts branch there (none_of (dues_of_branch books month branch) due.charge (here due branch a is)))
 
-  all_parts_at : DuesHaveParts → (month : ℕ) → IsIn month → AllPartsAt month
+  all_parts_at : DuesHaveParts books ds months → (month : ℕ) → IsOf months month → AllPartsAt month
   all_parts_at have month h = λ branch there some.
       let one = some_of (dues_of_branch books month branch) some in
       let of = in_map charge_of (filter (is_under (at_key month branch)) ds) one.0 (subst (λ cs. Among cs one.0) (sym (branch_charges month branch)) one.1) in
@@ -211,26 +208,26 @@ module _ (books : Books) (months : set.BTreeSet ℕ) (are : (month : ℕ) → (s
       let kept = in_filter (is_under (at_key month branch)) ds due of.1 in
       let passes = and_parts (nat_eq due.charge.month month) (is_at_branch branch due.branch) kept.1 in
       let month_is : due.charge.month ≡ month = (numbers due.charge.month month).0 passes.0 in
-      let part : IsThere books.parts (due.charge.month, branch) = at_branch due.branch (HasItsPart due.charge.month) branch passes.1 (have due (is_among ds due kept.0) (subst IsIn (sym month_is) h)) there in
+      let part : IsThere books.parts (due.charge.month, branch) = at_branch due.branch (HasItsPart due.charge.month) branch passes.1 (have due (is_among ds due kept.0) (subst (IsOf months) (sym month_is) h)) there in
       subst (λ m. IsThere books.parts (m, branch)) month_is part
 
   -- ---- the run, and all
 
-  pub runs_sums : AllClosed → RunsAreSums
+  pub runs_sums : AllClosed → RunsAreSums books month_sum
   runs_sums all = λ run a closed.
       let it = all run a closed in
-      let sum = month_sum run.month in
-      record { count = it.count ∙ sym (ap (λ (s : Sum). s.count) sum); total = it.total ∙ sym (ap (λ (s : Sum). s.total) sum) }
+      let charges = sym (month_charges run.month) in
+      record { count = it.count ∙ ap (λ (cs : List Charge). length cs) charges; total = it.total ∙ ap total_of charges }
 
-  pub all_closed : RunsAreSums → ChargesAreDue → PartsAreSums → DuesHaveParts → DuesAreCharged → AllClosed
-  all_closed runs due_each parts have charged_each = λ run a closed.
+  pub all_closed : RunsAreSums books month_sum → Each books.parts (IsSumIfOf months branch_sum) → DuesHaveParts books ds months → SameCharges → AllClosed
+  all_closed runs parts have same = λ run a closed.
       let h = month_in run a closed in
       let it = runs run a closed in
-      let sum = month_sum run.month in
+      let charges = month_charges run.month in
       record {
-        charges = same_charges due_each charged_each run.month h;
+        charges = same_charges same run.month h;
         parts = parts_at parts run.month h;
         all_parts = all_parts_at have run.month h;
-        count = it.count ∙ ap (λ (s : Sum). s.count) sum;
-        total = it.total ∙ ap (λ (s : Sum). s.total) sum;
+        count = it.count ∙ ap (λ (cs : List Charge). length cs) charges;
+        total = it.total ∙ ap total_of charges;
       }

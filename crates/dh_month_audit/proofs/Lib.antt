@@ -4,5 +4,6 @@ pub mod ClosedSums
 pub mod ClosedWhole
 pub mod Consecutive
 pub mod OpenBatches
-pub mod OpenSame
+pub mod OpenRuns
 pub mod Rows
+pub mod SameLists

@@ -1,19 +1,21 @@
 -- What closed months are tested by: all that ever falls due, and its sums by month and by branch.
-use Rattle.std.specs.Prelude.{◌≡◌, ℕ, ◌+◌, nat_eq, Bool, false, ◌&&◌, List, [], map, length, Option, Some, None}
+use Rattle.std.specs.Prelude.{◌≡◌, ℕ, ◌+◌, nat_eq, Bool, true, false, cond, ◌&&◌, List, [], map, length, Option, Some, None, IfSome}
 use Rattle.std.specs.declared.cmp.Ordering.{Ordering}
-use Rattle.std.specs.List.{filter, flat_map}
+use Rattle.std.specs.BTreeSet as set
+use Rattle.std.specs.List.{IsAmong, filter, flat_map}
 use Rattle.std.specs.Option.{unwrap_or}
 use Rattle.std.specs.Ordering.{nat_cmp}
 use Rattle.std.specs.FinMap as fin
-use Rattle.std.specs.BTreeMap.{BTreeMap, get}
+use Rattle.std.specs.BTreeMap.{BTreeMap, get, is_at}
 use Rattle.std.specs.Cmp.Lexicographic.{pointwise}
 use Rattle.dh_types.specs.declared.property.Property.{Property}
 use Rattle.dh_types.specs.declared.lease.Lease.{Lease}
 use Rattle.dh_types.specs.declared.lease.Charge.{Charge}
 use Rattle.dh_types.specs.declared.run.Run.{Run}
 use Rattle.dh_types.specs.declared.run.Part.{Part}
-use Rattle.dh_model.specs.Books.{Books, pair_cmp}
+use Rattle.dh_model.specs.Books.{Books}
 use Rattle.dh_model.specs.Leases.{dues_of}
+use Rattle.dh_model.specs.Rules.{Each, IsThere}
 use Rattle.dh_model.specs.Runs.{at_least, greatest_lease, total_of}
 use Rattle.dh_month_audit.specs.declared.closed_dues.Due.{Due}
 use Rattle.dh_month_audit.specs.declared.closed_sums.Sum.{Sum}
@@ -64,6 +66,10 @@ with_charge sum charge = record { through = Some (at_least sum.through charge.le
 abbrev pub sum_at : {K : Type 0} → (K → K → Ordering) → BTreeMap K Sum → K → Sum
 sum_at R sums key = unwrap_or (get R sums key) (sum_of [])
 
+-- the sum under the key has one charge more, and each other stays
+abbrev pub HasOneMore : {K : Type 0} → (K → K → Ordering) → BTreeMap K Sum → BTreeMap K Sum → K → Charge → Type 0
+HasOneMore {K} R old new key charge = (other : K) → sum_at R new other ≡ cond (is_at (R key) other) (with_charge (sum_at R old key) charge) (sum_at R old other)
+
 -- the run has the count and the total of the sum
 pub record RunIsSum (run : Run) (sum : Sum) : Type 0 where
   pub count : run.count ≡ sum.count
@@ -73,9 +79,29 @@ pub record RunIsSum (run : Run) (sum : Sum) : Type 0 where
 abbrev pub sum_of_part : Part → Sum
 sum_of_part part = record { through = part.through; count = part.count; total = part.total }
 
--- all that a charge says, and an order of that
-abbrev pub charge_cells : Charge → (ℕ × ℕ) × ((ℕ × ℕ) × ℕ)
-charge_cells charge = ((charge.lease, charge.index), ((charge.month, charge.day), charge.amount))
+-- it is one of these months
+abbrev pub IsOf : set.BTreeSet ℕ → ℕ → Type 0
+IsOf months month = set.contains nat_cmp months month ≡ true
 
-abbrev pub cells_cmp : (ℕ × ℕ) × ((ℕ × ℕ) × ℕ) → (ℕ × ℕ) × ((ℕ × ℕ) × ℕ) → Ordering
-cells_cmp = pair_cmp (pair_cmp nat_cmp nat_cmp) (pair_cmp (pair_cmp nat_cmp nat_cmp) nat_cmp)
+-- the charges in the books that are of one of these months
+abbrev pub charges_of_months : Books → set.BTreeSet ℕ → List Charge
+charges_of_months books months = filter (λ charge. set.contains nat_cmp months charge.month) (fin.values books.charges)
+
+-- and what falls due in one of them
+abbrev pub dues_of_months : List Due → set.BTreeSet ℕ → List Charge
+dues_of_months dues months = filter (λ charge. set.contains nat_cmp months charge.month) (map (λ due. due.charge) dues)
+
+-- each closed run is the sum of its month
+abbrev pub RunsAreSums : Books → (ℕ → Sum) → Type 0
+RunsAreSums books sum = Each books.runs (λ run. run.is_closed ≡ true → RunIsSum run (sum run.month))
+
+-- the part, if it is of one of these months, is the sum of its month and branch
+abbrev pub IsSumIfOf : set.BTreeSet ℕ → (ℕ × List ℕ → Sum) → Part → Type 0
+IsSumIfOf months sum part = IsOf months part.month → sum_of_part part ≡ sum (part.month, part.branch)
+
+-- the branch of the due, where there is such a branch, has a part of the due's month, if that is one of these months
+abbrev pub HasPart : Books → Due → Type 0
+HasPart books due = IfSome due.branch (λ branch. IsThere books.branches branch → IsThere books.parts (due.charge.month, branch))
+
+abbrev pub DuesHaveParts : Books → List Due → set.BTreeSet ℕ → Type 0
+DuesHaveParts books dues months = (due : Due) → IsAmong dues due → IsOf months due.charge.month → HasPart books due

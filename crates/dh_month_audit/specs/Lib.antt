@@ -1,2 +1,2 @@
 pub mod ClosedMonths
-pub mod OpenFields
+pub mod Months

@@ -5,12 +5,12 @@ ghost use Rattle.std.specs.BTreeSet as set;
 ghost use Rattle.std.specs.List.{IsAmong};
 ghost use Rattle.std.specs.Ordering.{nat_cmp};
 ghost use Rattle.dh_model.specs.Rules.{Each, MonthIsClosed};
-ghost use Rattle.dh_month_audit.specs.ClosedMonths.{RunIsSum, closed_months, sum_at};
+ghost use Rattle.dh_month_audit.specs.ClosedMonths.{RunIsSum, RunsAreSums, charges_of_month, closed_months, sum_at, sum_of};
 
-use crate::closed_charges::{charges_are_due, dues_are_charged};
+use crate::closed_charges::charges_are_dues;
 use crate::closed_dues::{Due, all_dues};
 use crate::closed_parts::{dues_have_parts, parts_are_sums};
-use crate::closed_sums::{Sum, sum_at, sums_of_branches, sums_of_months};
+use crate::closed_sums::{Sum, sum_at, sums_of_months};
 use dh_books::Books;
 use dh_types::{EntryMonth, Run};
 use std::alloc::{AllocError, Global};
@@ -37,10 +37,18 @@ fn run_is_sum(run: &Run, sums: &BTreeMap<EntryMonth, Sum>) -> bool
 }
 
 // Whether each closed run is the sum of its month.
-fn runs_are_sums(books: &Books, sums: &BTreeMap<EntryMonth, Sum>) -> bool
-    ensures { (result ≡ true) ↔ Each books.now.books.runs (λ run. run.is_closed ≡ true → RunIsSum run (sum_at nat_cmp sums.now run.month)) }
+fn runs_have_sums(books: &Books, sums: &BTreeMap<EntryMonth, Sum>) -> bool
+    ensures { (result ≡ true) ↔ RunsAreSums books.now.books (sum_at nat_cmp sums.now) }
 {
     books.runs().all(|run| run_is_sum(run, sums))
+}
+
+// Whether each closed run sums up what falls due in its month.
+fn runs_are_sums(alloc: Global, books: &Books, dues: &[Due]) -> Result<bool, AllocError>
+    ensures { IfOk result (λ holds. (holds ≡ true) ↔ RunsAreSums books.now.books (λ month. sum_of (charges_of_month dues.now month))) }
+{
+    let sums = sums_of_months(alloc, dues)?;
+    Ok(runs_have_sums(books, &sums))
 }
 
 /// Whether each closed month's charges are its dues, and its part rows and its run sum them up. It fails where memory runs
@@ -51,19 +59,14 @@ pub fn closed_months_are_in_order(alloc: Global, books: &Books) -> Result<bool, 
     let months = closed_months(alloc, books)?;
     let all = all_dues(alloc, books)?;
     let dues: &[Due] = &all;
-    let of_months = sums_of_months(alloc, dues)?;
-    let of_branches = sums_of_branches(alloc, dues)?;
-    if !runs_are_sums(books, &of_months) {
-        return Ok(false);
-    }
-    if !charges_are_due(books, &months) {
-        return Ok(false);
-    }
-    if !parts_are_sums(books, &months, &of_branches) {
-        return Ok(false);
-    }
     if !dues_have_parts(books, dues, &months) {
         return Ok(false);
     }
-    dues_are_charged(alloc, books, dues, &months)
+    if !runs_are_sums(alloc, books, dues)? {
+        return Ok(false);
+    }
+    if !parts_are_sums(alloc, books, dues, &months)? {
+        return Ok(false);
+    }
+    charges_are_dues(alloc, books, dues, &months)
 }

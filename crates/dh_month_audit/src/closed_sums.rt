@@ -1,10 +1,9 @@
 //! What falls due, summed up by month and by branch.
 
-ghost use Rattle.std.specs.Prelude.{◌≡◌, ℕ, ◌+◌, ◌*◌, ◌<◌, ◌≤◌, ◌^◌, List, [], if◌then◌else◌, Some, IfOk, OnOk};
-ghost use Rattle.std.specs.BTreeMap.{is_at};
+ghost use Rattle.std.specs.Prelude.{◌≡◌, ℕ, ◌+◌, ◌*◌, ◌<◌, ◌≤◌, ◌^◌, List, [], Some, IfOk, OnOk};
 ghost use Rattle.std.specs.Ordering.{nat_cmp};
 ghost use Rattle.dh_model.specs.Books.{pair_cmp, text_cmp};
-ghost use Rattle.dh_month_audit.specs.ClosedMonths.{charges_of_branch, charges_of_month, sum_at, sum_of, sum_of_part, with_charge};
+ghost use Rattle.dh_month_audit.specs.ClosedMonths.{HasOneMore, charges_of_branch, charges_of_month, sum_at, sum_of, sum_of_part, with_charge};
 
 use crate::closed_dues::Due;
 use dh_types::{Charge, EntryMonth, Id, LeaseNo, Part};
@@ -20,7 +19,7 @@ pub(crate) struct Sum {
 }
 
 impl Sum {
-    // That of no charges.
+    // What no charges come to.
     fn none() -> Sum
         ensures { result ≡ sum_of [] }
     {
@@ -31,7 +30,7 @@ impl Sum {
         }
     }
 
-    // That of the charges that the part sums up.
+    // What the part says of its charges.
     pub(crate) fn of_part(part: &Part) -> Sum
         ensures { result ≡ sum_of_part part.now }
     {
@@ -42,7 +41,7 @@ impl Sum {
         }
     }
 
-    // That with one charge more.
+    // The sum with one charge more.
     fn with_charge(self, charge: &Charge) -> Sum
         requires few { self.count + 1 < 2 ^ 64 }
         requires small { self.total ≤ 999999 * self.count }
@@ -76,7 +75,7 @@ fn add<K: Ord + Drop>(
 ) -> Result<(), AllocError>
     requires few { (sum_at K.cmp sums.old key).count + 1 < 2 ^ 64 }
     requires small { (sum_at K.cmp sums.old key).total ≤ 999999 * (sum_at K.cmp sums.old key).count }
-    ensures value { OnOk result ((other : K) → sum_at K.cmp sums.new other ≡ (if is_at (K.cmp key) other then with_charge (sum_at K.cmp sums.old key) charge.now else sum_at K.cmp sums.old other)) }
+    ensures value { OnOk result (HasOneMore K.cmp sums.old sums.new key charge.now) }
     ensures bound { charge.now.amount ≤ 999999 }
 {
     let sum = sum_at(sums, &key).with_charge(charge);

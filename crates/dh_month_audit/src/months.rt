@@ -3,6 +3,7 @@
 ghost use Rattle.std.specs.Prelude.{◌≡◌, ◌↔◌, true, IfOk};
 ghost use Rattle.dh_model.specs.Rules.{Each, IsThere, MonthsInOrder};
 ghost use Rattle.dh_model.specs.Runs.{batch_size};
+ghost use Rattle.dh_month_audit.specs.Months.{RowsHaveRuns};
 
 use crate::{closed_months_are_in_order, open_months_are_in_order};
 use dh_books::Books;
@@ -26,7 +27,7 @@ pub fn parts_have_runs(books: &Books) -> bool
 
 // Whether each charge and each part row is of a month that has a run.
 fn rows_have_runs(books: &Books) -> bool
-    ensures { (result ≡ true) ↔ (Each books.now.books.charges (λ charge. IsThere books.now.books.runs charge.month) × Each books.now.books.parts (λ part. IsThere books.now.books.runs part.month)) }
+    ensures { (result ≡ true) ↔ RowsHaveRuns books.now.books }
 {
     charges_have_runs(books) && parts_have_runs(books)
 }

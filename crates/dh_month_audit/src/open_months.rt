@@ -1,74 +1,35 @@
 //! Months whose run is under way.
 
-ghost use Rattle.std.specs.Prelude.{◌≡◌, ◌↔◌, true, false, map, IfOk};
+ghost use Rattle.std.specs.Prelude.{◌≡◌, ◌↔◌, ◌≤◌, true, false, IfOk};
 ghost use Rattle.dh_model.specs.Rules.{ArePosted, Each, HaveTheSame, MonthIsOpen, charges_in, parts_in};
-ghost use Rattle.dh_model.specs.Runs.{batch_size, posted_charges, posted_parts};
-ghost use Rattle.dh_month_audit.specs.OpenFields.{charge_fields, part_fields};
+ghost use Rattle.dh_model.specs.Runs.{batch_size, batches, posted_charges, posted_parts};
 
-use crate::open_same::have_the_same;
 use crate::open_shown::batches_shown;
+use crate::same::have_the_same;
 use dh_batches::{batches, posted_charges, posted_parts};
 use dh_books::Books;
-use dh_types::{Charge, ChargeIndex, Day, EntryMonth, Id, LeaseNo, Part, Pence, Rent, Run};
+use dh_types::{Charge, EntryMonth, Part, Pence, Run};
 use std::alloc::{AllocError, Global};
 
-type ChargeFields = (LeaseNo, ChargeIndex, EntryMonth, Day, Rent);
-
-type PartFields = (EntryMonth, Id, Option<LeaseNo>, u32, Pence);
-
-// All that the charge says.
-fn charge_fields(charge: &Charge) -> ChargeFields
-    ensures { result ≡ charge_fields charge.now }
-{
-    (
-        charge.lease,
-        charge.index,
-        charge.month,
-        charge.day,
-        charge.amount,
-    )
-}
-
-// All that the part row says.
-fn part_fields(part: &Part) -> PartFields
-    ensures { result ≡ part_fields part.now }
-{
-    (
-        part.month,
-        part.branch,
-        part.through,
-        part.count,
-        part.total,
-    )
-}
-
-// Those of the month's charges in the books.
-fn fields_of_charges(
-    alloc: Global,
-    books: &Books,
-    month: EntryMonth,
-) -> Result<Vec<ChargeFields>, AllocError>
-    ensures { IfOk result (λ fields. fields.items ≡ map charge_fields (charges_in books.now.books month)) }
+// The month's charges in the books.
+fn charges_in(alloc: Global, books: &Books, month: EntryMonth) -> Result<Vec<Charge>, AllocError>
+    ensures { IfOk result (λ charges. charges.items ≡ charges_in books.now.books month) }
 {
     books
         .charges()
+        .copied()
         .filter(|charge| charge.month == month)
-        .map(|charge| charge_fields(charge))
         .collect(alloc)
 }
 
-// Those of the month's part rows in the books.
-fn fields_of_parts(
-    alloc: Global,
-    books: &Books,
-    month: EntryMonth,
-) -> Result<Vec<PartFields>, AllocError>
-    ensures { IfOk result (λ fields. fields.items ≡ map part_fields (parts_in books.now.books month)) }
+// The month's part rows in the books.
+fn parts_in(alloc: Global, books: &Books, month: EntryMonth) -> Result<Vec<Part>, AllocError>
+    ensures { IfOk result (λ parts. parts.items ≡ parts_in books.now.books month) }
 {
     books
         .parts()
+        .copied()
         .filter(|part| part.month == month)
-        .map(|part| part_fields(part))
         .collect(alloc)
 }
 
@@ -81,12 +42,8 @@ fn charges_are_posted(
 ) -> Result<bool, AllocError>
     ensures { IfOk result (λ same. (same ≡ true) ↔ HaveTheSame (charges_in books.now.books month) (posted_charges batch_size books.now.books month done)) }
 {
-    let charges = posted_charges(alloc, books, month, done)?;
-    let posted = charges
-        .iter()
-        .map(|charge| charge_fields(charge))
-        .collect(alloc)?;
-    have_the_same(alloc, fields_of_charges(alloc, books, month)?, posted)
+    let posted = posted_charges(alloc, books, month, done)?;
+    have_the_same(alloc, charges_in(alloc, books, month)?, posted)
 }
 
 // Whether the month's part rows are those of so many batches.
@@ -98,9 +55,20 @@ fn parts_are_posted(
 ) -> Result<bool, AllocError>
     ensures { IfOk result (λ same. (same ≡ true) ↔ HaveTheSame (parts_in books.now.books month) (posted_parts batch_size books.now.books month done)) }
 {
-    let parts = posted_parts(alloc, books, month, done)?;
-    let posted = parts.iter().map(|part| part_fields(part)).collect(alloc)?;
-    have_the_same(alloc, fields_of_parts(alloc, books, month)?, posted)
+    let posted = posted_parts(alloc, books, month, done)?;
+    have_the_same(alloc, parts_in(alloc, books, month)?, posted)
+}
+
+// Whether the month has so many batches.
+fn has_batches(
+    alloc: Global,
+    books: &Books,
+    month: EntryMonth,
+    done: u128,
+) -> Result<bool, AllocError>
+    ensures { IfOk result (λ few. (few ≡ true) ↔ done ≤ batches batch_size books.now.books month) }
+{
+    Ok(done <= batches(alloc, books, month)?)
 }
 
 // Whether so many batches of the month are in the books, and nothing else of it.
@@ -113,7 +81,7 @@ fn are_posted(
     ensures { IfOk result (λ holds. (holds ≡ true) ↔ ArePosted books.now.books batch_size month done) }
 {
     Ok(
-        done <= batches(alloc, books, month)?
+        has_batches(alloc, books, month, done)?
             && parts_are_posted(alloc, books, month, done)?
             && charges_are_posted(alloc, books, month, done)?,
     )

@@ -1,13 +1,9 @@
 //! How many batches of a month its part rows show.
 
 ghost use Rattle.std.specs.Prelude.{◌≡◌, ◌≤◌, ◌*◌, ◌^◌, ℕ, List, Some, IfOk};
-ghost use Rattle.std.specs.List.{IsAmong};
-ghost use Rattle.std.specs.Option.{unwrap_or};
-ghost use Rattle.std.specs.BTreeMap as tree;
-ghost use Rattle.std.specs.FinMap as fin;
-ghost use Rattle.dh_model.specs.Books.{text_cmp};
 ghost use Rattle.dh_model.specs.Rules.{ArePosted};
-ghost use Rattle.dh_model.specs.Runs.{batch_size, batches_before};
+ghost use Rattle.dh_model.specs.Runs.{batch_size};
+ghost use Rattle.dh_month_audit.specs.Months.{AreBatchesBefore, batches_at};
 
 use dh_batches::{batches_for, branch_parts};
 use dh_books::Books;
@@ -21,8 +17,8 @@ fn batches_before(
     books: &Books,
     month: EntryMonth,
 ) -> Result<BTreeMap<Id, u128>, AllocError>
-    ensures value { IfOk result (λ before. (branch : List ℕ) → IsAmong (fin.keys books.now.books.branches) branch → unwrap_or (tree.get text_cmp before branch) 0 ≡ batches_before batch_size books.now.books month branch) }
-    ensures bound { IfOk result (λ before. (branch : List ℕ) → unwrap_or (tree.get text_cmp before branch) 0 ≤ 4294967296 * 2 ^ 64) }
+    ensures value { IfOk result (λ before. AreBatchesBefore books.now.books month before) }
+    ensures bound { IfOk result (λ before. (branch : List ℕ) → batches_at before branch ≤ 4294967296 * 2 ^ 64) }
 {
     let parts = branch_parts(alloc, books, month)?;
     let mut before = BTreeMap::new(alloc);

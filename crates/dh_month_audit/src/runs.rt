@@ -1,13 +1,14 @@
 //! Runs: the months that they stand under, and which of them are closed.
 
-ghost use Rattle.std.specs.Prelude.{◌≡◌, ◌↔◌, ◌≤◌, ◌<◌, ◌+◌, ℕ, true};
-ghost use Rattle.dh_model.specs.Rules.{Each, IsThere, RunsInOrder};
+ghost use Rattle.std.specs.Prelude.{◌≡◌, ◌↔◌, ◌<◌, ◌+◌, true};
+ghost use Rattle.dh_model.specs.Rules.{Each, RunsInOrder};
+ghost use Rattle.dh_month_audit.specs.Months.{RunsAreMonths};
 
 use dh_books::Books;
 
 // Whether the runs stand under the months from the first to the one before the next.
 fn months_have_runs(books: &Books) -> bool
-    ensures { (result ≡ true) ↔ ((books.now.books.first ≤ books.now.books.next) × ((month : ℕ) → IsThere books.now.books.runs month ↔ ((books.now.books.first ≤ month) × (month < books.now.books.next)))) }
+    ensures { (result ≡ true) ↔ RunsAreMonths books.now.books }
 {
     let mut expected = books.first().number();
     for month in books.run_months() {

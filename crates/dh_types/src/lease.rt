@@ -35,7 +35,7 @@ impl Lease {
 }
 
 /// Rent that fell due on a lease. There is one for a lease and an index.
-#[derive(Clone, Copy, PartialEq, Eq)]
+#[derive(Clone, Copy, PartialEq, Eq, PartialOrd, Ord)]
 pub struct Charge {
     pub lease: LeaseNo,
     pub index: ChargeIndex,

@@ -26,7 +26,7 @@ impl Run {
 }
 
 /// What a branch has of a run so far. There is one for a month and a branch.
-#[derive(Clone, Copy, PartialEq, Eq)]
+#[derive(Clone, Copy, PartialEq, Eq, PartialOrd, Ord)]
 pub struct Part {
     pub month: EntryMonth,
     pub branch: Id,

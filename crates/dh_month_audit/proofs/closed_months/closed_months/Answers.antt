@@ -17,5 +17,6 @@ returns c =
     IfOk-weaker c.collect.result (set.IsFromIterResult nat_cmp (closed_months books)) _ (λ s made. set_tells nat_total nat_ties (closed_months books) s made)
     (fact_from_collect (set.IsFromIterResult nat_cmp) c.collect.result c.collect.ensures.ran
     (YieldsList-from_map _ (λ run. run.month) (YieldsList-at c.map.ensures.source
-    (YieldsList-from_filter _ (λ run. run.is_closed) (YieldsList-at c.filter.ensures.source (YieldsList-from_rest (fin.values books.runs) c.runs.ensures)) c.filter.ensures.closure (λ x b q k. search (rules, tests))))
+    (YieldsList-from_filter _ (λ run. run.is_closed)
+    (YieldsList-at c.filter.ensures.source (YieldsList-from_rest (fin.values books.runs) c.runs.ensures)) c.filter.ensures.closure (λ x b q k. search (rules, tests))))
     c.map.ensures.closure (λ x r q k. search (rules, tests))))

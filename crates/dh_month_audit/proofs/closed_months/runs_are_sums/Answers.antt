@@ -1,12 +1,9 @@
-use Rattle.std.proofs.Common.{rules, tests, ◌≡◌, true}
-use Rattle.std.specs.FinMap as fin
-use Rattle.std.specs.Ordering.{nat_cmp}
-use Rattle.std.proofs.lemmas.Iterator.Consumers.{YieldsList-from_rest}
-use Rattle.dh_month_audit.specs.ClosedMonths.{RunIsSum, sum_at}
-use Rattle.dh_month_audit.proofs.Rows.{each_from_all}
+use Rattle.std.proofs.Common.{sym, subst}
+use Rattle.dh_month_audit.specs.ClosedMonths.{RunIsSum}
 use Rattle.dh_month_audit.proofs.closed_months.runs_are_sums.Goals as goal
 
 pub returns : goal.returns
-returns c =
-    let books = c.args.books.now.books in
-    each_from_all (λ run. run.is_closed ≡ true → RunIsSum run (sum_at nat_cmp c.args.sums.now run.month)) _ _ c.all.result c.all.ensures.ran (YieldsList-from_rest (fin.values books.runs) c.runs.ensures) (λ x b q k. search (rules, tests))
+returns c = (
+  λ yes run a closed. subst (RunIsSum run) (c.in_ok-sums.ensures run.month) (c.runs_have_sums.ensures.0 yes run a closed),
+  λ all. c.runs_have_sums.ensures.1 (λ run a closed. subst (RunIsSum run) (sym (c.in_ok-sums.ensures run.month)) (all run a closed)),
+)

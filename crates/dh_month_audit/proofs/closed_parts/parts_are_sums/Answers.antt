@@ -1,14 +1,8 @@
-use Rattle.std.proofs.Common.{rules, tests, ◌≡◌, true}
-use Rattle.std.specs.FinMap as fin
-use Rattle.std.specs.BTreeSet as set
-use Rattle.std.specs.Ordering.{nat_cmp}
-use Rattle.std.proofs.lemmas.Iterator.Consumers.{YieldsList-from_rest}
-use Rattle.dh_model.specs.Books.{pair_cmp, text_cmp}
-use Rattle.dh_month_audit.specs.ClosedMonths.{sum_at, sum_of_part}
-use Rattle.dh_month_audit.proofs.Rows.{each_from_all}
+use Rattle.std.proofs.Common.{◌∙◌, sym}
 use Rattle.dh_month_audit.proofs.closed_parts.parts_are_sums.Goals as goal
 
 pub returns : goal.returns
-returns c =
-    let books = c.args.books.now.books in
-    each_from_all (λ part. set.contains nat_cmp c.args.months.now part.month ≡ true → sum_of_part part ≡ sum_at (pair_cmp nat_cmp text_cmp) c.args.sums.now (part.month, part.branch)) _ _ c.all.result c.all.ensures.ran (YieldsList-from_rest (fin.values books.parts) c.parts.ensures) (λ x b q k. search (rules, tests))
+returns c = (
+  λ yes part a of. c.parts_have_sums.ensures.0 yes part a of ∙ c.in_ok-sums.ensures (part.month, part.branch),
+  λ all. c.parts_have_sums.ensures.1 (λ part a of. all part a of ∙ sym (c.in_ok-sums.ensures (part.month, part.branch))),
+)

@@ -1,10 +1,10 @@
-use Rattle.std.proofs.Common.{◌∙◌, sym, true, false, Ok, rules}
+use Rattle.std.proofs.Common.{◌∙◌, sym, Ok, rules}
 use Rattle.std.specs.BTreeSet as set
 use Rattle.std.proofs.lemmas.Bool.{false≢true}
 use Rattle.std.proofs.lemmas.Iterator.Adapters.{YieldsList-from_vec, fact_from_collect}
-use Rattle.dh_month_audit.proofs.OpenSame.{subset_among, subset_from_among}
-use Rattle.dh_month_audit.proofs.open_same.have_the_same.Goals as goal
-use Rattle.dh_month_audit.proofs.open_same.have_the_same.Goals.{then-is_subset, else-is_subset}
+use Rattle.dh_month_audit.proofs.SameLists.{subset_among, subset_from_among}
+use Rattle.dh_month_audit.proofs.same.have_the_same.Goals as goal
+use Rattle.dh_month_audit.proofs.same.have_the_same.Goals.{then-is_subset, else-is_subset}
 
 pub returns : goal.returns
 returns g c = λ exact.
