@@ -17,6 +17,7 @@ use Rattle.dh_types.specs.declared.run.Run.{Run}
 use Rattle.dh_types.specs.declared.reply.Refusal.{Refusal}
 use Rattle.dh_types.specs.declared.reply.Refusal.TheVariants as refusal
 use Rattle.dh_types.specs.Records.{is_same_optional, is_same_receipt_kind}
+use Rattle.dh_model.specs.declared.limits.TheConstants.{MANAGED_AT_MOST}
 use Rattle.dh_model.specs.Books.{Books}
 use Rattle.dh_model.specs.Leases.{overlap}
 
@@ -61,9 +62,9 @@ abbrev pub managed_besides : Books → List ℕ → List ℕ → ℕ
 managed_besides books member property =
     count_by (λ other. is_same_optional is_same_text other.staff (Some member) && not (is_same_text other.number property)) (values books.properties)
 
--- a member of staff manages at most 100 properties at any one time
+-- the member of staff has room for this property more
 abbrev pub has_room : Books → List ℕ → List ℕ → Check
-has_room books member property = unless (nat_lt (managed_besides books member property) 100) refusal.TooMany
+has_room books member property = unless (nat_lt (managed_besides books member property) MANAGED_AT_MOST) refusal.TooMany
 
 -- a check of a manager, where there is one
 abbrev pub where_given : Option (List ℕ) → (List ℕ → Check) → Check

@@ -14,6 +14,7 @@ use Rattle.dh_types.specs.declared.lease.Charge.{Charge}
 use Rattle.dh_types.specs.declared.run.Run.{Run}
 use Rattle.dh_types.specs.declared.run.Part.{Part}
 use Rattle.dh_types.specs.Records.{is_same_optional}
+use Rattle.dh_model.specs.declared.limits.TheConstants.{MANAGED_AT_MOST}
 use Rattle.dh_model.specs.Books.{Books}
 use Rattle.dh_model.specs.Leases.{dues, overlap}
 use Rattle.dh_model.specs.Runs.{batches, dues_of_branch, part_of, posted_charges, posted_parts, total_of}
@@ -107,9 +108,9 @@ module _ (books : Books) where
   abbrev pub managed_by : List ℕ → ℕ
   managed_by member = count_by (λ property. is_same_optional is_same_text property.staff (Some member)) (values books.properties)
 
-  -- 3: no member of staff manages more than 100 properties
+  -- 3: no member of staff manages more properties than one may
   abbrev pub ManagesAtMostHundred : Type 0
-  ManagesAtMostHundred = Each books.staff (λ member. managed_by member.number ≤ 100)
+  ManagesAtMostHundred = Each books.staff (λ member. managed_by member.number ≤ MANAGED_AT_MOST)
 
   -- 4: no two leases of one property cover a common day
   abbrev pub LeasesNeverOverlap : Type 0

@@ -10,12 +10,13 @@ use Rattle.dh_types.specs.declared.lease.Charge.{Charge}
 use Rattle.dh_types.specs.declared.run.Run.{Run}
 use Rattle.dh_types.specs.declared.run.Part.{Part}
 use Rattle.dh_types.specs.declared.run.RunSum.{RunSum}
+use Rattle.dh_model.specs.declared.limits.TheConstants.{BATCH_SIZE}
 use Rattle.dh_model.specs.Books.{Books, text_cmp, with_rows}
 use Rattle.dh_model.specs.Leases.{dues, dues_among}
 
 -- how many charges one transaction has at most
 abbrev pub batch_size : ℕ
-batch_size = 50
+batch_size = BATCH_SIZE
 
 abbrev pub is_property_of : List ℕ → Option Property → Bool
 is_property_of branch None = false

@@ -4,9 +4,11 @@
 
 pub mod batch_laws;
 pub mod laws;
+mod limits;
 pub mod machine_laws;
 mod open_run;
 mod rows;
 
+pub use limits::{BATCH_SIZE, MANAGED_AT_MOST};
 pub use open_run::OpenRun;
 pub use rows::{Change, Verdict};
