@@ -8,6 +8,3 @@ mod opening;
 pub use agency::Agency;
 pub use dh_events::laws;
 pub use opening::{NotOpened, create};
-
-#[cfg(test)]
-mod tests;
