@@ -8,6 +8,3 @@ mod opening;
 pub use agency::Agency;
 pub use dh_laws::lives as laws;
 pub use opening::{NotOpened, create};
-
-#[cfg(test)]
-mod tests;

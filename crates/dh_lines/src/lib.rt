@@ -16,6 +16,3 @@ pub use reading::{read_fields, read_line};
 pub use replies::{put_answer_line, put_fault_line, put_refused_line, put_reply_line};
 pub use request::Request;
 pub use running::batch;
-
-#[cfg(test)]
-mod tests;

@@ -34,6 +34,3 @@ pub fn write<W: Write>(answer: &Answer, writer: &mut W) -> Result<(), Output>
         _ => Ok(()),
     }
 }
-
-#[cfg(test)]
-mod tests;

@@ -8,6 +8,3 @@ mod record;
 
 pub use meta::{Meta, VERSION};
 pub use record::Record;
-
-#[cfg(test)]
-mod tests;

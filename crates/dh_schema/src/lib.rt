@@ -12,6 +12,3 @@ pub use branch::insert_branch;
 pub use fault::{LoadFault, fault_of};
 pub use making::install;
 pub use reading::{load, version};
-
-#[cfg(test)]
-mod tests;

@@ -6,6 +6,3 @@ mod asking;
 
 pub use applying::apply;
 pub use asking::{ask, look_up};
-
-#[cfg(test)]
-mod tests;

@@ -1,0 +1,199 @@
+//! Agencies on disks in memory: what stands there after a stop at any call, and how damaged tables are read.
+
+use crate::agencies::told;
+use crate::report::Report;
+use crate::rows::branches_in;
+use crate::untrusted::Untrusted;
+use crate::words::january;
+use dh_agency::{Agency, NotOpened, create};
+use dh_schema::{LoadFault, load, version};
+use sqlite::{Alter, Connection, FileStore, Files, Options};
+use sqlite_disk::{Crash, Fuse, Memory};
+use std::alloc::{AllocError, Global};
+use std::io;
+
+type TrialDisk = Untrusted<Fuse<Memory>>;
+
+// What an agency was told before it stopped.
+#[derive(Clone, Copy)]
+enum Told {
+    // No agency was made.
+    NotMade,
+    // So many commands were acknowledged, and after a fault nothing was.
+    Acknowledged(u64),
+    // Another reply came than `ok`, or after a fault another than 23.
+    Wrong,
+}
+
+// How many of the lines are acknowledged, where each of them is, up to a fault.
+fn acknowledged<S: Alter>(
+    alloc: Global,
+    agency: &mut Agency<S>,
+    lines: &str,
+) -> Result<Told, AllocError> {
+    let mut count = 0u64;
+    let mut is_stopped = false;
+    for line in lines.lines() {
+        let reply = told(alloc, agency, line)?;
+        match reply.as_str() {
+            "ok" if !is_stopped => count = count.saturating_add(1),
+            "fault 22" if !is_stopped => is_stopped = true,
+            "fault 23" if is_stopped => {}
+            _ => return Ok(Told::Wrong),
+        }
+    }
+    let shown = told(alloc, agency, "show")?;
+    if (shown.as_str() == "fault 23") == is_stopped {
+        return Ok(Told::Acknowledged(count));
+    }
+    Ok(Told::Wrong)
+}
+
+fn told_on_disks(
+    alloc: Global,
+    conn: Connection<FileStore<TrialDisk>>,
+    lines: &str,
+) -> (Told, Files<TrialDisk>) {
+    match create(alloc, conn, january()) {
+        Ok(mut agency) => {
+            let told = acknowledged(alloc, &mut agency, lines).unwrap_or(Told::Wrong);
+            (told, agency.into_store().into_store().close())
+        }
+        Err(NotOpened { conn, cause: _ }) => (Told::NotMade, conn.into_store().close()),
+    }
+}
+
+// Tells the lines to a new agency on disks of which one stops after so many calls.
+fn stopped(
+    alloc: Global,
+    log_calls: u64,
+    file_calls: u64,
+    lines: &str,
+) -> (Told, Files<TrialDisk>) {
+    let files = Files {
+        log: Untrusted {
+            inner: Fuse::new(Memory::new(alloc), log_calls),
+            missed: 0,
+        },
+        db: Untrusted {
+            inner: Fuse::new(Memory::new(alloc), file_calls),
+            missed: 0,
+        },
+    };
+    match Connection::open_files(alloc, files, Options::new(7)) {
+        Ok(conn) => told_on_disks(alloc, conn, lines),
+        Err((_, left)) => (Told::NotMade, left.into_files()),
+    }
+}
+
+fn load_text(
+    alloc: Global,
+    conn: &mut Connection<FileStore<TrialDisk>>,
+) -> Result<String, AllocError> {
+    match load(alloc, conn) {
+        Ok(books) => format!(in alloc; "{} branches", books.branches().count()),
+        Err(LoadFault::Damaged) => "damaged".to_string(alloc),
+        Err(LoadFault::Fault(fault)) => format!(in alloc; "{fault}"),
+    }
+}
+
+fn version_text(
+    alloc: Global,
+    conn: &mut Connection<FileStore<TrialDisk>>,
+) -> Result<String, AllocError> {
+    match version(conn) {
+        Ok(number) => format!(in alloc; "version {number}"),
+        Err(LoadFault::Damaged) => "damaged".to_string(alloc),
+        Err(LoadFault::Fault(fault)) => format!(in alloc; "{fault}"),
+    }
+}
+
+// The statements run on the tables, and how these then are read; with no statement, the rows of the branches.
+fn read_after(
+    alloc: Global,
+    conn: &mut Connection<FileStore<TrialDisk>>,
+    statements: &str,
+) -> Result<String, AllocError> {
+    if statements.is_empty() {
+        return branches_in(alloc, conn);
+    }
+    if conn.execute_batch(statements).is_err() {
+        return "not done".to_string(alloc);
+    }
+    let number = version_text(alloc, conn)?;
+    let books = load_text(alloc, conn)?;
+    format!(in alloc; "{number}, {books}")
+}
+
+// What is in the file after a power cut, opened anew, and after these statements.
+fn found(
+    alloc: Global,
+    mut left: Files<TrialDisk>,
+    statements: &str,
+) -> Result<String, AllocError> {
+    left.log.crash();
+    left.db.crash();
+    match Connection::open_files(alloc, left, Options::new(7)) {
+        Ok(mut conn) => read_after(alloc, &mut conn, statements),
+        Err((_, left)) => {
+            drop(left.into_files());
+            "not opened".to_string(alloc)
+        }
+    }
+}
+
+// Whether the rows found are those of what was acknowledged, or these and that of the command which the stop cut; `all` are
+// the rows of all commands.
+fn is_kept(told: Told, found: &str, all: &str) -> bool {
+    let rows = found.split(';').count() as u64;
+    match told {
+        Told::NotMade => found == "no rows" || found.is_empty(),
+        Told::Acknowledged(count) => {
+            let count = count.saturating_add(1);
+            all.starts_with(found) && (rows == count || rows == count.saturating_add(1))
+        }
+        Told::Wrong => false,
+    }
+}
+
+fn play_stop(
+    rt: &HostRuntime,
+    report: &mut Report,
+    (log_calls, file_calls): (u64, u64),
+    lines: &str,
+    all: &str,
+) -> io::Result<()> {
+    let (told, left) = stopped(rt.alloc(), log_calls, file_calls, lines);
+    let found = found(rt.alloc(), left, "")?;
+    let case = format!(in rt.alloc();
+        "stops after {log_calls} calls of the log, {file_calls} of the file"
+    )?;
+    let got = if is_kept(told, found.as_str(), all) {
+        "kept"
+    } else {
+        found.as_str()
+    };
+    report.compare(rt, case.as_str(), got, "kept")
+}
+
+// More calls than the lines take of either disk.
+const CALLS: u64 = 60;
+
+/// The lines told to an agency on disks of which one stops at each of its calls in turn, and to one whose disks do not stop:
+/// what a power cut then leaves.
+pub fn play(rt: &HostRuntime, report: &mut Report, lines: &str) -> io::Result<()> {
+    let (lines, all) = lines.split_once("\nrows -> ").unwrap_or((lines, ""));
+    for calls in 0..CALLS {
+        play_stop(rt, report, (calls, u64::MAX), lines, all)?;
+        play_stop(rt, report, (u64::MAX, calls), lines, all)?;
+    }
+    let (_, left) = stopped(rt.alloc(), CALLS, CALLS, lines);
+    let found = found(rt.alloc(), left, "")?;
+    report.compare(rt, "disks that do not stop", found.as_str(), all)
+}
+
+/// How tables of one branch are read after these statements.
+pub fn damaged(alloc: Global, statements: &str) -> io::Result<String> {
+    let (_, left) = stopped(alloc, u64::MAX, u64::MAX, "branch,B1,a,b,c");
+    Ok(found(alloc, left, statements)?)
+}

@@ -1,0 +1,85 @@
+//! Plays the cases of standard input over the crates of the store, from rows up to batches of lines, and prints each that is
+//! answered otherwise, and then `N cases, M differ`. A block of cases has its kind in the first line: `play` has the kinds.
+#![tactic(auto)]
+
+mod agencies;
+mod batches;
+mod disks;
+mod escapes;
+mod report;
+mod requests;
+mod rows;
+mod tables;
+mod untrusted;
+mod words;
+
+use report::Report;
+use sqlite::{Alter, Connection};
+use std::alloc::{AllocError, Global};
+use std::io;
+
+fn answer_over<S: Alter>(
+    alloc: Global,
+    conn: &mut Connection<S>,
+    kind: &str,
+    input: &str,
+) -> Result<String, AllocError> {
+    match kind {
+        "a row as a branch" => rows::branch_in(alloc, conn, input),
+        "a branch as a row" => rows::branch_back(alloc, conn, input),
+        "a row as months" => rows::months_in(alloc, conn, input),
+        "months as a row" => rows::months_back(alloc, conn),
+        "tables made" => tables::made(alloc, conn, input),
+        "two branches put" => tables::both_put(alloc, conn, input),
+        _ => "no kind".to_string(alloc),
+    }
+}
+
+fn answer_in_memory(alloc: Global, kind: &str, input: &str) -> io::Result<String> {
+    let mut conn = Connection::open_in_memory(alloc)?;
+    let text = answer_over(alloc, &mut conn, kind, input);
+    drop(conn);
+    Ok(text?)
+}
+
+// What the input of a case of this kind is answered.
+fn answer(alloc: Global, kind: &str, input: &str) -> io::Result<String> {
+    match kind {
+        "tables damaged" => disks::damaged(alloc, input),
+        "a line" => requests::read(alloc, input),
+        "fields" => requests::read_split(alloc, input),
+        "lines written" => requests::written(alloc, input),
+        "a report" => requests::reported(alloc, input),
+        "a batch" => batches::answered(alloc, input),
+        _ => answer_in_memory(alloc, kind, input),
+    }
+}
+
+fn play_lines(rt: &HostRuntime, report: &mut Report, kind: &str, lines: &str) -> io::Result<()> {
+    for line in lines.lines() {
+        let (input, want) = line.split_once(" -> ").unwrap_or((line, ""));
+        let got = answer(rt.alloc(), kind, input)?;
+        report.compare(rt, input, got.as_str(), want)?;
+    }
+    Ok(())
+}
+
+fn play(rt: &HostRuntime, report: &mut Report, kind: &str, lines: &str) -> io::Result<()> {
+    match kind {
+        "an agency in memory" => agencies::play(rt, report, lines),
+        "an agency on disks that stop" => disks::play(rt, report, lines),
+        "a reader that fails" => batches::play_reader(rt, report),
+        "a writer that fails" => batches::play_writer(rt, report),
+        _ => play_lines(rt, report, kind, lines),
+    }
+}
+
+fn main(rt: HostRuntime) -> io::Result<()> {
+    let text = io::read_to_string(rt.alloc(), rt.reader())?;
+    let mut report = Report::new();
+    for block in text.as_str().split("\n\n") {
+        let (kind, lines) = block.split_once('\n').unwrap_or((block, ""));
+        play(&rt, &mut report, kind, lines)?;
+    }
+    report.end(&rt)
+}
