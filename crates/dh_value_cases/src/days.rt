@@ -1,8 +1,8 @@
 //! Days and months: what a text is read as, printed again, and what lies some months later.
 
-use crate::values::{shown, shown_if_any};
+use crate::values::{Said, show, show_if_any};
 use dh_days::{Day, EntryDay, EntryMonth, Month};
-use std::alloc::{AllocError, Global};
+use std::fmt::Write;
 
 // The day of the text, so many months later.
 fn later(text: &str) -> Option<Day> {
@@ -16,15 +16,13 @@ fn day_in_month(text: &str) -> Option<Day> {
     Day::try_of(Month::read(month).ok()?, number.parse().ok()?)
 }
 
-// The month of a day, and its number in it.
-fn parts(alloc: Global, text: &str) -> Result<String, AllocError> {
+// Writes the month of a day, and its number in it.
+fn show_parts(out: &mut String, text: &str) -> Said {
     match Day::read(text) {
-        Ok(day) => {
-            let (month, number) = (day.month(), day.number_in_month());
-            format!(in alloc; "{month} {number}")
-        }
-        Err(_) => "bad".to_string(alloc),
+        Ok(day) => write!(out, "{} {}", day.month(), day.number_in_month())?,
+        Err(_) => out.push_str("bad")?,
     }
+    Ok(true)
 }
 
 // The month after that of this text or number.
@@ -40,23 +38,23 @@ fn month_number(text: &str) -> Option<u32> {
     Some(Month::read(text).ok()?.number())
 }
 
-/// What the text of the kind is answered, if it is a kind of day or month.
-pub fn answer(alloc: Global, kind: &str, text: &str) -> Result<Option<String>, AllocError> {
+/// Answers a text, where the kind is one of days or months.
+pub fn answer(out: &mut String, kind: &str, text: &str) -> Said {
     let number = text.parse().unwrap_or(i64::MIN);
-    Ok(Some(match kind {
-        "day" => shown(alloc, Day::read(text))?,
-        "entry_day" => shown(alloc, EntryDay::read(text))?,
-        "month" => shown(alloc, Month::read(text))?,
-        "entry_month" => shown(alloc, EntryMonth::read(text))?,
-        "day_parts" => parts(alloc, text)?,
-        "day_in_month" => shown_if_any(alloc, day_in_month(text))?,
-        "months_later" => shown_if_any(alloc, later(text))?,
-        "entry_day_later" => shown_if_any(alloc, later(text).and_then(EntryDay::of))?,
-        "month_of" => shown_if_any(alloc, Month::try_of_number(number))?,
-        "entry_month_of" => shown_if_any(alloc, EntryMonth::try_of_number(number))?,
-        "entry_month_after" => shown_if_any(alloc, next_month(text).and_then(EntryMonth::of))?,
-        "month_after" => shown_if_any(alloc, next_month(text))?,
-        "month_number" => shown_if_any(alloc, month_number(text))?,
-        _ => return Ok(None),
-    }))
+    match kind {
+        "day" => show(out, Day::read(text)),
+        "entry_day" => show(out, EntryDay::read(text)),
+        "month" => show(out, Month::read(text)),
+        "entry_month" => show(out, EntryMonth::read(text)),
+        "day_parts" => show_parts(out, text),
+        "day_in_month" => show_if_any(out, day_in_month(text)),
+        "months_later" => show_if_any(out, later(text)),
+        "entry_day_later" => show_if_any(out, later(text).and_then(EntryDay::of)),
+        "month_of" => show_if_any(out, Month::try_of_number(number)),
+        "entry_month_of" => show_if_any(out, EntryMonth::try_of_number(number)),
+        "month_after" => show_if_any(out, next_month(text)),
+        "entry_month_after" => show_if_any(out, next_month(text).and_then(EntryMonth::of)),
+        "month_number" => show_if_any(out, month_number(text)),
+        _ => Ok(false),
+    }
 }

@@ -1,8 +1,9 @@
 //! Tries the values, days and replies on the cases of standard input, and prints those that are answered otherwise.
 //! Read `answer` first, and `stdin` for the cases.
 //!
-//! A line is `KIND TEXT ↦ WANT`. A blank line and one that starts with `#` are passed over. A control picture in a
-//! text stands for the control character, as ␊ for a line feed. `stdout` holds the one line that is wanted.
+//! A line is `KIND TEXT ↦ WANT`. A blank line and one that starts with `#` are passed over. In a text `60×é` stands for
+//! sixty of the character, and a control picture for the control character, as ␊ for a line feed. `stdout` holds the one
+//! line that is wanted.
 #![tactic(auto)]
 
 mod days;
@@ -14,26 +15,19 @@ mod writers;
 use std::alloc::{AllocError, Global};
 use std::io;
 use std::io::BufRead;
+use values::Said;
 
-// What the text of the kind is answered.
-fn answer(alloc: Global, kind: &str, text: &str) -> Result<String, AllocError> {
-    if let Some(said) = values::answer(alloc, kind, text)? {
-        return Ok(said);
+// Answers the text of the kind.
+fn answer(out: &mut String, alloc: Global, kind: &str, text: &str) -> Said {
+    let said = values::answer(out, alloc, kind, text)?
+        || days::answer(out, kind, text)?
+        || records::answer(out, alloc, kind, text)?
+        || replies::answer(out, alloc, kind, text)?
+        || writers::answer(out, alloc, kind, text)?;
+    if !said {
+        out.push_str("no such case")?;
     }
-    if let Some(said) = days::answer(alloc, kind, text)? {
-        return Ok(said);
-    }
-    if let Some(said) = records::answer(alloc, kind, text)? {
-        return Ok(said);
-    }
-    match kind {
-        "refusal" => replies::refusal(alloc, text),
-        "reply" => replies::reply(alloc, text),
-        "fault" => replies::fault(alloc, text),
-        "failing_writer" => writers::writer(alloc, text, true),
-        "full_writer" => writers::writer(alloc, text, false),
-        _ => "no such kind".to_string(alloc),
-    }
+    Ok(said)
 }
 
 // What a control picture stands for, and any other character as it is.
@@ -49,19 +43,26 @@ fn unpictured(c: char) -> char {
     }
 }
 
-// The answer where it differs from what is wanted.
-fn difference(alloc: Global, line: &str) -> Result<Option<String>, AllocError> {
-    let Some((case, want)) = line.split_once(" ↦ ") else {
-        return Ok(Some("no case".to_string(alloc)?));
+// The text that a line spells: `60×é` is sixty of them.
+fn spelled(alloc: Global, text: &str) -> Result<String, AllocError> {
+    let Some((count, repeated)) = text.split_once('×') else {
+        return text.chars().map(unpictured).collect(alloc);
     };
+    let mut all = String::new(alloc);
+    for _ in 0..count.parse::<u16>().unwrap_or(0) {
+        all.push_str(repeated)?;
+    }
+    Ok(all)
+}
+
+// Writes what the case is answered. Whether it is what the line wants.
+fn is_as_wanted(out: &mut String, alloc: Global, line: &str) -> Said {
+    let (case, want) = line.split_once(" ↦ ").unwrap_or((line, ""));
     let (kind, text) = case.split_once(' ').unwrap_or((case, ""));
-    let text: String = text.chars().map(unpictured).collect(alloc)?;
-    let said = answer(alloc, kind, text.as_str())?;
-    Ok(if said.as_str() == want {
-        None
-    } else {
-        Some(said)
-    })
+    let text = spelled(alloc, text)?;
+    let want = spelled(alloc, want)?;
+    answer(out, alloc, kind, text.as_str())?;
+    Ok(out.as_str() == want.as_str())
 }
 
 fn main(rt: HostRuntime) -> io::Result<()> {
@@ -72,7 +73,8 @@ fn main(rt: HostRuntime) -> io::Result<()> {
             continue;
         }
         cases = cases.saturating_add(1);
-        if let Some(said) = difference(rt.alloc(), line.as_str())? {
+        let mut said = String::new(rt.alloc());
+        if !is_as_wanted(&mut said, rt.alloc(), line.as_str())? {
             differ = differ.saturating_add(1);
             println!(rt; "{line}, but got {said}")?;
         }

@@ -1,10 +1,12 @@
 //! Records with texts: the fields of a copy.
 
+use crate::values::Said;
 use dh_types::{
     Branch, Client, Comment, EntryDay, Id, Inspection, Owner, Position, Property, PropertyType,
     Rent, Rooms, Staff, Text60, Viewing,
 };
-use std::alloc::{AllocError, Global};
+use std::alloc::Global;
+use std::fmt::Write;
 
 fn id(text: &str) -> Option<Id> {
     Id::read(text).ok()
@@ -14,182 +16,184 @@ fn name(alloc: Global, text: &str) -> Option<Text60> {
     Text60::read(alloc, text).ok()?.ok()
 }
 
-fn branch(alloc: Global, fields: &[&str]) -> Option<Branch> {
+fn comment(alloc: Global, text: &str) -> Option<Comment> {
+    Comment::read(alloc, text).ok()?.ok()
+}
+
+fn branch(out: &mut String, alloc: Global, fields: &[&str]) -> Option<()> {
     let [number, street, city, postcode] = fields else {
         return None;
     };
-    Some(Branch {
+    let branch = Branch {
         number: id(number)?,
         street: name(alloc, street)?,
         city: name(alloc, city)?,
         postcode: name(alloc, postcode)?,
-    })
+    };
+    let copy = branch.try_clone(alloc).ok()?;
+    let [number, street, city, postcode] = copy.fields();
+    write!(out, "{number}; {street}; {city}; {postcode}").ok()
 }
 
-fn staff(alloc: Global, fields: &[&str]) -> Option<Staff> {
+fn staff(out: &mut String, alloc: Global, fields: &[&str]) -> Option<()> {
     let [number, full_name, position, branch] = fields else {
         return None;
     };
-    Some(Staff {
+    let staff = Staff {
         number: id(number)?,
         position: Position::read(position).ok()?,
         branch: id(branch)?,
         name: name(alloc, full_name)?,
-    })
+    };
+    let copy = staff.try_clone(alloc).ok()?;
+    write!(
+        out,
+        "{}; {}; {}; {}",
+        copy.number, copy.name, copy.position, copy.branch
+    )
+    .ok()
 }
 
-fn owner(alloc: Global, fields: &[&str]) -> Option<Owner> {
+fn owner(out: &mut String, alloc: Global, fields: &[&str]) -> Option<()> {
     let [number, full_name, address, telephone] = fields else {
         return None;
     };
-    Some(Owner {
+    let owner = Owner {
         number: id(number)?,
         name: name(alloc, full_name)?,
         address: name(alloc, address)?,
         telephone: name(alloc, telephone)?,
-    })
+    };
+    let copy = owner.try_clone(alloc).ok()?;
+    write!(
+        out,
+        "{}; {}; {}; {}",
+        copy.number, copy.name, copy.address, copy.telephone
+    )
+    .ok()
 }
 
-fn property(alloc: Global, fields: &[&str]) -> Option<Property> {
+// The fields that are no names come first, and the last may be absent.
+fn property(out: &mut String, alloc: Global, fields: &[&str]) -> Option<()> {
     let [
         number,
-        street,
-        city,
-        postcode,
         kind,
         rooms,
         rent,
         owner,
-        staff,
         branch,
+        street,
+        city,
+        postcode,
+        staff,
     ] = fields
     else {
         return None;
     };
-    Some(Property {
+    let property = Property {
         number: id(number)?,
         property_type: PropertyType::read(kind).ok()?,
         rooms: Rooms::read(rooms).ok()?,
         rent: Rent::read(rent).ok()?,
         owner: id(owner)?,
-        staff: id(staff),
         branch: id(branch)?,
+        staff: id(staff),
         street: name(alloc, street)?,
         city: name(alloc, city)?,
         postcode: name(alloc, postcode)?,
-    })
+    };
+    let copy = property.try_clone(alloc).ok()?;
+    write!(
+        out,
+        "{}; {}; {}; {}; ",
+        copy.number, copy.property_type, copy.rooms, copy.rent
+    )
+    .ok()?;
+    write!(
+        out,
+        "{}; {}; {}; {}; {}; ",
+        copy.owner, copy.branch, copy.street, copy.city, copy.postcode
+    )
+    .ok()?;
+    match copy.staff {
+        Some(staff) => write!(out, "{staff}").ok(),
+        None => Some(()),
+    }
 }
 
-fn client(alloc: Global, fields: &[&str]) -> Option<Client> {
+fn client(out: &mut String, alloc: Global, fields: &[&str]) -> Option<()> {
     let [number, full_name, telephone, kind, rent] = fields else {
         return None;
     };
-    Some(Client {
+    let client = Client {
         number: id(number)?,
         preferred_type: PropertyType::read(kind).ok()?,
         greatest_rent: Rent::read(rent).ok()?,
         name: name(alloc, full_name)?,
         telephone: name(alloc, telephone)?,
-    })
+    };
+    let copy = client.try_clone(alloc).ok()?;
+    write!(
+        out,
+        "{}; {}; {}; {}; {}",
+        copy.number, copy.name, copy.telephone, copy.preferred_type, copy.greatest_rent
+    )
+    .ok()
 }
 
-fn comment(alloc: Global, text: &str) -> Option<Comment> {
-    Comment::read(alloc, text).ok()?.ok()
-}
-
-// A viewing has no comment where the last field is none.
-fn viewing(alloc: Global, fields: &[&str]) -> Option<Viewing> {
+// The last field may be absent.
+fn viewing(out: &mut String, alloc: Global, fields: &[&str]) -> Option<()> {
     let [client, property, day, said] = fields else {
         return None;
     };
-    Some(Viewing {
+    let viewing = Viewing {
         client: id(client)?,
         property: id(property)?,
         day: EntryDay::read(day).ok()?,
         comment: comment(alloc, said),
-    })
+    };
+    let copy = viewing.try_clone(alloc).ok()?;
+    write!(out, "{}; {}; {}; ", copy.client, copy.property, copy.day).ok()?;
+    match &copy.comment {
+        Some(comment) => write!(out, "{comment}").ok(),
+        None => Some(()),
+    }
 }
 
-fn inspection(alloc: Global, fields: &[&str]) -> Option<Inspection> {
+fn inspection(out: &mut String, alloc: Global, fields: &[&str]) -> Option<()> {
     let [property, day, staff, said] = fields else {
         return None;
     };
-    Some(Inspection {
+    let inspection = Inspection {
         property: id(property)?,
         day: EntryDay::read(day).ok()?,
         staff: id(staff)?,
         comment: comment(alloc, said)?,
-    })
-}
-
-fn branch_copy(alloc: Global, fields: &[&str]) -> Option<String> {
-    let copy = branch(alloc, fields)?.try_clone(alloc).ok()?;
-    let [number, street, city, postcode] = copy.fields();
-    format!(in alloc; "{number}; {street}; {city}; {postcode}").ok()
-}
-
-fn staff_copy(alloc: Global, fields: &[&str]) -> Option<String> {
-    let s = staff(alloc, fields)?.try_clone(alloc).ok()?;
-    format!(in alloc; "{}; {}; {}; {}", s.number, s.name, s.position, s.branch).ok()
-}
-
-fn owner_copy(alloc: Global, fields: &[&str]) -> Option<String> {
-    let o = owner(alloc, fields)?.try_clone(alloc).ok()?;
-    format!(in alloc; "{}; {}; {}; {}", o.number, o.name, o.address, o.telephone).ok()
-}
-
-fn property_copy(alloc: Global, fields: &[&str]) -> Option<String> {
-    let p = property(alloc, fields)?.try_clone(alloc).ok()?;
-    let place = format!(in alloc; "{}; {}; {}; {}", p.number, p.street, p.city, p.postcode).ok()?;
-    let staff = match &p.staff {
-        Some(staff) => staff.as_str(),
-        None => "",
     };
-    format!(in alloc;
-        "{place}; {}; {}; {}; {}; {staff}; {}",
-        p.property_type, p.rooms, p.rent, p.owner, p.branch
+    let copy = inspection.try_clone(alloc).ok()?;
+    write!(
+        out,
+        "{}; {}; {}; {}",
+        copy.property, copy.day, copy.staff, copy.comment
     )
     .ok()
 }
 
-fn client_copy(alloc: Global, fields: &[&str]) -> Option<String> {
-    let c = client(alloc, fields)?.try_clone(alloc).ok()?;
-    format!(in alloc;
-        "{}; {}; {}; {}; {}",
-        c.number, c.name, c.telephone, c.preferred_type, c.greatest_rent
-    )
-    .ok()
-}
-
-fn viewing_copy(alloc: Global, fields: &[&str]) -> Option<String> {
-    let v = viewing(alloc, fields)?.try_clone(alloc).ok()?;
-    let said = match &v.comment {
-        Some(comment) => comment.as_str(),
-        None => "",
-    };
-    format!(in alloc; "{}; {}; {}; {said}", v.client, v.property, v.day).ok()
-}
-
-fn inspection_copy(alloc: Global, fields: &[&str]) -> Option<String> {
-    let i = inspection(alloc, fields)?.try_clone(alloc).ok()?;
-    format!(in alloc; "{}; {}; {}; {}", i.property, i.day, i.staff, i.comment).ok()
-}
-
-/// The fields of a copy of the record that the text spells, if it is a kind of record; `bad` where the text spells none.
-pub fn answer(alloc: Global, kind: &str, text: &str) -> Result<Option<String>, AllocError> {
+/// Answers a text, where the kind is one of records: with the fields of a copy, or `bad`.
+pub fn answer(out: &mut String, alloc: Global, kind: &str, text: &str) -> Said {
     let fields: Vec<&str> = text.split("; ").collect(alloc)?;
-    let copy = match kind {
-        "branch" => branch_copy(alloc, &fields),
-        "staff" => staff_copy(alloc, &fields),
-        "owner" => owner_copy(alloc, &fields),
-        "property" => property_copy(alloc, &fields),
-        "client" => client_copy(alloc, &fields),
-        "viewing" => viewing_copy(alloc, &fields),
-        "inspection" => inspection_copy(alloc, &fields),
-        _ => return Ok(None),
+    let copied = match kind {
+        "branch" => branch(out, alloc, &fields),
+        "staff" => staff(out, alloc, &fields),
+        "owner" => owner(out, alloc, &fields),
+        "property" => property(out, alloc, &fields),
+        "client" => client(out, alloc, &fields),
+        "viewing" => viewing(out, alloc, &fields),
+        "inspection" => inspection(out, alloc, &fields),
+        _ => return Ok(false),
     };
-    Ok(match copy {
-        Some(copy) => Some(copy),
-        None => Some("bad".to_string(alloc)?),
-    })
+    if copied.is_none() {
+        out.push_str("bad")?;
+    }
+    Ok(true)
 }

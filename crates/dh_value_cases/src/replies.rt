@@ -1,23 +1,19 @@
 //! Replies, refusals and faults: their texts, shown and put.
 
+use crate::values::Said;
 use dh_types::{
     EntryMonth, Fault, LeaseNo, Month, Output, Pence, Progress, ReceiptNo, Refusal, Reply, RunSum,
     put_fault, put_refusal, put_reply,
 };
-use std::alloc::{AllocError, Global};
+use std::alloc::Global;
+use std::fmt::Write;
 
-// What is shown, where the same was put.
-fn agreed(
-    alloc: Global,
-    shown: String,
-    put: &[u8],
-    written: Result<(), Output>,
-) -> Result<String, AllocError> {
-    if written.is_ok() && shown.as_str().as_bytes() == put {
-        Ok(shown)
-    } else {
-        "not put as shown".to_string(alloc)
+// Tells where what was put is not what is shown.
+fn agree(out: &mut String, put: &[u8], written: Result<(), Output>) -> Said {
+    if written.is_err() || out.as_str().as_bytes() != put {
+        out.push_str(", but put otherwise")?;
     }
+    Ok(true)
 }
 
 // The refusal that the word names, with the value behind it.
@@ -45,20 +41,11 @@ fn named_refusal(word: &str, value: &str) -> Option<Refusal> {
     })
 }
 
-fn refusal_text(alloc: Global, refusal: Refusal) -> Result<String, AllocError> {
+fn show_refusal(out: &mut String, alloc: Global, refusal: Refusal) -> Said {
     let mut put = Vec::new(alloc);
     let written = put_refusal(&mut put, refusal);
-    let shown = format!(in alloc; "{refusal}")?;
-    agreed(alloc, shown, put.as_slice(), written)
-}
-
-/// The text of the refusal that the text names.
-pub fn refusal(alloc: Global, text: &str) -> Result<String, AllocError> {
-    let (word, value) = text.split_once(' ').unwrap_or((text, ""));
-    match named_refusal(word, value) {
-        Some(refusal) => refusal_text(alloc, refusal),
-        None => "bad".to_string(alloc),
-    }
+    write!(out, "{refusal}")?;
+    agree(out, put.as_slice(), written)
 }
 
 fn receipt_no(text: &str) -> Option<ReceiptNo> {
@@ -103,35 +90,50 @@ fn named_reply(word: &str, value: &str) -> Option<Reply> {
     })
 }
 
-// The text of the reply, with `!` before that of a refusal.
-fn reply_text(alloc: Global, reply: Reply) -> Result<String, AllocError> {
+// The text of a refusal has `!` behind it.
+fn show_reply(out: &mut String, alloc: Global, reply: Reply) -> Said {
     let mut put = Vec::new(alloc);
     let written = put_reply(&mut put, reply);
-    let shown = format!(in alloc; "{reply}")?;
-    let text = agreed(alloc, shown, put.as_slice(), written)?;
-    let mark = if reply.is_refusal() { "!" } else { "" };
-    format!(in alloc; "{mark}{text}")
+    write!(out, "{reply}")?;
+    agree(out, put.as_slice(), written)?;
+    if reply.is_refusal() {
+        out.push('!')?;
+    }
+    Ok(true)
 }
 
-/// The text of the reply that the text names.
-pub fn reply(alloc: Global, text: &str) -> Result<String, AllocError> {
-    let (word, value) = text.split_once(' ').unwrap_or((text, ""));
-    match named_reply(word, value) {
-        Some(reply) => reply_text(alloc, reply),
-        None => "bad".to_string(alloc),
+fn named_fault(word: &str) -> Option<Fault> {
+    match word {
+        "memory" => Some(Fault::Memory),
+        "store" => Some(Fault::Store),
+        "stopped" => Some(Fault::Stopped),
+        _ => None,
     }
 }
 
-/// The text of the fault that the text names.
-pub fn fault(alloc: Global, text: &str) -> Result<String, AllocError> {
-    let fault = match text {
-        "memory" => Fault::Memory,
-        "store" => Fault::Store,
-        "stopped" => Fault::Stopped,
-        _ => return "bad".to_string(alloc),
-    };
+fn show_fault(out: &mut String, alloc: Global, fault: Fault) -> Said {
     let mut put = Vec::new(alloc);
     let written = put_fault(&mut put, fault);
-    let shown = format!(in alloc; "{fault}")?;
-    agreed(alloc, shown, put.as_slice(), written)
+    write!(out, "{fault}")?;
+    agree(out, put.as_slice(), written)
+}
+
+/// Answers a text that names a reply, a refusal or a fault.
+pub fn answer(out: &mut String, alloc: Global, kind: &str, text: &str) -> Said {
+    let (word, value) = text.split_once(' ').unwrap_or((text, ""));
+    match kind {
+        "refusal" => match named_refusal(word, value) {
+            Some(refusal) => show_refusal(out, alloc, refusal),
+            None => Ok(false),
+        },
+        "reply" => match named_reply(word, value) {
+            Some(reply) => show_reply(out, alloc, reply),
+            None => Ok(false),
+        },
+        "fault" => match named_fault(word) {
+            Some(fault) => show_fault(out, alloc, fault),
+            None => Ok(false),
+        },
+        _ => Ok(false),
+    }
 }

@@ -1,5 +1,6 @@
 //! Writers that stop in the middle of a text: what they hold then.
 
+use crate::values::Said;
 use dh_types::{Month, Refusal, put_refusal};
 use std::alloc::{AllocError, Global};
 use std::io::Write;
@@ -34,28 +35,35 @@ impl Write for Stopping {
     }
 }
 
-// `4 1` is four writes of one byte at most.
-fn writer_of(alloc: Global, text: &str, fails: bool) -> Option<Stopping> {
-    let (writes, most) = text.split_once(' ')?;
-    Some(Stopping {
-        writes: writes.parse().ok()?,
-        most: most.parse().ok()?,
-        fails,
-        taken: Vec::new(alloc),
-    })
-}
-
-/// What a writer of so many writes, of so many bytes each, holds of `refused 10 2025-01`, and whether the call told of
-/// the rest.
-pub fn writer(alloc: Global, text: &str, fails: bool) -> Result<String, AllocError> {
-    let Some(mut out) = writer_of(alloc, text, fails) else {
-        return "bad".to_string(alloc);
-    };
+// Writes what is held of `refused 10 2025-01`, and whether the call told of the rest.
+fn show_held(out: &mut String, mut writer: Stopping) -> Said {
     let refusal = Refusal::RunOpen(Month::of_number(24300));
-    let end = match put_refusal(&mut out, refusal) {
+    let end = match put_refusal(&mut writer, refusal) {
         Ok(()) => "whole",
         Err(_) => "failed",
     };
-    let taken = str::from_utf8(&out.taken).unwrap_or("no text");
-    format!(in alloc; "[{taken}] {end}")
+    let held = str::from_utf8(&writer.taken).unwrap_or("no text");
+    write!(out, "[{held}] {end}")?;
+    Ok(true)
+}
+
+/// Answers a text such as `5 1`, five writes of a byte at most, where the kind is one of writers.
+pub fn answer(out: &mut String, alloc: Global, kind: &str, text: &str) -> Said {
+    let (writes, most) = text.split_once(' ').unwrap_or((text, ""));
+    let (writes, most) = (writes.parse().unwrap_or(0), most.parse().unwrap_or(0));
+    let fails = match kind {
+        "failing_writer" => true,
+        "full_writer" => false,
+        _ => return Ok(false),
+    };
+    let taken = Vec::new(alloc);
+    show_held(
+        out,
+        Stopping {
+            taken,
+            writes,
+            most,
+            fails,
+        },
+    )
 }
