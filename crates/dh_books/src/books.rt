@@ -10,7 +10,6 @@ mod runs;
 ghost use Rattle.std.specs.Prelude.{◌≡◌, None};
 ghost use Rattle.std.specs.FinMap as fin;
 ghost use Rattle.dh_model.specs.Books.{empty_books};
-ghost use Rattle.dh_model.specs.BatchLaws.{AreNumbered};
 
 use dh_model::OpenRun;
 use dh_types::{
@@ -44,16 +43,18 @@ pub struct Books {
 
 impl Model for Books {
     ghost use Rattle.std.specs.FinMap.{from_entries};
-    ghost use Rattle.dh_model.specs.Books.{StandUnderTheirNumbers, State};
+    ghost use Rattle.dh_model.specs.Books.{State};
     ghost use Rattle.dh_model.specs.Codes.{state_code};
 
     ghost Value = { State };
 
     ghost coded = { state_code };
 
-    ghost view = { λ b. record { books = record { branches = from_entries b.branches.entries; staff = from_entries b.staff.entries; owners = from_entries b.owners.entries; properties = from_entries b.properties.entries; clients = from_entries b.clients.entries; registrations = from_entries b.registrations.entries; viewings = from_entries b.viewings.entries; inspections = from_entries b.inspections.entries; leases = from_entries b.leases.entries; charges = from_entries b.charges.entries; receipts = from_entries b.receipts.entries; runs = from_entries b.runs.entries; parts = from_entries b.parts.entries; first = b.first; next = b.next }; open_run = b.open_run } };
+    ghost use Rattle.dh_books.specs.Seen.{AreKept, state_of};
 
-    ghost invariant = { λ b. StandUnderTheirNumbers (from_entries b.leases.entries) };
+    ghost view = { state_of };
+
+    ghost invariant = { λ b. AreKept (from_entries b.leases.entries) };
 }
 
 impl Books {
@@ -100,12 +101,5 @@ impl Books {
         ensures { result ≡ self.now.open_run }
     {
         self.open_run
-    }
-
-    /// Says what the books keep of themselves: a lease stands under its number.
-    pub fn leases_are_numbered(&self)
-        ensures { AreNumbered self.now.books }
-    {
-        let _leases = &self.leases;
     }
 }

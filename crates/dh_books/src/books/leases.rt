@@ -1,7 +1,8 @@
 //! Leases, their charges, and receipts.
 
-ghost use Rattle.std.specs.Prelude.{◌≡◌, OnOk, OnErr, option_copied};
+ghost use Rattle.std.specs.Prelude.{◌≡◌, ◌≤◌, length, OnOk, OnErr, option_copied};
 ghost use Rattle.std.specs.FinMap as fin;
+ghost use Rattle.dh_model.specs.BatchLaws.{AreNumbered};
 
 use super::Books;
 use dh_types::{Charge, ChargeIndex, Lease, LeaseNo, Receipt, ReceiptNo};
@@ -11,14 +12,19 @@ use std::collections::btree_map::Values;
 impl Books {
     /// The lease of this number.
     pub fn lease(&self, key: &LeaseNo) -> Option<&Lease>
-        ensures { option_copied result ≡ fin.get self.now.books.leases key.now }
+        ensures value { option_copied result ≡ fin.get self.now.books.leases key.now }
+        ensures numbered { AreNumbered self.now.books }
     {
         self.leases.get(key)
     }
 
     /// Puts the lease under its key, in the place of the one that has it. An error changes nothing.
     pub fn put_lease(&mut self, row: Lease) -> Result<(), AllocError>
-        ensures ok { OnOk result (self.new ≡ record self.old { books = record self.old.books { leases = fin.insert self.old.books.leases row.terms.number row } }) }
+        ensures ok {
+            OnOk result (self.new ≡ record self.old {
+                books = record self.old.books { leases = fin.insert self.old.books.leases row.terms.number row };
+            })
+        }
         ensures err { OnErr result (self.new ≡ self.old) }
     {
         let number = row.key();
@@ -26,9 +32,11 @@ impl Books {
         Ok(())
     }
 
-    /// All of them, rising by key.
+    /// All leases, rising by number. Each stands under its number, so there are no more than numbers.
     pub fn leases(&self) -> Values<'_, LeaseNo, Lease>
-        ensures { result ≡ fin.values self.now.books.leases }
+        ensures rows { result ≡ fin.values self.now.books.leases }
+        ensures numbered { AreNumbered self.now.books }
+        ensures few { length (fin.values self.now.books.leases) ≤ 99999999 }
     {
         self.leases.values()
     }
@@ -42,14 +50,18 @@ impl Books {
 
     /// Puts the charge under its key, in the place of the one that has it. An error changes nothing.
     pub fn put_charge(&mut self, row: Charge) -> Result<(), AllocError>
-        ensures ok { OnOk result (self.new ≡ record self.old { books = record self.old.books { charges = fin.insert self.old.books.charges (row.lease, row.index) row } }) }
+        ensures ok {
+            OnOk result (self.new ≡ record self.old {
+                books = record self.old.books { charges = fin.insert self.old.books.charges (row.lease, row.index) row };
+            })
+        }
         ensures err { OnErr result (self.new ≡ self.old) }
     {
         let _before = self.charges.insert((row.lease, row.index), row)?;
         Ok(())
     }
 
-    /// All of them, rising by key.
+    /// All charges, rising by lease and index.
     pub fn charges(&self) -> Values<'_, (LeaseNo, ChargeIndex), Charge>
         ensures { result ≡ fin.values self.now.books.charges }
     {
@@ -65,14 +77,18 @@ impl Books {
 
     /// Puts the receipt under its key, in the place of the one that has it. An error changes nothing.
     pub fn put_receipt(&mut self, row: Receipt) -> Result<(), AllocError>
-        ensures ok { OnOk result (self.new ≡ record self.old { books = record self.old.books { receipts = fin.insert self.old.books.receipts row.number row } }) }
+        ensures ok {
+            OnOk result (self.new ≡ record self.old {
+                books = record self.old.books { receipts = fin.insert self.old.books.receipts row.number row };
+            })
+        }
         ensures err { OnErr result (self.new ≡ self.old) }
     {
         let _before = self.receipts.insert(row.number, row)?;
         Ok(())
     }
 
-    /// All of them, rising by key.
+    /// All receipts, rising by number.
     pub fn receipts(&self) -> Values<'_, ReceiptNo, Receipt>
         ensures { result ≡ fin.values self.now.books.receipts }
     {

@@ -3,6 +3,7 @@ use Rattle.std.specs.FinMap as fin
 use Rattle.dh_model.specs.Books.{State}
 use Rattle.dh_model.proofs.KeyOrders.{nat_ties, nat_total, pair_ties, pair_total, text_ties, text_total}
 use Rattle.dh_model.proofs.MapLemmas.{one-given}
+use Rattle.dh_books.specs.Seen.{state_of}
 use Rattle.dh_books.proofs.books.Books.put_inspection.Goals as goal
 
 pub returns-clause-ok : goal.returns-clause-ok
@@ -10,5 +11,5 @@ returns-clause-ok c =
     let r = c.args.row in
     let b = c.self.inside in
     let made = one-given (pair_total text_total nat_total) (pair_ties text_ties nat_ties) b.inspections.entries c.insert.new.self.entries (r.property, r.day) r c.in_ok-_before.ensures.updates.0 in
-    ap (λ m. let s : State = record { books = record { branches = fin.from_entries b.branches.entries; staff = fin.from_entries b.staff.entries; owners = fin.from_entries b.owners.entries; properties = fin.from_entries b.properties.entries; clients = fin.from_entries b.clients.entries; registrations = fin.from_entries b.registrations.entries; viewings = fin.from_entries b.viewings.entries; inspections = m; leases = fin.from_entries b.leases.entries; charges = fin.from_entries b.charges.entries; receipts = fin.from_entries b.receipts.entries; runs = fin.from_entries b.runs.entries; parts = fin.from_entries b.parts.entries; first = b.first; next = b.next }; open_run = b.open_run } in s) made
+    ap (λ m. let s : State = record (state_of b) { books = record (state_of b).books { inspections = m } } in s) made
     ∙ ap (λ (s : State). let t : State = record s { books = record s.books { inspections = fin.insert s.books.inspections (r.property, r.day) r } } in t) c.self.view_is
