@@ -79,6 +79,14 @@ module _ (size : ℕ) (pos : 1 ≤ size) (before done : ℕ) where
       let over : done - before ≤ place / size = enough.1 h in
       le-ltb (before + place / size) done (omega (arith, over))
 
+-- what the branch has of the run after so many batches
+abbrev pub part_after : ℕ → Books → ℕ → ℕ → List ℕ → Part
+part_after size books month done branch = part_of month branch (posted_of_branch size books month done branch)
+
+-- its first batch is among them
+abbrev pub has_begun : ℕ → Books → ℕ → ℕ → List ℕ → Bool
+has_begun size books month done branch = nat_lt (batches_before size books month branch) done
+
 -- the batches that are left after those of these branches
 abbrev pub left_after : ℕ → Books → ℕ → ℕ → List (List ℕ) → ℕ
 left_after size books month done branches = done - sum_by (batches_of_branch size books month) branches
@@ -121,23 +129,23 @@ module _ (size : ℕ) (books : Books) (month done : ℕ) (pos : 1 ≤ size) (are
           let its = ap (λ cs. batches_for size (length cs)) dues in
           omega (arith, is, all_of, its)
 
-      pub parts_next : (parts : List Part) (part : Part) → parts ≡ map (λ b. part_of month b (posted_of_branch size books month done b)) (filter (λ b. nat_lt (batches_before size books month b) done) xs)
+      pub parts_next : (parts : List Part) (part : Part) → parts ≡ map (part_after size books month done) (filter (has_begun size books month done) xs)
           → 0 < left → part ≡ part_of month branch (take (left * size) charges)
-          → parts ++ part ∷ [] ≡ map (λ b. part_of month b (posted_of_branch size books month done b)) (filter (λ b. nat_lt (batches_before size books month b) done) (xs ++ branch ∷ []))
+          → parts ++ part ∷ [] ≡ map (part_after size books month done) (filter (has_begun size books month done) (xs ++ branch ∷ []))
       parts_next parts part had some its =
-          let row = λ (b : List ℕ). part_of month b (posted_of_branch size books month done b) in
-          let begun = λ (b : List ℕ). nat_lt (batches_before size books month b) done in
+          let row = part_after size books month done in
+          let begun = has_begun size books month done in
           let begins : nat_lt (batches_before size books month branch) done ≡ true = lt-ltb (batches_before size books month branch) done (omega (arith, some, left_before)) in
           ap (λ ps. ps ++ part ∷ []) had
           ∙ ap (λ p. map row (filter begun xs) ++ p ∷ []) (its ∙ ap (part_of month branch) posted_next)
           ∙ sym (map-append row (filter begun xs) (branch ∷ []))
           ∙ ap (map row) (sym (filter-append begun xs (branch ∷ []) ∙ ap (λ b. filter begun xs ++ cond b (branch ∷ []) []) begins))
 
-    pub no_part_next : (parts : List Part) → parts ≡ map (λ b. part_of month b (posted_of_branch size books month done b)) (filter (λ b. nat_lt (batches_before size books month b) done) xs)
+    pub no_part_next : (parts : List Part) → parts ≡ map (part_after size books month done) (filter (has_begun size books month done) xs)
         → left ≡ 0
-        → parts ≡ map (λ b. part_of month b (posted_of_branch size books month done b)) (filter (λ b. nat_lt (batches_before size books month b) done) (xs ++ branch ∷ []))
+        → parts ≡ map (part_after size books month done) (filter (has_begun size books month done) (xs ++ branch ∷ []))
     no_part_next parts had none =
-        let row = λ (b : List ℕ). part_of month b (posted_of_branch size books month done b) in
-        let begun = λ (b : List ℕ). nat_lt (batches_before size books month b) done in
+        let row = part_after size books month done in
+        let begun = has_begun size books month done in
         let waits : nat_lt (batches_before size books month branch) done ≡ false = le-ltb (batches_before size books month branch) done (omega (arith, none, left_before)) in
         had ∙ ap (map row) (sym (filter-append begun xs (branch ∷ []) ∙ ap (λ b. filter begun xs ++ cond b (branch ∷ []) []) waits ∙ append-nil (filter begun xs)))

@@ -5,11 +5,9 @@ ghost use Rattle.dh_model.specs.Runs.{batch_size, batches, batches_for};
 
 use crate::parts::branch_parts;
 use dh_books::Books;
+use dh_model::BATCH_SIZE;
 use dh_types::EntryMonth;
 use std::alloc::{AllocError, Global};
-
-/// How many charges one batch has at most.
-pub const BATCH_SIZE: u64 = 50;
 
 /// The batches of a branch with so many dues: one at least.
 pub fn batches_for(count: u64) -> u128

@@ -3,6 +3,7 @@
 ghost use Rattle.std.specs.Prelude.{◌≡◌, ◌≤◌, ℕ, ◌++◌, ◌∷◌, [], if◌then◌else◌, length, List, IfOk, OnOk};
 ghost use Rattle.std.specs.BTreeMap.{is_at};
 ghost use Rattle.std.specs.FinMap.{values};
+ghost use Rattle.dh_model.specs.BatchLaws.{AreNumbered};
 ghost use Rattle.dh_model.specs.Books.{text_cmp};
 ghost use Rattle.dh_model.specs.Runs.{dues_of_branch};
 ghost use Rattle.dh_batches.specs.Dues.{charges_at};
@@ -20,7 +21,8 @@ fn put_behind(
     branch: Id,
     charge: Charge,
 ) -> Result<(), AllocError>
-    ensures { OnOk result ((other : List ℕ) → charges_at charges.new other ≡ charges_at charges.old other ++ (if is_at (text_cmp branch) other then charge ∷ [] else [])) }
+    ensures { OnOk result ((other : List ℕ) →
+        charges_at charges.new other ≡ charges_at charges.old other ++ (if is_at (text_cmp branch) other then charge ∷ [] else [])) }
 {
     let mut of_branch = charges.remove(&branch).unwrap_or(Vec::new(alloc));
     of_branch.push(charge)?;
@@ -35,12 +37,11 @@ pub(crate) fn dues_by_branch(
     month: EntryMonth,
 ) -> Result<BTreeMap<Id, Vec<Charge>>, AllocError>
     ensures value { IfOk result (λ dues. (branch : List ℕ) → charges_at dues branch ≡ dues_of_branch books.now.books month branch) }
-    ensures few { IfOk result (λ _. length (values books.now.books.leases) ≤ 100000000) }
+    ensures numbered { IfOk result (λ _. AreNumbered books.now.books) }
+    ensures few { IfOk result (λ _. length (values books.now.books.leases) ≤ 99999999) }
 {
-    books.leases_are_numbered();
     let mut dues = BTreeMap::new(alloc);
     for lease in books.leases() {
-        let _number = lease.terms.number.number();
         let Some(charge) = due_in(lease, month.month()) else {
             continue;
         };

@@ -1,15 +1,17 @@
 //! The books with so many batches of a month's run.
 
-ghost use Rattle.std.specs.Prelude.{◌≡◌, ◌*◌, ◌≤◌, IfOk, Some, length, option_copied, take};
-ghost use Rattle.dh_model.specs.Runs.{batch_size, closed_run, posted_charges, posted_parts};
+ghost use Rattle.std.specs.Prelude.{◌≡◌, ◌*◌, ◌≤◌, IfOk, OnOk, Some, length, option_copied, take};
+ghost use Rattle.dh_model.specs.Runs.{batch_size, posted_charges, posted_parts};
 ghost use Rattle.dh_model.specs.Whole.{completed, open_row, whole, with_posted};
+ghost use Rattle.dh_batches.specs.Posted.{with_month};
 
-use crate::batching::{BATCH_SIZE, batches, batches_for};
+use crate::batching::{batches, batches_for};
 use crate::by_branch::{dues_by_branch, of_branch};
-use crate::parts::part_with;
 use crate::posting::{put_charges, put_parts};
+use crate::sums::{closed, part_with};
 use dh_books::Books;
-use dh_types::{Charge, EntryMonth, Part, Pence, Run};
+use dh_model::BATCH_SIZE;
+use dh_types::{Charge, EntryMonth, Part, Run};
 use std::alloc::{AllocError, Global};
 
 // The first of the charges, as many as so many batches have.
@@ -21,8 +23,35 @@ fn first_batches(charges: &[Charge], count: u128) -> &[Charge]
     &charges[..taken]
 }
 
-// The month's charges after so many batches, no more than there are leases.
+// The month's charges after so many batches, no more than there are leases, and its part rows then.
 fn posted(
+    alloc: Global,
+    books: &Books,
+    month: EntryMonth,
+    done: u128,
+) -> Result<(Vec<Charge>, Vec<Part>), AllocError>
+    ensures charges { IfOk result (λ rows. rows.0.items ≡ posted_charges batch_size books.now.books month done) }
+    ensures parts { IfOk result (λ rows. rows.1.items ≡ posted_parts batch_size books.now.books month done) }
+    ensures few { IfOk result (λ rows. length rows.0.items ≤ 100000000) }
+{
+    let dues = dues_by_branch(alloc, books, month)?;
+    let mut charges = Vec::new(alloc);
+    let mut parts = Vec::new(alloc);
+    let mut left = done;
+    for branch in books.branch_numbers() {
+        let all = of_branch(&dues, branch);
+        let first = first_batches(all, left);
+        charges.extend_from_slice(first)?;
+        if left > 0 {
+            parts.push(part_with(month, *branch, first))?;
+        }
+        left = left.saturating_sub(batches_for(all.len() as u64));
+    }
+    Ok((charges, parts))
+}
+
+// The month's charges after so many batches, no more than there are leases.
+fn charges_after(
     alloc: Global,
     books: &Books,
     month: EntryMonth,
@@ -31,19 +60,11 @@ fn posted(
     ensures value { IfOk result (λ charges. charges.items ≡ posted_charges batch_size books.now.books month done) }
     ensures few { IfOk result (λ charges. length charges.items ≤ 100000000) }
 {
-    books.leases_are_numbered();
-    let dues = dues_by_branch(alloc, books, month)?;
-    let mut posted = Vec::new(alloc);
-    let mut left = done;
-    for branch in books.branch_numbers() {
-        let charges = of_branch(&dues, branch);
-        posted.extend_from_slice(first_batches(charges, left))?;
-        left = left.saturating_sub(batches_for(charges.len() as u64));
-    }
-    Ok(posted)
+    let (charges, _parts) = posted(alloc, books, month, done)?;
+    Ok(charges)
 }
 
-/// The month's charges after so many batches, branch by branch and each branch's by lease.
+/// The month's charges after so many batches, branch by branch and each branch's by lease. It fails where memory runs out.
 pub fn posted_charges(
     alloc: Global,
     books: &Books,
@@ -52,10 +73,10 @@ pub fn posted_charges(
 ) -> Result<Vec<Charge>, AllocError>
     ensures { IfOk result (λ charges. charges.items ≡ posted_charges batch_size books.now.books month done) }
 {
-    posted(alloc, books, month, done)
+    charges_after(alloc, books, month, done)
 }
 
-/// The month's part rows after so many batches, rising by branch.
+/// The month's part rows after so many batches, rising by branch. It fails where memory runs out.
 pub fn posted_parts(
     alloc: Global,
     books: &Books,
@@ -64,18 +85,23 @@ pub fn posted_parts(
 ) -> Result<Vec<Part>, AllocError>
     ensures { IfOk result (λ parts. parts.items ≡ posted_parts batch_size books.now.books month done) }
 {
-    books.leases_are_numbered();
-    let dues = dues_by_branch(alloc, books, month)?;
-    let mut parts = Vec::new(alloc);
-    let mut left = done;
-    for branch in books.branch_numbers() {
-        let charges = of_branch(&dues, branch);
-        if left > 0 {
-            parts.push(part_with(month, *branch, first_batches(charges, left)))?;
-        }
-        left = left.saturating_sub(batches_for(charges.len() as u64));
-    }
+    let (_charges, parts) = posted(alloc, books, month, done)?;
     Ok(parts)
+}
+
+// Puts these in the place of what the books have of the month.
+fn put_posted(
+    books: &mut Books,
+    month: EntryMonth,
+    charges: Vec<Charge>,
+    parts: Vec<Part>,
+) -> Result<(), AllocError>
+    ensures { OnOk result (books.new ≡ record books.old { books = with_month books.old.books month charges.items parts.items }) }
+{
+    books.clear_month_charges(month);
+    put_charges(books, charges)?;
+    books.clear_month_parts(month);
+    put_parts(books, parts)
 }
 
 /// The books with so many batches of the month in the place of what they have of it.
@@ -87,12 +113,8 @@ pub fn with_posted(
 ) -> Result<Books, AllocError>
     ensures { IfOk result (λ b. b ≡ record books { books = with_posted batch_size books.books month done }) }
 {
-    let charges = posted_charges(alloc, &books, month, done)?;
-    let parts = posted_parts(alloc, &books, month, done)?;
-    books.clear_month_charges(month);
-    put_charges(&mut books, charges)?;
-    books.clear_month_parts(month);
-    put_parts(&mut books, parts)?;
+    let (charges, parts) = posted(alloc, &books, month, done)?;
+    put_posted(&mut books, month, charges, parts)?;
     Ok(books)
 }
 
@@ -103,29 +125,12 @@ pub fn open_row(books: &Books) -> Option<&Run>
     books.runs().find(|run| !run.is_closed)
 }
 
-// The run closed with these charges.
-fn closed(run: Run, charges: &[Charge]) -> Run
-    requires { length charges.now ≤ 100000000 }
-    ensures { result ≡ closed_run run.month run.key charges.now }
-{
-    let mut total = 0u64;
-    for charge in charges {
-        total += u64::from(charge.amount.pence());
-    }
-    Run {
-        count: charges.len() as u32,
-        total: Pence::of_pence(total),
-        is_closed: true,
-        ..run
-    }
-}
-
 // The books with the run made to its end.
 fn completed(alloc: Global, books: Books, run: Run) -> Result<Books, AllocError>
     ensures { IfOk result (λ b. b ≡ record books { books = completed batch_size books.books (Some run) }) }
 {
     let all = batches(alloc, &books, run.month)?;
-    let charges = posted(alloc, &books, run.month, all)?;
+    let charges = charges_after(alloc, &books, run.month, all)?;
     let mut after = with_posted(alloc, books, run.month, all)?;
     after.put_run(closed(run, &charges))?;
     Ok(after)

@@ -2,41 +2,20 @@
 
 ghost use Rattle.std.specs.Prelude.{◌≡◌, IfOk, OnOk};
 ghost use Rattle.dh_model.specs.Books.{with_rows};
-ghost use Rattle.dh_model.specs.Leases.{dues};
-ghost use Rattle.dh_model.specs.Runs.{batch_size, charge_key, closed_run, part_key, ran};
+ghost use Rattle.dh_model.specs.Runs.{batch_size, charge_key, part_key, ran};
 
 use crate::parts::branch_parts;
+use crate::sums::closed;
 use dh_books::Books;
-use dh_leases::{due_in, dues};
+use dh_leases::dues;
 use dh_types::{Charge, EntryMonth, Key, Part, Pence, Run};
 use std::alloc::{AllocError, Global};
 
-// The closed run of the month's dues.
-fn summed_up(books: &Books, month: EntryMonth, key: Key) -> Run
-    ensures { result ≡ closed_run month key (dues books.now.books month) }
-{
-    books.leases_are_numbered();
-    let mut count = 0u32;
-    let mut total = 0u64;
-    for lease in books.leases() {
-        let _number = lease.terms.number.number();
-        if let Some(charge) = due_in(lease, month.month()) {
-            count += 1;
-            total += u64::from(charge.amount.pence());
-        }
-    }
-    Run {
-        month,
-        key,
-        count,
-        total: Pence::of_pence(total),
-        is_closed: true,
-    }
-}
-
 // Puts the charges, of which the first counts where two have one key.
 pub(crate) fn put_charges(books: &mut Books, mut charges: Vec<Charge>) -> Result<(), AllocError>
-    ensures { OnOk result (books.new ≡ record books.old { books = record books.old.books { charges = with_rows charge_key charges.items books.old.books.charges } }) }
+    ensures { OnOk result (books.new ≡ record books.old {
+      books = record books.old.books { charges = with_rows charge_key charges.items books.old.books.charges };
+    }) }
 {
     while let Some(charge) = charges.pop() {
         books.put_charge(charge)?;
@@ -46,7 +25,9 @@ pub(crate) fn put_charges(books: &mut Books, mut charges: Vec<Charge>) -> Result
 
 // Puts the parts, of which the first counts where two have one key.
 pub(crate) fn put_parts(books: &mut Books, mut parts: Vec<Part>) -> Result<(), AllocError>
-    ensures { OnOk result (books.new ≡ record books.old { books = record books.old.books { parts = with_rows part_key parts.items books.old.books.parts } }) }
+    ensures { OnOk result (books.new ≡ record books.old {
+      books = record books.old.books { parts = with_rows part_key parts.items books.old.books.parts };
+    }) }
 {
     while let Some(part) = parts.pop() {
         books.put_part(part)?;
@@ -65,10 +46,16 @@ pub fn with_run(
     requires { month ≡ books.books.next }
     ensures { IfOk result (λ b. b ≡ record books { books = ran batch_size books.books key }) }
 {
-    books.leases_are_numbered();
     let charges = dues(alloc, &books, month.month())?;
     let parts = branch_parts(alloc, &books, month)?;
-    let run = summed_up(&books, month, key);
+    let opened = Run {
+        month,
+        key,
+        count: 0,
+        total: Pence::of_pence(0),
+        is_closed: false,
+    };
+    let run = closed(opened, &charges);
     put_charges(&mut books, charges)?;
     put_parts(&mut books, parts)?;
     books.put_run(run)?;

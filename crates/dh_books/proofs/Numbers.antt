@@ -1,5 +1,5 @@
 -- Leases stand under their numbers, as they are put, and are no more than numbers.
-use Rattle.std.proofs.Common.{◌≡◌, ◌∙◌, ℕ, ◌+◌, ◌≤◌, Bool, true, false, cond, List, [], ◌∷◌, length, Option, Some, None, nat_cmp, refl, sym, ap, subst, inl, inr, arith}
+use Rattle.std.proofs.Common.{◌≡◌, ◌∙◌, ℕ, ◌+◌, ◌<◌, ◌≤◌, Bool, true, false, cond, List, [], ◌∷◌, length, Option, Some, None, nat_cmp, refl, sym, ap, subst, inl, inr, arith}
 use Rattle.std.specs.FinMap.{FinMap, from_entries, get, insert, get-insert, values}
 use Rattle.std.specs.Ordering.{eq_by_cmp}
 use Rattle.std.specs.Option.{unwrap_or}
@@ -56,12 +56,12 @@ no_more low top (lease ∷ leases) within rise above below =
     let first = above lease (inl refl) in
     let last = below lease (inl refl) in
     let rest = no_more (low + 1) top leases (omega (arith, first, last)) rise.1
-    (λ other a. let less : lease.terms.number + 1 ≤ other.terms.number = rise.0 other a in omega (arith, first, less)) (λ other a. below other (inr a)) in
+    (λ other a. let less : lease.terms.number < other.terms.number = rise.0 other a in omega (arith, first, less)) (λ other a. below other (inr a)) in
     omega (arith, rest)
 
 pub few_leases : (books : Books) → AreKept books.leases → length (values books.leases) ≤ 99999999
 few_leases books kept =
     let is_one : (lease : Lease) → Among (values books.leases) lease → IsLeaseNo lease.terms.number
-      = λ lease a. let row = row_of nat_total books.leases lease a in kept.in_range row.0 lease row.1 in
+      = λ lease a. let row = row_of nat_total nat_ties books.leases lease a in kept.in_range row.0 lease row.1 in
     let all = no_more 1 99999999 (values books.leases) (omega arith) (leases_rise books kept.numbered) (λ lease a. (is_one lease a).0) (λ lease a. (is_one lease a).1) in
     omega (arith, all)

@@ -1,5 +1,6 @@
 -- What a clause sees of the books in memory, and what they keep of themselves.
-use Rattle.std.specs.Prelude.{◌≡◌, ℕ, nat_cmp, Some}
+use Rattle.std.specs.Prelude.{◌≡◌, ℕ, Some}
+use Rattle.std.specs.Ordering.{nat_cmp}
 use Rattle.std.specs.FinMap.{FinMap, from_entries, get}
 use Rattle.dh_values.specs.Counts.{IsLeaseNo}
 use Rattle.dh_types.specs.declared.lease.Lease.{Lease}

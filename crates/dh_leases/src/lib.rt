@@ -1,4 +1,4 @@
-//! What a lease covers, and what falls due on it.
+//! What a lease covers, and what falls due on it. Read [`due_in`] first.
 #![tactic(auto)]
 
 mod charges;

@@ -4,7 +4,7 @@ ghost use Rattle.std.specs.Prelude.{◌≡◌, ◌<◌, nat_lt};
 ghost use Rattle.dh_days.specs.Days.{IsDay};
 ghost use Rattle.dh_model.specs.Leases.{covers, end_of, overlap};
 
-use dh_types::{Day, EntryDay, LeaseTerms};
+use dh_types::{Day, LeaseTerms};
 
 /// The first day that the lease covers no more: its start, its months later.
 #[tactic(auto, using(crate::proofs::Overlaps::starts_before))]
@@ -17,10 +17,10 @@ pub fn end_of(lease: &LeaseTerms) -> Day
 }
 
 /// Whether the lease covers the day: from its start on, and before its end.
-pub fn covers(lease: &LeaseTerms, day: EntryDay) -> bool
+pub fn covers(lease: &LeaseTerms, day: Day) -> bool
     ensures { result ≡ covers lease.now day }
 {
-    lease.start <= day && day.day() < end_of(lease)
+    lease.start.day() <= day && day < end_of(lease)
 }
 
 // Whether the lease starts before the other's end.
@@ -37,10 +37,10 @@ fn starts_before_end_of(lease: &LeaseTerms, other: &LeaseTerms) -> bool
 pub fn overlap(lease: &LeaseTerms, other: &LeaseTerms) -> bool
     ensures { result ≡ overlap lease.now other.now }
 {
-    let starts_before = starts_before_end_of(lease, other);
-    let ends_after = starts_before_end_of(other, lease);
     if lease.property != other.property {
         return false;
     }
+    let starts_before = starts_before_end_of(lease, other);
+    let ends_after = starts_before_end_of(other, lease);
     starts_before && ends_after
 }

@@ -18,7 +18,7 @@ fn matching_report(alloc: Global, books: &Books, asked: ClientDay) -> Result<Ans
     let Some(client) = books.client(&asked.client) else {
         return Ok(Answer::Refused(Refusal::Unknown(3)));
     };
-    Ok(Answer::Matching(matching(alloc, books, client, asked.day)?))
+    Ok(Answer::Matching(matching(alloc, books, client, asked.day.day())?))
 }
 
 // The refusal of what an open run would show half made.
@@ -32,12 +32,12 @@ fn open_refusal(books: &Books) -> Option<Refusal>
 
 /// What the books answer to the question. While a run is open, `statement`, `arrears` and `run` are refused 10 with its
 /// month. It fails where memory runs out.
-pub fn answer(alloc: Global, books: &Books, question: Question) -> Result<Answer, AllocError>
-    ensures { IfOk result (λ answer. report_of answer ≡ report books.now question) }
+pub fn answer(alloc: Global, books: &Books, question: &Question) -> Result<Answer, AllocError>
+    ensures { IfOk result (λ answer. report_of answer ≡ report books.now question.now) }
 {
-    match question {
+    match *question {
         Question::Branches => Ok(Answer::Branches(branches(alloc, books)?)),
-        Question::Vacant(day) => Ok(Answer::Vacant(vacant(alloc, books, day)?)),
+        Question::Vacant(day) => Ok(Answer::Vacant(vacant(alloc, books, day.day())?)),
         Question::Matching(asked) => matching_report(alloc, books, asked),
         Question::Statement(lease) => match open_refusal(books) {
             Some(refusal) => Ok(Answer::Refused(refusal)),

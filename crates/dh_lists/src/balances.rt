@@ -5,7 +5,7 @@ ghost use Rattle.dh_model.specs.Answers.{balance, charges_of, rent_paid};
 ghost use Rattle.dh_model.specs.Runs.{total_of};
 
 use dh_books::Books;
-use dh_types::{Balance, LeaseNo, ReceiptKind};
+use dh_types::{LeaseNo, ReceiptKind};
 
 // The pence that were charged on the lease.
 fn charged(books: &Books, lease: LeaseNo) -> u128
@@ -42,11 +42,11 @@ fn rent_paid(books: &Books, lease: LeaseNo) -> u128
     sum
 }
 
-/// What was charged on the lease, less the rent that was paid; 0 for a number that no lease has. It takes no memory.
-pub fn balance(books: &Books, lease: LeaseNo) -> Balance
+/// The pence that were charged on the lease, less the rent that was paid; 0 for a number that no lease has. It takes no memory.
+pub fn balance(books: &Books, lease: LeaseNo) -> i128
     ensures { result ≡ balance books.now.books lease }
 {
     let charged = charged(books, lease) as i128;
     let paid = rent_paid(books, lease) as i128;
-    Balance::of_pence(charged - paid)
+    charged - paid
 }

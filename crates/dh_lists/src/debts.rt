@@ -57,7 +57,6 @@ fn arrears_of(alloc: Global, books: &Books, branch: &Id) -> Result<Arrears, Allo
     ensures debts { IfOk result (λ arrears. arrears.debts.items ≡ debts books.now.books branch.now) }
     ensures total { IfOk result (λ arrears. arrears.total ≡ owed books.now.books arrears.debts.items) }
 {
-    books.leases_are_numbered();
     let accounts = Accounts::of(alloc, books)?;
     let mut debts = Vec::new(alloc);
     let mut total = 0i128;

@@ -1,4 +1,4 @@
-//! What questions are answered, from the books in memory.
+//! What questions are answered, from the books in memory. Read [`answer`] first.
 #![tactic(auto)]
 
 mod accounts;

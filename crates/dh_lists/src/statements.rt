@@ -7,7 +7,7 @@ ghost use Rattle.dh_model.specs.Answers.{charges_of, receipts_of, statement};
 
 use crate::balance;
 use dh_books::Books;
-use dh_types::{Answer, Charge, LeaseNo, Receipt, Refusal, Statement};
+use dh_types::{Answer, Balance, Charge, LeaseNo, Receipt, Refusal, Statement};
 use std::alloc::{AllocError, Global};
 
 // The charges on the lease, rising by index.
@@ -45,6 +45,6 @@ pub fn statement(alloc: Global, books: &Books, lease: LeaseNo) -> Result<Answer,
         lease: *lease,
         charges: charges(alloc, books, number)?,
         receipts: receipts(alloc, books, number)?,
-        balance: balance(books, number),
+        balance: Balance::of_pence(balance(books, number)),
     }))
 }

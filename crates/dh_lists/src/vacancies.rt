@@ -15,13 +15,16 @@ ghost use Rattle.dh_model.specs.Answers.{by_rent, is_vacant, matches, matching, 
 
 use dh_books::Books;
 use dh_leases::covers;
-use dh_types::{Client, EntryDay, Id, Property, Rent};
+use dh_types::{Client, Day, Id, Property, Rent};
 use std::alloc::{AllocError, Global};
 use std::collections::{BTreeMap, BTreeSet};
 
 // The numbers of the properties that some lease covers that day.
-fn covered(alloc: Global, books: &Books, day: EntryDay) -> Result<BTreeSet<Id>, AllocError>
-    ensures { IfOk result (λ numbers. (property : Property) → not (set.contains text_cmp numbers property.number) ≡ is_vacant books.now.books day property) }
+fn covered(alloc: Global, books: &Books, day: Day) -> Result<BTreeSet<Id>, AllocError>
+    ensures {
+        IfOk result (λ numbers. (property : Property) →
+            not (set.contains text_cmp numbers property.number) ≡ is_vacant books.now.books day property)
+    }
 {
     let mut numbers = BTreeSet::new(alloc);
     for lease in books.leases() {
@@ -33,7 +36,7 @@ fn covered(alloc: Global, books: &Books, day: EntryDay) -> Result<BTreeSet<Id>, 
 }
 
 /// The properties that no lease covers that day, rising by number. It fails where memory runs out.
-pub fn vacant(alloc: Global, books: &Books, day: EntryDay) -> Result<Vec<Property>, AllocError>
+pub fn vacant(alloc: Global, books: &Books, day: Day) -> Result<Vec<Property>, AllocError>
     ensures { IfOk result (λ rows. rows.items ≡ vacant books.now.books day) }
 {
     let covered = covered(alloc, books, day)?;
@@ -48,7 +51,11 @@ pub fn vacant(alloc: Global, books: &Books, day: EntryDay) -> Result<Vec<Propert
 
 // Whether the client would take the property, where a lease covers these.
 fn is_match(property: &Property, client: &Client, covered: &BTreeSet<Id>) -> bool
-    ensures { result ≡ (is_same_property_type property.now.property_type client.now.preferred_type && nat_le property.now.rent client.now.greatest_rent && not (set.contains text_cmp covered.now property.now.number)) }
+    ensures {
+        result ≡ (is_same_property_type property.now.property_type client.now.preferred_type
+            && nat_le property.now.rent client.now.greatest_rent
+            && not (set.contains text_cmp covered.now property.now.number))
+    }
 {
     property.property_type == client.preferred_type
         && property.rent <= client.greatest_rent
@@ -60,7 +67,11 @@ fn put_first(
     found: &mut BTreeMap<(Rent, Id), Property>,
     property: Property,
 ) -> Result<(), AllocError>
-    ensures { OnOk result ((key : ℕ × List ℕ) → tree.get (pair_cmp nat_cmp text_cmp) found.new key ≡ option_or (tree.get (pair_cmp nat_cmp text_cmp) found.old key) (if is_at (pair_cmp nat_cmp text_cmp key) (property.rent, property.number) then Some property else None)) }
+    ensures {
+        OnOk result ((key : ℕ × List ℕ) →
+            tree.get (pair_cmp nat_cmp text_cmp) found.new key ≡ option_or (tree.get (pair_cmp nat_cmp text_cmp) found.old key)
+                (if is_at (pair_cmp nat_cmp text_cmp key) (property.rent, property.number) then Some property else None))
+    }
 {
     let key = (property.rent, property.number);
     if !found.contains_key(&key) {
@@ -74,9 +85,12 @@ fn by_rent(
     alloc: Global,
     books: &Books,
     client: &Client,
-    day: EntryDay,
+    day: Day,
 ) -> Result<BTreeMap<(Rent, Id), Property>, AllocError>
-    ensures { IfOk result (λ found. fin.from_entries found.entries ≡ by_rent books.now.books (filter (matches books.now.books client.now day) (fin.values books.now.books.properties))) }
+    ensures {
+        IfOk result (λ found. fin.from_entries found.entries
+            ≡ by_rent books.now.books (filter (matches books.now.books client.now day) (fin.values books.now.books.properties)))
+    }
 {
     let covered = covered(alloc, books, day)?;
     let mut found = BTreeMap::new(alloc);
@@ -94,7 +108,7 @@ pub fn matching(
     alloc: Global,
     books: &Books,
     client: &Client,
-    day: EntryDay,
+    day: Day,
 ) -> Result<Vec<Property>, AllocError>
     ensures { IfOk result (λ rows. rows.items ≡ matching books.now.books client.now day) }
 {

@@ -4,6 +4,7 @@ ghost use Rattle.std.specs.Prelude.{◌≡◌, [], ◌∷◌};
 ghost use Rattle.dh_model.specs.Checks.{first_failing, has_room, managed_besides, of_branch};
 
 use dh_books::Books;
+use dh_model::MANAGED_AT_MOST;
 use dh_types::{Id, Property, Refusal};
 
 // How many properties the member of staff manages, but for this one.
@@ -26,11 +27,11 @@ pub(crate) fn of_branch(books: &Books, member: &Id, branch: &Id) -> Option<Refus
     }
 }
 
-// `TooMany` where the member of staff manages 100 properties but for this one.
+// `TooMany` where the member of staff manages as many properties as one may, but for this one.
 fn has_room(books: &Books, member: &Id, property: &Id) -> Option<Refusal>
     ensures { result ≡ has_room books.now.books member.now property.now }
 {
-    if managed_besides(books, member, property) < 100 {
+    if (managed_besides(books, member, property) as u64) < MANAGED_AT_MOST {
         None
     } else {
         Some(Refusal::TooMany)

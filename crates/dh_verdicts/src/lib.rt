@@ -1,4 +1,4 @@
-//! What the books say of each command: the plain program of the verdicts.
+//! What the books say of each command: the plain program of the verdicts. Read [`decide`] first.
 #![tactic(auto)]
 
 mod branches;

@@ -20,7 +20,11 @@ impl Books {
 
     /// Puts the lease under its key, in the place of the one that has it. An error changes nothing.
     pub fn put_lease(&mut self, row: Lease) -> Result<(), AllocError>
-        ensures ok { OnOk result (self.new ≡ record self.old { books = record self.old.books { leases = fin.insert self.old.books.leases row.terms.number row } }) }
+        ensures ok {
+            OnOk result (self.new ≡ record self.old {
+                books = record self.old.books { leases = fin.insert self.old.books.leases row.terms.number row };
+            })
+        }
         ensures err { OnErr result (self.new ≡ self.old) }
     {
         let number = row.key();
@@ -46,14 +50,18 @@ impl Books {
 
     /// Puts the charge under its key, in the place of the one that has it. An error changes nothing.
     pub fn put_charge(&mut self, row: Charge) -> Result<(), AllocError>
-        ensures ok { OnOk result (self.new ≡ record self.old { books = record self.old.books { charges = fin.insert self.old.books.charges (row.lease, row.index) row } }) }
+        ensures ok {
+            OnOk result (self.new ≡ record self.old {
+                books = record self.old.books { charges = fin.insert self.old.books.charges (row.lease, row.index) row };
+            })
+        }
         ensures err { OnErr result (self.new ≡ self.old) }
     {
         let _before = self.charges.insert((row.lease, row.index), row)?;
         Ok(())
     }
 
-    /// All of them, rising by key.
+    /// All charges, rising by lease and index.
     pub fn charges(&self) -> Values<'_, (LeaseNo, ChargeIndex), Charge>
         ensures { result ≡ fin.values self.now.books.charges }
     {
@@ -69,14 +77,18 @@ impl Books {
 
     /// Puts the receipt under its key, in the place of the one that has it. An error changes nothing.
     pub fn put_receipt(&mut self, row: Receipt) -> Result<(), AllocError>
-        ensures ok { OnOk result (self.new ≡ record self.old { books = record self.old.books { receipts = fin.insert self.old.books.receipts row.number row } }) }
+        ensures ok {
+            OnOk result (self.new ≡ record self.old {
+                books = record self.old.books { receipts = fin.insert self.old.books.receipts row.number row };
+            })
+        }
         ensures err { OnErr result (self.new ≡ self.old) }
     {
         let _before = self.receipts.insert(row.number, row)?;
         Ok(())
     }
 
-    /// All of them, rising by key.
+    /// All receipts, rising by number.
     pub fn receipts(&self) -> Values<'_, ReceiptNo, Receipt>
         ensures { result ≡ fin.values self.now.books.receipts }
     {

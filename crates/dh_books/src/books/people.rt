@@ -18,14 +18,18 @@ impl Books {
 
     /// Puts the branch under its key, in the place of the one that has it. An error changes nothing.
     pub fn put_branch(&mut self, row: Branch) -> Result<(), AllocError>
-        ensures ok { OnOk result (self.new ≡ record self.old { books = record self.old.books { branches = fin.insert self.old.books.branches row.number row } }) }
+        ensures ok {
+            OnOk result (self.new ≡ record self.old {
+                books = record self.old.books { branches = fin.insert self.old.books.branches row.number row };
+            })
+        }
         ensures err { OnErr result (self.new ≡ self.old) }
     {
         let _before = self.branches.insert(row.number, row)?;
         Ok(())
     }
 
-    /// All of them, rising by key.
+    /// All branches, rising by number.
     pub fn branches(&self) -> Values<'_, Id, Branch>
         ensures { result ≡ fin.values self.now.books.branches }
     {
@@ -48,14 +52,18 @@ impl Books {
 
     /// Puts the member of staff under its key, in the place of the one that has it. An error changes nothing.
     pub fn put_member(&mut self, row: Staff) -> Result<(), AllocError>
-        ensures ok { OnOk result (self.new ≡ record self.old { books = record self.old.books { staff = fin.insert self.old.books.staff row.number row } }) }
+        ensures ok {
+            OnOk result (self.new ≡ record self.old {
+                books = record self.old.books { staff = fin.insert self.old.books.staff row.number row };
+            })
+        }
         ensures err { OnErr result (self.new ≡ self.old) }
     {
         let _before = self.staff.insert(row.number, row)?;
         Ok(())
     }
 
-    /// All of them, rising by key.
+    /// All members of staff, rising by number.
     pub fn staff(&self) -> Values<'_, Id, Staff>
         ensures { result ≡ fin.values self.now.books.staff }
     {
@@ -71,14 +79,18 @@ impl Books {
 
     /// Puts the owner under its key, in the place of the one that has it. An error changes nothing.
     pub fn put_owner(&mut self, row: Owner) -> Result<(), AllocError>
-        ensures ok { OnOk result (self.new ≡ record self.old { books = record self.old.books { owners = fin.insert self.old.books.owners row.number row } }) }
+        ensures ok {
+            OnOk result (self.new ≡ record self.old {
+                books = record self.old.books { owners = fin.insert self.old.books.owners row.number row };
+            })
+        }
         ensures err { OnErr result (self.new ≡ self.old) }
     {
         let _before = self.owners.insert(row.number, row)?;
         Ok(())
     }
 
-    /// All of them, rising by key.
+    /// All owners, rising by number.
     pub fn owners(&self) -> Values<'_, Id, Owner>
         ensures { result ≡ fin.values self.now.books.owners }
     {
@@ -94,14 +106,18 @@ impl Books {
 
     /// Puts the client under its key, in the place of the one that has it. An error changes nothing.
     pub fn put_client(&mut self, row: Client) -> Result<(), AllocError>
-        ensures ok { OnOk result (self.new ≡ record self.old { books = record self.old.books { clients = fin.insert self.old.books.clients row.number row } }) }
+        ensures ok {
+            OnOk result (self.new ≡ record self.old {
+                books = record self.old.books { clients = fin.insert self.old.books.clients row.number row };
+            })
+        }
         ensures err { OnErr result (self.new ≡ self.old) }
     {
         let _before = self.clients.insert(row.number, row)?;
         Ok(())
     }
 
-    /// All of them, rising by key.
+    /// All clients, rising by number.
     pub fn clients(&self) -> Values<'_, Id, Client>
         ensures { result ≡ fin.values self.now.books.clients }
     {

@@ -18,14 +18,18 @@ impl Books {
 
     /// Puts the property under its key, in the place of the one that has it. An error changes nothing.
     pub fn put_property(&mut self, row: Property) -> Result<(), AllocError>
-        ensures ok { OnOk result (self.new ≡ record self.old { books = record self.old.books { properties = fin.insert self.old.books.properties row.number row } }) }
+        ensures ok {
+            OnOk result (self.new ≡ record self.old {
+                books = record self.old.books { properties = fin.insert self.old.books.properties row.number row };
+            })
+        }
         ensures err { OnErr result (self.new ≡ self.old) }
     {
         let _before = self.properties.insert(row.number, row)?;
         Ok(())
     }
 
-    /// All of them, rising by key.
+    /// All properties, rising by number.
     pub fn properties(&self) -> Values<'_, Id, Property>
         ensures { result ≡ fin.values self.now.books.properties }
     {
@@ -41,14 +45,18 @@ impl Books {
 
     /// Puts the registration under its key, in the place of the one that has it. An error changes nothing.
     pub fn put_registration(&mut self, row: Registration) -> Result<(), AllocError>
-        ensures ok { OnOk result (self.new ≡ record self.old { books = record self.old.books { registrations = fin.insert self.old.books.registrations (row.client, row.branch) row } }) }
+        ensures ok {
+            OnOk result (self.new ≡ record self.old {
+                books = record self.old.books { registrations = fin.insert self.old.books.registrations (row.client, row.branch) row };
+            })
+        }
         ensures err { OnErr result (self.new ≡ self.old) }
     {
         let _before = self.registrations.insert((row.client, row.branch), row)?;
         Ok(())
     }
 
-    /// All of them, rising by key.
+    /// All registrations, rising by client and branch.
     pub fn registrations(&self) -> Values<'_, (Id, Id), Registration>
         ensures { result ≡ fin.values self.now.books.registrations }
     {
@@ -64,14 +72,18 @@ impl Books {
 
     /// Puts the viewing under its key, in the place of the one that has it. An error changes nothing.
     pub fn put_viewing(&mut self, row: Viewing) -> Result<(), AllocError>
-        ensures ok { OnOk result (self.new ≡ record self.old { books = record self.old.books { viewings = fin.insert self.old.books.viewings (row.client, row.property) row } }) }
+        ensures ok {
+            OnOk result (self.new ≡ record self.old {
+                books = record self.old.books { viewings = fin.insert self.old.books.viewings (row.client, row.property) row };
+            })
+        }
         ensures err { OnErr result (self.new ≡ self.old) }
     {
         let _before = self.viewings.insert((row.client, row.property), row)?;
         Ok(())
     }
 
-    /// All of them, rising by key.
+    /// All viewings, rising by client and property.
     pub fn viewings(&self) -> Values<'_, (Id, Id), Viewing>
         ensures { result ≡ fin.values self.now.books.viewings }
     {
@@ -87,14 +99,18 @@ impl Books {
 
     /// Puts the inspection under its key, in the place of the one that has it. An error changes nothing.
     pub fn put_inspection(&mut self, row: Inspection) -> Result<(), AllocError>
-        ensures ok { OnOk result (self.new ≡ record self.old { books = record self.old.books { inspections = fin.insert self.old.books.inspections (row.property, row.day) row } }) }
+        ensures ok {
+            OnOk result (self.new ≡ record self.old {
+                books = record self.old.books { inspections = fin.insert self.old.books.inspections (row.property, row.day) row };
+            })
+        }
         ensures err { OnErr result (self.new ≡ self.old) }
     {
         let _before = self.inspections.insert((row.property, row.day), row)?;
         Ok(())
     }
 
-    /// All of them, rising by key.
+    /// All inspections, rising by property and day.
     pub fn inspections(&self) -> Values<'_, (Id, EntryDay), Inspection>
         ensures { result ≡ fin.values self.now.books.inspections }
     {

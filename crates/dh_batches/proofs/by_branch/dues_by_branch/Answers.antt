@@ -1,13 +1,13 @@
-use Rattle.std.proofs.Common.{◌≡◌, ◌∙◌, ◌++◌, ◌∷◌, [], ap, arith, length, length-append, map, sym, cond, None, Some}
+use Rattle.std.proofs.Common.{◌≡◌, ◌∙◌, ◌++◌, ◌∷◌, [], ap, map, sym, cond, None, Some}
 use Rattle.std.specs.List.{filter}
 use Rattle.std.specs.BTreeMap.{is_at}
 use Rattle.std.specs.FinMap.{get}
 use Rattle.std.specs.Map.Iter.{deref}
 use Rattle.std.proofs.lemmas.List.{map-append}
-use Rattle.std.proofs.lemmas.Map.Iter.{iter_end, rest_more, rest_so_far}
+use Rattle.std.proofs.lemmas.Map.Iter.{iter_end}
 use Rattle.dh_model.specs.Books.{text_cmp}
 use Rattle.dh_model.specs.Leases.{dues_among}
-use Rattle.dh_batches.proofs.PartLemmas.{due_put, no_branch_more, no_due_more, of_branch, place_in_books}
+use Rattle.dh_batches.proofs.PartLemmas.{due_put, no_branch_more, no_due_more, of_branch}
 use Rattle.dh_batches.proofs.by_branch.dues_by_branch.Goals as goal
 
 pub loop-lease-preserved-in_default : goal.loop-lease-preserved-in_default
@@ -15,38 +15,20 @@ loop-lease-preserved-in_default c =
     let b = c.args.books.now.books in
     let lease = c.in-Some.lease.now in
     let done = map deref c.loop-lease.yielded in
-    let all = sym (c.into_iter-lease-iterator.ensures.into_iter_gives ∙ c.leases-lease-items.ensures)
-    ∙ rest_so_far deref c.loop-lease.yielded _ _ c.loop-lease.yielded_by
-    ∙ ap (λ rest. done ++ rest) (rest_more deref _ _ _ c.in-Some.lease c.in-Some.is c.next.ensures.steps) in
-    let place = place_in_books b c.leases_are_numbered.ensures done _ lease all in
     let one_more = map-append deref c.loop-lease.yielded (c.in-Some.lease ∷ []) in
-    let count = length-append done (lease ∷ []) in
-    let counted = ap length one_more in
     let none : [] ≡ dues_among (lease ∷ []) c.args.month = c.in_default.ensures ∙ ap (dues_among (lease ∷ [])) c.month.ensures.value in
-    record {
-      dues = λ q. c.loop-lease.invariant.dues q ∙ no_due_more b.properties c.args.month done lease q none
-          ∙ ap (λ ls. dues_among (filter (of_branch b.properties c.args.month q) ls) c.args.month) (sym one_more);
-      few = omega (arith, place, count, counted, c.number-number.ensures.value, c.number-number.ensures.range.1);
-    }
+    λ q. c.loop-lease.invariant q ∙ no_due_more b.properties c.args.month done lease q none
+    ∙ ap (λ ls. dues_among (filter (of_branch b.properties q) ls) c.args.month) (sym one_more)
 
 pub loop-lease-preserved-in_default-property : goal.loop-lease-preserved-in_default-property
 loop-lease-preserved-in_default-property c =
     let b = c.args.books.now.books in
     let lease = c.in-Some.lease.now in
     let done = map deref c.loop-lease.yielded in
-    let all = sym (c.into_iter-lease-iterator.ensures.into_iter_gives ∙ c.leases-lease-items.ensures)
-    ∙ rest_so_far deref c.loop-lease.yielded _ _ c.loop-lease.yielded_by
-    ∙ ap (λ rest. done ++ rest) (rest_more deref _ _ _ c.in-Some.lease c.in-Some.is c.next.ensures.steps) in
-    let place = place_in_books b c.leases_are_numbered.ensures done _ lease all in
     let one_more = map-append deref c.loop-lease.yielded (c.in-Some.lease ∷ []) in
-    let count = length-append done (lease ∷ []) in
-    let counted = ap length one_more in
     let none : get b.properties lease.terms.property ≡ None = sym c.in_default-property.ensures in
-    record {
-      dues = λ q. c.loop-lease.invariant.dues q ∙ no_branch_more b.properties c.args.month done lease q none
-          ∙ ap (λ ls. dues_among (filter (of_branch b.properties c.args.month q) ls) c.args.month) (sym one_more);
-      few = omega (arith, place, count, counted, c.number-number.ensures.value, c.number-number.ensures.range.1);
-    }
+    λ q. c.loop-lease.invariant q ∙ no_branch_more b.properties c.args.month done lease q none
+    ∙ ap (λ ls. dues_among (filter (of_branch b.properties q) ls) c.args.month) (sym one_more)
 
 pub loop-lease-preserved : goal.loop-lease-preserved
 loop-lease-preserved c =
@@ -55,30 +37,16 @@ loop-lease-preserved c =
     let property = c.in-Some-property.property.now in
     let charge = c.in-Some-due_in.charge in
     let done = map deref c.loop-lease.yielded in
-    let all = sym (c.into_iter-lease-iterator.ensures.into_iter_gives ∙ c.leases-lease-items.ensures)
-    ∙ rest_so_far deref c.loop-lease.yielded _ _ c.loop-lease.yielded_by
-    ∙ ap (λ rest. done ++ rest) (rest_more deref _ _ _ c.in-Some.lease c.in-Some.is c.next.ensures.steps) in
-    let place = place_in_books b c.leases_are_numbered.ensures done _ lease all in
     let one_more = map-append deref c.loop-lease.yielded (c.in-Some.lease ∷ []) in
-    let count = length-append done (lease ∷ []) in
-    let counted = ap length one_more in
     let there : get b.properties lease.terms.property ≡ Some property = sym c.in-Some-property.ensures in
     let its : charge ∷ [] ≡ dues_among (lease ∷ []) c.args.month = c.in-Some-due_in.ensures ∙ ap (dues_among (lease ∷ [])) c.month.ensures.value in
-    record {
-      dues = λ q. c.in_ok-put_behind.ensures q ∙ ap (λ cs. cs ++ cond (is_at (text_cmp property.branch) q) (charge ∷ []) []) (c.loop-lease.invariant.dues q) ∙ due_put b.properties c.args.month done lease property charge q there its
-          ∙ ap (λ ls. dues_among (filter (of_branch b.properties c.args.month q) ls) c.args.month) (sym one_more);
-      few = omega (arith, place, count, counted, c.number-number.ensures.value, c.number-number.ensures.range.1);
-    }
+    λ q. c.in_ok-put_behind.ensures q ∙ ap (λ cs. cs ++ cond (is_at (text_cmp property.branch) q) (charge ∷ []) []) (c.loop-lease.invariant q)
+    ∙ due_put b.properties c.args.month done lease property charge q there its
+    ∙ ap (λ ls. dues_among (filter (of_branch b.properties q) ls) c.args.month) (sym one_more)
 
 pub returns-clause-value : goal.returns-clause-value
 returns-clause-value c =
     let b = c.args.books.now.books in
-    let all = (iter_end deref _ _ _ _ _ _ (c.into_iter-lease-iterator.ensures.into_iter_gives ∙ c.leases-lease-items.ensures) c.loop-lease.yielded_by c.in-None.is c.next.ensures.steps).0 in
-    λ q. c.loop-lease.invariant.dues q ∙ ap (λ ls. dues_among (filter (of_branch b.properties c.args.month q) ls) c.args.month) all
-
-pub returns-clause-few : goal.returns-clause-few
-returns-clause-few c =
-    let all = (iter_end deref _ _ _ _ _ _ (c.into_iter-lease-iterator.ensures.into_iter_gives ∙ c.leases-lease-items.ensures) c.loop-lease.yielded_by c.in-None.is c.next.ensures.steps).0 in
-    let counted = ap length all in
-    let few = c.loop-lease.invariant.few in
-    omega (arith, counted, few)
+    let given = c.into_iter-lease-iterator.ensures.into_iter_gives ∙ c.leases-lease-items.ensures.rows in
+    let all = (iter_end deref _ _ _ _ _ _ given c.loop-lease.yielded_by c.in-None.is c.next.ensures.steps).0 in
+    λ q. c.loop-lease.invariant q ∙ ap (λ ls. dues_among (filter (of_branch b.properties q) ls) c.args.month) all

@@ -30,7 +30,7 @@ owed_more books found next it added = ap (owed books) added ∙ fold_push (λ su
 pub loop-lease-init : goal.loop-lease-init
 loop-lease-init c =
     let books = c.args.books.now.books in
-    let all = c.into_iter-lease-iterator.ensures.into_iter_gives ∙ c.leases-lease-items.ensures in
+    let all = c.into_iter-lease-iterator.ensures.into_iter_gives ∙ c.leases-lease-items.ensures.rows in
     record {
       debts = none_yet (owes books) (belongs books c.args.branch.now) (debt books) _ _ _ c.new-debts.ensures.items all;
       total = sym (ap (owed books) c.new-debts.ensures.items);
@@ -38,7 +38,7 @@ loop-lease-init c =
       range = omega (arith, ints);
       few = omega (arith, c.new-debts.ensures.len);
       above = λ lease h. omega (arith, c.new-debts.ensures.len);
-      rising = subst (Rises (Lesser number_of)) (sym all) (leases_rise books c.leases_are_numbered.ensures);
+      rising = subst (Rises (Lesser number_of)) (sym all) (leases_rise books c.leases-lease-items.ensures.numbered);
     }
 
 pub loop-lease-preserved-then-is_debt : goal.loop-lease-preserved-then-is_debt

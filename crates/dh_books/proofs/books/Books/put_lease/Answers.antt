@@ -1,5 +1,6 @@
-use Rattle.std.proofs.Common.{◌∙◌, ap, sym, subst}
+use Rattle.std.proofs.Common.{◌∙◌, ap, sym, subst, arith}
 use Rattle.std.specs.FinMap as fin
+use Rattle.dh_values.specs.Counts.{IsLeaseNo}
 use Rattle.dh_model.specs.Books.{State}
 use Rattle.dh_model.proofs.KeyOrders.{nat_ties, nat_total}
 use Rattle.dh_model.proofs.MapLemmas.{one-given}
@@ -19,4 +20,5 @@ pub invariant_of-self-2 : goal.invariant_of-self-2
 invariant_of-self-2 c =
     let b = c.self.inside in
     let made = one-given nat_total nat_ties b.leases.entries c.insert.new.self.entries c.args.row.terms.number c.args.row (rw c.key-number.ensures at c.in_ok-_before.ensures.updates.0) in
-    subst AreKept (sym made) (put_kept (fin.from_entries b.leases.entries) c.args.row ? c.self.invariant)
+    let is : IsLeaseNo c.args.row.terms.number = subst IsLeaseNo c.key-number.ensures (omega arith, omega arith) in
+    subst AreKept (sym made) (put_kept (fin.from_entries b.leases.entries) c.args.row is c.self.invariant)
