@@ -1,3 +1,5 @@
 pub mod Audit
 pub mod Counts
+pub mod Receipts
+pub mod Staff
 pub mod Stays

@@ -1,12 +1,9 @@
 //! Receipts: deposits, keys and numbers.
 
-ghost use Rattle.std.specs.Prelude.{◌≡◌, ◌≢◌, ◌↔◌, ◌*◌, ◌≤◌, ◌++◌, true, false, map, IfOk, IfSome};
+ghost use Rattle.std.specs.Prelude.{◌≡◌, ◌↔◌, ◌≤◌, true, IfOk};
 ghost use Rattle.std.specs.FinMap as fin;
-ghost use Rattle.std.specs.List.{AllPairs, filter};
-ghost use Rattle.dh_values.specs.declared.receipt_kind.ReceiptKind.TheVariants.{Deposit};
-ghost use Rattle.dh_types.specs.Records.{is_same_receipt_kind};
-ghost use Rattle.dh_model.specs.Checks.{is_same_text};
 ghost use Rattle.dh_model.specs.Rules.{DepositsInOrder, Each, EachTwo, KeysInOrder};
+ghost use Rattle.dh_audit.specs.Receipts.{DepositsDiffer, IsTwiceTheRent, NoKeyTwice, all_keys, deposit_leases};
 
 use crate::distinct::are_distinct;
 use dh_books::Books;
@@ -15,7 +12,7 @@ use std::alloc::{AllocError, Global};
 
 // Whether the receipt, if it is of a deposit, is twice the rent of its lease, if that is there.
 fn deposit_is_twice(books: &Books, receipt: &Receipt) -> bool
-    ensures { (result ≡ true) ↔ (receipt.now.payment.kind ≡ Deposit → IfSome (fin.get books.now.books.leases receipt.now.payment.lease) (λ lease. receipt.now.payment.amount ≡ 2 * lease.rent)) }
+    ensures { (result ≡ true) ↔ IsTwiceTheRent books.now.books receipt.now }
 {
     let payment = receipt.payment;
     if payment.kind != ReceiptKind::Deposit {
@@ -29,7 +26,7 @@ fn deposit_is_twice(books: &Books, receipt: &Receipt) -> bool
 
 // Whether each deposit is twice its lease's rent.
 fn deposits_are_twice(books: &Books) -> bool
-    ensures { (result ≡ true) ↔ Each books.now.books.receipts (λ receipt. receipt.payment.kind ≡ Deposit → IfSome (fin.get books.now.books.leases receipt.payment.lease) (λ lease. receipt.payment.amount ≡ 2 * lease.rent)) }
+    ensures { (result ≡ true) ↔ Each books.now.books.receipts (IsTwiceTheRent books.now.books) }
 {
     books
         .receipts()
@@ -38,7 +35,7 @@ fn deposits_are_twice(books: &Books) -> bool
 
 // The leases of the deposits.
 fn deposit_leases(alloc: Global, books: &Books) -> Result<Vec<LeaseNo>, AllocError>
-    ensures { IfOk result (λ leases. leases.items ≡ map (λ receipt. receipt.payment.lease) (filter (λ receipt. is_same_receipt_kind receipt.payment.kind Deposit) (fin.values books.now.books.receipts))) }
+    ensures { IfOk result (λ leases. leases.items ≡ deposit_leases books.now.books) }
 {
     books
         .receipts()
@@ -49,7 +46,7 @@ fn deposit_leases(alloc: Global, books: &Books) -> Result<Vec<LeaseNo>, AllocErr
 
 // Whether no lease has two deposits.
 fn one_deposit_each(alloc: Global, books: &Books) -> Result<bool, AllocError>
-    ensures { IfOk result (λ holds. (holds ≡ true) ↔ EachTwo books.now.books.receipts (λ receipt other. receipt.payment.kind ≡ Deposit → other.payment.kind ≡ Deposit → receipt.payment.lease ≢ other.payment.lease)) }
+    ensures { IfOk result (λ holds. (holds ≡ true) ↔ EachTwo books.now.books.receipts DepositsDiffer) }
 {
     are_distinct(alloc, deposit_leases(alloc, books)?)
 }
@@ -63,7 +60,7 @@ pub fn deposits_in_order(alloc: Global, books: &Books) -> Result<bool, AllocErro
 
 // The keys of receipts, and then those of runs.
 fn keys(alloc: Global, books: &Books) -> Result<Vec<Key>, AllocError>
-    ensures { IfOk result (λ keys. keys.items ≡ map (λ receipt. receipt.key) (fin.values books.now.books.receipts) ++ map (λ run. run.key) (fin.values books.now.books.runs)) }
+    ensures { IfOk result (λ keys. keys.items ≡ all_keys books.now.books) }
 {
     let of_receipts = books.receipts().map(|receipt| receipt.key);
     let of_runs = books.runs().map(|run| run.key);
@@ -72,7 +69,7 @@ fn keys(alloc: Global, books: &Books) -> Result<Vec<Key>, AllocError>
 
 // Whether no key stands twice over receipts and runs.
 fn no_key_twice(alloc: Global, books: &Books) -> Result<bool, AllocError>
-    ensures { IfOk result (λ holds. (holds ≡ true) ↔ AllPairs (λ key other. is_same_text key other ≡ false) (map (λ receipt. receipt.key) (fin.values books.now.books.receipts) ++ map (λ run. run.key) (fin.values books.now.books.runs))) }
+    ensures { IfOk result (λ holds. (holds ≡ true) ↔ NoKeyTwice books.now.books) }
 {
     are_distinct(alloc, keys(alloc, books)?)
 }

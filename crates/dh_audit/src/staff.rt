@@ -1,10 +1,11 @@
 //! Members of staff: whose branch they are of, and how much they manage.
 
-ghost use Rattle.std.specs.Prelude.{◌≡◌, ◌↔◌, ◌≤◌, ℕ, ◌+◌, ◌^◌, ◌<◌, true, if◌then◌else◌, List, IfOk, IfSome, OnOk};
+ghost use Rattle.std.specs.Prelude.{◌≡◌, ◌↔◌, ◌≤◌, ℕ, ◌+◌, ◌^◌, ◌<◌, true, if◌then◌else◌, List, IfOk, OnOk};
 ghost use Rattle.std.specs.FinMap as fin;
 ghost use Rattle.dh_model.specs.Checks.{is_same_text, works_at};
 ghost use Rattle.dh_model.specs.Rules.{Each, ManagesAtMostHundred, StaffOfTheBranch, managed_by};
 ghost use Rattle.dh_audit.specs.Counts.{count_at};
+ghost use Rattle.dh_audit.specs.Staff.{ManagerWorksThere};
 
 use dh_books::Books;
 use dh_types::{Id, Property};
@@ -23,7 +24,7 @@ fn works_at(books: &Books, member: &Id, branch: &Id) -> bool
 
 // Whether the property's manager, if any, belongs to its branch.
 fn manager_works_there(books: &Books, property: &Property) -> bool
-    ensures { (result ≡ true) ↔ IfSome property.now.staff (λ member. works_at property.now.branch (fin.get books.now.books.staff member) ≡ true) }
+    ensures { (result ≡ true) ↔ ManagerWorksThere books.now.books property.now }
 {
     match &property.staff {
         Some(member) => works_at(books, member, &property.branch),
@@ -33,7 +34,7 @@ fn manager_works_there(books: &Books, property: &Property) -> bool
 
 // Whether each property's manager belongs to its branch.
 fn managers_work_there(books: &Books) -> bool
-    ensures { (result ≡ true) ↔ Each books.now.books.properties (λ property. IfSome property.staff (λ member. works_at property.branch (fin.get books.now.books.staff member) ≡ true)) }
+    ensures { (result ≡ true) ↔ Each books.now.books.properties (ManagerWorksThere books.now.books) }
 {
     books
         .properties()

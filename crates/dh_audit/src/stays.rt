@@ -23,7 +23,7 @@ struct Stay {
 }
 
 impl Stay {
-    // That of the lease.
+    // What a lease of these terms covers.
     fn of(terms: &LeaseTerms) -> Stay
         ensures value { result ≡ stay_of terms.now }
         ensures sound { IsSound result }
@@ -36,7 +36,7 @@ impl Stay {
     }
 }
 
-// Those of all leases.
+// The stays of all leases.
 fn stays(alloc: Global, books: &Books) -> Result<Vec<Stay>, AllocError>
     ensures rows { IfOk result (λ stays. stays.items ≡ map (λ lease. stay_of lease.terms) (fin.values books.now.books.leases)) }
     ensures sound { IfOk result (λ stays. All IsSound stays.items) }
@@ -48,7 +48,7 @@ fn stays(alloc: Global, books: &Books) -> Result<Vec<Stay>, AllocError>
     Ok(stays)
 }
 
-// Those of all leases, rising by property, and then by start.
+// The stays of all leases, rising by property, and then by start.
 fn sorted_stays(alloc: Global, books: &Books) -> Result<Vec<Stay>, AllocError>
     ensures rows { IfOk result (λ stays. IsPermutation (map (λ lease. stay_of lease.terms) (fin.values books.now.books.leases)) stays.items) }
     ensures sound { IfOk result (λ stays. All IsSound stays.items) }

@@ -10,19 +10,22 @@ use Rattle.dh_audit.proofs.auditing.audit.Goals as goal
 pub returns-then-not-runs_in_order : goal.returns-then-not-runs_in_order
 returns-then-not-runs_in_order c =
     let books = c.args.books.now.books in
-    let below : HoldBelow books batch_size 9 = subst (λ found. MatchResult found (λ _. HoldBelow books batch_size 9) (IsLeastBroken books batch_size)) c.in_default.is c.in_ok-rule.ensures in
+    let below : HoldBelow books batch_size 9 =
+    subst (λ found. MatchResult found (λ _. HoldBelow books batch_size 9) (IsLeastBroken books batch_size)) c.in_default.is c.in_ok-rule.ensures in
     least books batch_size 9 Runs refl below (λ holds. false≢true (sym c.if-not-runs_in_order.true ∙ c.runs_in_order.ensures.1 holds))
 
 pub returns-then-not-branch : goal.returns-then-not-branch
 returns-then-not-branch c =
     let books = c.args.books.now.books in
-    let below : HoldBelow books batch_size 9 = subst (λ found. MatchResult found (λ _. HoldBelow books batch_size 9) (IsLeastBroken books batch_size)) c.in_default.is c.in_ok-rule.ensures in
+    let below : HoldBelow books batch_size 9 =
+    subst (λ found. MatchResult found (λ _. HoldBelow books batch_size 9) (IsLeastBroken books batch_size)) c.in_default.is c.in_ok-rule.ensures in
     least books batch_size 10 Months refl (below_next books batch_size 9 10 Runs refl refl below (c.runs_in_order.ensures.0 c.if-not-runs_in_order.false))
     (λ holds. false≢true (sym c.if-not-branch.true ∙ c.in_ok-months_in_order.ensures.1 holds))
 
 pub returns : goal.returns
 returns c =
     let books = c.args.books.now.books in
-    let below : HoldBelow books batch_size 9 = subst (λ found. MatchResult found (λ _. HoldBelow books batch_size 9) (IsLeastBroken books batch_size)) c.in_default.is c.in_ok-rule.ensures in
+    let below : HoldBelow books batch_size 9 =
+    subst (λ found. MatchResult found (λ _. HoldBelow books batch_size 9) (IsLeastBroken books batch_size)) c.in_default.is c.in_ok-rule.ensures in
     let runs = below_next books batch_size 9 10 Runs refl refl below (c.runs_in_order.ensures.0 c.if-not-runs_in_order.false) in
     all_rules books batch_size (below_next books batch_size 10 11 Months refl refl runs (c.in_ok-months_in_order.ensures.0 c.if-not-branch.false))

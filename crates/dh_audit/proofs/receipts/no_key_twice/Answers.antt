@@ -1,7 +1,6 @@
-use Rattle.std.specs.FinMap as fin
-use Rattle.std.proofs.Common.{map, ◌++◌}
 use Rattle.std.proofs.lemmas.Result.{IfOk-weaker}
 use Rattle.dh_model.specs.Books.{text_cmp}
+use Rattle.dh_audit.specs.Receipts.{all_keys}
 use Rattle.dh_audit.proofs.Pairs.{TellsDistinct, keys_tell}
 use Rattle.dh_audit.proofs.receipts.no_key_twice.Goals as goal
 
@@ -10,4 +9,4 @@ returns c =
     let books = c.args.books.now.books in
     let items = c.in_ok-keys.field-0.items in
     IfOk-weaker c.are_distinct.result (TellsDistinct text_cmp items) _
-    (λ b tells. keys_tell items (map (λ receipt. receipt.key) (fin.values books.receipts) ++ map (λ run. run.key) (fin.values books.runs)) b c.in_ok-keys.ensures tells) c.are_distinct.ensures
+    (λ b tells. keys_tell items (all_keys books) b c.in_ok-keys.ensures tells) c.are_distinct.ensures

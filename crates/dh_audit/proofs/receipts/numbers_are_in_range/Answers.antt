@@ -7,4 +7,5 @@ use Rattle.dh_audit.proofs.receipts.numbers_are_in_range.Goals as goal
 pub returns : goal.returns
 returns c =
     let books = c.args.books.now.books in
-    each_from_all (λ receipt. (1 ≤ receipt.number) × (receipt.number ≤ fin.len books.receipts)) _ _ c.all.result c.all.ensures.ran (YieldsList-from_rest (fin.values books.receipts) c.receipts.ensures) (λ x b q k. search (rules, tests))
+    each_from_all (λ receipt. (1 ≤ receipt.number) × (receipt.number ≤ fin.len books.receipts)) _ _ c.all.result c.all.ensures.ran
+    (YieldsList-from_rest (fin.values books.receipts) c.receipts.ensures) (λ x b q k. search (rules, tests))

@@ -7,4 +7,5 @@ use Rattle.dh_audit.proofs.receipts.one_deposit_each.Goals as goal
 pub returns : goal.returns
 returns c =
     let items = c.in_ok-deposit_leases.field-0.items in
-    IfOk-weaker c.are_distinct.result (TellsDistinct nat_cmp items) _ (λ b tells. deposits_tell (fin.values c.args.books.now.books.receipts) items b c.in_ok-deposit_leases.ensures tells) c.are_distinct.ensures
+    IfOk-weaker c.are_distinct.result (TellsDistinct nat_cmp items) _
+    (λ b tells. deposits_tell (fin.values c.args.books.now.books.receipts) items b c.in_ok-deposit_leases.ensures tells) c.are_distinct.ensures

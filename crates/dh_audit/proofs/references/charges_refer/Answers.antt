@@ -8,4 +8,5 @@ use Rattle.dh_audit.proofs.references.charges_refer.Goals as goal
 pub returns : goal.returns
 returns c =
     let books = c.args.books.now.books in
-    each_from_all (λ charge. IsThere books.leases charge.lease) _ _ c.all.result c.all.ensures.ran (YieldsList-from_rest (fin.values books.charges) c.charges.ensures) (λ x b q k. search (rules, tests))
+    each_from_all (λ charge. IsThere books.leases charge.lease) _ _ c.all.result c.all.ensures.ran
+    (YieldsList-from_rest (fin.values books.charges) c.charges.ensures) (λ x b q k. search (rules, tests))

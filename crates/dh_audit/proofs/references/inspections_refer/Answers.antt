@@ -8,4 +8,5 @@ use Rattle.dh_audit.proofs.references.inspections_refer.Goals as goal
 pub returns : goal.returns
 returns c =
     let books = c.args.books.now.books in
-    each_from_all (InspectionRefers books) _ _ c.all.result c.all.ensures.ran (YieldsList-from_rest (fin.values books.inspections) c.inspections.ensures) (λ x b q k. search (rules, tests))
+    each_from_all (InspectionRefers books) _ _ c.all.result c.all.ensures.ran
+    (YieldsList-from_rest (fin.values books.inspections) c.inspections.ensures) (λ x b q k. search (rules, tests))

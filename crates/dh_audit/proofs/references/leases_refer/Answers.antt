@@ -8,4 +8,5 @@ use Rattle.dh_audit.proofs.references.leases_refer.Goals as goal
 pub returns : goal.returns
 returns c =
     let books = c.args.books.now.books in
-    each_from_all (LeaseRefers books) _ _ c.all.result c.all.ensures.ran (YieldsList-from_rest (fin.values books.leases) c.leases.ensures) (λ x b q k. search (rules, tests))
+    each_from_all (LeaseRefers books) _ _ c.all.result c.all.ensures.ran
+    (YieldsList-from_rest (fin.values books.leases) c.leases.ensures) (λ x b q k. search (rules, tests))

@@ -8,4 +8,5 @@ use Rattle.dh_audit.proofs.references.parts_have_branches.Goals as goal
 pub returns : goal.returns
 returns c =
     let books = c.args.books.now.books in
-    each_from_all (λ part. IsThere books.branches part.branch) _ _ c.all.result c.all.ensures.ran (YieldsList-from_rest (fin.values books.parts) c.parts.ensures) (λ x b q k. search (rules, tests))
+    each_from_all (λ part. IsThere books.branches part.branch) _ _ c.all.result c.all.ensures.ran
+    (YieldsList-from_rest (fin.values books.parts) c.parts.ensures) (λ x b q k. search (rules, tests))

@@ -1,11 +1,12 @@
-use Rattle.std.proofs.Common.{rules, tests, ◌≡◌, true, IfSome}
+use Rattle.std.proofs.Common.{rules, tests}
 use Rattle.std.specs.FinMap as fin
 use Rattle.std.proofs.lemmas.Iterator.Consumers.{YieldsList-from_rest}
-use Rattle.dh_model.specs.Checks.{works_at}
 use Rattle.dh_month_audit.proofs.Rows.{each_from_all}
+use Rattle.dh_audit.specs.Staff.{ManagerWorksThere}
 use Rattle.dh_audit.proofs.staff.managers_work_there.Goals as goal
 
 pub returns : goal.returns
 returns c =
     let books = c.args.books.now.books in
-    each_from_all (λ property. IfSome property.staff (λ member. works_at property.branch (fin.get books.staff member) ≡ true)) _ _ c.all.result c.all.ensures.ran (YieldsList-from_rest (fin.values books.properties) c.properties.ensures) (λ x b q k. search (rules, tests))
+    each_from_all (ManagerWorksThere books) _ _ c.all.result c.all.ensures.ran
+    (YieldsList-from_rest (fin.values books.properties) c.properties.ensures) (λ x b q k. search (rules, tests))

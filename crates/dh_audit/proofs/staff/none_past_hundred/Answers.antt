@@ -8,4 +8,5 @@ use Rattle.dh_audit.proofs.staff.none_past_hundred.Goals as goal
 pub returns : goal.returns
 returns c =
     let books = c.args.books.now.books in
-    each_from_all (λ member. count_at c.args.counts.now member.number ≤ 100) _ _ c.all.result c.all.ensures.ran (YieldsList-from_rest (fin.values books.staff) c.staff.ensures) (λ x b q k. search (rules, tests))
+    each_from_all (λ member. count_at c.args.counts.now member.number ≤ 100) _ _ c.all.result c.all.ensures.ran
+    (YieldsList-from_rest (fin.values books.staff) c.staff.ensures) (λ x b q k. search (rules, tests))

@@ -8,4 +8,5 @@ use Rattle.dh_audit.proofs.staff.registrars_work_there.Goals as goal
 pub returns : goal.returns
 returns c =
     let books = c.args.books.now.books in
-    each_from_all (λ it. works_at it.branch (fin.get books.staff it.staff) ≡ true) _ _ c.all.result c.all.ensures.ran (YieldsList-from_rest (fin.values books.registrations) c.registrations.ensures) (λ x b q k. search (rules, tests))
+    each_from_all (λ it. works_at it.branch (fin.get books.staff it.staff) ≡ true) _ _ c.all.result c.all.ensures.ran
+    (YieldsList-from_rest (fin.values books.registrations) c.registrations.ensures) (λ x b q k. search (rules, tests))
