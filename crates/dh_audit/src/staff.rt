@@ -2,12 +2,14 @@
 
 ghost use Rattle.std.specs.Prelude.{◌≡◌, ◌↔◌, ◌≤◌, ℕ, ◌+◌, ◌^◌, ◌<◌, true, if◌then◌else◌, List, IfOk, OnOk};
 ghost use Rattle.std.specs.FinMap as fin;
+ghost use Rattle.dh_model.specs.declared.limits.TheConstants.{MANAGED_AT_MOST};
 ghost use Rattle.dh_model.specs.Checks.{is_same_text, works_at};
 ghost use Rattle.dh_model.specs.Rules.{Each, ManagesAtMostHundred, StaffOfTheBranch, managed_by};
 ghost use Rattle.dh_audit.specs.Counts.{count_at};
 ghost use Rattle.dh_audit.specs.Staff.{ManagerWorksThere};
 
 use dh_books::Books;
+use dh_model::MANAGED_AT_MOST;
 use dh_types::{Id, Property};
 use std::alloc::{AllocError, Global};
 use std::collections::BTreeMap;
@@ -90,16 +92,16 @@ fn managed(alloc: Global, books: &Books) -> Result<BTreeMap<Id, u64>, AllocError
     Ok(counts)
 }
 
-// Whether none of these is counted more than 100 times.
+// Whether none of these is counted more often than one may manage.
 fn none_past_hundred(books: &Books, counts: &BTreeMap<Id, u64>) -> bool
-    ensures { (result ≡ true) ↔ Each books.now.books.staff (λ member. count_at counts.now member.number ≤ 100) }
+    ensures { (result ≡ true) ↔ Each books.now.books.staff (λ member. count_at counts.now member.number ≤ MANAGED_AT_MOST) }
 {
     books
         .staff()
-        .all(|member| count_at(counts, &member.number) <= 100)
+        .all(|member| count_at(counts, &member.number) <= MANAGED_AT_MOST)
 }
 
-/// Whether no member of staff manages more than 100 properties. It fails where memory runs out.
+/// Whether no member of staff manages more properties than one may. It fails where memory runs out.
 pub fn manages_at_most_hundred(alloc: Global, books: &Books) -> Result<bool, AllocError>
     ensures { IfOk result (λ holds. (holds ≡ true) ↔ ManagesAtMostHundred books.now.books) }
 {

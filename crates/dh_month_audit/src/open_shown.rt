@@ -1,6 +1,7 @@
 //! How many batches of a month its part rows show.
 
 ghost use Rattle.std.specs.Prelude.{◌≡◌, ◌≤◌, ◌*◌, ◌^◌, ℕ, List, Some, IfOk};
+ghost use Rattle.dh_model.specs.BatchLaws.{AreNumbered};
 ghost use Rattle.dh_model.specs.Rules.{ArePosted};
 ghost use Rattle.dh_model.specs.Runs.{batch_size};
 ghost use Rattle.dh_month_audit.specs.Months.{AreBatchesBefore, batches_at};
@@ -19,6 +20,7 @@ fn batches_before(
 ) -> Result<BTreeMap<Id, u128>, AllocError>
     ensures value { IfOk result (λ before. AreBatchesBefore books.now.books month before) }
     ensures bound { IfOk result (λ before. (branch : List ℕ) → batches_at before branch ≤ 4294967296 * 2 ^ 64) }
+    ensures numbered { IfOk result (λ _. AreNumbered books.now.books) }
 {
     let parts = branch_parts(alloc, books, month)?;
     let mut before = BTreeMap::new(alloc);
@@ -39,7 +41,6 @@ pub(crate) fn batches_shown(
 ) -> Result<u128, AllocError>
     ensures { IfOk result (λ shown. (done : ℕ) → ArePosted books.now.books batch_size month done → shown ≡ done) }
 {
-    books.leases_are_numbered();
     let before = batches_before(alloc, books, month)?;
     let mut shown = 0;
     for part in books.parts() {

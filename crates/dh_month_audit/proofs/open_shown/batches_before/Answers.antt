@@ -17,7 +17,7 @@ loop-part-preserved c =
     let part = c.part-item.result in
     let branches = keys books.branches in
     let items = c.deref-part-items.result.now in
-    let are = c.deref-part-items.ensures.value ∙ c.in_ok-parts.ensures in
+    let are = c.deref-part-items.ensures.value ∙ c.in_ok-parts.ensures.value in
     let long = ap length are ∙ length-map branches (part_of_all batch_size books month) in
     let here : i < length branches = omega (arith, long, c.loop-part-test.true) in
     let of : IsTurnOf batch_size books month i part = subst (IsTurnOf batch_size books month i) (sym c.part-item.is) (turn batch_size books month items i part are here) in
@@ -36,10 +36,11 @@ pub returns : goal.returns
 returns c =
     let books = c.args.books.now.books in
     let branches = keys books.branches in
-    let are = c.deref-part-items.ensures.value ∙ c.in_ok-parts.ensures in
+    let are = c.deref-part-items.ensures.value ∙ c.in_ok-parts.ensures.value in
     let long = ap length are ∙ length-map branches (part_of_all batch_size books c.args.month) in
     let all = take_all c.loop-part.part-index branches (omega (arith, long, c.loop-part-test.false)) in
     record {
       value = λ branch a. c.loop-part.invariant.value branch (subst (λ ks. Among ks branch) (sym all) (among branches branch a));
       bound = λ branch. let had = c.loop-part.invariant.bound branch in omega (arith, had, long, c.deref-part-items.ensures.len);
+      numbered = c.in_ok-parts.ensures.numbered;
     }

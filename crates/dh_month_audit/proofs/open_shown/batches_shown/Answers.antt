@@ -32,7 +32,7 @@ loop-part-preserved-then-eq c =
     let same : part.month ≡ month = (numbers part.month month).0 (sym c.eq.ensures ∙ c.if-eq.true) in
     let one_more = map-append deref c.loop-part.yielded (c.in-Some.part ∷ []) in
     record {
-      within = λ n posted. within_more batch_size books month part found c.loop-part.shown c.max-shown.result is chosen (omega arith) c.leases_are_numbered.ensures n posted in_books same (c.loop-part.invariant.within n posted);
+      within = λ n posted. within_more batch_size books month part found c.loop-part.shown c.max-shown.result is chosen (omega arith) c.in_ok-before.ensures.numbered n posted in_books same (c.loop-part.invariant.within n posted);
       reached = λ row a. reached_more batch_size books month part found c.loop-part.shown c.max-shown.result is chosen done c.loop-part.invariant.reached row (subst (λ (rows : List Part). Among rows row) one_more a);
     }
 
@@ -51,5 +51,5 @@ pub returns : goal.returns
 returns c = λ done posted.
     let books = c.args.books.now.books in
     let all = (iter_end deref _ _ _ _ _ _ (c.into_iter-part-iterator.ensures.into_iter_gives ∙ c.parts-part-items.ensures) c.loop-part.yielded_by c.in-None.is c.next.ensures.steps).0 in
-    shown_is_done batch_size books c.args.month (omega arith) c.leases_are_numbered.ensures done posted c.loop-part.shown (c.loop-part.invariant.within done posted)
+    shown_is_done batch_size books c.args.month (omega arith) c.in_ok-before.ensures.numbered done posted c.loop-part.shown (c.loop-part.invariant.within done posted)
     (λ row a. c.loop-part.invariant.reached row (subst (λ (rows : List Part). Among rows row) (sym all) a))
