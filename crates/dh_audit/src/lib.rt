@@ -29,6 +29,3 @@ pub use references::names_what_is_there;
 pub use runs::runs_in_order;
 pub use staff::{manages_at_most_hundred, staff_of_the_branch};
 pub use stays::leases_never_overlap;
-
-#[cfg(test)]
-mod tests;

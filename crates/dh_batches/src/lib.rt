@@ -11,6 +11,3 @@ pub use batching::{BATCH_SIZE, batches, batches_for};
 pub use parts::branch_parts;
 pub use posted::{posted_charges, posted_parts, whole, with_posted};
 pub use posting::with_run;
-
-#[cfg(test)]
-mod tests;

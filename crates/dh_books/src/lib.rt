@@ -4,6 +4,3 @@
 mod books;
 
 pub use books::Books;
-
-#[cfg(test)]
-mod tests;

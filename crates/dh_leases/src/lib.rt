@@ -6,6 +6,3 @@ mod terms;
 
 pub use charges::{due_in, dues};
 pub use terms::{covers, end_of, overlap};
-
-#[cfg(test)]
-mod tests;

@@ -17,6 +17,3 @@ pub use lists::branches;
 pub use run_reports::run_report;
 pub use statements::statement;
 pub use vacancies::{matching, vacant};
-
-#[cfg(test)]
-mod tests;

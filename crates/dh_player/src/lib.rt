@@ -8,6 +8,3 @@ mod telling;
 pub use moving::{Reach, advanced, cut_undone, mended, moved, torn};
 pub use playing::{Happening, Played, play};
 pub use telling::{Told, cut_done, said};
-
-#[cfg(test)]
-mod tests;

@@ -13,6 +13,3 @@ pub use dh_leases::dues;
 pub use dh_lists::{answer, balance, matching, vacant};
 pub use dh_verdicts::decide;
 pub use machine::{Stepped, step};
-
-#[cfg(test)]
-mod tests;

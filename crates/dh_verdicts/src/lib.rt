@@ -17,6 +17,3 @@ pub use deciding::decide;
 pub use leases::decide_lease;
 pub use properties::{decide_assign, decide_property, decide_rent};
 pub use receipts::{decide_receipt, decide_run};
-
-#[cfg(test)]
-mod tests;
