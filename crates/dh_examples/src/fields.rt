@@ -1,15 +1,31 @@
-//! The fields of a script's line.
+//! The fields of a line.
 
-use dh_types::{BadText, Comment, EntryDay, EntryMonth, Id, Key, LeaseNo, Rent, Text60};
-use std::alloc::{AllocError, Global};
+use dh_types::{
+    BadText, ChargeIndex, Comment, Day, EntryDay, EntryMonth, Id, Key, LeaseNo, Month, Pence,
+    ReceiptNo, Rent, Text60,
+};
+use std::alloc::{AllocError, AllocFailed, Global};
+use std::num::ParseIntError;
 use std::str::Split;
 
-/// A line that is no command, or want of memory.
+/// A line that can't be read, or want of memory.
 #[derive(Debug, Drop)]
 pub struct Unreadable;
 
 impl From<AllocError> for Unreadable {
     fn from(_error: AllocError) -> Unreadable {
+        Unreadable
+    }
+}
+
+impl<T: Drop> From<AllocFailed<T>> for Unreadable {
+    fn from(_error: AllocFailed<T>) -> Unreadable {
+        Unreadable
+    }
+}
+
+impl From<ParseIntError> for Unreadable {
+    fn from(_error: ParseIntError) -> Unreadable {
         Unreadable
     }
 }
@@ -20,65 +36,98 @@ impl From<BadText> for Unreadable {
     }
 }
 
-/// What is left of a line.
+/// The fields of a line that are not read yet. Each method reads the next one.
 #[derive(Drop)]
-pub(crate) struct Fields<'a> {
+pub struct Fields<'a> {
     rest: Split<'a, char>,
 }
 
 impl<'a> Fields<'a> {
-    pub(crate) fn of(line: &'a str) -> Fields<'a> {
+    /// All fields of the line.
+    pub fn of(line: &'a str) -> Fields<'a> {
         Fields {
             rest: line.split(','),
         }
     }
 
-    pub(crate) fn text(&mut self) -> Result<&'a str, Unreadable> {
+    pub fn text(&mut self) -> Result<&'a str, Unreadable> {
         self.rest.next().ok_or(Unreadable)
     }
 
-    pub(crate) fn id(&mut self) -> Result<Id, Unreadable> {
+    pub fn id(&mut self) -> Result<Id, Unreadable> {
         Ok(Id::read(self.text()?)?)
     }
 
     /// The code, or none where the field is empty.
-    pub(crate) fn id_if_any(&mut self) -> Result<Option<Id>, Unreadable> {
+    pub fn id_if_any(&mut self) -> Result<Option<Id>, Unreadable> {
         match self.text()? {
             "" => Ok(None),
             text => Ok(Some(Id::read(text)?)),
         }
     }
 
-    pub(crate) fn key(&mut self) -> Result<Key, Unreadable> {
+    pub fn key(&mut self) -> Result<Key, Unreadable> {
         Ok(Key::read(self.text()?)?)
     }
 
-    pub(crate) fn lease_no(&mut self) -> Result<LeaseNo, Unreadable> {
+    pub fn lease_no(&mut self) -> Result<LeaseNo, Unreadable> {
         Ok(LeaseNo::read(self.text()?)?)
     }
 
-    pub(crate) fn rent(&mut self) -> Result<Rent, Unreadable> {
+    pub fn rent(&mut self) -> Result<Rent, Unreadable> {
         Ok(Rent::read(self.text()?)?)
     }
 
-    pub(crate) fn day(&mut self) -> Result<EntryDay, Unreadable> {
+    pub fn day(&mut self) -> Result<EntryDay, Unreadable> {
         Ok(EntryDay::read(self.text()?)?)
     }
 
-    pub(crate) fn month(&mut self) -> Result<EntryMonth, Unreadable> {
+    pub fn month(&mut self) -> Result<EntryMonth, Unreadable> {
         Ok(EntryMonth::read(self.text()?)?)
     }
 
-    pub(crate) fn text60(&mut self, alloc: Global) -> Result<Text60, Unreadable> {
+    pub fn any_month(&mut self) -> Result<Month, Unreadable> {
+        Ok(Month::read(self.text()?)?)
+    }
+
+    pub fn any_day(&mut self) -> Result<Day, Unreadable> {
+        Ok(Day::read(self.text()?)?)
+    }
+
+    pub fn pence(&mut self) -> Result<Pence, Unreadable> {
+        Ok(Pence::read(self.text()?)?)
+    }
+
+    pub fn number(&mut self) -> Result<u32, Unreadable> {
+        Ok(self.text()?.parse::<u32>()?)
+    }
+
+    pub fn charge_index(&mut self) -> Result<ChargeIndex, Unreadable> {
+        ChargeIndex::try_of_number(i64::from(self.number()?)).ok_or(Unreadable)
+    }
+
+    pub fn receipt_no(&mut self) -> Result<ReceiptNo, Unreadable> {
+        ReceiptNo::try_of_number(i64::from(self.number()?)).ok_or(Unreadable)
+    }
+
+    /// The lease, or none where the field is empty.
+    pub fn lease_no_if_any(&mut self) -> Result<Option<LeaseNo>, Unreadable> {
+        match self.text()? {
+            "" => Ok(None),
+            text => Ok(Some(LeaseNo::read(text)?)),
+        }
+    }
+
+    pub fn text60(&mut self, alloc: Global) -> Result<Text60, Unreadable> {
         Ok(Text60::read(alloc, self.text()?)??)
     }
 
-    pub(crate) fn comment(&mut self, alloc: Global) -> Result<Comment, Unreadable> {
+    pub fn comment(&mut self, alloc: Global) -> Result<Comment, Unreadable> {
         Ok(Comment::read(alloc, self.text()?)??)
     }
 
     /// The comment, or none where the field is empty.
-    pub(crate) fn comment_if_any(&mut self, alloc: Global) -> Result<Option<Comment>, Unreadable> {
+    pub fn comment_if_any(&mut self, alloc: Global) -> Result<Option<Comment>, Unreadable> {
         match self.text()? {
             "" => Ok(None),
             text => Ok(Some(Comment::read(alloc, text)??)),

@@ -1,20 +1,25 @@
-//! Worked examples: what an office tells its agency, line by line, and what it is answered. Each layer's tests play the same
-//! scripts.
+//! The lines of worked examples: what an office tells its agency, line by line, and what it is answered. Programs over each
+//! layer play the same scripts.
+//!
+//! A line is words, an arrow ` -> `, and what is wanted: the reply to a command, or the answer to a question. The words of a
+//! command are its name and its fields between commas, as `rent,P101,650.00`; `command` reads them, `question` those of
+//! `show,..`, and `row_of` those of a row of the books, which `to_line` writes again. `script` reads a whole text: blocks of lines
+//! under headings. Read `Block` first.
 #![tactic(auto)]
 
 mod commands;
 mod fields;
-mod judged;
+mod people;
+mod properties;
+mod questions;
+mod row_lines;
+mod rows;
 mod scripts;
+mod terms;
 
 pub use commands::command;
-pub use fields::Unreadable;
-pub use judged::{
-    HUNDRED_MANAGED, LEASE_LEAP_DAY, LEASE_STARTS, LEAST_OVERLAP, NOT_THERE, OTHER_BRANCH,
-    RECEIPT_KEYS, REPEATS, REPLACED, RUN_KEYS, TWO_OFFICES, WHILE_OPEN,
-};
-pub use scripts::{
-    BASE, CLIENTS_START, DEPOSIT, LEASE_MONTHS, LEASE_OVERLAP, MATCHING, MATCHING_LEASE,
-    MONTHS_IN_ORDER, OPEN_AND_POST, RECEIPT_KEY, REGISTRATIONS, RUN_OF_THREE, STAFF_AND_PROPERTIES,
-    STATEMENT, THREE, WRONG_BRANCH,
-};
+pub use fields::{Fields, Unreadable};
+pub use questions::question;
+pub use row_lines::ToLine;
+pub use rows::{Row, row_of};
+pub use scripts::{Block, Manner, script};

@@ -1,0 +1,135 @@
+//! The calls that take books and give them back. Each leaves books without a row where memory runs out.
+
+ghost use Rattle.std.specs.Prelude.{◌≡◌};
+
+use dh_batches::{whole, with_posted, with_run};
+use dh_books::Books;
+use dh_examples::{Row, Unreadable};
+use dh_player::{Reach, cut_done, cut_undone, mended, said, torn};
+use dh_rules::step;
+use dh_types::{Command, EntryMonth, Key, Month};
+use std::alloc::{AllocError, Global};
+use std::mem;
+
+fn january() -> Month
+    ensures { result ≡ 24300 }
+{
+    Month::of_number(24300)
+}
+
+/// Books that begin with 2025-01.
+pub(crate) fn empty(alloc: Global) -> Books {
+    Books::new(alloc, january(), january())
+}
+
+fn take(alloc: Global, books: &mut Books) -> Books
+    ensures { result ≡ books.old }
+{
+    mem::replace(books, empty(alloc))
+}
+
+/// The machine's step: the text of its reply.
+pub(crate) fn tell(
+    alloc: Global,
+    books: &mut Books,
+    command: &Command,
+) -> Result<String, AllocError> {
+    let stepped = step(alloc, take(alloc, books), command)?;
+    *books = stepped.books;
+    stepped.reply.to_string(alloc)
+}
+
+/// The player's answered command: the text of its reply.
+pub(crate) fn say(
+    alloc: Global,
+    tables: &mut Books,
+    command: &Command,
+) -> Result<String, AllocError> {
+    let told = said(alloc, take(alloc, tables), command)?;
+    *tables = told.tables;
+    told.reply.to_string(alloc)
+}
+
+/// The command cut before it changed the books.
+pub(crate) fn cut_before(
+    alloc: Global,
+    tables: &mut Books,
+    command: &Command,
+    reach: Reach,
+) -> Result<(), AllocError> {
+    *tables = cut_undone(alloc, take(alloc, tables), command, reach)?;
+    Ok(())
+}
+
+/// The command cut and carried out.
+pub(crate) fn cut_after(
+    alloc: Global,
+    tables: &mut Books,
+    command: &Command,
+    standing: Option<u128>,
+) -> Result<(), AllocError> {
+    *tables = cut_done(alloc, take(alloc, tables), command, standing)?;
+    Ok(())
+}
+
+/// A recovery that is cut.
+pub(crate) fn tear(alloc: Global, tables: &mut Books, reach: Reach) -> Result<(), AllocError> {
+    *tables = torn(alloc, take(alloc, tables), reach)?;
+    Ok(())
+}
+
+/// A recovery that comes to its end.
+pub(crate) fn mend(alloc: Global, tables: &mut Books) -> Result<(), AllocError> {
+    *tables = mended(alloc, take(alloc, tables))?;
+    Ok(())
+}
+
+/// So many batches of the month in the place of what the books have of it.
+pub(crate) fn post(
+    alloc: Global,
+    books: &mut Books,
+    month: EntryMonth,
+    done: u32,
+) -> Result<(), AllocError> {
+    *books = with_posted(alloc, take(alloc, books), month, u128::from(done))?;
+    Ok(())
+}
+
+/// The run that the rows show as open, made to its end.
+pub(crate) fn make_whole(alloc: Global, books: &mut Books) -> Result<(), AllocError> {
+    *books = whole(alloc, take(alloc, books))?;
+    Ok(())
+}
+
+/// The run of the next month, made in one step.
+pub(crate) fn make_run(alloc: Global, books: &mut Books, key: Key) -> Result<(), Unreadable> {
+    let Some(month) = EntryMonth::of(books.next()) else {
+        return Err(Unreadable);
+    };
+    let before = take(alloc, books);
+    *books = with_run(alloc, before, month, key)?;
+    Ok(())
+}
+
+/// Puts the row under its key, unasked.
+pub(crate) fn put(books: &mut Books, row: Row) -> Result<(), AllocError> {
+    match row {
+        Row::Branch(it) => books.put_branch(it),
+        Row::Staff(it) => books.put_member(it),
+        Row::Owner(it) => books.put_owner(it),
+        Row::Property(it) => books.put_property(it),
+        Row::Client(it) => books.put_client(it),
+        Row::Registration(it) => books.put_registration(it),
+        Row::Viewing(it) => books.put_viewing(it),
+        Row::Inspection(it) => books.put_inspection(it),
+        Row::Lease(it) => books.put_lease(it),
+        Row::Charge(it) => books.put_charge(it),
+        Row::Receipt(it) => books.put_receipt(it),
+        Row::Run(it) => books.put_run(it),
+        Row::Part(it) => books.put_part(it),
+        Row::Next(month) => {
+            books.set_next(month);
+            Ok(())
+        }
+    }
+}

@@ -1,0 +1,220 @@
+//! What is done at a line, and the text of its answer.
+
+use crate::answers::{balanced, matched, shown, vacancies};
+use crate::calls::{make_run, make_whole, post, put, say, tell};
+use crate::finding::found;
+use crate::lists::{counted, listed};
+use crate::rules::{audited, is_kept};
+use crate::runs::{
+    batched, clear_charges, clear_parts, open_run, posted, set_open_run, whole_parts,
+};
+use crate::terms::{covered, due, dues_of, end, overlapping};
+use dh_books::Books;
+use dh_examples::{Fields, Unreadable, command, row_of};
+use dh_model::Verdict;
+use dh_rules::decide;
+use dh_types::{Command, Reply};
+use std::alloc::{AllocError, Global};
+
+/// Who is told the commands.
+#[derive(Clone, Copy)]
+pub(crate) enum Teller {
+    Machine,
+    /// The player of what can happen to tables.
+    Player,
+}
+
+fn replied(
+    alloc: Global,
+    teller: Teller,
+    books: &mut Books,
+    command: &Command,
+) -> Result<String, AllocError> {
+    match teller {
+        Teller::Machine => tell(alloc, books, command),
+        Teller::Player => say(alloc, books, command),
+    }
+}
+
+fn commanded(
+    alloc: Global,
+    teller: Teller,
+    books: &mut Books,
+    words: &str,
+) -> Result<String, Unreadable> {
+    let command = command(alloc, words)?;
+    let text = replied(alloc, teller, books, &command);
+    drop(command);
+    Ok(text?)
+}
+
+// The reply that a verdict comes to; a change is accepted.
+fn reply_of(verdict: &Verdict) -> Reply {
+    match verdict {
+        Verdict::Change(_) => Reply::Accepted,
+        Verdict::Already(reply) => *reply,
+        Verdict::Refused(refusal) => Reply::Refused(*refusal),
+    }
+}
+
+fn decided(alloc: Global, books: &Books, command: &Command) -> Result<String, AllocError> {
+    let verdict = decide(alloc, books, command)?;
+    reply_of(&verdict).to_string(alloc)
+}
+
+// `judge,COMMAND`: the verdict, which changes nothing.
+fn judged(alloc: Global, books: &Books, words: &str) -> Result<String, Unreadable> {
+    let command = command(alloc, words)?;
+    let text = decided(alloc, books, &command);
+    drop(command);
+    Ok(text?)
+}
+
+fn put_row(alloc: Global, books: &mut Books, words: &str) -> Result<(), Unreadable> {
+    let row = row_of(alloc, words)?;
+    Ok(put(books, row)?)
+}
+
+fn put_rows(alloc: Global, books: &mut Books, rows: &str) -> Result<(), Unreadable> {
+    for words in rows.split("; ") {
+        put_row(alloc, books, words)?;
+    }
+    Ok(())
+}
+
+// What changes the books unasked.
+fn changed(alloc: Global, books: &mut Books, kind: &str, rest: &str) -> Result<(), Unreadable> {
+    let mut fields = Fields::of(rest);
+    match kind {
+        "put" => put_rows(alloc, books, rest),
+        "post batches" => Ok(post(alloc, books, fields.month()?, fields.number()?)?),
+        "make whole" => Ok(make_whole(alloc, books)?),
+        "make run" => make_run(alloc, books, fields.key()?),
+        "set open run" => set_open_run(books, &mut fields),
+        "clear charges" => clear_charges(books, &mut fields),
+        "clear parts" => clear_parts(books, &mut fields),
+        _ => Err(Unreadable),
+    }
+}
+
+// What is asked of one lease or of all.
+fn of_leases(
+    alloc: Global,
+    books: &Books,
+    kind: &str,
+    fields: &mut Fields,
+) -> Result<String, Unreadable> {
+    match kind {
+        "end" => end(alloc, books, fields),
+        "covers" => covered(alloc, books, fields),
+        "overlap" => overlapping(alloc, books, fields),
+        "due" => due(alloc, books, fields),
+        "dues" => dues_of(alloc, books, fields),
+        "balance" => balanced(alloc, books, fields),
+        _ => Err(Unreadable),
+    }
+}
+
+// What is asked of runs and months.
+fn of_months(
+    alloc: Global,
+    books: &Books,
+    kind: &str,
+    fields: &mut Fields,
+) -> Result<String, Unreadable> {
+    match kind {
+        "batches" => batched(alloc, books, fields),
+        "posted" => posted(alloc, books, fields),
+        "whole parts" => whole_parts(alloc, books, fields),
+        "open run" => open_run(alloc, books),
+        "first" => Ok(books.first().to_string(alloc)?),
+        "next" => Ok(books.next().to_string(alloc)?),
+        _ => of_leases(alloc, books, kind, fields),
+    }
+}
+
+fn asked(alloc: Global, books: &Books, kind: &str, rest: &str) -> Result<String, Unreadable> {
+    let mut fields = Fields::of(rest);
+    match kind {
+        "show" => shown(alloc, books, rest),
+        "judge" => judged(alloc, books, rest),
+        "audit" => audited(alloc, books),
+        "rule" => is_kept(alloc, books, rest),
+        "vacant" => vacancies(alloc, books, &mut fields),
+        "matching" => matched(alloc, books, &mut fields),
+        "find" => found(alloc, books, &mut fields),
+        "rows" => listed(alloc, books, rest),
+        "count" => counted(alloc, books, rest),
+        _ => of_months(alloc, books, kind, &mut fields),
+    }
+}
+
+// Whether such a line changes the books and is no command.
+fn is_change(kind: &str) -> bool {
+    matches!(
+        kind,
+        "put"
+            | "post batches"
+            | "make whole"
+            | "make run"
+            | "set open run"
+            | "clear charges"
+            | "clear parts"
+    )
+}
+
+/// Whether the words are those of a command.
+pub(crate) fn is_command(words: &str) -> bool {
+    let (kind, _) = words.split_once(',').unwrap_or((words, ""));
+    matches!(
+        kind,
+        "branch"
+            | "staff"
+            | "owner"
+            | "property"
+            | "assign"
+            | "rent"
+            | "client"
+            | "register"
+            | "viewing"
+            | "comment"
+            | "inspection"
+            | "lease"
+            | "receipt"
+            | "run"
+            | "open"
+            | "post"
+    )
+}
+
+// What the words without rows are answered.
+fn answered_bare(
+    alloc: Global,
+    teller: Teller,
+    books: &mut Books,
+    words: &str,
+) -> Result<String, Unreadable> {
+    if is_command(words) {
+        return commanded(alloc, teller, books, words);
+    }
+    let (kind, rest) = words.split_once(',').unwrap_or((words, ""));
+    if !is_change(kind) {
+        return asked(alloc, books, kind, rest);
+    }
+    changed(alloc, books, kind, rest)?;
+    Ok("ok".to_string(alloc)?)
+}
+
+/// What the words are answered. Rows behind ` with ` and between `; ` are put into the books first.
+pub(crate) fn answered(
+    alloc: Global,
+    teller: Teller,
+    books: &mut Books,
+    words: &str,
+) -> Result<String, Unreadable> {
+    let Some((words, rows)) = words.split_once(" with ") else {
+        return answered_bare(alloc, teller, books, words);
+    };
+    put_rows(alloc, books, rows)?;
+    answered_bare(alloc, teller, books, words)
+}

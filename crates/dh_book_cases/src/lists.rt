@@ -1,0 +1,91 @@
+//! All rows of a kind.
+
+use dh_books::Books;
+use dh_examples::{ToLine, Unreadable};
+use std::alloc::{AllocError, Global};
+use std::collections::btree_map::{Keys, Values};
+use std::fmt::Display;
+
+/// Adds a part to a text of several, which stand between ` / `.
+pub(crate) fn add(text: &mut String, part: &str) -> Result<(), AllocError> {
+    if !text.is_empty() {
+        text.push_str(" / ")?;
+    }
+    text.push_str(part)
+}
+
+/// The parts together, or `none`.
+pub(crate) fn or_none(alloc: Global, text: String) -> Result<String, AllocError> {
+    if text.is_empty() {
+        return "none".to_string(alloc);
+    }
+    Ok(text)
+}
+
+/// The rows' lines.
+pub(crate) fn lines_of<T: ToLine>(alloc: Global, rows: &[T]) -> Result<String, AllocError> {
+    let mut text = String::new(alloc);
+    for row in rows {
+        add(&mut text, row.to_line(alloc)?.as_str())?;
+    }
+    or_none(alloc, text)
+}
+
+fn all<K: Ord, T: ToLine>(alloc: Global, rows: Values<'_, K, T>) -> Result<String, Unreadable> {
+    let mut text = String::new(alloc);
+    for row in rows {
+        add(&mut text, row.to_line(alloc)?.as_str())?;
+    }
+    Ok(or_none(alloc, text)?)
+}
+
+fn all_keys<K: Ord + Display, T>(
+    alloc: Global,
+    keys: Keys<'_, K, T>,
+) -> Result<String, Unreadable> {
+    let mut text = String::new(alloc);
+    for key in keys {
+        add(&mut text, key.to_string(alloc)?.as_str())?;
+    }
+    Ok(or_none(alloc, text)?)
+}
+
+fn other_rows(alloc: Global, books: &Books, kind: &str) -> Result<String, Unreadable> {
+    match kind {
+        "leases" => all(alloc, books.leases()),
+        "charges" => all(alloc, books.charges()),
+        "receipts" => all(alloc, books.receipts()),
+        "runs" => all(alloc, books.runs()),
+        "parts" => all(alloc, books.parts()),
+        "branch numbers" => all_keys(alloc, books.branch_numbers()),
+        "run months" => all_keys(alloc, books.run_months()),
+        _ => Err(Unreadable),
+    }
+}
+
+/// `rows,KIND`: all rows of the kind, rising by key.
+pub(crate) fn listed(alloc: Global, books: &Books, kind: &str) -> Result<String, Unreadable> {
+    match kind {
+        "branches" => all(alloc, books.branches()),
+        "staff" => all(alloc, books.staff()),
+        "owners" => all(alloc, books.owners()),
+        "properties" => all(alloc, books.properties()),
+        "clients" => all(alloc, books.clients()),
+        "registrations" => all(alloc, books.registrations()),
+        "viewings" => all(alloc, books.viewings()),
+        "inspections" => all(alloc, books.inspections()),
+        _ => other_rows(alloc, books, kind),
+    }
+}
+
+/// `count,KIND`: how many rows there are.
+pub(crate) fn counted(alloc: Global, books: &Books, kind: &str) -> Result<String, Unreadable> {
+    let count = match kind {
+        "charges" => books.charges().count(),
+        "parts" => books.parts().count(),
+        "runs" => books.runs().count(),
+        "receipts" => books.receipt_count(),
+        _ => return Err(Unreadable),
+    };
+    Ok(count.to_string(alloc)?)
+}
