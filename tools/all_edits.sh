@@ -1,6 +1,6 @@
 #!/usr/bin/env bash
 # Tries every wrong body of the named crates, or of all: those that the gate tries (must-fail/*.edit) and those put aside, which
-# show the same form at an alike function (must-fail/*.aside). It works on a copy, and ends as `rt must-fail` does.
+# show the same form at an alike function (must-fail/*.edit.md). It works on a copy, and ends as `rt must-fail` does.
 #   tools/all_edits.sh [CRATE..]
 #   tools/all_edits.sh --texts     only: that each old text stands once in its file
 set -eu
@@ -9,7 +9,7 @@ if [ "${1:-}" = --texts ]; then
     exec python3 - <<'PY'
 import glob, re, sys
 wrong = 0
-for path in sorted(glob.glob('crates/*/must-fail/*.edit') + glob.glob('crates/*/must-fail/*.aside')):
+for path in sorted(glob.glob('crates/*/must-fail/*.edit') + glob.glob('crates/*/must-fail/*.edit.md')):
     crate, texts, name = path.rsplit('/must-fail/', 1)[0], {}, None
     old = None
     for line in open(path, encoding='utf-8'):
@@ -33,7 +33,7 @@ trap 'rm -rf "$copy"' EXIT
 git ls-files -z --cached --others --exclude-standard | xargs -0 cp --parents -t "$copy" 2>/dev/null || true
 cd "$copy"
 git init -q .
-for aside in crates/*/must-fail/*.aside; do
-    mv "$aside" "${aside%.aside}.edit"
+for aside in crates/*/must-fail/*.edit.md; do
+    mv "$aside" "${aside%.md}"
 done
 rt must-fail "$@"

@@ -76,8 +76,8 @@ impl<S: Alter> Agency<S> {
     }
 
     /// Answers the question and changes nothing. At fault 21 or 22 the agency has stopped; where it had stopped, fault 23.
-    pub fn show(&mut self, alloc: Global, question: Question) -> Result<Answer, Fault>
-        ensures said { IsClean S.Store self.new → IfOk result (λ answer. report_of answer ≡ known_report (machine S.Store self.old) question) }
+    pub fn show(&mut self, alloc: Global, question: &Question) -> Result<Answer, Fault>
+        ensures said { IsClean S.Store self.new → IfOk result (λ answer. report_of answer ≡ known_report (machine S.Store self.old) question.now) }
         ensures same { IsClean S.Store self.new → OnOk result (machine S.Store self.new ≡ machine S.Store self.old) }
         ensures left { IsClean S.Store self.new → OnOk result (LeavesItsTables S.Store self.new) }
         ensures crash { IsClean S.Store self.new → self.old.is_stopped ≡ false → Leaves S.Store self.new (λ left. left ≡ machine S.Store self.old) }

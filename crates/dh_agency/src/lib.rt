@@ -7,4 +7,5 @@ mod opening;
 
 pub use agency::Agency;
 pub use dh_laws::lives as laws;
+pub use dh_laws::passing;
 pub use opening::{NotOpened, create};

@@ -29,7 +29,7 @@ pub(crate) fn covered(
     fields: &mut Fields,
 ) -> Result<String, Unreadable> {
     let lease = lease(books, fields)?;
-    yes_or_no(alloc, covers(&lease.terms, fields.day()?))
+    yes_or_no(alloc, covers(&lease.terms, fields.day()?.day()))
 }
 
 /// `overlap,LEASE,LEASE`

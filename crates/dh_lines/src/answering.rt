@@ -66,7 +66,7 @@ fn answer_question<S: Alter, W: Write>(
     ensures stops { (agency.new.is_stopped ≡ agency.old.is_stopped) ⊎ (IsAgencyFault result × (agency.new.is_stopped ≡ true)) }
     ensures was_clean { WasClean S.Store agency.old agency.new }
 {
-    match agency.show(alloc, question) {
+    match agency.show(alloc, &question) {
         Ok(answer) => {
             put_answer_line(writer, number, &answer)?;
             Ok(matches!(&answer, Answer::Refused(_)))

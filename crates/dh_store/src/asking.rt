@@ -47,8 +47,8 @@ fn decide(alloc: Global, books: &Books, command: &Command) -> Result<Verdict, Al
 }
 
 // The answer that the books give; a question about what has no table is a line of an unknown question.
-fn answer(alloc: Global, books: &Books, question: Question) -> Result<Answer, AllocError>
-    ensures { IfOk result (λ a. report_of a ≡ known_report books.now question) }
+fn answer(alloc: Global, books: &Books, question: &Question) -> Result<Answer, AllocError>
+    ensures { IfOk result (λ a. report_of a ≡ known_report books.now question.now) }
 {
     match question {
         Question::Branches => Ok(Answer::Branches(branches(alloc, books)?)),
@@ -80,10 +80,10 @@ pub fn ask<S: Alter>(
 pub fn look_up<S: Alter>(
     alloc: Global,
     conn: &mut Connection<S>,
-    question: Question,
+    question: &Question,
 ) -> Result<Answer, Fault>
     requires { HasCleanDisk (state S.Store conn.old) → IsReady (state S.Store conn.old) }
-    ensures answer { HasCleanDisk (state S.Store conn.new) → IfOk result (λ a. report_of a ≡ known_report (tables (state S.Store conn.old)) question) }
+    ensures answer { HasCleanDisk (state S.Store conn.new) → IfOk result (λ a. report_of a ≡ known_report (tables (state S.Store conn.old)) question.now) }
     ensures done { HasCleanDisk (state S.Store conn.new) → OnOk result (IsReady (state S.Store conn.new) × (tables (state S.Store conn.new) ≡ tables (state S.Store conn.old))) }
     ensures kept { HasCleanDisk (state S.Store conn.new) → IsTrue (state S.Store conn.new).is_open → tables (state S.Store conn.new) ≡ tables (state S.Store conn.old) }
     ensures cause { IfErr result IsFirstFault }

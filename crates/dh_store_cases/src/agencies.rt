@@ -49,7 +49,7 @@ fn answer_text(alloc: Global, answer: &Answer) -> Result<String, AllocError> {
 }
 
 fn shown<S: Alter>(alloc: Global, agency: &mut Agency<S>) -> Result<String, AllocError> {
-    match agency.show(alloc, Question::Branches) {
+    match agency.show(alloc, &Question::Branches) {
         Ok(answer) => answer_text(alloc, &answer),
         Err(fault) => format!(in alloc; "{fault}"),
     }
