@@ -5,7 +5,7 @@
 set -eu
 cd "$(dirname "$(readlink -f "${BASH_SOURCE[0]}")")/.."
 program=$PWD/bench/out/large_books
-libraries="dh_values dh_days dh_types dh_model dh_books dh_leases dh_lists dh_batches dh_month_audit dh_audit"
+libraries="dh_values dh_days dh_types dh_model dh_books dh_leases dh_lists dh_month_audit dh_audit"
 
 sources() {
     echo crates.txt bench/large_books.sh bench/large_books

@@ -6,6 +6,5 @@ mod carrying;
 mod opening;
 
 pub use agency::Agency;
-pub use dh_laws::lives as laws;
-pub use dh_laws::passing;
+pub use dh_laws::{lives as laws, passing};
 pub use opening::{NotOpened, create};

@@ -96,9 +96,7 @@ fn managed(alloc: Global, books: &Books) -> Result<BTreeMap<Id, u64>, AllocError
 fn none_past_hundred(books: &Books, counts: &BTreeMap<Id, u64>) -> bool
     ensures { (result ≡ true) ↔ Each books.now.books.staff (λ member. count_at counts.now member.number ≤ MANAGED_AT_MOST) }
 {
-    books
-        .staff()
-        .all(|member| count_at(counts, &member.number) <= MANAGED_AT_MOST)
+    books.staff().all(|member| count_at(counts, &member.number) <= MANAGED_AT_MOST)
 }
 
 /// Whether no member of staff manages more properties than one may. It fails where memory runs out.

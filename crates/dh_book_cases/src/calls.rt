@@ -2,9 +2,9 @@
 
 ghost use Rattle.std.specs.Prelude.{◌≡◌};
 
-use dh_batches::{whole, with_posted, with_run};
 use dh_books::Books;
 use dh_examples::{Row, Unreadable};
+use dh_leases::{whole, with_posted, with_run};
 use dh_player::{Reach, cut_done, cut_undone, mended, said, torn};
 use dh_rules::step;
 use dh_types::{Command, EntryMonth, Key, Month};

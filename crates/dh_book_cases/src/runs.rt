@@ -1,9 +1,9 @@
 //! Rent runs and their batches.
 
 use crate::lists::{add, lines_of};
-use dh_batches::{branch_parts, posted_charges, posted_parts};
 use dh_books::Books;
 use dh_examples::{Fields, Unreadable};
+use dh_leases::{branch_parts, posted_charges, posted_parts};
 use dh_model::OpenRun;
 use dh_rules::batches;
 use std::alloc::Global;

@@ -62,6 +62,6 @@ no_more low top (lease ∷ leases) within rise above below =
 pub few_leases : (books : Books) → AreKept books.leases → length (values books.leases) ≤ 99999999
 few_leases books kept =
     let is_one : (lease : Lease) → Among (values books.leases) lease → IsLeaseNo lease.terms.number
-      = λ lease a. let row = row_of nat_total nat_ties books.leases lease a in kept.in_range row.0 lease row.1 in
+    = λ lease a. let row = row_of nat_total nat_ties books.leases lease a in kept.in_range row.0 lease row.1 in
     let all = no_more 1 99999999 (values books.leases) (omega arith) (leases_rise books kept.numbered) (λ lease a. (is_one lease a).0) (λ lease a. (is_one lease a).1) in
     omega (arith, all)

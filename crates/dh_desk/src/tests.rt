@@ -7,7 +7,8 @@ const REFUSALS: &[u8] =
     b"branch,B001,1 Main St,Leeds,LS1 1AA\nbranch,B001,1 Main St,Leeds,LS1 1AA\nbranch,B001,9 Main St,Leeds,LS1 1AA\n\
     branch,b002,1 A St,Leeds,LS1\nbranch,B003,5 Oak Rd,York\nshow,nothing\n";
 
-const REFUSED: &[u8] = b"1 ok\n2 already\n3 refused 1\n4 bad field 2\n5 bad field 5\n6 bad field 2\n";
+const REFUSED: &[u8] =
+    b"1 ok\n2 already\n3 refused 1\n4 bad field 2\n5 bad field 5\n6 bad field 2\n";
 
 // What the program prints for the input, and its exit status.
 fn answered(rt: &HostRuntime, words: &[&str], input: &[u8]) -> (Vec<u8>, u8) {

@@ -1,8 +1,19 @@
-//! What a lease covers, and what falls due on it. Read [`due_in`] first.
+//! What a lease covers, what falls due on it, and a month's rent run of what falls due: its batches, what each branch has of it,
+//! and the books after it. Read [`due_in`] first, and then [`with_posted`].
 #![tactic(auto)]
 
+mod batching;
+mod by_branch;
 mod charges;
+mod parts;
+mod posted;
+mod posting;
+mod sums;
 mod terms;
 
+pub use batching::{batches, batches_for};
 pub use charges::{due_in, dues};
+pub use parts::branch_parts;
+pub use posted::{open_row, posted_charges, posted_parts, whole, with_posted};
+pub use posting::with_run;
 pub use terms::{covers, end_of, overlap};

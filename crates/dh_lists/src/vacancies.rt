@@ -21,10 +21,8 @@ use std::collections::{BTreeMap, BTreeSet};
 
 // The numbers of the properties that some lease covers that day.
 fn covered(alloc: Global, books: &Books, day: Day) -> Result<BTreeSet<Id>, AllocError>
-    ensures {
-        IfOk result (λ numbers. (property : Property) →
-            not (set.contains text_cmp numbers property.number) ≡ is_vacant books.now.books day property)
-    }
+    ensures { IfOk result (λ numbers. (property : Property) →
+        not (set.contains text_cmp numbers property.number) ≡ is_vacant books.now.books day property) }
 {
     let mut numbers = BTreeSet::new(alloc);
     for lease in books.leases() {
@@ -51,11 +49,9 @@ pub fn vacant(alloc: Global, books: &Books, day: Day) -> Result<Vec<Property>, A
 
 // Whether the client would take the property, where a lease covers these.
 fn is_match(property: &Property, client: &Client, covered: &BTreeSet<Id>) -> bool
-    ensures {
-        result ≡ (is_same_property_type property.now.property_type client.now.preferred_type
-            && nat_le property.now.rent client.now.greatest_rent
-            && not (set.contains text_cmp covered.now property.now.number))
-    }
+    ensures { result ≡ (is_same_property_type property.now.property_type client.now.preferred_type
+        && nat_le property.now.rent client.now.greatest_rent
+        && not (set.contains text_cmp covered.now property.now.number)) }
 {
     property.property_type == client.preferred_type
         && property.rent <= client.greatest_rent
@@ -67,11 +63,9 @@ fn put_first(
     found: &mut BTreeMap<(Rent, Id), Property>,
     property: Property,
 ) -> Result<(), AllocError>
-    ensures {
-        OnOk result ((key : ℕ × List ℕ) →
-            tree.get (pair_cmp nat_cmp text_cmp) found.new key ≡ option_or (tree.get (pair_cmp nat_cmp text_cmp) found.old key)
-                (if is_at (pair_cmp nat_cmp text_cmp key) (property.rent, property.number) then Some property else None))
-    }
+    ensures { OnOk result ((key : ℕ × List ℕ) →
+        tree.get (pair_cmp nat_cmp text_cmp) found.new key ≡ option_or (tree.get (pair_cmp nat_cmp text_cmp) found.old key)
+        (if is_at (pair_cmp nat_cmp text_cmp key) (property.rent, property.number) then Some property else None)) }
 {
     let key = (property.rent, property.number);
     if !found.contains_key(&key) {
@@ -87,10 +81,8 @@ fn by_rent(
     client: &Client,
     day: Day,
 ) -> Result<BTreeMap<(Rent, Id), Property>, AllocError>
-    ensures {
-        IfOk result (λ found. fin.from_entries found.entries
-            ≡ by_rent books.now.books (filter (matches books.now.books client.now day) (fin.values books.now.books.properties)))
-    }
+    ensures { IfOk result (λ found. fin.from_entries found.entries
+        ≡ by_rent books.now.books (filter (matches books.now.books client.now day) (fin.values books.now.books.properties))) }
 {
     let covered = covered(alloc, books, day)?;
     let mut found = BTreeMap::new(alloc);

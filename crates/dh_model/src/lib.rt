@@ -10,6 +10,6 @@ pub mod machine_laws;
 mod open_run;
 mod rows;
 
-pub use limits::{BATCH_SIZE, MANAGED_AT_MOST};
+pub use limits::{BATCH_SIZE, MANAGED_AT_MOST, limits_in_figures};
 pub use open_run::OpenRun;
 pub use rows::{Change, Verdict};

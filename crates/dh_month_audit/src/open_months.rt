@@ -6,8 +6,8 @@ ghost use Rattle.dh_model.specs.Runs.{batch_size, batches, posted_charges, poste
 
 use crate::open_shown::batches_shown;
 use crate::same::have_the_same;
-use dh_batches::{batches, posted_charges, posted_parts};
 use dh_books::Books;
+use dh_leases::{batches, posted_charges, posted_parts};
 use dh_types::{Charge, EntryMonth, Part, Pence, Run};
 use std::alloc::{AllocError, Global};
 

@@ -6,8 +6,8 @@ ghost use Rattle.dh_model.specs.Rules.{ArePosted};
 ghost use Rattle.dh_model.specs.Runs.{batch_size};
 ghost use Rattle.dh_month_audit.specs.Months.{AreBatchesBefore, batches_at};
 
-use dh_batches::{batches_for, branch_parts};
 use dh_books::Books;
+use dh_leases::{batches_for, branch_parts};
 use dh_types::{EntryMonth, Id};
 use std::alloc::{AllocError, Global};
 use std::collections::BTreeMap;

@@ -8,8 +8,8 @@ ghost use Rattle.dh_laws.specs.Events.{Happens, IsUndone, Mended, Torn};
 ghost use Rattle.dh_laws.specs.StateTables.{AreInOrder, advanced_run, tables};
 ghost use Rattle.dh_player.specs.Reaches.{batches_left, moved_run, reach_within, undone_run};
 
-use dh_batches::{batches, whole, with_posted};
 use dh_books::Books;
+use dh_leases::{batches, whole, with_posted};
 use dh_model::OpenRun;
 use dh_types::{BatchCount, Command};
 use std::alloc::{AllocError, Global};

@@ -8,9 +8,8 @@ mod runs;
 
 pub use changes::{accepted, apply_change};
 pub use dh_audit::audit;
-pub use dh_batches::batches;
 pub use dh_books::Books;
-pub use dh_leases::dues;
+pub use dh_leases::{batches, dues};
 pub use dh_lists::{answer, balance, matching, vacant};
 pub use dh_model::BATCH_SIZE;
 pub use dh_verdicts::decide;

@@ -5,8 +5,8 @@ ghost use Rattle.dh_model.specs.Machine.{posted, posted_sum, resumed, run_made, 
 ghost use Rattle.dh_model.specs.Runs.{batch_size};
 
 use crate::Stepped;
-use dh_batches::{batches, with_run};
 use dh_books::Books;
+use dh_leases::{batches, with_run};
 use dh_model::OpenRun;
 use dh_types::{BatchCount, EntryMonth, Pence, Progress, Refusal, Reply, Run, RunSum};
 use std::alloc::{AllocError, Global};

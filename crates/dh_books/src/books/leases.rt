@@ -20,11 +20,9 @@ impl Books {
 
     /// Puts the lease under its key, in the place of the one that has it. An error changes nothing.
     pub fn put_lease(&mut self, row: Lease) -> Result<(), AllocError>
-        ensures ok {
-            OnOk result (self.new ≡ record self.old {
-                books = record self.old.books { leases = fin.insert self.old.books.leases row.terms.number row };
-            })
-        }
+        ensures ok { OnOk result (self.new ≡ record self.old {
+          books = record self.old.books { leases = fin.insert self.old.books.leases row.terms.number row };
+        }) }
         ensures err { OnErr result (self.new ≡ self.old) }
     {
         let number = row.key();
@@ -50,11 +48,9 @@ impl Books {
 
     /// Puts the charge under its key, in the place of the one that has it. An error changes nothing.
     pub fn put_charge(&mut self, row: Charge) -> Result<(), AllocError>
-        ensures ok {
-            OnOk result (self.new ≡ record self.old {
-                books = record self.old.books { charges = fin.insert self.old.books.charges (row.lease, row.index) row };
-            })
-        }
+        ensures ok { OnOk result (self.new ≡ record self.old {
+          books = record self.old.books { charges = fin.insert self.old.books.charges (row.lease, row.index) row };
+        }) }
         ensures err { OnErr result (self.new ≡ self.old) }
     {
         let _before = self.charges.insert((row.lease, row.index), row)?;
@@ -77,11 +73,9 @@ impl Books {
 
     /// Puts the receipt under its key, in the place of the one that has it. An error changes nothing.
     pub fn put_receipt(&mut self, row: Receipt) -> Result<(), AllocError>
-        ensures ok {
-            OnOk result (self.new ≡ record self.old {
-                books = record self.old.books { receipts = fin.insert self.old.books.receipts row.number row };
-            })
-        }
+        ensures ok { OnOk result (self.new ≡ record self.old {
+          books = record self.old.books { receipts = fin.insert self.old.books.receipts row.number row };
+        }) }
         ensures err { OnErr result (self.new ≡ self.old) }
     {
         let _before = self.receipts.insert(row.number, row)?;

@@ -18,11 +18,9 @@ impl Books {
 
     /// Puts the branch under its key, in the place of the one that has it. An error changes nothing.
     pub fn put_branch(&mut self, row: Branch) -> Result<(), AllocError>
-        ensures ok {
-            OnOk result (self.new ≡ record self.old {
-                books = record self.old.books { branches = fin.insert self.old.books.branches row.number row };
-            })
-        }
+        ensures ok { OnOk result (self.new ≡ record self.old {
+          books = record self.old.books { branches = fin.insert self.old.books.branches row.number row };
+        }) }
         ensures err { OnErr result (self.new ≡ self.old) }
     {
         let _before = self.branches.insert(row.number, row)?;
@@ -52,11 +50,9 @@ impl Books {
 
     /// Puts the member of staff under its key, in the place of the one that has it. An error changes nothing.
     pub fn put_member(&mut self, row: Staff) -> Result<(), AllocError>
-        ensures ok {
-            OnOk result (self.new ≡ record self.old {
-                books = record self.old.books { staff = fin.insert self.old.books.staff row.number row };
-            })
-        }
+        ensures ok { OnOk result (self.new ≡ record self.old {
+          books = record self.old.books { staff = fin.insert self.old.books.staff row.number row };
+        }) }
         ensures err { OnErr result (self.new ≡ self.old) }
     {
         let _before = self.staff.insert(row.number, row)?;
@@ -79,11 +75,9 @@ impl Books {
 
     /// Puts the owner under its key, in the place of the one that has it. An error changes nothing.
     pub fn put_owner(&mut self, row: Owner) -> Result<(), AllocError>
-        ensures ok {
-            OnOk result (self.new ≡ record self.old {
-                books = record self.old.books { owners = fin.insert self.old.books.owners row.number row };
-            })
-        }
+        ensures ok { OnOk result (self.new ≡ record self.old {
+          books = record self.old.books { owners = fin.insert self.old.books.owners row.number row };
+        }) }
         ensures err { OnErr result (self.new ≡ self.old) }
     {
         let _before = self.owners.insert(row.number, row)?;
@@ -106,11 +100,9 @@ impl Books {
 
     /// Puts the client under its key, in the place of the one that has it. An error changes nothing.
     pub fn put_client(&mut self, row: Client) -> Result<(), AllocError>
-        ensures ok {
-            OnOk result (self.new ≡ record self.old {
-                books = record self.old.books { clients = fin.insert self.old.books.clients row.number row };
-            })
-        }
+        ensures ok { OnOk result (self.new ≡ record self.old {
+          books = record self.old.books { clients = fin.insert self.old.books.clients row.number row };
+        }) }
         ensures err { OnErr result (self.new ≡ self.old) }
     {
         let _before = self.clients.insert(row.number, row)?;

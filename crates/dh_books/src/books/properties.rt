@@ -18,11 +18,9 @@ impl Books {
 
     /// Puts the property under its key, in the place of the one that has it. An error changes nothing.
     pub fn put_property(&mut self, row: Property) -> Result<(), AllocError>
-        ensures ok {
-            OnOk result (self.new ≡ record self.old {
-                books = record self.old.books { properties = fin.insert self.old.books.properties row.number row };
-            })
-        }
+        ensures ok { OnOk result (self.new ≡ record self.old {
+          books = record self.old.books { properties = fin.insert self.old.books.properties row.number row };
+        }) }
         ensures err { OnErr result (self.new ≡ self.old) }
     {
         let _before = self.properties.insert(row.number, row)?;
@@ -45,11 +43,9 @@ impl Books {
 
     /// Puts the registration under its key, in the place of the one that has it. An error changes nothing.
     pub fn put_registration(&mut self, row: Registration) -> Result<(), AllocError>
-        ensures ok {
-            OnOk result (self.new ≡ record self.old {
-                books = record self.old.books { registrations = fin.insert self.old.books.registrations (row.client, row.branch) row };
-            })
-        }
+        ensures ok { OnOk result (self.new ≡ record self.old {
+          books = record self.old.books { registrations = fin.insert self.old.books.registrations (row.client, row.branch) row };
+        }) }
         ensures err { OnErr result (self.new ≡ self.old) }
     {
         let _before = self.registrations.insert((row.client, row.branch), row)?;
@@ -72,11 +68,9 @@ impl Books {
 
     /// Puts the viewing under its key, in the place of the one that has it. An error changes nothing.
     pub fn put_viewing(&mut self, row: Viewing) -> Result<(), AllocError>
-        ensures ok {
-            OnOk result (self.new ≡ record self.old {
-                books = record self.old.books { viewings = fin.insert self.old.books.viewings (row.client, row.property) row };
-            })
-        }
+        ensures ok { OnOk result (self.new ≡ record self.old {
+          books = record self.old.books { viewings = fin.insert self.old.books.viewings (row.client, row.property) row };
+        }) }
         ensures err { OnErr result (self.new ≡ self.old) }
     {
         let _before = self.viewings.insert((row.client, row.property), row)?;
@@ -99,11 +93,9 @@ impl Books {
 
     /// Puts the inspection under its key, in the place of the one that has it. An error changes nothing.
     pub fn put_inspection(&mut self, row: Inspection) -> Result<(), AllocError>
-        ensures ok {
-            OnOk result (self.new ≡ record self.old {
-                books = record self.old.books { inspections = fin.insert self.old.books.inspections (row.property, row.day) row };
-            })
-        }
+        ensures ok { OnOk result (self.new ≡ record self.old {
+          books = record self.old.books { inspections = fin.insert self.old.books.inspections (row.property, row.day) row };
+        }) }
         ensures err { OnErr result (self.new ≡ self.old) }
     {
         let _before = self.inspections.insert((row.property, row.day), row)?;

@@ -18,11 +18,9 @@ impl Books {
 
     /// Puts the run under its key, in the place of the one that has it. An error changes nothing.
     pub fn put_run(&mut self, row: Run) -> Result<(), AllocError>
-        ensures ok {
-            OnOk result (self.new ≡ record self.old {
-                books = record self.old.books { runs = fin.insert self.old.books.runs row.month row };
-            })
-        }
+        ensures ok { OnOk result (self.new ≡ record self.old {
+          books = record self.old.books { runs = fin.insert self.old.books.runs row.month row };
+        }) }
         ensures err { OnErr result (self.new ≡ self.old) }
     {
         let _before = self.runs.insert(row.month, row)?;
@@ -52,11 +50,9 @@ impl Books {
 
     /// Puts the part under its key, in the place of the one that has it. An error changes nothing.
     pub fn put_part(&mut self, row: Part) -> Result<(), AllocError>
-        ensures ok {
-            OnOk result (self.new ≡ record self.old {
-                books = record self.old.books { parts = fin.insert self.old.books.parts (row.month, row.branch) row };
-            })
-        }
+        ensures ok { OnOk result (self.new ≡ record self.old {
+          books = record self.old.books { parts = fin.insert self.old.books.parts (row.month, row.branch) row };
+        }) }
         ensures err { OnErr result (self.new ≡ self.old) }
     {
         let _before = self.parts.insert((row.month, row.branch), row)?;

@@ -1,6 +1,0 @@
-pub mod BehindLemmas
-pub mod FewLemmas
-pub mod PartLemmas
-pub mod PostedLemmas
-pub mod RowLemmas
-pub mod RunLemmas

@@ -1,0 +1,103 @@
+-- No lease has dues at two branches, so what is posted is no more than there are leases.
+use Rattle.std.proofs.Common.{◌≡◌, ◌∙◌, refl, sym, ap, subst, inl, inr, ℕ, ◌+◌, ◌≤◌, Bool, true, false, cond, List, [], ◌∷◌, length, Option, Some, None, is_lt, nat_lt, arith}
+use Rattle.std.specs.List.{count_by, filter, sum_by}
+use Rattle.std.specs.FinMap.{entries, entries_sorted, get, is_sorted, keys, values}
+use Rattle.std.proofs.lemmas.Bool.{cases_Bool, false≢true}
+use Rattle.std.proofs.lemmas.Cmp.{nat_list_cmp_total, tied_itself}
+use Rattle.std.proofs.lemmas.List.Concat.{length-flat_map}
+use Rattle.std.proofs.lemmas.List.Sums.{sum_by-cons, sum_by-le-sum_by}
+use Rattle.dh_types.specs.declared.property.Property.{Property}
+use Rattle.dh_types.specs.declared.lease.Lease.{Lease}
+use Rattle.dh_types.proofs.SameValues.{texts}
+use Rattle.dh_model.specs.Books.{Books, text_cmp}
+use Rattle.dh_model.specs.Runs.{batch_of, dues_of_branch, is_property_of, leases_of_branch, posted_charges, posted_of_branch}
+use Rattle.dh_model.proofs.Among.{Among}
+use Rattle.dh_model.proofs.BranchDues.{holds, keys_rise}
+use Rattle.dh_model.proofs.Rising.{IsBefore, Rises}
+use Rattle.dh_leases.proofs.PartLemmas.{no_more_dues, no_more_kept}
+
+module _ {X Y : Type 0} (test : Y → X → Bool) (Before : Y → Y → Type 0) (apart : (a b : Y) (x : X) → Before a b → test a x ≡ true → test b x ≡ true → ⊥) where
+  none_later : (a : Y) (bs : List Y) (x : X) → test a x ≡ true → ((b : Y) → Among bs b → Before a b) → count_by (λ b. test b x) bs ≡ 0
+  none_later a [] x passes later = refl
+  none_later a (b ∷ bs) x passes later =
+      let fails : test b x ≡ false = elim (cases_Bool (test b x)) [
+        | inl also ↦ absurd (apart a b x (later b (inl refl)) passes also)
+        | inr other ↦ other
+      ] in
+      let counted : count_by (λ c. test c x) (b ∷ bs) ≡ 0 + count_by (λ c. test c x) bs = sum_by-cons (λ c. cond (test c x) 1 0) b bs ∙ ap (λ t. cond t 1 0 + count_by (λ c. test c x) bs) fails in
+      let rest = none_later a bs x passes (λ c h. later c (inr h)) in
+      omega (arith, counted, rest)
+
+  at_most_one : (bs : List Y) (x : X) → Rises Before bs → count_by (λ b. test b x) bs ≤ 1
+  at_most_one [] x r = omega arith
+  at_most_one (b ∷ bs) x r = elim (cases_Bool (test b x)) [
+    | inl passes ↦
+        let counted : count_by (λ c. test c x) (b ∷ bs) ≡ 1 + count_by (λ c. test c x) bs = sum_by-cons (λ c. cond (test c x) 1 0) b bs ∙ ap (λ t. cond t 1 0 + count_by (λ c. test c x) bs) passes in
+        let none = none_later b bs x passes r.0 in
+        omega (arith, counted, none)
+    | inr fails ↦
+        let counted : count_by (λ c. test c x) (b ∷ bs) ≡ 0 + count_by (λ c. test c x) bs = sum_by-cons (λ c. cond (test c x) 1 0) b bs ∙ ap (λ t. cond t 1 0 + count_by (λ c. test c x) bs) fails in
+        let rest = at_most_one bs x r.1 in
+        omega (arith, counted, rest)
+  ]
+
+  one_or_none : (b : Bool) (x : X) (xs : List X) → length (cond b (x ∷ xs) xs) ≡ cond b 1 0 + length xs
+  one_or_none true x xs = omega arith
+  one_or_none false x xs = omega arith
+
+  one_more : (bs : List Y) (x : X) (xs : List X) → sum_by (λ b. length (filter (test b) (x ∷ xs))) bs ≡ count_by (λ b. test b x) bs + sum_by (λ b. length (filter (test b) xs)) bs
+  one_more [] x xs = omega arith
+  one_more (b ∷ bs) x xs =
+      let all = sum_by-cons (λ c. length (filter (test c) (x ∷ xs))) b bs in
+      let counted : count_by (λ c. test c x) (b ∷ bs) ≡ cond (test b x) 1 0 + count_by (λ c. test c x) bs = sum_by-cons (λ c. cond (test c x) 1 0) b bs in
+      let others = sum_by-cons (λ c. length (filter (test c) xs)) b bs in
+      let own : length (filter (test b) (x ∷ xs)) ≡ cond (test b x) 1 0 + length (filter (test b) xs) = one_or_none (test b x) x (filter (test b) xs) in
+      let rest = one_more bs x xs in
+      omega (arith, all, counted, others, own, rest)
+
+  nothing : (bs : List Y) → sum_by (λ b. length (filter (test b) [])) bs ≡ 0
+  nothing [] = refl
+  nothing (b ∷ bs) =
+      let all = sum_by-cons (λ c. length (filter (test c) [])) b bs in
+      let rest = nothing bs in
+      omega (arith, all, rest)
+
+  -- tests of which no two pass at one element pass at no more than there are
+  shares : (bs : List Y) → Rises Before bs → (xs : List X) → sum_by (λ b. length (filter (test b) xs)) bs ≤ length xs
+  shares bs r [] = let none = nothing bs in omega (arith, none)
+  shares bs r (x ∷ xs) =
+      let more = one_more bs x xs in
+      let one = at_most_one bs x r in
+      let rest = shares bs r xs in
+      omega (arith, more, one, rest)
+
+one_branch : (a b : List ℕ) (property : Option Property) → is_property_of a property ≡ true → is_property_of b property ≡ true → a ≡ b
+one_branch a b None p q = cc
+one_branch a b (Some property) p q = sym ((texts property.branch a).0 p) ∙ (texts property.branch b).0 q
+
+branches_apart : (a b : List ℕ) (property : Option Property) → IsBefore text_cmp a b → is_property_of a property ≡ true → is_property_of b property ≡ true → ⊥
+branches_apart a b property before p q =
+    let itself : is_lt (text_cmp a a) ≡ true = subst (λ k. is_lt (text_cmp a k) ≡ true) (sym (one_branch a b property p q)) before in
+    false≢true (sym (ap is_lt (tied_itself nat_list_cmp_total a)) ∙ itself)
+
+module _ (size : ℕ) (books : Books) (month done : ℕ) where
+  few_of_branch : (branch : List ℕ) → length (posted_of_branch size books month done branch) ≤ length (leases_of_branch books branch)
+  few_of_branch branch =
+      let kept = no_more_kept (λ charge. nat_lt (batch_of size books month branch charge) done) (dues_of_branch books month branch) in
+      let dues = no_more_dues (leases_of_branch books branch) month in
+      omega (arith, kept, dues)
+
+  pub few_posted : length (posted_charges size books month done) ≤ length (values books.leases)
+  few_posted =
+      let rise = keys_rise text_cmp (entries books.branches) (holds (is_sorted text_cmp (entries books.branches)) (entries_sorted books.branches)) in
+      let all = length-flat_map (posted_of_branch size books month done) (keys books.branches) in
+      let few = sum_by-le-sum_by (λ branch. length (posted_of_branch size books month done branch)) (λ branch. length (leases_of_branch books branch)) (keys books.branches) few_of_branch in
+      let shared = shares (λ (branch : List ℕ) (lease : Lease). is_property_of branch (get books.properties lease.terms.property)) (IsBefore text_cmp)
+      (λ a b lease. branches_apart a b (get books.properties lease.terms.property)) (keys books.branches) rise (values books.leases) in
+      omega (arith, all, few, shared)
+
+pub few_dues : (books : Books) (month : ℕ) (branch : List ℕ) → length (dues_of_branch books month branch) ≤ length (values books.leases)
+few_dues books month branch =
+    let dues = no_more_dues (leases_of_branch books branch) month in
+    let kept = no_more_kept (λ lease. is_property_of branch (get books.properties lease.terms.property)) (values books.leases) in
+    omega (arith, dues, kept)

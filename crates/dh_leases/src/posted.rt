@@ -1,0 +1,147 @@
+//! The books with so many batches of a month's run.
+
+ghost use Rattle.std.specs.Prelude.{◌≡◌, ◌*◌, ◌≤◌, IfOk, OnOk, Some, length, option_copied, take};
+ghost use Rattle.dh_model.specs.Runs.{batch_size, posted_charges, posted_parts};
+ghost use Rattle.dh_model.specs.Whole.{completed, open_row, whole, with_posted};
+ghost use Rattle.dh_leases.specs.Posted.{with_month};
+
+use crate::batching::{batches, batches_for};
+use crate::by_branch::{dues_by_branch, of_branch};
+use crate::posting::{put_charges, put_parts};
+use crate::sums::{closed, part_with};
+use dh_books::Books;
+use dh_model::BATCH_SIZE;
+use dh_types::{Charge, EntryMonth, Part, Run};
+use std::alloc::{AllocError, Global};
+
+// The first of the charges, as many as so many batches have.
+fn first_batches(charges: &[Charge], count: u128) -> &[Charge]
+    ensures { result.now ≡ take (count * batch_size) charges.now }
+{
+    let most = count.saturating_mul(u128::from(BATCH_SIZE));
+    let taken = most.min(charges.len() as u128) as usize;
+    &charges[..taken]
+}
+
+// The month's charges after so many batches, no more than there are leases, and its part rows then.
+fn posted(
+    alloc: Global,
+    books: &Books,
+    month: EntryMonth,
+    done: u128,
+) -> Result<(Vec<Charge>, Vec<Part>), AllocError>
+    ensures charges { IfOk result (λ rows. rows.0.items ≡ posted_charges batch_size books.now.books month done) }
+    ensures parts { IfOk result (λ rows. rows.1.items ≡ posted_parts batch_size books.now.books month done) }
+    ensures few { IfOk result (λ rows. length rows.0.items ≤ 100000000) }
+{
+    let dues = dues_by_branch(alloc, books, month)?;
+    let mut charges = Vec::new(alloc);
+    let mut parts = Vec::new(alloc);
+    let mut left = done;
+    for branch in books.branch_numbers() {
+        let all = of_branch(&dues, branch);
+        let first = first_batches(all, left);
+        charges.extend_from_slice(first)?;
+        if left > 0 {
+            parts.push(part_with(month, *branch, first))?;
+        }
+        left = left.saturating_sub(batches_for(all.len() as u64));
+    }
+    Ok((charges, parts))
+}
+
+// The month's charges after so many batches, no more than there are leases.
+fn charges_after(
+    alloc: Global,
+    books: &Books,
+    month: EntryMonth,
+    done: u128,
+) -> Result<Vec<Charge>, AllocError>
+    ensures value { IfOk result (λ charges. charges.items ≡ posted_charges batch_size books.now.books month done) }
+    ensures few { IfOk result (λ charges. length charges.items ≤ 100000000) }
+{
+    let (charges, _parts) = posted(alloc, books, month, done)?;
+    Ok(charges)
+}
+
+/// The month's charges after so many batches, branch by branch and each branch's by lease. It fails where memory runs out.
+pub fn posted_charges(
+    alloc: Global,
+    books: &Books,
+    month: EntryMonth,
+    done: u128,
+) -> Result<Vec<Charge>, AllocError>
+    ensures { IfOk result (λ charges. charges.items ≡ posted_charges batch_size books.now.books month done) }
+{
+    charges_after(alloc, books, month, done)
+}
+
+/// The month's part rows after so many batches, rising by branch. It fails where memory runs out.
+pub fn posted_parts(
+    alloc: Global,
+    books: &Books,
+    month: EntryMonth,
+    done: u128,
+) -> Result<Vec<Part>, AllocError>
+    ensures { IfOk result (λ parts. parts.items ≡ posted_parts batch_size books.now.books month done) }
+{
+    let (_charges, parts) = posted(alloc, books, month, done)?;
+    Ok(parts)
+}
+
+// Puts these in the place of what the books have of the month.
+fn put_posted(
+    books: &mut Books,
+    month: EntryMonth,
+    charges: Vec<Charge>,
+    parts: Vec<Part>,
+) -> Result<(), AllocError>
+    ensures { OnOk result (books.new ≡ record books.old { books = with_month books.old.books month charges.items parts.items }) }
+{
+    books.clear_month_charges(month);
+    put_charges(books, charges)?;
+    books.clear_month_parts(month);
+    put_parts(books, parts)
+}
+
+/// The books with so many batches of the month in the place of what they have of it.
+pub fn with_posted(
+    alloc: Global,
+    mut books: Books,
+    month: EntryMonth,
+    done: u128,
+) -> Result<Books, AllocError>
+    ensures { IfOk result (λ b. b ≡ record books { books = with_posted batch_size books.books month done }) }
+{
+    let (charges, parts) = posted(alloc, &books, month, done)?;
+    put_posted(&mut books, month, charges, parts)?;
+    Ok(books)
+}
+
+/// The first run that is open, if one is.
+pub fn open_row(books: &Books) -> Option<&Run>
+    ensures { option_copied result ≡ open_row books.now.books }
+{
+    books.runs().find(|run| !run.is_closed)
+}
+
+// The books with the run made to its end.
+fn completed(alloc: Global, books: Books, run: Run) -> Result<Books, AllocError>
+    ensures { IfOk result (λ b. b ≡ record books { books = completed batch_size books.books (Some run) }) }
+{
+    let all = batches(alloc, &books, run.month)?;
+    let charges = charges_after(alloc, &books, run.month, all)?;
+    let mut after = with_posted(alloc, books, run.month, all)?;
+    after.put_run(closed(run, &charges))?;
+    Ok(after)
+}
+
+/// The books with the run that their rows show as open made to its end.
+pub fn whole(alloc: Global, books: Books) -> Result<Books, AllocError>
+    ensures { IfOk result (λ b. b ≡ record books { books = whole batch_size books.books }) }
+{
+    match open_row(&books).copied() {
+        Some(run) => completed(alloc, books, run),
+        None => Ok(books),
+    }
+}

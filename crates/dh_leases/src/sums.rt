@@ -1,0 +1,96 @@
+//! What charges come to.
+
+ghost use Rattle.std.specs.Prelude.{◌≡◌, ◌+◌, ◌*◌, ◌<◌, ◌≤◌, [], Some, length};
+ghost use Rattle.dh_model.specs.Runs.{at_least, closed_run, part_of};
+ghost use Rattle.dh_leases.specs.Sums.{sum_of};
+
+use dh_types::{Charge, EntryMonth, Id, LeaseNo, Part, Pence, Run};
+
+/// The greatest lease among charges, how many they are, and the pence that they come to.
+#[derive(Clone, Copy)]
+pub(crate) struct Sum {
+    pub(crate) through: Option<LeaseNo>,
+    pub(crate) count: u32,
+    pub(crate) total: Pence,
+}
+
+// What no charges come to.
+fn nothing() -> Sum
+    ensures { result ≡ sum_of [] }
+{
+    Sum {
+        through: None,
+        count: 0,
+        total: Pence::of_pence(0),
+    }
+}
+
+// The greater lease.
+fn greater(through: Option<LeaseNo>, lease: LeaseNo) -> LeaseNo
+    ensures { result ≡ at_least through lease }
+{
+    match through {
+        Some(most) if lease < most => most,
+        _ => lease,
+    }
+}
+
+// The sum with one charge more.
+fn with_charge(sum: Sum, charge: &Charge) -> Sum
+    requires few { sum.count < 100000000 }
+    requires small { sum.total ≤ 999999 * sum.count }
+    ensures value { result ≡ record {
+      through = Some (at_least sum.through charge.now.lease);
+      count = sum.count + 1;
+      total = sum.total + charge.now.amount;
+    } }
+    ensures bound { charge.now.amount ≤ 999999 }
+{
+    let amount = u64::from(charge.amount.pence());
+    Sum {
+        through: Some(greater(sum.through, charge.lease)),
+        count: sum.count + 1,
+        total: Pence::of_pence(sum.total.pence() + amount),
+    }
+}
+
+// What the charges come to.
+fn sum_of(charges: &[Charge]) -> Sum
+    requires { length charges.now ≤ 100000000 }
+    ensures { result ≡ sum_of charges.now }
+{
+    let mut sum = nothing();
+    for charge in charges {
+        sum = with_charge(sum, charge);
+    }
+    sum
+}
+
+/// What the branch has of the month's run where these are its charges.
+pub(crate) fn part_with(month: EntryMonth, branch: Id, charges: &[Charge]) -> Part
+    requires { length charges.now ≤ 100000000 }
+    ensures { result ≡ part_of month branch charges.now }
+{
+    let sum = sum_of(charges);
+    Part {
+        month,
+        branch,
+        through: sum.through,
+        count: sum.count,
+        total: sum.total,
+    }
+}
+
+/// The run closed with these charges.
+pub(crate) fn closed(run: Run, charges: &[Charge]) -> Run
+    requires { length charges.now ≤ 100000000 }
+    ensures { result ≡ closed_run run.month run.key charges.now }
+{
+    let sum = sum_of(charges);
+    Run {
+        count: sum.count,
+        total: sum.total,
+        is_closed: true,
+        ..run
+    }
+}
