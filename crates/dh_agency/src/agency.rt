@@ -55,7 +55,8 @@ impl<S: Alter> Agency<S> {
     pub fn step(&mut self, alloc: Global, command: &Command) -> Result<Reply, Fault>
         ensures said { IsClean S.Store self.new → IfOk result (λ reply. known_step (machine S.Store self.old) command.now ≡ (machine S.Store self.new, reply)) }
         ensures left { IsClean S.Store self.new → OnOk result (LeavesItsTables S.Store self.new) }
-        ensures crash { IsClean S.Store self.new → self.old.is_stopped ≡ false → Leaves S.Store self.new (IsBeforeOrAfter (machine S.Store self.old) command.now) }
+        ensures crash { IsClean S.Store self.new → self.old.is_stopped ≡ false
+            → Leaves S.Store self.new (IsBeforeOrAfter (machine S.Store self.old) command.now) }
         ensures undone { IsClean S.Store self.new → IsOpen S.Store self.new → OnErr result (machine S.Store self.new ≡ machine S.Store self.old) }
         ensures goes_on { OnOk result ((self.old.is_stopped ≡ false) × (self.new.is_stopped ≡ false)) }
         ensures stops { OnErr result (self.new.is_stopped ≡ true) }

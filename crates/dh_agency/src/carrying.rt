@@ -34,11 +34,13 @@ pub(crate) fn carry_out<S: Alter>(
 ) -> Result<Reply, Fault>
     requires { HasCleanDisk (state S.Store conn.old) → IsReady (state S.Store conn.old) }
     ensures ready { HasCleanDisk (state S.Store conn.new) → OnOk result (IsReady (state S.Store conn.new)) }
-    ensures said { HasCleanDisk (state S.Store conn.new) → IfOk result (λ reply. known_step (tables (state S.Store conn.old)) command.now ≡ (tables (state S.Store conn.new), reply)) }
+    ensures said { HasCleanDisk (state S.Store conn.new)
+        → IfOk result (λ reply. known_step (tables (state S.Store conn.old)) command.now ≡ (tables (state S.Store conn.new), reply)) }
     ensures left { HasCleanDisk (state S.Store conn.new) → OnOk result (LeavesItsTables (state S.Store conn.new)) }
     ensures cause { IfErr result IsFirstFault }
     ensures crash { HasCleanDisk (state S.Store conn.new) → Leaves (state S.Store conn.new) (IsBeforeOrAfter (tables (state S.Store conn.old)) command.now) }
-    ensures undone { HasCleanDisk (state S.Store conn.new) → IsTrue (state S.Store conn.new).is_open → OnErr result (tables (state S.Store conn.new) ≡ tables (state S.Store conn.old)) }
+    ensures undone { HasCleanDisk (state S.Store conn.new) → IsTrue (state S.Store conn.new).is_open
+        → OnErr result (tables (state S.Store conn.new) ≡ tables (state S.Store conn.old)) }
     ensures was_clean { doubt (state S.Store conn.old).is_clean ≤ doubt (state S.Store conn.new).is_clean }
 {
     match ask(alloc, conn, command)? {

@@ -33,7 +33,8 @@ pub fn create<S: Alter>(
     ensures left { IfOk result (λ a. IsClean S.Store a → LeavesItsTables S.Store a) }
     ensures cause { IfErr result (λ e. IsFirstFault e.cause) }
     ensures occupied { ¬ IsBlank (state S.Store conn) → IfErr result (λ e. (e.cause ≡ fault.Store) × (e.conn ≡ conn)) }
-    ensures undone { IfErr result (λ e. HasCleanDisk (state S.Store e.conn) → IsTrue (state S.Store e.conn).is_open → (state S.Store e.conn).committed ≡ (state S.Store conn).committed) }
+    ensures undone { IfErr result (λ e. HasCleanDisk (state S.Store e.conn) → IsTrue (state S.Store e.conn).is_open
+        → (state S.Store e.conn).committed ≡ (state S.Store conn).committed) }
     ensures made { IfOk result (λ a. Commits (state S.Store conn) (shown_by S.Store a) (λ t. t ≡ start first)) }
     ensures crash { IfErr result (λ e. Commits (state S.Store conn) (state S.Store e.conn) (λ t. t ≡ start first)) }
 {

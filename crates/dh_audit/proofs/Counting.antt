@@ -23,7 +23,8 @@ module _ {X : Type 0} (test : X → Bool) (x : X) (xs ys : List X) (n m : ℕ) (
   -- the first of what is left is counted
   pub counted_on : (all : ℕ) → m + count_by test xs ≡ all → n + count_by test ys ≡ all
   counted_on all so_far =
-      let here : count_by test xs ≡ cond b 1 0 + count_by test ys = ap (count_by test) front ∙ sum_by-cons (λ y. cond (test y) 1 0) x ys ∙ ap (λ b. cond b 1 0 + count_by test ys) is in
+      let here : count_by test xs ≡ cond b 1 0 + count_by test ys =
+      ap (count_by test) front ∙ sum_by-cons (λ y. cond (test y) 1 0) x ys ∙ ap (λ b. cond b 1 0 + count_by test ys) is in
       omega (arith, here, added, so_far)
 
   pub still_fits : (most : ℕ) → m + length xs ≤ most → n + length ys ≤ most

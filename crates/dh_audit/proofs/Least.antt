@@ -51,7 +51,8 @@ module _ (books : Books) (size : ℕ) where
   pub below_first : HoldBelow books size 1
   below_first = λ rule less. let one = at_least_one rule in absurd (omega (arith, one, less))
 
-  pub below_next : (number next : ℕ) (rule : Rule) → rule_number rule ≡ number → next ≡ number + 1 → HoldBelow books size number → Holds books size rule → HoldBelow books size next
+  pub below_next : (number next : ℕ) (rule : Rule) → rule_number rule ≡ number → next ≡ number + 1 → HoldBelow books size number → Holds books size rule
+      → HoldBelow books size next
   below_next number next rule is step below holds = λ other less. elim (cases_lt (rule_number other) number) [
     | inl lesser ↦ below other lesser
     | inr more ↦

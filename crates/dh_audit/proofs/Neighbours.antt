@@ -1,5 +1,6 @@
 -- Stays in the order of their properties and starts: where none overlaps the next, no two overlap.
-use Rattle.std.proofs.Common.{◌≡◌, ◌↔◌, ◌∙◌, refl, sym, subst, inl, inr, ℕ, suc, ◌+◌, ◌<◌, ◌≤◌, Bool, true, false, ◌||◌, not, nat_le, List, [], ◌∷◌, map, length, slice_index_or, arith}
+use Rattle.std.proofs.Common.{◌≡◌, ◌↔◌, ◌∙◌, refl, sym, subst, inl, inr, ℕ, suc, ◌+◌, ◌<◌, ◌≤◌, Bool, true, false, ◌||◌, not, nat_le, List, [], ◌∷◌, map}
+use Rattle.std.proofs.Common.{length, slice_index_or, arith}
 use Rattle.std.specs.declared.cmp.Ordering.{Ordering}
 use Rattle.std.specs.declared.cmp.Ordering.TheVariants.{Less, Equal, Greater}
 use Rattle.std.specs.List.{All, AllAdjacentBelow, AllPairs, IsAllAdjacentAnswer}
@@ -67,7 +68,10 @@ record Meets (stay next : Stay) : Type 0 where
 no_way : (stay next : Stay) → makes_way stay next ≡ false → Meets stay next
 no_way stay next h =
     let parts = both_false (not (is_same_text stay.property next.property)) (nat_le stay.end next.start) h in
-    record { property = (texts stay.property next.property).0 (not_false (is_same_text stay.property next.property) parts.0); early = more_than stay.end next.start parts.1 }
+    record {
+      property = (texts stay.property next.property).0 (not_false (is_same_text stay.property next.property) parts.0);
+      early = more_than stay.end next.start parts.1;
+    }
 
 -- the one stands no later than the other
 abbrev InOrder : Stay → Stay → Type 0
@@ -98,10 +102,12 @@ module _ (a b : Stay) (h : InOrder a b) where
   order_of_texts = (first_part (text_cmp b.property a.property) (nat_cmp b.start a.start) h).0
 
   order_of_starts : a.property ≡ b.property → a.start ≤ b.start
-  order_of_starts same = not_before a.start b.start ((first_part (text_cmp b.property a.property) (nat_cmp b.start a.start) h).1 (tied a.property b.property same))
+  order_of_starts same =
+      not_before a.start b.start ((first_part (text_cmp b.property a.property) (nat_cmp b.start a.start) h).1 (tied a.property b.property same))
 
 between : (a b c : Stay) → InOrder a b → InOrder b c → a.property ≡ c.property → a.property ≡ b.property
-between a b c h k same = squeezed a.property b.property (order_of_texts a b h) (subst (λ text. is_lt (text_cmp text b.property) ≡ false) (sym same) (order_of_texts b c k))
+between a b c h k same =
+    squeezed a.property b.property (order_of_texts a b h) (subst (λ text. is_lt (text_cmp text b.property) ≡ false) (sym same) (order_of_texts b c k))
 
 -- each makes way for the next
 abbrev Follow : List Stay → Type 0
@@ -144,9 +150,11 @@ clear_of_way x y way same p q = let ends = way same in omega (arith, ends, q)
 module _ (stays : List Stay) (sound : All IsSound stays) (sorted : IsSortedByKey stay_key (pair_cmp text_cmp nat_cmp) stays) where
   in_order : AllPairs InOrder stays
   in_order = λ i j d before within.
-      sorted_far (λ x y. is_lt (pair_cmp text_cmp nat_cmp (stay_key x) (stay_key y))) (ranks_by (pair_total text_total nat_total) stay_key) stays sorted i j d (omega (arith, before)) within
+      sorted_far (λ x y. is_lt (pair_cmp text_cmp nat_cmp (stay_key x) (stay_key y))) (ranks_by (pair_total text_total nat_total) stay_key) stays sorted i j d
+      (omega (arith, before)) within
 
-  never_clear : (k : ℕ) (d : Stay) → k + 1 < length stays → makes_way (slice_index_or stays k d) (slice_index_or stays (k + 1) d) ≡ false → AllPairs Clear stays → ⊥
+  never_clear : (k : ℕ) (d : Stay) → k + 1 < length stays → makes_way (slice_index_or stays k d) (slice_index_or stays (k + 1) d) ≡ false → AllPairs Clear stays
+      → ⊥
   never_clear k d within blocked clear =
       let one = slice_index_or stays k d in
       let next = slice_index_or stays (k + 1) d in
@@ -158,7 +166,8 @@ module _ (stays : List Stay) (sound : All IsSound stays) (sorted : IsSortedByKey
   clear_tell : (b : Bool) → IsAllAdjacentAnswer (λ stay next free. free ≡ makes_way stay next) stays b → (b ≡ true) ↔ AllPairs Clear stays
   clear_tell true h = (
     λ _. pairs_from_rises Clear stays (rises_like MakesWay Clear stays (λ x y _ _. clear_of_way x y)
-        (all_make_way stays (rises_from_pairs InOrder stays in_order) (follow stays (λ k d within. made_way (slice_index_or stays k d) (slice_index_or stays (k + 1) d) (sym (h k d within)))))),
+        (all_make_way stays (rises_from_pairs InOrder stays in_order)
+        (follow stays (λ k d within. made_way (slice_index_or stays k d) (slice_index_or stays (k + 1) d) (sym (h k d within)))))),
     λ _. refl,
   )
   clear_tell false h = (
@@ -187,14 +196,20 @@ sound_at leases all lease a =
     subst IsSound (sym is.1.1) (all is.0 (stay_on lease) is.1.0)
 
 -- whether no two leases of one property cover a common day
-pub stays_tell : (leases : List Lease) (stays : List Stay) (b : Bool) → IsPermutation (map (λ lease. stay_of lease.terms) leases) stays → All IsSound stays → IsSortedByKey stay_key (pair_cmp text_cmp nat_cmp) stays
-    → IsAllAdjacentAnswer (λ stay next free. free ≡ makes_way stay next) stays b → (b ≡ true) ↔ AllPairs (λ lease other. overlap lease.terms other.terms ≡ false) leases
+pub stays_tell : (leases : List Lease) (stays : List Stay) (b : Bool) → IsPermutation (map (λ lease. stay_of lease.terms) leases) stays → All IsSound stays
+    → IsSortedByKey stay_key (pair_cmp text_cmp nat_cmp) stays
+    → IsAllAdjacentAnswer (λ stay next free. free ≡ makes_way stay next) stays b → (b ≡ true)
+    ↔ AllPairs (λ lease other. overlap lease.terms other.terms ≡ false) leases
 stays_tell leases stays b moved sound sorted answer =
     let back = IsPermutation-sym (map stay_on leases) stays moved in
     let sound_on = sound_at leases (All-permutation IsSound stays (map stay_on leases) back sound) in
     let tell = clear_tell stays sound sorted b answer in (
-      λ yes. pairs_from_rises Apart leases (rises_like (λ l k. Clear (stay_on l) (stay_on k)) Apart leases (λ l k p q. apart_if_clear l k (sound_on l p) (sound_on k q))
-          (rises_unmapped Clear stay_on leases (rises_from_pairs Clear (map stay_on leases) (pairs_permuted Clear clear_back stays (map stay_on leases) back (tell.0 yes))))),
+      λ yes. pairs_from_rises Apart leases
+          (rises_like (λ l k. Clear (stay_on l) (stay_on k)) Apart leases (λ l k p q. apart_if_clear l k (sound_on l p) (sound_on k q))
+          (rises_unmapped Clear stay_on leases
+          (rises_from_pairs Clear (map stay_on leases) (pairs_permuted Clear clear_back stays (map stay_on leases) back (tell.0 yes))))),
       λ apart. tell.1 (pairs_permuted Clear clear_back (map stay_on leases) stays moved (pairs_from_rises Clear (map stay_on leases)
-          (rises_mapped Clear stay_on leases (rises_like Apart (λ l k. Clear (stay_on l) (stay_on k)) leases (λ l k p q. clear_if_apart l k (sound_on l p) (sound_on k q)) (rises_from_pairs Apart leases apart))))),
+          (rises_mapped Clear stay_on leases
+          (rises_like Apart (λ l k. Clear (stay_on l) (stay_on k)) leases (λ l k p q. clear_if_apart l k (sound_on l p) (sound_on k q))
+          (rises_from_pairs Apart leases apart))))),
     )

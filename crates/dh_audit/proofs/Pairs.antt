@@ -1,5 +1,6 @@
 -- What holds of any two elements of a list, the one before the other.
-use Rattle.std.proofs.Common.{◌≡◌, ◌≢◌, ◌↔◌, ◌∙◌, refl, sym, ap, subst, inl, inr, ℕ, zero, suc, ◌<◌, Bool, true, false, cond, ◌&&◌, nat_eq, List, [], ◌∷◌, map, length, slice_index_or, arith}
+use Rattle.std.proofs.Common.{◌≡◌, ◌≢◌, ◌↔◌, ◌∙◌, refl, sym, ap, subst, inl, inr, ℕ, zero, suc, ◌<◌, Bool, true, false, cond, ◌&&◌, nat_eq, List, [], ◌∷◌, map}
+use Rattle.std.proofs.Common.{length, slice_index_or, arith}
 use Rattle.std.specs.declared.cmp.Ordering.{Ordering}
 use Rattle.std.specs.Bool.{Decides}
 use Rattle.std.specs.Cmp.{Equal-is, IsTotalOrder}
@@ -60,7 +61,8 @@ module _ {X : Type 0} (R : X → X → Type 0) (p : X → Bool) where
   abbrev pub BothPass : X → X → Type 0
   BothPass x y = p x ≡ true → p y ≡ true → R x y
 
-  unkept : (b : Bool) (x : X) (xs : List X) → p x ≡ b → (Rises R (filter p xs) → Rises BothPass xs) → Rises R (cond b (x ∷ filter p xs) (filter p xs)) → Rises BothPass (x ∷ xs)
+  unkept : (b : Bool) (x : X) (xs : List X) → p x ≡ b → (Rises R (filter p xs) → Rises BothPass xs) → Rises R (cond b (x ∷ filter p xs) (filter p xs))
+      → Rises BothPass (x ∷ xs)
   unkept true x xs e rest r = (λ y a s t. r.0 y (of_filter p xs y t a), rest r.1)
   unkept false x xs e rest r = (λ y a s t. absurd (false≢true (sym e ∙ s)), rest r)
 
@@ -115,10 +117,13 @@ of_start_apart : (lease other : Lease) → StartApart lease other → start_of l
 of_start_apart lease other apart same =
     let client = is_same_text lease.terms.client other.terms.client in
     let start = nat_eq lease.terms.start other.terms.start in
-    false≢true (sym apart ∙ and_from client start ((texts lease.terms.client other.terms.client).1 (ap (λ s. s.0) same)) ((numbers lease.terms.start other.terms.start).1 (ap (λ s. s.1) same)))
+    false≢true (sym apart
+    ∙ and_from client start ((texts lease.terms.client other.terms.client).1 (ap (λ s. s.0) same))
+    ((numbers lease.terms.start other.terms.start).1 (ap (λ s. s.1) same)))
 
 -- whether no two leases of a client start on one day
-pub starts_tell : (leases : List Lease) (starts : List (List ℕ × ℕ)) (b : Bool) → starts ≡ map (λ lease. (lease.terms.client, lease.terms.start)) leases → TellsDistinct (pair_cmp text_cmp nat_cmp) starts b
+pub starts_tell : (leases : List Lease) (starts : List (List ℕ × ℕ)) (b : Bool) → starts ≡ map (λ lease. (lease.terms.client, lease.terms.start)) leases
+    → TellsDistinct (pair_cmp text_cmp nat_cmp) starts b
     → (b ≡ true) ↔ AllPairs (λ lease other. (is_same_text lease.terms.client other.terms.client && nat_eq lease.terms.start other.terms.start) ≡ false) leases
 starts_tell leases starts b are tells =
     let total = pair_total text_total nat_total in
@@ -126,7 +131,8 @@ starts_tell leases starts b are tells =
       λ yes. pairs_from_rises StartApart leases (rises_like (λ l k. start_of l ≢ start_of k) StartApart leases (λ l k _ _. start_apart l k)
           (rises_unmapped (λ a b. a ≢ b) start_of leases (subst (Rises (λ a b. a ≢ b)) are (differ total ties starts (tells.0 yes))))),
       λ apart. tells.1 (of_differ total ties starts (subst (Rises (λ a b. a ≢ b)) (sym are)
-          (rises_mapped (λ a b. a ≢ b) start_of leases (rises_like StartApart (λ l k. start_of l ≢ start_of k) leases (λ l k _ _. of_start_apart l k) (rises_from_pairs StartApart leases apart))))),
+          (rises_mapped (λ a b. a ≢ b) start_of leases (rises_like StartApart (λ l k. start_of l ≢ start_of k) leases (λ l k _ _. of_start_apart l k)
+          (rises_from_pairs StartApart leases apart))))),
     )
 
 abbrev is_deposit : Receipt → Bool
@@ -142,13 +148,19 @@ abbrev DepositsApart : Receipt → Receipt → Type 0
 DepositsApart receipt other = receipt.payment.kind ≡ Deposit → other.payment.kind ≡ Deposit → receipt.payment.lease ≢ other.payment.lease
 
 -- whether no lease has two deposits
-pub deposits_tell : (receipts : List Receipt) (leases : List ℕ) (b : Bool) → leases ≡ map (λ receipt. receipt.payment.lease) (filter (λ receipt. is_same_receipt_kind receipt.payment.kind Deposit) receipts) → TellsDistinct nat_cmp leases b
-    → (b ≡ true) ↔ AllPairs (λ receipt other. receipt.payment.kind ≡ Deposit → other.payment.kind ≡ Deposit → receipt.payment.lease ≢ other.payment.lease) receipts
+pub deposits_tell : (receipts : List Receipt) (leases : List ℕ) (b : Bool)
+    → leases ≡ map (λ receipt. receipt.payment.lease) (filter (λ receipt. is_same_receipt_kind receipt.payment.kind Deposit) receipts)
+    → TellsDistinct nat_cmp leases b
+    → (b ≡ true) ↔ AllPairs (λ receipt other. receipt.payment.kind ≡ Deposit → other.payment.kind ≡ Deposit
+    → receipt.payment.lease ≢ other.payment.lease) receipts
 deposits_tell receipts leases b are tells = (
   λ yes. pairs_from_rises DepositsApart receipts (rises_like (BothPass LeaseApart is_deposit) DepositsApart receipts
       (λ r s _ _ apart k l. apart ((receipt_kinds r.payment.kind Deposit).1 k) ((receipt_kinds s.payment.kind Deposit).1 l))
-      (rises_unfiltered LeaseApart is_deposit receipts (rises_unmapped (λ a b. a ≢ b) lease_of (filter is_deposit receipts) (subst (Rises (λ a b. a ≢ b)) are (differ nat_total nat_ties leases (tells.0 yes)))))),
-  λ apart. tells.1 (of_differ nat_total nat_ties leases (subst (Rises (λ a b. a ≢ b)) (sym are) (rises_mapped (λ a b. a ≢ b) lease_of (filter is_deposit receipts)
+      (rises_unfiltered LeaseApart is_deposit receipts
+      (rises_unmapped (λ a b. a ≢ b) lease_of (filter is_deposit receipts)
+      (subst (Rises (λ a b. a ≢ b)) are (differ nat_total nat_ties leases (tells.0 yes)))))),
+  λ apart. tells.1 (of_differ nat_total nat_ties leases
+      (subst (Rises (λ a b. a ≢ b)) (sym are) (rises_mapped (λ a b. a ≢ b) lease_of (filter is_deposit receipts)
       (rises_filtered LeaseApart is_deposit receipts (rises_like DepositsApart (BothPass LeaseApart is_deposit) receipts
       (λ r s _ _ apart k l. apart ((receipt_kinds r.payment.kind Deposit).0 k) ((receipt_kinds s.payment.kind Deposit).0 l))
       (rises_from_pairs DepositsApart receipts apart)))))),
@@ -158,9 +170,11 @@ abbrev KeysApart : List ℕ → List ℕ → Type 0
 KeysApart key other = is_same_text key other ≡ false
 
 -- whether no two keys are the same
-pub keys_tell : (keys all : List (List ℕ)) (b : Bool) → keys ≡ all → TellsDistinct text_cmp keys b → (b ≡ true) ↔ AllPairs (λ key other. is_same_text key other ≡ false) all
+pub keys_tell : (keys all : List (List ℕ)) (b : Bool) → keys ≡ all → TellsDistinct text_cmp keys b → (b ≡ true)
+    ↔ AllPairs (λ key other. is_same_text key other ≡ false) all
 keys_tell keys all b are tells = (
-  λ yes. pairs_from_rises KeysApart all (rises_like (λ a b. a ≢ b) KeysApart all (λ a b _ _ differs. false_from_not (is_same_text a b) (λ same. differs ((texts a b).0 same)))
+  λ yes. pairs_from_rises KeysApart all
+      (rises_like (λ a b. a ≢ b) KeysApart all (λ a b _ _ differs. false_from_not (is_same_text a b) (λ same. differs ((texts a b).0 same)))
       (subst (Rises (λ a b. a ≢ b)) are (differ text_total text_ties keys (tells.0 yes)))),
   λ apart. tells.1 (of_differ text_total text_ties keys (subst (Rises (λ a b. a ≢ b)) (sym are)
       (rises_like KeysApart (λ a b. a ≢ b) all (λ a b _ _ apart same. false≢true (sym apart ∙ (texts a b).1 same)) (rises_from_pairs KeysApart all apart)))),

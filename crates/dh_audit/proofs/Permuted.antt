@@ -25,12 +25,15 @@ module _ {X : Type 0} (R : X → X → Type 0) where
   abbrev AnyTwo : List X → Type 0
   AnyTwo xs = (i j : ℕ) (d : X) → i < length xs → j < length xs → (i ≡ j → ⊥) → R (slice_index_or xs i d) (slice_index_or xs j d)
 
-  stood : (xs ys : List X) (a b i : ℕ) (d : X) → a < length xs → b < length xs → i < length xs → Swapped (λ i. slice_index_or xs i d) (λ i. slice_index_or ys i d) a b
+  stood : (xs ys : List X) (a b i : ℕ) (d : X) → a < length xs → b < length xs → i < length xs
+      → Swapped (λ i. slice_index_or xs i d) (λ i. slice_index_or ys i d) a b
       → (j : ℕ) × (j < length xs) × Stood a b i j × (slice_index_or ys i d ≡ slice_index_or xs j d)
   stood xs ys a b i d p q h swapped = elim (cases_eq i a) [
-    | inl e ↦ let at_a : slice_index_or ys i d ≡ slice_index_or xs b d = subst (λ n. slice_index_or ys n d ≡ slice_index_or xs b d) (sym e) swapped.0 in (b, q, inl (e, λ _. b), at_a)
+    | inl e ↦ let at_a : slice_index_or ys i d ≡ slice_index_or xs b d = subst (λ n. slice_index_or ys n d ≡ slice_index_or xs b d) (sym e) swapped.0 in
+        (b, q, inl (e, λ _. b), at_a)
     | inr ne ↦ elim (cases_eq i b) [
-      | inl e ↦ let at_b : slice_index_or ys i d ≡ slice_index_or xs a d = subst (λ n. slice_index_or ys n d ≡ slice_index_or xs a d) (sym e) swapped.1 in (a, p, inr (inl (e, λ _. a)), at_b)
+      | inl e ↦ let at_b : slice_index_or ys i d ≡ slice_index_or xs a d = subst (λ n. slice_index_or ys n d ≡ slice_index_or xs a d) (sym e) swapped.1 in
+          (a, p, inr (inl (e, λ _. a)), at_b)
       | inr nf ↦ (i, h, inr (inr (ne, nf, λ _. i)), swapped.2 i ne nf)
     ]
   ]

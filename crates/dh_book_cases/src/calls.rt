@@ -28,6 +28,11 @@ fn take(alloc: Global, books: &mut Books) -> Books
     mem::replace(books, empty(alloc))
 }
 
+// The one place where books are dropped for others.
+pub(crate) fn put_back(books: &mut Books, changed: Books) {
+    *books = changed;
+}
+
 /// The machine's step: the text of its reply.
 pub(crate) fn tell(
     alloc: Global,
@@ -35,7 +40,7 @@ pub(crate) fn tell(
     command: &Command,
 ) -> Result<String, AllocError> {
     let stepped = step(alloc, take(alloc, books), command)?;
-    *books = stepped.books;
+    put_back(books, stepped.books);
     stepped.reply.to_string(alloc)
 }
 
@@ -46,7 +51,7 @@ pub(crate) fn say(
     command: &Command,
 ) -> Result<String, AllocError> {
     let told = said(alloc, take(alloc, tables), command)?;
-    *tables = told.tables;
+    put_back(tables, told.tables);
     told.reply.to_string(alloc)
 }
 
@@ -57,7 +62,8 @@ pub(crate) fn cut_before(
     command: &Command,
     reach: Reach,
 ) -> Result<(), AllocError> {
-    *tables = cut_undone(alloc, take(alloc, tables), command, reach)?;
+    let changed = cut_undone(alloc, take(alloc, tables), command, reach)?;
+    put_back(tables, changed);
     Ok(())
 }
 
@@ -68,19 +74,22 @@ pub(crate) fn cut_after(
     command: &Command,
     standing: Option<u128>,
 ) -> Result<(), AllocError> {
-    *tables = cut_done(alloc, take(alloc, tables), command, standing)?;
+    let changed = cut_done(alloc, take(alloc, tables), command, standing)?;
+    put_back(tables, changed);
     Ok(())
 }
 
 /// A recovery that is cut.
 pub(crate) fn tear(alloc: Global, tables: &mut Books, reach: Reach) -> Result<(), AllocError> {
-    *tables = torn(alloc, take(alloc, tables), reach)?;
+    let changed = torn(alloc, take(alloc, tables), reach)?;
+    put_back(tables, changed);
     Ok(())
 }
 
 /// A recovery that comes to its end.
 pub(crate) fn mend(alloc: Global, tables: &mut Books) -> Result<(), AllocError> {
-    *tables = mended(alloc, take(alloc, tables))?;
+    let changed = mended(alloc, take(alloc, tables))?;
+    put_back(tables, changed);
     Ok(())
 }
 
@@ -91,13 +100,15 @@ pub(crate) fn post(
     month: EntryMonth,
     done: u32,
 ) -> Result<(), AllocError> {
-    *books = with_posted(alloc, take(alloc, books), month, u128::from(done))?;
+    let changed = with_posted(alloc, take(alloc, books), month, u128::from(done))?;
+    put_back(books, changed);
     Ok(())
 }
 
 /// The run that the rows show as open, made to its end.
 pub(crate) fn make_whole(alloc: Global, books: &mut Books) -> Result<(), AllocError> {
-    *books = whole(alloc, take(alloc, books))?;
+    let changed = whole(alloc, take(alloc, books))?;
+    put_back(books, changed);
     Ok(())
 }
 
@@ -107,7 +118,8 @@ pub(crate) fn make_run(alloc: Global, books: &mut Books, key: Key) -> Result<(),
         return Err(Unreadable);
     };
     let before = take(alloc, books);
-    *books = with_run(alloc, before, month, key)?;
+    let changed = with_run(alloc, before, month, key)?;
+    put_back(books, changed);
     Ok(())
 }
 

@@ -1,6 +1,6 @@
 //! Lists of what can happen to tables, played at once.
 
-use crate::calls::empty;
+use crate::calls::{empty, put_back};
 use crate::lines::{Teller, answered, is_command};
 use crate::playing::{compare, parted, told};
 use crate::tally::Tally;
@@ -86,7 +86,7 @@ fn play_all(
     happenings: &[Happening],
 ) -> Result<Vec<Reply>, AllocError> {
     let played = play(alloc, empty(alloc), happenings)?;
-    *tables = played.tables;
+    put_back(tables, played.tables);
     Ok(played.replies)
 }
 

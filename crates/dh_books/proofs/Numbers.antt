@@ -1,5 +1,6 @@
 -- Leases stand under their numbers, as they are put, and are no more than numbers.
-use Rattle.std.proofs.Common.{◌≡◌, ◌∙◌, ℕ, ◌+◌, ◌<◌, ◌≤◌, Bool, true, false, cond, List, [], ◌∷◌, length, Option, Some, None, nat_cmp, refl, sym, ap, subst, inl, inr, arith}
+use Rattle.std.proofs.Common.{◌≡◌, ◌∙◌, ℕ, ◌+◌, ◌<◌, ◌≤◌, Bool, true, false, cond, List, [], ◌∷◌, length, Option, Some, None, nat_cmp, refl, sym, ap, subst}
+use Rattle.std.proofs.Common.{inl, inr, arith}
 use Rattle.std.specs.FinMap.{FinMap, from_entries, get, insert, get-insert, values}
 use Rattle.std.specs.Ordering.{eq_by_cmp}
 use Rattle.std.specs.Option.{unwrap_or}
@@ -30,7 +31,8 @@ none_kept entries is = record {
 }
 
 -- the row that was chosen is the one that is put, or it was there
-chosen : (P : Lease → Type 0) (b : Bool) (row lease : Lease) (there : Option Lease) → (b ≡ true → P row) → (there ≡ Some lease → P lease) → cond b (Some row) there ≡ Some lease → P lease
+chosen : (P : Lease → Type 0) (b : Bool) (row lease : Lease) (there : Option Lease) → (b ≡ true → P row) → (there ≡ Some lease → P lease)
+    → cond b (Some row) there ≡ Some lease → P lease
 chosen P true row lease there here others found = subst P (ap (λ x. unwrap_or x row) found) (here refl)
 chosen P false row lease there here others found = others found
 
@@ -50,7 +52,8 @@ put_kept leases row is kept = record {
 
 -- numbers from low to top that rise
 no_more : (low top : ℕ) (leases : List Lease) → low ≤ top + 1 → Rises (Lesser number_of) leases
-    → ((lease : Lease) → Among leases lease → low ≤ lease.terms.number) → ((lease : Lease) → Among leases lease → lease.terms.number ≤ top) → low + length leases ≤ top + 1
+    → ((lease : Lease) → Among leases lease → low ≤ lease.terms.number) → ((lease : Lease) → Among leases lease → lease.terms.number ≤ top)
+    → low + length leases ≤ top + 1
 no_more low top [] within rise above below = omega (arith, within)
 no_more low top (lease ∷ leases) within rise above below =
     let first = above lease (inl refl) in
@@ -63,5 +66,6 @@ pub few_leases : (books : Books) → AreKept books.leases → length (values boo
 few_leases books kept =
     let is_one : (lease : Lease) → Among (values books.leases) lease → IsLeaseNo lease.terms.number
     = λ lease a. let row = row_of nat_total nat_ties books.leases lease a in kept.in_range row.0 lease row.1 in
-    let all = no_more 1 99999999 (values books.leases) (omega arith) (leases_rise books kept.numbered) (λ lease a. (is_one lease a).0) (λ lease a. (is_one lease a).1) in
+    let all = no_more 1 99999999 (values books.leases) (omega arith) (leases_rise books kept.numbered) (λ lease a. (is_one lease a).0)
+    (λ lease a. (is_one lease a).1) in
     omega (arith, all)

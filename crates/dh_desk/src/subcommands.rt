@@ -72,9 +72,13 @@ fn answer_all<S: Alter, R: Read, W: Write>(
     writer: &mut W,
 ) -> Status
     ensures known { result ≢ Status.BadWords }
-    ensures answered { IsClean S.Store agency.new → (result ≡ Status.Done) ⊎ (result ≡ Status.SomeRefused) → IfSome (R.remaining reader.old) (λ input. Appends (W.contents writer.old) (W.contents writer.new) (lines_from 1 (machine S.Store agency.old) (records_of input))) }
-    ensures done { IsClean S.Store agency.new → result ≡ Status.Done → IfSome (R.remaining reader.old) (λ input. refused_in (machine S.Store agency.old) (records_of input) ≡ 0) }
-    ensures some_refused { IsClean S.Store agency.new → result ≡ Status.SomeRefused → IfSome (R.remaining reader.old) (λ input. 0 < refused_in (machine S.Store agency.old) (records_of input)) }
+    ensures answered { IsClean S.Store agency.new → (result ≡ Status.Done) ⊎ (result ≡ Status.SomeRefused)
+        → IfSome (R.remaining reader.old)
+        (λ input. Appends (W.contents writer.old) (W.contents writer.new) (lines_from 1 (machine S.Store agency.old) (records_of input))) }
+    ensures done { IsClean S.Store agency.new → result ≡ Status.Done
+        → IfSome (R.remaining reader.old) (λ input. refused_in (machine S.Store agency.old) (records_of input) ≡ 0) }
+    ensures some_refused { IsClean S.Store agency.new → result ≡ Status.SomeRefused
+        → IfSome (R.remaining reader.old) (λ input. 0 < refused_in (machine S.Store agency.old) (records_of input)) }
 {
     match batch(alloc, agency, reader, writer) {
         Ok(summary) => {
@@ -91,7 +95,9 @@ fn answer_all<S: Alter, R: Read, W: Write>(
 // A batch over an agency in memory.
 fn batch_in_memory<R: Read, W: Write>(alloc: Global, reader: &mut R, writer: &mut W) -> Status
     ensures known { result ≢ Status.BadWords }
-    ensures answered { (result ≡ Status.Done) ⊎ (result ≡ Status.SomeRefused) → IfSome (R.remaining reader.old) (λ input. Appends (W.contents writer.old) (W.contents writer.new) (lines_from 1 (start FIRST_MONTH) (records_of input))) }
+    ensures answered { (result ≡ Status.Done) ⊎ (result ≡ Status.SomeRefused)
+        → IfSome (R.remaining reader.old)
+        (λ input. Appends (W.contents writer.old) (W.contents writer.new) (lines_from 1 (start FIRST_MONTH) (records_of input))) }
     ensures done { result ≡ Status.Done → IfSome (R.remaining reader.old) (λ input. refused_in (start FIRST_MONTH) (records_of input) ≡ 0) }
     ensures some_refused { result ≡ Status.SomeRefused → IfSome (R.remaining reader.old) (λ input. 0 < refused_in (start FIRST_MONTH) (records_of input)) }
 {
@@ -119,7 +125,9 @@ pub fn desk<R: Read, W: Write>(
     writer: &mut W,
 ) -> Status
     ensures bad_words { (result ≡ Status.BadWords) ↔ (map (λ word. word.now) words.now ≢ codes "batch" ∷ []) }
-    ensures answered { (result ≡ Status.Done) ⊎ (result ≡ Status.SomeRefused) → IfSome (R.remaining reader.old) (λ input. Appends (W.contents writer.old) (W.contents writer.new) (lines_from 1 (start FIRST_MONTH) (records_of input))) }
+    ensures answered { (result ≡ Status.Done) ⊎ (result ≡ Status.SomeRefused)
+        → IfSome (R.remaining reader.old)
+        (λ input. Appends (W.contents writer.old) (W.contents writer.new) (lines_from 1 (start FIRST_MONTH) (records_of input))) }
     ensures done { result ≡ Status.Done → IfSome (R.remaining reader.old) (λ input. refused_in (start FIRST_MONTH) (records_of input) ≡ 0) }
     ensures some_refused { result ≡ Status.SomeRefused → IfSome (R.remaining reader.old) (λ input. 0 < refused_in (start FIRST_MONTH) (records_of input)) }
 {

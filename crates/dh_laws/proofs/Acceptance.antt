@@ -69,7 +69,8 @@ module _ (books : Books) (run : Option OpenRun) where
     pub rent : lease.rent ≡ row.rent
     pub registered : IsThere books.registrations (lease.terms.client, row.branch)
     pub in_time : books.next ≤ month_of_day lease.terms.start
-    pub first : (other : Lease) → Among (values books.leases) other → (is_same_text other.terms.client lease.terms.client && nat_eq other.terms.start lease.terms.start) ≡ false
+    pub first : (other : Lease) → Among (values books.leases) other
+        → (is_same_text other.terms.client lease.terms.client && nat_eq other.terms.start lease.terms.start) ≡ false
     pub free : (other : Lease) → Among (values books.leases) other → overlap lease.terms other.terms ≡ false
 
   pub record AddsReceipt (it : Receipt) : Type 0 where

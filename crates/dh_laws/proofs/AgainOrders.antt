@@ -39,7 +39,8 @@ module _ (size : ℕ) (s : State) (told : Command) (books : Books) where
 
   stays_paid : (order : ReceiptOrder) (found : Option Receipt) (otherwise : Verdict) → (found ≡ None → ⊥) → Stays (unless_paid books order found otherwise)
   stays_paid order None otherwise there = absurd (there refl)
-  stays_paid order (Some receipt) otherwise there = stays_if (is_same_payment order.payment receipt.payment) (reply.AlreadyReceipt receipt.number) refusal.KeyUsed
+  stays_paid order (Some receipt) otherwise there =
+      stays_if (is_same_payment order.payment receipt.payment) (reply.AlreadyReceipt receipt.number) refusal.KeyUsed
 
   stays_posted : (order : RunOrder) (found : Option Run) (otherwise : Verdict) → (found ≡ None → ⊥) → Stays (unless_posted books order found otherwise)
   stays_posted order None otherwise there = absurd (there refl)

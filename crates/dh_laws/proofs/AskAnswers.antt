@@ -19,7 +19,8 @@ module _ (books : Books) (run : OpenRun) (beside : Option OpenRun) where
   module _ (charges : FinMap (pair_cmp nat_cmp nat_cmp) Charge) (parts : FinMap (pair_cmp nat_cmp text_cmp) Part) (runs : FinMap nat_cmp Run) where
     -- charges, parts and runs have no say in what is not put off
     answered_by_the_rest : (question : Question) → is_put_off question ≡ false
-        → report (record { books = books; open_run = Some run }) question ≡ report (record { books = record books { charges = charges; parts = parts; runs = runs }; open_run = beside }) question
+        → report (record { books = books; open_run = Some run }) question ≡ report
+        (record { books = record books { charges = charges; parts = parts; runs = runs }; open_run = beside }) question
     answered_by_the_rest asked.Branches free = refl
     answered_by_the_rest (asked.Vacant day) free = refl
     answered_by_the_rest (asked.Matching it) free = refl

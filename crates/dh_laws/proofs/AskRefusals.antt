@@ -1,5 +1,6 @@
 -- Only an open run is a reason to refuse for an open run.
-use Rattle.std.proofs.Common.{◌≡◌, ◌∙◌, refl, ap, ℕ, ◌+◌, ◌*◌, Bool, true, false, not, ◌&&◌, nat_eq, nat_le, nat_lt, List, [], ◌∷◌, ◌++◌, map, Option, Some, None, if◌then◌else◌}
+use Rattle.std.proofs.Common.{◌≡◌, ◌∙◌, refl, ap, ℕ, ◌+◌, ◌*◌, Bool, true, false, not, ◌&&◌, nat_eq, nat_le, nat_lt, List, [], ◌∷◌, ◌++◌, map, Option, Some}
+use Rattle.std.proofs.Common.{None, if◌then◌else◌}
 use Rattle.std.specs.List.{filter, list_any}
 use Rattle.std.specs.Option.{option_map}
 use Rattle.std.specs.FinMap.{contains_key, get, len, values}
@@ -26,7 +27,8 @@ use Rattle.dh_types.specs.declared.reply.Refusal.{Refusal}
 use Rattle.dh_types.specs.declared.reply.Refusal.TheVariants as refusal
 use Rattle.dh_types.specs.declared.reply.Reply.{Reply}
 use Rattle.dh_types.specs.declared.reply.Reply.TheVariants as reply
-use Rattle.dh_types.specs.Records.{is_same_branch, is_same_client, is_same_inspection, is_same_lease_terms, is_same_optional, is_same_owner, is_same_payment, is_same_property, is_same_receipt_kind, is_same_registration, is_same_staff, is_same_viewing}
+use Rattle.dh_types.specs.Records.{is_same_branch, is_same_client, is_same_inspection, is_same_lease_terms, is_same_optional, is_same_owner, is_same_payment}
+use Rattle.dh_types.specs.Records.{is_same_property, is_same_receipt_kind, is_same_registration, is_same_staff, is_same_viewing}
 use Rattle.dh_types.specs.Reports.{Report, NoReport}
 use Rattle.dh_model.specs.declared.open_run.OpenRun.{OpenRun}
 use Rattle.dh_model.specs.declared.rows.Change.{Change}
@@ -36,11 +38,14 @@ use Rattle.dh_model.specs.declared.rows.Verdict.TheVariants as verdict
 use Rattle.dh_model.specs.Answers.{arrears, matching_report, report, run_report, statement}
 use Rattle.dh_model.specs.Answers as answers
 use Rattle.dh_model.specs.Books.{Books, State}
-use Rattle.dh_model.specs.Checks.{Check, deposit_checks, first_failing, has_room, is_same_text, is_twice, names, of_branch, receipt_of_key, run_of_key, unless, where_given}
+use Rattle.dh_model.specs.Checks.{Check, deposit_checks, first_failing, has_room, is_same_text, is_twice, names, of_branch, receipt_of_key, run_of_key, unless}
+use Rattle.dh_model.specs.Checks.{where_given}
 use Rattle.dh_model.specs.Leases.{overlap}
 use Rattle.dh_model.specs.MachineLaws.{is_frozen, is_put_off}
 use Rattle.dh_model.specs.Runs.{sum_of}
-use Rattle.dh_model.specs.Verdicts.{assigned, branch_verdict, commented, judged, lease_checks, lease_verdict, manager_checks, opened_run, post_verdict, property_checks, receipt_checks, receipt_verdict, registration_checks, rent_changed, rows_unless, run_verdict, signed, unless_open, unless_paid, unless_posted, unless_receipt, unless_run, unless_there, verdict_on}
+use Rattle.dh_model.specs.Verdicts.{assigned, branch_verdict, commented, judged, lease_checks, lease_verdict, manager_checks, opened_run, post_verdict}
+use Rattle.dh_model.specs.Verdicts.{property_checks, receipt_checks, receipt_verdict, registration_checks, rent_changed, rows_unless, run_verdict, signed}
+use Rattle.dh_model.specs.Verdicts.{unless_open, unless_paid, unless_posted, unless_receipt, unless_run, unless_there, verdict_on}
 use Rattle.dh_laws.specs.Asking.{OpenRunsRefuseFrozen, OpenRunsRefusePutOff}
 
 module _ (month : ℕ) where
@@ -178,17 +183,24 @@ module _ (month : ℕ) where
     )
 
     deposit_other : (payment : Payment) → AllOther (deposit_checks books payment)
-    deposit_other payment = if_other (is_same_receipt_kind payment.kind Deposit) _ (other_unless _ refusal.DepositPaid (λ e. cc), (twice_other (get books.leases payment.lease) payment.amount, tt))
+    deposit_other payment =
+        if_other (is_same_receipt_kind payment.kind Deposit) _ (
+          other_unless _ refusal.DepositPaid (λ e. cc),
+          (twice_other (get books.leases payment.lease) payment.amount, tt),
+        )
 
     receipt_other : (order : ReceiptOrder) → AllOther (receipt_checks books order)
     receipt_other order =
-        both_other (names books.leases order.payment.lease 3 ∷ deposit_checks books order.payment) (unless (nat_lt (len books.receipts) 99999999) refusal.Full ∷ [])
+        both_other (names books.leases order.payment.lease 3 ∷ deposit_checks books order.payment) (unless (nat_lt (len books.receipts) 99999999) refusal.Full
+        ∷ [])
         (names_other (contains_key books.leases order.payment.lease) 3, deposit_other order.payment)
         (other_unless (nat_lt (len books.receipts) 99999999) refusal.Full (λ e. cc), tt)
 
     assigned_unlike : (it : Assignment) (found : Option Property) → Unlike (assigned books it found)
     assigned_unlike it None = λ e. cc
-    assigned_unlike it (Some row) = already_unlike (is_same_optional is_same_text it.staff row.staff) reply.Already _ (judged_unlike (manager_checks books row it.staff) (change.Assign it) (managers_other row it.staff))
+    assigned_unlike it (Some row) =
+        already_unlike (is_same_optional is_same_text it.staff row.staff) reply.Already _
+        (judged_unlike (manager_checks books row it.staff) (change.Assign it) (managers_other row it.staff))
 
     rent_unlike : (it : RentChange) (found : Option Property) → Unlike (rent_changed books it found)
     rent_unlike it None = λ e. cc
@@ -196,11 +208,13 @@ module _ (month : ℕ) where
 
     commented_unlike : (it : ViewingComment) (found : Option Viewing) → Unlike (commented books it found)
     commented_unlike it None = λ e. cc
-    commented_unlike it (Some row) = already_unlike (is_same_optional is_same_text (Some it.comment) row.comment) reply.Already (verdict.Change (change.Comment it)) (λ e. cc)
+    commented_unlike it (Some row) =
+        already_unlike (is_same_optional is_same_text (Some it.comment) row.comment) reply.Already (verdict.Change (change.Comment it)) (λ e. cc)
 
     paid_unlike : (order : ReceiptOrder) (found : Option Receipt) (otherwise : Verdict) → Unlike otherwise → Unlike (unless_paid books order found otherwise)
     paid_unlike order None otherwise unlike = unlike
-    paid_unlike order (Some receipt) otherwise unlike = if_unlike (is_same_payment order.payment receipt.payment) (reply.AlreadyReceipt receipt.number) refusal.KeyUsed (λ e. cc)
+    paid_unlike order (Some receipt) otherwise unlike =
+        if_unlike (is_same_payment order.payment receipt.payment) (reply.AlreadyReceipt receipt.number) refusal.KeyUsed (λ e. cc)
 
     run_unlike : (found : Option Run) (otherwise : Verdict) → Unlike otherwise → Unlike (unless_run books found otherwise)
     run_unlike None otherwise unlike = unlike
@@ -217,7 +231,8 @@ module _ (month : ℕ) where
     receipt_unlike : (order : ReceiptOrder) → Unlike (receipt_verdict books order)
     receipt_unlike order =
         let made : Receipt = record { number = len books.receipts + 1; key = order.key; payment = order.payment } in
-        paid_unlike order (receipt_of_key books order.key) _ (run_unlike (run_of_key books order.key) _ (judged_unlike (receipt_checks books order) (change.Receipt made) (receipt_other order)))
+        paid_unlike order (receipt_of_key books order.key) _
+        (run_unlike (run_of_key books order.key) _ (judged_unlike (receipt_checks books order) (change.Receipt made) (receipt_other order)))
 
     run_order_unlike : (order : RunOrder) → Unlike (run_verdict books order)
     run_order_unlike order =
@@ -228,27 +243,41 @@ module _ (month : ℕ) where
     abbrev IsOpenFor : Option OpenRun → Bool → Type 0
     IsOpenFor run put_off = (at : OpenRun) × (run ≡ Some at) × (at.month ≡ month) × (put_off ≡ true)
 
-    was_open : (run : Option OpenRun) (otherwise : Verdict) → Unlike otherwise → unless_open run otherwise ≡ verdict.Refused (refusal.RunOpen month) → IsOpenFor run true
+    was_open : (run : Option OpenRun) (otherwise : Verdict) → Unlike otherwise → unless_open run otherwise ≡ verdict.Refused (refusal.RunOpen month)
+        → IsOpenFor run true
     was_open None otherwise unlike e = absurd (unlike e)
     was_open (Some at) otherwise unlike e = let is : at.month ≡ month = cc in (at, refl, is, refl)
 
     refused_for : (run : Option OpenRun) (told : Command) → verdict_on books run told ≡ verdict.Refused (refusal.RunOpen month) → IsOpenFor run (is_frozen told)
-    refused_for run (command.Branch it) e = was_open run (branch_verdict books it) (there_unlike (is_same_branch it) (get books.branches it.number) _ (judged_unlike [] (change.Branch it) tt)) e
-    refused_for run (command.Staff it) e = absurd (there_unlike (is_same_staff it) (get books.staff it.number) _ (judged_unlike (names books.branches it.branch 5 ∷ []) (change.Staff it) (names_other (contains_key books.branches it.branch) 5, tt)) e)
+    refused_for run (command.Branch it) e =
+        was_open run (branch_verdict books it) (there_unlike (is_same_branch it) (get books.branches it.number) _ (judged_unlike [] (change.Branch it) tt)) e
+    refused_for run (command.Staff it) e =
+        absurd (there_unlike (is_same_staff it) (get books.staff it.number) _ (judged_unlike (names books.branches it.branch 5
+        ∷ []) (change.Staff it) (names_other (contains_key books.branches it.branch) 5, tt)) e)
     refused_for run (command.Owner it) e = absurd (there_unlike (is_same_owner it) (get books.owners it.number) _ (judged_unlike [] (change.Owner it) tt) e)
-    refused_for run (command.Property it) e = absurd (there_unlike (is_same_property it) (get books.properties it.number) _ (judged_unlike (property_checks books it) (change.Property it) (property_other it)) e)
+    refused_for run (command.Property it) e =
+        absurd (there_unlike (is_same_property it) (get books.properties it.number) _
+        (judged_unlike (property_checks books it) (change.Property it) (property_other it)) e)
     refused_for run (command.Assign it) e = absurd (assigned_unlike it (get books.properties it.property) e)
     refused_for run (command.Rent it) e = absurd (rent_unlike it (get books.properties it.property) e)
     refused_for run (command.Client it) e = absurd (there_unlike (is_same_client it) (get books.clients it.number) _ (judged_unlike [] (change.Client it) tt) e)
     refused_for run (command.Register it) e =
-        absurd (there_unlike (is_same_registration it) (get books.registrations (it.client, it.branch)) _ (judged_unlike (registration_checks books it) (change.Register it)
-        (names_other (contains_key books.clients it.client) 2, (names_other (contains_key books.branches it.branch) 3, (names_other (contains_key books.staff it.staff) 4, (of_branch_other it.staff it.branch, tt))))) e)
+        absurd (there_unlike (is_same_registration it) (get books.registrations (it.client, it.branch)) _
+        (judged_unlike (registration_checks books it) (change.Register it) (
+          names_other (contains_key books.clients it.client) 2,
+          (
+            names_other (contains_key books.branches it.branch) 3,
+            (names_other (contains_key books.staff it.staff) 4, (of_branch_other it.staff it.branch, tt)),
+          ),
+        )) e)
     refused_for run (command.Viewing it) e =
-        absurd (there_unlike (is_same_viewing it) (get books.viewings (it.client, it.property)) _ (judged_unlike (names books.clients it.client 2 ∷ names books.properties it.property 3 ∷ []) (change.Viewing it)
+        absurd (there_unlike (is_same_viewing it) (get books.viewings (it.client, it.property)) _ (judged_unlike (names books.clients it.client 2
+        ∷ names books.properties it.property 3 ∷ []) (change.Viewing it)
         (names_other (contains_key books.clients it.client) 2, (names_other (contains_key books.properties it.property) 3, tt))) e)
     refused_for run (command.Comment it) e = absurd (commented_unlike it (get books.viewings (it.client, it.property)) e)
     refused_for run (command.Inspection it) e =
-        absurd (there_unlike (is_same_inspection it) (get books.inspections (it.property, it.day)) _ (judged_unlike (names books.properties it.property 2 ∷ names books.staff it.staff 4 ∷ []) (change.Inspection it)
+        absurd (there_unlike (is_same_inspection it) (get books.inspections (it.property, it.day)) _ (judged_unlike (names books.properties it.property 2
+        ∷ names books.staff it.staff 4 ∷ []) (change.Inspection it)
         (names_other (contains_key books.properties it.property) 2, (names_other (contains_key books.staff it.staff) 4, tt))) e)
     refused_for run (command.Lease terms) e =
         was_open run (lease_verdict books terms) (there_unlike (λ lease. is_same_lease_terms terms lease.terms) (get books.leases terms.number) _
@@ -288,19 +317,23 @@ module _ (month : ℕ) where
     run_answers None = λ e. cc
     run_answers (Some run) = if_answers run.is_closed _ refusal.NoRun (λ e. cc) (λ e. cc)
 
-    put_off_for : (run : Option OpenRun) (otherwise : Report) → Answers otherwise → answers.unless_open run otherwise ≡ NoReport (refusal.RunOpen month) → IsOpenFor run true
+    put_off_for : (run : Option OpenRun) (otherwise : Report) → Answers otherwise → answers.unless_open run otherwise ≡ NoReport (refusal.RunOpen month)
+        → IsOpenFor run true
     put_off_for None otherwise answered e = absurd (answered e)
     put_off_for (Some at) otherwise answered e = let is : at.month ≡ month = cc in (at, refl, is, refl)
 
-    not_answered : (run : Option OpenRun) (question : Question) → report (record { books = books; open_run = run }) question ≡ NoReport (refusal.RunOpen month) → IsOpenFor run (is_put_off question)
+    not_answered : (run : Option OpenRun) (question : Question) → report (record { books = books; open_run = run }) question ≡ NoReport (refusal.RunOpen month)
+        → IsOpenFor run (is_put_off question)
     not_answered run asked.Branches e = cc
     not_answered run (asked.Vacant day) e = cc
     not_answered run (asked.Matching it) e = absurd (matching_answers (get books.clients it.client) it.day e)
     not_answered run (asked.Statement lease) e = put_off_for run (statement books (get books.leases lease)) (statement_answers (get books.leases lease)) e
-    not_answered run (asked.Arrears branch) e = put_off_for run (arrears books branch) (if_answers (contains_key books.branches branch) _ (refusal.Unknown 3) (λ e. cc) (λ e. cc)) e
+    not_answered run (asked.Arrears branch) e =
+        put_off_for run (arrears books branch) (if_answers (contains_key books.branches branch) _ (refusal.Unknown 3) (λ e. cc) (λ e. cc)) e
     not_answered run (asked.Run asked_month) e = put_off_for run (run_report books (get books.runs asked_month)) (run_answers (get books.runs asked_month)) e
 
-    put_off_refused : (at : OpenRun) (question : Question) → is_put_off question ≡ true → report (record { books = books; open_run = Some at }) question ≡ NoReport (refusal.RunOpen at.month)
+    put_off_refused : (at : OpenRun) (question : Question) → is_put_off question ≡ true
+        → report (record { books = books; open_run = Some at }) question ≡ NoReport (refusal.RunOpen at.month)
     put_off_refused at (asked.Statement lease) off = refl
     put_off_refused at (asked.Arrears branch) off = refl
     put_off_refused at (asked.Run asked_month) off = refl
@@ -315,5 +348,6 @@ open_runs_refuse_frozen books run told month = (
 pub open_runs_refuse_put_off : OpenRunsRefusePutOff
 open_runs_refuse_put_off s question month = (
   not_answered month s.books s.open_run question,
-  λ h. ap (λ r. report (record { books = s.books; open_run = r }) question) h.1 ∙ put_off_refused month s.books h.0 question h.3 ∙ ap (λ m. NoReport (refusal.RunOpen m)) h.2,
+  λ h. ap (λ r. report (record { books = s.books; open_run = r }) question) h.1 ∙ put_off_refused month s.books h.0 question h.3
+      ∙ ap (λ m. NoReport (refusal.RunOpen m)) h.2,
 )

@@ -23,7 +23,8 @@ use Rattle.dh_model.specs.Verdicts.{opened_run, run_verdict, verdict_on}
 use Rattle.dh_model.specs.Whole.{whole}
 use Rattle.dh_laws.specs.InOrder.{IsEntered, IsInOrder, run_after}
 use Rattle.dh_laws.proofs.KeepOrder.{changes_keep_order}
-use Rattle.dh_laws.proofs.VerdictCases.{assign_case, branch_case, client_case, comment_case, inspection_case, lease_case, owner_case, property_case, receipt_case, register_case, rent_case, run_case, staff_case, viewing_case}
+use Rattle.dh_laws.proofs.VerdictCases.{assign_case, branch_case, client_case, comment_case, inspection_case, lease_case, owner_case, property_case}
+use Rattle.dh_laws.proofs.VerdictCases.{receipt_case, register_case, rent_case, run_case, staff_case, viewing_case}
 use Rattle.dh_laws.specs.Events.{Cut, Happens, IsFurtherBy, IsMovedBy, IsMovedOn, IsOfMonth, Mended, RunIfDone, RunIfUndone, Said, Torn, state_of}
 use Rattle.dh_laws.specs.StateTables.{AreInOrder, tables}
 use Rattle.dh_laws.specs.Telling.{IsTold, begun, is_opening}
@@ -47,7 +48,8 @@ same_cut told s t is =
     (inl (record { books = refl; run = run_kept (whole batch_size s.books) told s.open_run }))
 
 -- what an answer leaves, a cut may leave
-pub said_cut : (told : Command) (reply : Reply) (s t : State) → AreInOrder t → Happens batch_size (Said told reply) (tables s) (tables t) → Happens batch_size (Cut told) (tables s) (tables t)
+pub said_cut : (told : Command) (reply : Reply) (s t : State) → AreInOrder t → Happens batch_size (Said told reply) (tables s) (tables t)
+    → Happens batch_size (Cut told) (tables s) (tables t)
 said_cut told reply s t order said = inr (told_done batch_size s t told reply (said, order)).0
 
 pub part_cut : (most : ℕ) (s t : State) → IsPostedInPart most s t → Happens batch_size (Cut (command.Post most)) (tables s) (tables t)
@@ -73,7 +75,8 @@ going books count run = (
   reply.Part (record { month = run.month; done = run.done + count; of = batches batch_size books run.month }),
 )
 
-posted_ends : (books : Books) (count : ℕ) (run : OpenRun) (left : State) (sum : RunSum) → posted batch_size books count run ≡ (left, reply.Posted sum) → posted batch_size books count run ≡ ended books run
+posted_ends : (books : Books) (count : ℕ) (run : OpenRun) (left : State) (sum : RunSum) → posted batch_size books count run ≡ (left, reply.Posted sum)
+    → posted batch_size books count run ≡ ended books run
 posted_ends books count run left sum h = by (nat_le (batches batch_size books run.month) (run.done + count)) refl
   where
     by : (b : Bool) → nat_le (batches batch_size books run.month) (run.done + count) ≡ b → posted batch_size books count run ≡ ended books run
@@ -85,29 +88,36 @@ posted_ends books count run left sum h = by (nat_le (batches batch_size books ru
 
 -- a `post` that closed the run, or found none, left it mended
 post_ended : (books : Books) (run : Option OpenRun) (count : ℕ) (left : State) (sum : RunSum)
-    → step batch_size (record { books = books; open_run = run }) (command.Post count) ≡ (left, reply.Posted sum) → left ≡ record { books = books; open_run = None }
+    → step batch_size (record { books = books; open_run = run }) (command.Post count) ≡ (left, reply.Posted sum)
+    → left ≡ record { books = books; open_run = None }
 post_ended books None count left sum h = let replies = ap (λ (m : State × Reply). m.1) h in absurd (cc)
 post_ended books (Some run) count left sum h = ap (λ (m : State × Reply). m.0) (sym h ∙ posted_ends books count run left sum h)
 
 none_found : (books : Books) (run : Option OpenRun) (count : ℕ) (left : State)
-    → step batch_size (record { books = books; open_run = run }) (command.Post count) ≡ (left, reply.Refused refusal.NoRun) → left ≡ record { books = books; open_run = None }
+    → step batch_size (record { books = books; open_run = run }) (command.Post count) ≡ (left, reply.Refused refusal.NoRun)
+    → left ≡ record { books = books; open_run = None }
 none_found books None count left h = ap (λ (m : State × Reply). m.0) (sym h)
 none_found books (Some run) count left h = by (nat_le (batches batch_size books run.month) (run.done + count)) refl
   where
     by : (b : Bool) → nat_le (batches batch_size books run.month) (run.done + count) ≡ b → left ≡ record { books = books; open_run = None }
-    by true e = let replies : (ended books run).1 ≡ reply.Refused refusal.NoRun = ap (λ (m : State × Reply). m.1) (sym (ap (λ (b : Bool). if b then ended books run else going books count run) e) ∙ h) in absurd (cc)
-    by false e = let replies : (going books count run).1 ≡ reply.Refused refusal.NoRun = ap (λ (m : State × Reply). m.1) (sym (ap (λ (b : Bool). if b then ended books run else going books count run) e) ∙ h) in absurd (cc)
+    by true e = let replies : (ended books run).1 ≡ reply.Refused refusal.NoRun =
+        ap (λ (m : State × Reply). m.1) (sym (ap (λ (b : Bool). if b then ended books run else going books count run) e) ∙ h) in absurd (cc)
+    by false e = let replies : (going books count run).1 ≡ reply.Refused refusal.NoRun =
+        ap (λ (m : State × Reply). m.1) (sym (ap (λ (b : Bool). if b then ended books run else going books count run) e) ∙ h) in absurd (cc)
 
-is_mended : (s t : State) → AreInOrder t → state_of batch_size (tables t) ≡ record { books = whole batch_size s.books; open_run = None } → Happens batch_size Mended (tables s) (tables t)
+is_mended : (s t : State) → AreInOrder t → state_of batch_size (tables t) ≡ record { books = whole batch_size s.books; open_run = None }
+    → Happens batch_size Mended (tables s) (tables t)
 is_mended s t order left =
     let none : t.open_run ≡ None = ap (λ (it : State). it.open_run) left in
     let own = own_state batch_size t (shows_none batch_size t none order) in
     ap (λ (it : State). tables it) (sym own ∙ left)
 
-pub posted_mended : (most : ℕ) (sum : RunSum) (s t : State) → AreInOrder t → Happens batch_size (Said (command.Post most) (reply.Posted sum)) (tables s) (tables t) → Happens batch_size Mended (tables s) (tables t)
+pub posted_mended : (most : ℕ) (sum : RunSum) (s t : State) → AreInOrder t
+    → Happens batch_size (Said (command.Post most) (reply.Posted sum)) (tables s) (tables t) → Happens batch_size Mended (tables s) (tables t)
 posted_mended most sum s t order said = is_mended s t order (post_ended (whole batch_size s.books) s.open_run most (state_of batch_size (tables t)) sum said)
 
-pub none_mended : (most : ℕ) (s t : State) → AreInOrder t → Happens batch_size (Said (command.Post most) (reply.Refused refusal.NoRun)) (tables s) (tables t) → Happens batch_size Mended (tables s) (tables t)
+pub none_mended : (most : ℕ) (s t : State) → AreInOrder t → Happens batch_size (Said (command.Post most) (reply.Refused refusal.NoRun)) (tables s) (tables t)
+    → Happens batch_size Mended (tables s) (tables t)
 none_mended most s t order said = is_mended s t order (none_found (whole batch_size s.books) s.open_run most (state_of batch_size (tables t)) said)
 
 -- ---- openings, and runs
@@ -126,7 +136,8 @@ module _ (s : State) (order : RunOrder) (none : s.open_run ≡ None) (in_order :
   opened_in_order = (opening_told batch_size s order (omega arith) none in_order (change.Open (opened_run s.books order)) h).1
 
   pub opening_cut : (t : State) → t ≡ opened → Happens batch_size (Cut (command.Open order)) (tables s) (tables t)
-  opening_cut t is = said_cut (command.Open order) (reply.Opened order.month) s t (subst (λ (it : State). AreInOrder it) (sym is) opened_in_order) (opening_said t is)
+  opening_cut t is = said_cut (command.Open order) (reply.Opened order.month) s t (subst (λ (it : State). AreInOrder it) (sym is) opened_in_order)
+      (opening_said t is)
 
   made : whole batch_size opened.books ≡ ran batch_size s.books order.key
   made = opened_whole batch_size s.books order (omega arith) (none_in_order batch_size s order (omega arith) none in_order) h
@@ -143,16 +154,19 @@ module _ (s : State) (order : RunOrder) (none : s.open_run ≡ None) (in_order :
   alike : batches batch_size (whole batch_size opened.books) order.month ≡ all
   alike = batches_of_whole batch_size opened.books order.month ∙ sym (batches_of_whole batch_size s.books order.month)
 
-  of_month : (most : ℕ) (run : OpenRun) (after : Option OpenRun) → run ≡ record { month = order.month; done = 0 } → IsFurtherBy batch_size (whole batch_size opened.books) most run after
+  of_month : (most : ℕ) (run : OpenRun) (after : Option OpenRun) → run ≡ record { month = order.month; done = 0 }
+      → IsFurtherBy batch_size (whole batch_size opened.books) most run after
       → IsOfMonth batch_size (whole batch_size s.books) order.month after
   of_month most run None is by = tt
   of_month most run (Some at) is by =
       let month : run.month ≡ order.month = ap (λ (it : OpenRun). it.month) is in
-      let few : at.done ≤ batches batch_size (whole batch_size opened.books) order.month = subst (λ m. at.done ≤ batches batch_size (whole batch_size opened.books) m) month by.0.2 in
+      let few : at.done ≤ batches batch_size (whole batch_size opened.books) order.month =
+      subst (λ m. at.done ≤ batches batch_size (whole batch_size opened.books) m) month by.0.2 in
       let same = alike in
       (by.0.0 ∙ month, omega (arith, few, same))
 
-  stands : (most : ℕ) (after : Option OpenRun) → IsMovedBy batch_size (whole batch_size opened.books) most (Some (record { month = order.month; done = 0 })) after
+  stands : (most : ℕ) (after : Option OpenRun)
+      → IsMovedBy batch_size (whole batch_size opened.books) most (Some (record { month = order.month; done = 0 })) after
       → IsOfMonth batch_size (whole batch_size s.books) order.month after
   stands most after (inl same) = subst (λ it. IsOfMonth batch_size (whole batch_size s.books) order.month it) (sym same) (refl, omega arith)
   stands most after (inr (run, is, by)) = of_month most run after (let back : run ≡ record { month = order.month; done = 0 } = cc in back) by
@@ -163,7 +177,8 @@ module _ (s : State) (order : RunOrder) (none : s.open_run ≡ None) (in_order :
       let it = subst (λ (o : State). IsPostedInPart most o t) is part in
       let now = state_of batch_size (tables s) in
       inr (record {
-        books = it.books ∙ made ∙ ap (λ b. ran batch_size b order.key) (sym itself) ∙ sym (ap (λ v. (settled batch_size now (command.Run order) v).0.books) judged);
+        books = it.books ∙ made ∙ ap (λ b. ran batch_size b order.key) (sym itself)
+            ∙ sym (ap (λ v. (settled batch_size now (command.Run order) v).0.books) judged);
         run = subst (λ v. RunIfDone batch_size now (command.Run order) v t.open_run) (sym judged) (stands most t.open_run it.run);
       })
 
@@ -180,7 +195,8 @@ module _ (s : State) (order : RunOrder) (none : s.open_run ≡ None) (in_order :
 
 -- ---- other commands
 
-plain_carried : (s : State) (told : Command) (rows : Change) → is_plain rows ≡ true → carried_out batch_size s told rows ≡ (record s { books = changed rows s.books }, accepted rows)
+plain_carried : (s : State) (told : Command) (rows : Change) → is_plain rows ≡ true
+    → carried_out batch_size s told rows ≡ (record s { books = changed rows s.books }, accepted rows)
 plain_carried s told (change.Open row) plain = absurd (false≢true plain)
 plain_carried s told change.Post plain = absurd (false≢true plain)
 plain_carried s (command.Run order) rows plain = by rows plain
@@ -190,12 +206,18 @@ plain_carried s (command.Run order) rows plain = by rows plain
     by _ plain = refl
 plain_carried s (command.Open order) rows plain = by rows plain
   where
-    by : (rows : Change) → is_plain rows ≡ true → carried_out batch_size s (command.Open order) rows ≡ (record s { books = changed rows s.books }, accepted rows)
+    by : (rows : Change) → is_plain rows ≡ true → carried_out batch_size s (command.Open order) rows ≡ (
+      record s { books = changed rows s.books },
+      accepted rows,
+    )
     by (change.Open row) plain = absurd (false≢true plain)
     by _ plain = refl
 plain_carried s (command.Post count) rows plain = by rows plain
   where
-    by : (rows : Change) → is_plain rows ≡ true → carried_out batch_size s (command.Post count) rows ≡ (record s { books = changed rows s.books }, accepted rows)
+    by : (rows : Change) → is_plain rows ≡ true → carried_out batch_size s (command.Post count) rows ≡ (
+      record s { books = changed rows s.books },
+      accepted rows,
+    )
     by change.Post plain = absurd (false≢true plain)
     by _ plain = refl
 plain_carried s _ rows plain = refl
@@ -204,16 +226,19 @@ run_stays : (run : Option OpenRun) (rows : Change) → is_plain rows ≡ true �
 run_stays run (change.Open row) plain = absurd (false≢true plain)
 run_stays run _ plain = refl
 
-not_opening : (books : Books) (run : Option OpenRun) (told : Command) (rows : Change) → verdict_on books run told ≡ verdict.Change rows → is_plain rows ≡ true → is_opening told ≡ false
+not_opening : (books : Books) (run : Option OpenRun) (told : Command) (rows : Change) → verdict_on books run told ≡ verdict.Change rows → is_plain rows ≡ true
+    → is_opening told ≡ false
 not_opening books run (command.Open order) rows h plain = absurd (false≢true (sym (ap is_plain (run_case books run rows order h).0) ∙ plain))
 not_opening books run _ rows h plain = refl
 
-not_post : (books : Books) (run : Option OpenRun) (told : Command) (rows : Change) → verdict_on books run told ≡ verdict.Change rows → is_plain rows ≡ true → is_post told ≡ false
+not_post : (books : Books) (run : Option OpenRun) (told : Command) (rows : Change) → verdict_on books run told ≡ verdict.Change rows → is_plain rows ≡ true
+    → is_post told ≡ false
 not_post books None (command.Post count) rows h plain = cc
 not_post books (Some at) (command.Post count) rows h plain = let is : change.Post ≡ rows = cc in absurd (false≢true (ap is_plain is ∙ plain))
 not_post books run _ rows h plain = refl
 
-module _ (s : State) (told : Command) (rows : Change) (in_order : AreInOrder s) (entered : IsEntered told) (h : verdict_on s.books s.open_run told ≡ verdict.Change rows) where
+module _ (s : State) (told : Command) (rows : Change) (in_order : AreInOrder s) (entered : IsEntered told)
+    (h : verdict_on s.books s.open_run told ≡ verdict.Change rows) where
   abbrev after : State
   after = record { books = changed rows s.books; open_run = run_after s.open_run rows }
 
@@ -226,10 +251,12 @@ module _ (s : State) (told : Command) (rows : Change) (in_order : AreInOrder s) 
 
     said_of : (run : Option OpenRun) → s.open_run ≡ run → IsTold batch_size told (accepted rows) s (record s { books = changed rows s.books })
     said_of None is =
-        stepped_told batch_size s (record s { books = changed rows s.books }) told (accepted rows) (omega arith) is (not_opening s.books s.open_run told rows h plain) in_order entered
+        stepped_told batch_size s (record s { books = changed rows s.books }) told (accepted rows) (omega arith) is
+        (not_opening s.books s.open_run told rows h plain) in_order entered
         (sym (ap (settled batch_size s told) h ∙ plain_carried s told rows plain))
     said_of (Some at) is =
-        rows_told batch_size s (record s { books = changed rows s.books }) told rows (accepted rows) (omega arith) (subst IsSome (sym is) refl) (not_post s.books s.open_run told rows h plain)
+        rows_told batch_size s (record s { books = changed rows s.books }) told rows (accepted rows) (omega arith) (subst IsSome (sym is) refl)
+        (not_post s.books s.open_run told rows h plain)
         in_order entered h refl refl
 
     pub rows_said : (reply : Reply) (t : State) → reply ≡ accepted rows → t ≡ after → Happens batch_size (Said told reply) (tables s) (tables t)
@@ -243,16 +270,19 @@ module _ (s : State) (told : Command) (rows : Change) (in_order : AreInOrder s) 
 -- ---- what changes nothing
 
 -- each command is judged as over the whole books
-judged_alike : (s : State) (told : Command) (run : Option OpenRun) → s.open_run ≡ run → AreInOrder s → verdict_on (whole batch_size s.books) s.open_run told ≡ verdict_on s.books s.open_run told
+judged_alike : (s : State) (told : Command) (run : Option OpenRun) → s.open_run ≡ run → AreInOrder s
+    → verdict_on (whole batch_size s.books) s.open_run told ≡ verdict_on s.books s.open_run told
 judged_alike s told None is in_order = ap (λ b. verdict_on b s.open_run told) (whole_itself batch_size s.books (shows_none batch_size s is in_order))
 judged_alike s told (Some at) is in_order =
     let here : IsInOrder batch_size s.books (Some at) = subst (λ it. IsInOrder batch_size s.books it) is in_order in
-    subst (λ it. verdict_on (whole batch_size s.books) it told ≡ verdict_on s.books it told) (sym is) (judged_whole batch_size s.books at (omega arith) here told)
+    subst (λ it. verdict_on (whole batch_size s.books) it told ≡ verdict_on s.books it told) (sym is)
+    (judged_whole batch_size s.books at (omega arith) here told)
 
 pub refused_said : (s t : State) (told : Command) (why : Refusal) → AreInOrder s → verdict_on s.books s.open_run told ≡ verdict.Refused why → t ≡ s
     → Happens batch_size (Said told (reply.Refused why)) (tables s) (tables t)
 refused_said s t told why in_order h is =
-    ap (settled batch_size (state_of batch_size (tables s)) told) (judged_alike s told s.open_run refl in_order ∙ h) ∙ ap (λ (it : State). (state_of batch_size (tables it), reply.Refused why)) (sym is)
+    ap (settled batch_size (state_of batch_size (tables s)) told) (judged_alike s told s.open_run refl in_order ∙ h)
+    ∙ ap (λ (it : State). (state_of batch_size (tables it), reply.Refused why)) (sym is)
 
 -- ---- which rows are accepted
 
@@ -268,7 +298,8 @@ is_of_run (command.Open order) = true
 is_of_run (command.Post count) = true
 is_of_run _ = false
 
-pub plain_rows : (books : Books) (run : Option OpenRun) (told : Command) (rows : Change) → is_of_run told ≡ false → verdict_on books run told ≡ verdict.Change rows → is_plain rows ≡ true
+pub plain_rows : (books : Books) (run : Option OpenRun) (told : Command) (rows : Change) → is_of_run told ≡ false
+    → verdict_on books run told ≡ verdict.Change rows → is_plain rows ≡ true
 plain_rows books run (command.Branch it) rows other h = ap is_plain (branch_case books run rows it h).0
 plain_rows books run (command.Staff it) rows other h = ap is_plain (staff_case books run rows it h).0
 plain_rows books run (command.Owner it) rows other h = ap is_plain (owner_case books run rows it h).0
@@ -286,7 +317,8 @@ plain_rows books run (command.Run it) rows other h = absurd (false≢true (sym o
 plain_rows books run (command.Open it) rows other h = absurd (false≢true (sym other))
 plain_rows books run (command.Post it) rows other h = absurd (false≢true (sym other))
 
-pub other_than : (told : Command) → ((order : RunOrder) → told ≡ command.Run order → ⊥) → ((order : RunOrder) → told ≡ command.Open order → ⊥) → is_post told ≡ false → is_of_run told ≡ false
+pub other_than : (told : Command) → ((order : RunOrder) → told ≡ command.Run order → ⊥) → ((order : RunOrder) → told ≡ command.Open order → ⊥)
+    → is_post told ≡ false → is_of_run told ≡ false
 other_than (command.Run order) run opens post = absurd (run order refl)
 other_than (command.Open order) run opens post = absurd (opens order refl)
 other_than (command.Post count) run opens post = absurd (false≢true (sym post))

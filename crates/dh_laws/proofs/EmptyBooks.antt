@@ -1,5 +1,6 @@
 -- Books without a row are in order.
-use Rattle.std.proofs.Common.{◌≡◌, ◌≢◌, ◌∙◌, ◌&&◌, false, nat_eq, ℕ, List, [], ◌∷◌, ◌++◌, map, length, Some, None, refl, sym, ap, subst, arith, nat_cmp, is_some, not, true≢false}
+use Rattle.std.proofs.Common.{◌≡◌, ◌≢◌, ◌∙◌, ◌&&◌, false, nat_eq, ℕ, List, [], ◌∷◌, ◌++◌, map, length, Some, None, refl, sym, ap, subst, arith, nat_cmp}
+use Rattle.std.proofs.Common.{is_some, not, true≢false}
 use Rattle.std.specs.declared.cmp.Ordering.{Ordering}
 use Rattle.std.specs.List.{find}
 use Rattle.std.specs.FinMap.{empty, entries, get-empty, len-empty, len-entries, values}
@@ -38,17 +39,34 @@ nothing_there : {K : Type 0} (X : Type 0) (R : K → K → Ordering) (q : K) →
 nothing_there X R q h = true≢false (sym h ∙ ap is_some (get-empty R q))
 
 no_keys : length (map (λ (it : Receipt). it.key) (values (empty {R = nat_cmp})) ++ map (λ (it : Run). it.key) (values (empty {R = nat_cmp}))) ≡ 0
-no_keys = ap (λ rows. length (map (λ (it : Receipt). it.key) rows ++ map (λ (it : Run). it.key) (values (empty {R = nat_cmp})))) (no_rows nat_cmp) ∙ ap (λ rows. length (map (λ (it : Run). it.key) rows)) (no_rows nat_cmp)
+no_keys = ap (λ rows. length (map (λ (it : Receipt). it.key) rows ++ map (λ (it : Run). it.key) (values (empty {R = nat_cmp})))) (no_rows nat_cmp)
+    ∙ ap (λ rows. length (map (λ (it : Run). it.key) rows)) (no_rows nat_cmp)
 
 module _ (size month : ℕ) where
   meets : MeetsRules (empty_books month) size
-  meets References = record { staff = each_of_none _ _; properties = each_of_none _ _; registrations = each_of_none _ _; viewings = each_of_none _ _; inspections = each_of_none _ _; leases = each_of_none _ _; charges = each_of_none _ _; receipts = each_of_none _ _; part_runs = each_of_none _ _; part_branches = each_of_none _ _ }
+  meets References = record {
+    staff = each_of_none _ _;
+    properties = each_of_none _ _;
+    registrations = each_of_none _ _;
+    viewings = each_of_none _ _;
+    inspections = each_of_none _ _;
+    leases = each_of_none _ _;
+    charges = each_of_none _ _;
+    receipts = each_of_none _ _;
+    part_runs =
+        each_of_none _ _;
+    part_branches = each_of_none _ _;
+  }
   meets Branches = record { managers = each_of_none _ _; registrars = each_of_none _ _ }
   meets Managers = each_of_none _ _
   meets Overlaps = two_of_none _ (λ lease other. overlap lease.terms other.terms ≡ false)
   meets Starts = two_of_none _ (λ lease other. (is_same_text lease.terms.client other.terms.client && nat_eq lease.terms.start other.terms.start) ≡ false)
   meets Terms = each_of_none _ _
-  meets Deposits = record { amounts = each_of_none _ _; one_each = two_of_none _ (λ receipt other. receipt.payment.kind ≡ Deposit → other.payment.kind ≡ Deposit → receipt.payment.lease ≢ other.payment.lease) }
+  meets Deposits = record {
+    amounts = each_of_none _ _;
+    one_each = two_of_none _ (λ receipt other. receipt.payment.kind ≡ Deposit → other.payment.kind ≡ Deposit
+        → receipt.payment.lease ≢ other.payment.lease);
+  }
   meets Keys = record {
     keys = λ i j d lt small. absurd (omega (arith, no_keys, small));
     numbers = each_of_none _ _;
@@ -61,7 +79,22 @@ module _ (size month : ℕ) where
   meets Months = record { closed = each_of_none _ _; under_way = each_of_none _ _; charged = each_of_none _ _; summed = each_of_none _ _ }
 
   keyed : AreKeyed (empty_books month)
-  keyed = record { branches = none_under _ _; staff = none_under _ _; owners = none_under _ _; properties = none_under _ _; clients = none_under _ _; registrations = none_under _ _; viewings = none_under _ _; inspections = none_under _ _; leases = none_under _ _; charges = none_under _ _; receipts = none_under _ _; runs = none_under _ _; parts = none_under _ _ }
+  keyed = record {
+    branches = none_under _ _;
+    staff = none_under _ _;
+    owners = none_under _ _;
+    properties = none_under _ _;
+    clients = none_under _ _;
+    registrations = none_under _ _;
+    viewings = none_under _ _;
+    inspections = none_under _ _;
+    leases = none_under _ _;
+    charges = none_under _ _;
+    receipts =
+        none_under _ _;
+    runs = none_under _ _;
+    parts = none_under _ _;
+  }
 
 pub empty_books_are_in_order : (size : ℕ) → EmptyBooksAreInOrder size
 empty_books_are_in_order size month = record { keyed = keyed size month; rules = meets size month; shown = ap (find (λ run. not run.is_closed)) (no_rows _) }

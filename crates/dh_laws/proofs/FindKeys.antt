@@ -116,7 +116,8 @@ module _ (books : Books) (key : List ℕ) (keys : KeysInOrder books) where
       (of_map (λ (it : Receipt). it.key) (values books.receipts) receipt a) (of_map (λ (it : Run). it.key) (values books.runs) run b))
       (same ∙ sym also)
 
-  pub one_receipt : (receipt : Receipt) → (receipt_of_key books key ≡ Some receipt → IsReceiptOf books key receipt) × (IsReceiptOf books key receipt → receipt_of_key books key ≡ Some receipt)
+  pub one_receipt : (receipt : Receipt) → (receipt_of_key books key ≡ Some receipt → IsReceiptOf books key receipt)
+      × (IsReceiptOf books key receipt → receipt_of_key books key ≡ Some receipt)
   one_receipt receipt = one_is_found receipt_key key (values books.receipts) receipt (rises_left Apart receipt_keys run_keys rise)
 
   pub one_run : (run : Run) → (run_of_key books key ≡ Some run → IsRunOf books key run) × (IsRunOf books key run → run_of_key books key ≡ Some run)
@@ -126,7 +127,8 @@ module _ (books : Books) (key : List ℕ) (keys : KeysInOrder books) where
   no_run receipt h = none_is_found run_key key (values books.runs) (λ run b also. never_both receipt run (among (values books.receipts) receipt h.0) h.1 b also)
 
   pub no_receipt : (run : Run) → IsRunOf books key run → receipt_of_key books key ≡ None
-  no_receipt run h = none_is_found receipt_key key (values books.receipts) (λ receipt a same. never_both receipt run a same (among (values books.runs) run h.0) h.1)
+  no_receipt run h = none_is_found receipt_key key (values books.receipts)
+      (λ receipt a same. never_both receipt run a same (among (values books.runs) run h.0) h.1)
 
 pub keys_are_of_one : KeysAreOfOne
 keys_are_of_one books key keys = (one_receipt books key keys, one_run books key keys, no_run books key keys, no_receipt books key keys)

@@ -28,7 +28,8 @@ pub record Grows (books after : Books) : Type 0 where
   pub clients : (k : List ℕ) → IsThere books.clients k → IsThere after.clients k
   pub leases : (k : ℕ) → IsThere books.leases k → IsThere after.leases k
   pub runs : (k : ℕ) → IsThere books.runs k → IsThere after.runs k
-  pub registered : (client property : List ℕ) → is_registered books client (get books.properties property) ≡ true → is_registered after client (get after.properties property) ≡ true
+  pub registered : (client property : List ℕ) → is_registered books client (get books.properties property) ≡ true
+      → is_registered after client (get after.properties property) ≡ true
 
 -- what the rows of the books name is there in those after
 pub record Still (books after : Books) : Type 0 where
@@ -51,8 +52,10 @@ module _ (books after : Books) (g : Grows books after) (r : NamesWhatIsThere boo
   pub still : Still books after
   still = record {
     staff = λ it a. g.branches it.branch (r.staff it a);
-    properties = λ it a. let q = r.properties it a in record { owner = g.owners it.owner q.owner; staff = if_some it.staff g.staff q.staff; branch = g.branches it.branch q.branch };
-    registrations = λ it a. let q = r.registrations it a in record { client = g.clients it.client q.client; branch = g.branches it.branch q.branch; staff = g.staff it.staff q.staff };
+    properties = λ it a. let q = r.properties it a in
+        record { owner = g.owners it.owner q.owner; staff = if_some it.staff g.staff q.staff; branch = g.branches it.branch q.branch };
+    registrations = λ it a. let q = r.registrations it a in
+        record { client = g.clients it.client q.client; branch = g.branches it.branch q.branch; staff = g.staff it.staff q.staff };
     viewings = λ it a. let q = r.viewings it a in record { client = g.clients it.client q.client; property = g.properties it.property q.property };
     inspections = λ it a. let q = r.inspections it a in record { property = g.properties it.property q.property; staff = g.staff it.staff q.staff };
     leases = λ it a. let q = r.leases it a in record {
@@ -69,27 +72,81 @@ module _ (books after : Books) (g : Grows books after) (r : NamesWhatIsThere boo
 module _ (books : Books) where
   pub grows_branches : (key : List ℕ) (it : Branch) → Grows books (record books { branches = insert books.branches key it })
   grows_branches key it =
-      record { branches = there_after text_total text_ties books.branches key it; staff = λ k h. h; owners = λ k h. h; properties = λ k h. h; clients = λ k h. h; leases = λ k h. h; runs = λ k h. h; registered = λ c p h. h }
+      record {
+        branches = there_after text_total text_ties books.branches key it;
+        staff = λ k h. h;
+        owners = λ k h. h;
+        properties = λ k h. h;
+        clients = λ k h. h;
+        leases = λ k h. h;
+        runs = λ k h. h;
+        registered = λ c p h. h;
+      }
 
   pub grows_staff : (key : List ℕ) (it : Staff) → Grows books (record books { staff = insert books.staff key it })
   grows_staff key it =
-      record { branches = λ k h. h; staff = there_after text_total text_ties books.staff key it; owners = λ k h. h; properties = λ k h. h; clients = λ k h. h; leases = λ k h. h; runs = λ k h. h; registered = λ c p h. h }
+      record {
+        branches = λ k h. h;
+        staff = there_after text_total text_ties books.staff key it;
+        owners = λ k h. h;
+        properties = λ k h. h;
+        clients = λ k h. h;
+        leases = λ k h. h;
+        runs = λ k h. h;
+        registered = λ c p h. h;
+      }
 
   pub grows_owners : (key : List ℕ) (it : Owner) → Grows books (record books { owners = insert books.owners key it })
   grows_owners key it =
-      record { branches = λ k h. h; staff = λ k h. h; owners = there_after text_total text_ties books.owners key it; properties = λ k h. h; clients = λ k h. h; leases = λ k h. h; runs = λ k h. h; registered = λ c p h. h }
+      record {
+        branches = λ k h. h;
+        staff = λ k h. h;
+        owners = there_after text_total text_ties books.owners key it;
+        properties = λ k h. h;
+        clients = λ k h. h;
+        leases = λ k h. h;
+        runs = λ k h. h;
+        registered = λ c p h. h;
+      }
 
   pub grows_clients : (key : List ℕ) (it : Client) → Grows books (record books { clients = insert books.clients key it })
   grows_clients key it =
-      record { branches = λ k h. h; staff = λ k h. h; owners = λ k h. h; properties = λ k h. h; clients = there_after text_total text_ties books.clients key it; leases = λ k h. h; runs = λ k h. h; registered = λ c p h. h }
+      record {
+        branches = λ k h. h;
+        staff = λ k h. h;
+        owners = λ k h. h;
+        properties = λ k h. h;
+        clients = there_after text_total text_ties books.clients key it;
+        leases = λ k h. h;
+        runs = λ k h. h;
+        registered = λ c p h. h;
+      }
 
   pub grows_leases : (key : ℕ) (it : Lease) → Grows books (record books { leases = insert books.leases key it })
   grows_leases key it =
-      record { branches = λ k h. h; staff = λ k h. h; owners = λ k h. h; properties = λ k h. h; clients = λ k h. h; leases = there_after nat_total nat_ties books.leases key it; runs = λ k h. h; registered = λ c p h. h }
+      record {
+        branches = λ k h. h;
+        staff = λ k h. h;
+        owners = λ k h. h;
+        properties = λ k h. h;
+        clients = λ k h. h;
+        leases = there_after nat_total nat_ties books.leases key it;
+        runs = λ k h. h;
+        registered = λ c p h. h;
+      }
 
   pub grows_runs : (key month : ℕ) (it : Run) → Grows books (record books { runs = insert books.runs key it; next = month })
   grows_runs key month it =
-      record { branches = λ k h. h; staff = λ k h. h; owners = λ k h. h; properties = λ k h. h; clients = λ k h. h; leases = λ k h. h; runs = there_after nat_total nat_ties books.runs key it; registered = λ c p h. h }
+      record {
+        branches = λ k h. h;
+        staff = λ k h. h;
+        owners = λ k h. h;
+        properties = λ k h. h;
+        clients = λ k h. h;
+        leases = λ k h. h;
+        runs = there_after nat_total nat_ties books.runs key it;
+        registered = λ c p h. h;
+      }
 
   registered_by : (key : List ℕ × List ℕ) (it : Registration) (client : List ℕ) (found : Option Property) → is_registered books client found ≡ true
       → is_registered (record books { registrations = insert books.registrations key it }) client found ≡ true
@@ -98,7 +155,16 @@ module _ (books : Books) where
 
   pub grows_registrations : (key : List ℕ × List ℕ) (it : Registration) → Grows books (record books { registrations = insert books.registrations key it })
   grows_registrations key it =
-      record { branches = λ k h. h; staff = λ k h. h; owners = λ k h. h; properties = λ k h. h; clients = λ k h. h; leases = λ k h. h; runs = λ k h. h; registered = λ c p h. registered_by key it c (get books.properties p) h }
+      record {
+        branches = λ k h. h;
+        staff = λ k h. h;
+        owners = λ k h. h;
+        properties = λ k h. h;
+        clients = λ k h. h;
+        leases = λ k h. h;
+        runs = λ k h. h;
+        registered = λ c p h. registered_by key it c (get books.properties p) h;
+      }
 
   -- a property that is replaced stays with its branch
   module _ (key : List ℕ) (it : Property) (stays : (row : Property) → get books.properties key ≡ Some row → row.branch ≡ it.branch) where
@@ -132,16 +198,52 @@ module _ (books : Books) where
 
     pub grows_properties : Grows books (record books { properties = insert books.properties key it })
     grows_properties =
-        record { branches = λ k h. h; staff = λ k h. h; owners = λ k h. h; properties = there_after text_total text_ties books.properties key it; clients = λ k h. h; leases = λ k h. h; runs = λ k h. h; registered = registered_after }
+        record {
+          branches = λ k h. h;
+          staff = λ k h. h;
+          owners = λ k h. h;
+          properties = there_after text_total text_ties books.properties key it;
+          clients = λ k h. h;
+          leases = λ k h. h;
+          runs = λ k h. h;
+          registered = registered_after;
+        }
 
   pub grows_viewings : (key : List ℕ × List ℕ) (it : Viewing) → Grows books (record books { viewings = insert books.viewings key it })
   grows_viewings key it =
-      record { branches = λ k h. h; staff = λ k h. h; owners = λ k h. h; properties = λ k h. h; clients = λ k h. h; leases = λ k h. h; runs = λ k h. h; registered = λ c p h. h }
+      record {
+        branches = λ k h. h;
+        staff = λ k h. h;
+        owners = λ k h. h;
+        properties = λ k h. h;
+        clients = λ k h. h;
+        leases = λ k h. h;
+        runs = λ k h. h;
+        registered = λ c p h. h;
+      }
 
   pub grows_inspections : (key : List ℕ × ℕ) (it : Inspection) → Grows books (record books { inspections = insert books.inspections key it })
   grows_inspections key it =
-      record { branches = λ k h. h; staff = λ k h. h; owners = λ k h. h; properties = λ k h. h; clients = λ k h. h; leases = λ k h. h; runs = λ k h. h; registered = λ c p h. h }
+      record {
+        branches = λ k h. h;
+        staff = λ k h. h;
+        owners = λ k h. h;
+        properties = λ k h. h;
+        clients = λ k h. h;
+        leases = λ k h. h;
+        runs = λ k h. h;
+        registered = λ c p h. h;
+      }
 
   pub grows_receipts : (key : ℕ) (it : Receipt) → Grows books (record books { receipts = insert books.receipts key it })
   grows_receipts key it =
-      record { branches = λ k h. h; staff = λ k h. h; owners = λ k h. h; properties = λ k h. h; clients = λ k h. h; leases = λ k h. h; runs = λ k h. h; registered = λ c p h. h }
+      record {
+        branches = λ k h. h;
+        staff = λ k h. h;
+        owners = λ k h. h;
+        properties = λ k h. h;
+        clients = λ k h. h;
+        leases = λ k h. h;
+        runs = λ k h. h;
+        registered = λ c p h. h;
+      }

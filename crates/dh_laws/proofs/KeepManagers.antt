@@ -1,5 +1,6 @@
 -- How many properties a member of staff manages, after every change.
-use Rattle.std.proofs.Common.{◌≡◌, ◌∙◌, refl, sym, ap, subst, inl, inr, ℕ, ◌+◌, ◌<◌, ◌≤◌, Bool, true, false, not, ◌&&◌, cond, is_lt, List, [], ◌∷◌, Option, Some, None, IfSome, arith}
+use Rattle.std.proofs.Common.{◌≡◌, ◌∙◌, refl, sym, ap, subst, inl, inr, ℕ, ◌+◌, ◌<◌, ◌≤◌, Bool, true, false, not, ◌&&◌, cond, is_lt, List, [], ◌∷◌, Option}
+use Rattle.std.proofs.Common.{Some, None, IfSome, arith}
 use Rattle.std.specs.List.{count_by}
 use Rattle.std.specs.FinMap.{FinMap, get, insert, values}
 use Rattle.std.proofs.lemmas.Bool.{cases_Bool, false_from_ne_true}
@@ -109,7 +110,8 @@ module _ (books : Books) (keyed : AreKeyed books) (key : List ℕ) (it : Propert
   not_besides : (row : Property) → row.number ≡ key → one (besides (manages member) (is_it key) row) ≡ 0
   not_besides row same = ap one (none_but (manages member) (is_it key) (manages member row) (is_it key row) ((texts row.number key).1 same))
 
-  besides_after : (found : Option Property) → get books.properties key ≡ found → count_by (besides (manages member) (is_it key)) (values after) ≡ managed_besides books member key
+  besides_after : (found : Option Property) → get books.properties key ≡ found
+      → count_by (besides (manages member) (is_it key)) (values after) ≡ managed_besides books member key
   besides_after None e =
       let sum = sum_new text_total text_ties (λ row. cond (besides (manages member) (is_it key) row) 1 0) books.properties key it e in
       let new = not_besides it own in
@@ -131,7 +133,8 @@ module _ (books : Books) (keyed : AreKeyed books) (key : List ℕ) (it : Propert
       omega (arith, few, same, room)
 
   -- who does not manage the new row manages no more than before
-  managed_no_more : (found : Option Property) → get books.properties key ≡ found → manages member it ≡ false → count_by (manages member) (values after) ≤ managed_by books member
+  managed_no_more : (found : Option Property) → get books.properties key ≡ found → manages member it ≡ false
+      → count_by (manages member) (values after) ≤ managed_by books member
   managed_no_more None e fails =
       let sum = sum_new text_total text_ties (λ row. cond (manages member row) 1 0) books.properties key it e in
       let new = ap one fails in
@@ -141,7 +144,8 @@ module _ (books : Books) (keyed : AreKeyed books) (key : List ℕ) (it : Propert
       let new = ap one fails in
       omega (arith, sum, new)
 
-  managed_after : (branch : List ℕ) → IfSome it.staff (CanManage books branch key) → managed_by books member ≤ 100 → count_by (manages member) (values after) ≤ 100
+  managed_after : (branch : List ℕ) → IfSome it.staff (CanManage books branch key) → managed_by books member ≤ 100
+      → count_by (manages member) (values after) ≤ 100
   managed_after branch staff few = elim (cases_Bool (manages member it)) [
     | inl is ↦
         let same = (optional is_same_text texts it.staff (Some member)).0 is in
@@ -151,7 +155,8 @@ module _ (books : Books) (keyed : AreKeyed books) (key : List ℕ) (it : Propert
   ]
 
   -- as many as before, if the staff is the same
-  managed_the_same : (row : Property) → get books.properties key ≡ Some row → it.staff ≡ row.staff → managed_by books member ≤ 100 → count_by (manages member) (values after) ≤ 100
+  managed_the_same : (row : Property) → get books.properties key ≡ Some row → it.staff ≡ row.staff → managed_by books member ≤ 100
+      → count_by (manages member) (values after) ≤ 100
   managed_the_same row e staff few =
       let sum = sum_old text_total text_ties (λ row. cond (manages member row) 1 0) books.properties key it row e in
       let same = ap (λ (s : Option (List ℕ)). one (is_same_optional is_same_text s (Some member))) staff in
@@ -159,7 +164,8 @@ module _ (books : Books) (keyed : AreKeyed books) (key : List ℕ) (it : Propert
 
 module _ (books : Books) (run : Option OpenRun) (keyed : AreKeyed books) (names : NamesWhatIsThere books) (rules : ManagesAtMostHundred books) where
   -- nobody manages for who is new
-  not_yet : (it : Staff) → get books.staff it.number ≡ None → (property : Property) → Among (values books.properties) property → manages it.number property ≡ false
+  not_yet : (it : Staff) → get books.staff it.number ≡ None → (property : Property) → Among (values books.properties) property
+      → manages it.number property ≡ false
   not_yet it new property a = false_from_ne_true (manages it.number property) (λ is.
       let refers = names.properties property (is_among (values books.properties) property a) in
       let same = (optional is_same_text texts property.staff (Some it.number)).0 is in
@@ -183,7 +189,8 @@ module _ (books : Books) (run : Option OpenRun) (keyed : AreKeyed books) (names 
       subst (λ found. ManagesAtMostHundred (managed books it found)) (sym h.is)
       (λ member a. managed_after books keyed it.property (record h.row { staff = it.staff }) own member.number h.row.branch staff (rules member a))
 
-  managers_at_rent : (it : RentChange) (row : Property) → get books.properties it.property ≡ Some row → ManagesAtMostHundred (at_rent books it (get books.properties it.property))
+  managers_at_rent : (it : RentChange) (row : Property) → get books.properties it.property ≡ Some row
+      → ManagesAtMostHundred (at_rent books it (get books.properties it.property))
   managers_at_rent it row is =
       let own = keyed.properties it.property row is in
       subst (λ found. ManagesAtMostHundred (at_rent books it found)) (sym is)

@@ -17,9 +17,11 @@ use Rattle.dh_laws.proofs.MonthChanges.{changes_keep_months}
 use Rattle.dh_laws.proofs.MonthKeep.{RunInMonths}
 use Rattle.dh_laws.proofs.VerdictCases.{IsLimited, accepted, limited}
 
-module _ (size : ℕ) (books : Books) (run : Option OpenRun) (in_order : IsInOrder size books run) (rows : Change) (accepted : Accepted books run rows) (limits : IsLimited rows) where
+module _ (size : ℕ) (books : Books) (run : Option OpenRun) (in_order : IsInOrder size books run) (rows : Change) (accepted : Accepted books run rows)
+    (limits : IsLimited rows) where
   was_settled : AreSettled books
-  was_settled = let r = in_order.rules in record { overlaps = r Rule.Overlaps; starts = r Rule.Starts; terms = r Rule.Terms; deposits = r Rule.Deposits; keys = r Rule.Keys }
+  was_settled = let r = in_order.rules in
+      record { overlaps = r Rule.Overlaps; starts = r Rule.Starts; terms = r Rule.Terms; deposits = r Rule.Deposits; keys = r Rule.Keys }
 
   in_months : RunInMonths size (changed rows books) (run_after run rows)
   in_months =

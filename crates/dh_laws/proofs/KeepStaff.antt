@@ -49,10 +49,14 @@ module _ (books : Books) (run : Option OpenRun) (rules : StaffOfTheBranch books)
     registrars = rules.registrars;
   }
 
-  registration_added : (it : Registration) → Registers books run it → StaffOfTheBranch (record books { registrations = insert books.registrations (it.client, it.branch) it })
+  registration_added : (it : Registration) → Registers books run it
+      → StaffOfTheBranch (record books { registrations = insert books.registrations (it.client, it.branch) it })
   registration_added it h = record {
     managers = rules.managers;
-    registrars = each_put texts_total texts_tie books.registrations (it.client, it.branch) it (λ r. works_at r.branch (get books.staff r.staff) ≡ true) rules.registrars h.of_branch;
+    registrars = each_put texts_total texts_tie books.registrations (
+      it.client,
+      it.branch,
+    ) it (λ r. works_at r.branch (get books.staff r.staff) ≡ true) rules.registrars h.of_branch;
   }
 
   assigned_staff : (it : Assignment) → Assigns books run it → StaffOfTheBranch (managed books it (get books.properties it.property))
@@ -60,10 +64,12 @@ module _ (books : Books) (run : Option OpenRun) (rules : StaffOfTheBranch books)
       subst (λ found. StaffOfTheBranch (managed books it found)) (sym h.is)
       (property_put it.property (record h.row { staff = it.staff }) (if_some it.staff (λ m c. c.of_branch) h.staff))
 
-  staff_at_rent : (it : RentChange) (row : Property) → get books.properties it.property ≡ Some row → StaffOfTheBranch (at_rent books it (get books.properties it.property))
+  staff_at_rent : (it : RentChange) (row : Property) → get books.properties it.property ≡ Some row
+      → StaffOfTheBranch (at_rent books it (get books.properties it.property))
   staff_at_rent it row is =
       subst (λ found. StaffOfTheBranch (at_rent books it found)) (sym is)
-      (property_put it.property (record row { rent = it.rent }) (each_got text_total text_ties books.properties (IsStaffed books) rules.managers it.property row is))
+      (property_put it.property (record row { rent = it.rent })
+      (each_got text_total text_ties books.properties (IsStaffed books) rules.managers it.property row is))
 
   staff_commented : (it : ViewingComment) (row : Viewing) → get books.viewings (it.client, it.property) ≡ Some row
       → StaffOfTheBranch (with_comment books it (get books.viewings (it.client, it.property)))

@@ -29,7 +29,8 @@ module _ (size : ℕ) where
   nothing : (told called : List Command) → told ≡ [] → IsBeginning told called
   nothing told called is = (called, ap (λ ts. ts ++ called) (sym is))
 
-  begins : (s last : State) (events : List (Event × Tables)) (told : List Command) → IsOneLife events → Kept size s events told last → IsBeginning told (calls events)
+  begins : (s last : State) (events : List (Event × Tables)) (told : List Command) → IsOneLife events → Kept size s events told last
+      → IsBeginning told (calls events)
   begins s last [] told once k = nothing told [] k.0
   begins s last ((Said it reply, t) ∷ events) told once k = one_more it told k.0 (calls events) k.2 (begins k.1 last events k.0 once k.4)
   begins s last ((Cut it, t) ∷ events) told once k = elim k [

@@ -33,7 +33,8 @@ module _ (size : ℕ) (pos : 1 ≤ size) where
   answered : (s next : State) (it : Command) (reply : Reply) → IsEntered it → Law s.books → step size s it ≡ (next, reply) → Law next.books
   answered s next it reply entered law e = subst (λ (made : State × Reply). Law made.0.books) e (stepped s it entered law)
 
-  kept : (start after : Tables) (events : List (Event × Tables)) → AreEntered events → Law (whole size start.books) → Follow size start (events ++ (Mended, after) ∷ []) → Law after.books
+  kept : (start after : Tables) (events : List (Event × Tables)) → AreEntered events → Law (whole size start.books)
+      → Follow size start (events ++ (Mended, after) ∷ []) → Law after.books
   kept start after [] entered law f = subst Law (sym (ap (λ (t : Tables). t.books) f.1)) law
   kept start after ((Said it reply, t) ∷ events) entered law f =
       kept t after events entered.1 (answered (state_of size start) (state_of size t) it reply entered.0 law f.1) f.2

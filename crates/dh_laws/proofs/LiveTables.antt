@@ -11,7 +11,8 @@ use Rattle.dh_laws.specs.Lives.{EmptyTablesAreShown}
 
 module _ (size : ℕ) where
   whole_itself : (t : Tables) → t.run ≡ None → IsShown size t → whole size t.books ≡ t.books
-  whole_itself t none shown = let closed : IsOpenAt size t.books None = subst (λ run. IsOpenAt size t.books run) none shown in ap (completed size t.books) closed
+  whole_itself t none shown = let closed : IsOpenAt size t.books None = subst (λ run. IsOpenAt size t.books run) none shown in
+      ap (completed size t.books) closed
 
   -- tables that a recovery made of whole books are these
   pub mended_whole : (t : Tables) (books : Books) → t ≡ record { books = books; run = None } → IsShown size t → whole size t.books ≡ books

@@ -1,5 +1,6 @@
 -- Rows put into a map all at once, and rows kept by a test.
-use Rattle.std.proofs.Common.{◌≡◌, ◌≢◌, ◌⊎◌, ◌∙◌, refl, sym, ap, inl, inr, Bool, true, false, cond, List, [], ◌∷◌, ◌++◌, map, Option, Some, None, Ordering, is_eq}
+use Rattle.std.proofs.Common.{◌≡◌, ◌≢◌, ◌⊎◌, ◌∙◌, refl, sym, ap, inl, inr, Bool, true, false, cond, List, [], ◌∷◌, ◌++◌, map, Option, Some, None, Ordering}
+use Rattle.std.proofs.Common.{is_eq}
 use Rattle.std.specs.List.{filter}
 use Rattle.std.specs.List as list
 use Rattle.std.specs.Option.{option_or}
@@ -42,7 +43,8 @@ module _ {K X : Type 0} {R : K → K → Ordering} (o : IsTotalOrder R) (anti : 
     -- the row of the list with that key, else what the map has
     pub get-with_rows : (rows : List X) (m : FinMap R X) (q : K) → get (with_rows key rows m) q ≡ option_or (row_at q rows) (get m q)
     get-with_rows rows m q =
-        get-from_entries o (map (λ row. (key row, row)) rows ++ entries m) q ∙ found_in_both rows (entries m) q ∙ ap (option_or (row_at q rows)) (sym (get-entries m q))
+        get-from_entries o (map (λ row. (key row, row)) rows ++ entries m) q ∙ found_in_both rows (entries m) q
+        ∙ ap (option_or (row_at q rows)) (sym (get-entries m q))
 
     at_by : (b : Bool) (row x : X) (rows : List X) (q : K) → eq_by_cmp R q (key row) ≡ b → (row_at q rows ≡ Some x → Among rows x × (key x ≡ q))
         → cond b (Some row) (row_at q rows) ≡ Some x → Among (row ∷ rows) x × (key x ≡ q)
@@ -58,7 +60,8 @@ module _ {K X : Type 0} {R : K → K → Ordering} (o : IsTotalOrder R) (anti : 
     pub no_row_at : (rows : List X) (q : K) → ((x : X) → Among rows x → key x ≢ q) → row_at q rows ≡ None
     no_row_at [] q apart = refl
     no_row_at (row ∷ rows) q apart =
-        ap (λ b. cond b (Some row) (row_at q rows)) (keys_differ o anti q (key row) (λ e. apart row (inl refl) (sym e))) ∙ no_row_at rows q (λ x a. apart x (inr a))
+        ap (λ b. cond b (Some row) (row_at q rows)) (keys_differ o anti q (key row) (λ e. apart row (inl refl) (sym e)))
+        ∙ no_row_at rows q (λ x a. apart x (inr a))
 
     first_at : (b : Bool) (row x : X) (at : Option X) → (b ≡ true → row ≡ x) → (b ≡ false → at ≡ Some x) → cond b (Some row) at ≡ Some x
     first_at true row x at here later = ap (λ y. Some y) (here refl)
@@ -87,7 +90,8 @@ module _ {K X : Type 0} {R : K → K → Ordering} (o : IsTotalOrder R) (anti : 
       | inr old ↦ inr old
     ]
 
-    pub get_of_rows : (rows : List X) (m : FinMap R X) (x : X) → Among rows x → ((y : X) → Among rows y → key y ≡ key x → y ≡ x) → get (with_rows key rows m) (key x) ≡ Some x
+    pub get_of_rows : (rows : List X) (m : FinMap R X) (x : X) → Among rows x → ((y : X) → Among rows y → key y ≡ key x → y ≡ x)
+        → get (with_rows key rows m) (key x) ≡ Some x
     get_of_rows rows m x a one = get-with_rows rows m (key x) ∙ ap (λ at. option_or at (get m (key x))) (row_at_own rows x a one)
 
     pub get_past_rows : (rows : List X) (m : FinMap R X) (q : K) → ((x : X) → Among rows x → key x ≢ q) → get (with_rows key rows m) q ≡ get m q
@@ -113,7 +117,8 @@ module _ {K X : Type 0} {R : K → K → Ordering} (o : IsTotalOrder R) (anti : 
     pub one_row : (m : FinMap R X) → StandUnder key m → (x y : X) → Among (values m) x → Among (values m) y → key x ≡ key y → x ≡ y
     one_row m keyed x y a b e = inside x y (sym (own_row m keyed x a) ∙ ap (get m) e ∙ own_row m keyed y b)
 
-    rise_by_key : (es : List (K × X)) → is_sorted R es ≡ true → ((e : K × X) → Among es e → key e.1 ≡ e.0) → Rises (λ x y. IsBefore R (key x) (key y)) (map (λ e. e.1) es)
+    rise_by_key : (es : List (K × X)) → is_sorted R es ≡ true → ((e : K × X) → Among es e → key e.1 ≡ e.0)
+        → Rises (λ x y. IsBefore R (key x) (key y)) (map (λ e. e.1) es)
     rise_by_key [] h are = tt
     rise_by_key (e ∷ es) h are =
         let parts = and_parts (below_all R e.0 es) (is_sorted R es) h in (
@@ -128,7 +133,8 @@ module _ {K X : Type 0} {R : K → K → Ordering} (o : IsTotalOrder R) (anti : 
 
     -- the rows rise by their keys
     pub rows_rise : (m : FinMap R X) → StandUnder key m → Rises (λ x y. IsBefore R (key x) (key y)) (values m)
-    rows_rise m keyed = rise_by_key (entries m) (sorted o anti m) (λ e a. keyed e.0 e.1 (get-entries m e.0 ∙ entry_found o anti (entries m) e (sorted o anti m) a))
+    rows_rise m keyed = rise_by_key (entries m) (sorted o anti m) (λ e a. keyed e.0 e.1 (get-entries m e.0
+        ∙ entry_found o anti (entries m) e (sorted o anti m) a))
 
   -- ---- by a test
 
@@ -161,7 +167,8 @@ module _ {K X : Type 0} {R : K → K → Ordering} (o : IsTotalOrder R) (anti : 
     -- the map's row, if the test holds of it
     pub get-rows_where : (m : FinMap R X) (q : K) → get (rows_where test m) q ≡ kept_if test (get m q)
     get-rows_where m q =
-        get-from_entries o (filter (λ entry. test entry.1) (entries m)) q ∙ found_kept (entries m) q (sorted o anti m) ∙ ap (kept_if test) (sym (get-entries m q))
+        get-from_entries o (filter (λ entry. test entry.1) (entries m)) q ∙ found_kept (entries m) q (sorted o anti m)
+        ∙ ap (kept_if test) (sym (get-entries m q))
 
     kept_is : (found : Option X) (x : X) → kept_if test found ≡ Some x → (found ≡ Some x) × (test x ≡ true)
     kept_is None x h = cc

@@ -5,7 +5,8 @@ use Rattle.std.specs.FinMap.{keys}
 use Rattle.dh_types.specs.declared.run.Run.{Run}
 use Rattle.dh_model.specs.Books.{Books, text_cmp}
 use Rattle.dh_model.specs.Leases.{dues}
-use Rattle.dh_model.specs.Runs.{batches, batches_before, batches_for, dues_of_branch, part_of, place_among, posted_charges, posted_of_branch, posted_parts, total_of}
+use Rattle.dh_model.specs.Runs.{batches, batches_before, batches_for, dues_of_branch, part_of, place_among, posted_charges, posted_of_branch, posted_parts}
+use Rattle.dh_model.specs.Runs.{total_of}
 use Rattle.dh_model.specs.Rules.{ArePosted, HaveTheSame, IsThere, MonthIsClosed, MonthIsOpen, charges_in, parts_in}
 
 module _ {X : Type 0} where
@@ -63,22 +64,26 @@ module _ (size : ℕ) (b c : Books) (month : ℕ) (alike : SameBatches b c month
   before_alike = λ i branch. sum_by (λ other. batches_for size (length (dues_alike i other))) (filter (λ other. is_lt (text_cmp other branch)) (keys_alike i))
 
   of_branch_alike : (done : ℕ) → posted_of_branch size c month done ≡ posted_of_branch size b month done
-  of_branch_alike done = λ i branch. filter (λ charge. nat_lt (before_alike i branch + place_among size (dues_alike i branch) charge / size) done) (dues_alike i branch)
+  of_branch_alike done =
+      λ i branch. filter (λ charge. nat_lt (before_alike i branch + place_among size (dues_alike i branch) charge / size) done) (dues_alike i branch)
 
   pub charges_alike : (done : ℕ) → posted_charges size c month done ≡ posted_charges size b month done
   charges_alike done = λ i. flat_map (of_branch_alike done i) (keys_alike i)
 
   pub parts_alike : (done : ℕ) → posted_parts size c month done ≡ posted_parts size b month done
-  parts_alike done = λ i. map (λ branch. part_of month branch (of_branch_alike done i branch)) (filter (λ branch. nat_lt (before_alike i branch) done) (keys_alike i))
+  parts_alike done = λ i. map (λ branch. part_of month branch (of_branch_alike done i branch))
+      (filter (λ branch. nat_lt (before_alike i branch) done) (keys_alike i))
 
   -- so the same batches are posted
   pub posted_alike : (done : ℕ) → ArePosted b size month done → ArePosted c size month done
   posted_alike done posted = record {
     few = subst (λ n. done ≤ n) (sym batches_alike) posted.few;
     charges = have_trans (charges_in c month) (charges_in b month) (posted_charges size c month done) alike.same.charges
-        (have_instead (charges_in b month) (posted_charges size b month done) (charges_in b month) (posted_charges size c month done) refl (charges_alike done) posted.charges);
+        (have_instead (charges_in b month) (posted_charges size b month done) (charges_in b month) (posted_charges size c month done) refl
+        (charges_alike done) posted.charges);
     parts = have_trans (parts_in c month) (parts_in b month) (posted_parts size c month done) alike.same.parts
-        (have_instead (parts_in b month) (posted_parts size b month done) (parts_in b month) (posted_parts size c month done) refl (parts_alike done) posted.parts);
+        (have_instead (parts_in b month) (posted_parts size b month done) (parts_in b month) (posted_parts size c month done) refl
+        (parts_alike done) posted.parts);
   }
 
 pub open_alike : (size : ℕ) (b c : Books) (run : Run) → SameBatches b c run.month → MonthIsOpen b size run → MonthIsOpen c size run

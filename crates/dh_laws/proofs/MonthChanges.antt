@@ -16,18 +16,21 @@ use Rattle.dh_laws.proofs.MonthDues.{new_property, same_property}
 use Rattle.dh_laws.proofs.MonthKeep.{RunInMonths, branch_keeps, free_keeps, properties_keep, untouched}
 use Rattle.dh_laws.proofs.MonthOpen.{lease_keeps, open_keeps}
 
-module _ (size : ℕ) (books : Books) (run : Option OpenRun) (keyed : AreKeyed books) (names : NamesWhatIsThere books) (in_order : RunInMonths size books run) where
+module _ (size : ℕ) (books : Books) (run : Option OpenRun) (keyed : AreKeyed books) (names : NamesWhatIsThere books)
+    (in_order : RunInMonths size books run) where
   -- where no run is open, what keeps the order does so
   where_closed : (c : Books) → run ≡ None → (RunInMonths size books None → RunInMonths size c None) → RunInMonths size c run
   where_closed c none keeps = subst (RunInMonths size c) (sym none) (keeps (subst (RunInMonths size books) none in_order))
 
-  assigned_keeps : (it : Assignment) (row : Property) → get books.properties it.property ≡ Some row → RunInMonths size (managed books it (get books.properties it.property)) run
+  assigned_keeps : (it : Assignment) (row : Property) → get books.properties it.property ≡ Some row
+      → RunInMonths size (managed books it (get books.properties it.property)) run
   assigned_keeps it row is =
       let new : Property = record row { staff = it.staff } in
       subst (λ found. RunInMonths size (managed books it found) run) (sym is)
       (properties_keep size books run (insert books.properties it.property new) (same_property books it.property new row is refl) in_order)
 
-  rent_keeps : (it : RentChange) (row : Property) → get books.properties it.property ≡ Some row → RunInMonths size (at_rent books it (get books.properties it.property)) run
+  rent_keeps : (it : RentChange) (row : Property) → get books.properties it.property ≡ Some row
+      → RunInMonths size (at_rent books it (get books.properties it.property)) run
   rent_keeps it row is =
       let new : Property = record row { rent = it.rent } in
       subst (λ found. RunInMonths size (at_rent books it found) run) (sym is)
@@ -41,7 +44,8 @@ module _ (size : ℕ) (books : Books) (run : Option OpenRun) (keyed : AreKeyed b
   changes_keep_months (change.Owner it) a =
       let c = changed (change.Owner it) books in
       free_keeps size books c refl run refl refl refl refl (λ month. untouched books c month refl refl refl refl refl) in_order
-  changes_keep_months (change.Property it) a = properties_keep size books run (insert books.properties it.number it) (new_property books it.number it names a.new) in_order
+  changes_keep_months (change.Property it) a =
+      properties_keep size books run (insert books.properties it.number it) (new_property books it.number it names a.new) in_order
   changes_keep_months (change.Assign it) a = assigned_keeps it a.row a.is
   changes_keep_months (change.Rent it) a = rent_keeps it a.0 a.1
   changes_keep_months (change.Client it) a =

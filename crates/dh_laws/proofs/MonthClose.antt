@@ -1,5 +1,6 @@
 -- Books with all batches of the open run posted, and it closed.
-use Rattle.std.proofs.Common.{◌≡◌, ◌≢◌, ◌∙◌, refl, sym, ap, subst, inl, inr, ℕ, ◌+◌, ◌<◌, ◌≤◌, true, false, nat_eq, nat_lt, List, [], ◌∷◌, ◌++◌, map, Some, AllPairs, is_some, arith}
+use Rattle.std.proofs.Common.{◌≡◌, ◌≢◌, ◌∙◌, refl, sym, ap, subst, inl, inr, ℕ, ◌+◌, ◌<◌, ◌≤◌, true, false, nat_eq, nat_lt, List, [], ◌∷◌, ◌++◌, map, Some}
+use Rattle.std.proofs.Common.{AllPairs, is_some, arith}
 use Rattle.std.specs.List.{IsAmong}
 use Rattle.std.specs.FinMap.{get, insert, keys, values}
 use Rattle.dh_types.specs.declared.lease.Charge.{Charge}
@@ -8,10 +9,12 @@ use Rattle.dh_types.specs.declared.run.Run.{Run}
 use Rattle.dh_types.specs.declared.run.Part.{Part}
 use Rattle.dh_model.specs.Books.{Books}
 use Rattle.dh_model.specs.Leases.{dues}
-use Rattle.dh_model.specs.Runs.{batches, begun_branches, closed_run, dues_of_branch, part_key, part_of, posted_charges, posted_of_branch, posted_parts, batches_before}
+use Rattle.dh_model.specs.Runs.{batches, begun_branches, closed_run, dues_of_branch, part_key, part_of, posted_charges, posted_of_branch, posted_parts}
+use Rattle.dh_model.specs.Runs.{batches_before}
 use Rattle.dh_model.specs.BatchLaws.{AreNumbered}
 use Rattle.dh_model.specs.Checks.{is_same_text}
-use Rattle.dh_model.specs.Rules.{ArePosted, IsLawful, IsThere, KeysInOrder, MeetsRules, MonthIsClosed, MonthIsOpen, MonthsInOrder, NamesWhatIsThere, Rule, RunsInOrder, charges_in, parts_in}
+use Rattle.dh_model.specs.Rules.{ArePosted, IsLawful, IsThere, KeysInOrder, MeetsRules, MonthIsClosed, MonthIsOpen, MonthsInOrder, NamesWhatIsThere, Rule}
+use Rattle.dh_model.specs.Rules.{RunsInOrder, charges_in, parts_in}
 use Rattle.dh_model.specs.Whole.{open_row}
 use Rattle.dh_model.proofs.Among.{Among, among, in_filter, in_map, is_among, of_map}
 use Rattle.dh_model.proofs.BatchLemmas.{last_batch_posts_all}
@@ -24,7 +27,8 @@ use Rattle.dh_laws.proofs.MonthKeep.{untouched}
 use Rattle.dh_laws.proofs.MonthShown.{shown_row}
 use Rattle.dh_laws.proofs.MonthSums.{all_are_dues, count_of_all, key_among, total_of_all}
 
-module _ (size : ℕ) (b : Books) (row : Run) (pos : 1 ≤ size) (keyed : AreKeyed b) (rules : MeetsRules b size) (shown : open_row b ≡ Some row) (posted : ArePosted b size row.month (batches size b row.month)) where
+module _ (size : ℕ) (b : Books) (row : Run) (pos : 1 ≤ size) (keyed : AreKeyed b) (rules : MeetsRules b size) (shown : open_row b ≡ Some row)
+    (posted : ArePosted b size row.month (batches size b row.month)) where
   abbrev all : List Charge
   all = posted_charges size b row.month (batches size b row.month)
 
@@ -120,7 +124,8 @@ module _ (size : ℕ) (b : Books) (row : Run) (pos : 1 ≤ size) (keyed : AreKey
       let same : map (λ (run : Run). run.key) (values c.runs) ≡ map (λ (run : Run). run.key) (values b.runs)
       = ap (map (λ (run : Run). run.key)) p.is ∙ keys_put p.before p.after ∙ sym (ap (map (λ (run : Run). run.key)) p.was) in
       record {
-        keys = subst (λ ks. AllPairs (λ key other. is_same_text key other ≡ false) (map (λ receipt. receipt.key) (values b.receipts) ++ ks)) (sym same) keys.keys;
+        keys = subst (λ ks. AllPairs (λ key other. is_same_text key other ≡ false) (map (λ receipt. receipt.key) (values b.receipts) ++ ks))
+            (sym same) keys.keys;
         numbers = keys.numbers;
       }
 
@@ -154,7 +159,8 @@ module _ (size : ℕ) (b : Books) (row : Run) (pos : 1 ≤ size) (keyed : AreKey
   part_there branch h =
       let n = batches size b row.month in
       let a = key_among b.branches branch h in
-      let begun : Among (begun_branches size b row.month n) branch = subst (λ bs. Among bs branch) (sym (last_batch_posts_all size b row.month pos numbered).1) a in
+      let begun : Among (begun_branches size b row.month n) branch =
+      subst (λ bs. Among bs branch) (sym (last_batch_posts_all size b row.month pos numbered).1) a in
       let part = part_of row.month branch (posted_of_branch size b row.month n branch) in
       let made = of_map (λ branch. part_of row.month branch (posted_of_branch size b row.month n branch)) (begun_branches size b row.month n) branch begun in
       let in_month = (posted.parts part).1 (is_among (posted_parts size b row.month n) part made) in
@@ -196,7 +202,8 @@ module _ (size : ℕ) (b : Books) (row : Run) (pos : 1 ≤ size) (keyed : AreKey
   rules_after Rule.Runs = runs_after
   rules_after Rule.Months = months_after
 
-  pub closing_is_lawful : AreKeyed (record b { runs = insert b.runs row.month (closed_run row.month row.key (posted_charges size b row.month (batches size b row.month))) })
+  pub closing_is_lawful : AreKeyed
+      (record b { runs = insert b.runs row.month (closed_run row.month row.key (posted_charges size b row.month (batches size b row.month))) })
       × IsLawful (record b { runs = insert b.runs row.month (closed_run row.month row.key (posted_charges size b row.month (batches size b row.month))) }) size
   closing_is_lawful = (
     keyed_after,

@@ -38,22 +38,27 @@ module _ {X : Type 0} where
 -- ---- a new lease
 
 module _ (month : ℕ) where
-  pub dues_first : (lease : Lease) (leases : List Lease) → dues_among (lease ∷ leases) month ≡ filter (falls_in month) (dues_of lease) ++ dues_among leases month
+  pub dues_first : (lease : Lease) (leases : List Lease) → dues_among (lease ∷ leases) month ≡ filter (falls_in month) (dues_of lease)
+      ++ dues_among leases month
   dues_first lease leases = filter-append (falls_in month) (dues_of lease) (flat_map dues_of leases)
 
   module _ (lease : Lease) (none : filter (falls_in month) (dues_of lease) ≡ []) where
     dues_besides : (before after : List Lease) → dues_among (before ++ lease ∷ after) month ≡ dues_among (before ++ after) month
     dues_besides [] after = dues_first lease after ∙ ap (λ xs. xs ++ dues_among after month) none
     dues_besides (x ∷ before) after =
-        dues_first x (before ++ lease ∷ after) ∙ ap (λ ds. filter (falls_in month) (dues_of x) ++ ds) (dues_besides before after) ∙ sym (dues_first x (before ++ after))
+        dues_first x (before ++ lease ∷ after) ∙ ap (λ ds. filter (falls_in month) (dues_of x) ++ ds) (dues_besides before after)
+        ∙ sym (dues_first x (before ++ after))
 
-    besides_if : (b : Bool) (p : Lease → Bool) (before after : List Lease) → dues_among (filter p before ++ cond b (lease ∷ filter p after) (filter p after)) month ≡ dues_among (filter p before ++ filter p after) month
+    besides_if : (b : Bool) (p : Lease → Bool) (before after : List Lease)
+        → dues_among (filter p before ++ cond b (lease ∷ filter p after) (filter p after)) month ≡ dues_among (filter p before ++ filter p after) month
     besides_if true p before after = dues_besides (filter p before) (filter p after)
     besides_if false p before after = refl
 
-    kept_besides : (p : Lease → Bool) (before after : List Lease) → dues_among (filter p (before ++ lease ∷ after)) month ≡ dues_among (filter p (before ++ after)) month
+    kept_besides : (p : Lease → Bool) (before after : List Lease)
+        → dues_among (filter p (before ++ lease ∷ after)) month ≡ dues_among (filter p (before ++ after)) month
     kept_besides p before after =
-        ap (λ ls. dues_among ls month) (filter-append p before (lease ∷ after)) ∙ besides_if (p lease) p before after ∙ ap (λ ls. dues_among ls month) (sym (filter-append p before after))
+        ap (λ ls. dues_among ls month) (filter-append p before (lease ∷ after)) ∙ besides_if (p lease) p before after
+        ∙ ap (λ ls. dues_among ls month) (sym (filter-append p before after))
 
   -- a lease that starts later has nothing due
   pub later_owes_none : (lease : Lease) → month < month_of_day lease.terms.start → filter (falls_in month) (dues_of lease) ≡ []
@@ -69,23 +74,28 @@ module _ (month : ℕ) where
         let p = values_new nat_total nat_ties books.leases number lease fresh in
         ap (λ ls. dues_among ls month) p.is ∙ dues_besides lease (later_owes_none lease later) p.before p.after ∙ ap (λ ls. dues_among ls month) (sym p.was)
 
-    pub branch_after_lease : (branch : List ℕ) → dues_of_branch (record books { leases = insert books.leases number lease }) month branch ≡ dues_of_branch books month branch
+    pub branch_after_lease : (branch : List ℕ)
+        → dues_of_branch (record books { leases = insert books.leases number lease }) month branch ≡ dues_of_branch books month branch
     branch_after_lease branch =
         let p = values_new nat_total nat_ties books.leases number lease fresh in
         let of = λ (it : Lease). is_property_of branch (get books.properties it.terms.property) in
-        ap (λ ls. dues_among (filter of ls) month) p.is ∙ kept_besides lease (later_owes_none lease later) of p.before p.after ∙ ap (λ ls. dues_among (filter of ls) month) (sym p.was)
+        ap (λ ls. dues_among (filter of ls) month) p.is ∙ kept_besides lease (later_owes_none lease later) of p.before p.after
+        ∙ ap (λ ls. dues_among (filter of ls) month) (sym p.was)
 
 -- ---- properties
 
 module _ (books : Books) (properties : FinMap text_cmp Property) where
   -- the properties of the leases are of the branches that they were of
   pub StandAsBefore : Type 0
-  StandAsBefore = (lease : Lease) → Among (values books.leases) lease → (branch : List ℕ) → is_property_of branch (get properties lease.terms.property) ≡ is_property_of branch (get books.properties lease.terms.property)
+  StandAsBefore = (lease : Lease) → Among (values books.leases) lease → (branch : List ℕ)
+      → is_property_of branch (get properties lease.terms.property) ≡ is_property_of branch (get books.properties lease.terms.property)
 
-  pub branch_after_property : StandAsBefore → (month : ℕ) (branch : List ℕ) → dues_of_branch (record books { properties = properties }) month branch ≡ dues_of_branch books month branch
+  pub branch_after_property : StandAsBefore → (month : ℕ) (branch : List ℕ)
+      → dues_of_branch (record books { properties = properties }) month branch ≡ dues_of_branch books month branch
   unfolding StandAsBefore
   branch_after_property same month branch = ap (λ ls. dues_among ls month)
-      (kept_alike (λ lease. is_property_of branch (get properties lease.terms.property)) (λ lease. is_property_of branch (get books.properties lease.terms.property)) (values books.leases) (λ lease a. same lease a branch))
+      (kept_alike (λ lease. is_property_of branch (get properties lease.terms.property))
+      (λ lease. is_property_of branch (get books.properties lease.terms.property)) (values books.leases) (λ lease a. same lease a branch))
 
 module _ (books : Books) (number : List ℕ) (property : Property) where
   -- no lease is of a property that wasn't there
@@ -99,17 +109,20 @@ module _ (books : Books) (number : List ℕ) (property : Property) where
       let some = is.1 in cc))
 
   -- a property that stays at its branch
-  pub same_property : (old : Property) → get books.properties number ≡ Some old → property.branch ≡ old.branch → StandAsBefore books (insert books.properties number property)
+  pub same_property : (old : Property) → get books.properties number ≡ Some old → property.branch ≡ old.branch
+      → StandAsBefore books (insert books.properties number property)
   unfolding StandAsBefore
   same_property old was stays lease a branch = elim (cases_key text_total text_ties lease.terms.property number) [
-    | inl same ↦ rw same (ap (is_property_of branch) (get_new text_total text_ties books.properties number property) ∙ ap (λ b. pointwise nat_eq b branch) stays ∙ sym (ap (is_property_of branch) was))
+    | inl same ↦ rw same (ap (is_property_of branch) (get_new text_total text_ties books.properties number property) ∙ ap (λ b. pointwise nat_eq b branch) stays
+        ∙ sym (ap (is_property_of branch) was))
     | inr other ↦ ap (is_property_of branch) (get_other text_total text_ties books.properties number property lease.terms.property other)
   ]
 
 -- ---- branches
 
 -- a branch that has dues is there
-pub owing_is_there : (books : Books) (month : ℕ) (branch : List ℕ) → NamesWhatIsThere books → dues_of_branch books month branch ≢ [] → IsThere books.branches branch
+pub owing_is_there : (books : Books) (month : ℕ) (branch : List ℕ) → NamesWhatIsThere books → dues_of_branch books month branch ≢ []
+    → IsThere books.branches branch
 owing_is_there books month branch names owing =
     let some = some_of (dues_of_branch books month branch) owing in
     let d = is_due (leases_of_branch books branch) month some.0 some.1 in
@@ -118,4 +131,6 @@ owing_is_there books month branch names owing =
     let is = (there text_total text_ties books.properties d.lease.terms.property).0 refers.property in
     let of : is_property_of branch (Some is.0) ≡ true = ap (is_property_of branch) (sym is.1) ∙ kept.1 in
     let its = (texts is.0.branch branch).0 of in
-    subst (λ b. IsThere books.branches b) its ((names.properties is.0 (is_among (values books.properties) is.0 (of_row text_total text_ties books.properties d.lease.terms.property is.0 is.1))).branch)
+    subst (λ b. IsThere books.branches b) its
+    ((names.properties is.0
+    (is_among (values books.properties) is.0 (of_row text_total text_ties books.properties d.lease.terms.property is.0 is.1))).branch)

@@ -23,7 +23,8 @@ pub record RunInMonths (size : ℕ) (books : Books) (run : Option OpenRun) : Typ
   pub shown : IsOpenAt size books run
 
 -- of a month nothing is added
-pub untouched : (b c : Books) (month : ℕ) → c.leases ≡ b.leases → c.properties ≡ b.properties → c.branches ≡ b.branches → c.charges ≡ b.charges → c.parts ≡ b.parts → SameBatches b c month
+pub untouched : (b c : Books) (month : ℕ) → c.leases ≡ b.leases → c.properties ≡ b.properties → c.branches ≡ b.branches → c.charges ≡ b.charges
+    → c.parts ≡ b.parts → SameBatches b c month
 untouched b c month leases properties branches charges parts = record {
   same = record {
     charges = have_instead (charges_in b month) (charges_in b month) (charges_in c month) (charges_in b month)
@@ -57,7 +58,8 @@ module _ (size : ℕ) (b c : Books) (runs : c.runs ≡ b.runs) where
       let was = λ (run : Run) (a : IsAmong (values c.runs) run). subst (λ rows. IsAmong (values rows) run) runs a in record {
         closed = λ run a is. closed_alike b c run (same run (among (values b.runs) run (was run a))) (in_order.closed run (was run a) is);
         under_way = λ run a is. open_alike size b c run (same_open run (among (values b.runs) run (was run a)) is) (in_order.under_way run (was run a) is);
-        charged = λ charge a. subst (λ rows. IsThere rows charge.month) (sym runs) (in_order.charged charge (subst (λ rows. IsAmong (values rows) charge) charges a));
+        charged = λ charge a. subst (λ rows. IsThere rows charge.month) (sym runs)
+            (in_order.charged charge (subst (λ rows. IsAmong (values rows) charge) charges a));
         summed = λ part a. subst (λ rows. IsThere rows part.month) (sym runs) (in_order.summed part (subst (λ rows. IsAmong (values rows) part) parts a));
       }
 
@@ -93,7 +95,8 @@ module _ (size : ℕ) (b c : Books) (runs : c.runs ≡ b.runs) where
   }
 
 -- properties that stand as before
-pub properties_alike : (b : Books) (properties : FinMap text_cmp Property) → StandAsBefore b properties → (month : ℕ) → SameBatches b (record b { properties = properties }) month
+pub properties_alike : (b : Books) (properties : FinMap text_cmp Property) → StandAsBefore b properties → (month : ℕ)
+    → SameBatches b (record b { properties = properties }) month
 properties_alike b properties stand month = record {
   same = record {
     charges = have_same (charges_in b month);
@@ -107,12 +110,14 @@ properties_alike b properties stand month = record {
 }
 
 module _ (size : ℕ) (b : Books) where
-  pub properties_keep : (run : Option OpenRun) (properties : FinMap text_cmp Property) → StandAsBefore b properties → RunInMonths size b run → RunInMonths size (record b { properties = properties }) run
+  pub properties_keep : (run : Option OpenRun) (properties : FinMap text_cmp Property) → StandAsBefore b properties → RunInMonths size b run
+      → RunInMonths size (record b { properties = properties }) run
   properties_keep run properties stand in_order =
       let c : Books = record b { properties = properties } in
       free_keeps size b c refl run refl refl refl refl (properties_alike b properties stand) in_order
 
-  pub branch_keeps : (number : List ℕ) (branch : Branch) → NamesWhatIsThere b → RunInMonths size b None → RunInMonths size (record b { branches = insert b.branches number branch }) None
+  pub branch_keeps : (number : List ℕ) (branch : Branch) → NamesWhatIsThere b → RunInMonths size b None
+      → RunInMonths size (record b { branches = insert b.branches number branch }) None
   branch_keeps number branch names in_order =
       let c : Books = record b { branches = insert b.branches number branch } in
       frozen_keeps size b c refl refl refl refl refl (λ run a. record {

@@ -1,5 +1,6 @@
 -- Runs, months and the open run, where a lease is added or a run begins.
-use Rattle.std.proofs.Common.{◌≡◌, ◌∙◌, refl, sym, ap, subst, inl, inr, ℕ, ◌+◌, ◌<◌, ◌≤◌, true, false, not, nat_eq, nat_lt, Option, Some, None, is_some, ltb-true, arith}
+use Rattle.std.proofs.Common.{◌≡◌, ◌∙◌, refl, sym, ap, subst, inl, inr, ℕ, ◌+◌, ◌<◌, ◌≤◌, true, false, not, nat_eq, nat_lt, Option, Some, None, is_some}
+use Rattle.std.proofs.Common.{ltb-true, arith}
 use Rattle.std.specs.List.{IsAmong, find}
 use Rattle.std.specs.FinMap.{get, insert, keys, values}
 use Rattle.std.proofs.lemmas.Bool.{cases_lt}
@@ -38,7 +39,8 @@ module _ (books : Books) (keyed : StandUnder (λ (it : Run). it.month) books.run
   run_within in_order run a = (in_order.run run.month).0 (run_is_there run a)
 
 -- a lease that starts in the next month or later
-pub lease_keeps : (size : ℕ) (b : Books) (number : ℕ) (lease : Lease) → StandUnder (λ (it : Run). it.month) b.runs → get b.leases number ≡ None → b.next ≤ month_of_day lease.terms.start
+pub lease_keeps : (size : ℕ) (b : Books) (number : ℕ) (lease : Lease) → StandUnder (λ (it : Run). it.month) b.runs → get b.leases number ≡ None
+    → b.next ≤ month_of_day lease.terms.start
     → RunInMonths size b None → RunInMonths size (record b { leases = insert b.leases number lease }) None
 lease_keeps size b number lease keyed fresh later in_order =
     let c : Books = record b { leases = insert b.leases number lease } in
@@ -70,7 +72,8 @@ none_begun size books month part a =
     omega (arith, less)
 
 -- a run that begins in the next month
-module _ (size : ℕ) (b : Books) (row : Run) (keyed : StandUnder (λ (it : Run). it.month) b.runs) (in_order : RunInMonths size b None) (next : row.month ≡ b.next)
+module _ (size : ℕ) (b : Books) (row : Run) (keyed : StandUnder (λ (it : Run). it.month) b.runs) (in_order : RunInMonths size b None)
+    (next : row.month ≡ b.next)
     (open_is : row.is_closed ≡ false) (count : row.count ≡ 0) (total : row.total ≡ 0) where
   abbrev after : Books
   after = record b { runs = insert b.runs row.month row; next = row.month + 1 }
@@ -90,7 +93,8 @@ module _ (size : ℕ) (b : Books) (row : Run) (keyed : StandUnder (λ (it : Run)
       let from = in_order.runs.months in
       elim (got_after nat_total nat_ties b.runs row.month row month is.0 is.1) [
         | inl new ↦ let same = new.0 in (omega (arith, same, next, from), omega (arith, same))
-        | inr old ↦ let within = (in_order.runs.run month).0 ((there nat_total nat_ties b.runs month).1 (is.0, old.1)) in (within.0, omega (arith, within.1, next))
+        | inr old ↦ let within = (in_order.runs.run month).0 ((there nat_total nat_ties b.runs month).1 (is.0, old.1)) in
+            (within.0, omega (arith, within.1, next))
       ]
 
   runs_after : RunsInOrder after
@@ -100,7 +104,8 @@ module _ (size : ℕ) (b : Books) (row : Run) (keyed : StandUnder (λ (it : Run)
       there_or_new month,
       λ h. elim (cases_lt month b.next) [
         | inl less ↦ there_after nat_total nat_ties b.runs row.month row month ((in_order.runs.run month).1 (h.0, less))
-        | inr more ↦ let same : month ≡ row.month = (let until = h.1 in omega (arith, until, more, next)) in subst (λ m. IsThere after.runs m) (sym same) (new_is_there nat_total nat_ties b.runs row.month row)
+        | inr more ↦ let same : month ≡ row.month = (let until = h.1 in omega (arith, until, more, next)) in
+            subst (λ m. IsThere after.runs m) (sym same) (new_is_there nat_total nat_ties b.runs row.month row)
       ],
     );
     closed = each_insert nat_total nat_ties b.runs row.month row (λ run. run.month + 1 < row.month + 1 → run.is_closed ≡ true)
@@ -122,7 +127,10 @@ module _ (size : ℕ) (b : Books) (row : Run) (keyed : StandUnder (λ (it : Run)
   none_done : ArePosted after size row.month 0
   none_done = record {
     few = omega arith;
-    charges = λ charge. (λ a. absurd (none_charged charge a), λ a. absurd (none_posted size after row.month charge (among (posted_charges size after row.month 0) charge a)));
+    charges = λ charge. (
+      λ a. absurd (none_charged charge a),
+      λ a. absurd (none_posted size after row.month charge (among (posted_charges size after row.month 0) charge a)),
+    );
     parts = λ part. (λ a. absurd (none_summed part a), λ a. absurd (none_begun size after row.month part (among (posted_parts size after row.month 0) part a)));
   }
 

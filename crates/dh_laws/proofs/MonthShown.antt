@@ -8,7 +8,8 @@ use Rattle.dh_model.specs.Whole.{open_row}
 use Rattle.dh_model.proofs.Among.{Among}
 
 module _ {X : Type 0} (p : X → Bool) where
-  found_first : (b : Bool) (x y : X) (xs : List X) → p x ≡ b → cond b (Some x) (find p xs) ≡ Some y → (find p xs ≡ Some y → Among xs y × (p y ≡ true)) → Among (x ∷ xs) y × (p y ≡ true)
+  found_first : (b : Bool) (x y : X) (xs : List X) → p x ≡ b → cond b (Some x) (find p xs) ≡ Some y → (find p xs ≡ Some y → Among xs y × (p y ≡ true))
+      → Among (x ∷ xs) y × (p y ≡ true)
   found_first true x y xs t e rest = let same : x ≡ y = (cc) in (inl (sym same), ap p (sym same) ∙ t)
   found_first false x y xs t e rest = let r = rest e in (inr r.0, r.1)
 
@@ -17,7 +18,8 @@ module _ {X : Type 0} (p : X → Bool) where
   found [] y e = cc
   found (x ∷ xs) y e = found_first (p x) x y xs refl e (found xs y)
 
-  missed_first : (b : Bool) (x y : X) (xs : List X) → p x ≡ b → cond b (Some x) (find p xs) ≡ None → (find p xs ≡ None → Among xs y → p y ≡ false) → Among (x ∷ xs) y → p y ≡ false
+  missed_first : (b : Bool) (x y : X) (xs : List X) → p x ≡ b → cond b (Some x) (find p xs) ≡ None → (find p xs ≡ None → Among xs y → p y ≡ false)
+      → Among (x ∷ xs) y → p y ≡ false
   missed_first true x y xs t e rest a = cc
   missed_first false x y xs t e rest (inl s) = ap p s ∙ t
   missed_first false x y xs t e rest (inr a) = rest e a

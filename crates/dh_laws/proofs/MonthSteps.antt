@@ -23,7 +23,8 @@ use Rattle.dh_laws.specs.Keeping.{ChangesKeepOrder, StepsKeepTheLaw, WholeIsLawf
 use Rattle.dh_laws.specs.Posting.{RunIsOpeningMadeWhole}
 use Rattle.dh_laws.proofs.MonthShown.{none_open}
 use Rattle.dh_laws.proofs.MonthWhole.{lawful_closed}
-use Rattle.dh_laws.proofs.VerdictCases.{assign_case, branch_case, client_case, comment_case, inspection_case, lease_case, owner_case, post_case, property_case, receipt_case, register_case, rent_case, run_case, staff_case, viewing_case}
+use Rattle.dh_laws.proofs.VerdictCases.{assign_case, branch_case, client_case, comment_case, inspection_case, lease_case, owner_case, post_case, property_case}
+use Rattle.dh_laws.proofs.VerdictCases.{receipt_case, register_case, rent_case, run_case, staff_case, viewing_case}
 
 either_books : (b : Bool) (x y : State × Reply) (books : Books) → x.0.books ≡ books → y.0.books ≡ books → (if b then x else y).0.books ≡ books
 either_books true x y books p q = p
@@ -35,11 +36,14 @@ resumed_books size books count None = refl
 resumed_books size books count (Some run) =
     let all = batches size books run.month in
     either_books (nat_le all (run.done + count))
-    (record { books = books; open_run = None }, reply.Posted (posted_sum run.month (get books.runs run.month)))
-    (record { books = books; open_run = Some (record { month = run.month; done = run.done + count }) }, reply.Part (record { month = run.month; done = run.done + count; of = all }))
+    (record { books = books; open_run = None }, reply.Posted (posted_sum run.month (get books.runs run.month))) (
+      record { books = books; open_run = Some (record { month = run.month; done = run.done + count }) },
+      reply.Part (record { month = run.month; done = run.done + count; of = all }),
+    )
     books refl refl
 
-module _ (size : ℕ) (changes : ChangesKeepOrder size) (wholes : WholeIsLawful size) (runs : RunIsOpeningMadeWhole size) (s : State) (pos : 1 ≤ size) (keyed : AreKeyed s.books) (lawful : IsLawful s.books size) where
+module _ (size : ℕ) (changes : ChangesKeepOrder size) (wholes : WholeIsLawful size) (runs : RunIsOpeningMadeWhole size) (s : State) (pos : 1 ≤ size)
+    (keyed : AreKeyed s.books) (lawful : IsLawful s.books size) where
   abbrev Law : Books → Type 0
   Law books = AreKeyed books × IsLawful books size
 
@@ -47,17 +51,21 @@ module _ (size : ℕ) (changes : ChangesKeepOrder size) (wholes : WholeIsLawful 
   in_order = record { keyed = keyed; rules = lawful.rules; shown = none_open s.books (λ run a. lawful.closed run (is_among (values s.books.runs) run a)) }
 
   -- rows that open no run
-  kept : (told : Command) (rows given : Change) → IsEntered told → verdict_on s.books None told ≡ verdict.Change rows → rows ≡ given → run_after None given ≡ None → Law (changed rows s.books)
+  kept : (told : Command) (rows given : Change) → IsEntered told → verdict_on s.books None told ≡ verdict.Change rows → rows ≡ given
+      → run_after None given ≡ None → Law (changed rows s.books)
   kept told rows given entered h same none =
       let after = changes s.books None told rows pos in_order entered h in
-      let shown : open_row (changed rows s.books) ≡ None = subst (λ run. IsOpenAt size (changed rows s.books) run) (ap (run_after None) same ∙ none) after.shown in
+      let shown : open_row (changed rows s.books) ≡ None =
+      subst (λ run. IsOpenAt size (changed rows s.books) run) (ap (run_after None) same ∙ none) after.shown in
       (after.keyed, lawful_closed size (changed rows s.books) pos after.keyed after.rules shown)
 
   -- what is accepted only where no run is open
-  where_closed : (told : Command) (rows : Change) → s.open_run ≡ None → verdict_on s.books s.open_run told ≡ verdict.Change rows → verdict_on s.books None told ≡ verdict.Change rows
+  where_closed : (told : Command) (rows : Change) → s.open_run ≡ None → verdict_on s.books s.open_run told ≡ verdict.Change rows
+      → verdict_on s.books None told ≡ verdict.Change rows
   where_closed told rows none h = subst (λ run. verdict_on s.books run told ≡ verdict.Change rows) none h
 
-  ran_kept : (order : RunOrder) → verdict_on s.books None (command.Open order) ≡ verdict.Change (change.Open (opened_run s.books order)) → Law (ran size s.books order.key)
+  ran_kept : (order : RunOrder) → verdict_on s.books None (command.Open order) ≡ verdict.Change (change.Open (opened_run s.books order))
+      → Law (ran size s.books order.key)
   ran_kept order h =
       let row = opened_run s.books order in
       let after = changes s.books None (command.Open order) (change.Open row) pos in_order tt h in
@@ -65,13 +73,15 @@ module _ (size : ℕ) (changes : ChangesKeepOrder size) (wholes : WholeIsLawful 
       subst Law (runs s.books order pos in_order h) law
 
   -- a run and its opening have the same rows
-  opening : (order : RunOrder) (rows : Change) → verdict_on s.books s.open_run (command.Open order) ≡ verdict.Change rows → (rows ≡ change.Open (opened_run s.books order)) × Law (ran size s.books order.key)
+  opening : (order : RunOrder) (rows : Change) → verdict_on s.books s.open_run (command.Open order) ≡ verdict.Change rows
+      → (rows ≡ change.Open (opened_run s.books order)) × Law (ran size s.books order.key)
   opening order rows h =
       let case = run_case s.books s.open_run rows order h in
       let given = subst (λ r. verdict_on s.books s.open_run (command.Open order) ≡ verdict.Change r) case.0 h in
       (case.0, ran_kept order (where_closed (command.Open order) (change.Open (opened_run s.books order)) case.1.closed given))
 
-  carried : (told : Command) (rows : Change) → IsEntered told → verdict_on s.books s.open_run told ≡ verdict.Change rows → Law (carried_out size s told rows).0.books
+  carried : (told : Command) (rows : Change) → IsEntered told → verdict_on s.books s.open_run told ≡ verdict.Change rows
+      → Law (carried_out size s told rows).0.books
   carried (command.Branch it) rows e h =
       let case = branch_case s.books s.open_run rows it h in
       kept (command.Branch it) rows (change.Branch it) e (where_closed (command.Branch it) rows case.1.closed h) case.0 refl
@@ -87,12 +97,16 @@ module _ (size : ℕ) (changes : ChangesKeepOrder size) (wholes : WholeIsLawful 
   carried (command.Inspection it) rows e h = kept (command.Inspection it) rows (change.Inspection it) e h (inspection_case s.books s.open_run rows it h).0 refl
   carried (command.Lease terms) rows e h =
       let case = lease_case s.books s.open_run rows terms h in
-      kept (command.Lease terms) rows (change.Lease (signed s.books terms (get s.books.properties terms.property))) e (where_closed (command.Lease terms) rows case.1.closed h) case.0 refl
+      kept (command.Lease terms) rows (change.Lease (signed s.books terms (get s.books.properties terms.property))) e
+      (where_closed (command.Lease terms) rows case.1.closed h) case.0 refl
   carried (command.Receipt order) rows e h =
       let case = receipt_case s.books s.open_run rows order h in
-      kept (command.Receipt order) rows (change.Receipt (record { number = len s.books.receipts + 1; key = order.key; payment = order.payment })) e (where_closed (command.Receipt order) rows case.1.closed h) case.0 refl
-  carried (command.Run order) rows e h = let case = opening order rows h in subst (λ r. Law (carried_out size s (command.Run order) r).0.books) (sym case.0) case.1
-  carried (command.Open order) rows e h = let case = opening order rows h in subst (λ r. Law (carried_out size s (command.Open order) r).0.books) (sym case.0) case.1
+      kept (command.Receipt order) rows (change.Receipt (record { number = len s.books.receipts + 1; key = order.key; payment = order.payment })) e
+      (where_closed (command.Receipt order) rows case.1.closed h) case.0 refl
+  carried (command.Run order) rows e h = let case = opening order rows h in
+      subst (λ r. Law (carried_out size s (command.Run order) r).0.books) (sym case.0) case.1
+  carried (command.Open order) rows e h = let case = opening order rows h in
+      subst (λ r. Law (carried_out size s (command.Open order) r).0.books) (sym case.0) case.1
   carried (command.Post count) rows e h =
       subst (λ r. Law (carried_out size s (command.Post count) r).0.books) (sym (post_case s.books s.open_run rows count h).0)
       (subst Law (sym (resumed_books size s.books count s.open_run)) (keyed, lawful))
@@ -103,4 +117,5 @@ module _ (size : ℕ) (changes : ChangesKeepOrder size) (wholes : WholeIsLawful 
   settled_kept told (verdict.Refused why) e h = (keyed, lawful)
 
 pub steps_keep : (size : ℕ) → ChangesKeepOrder size → WholeIsLawful size → RunIsOpeningMadeWhole size → StepsKeepTheLaw size
-steps_keep size changes wholes runs s told pos keyed lawful entered = settled_kept size changes wholes runs s pos keyed lawful told (verdict_on s.books s.open_run told) entered refl
+steps_keep size changes wholes runs s told pos keyed lawful entered =
+    settled_kept size changes wholes runs s pos keyed lawful told (verdict_on s.books s.open_run told) entered refl

@@ -1,5 +1,6 @@
 -- What falls due in a month, branch by branch and in all.
-use Rattle.std.proofs.Common.{◌≡◌, ◌≢◌, ◌∙◌, refl, sym, ap, subst, inl, inr, ℕ, ◌+◌, ◌<◌, ◌≤◌, Bool, true, false, cond, List, [], ◌∷◌, ◌++◌, length, Ordering, is_lt, arith}
+use Rattle.std.proofs.Common.{◌≡◌, ◌≢◌, ◌∙◌, refl, sym, ap, subst, inl, inr, ℕ, ◌+◌, ◌<◌, ◌≤◌, Bool, true, false, cond, List, [], ◌∷◌, ◌++◌, length, Ordering}
+use Rattle.std.proofs.Common.{is_lt, arith}
 use Rattle.std.specs.List.{filter, flat_map, range_with_len, sum_by}
 use Rattle.std.specs.Cmp.{IsTotalOrder}
 use Rattle.std.specs.FinMap.{FinMap, entries, entries_sorted, get, get-entries, is_sorted, keys, values}
@@ -62,7 +63,8 @@ flat_alike f g [] same = refl
 flat_alike f g (x ∷ xs) same = λ i. same x (inl refl) i ++ flat_alike f g xs (λ y a. same y (inr a)) i
 
 -- over keys that rise, of which one passes
-module _ {K : Type 0} (R : K → K → Ordering) (o : IsTotalOrder R) (q : K → Bool) (n : ℕ) (own : K) (passes : q own ≡ true) (one : (k : K) → q k ≡ true → k ≡ own) where
+module _ {K : Type 0} (R : K → K → Ordering) (o : IsTotalOrder R) (q : K → Bool) (n : ℕ) (own : K) (passes : q own ≡ true) (one : (k : K) → q k ≡ true
+    → k ≡ own) where
   not_itself : (k : K) → IsBefore R k k → ⊥
   not_itself k before = let ties = ap is_lt (tied_itself o k) in cc
 
@@ -78,13 +80,15 @@ module _ {K : Type 0} (R : K → K → Ordering) (o : IsTotalOrder R) (q : K →
       omega (arith, all, first, rest)
   sum_one (k ∷ ks) r (inr a) =
       let all = sum_by-cons (λ k. cond (q k) n 0) k ks in
-      let first : cond (q k) n 0 ≡ 0 = ap (λ b. cond b n 0) (false_from_ne_true (q k) (λ yes. not_itself k (subst (IsBefore R k) (sym (one k yes)) (r.0 own a)))) in
+      let first : cond (q k) n 0 ≡ 0 =
+      ap (λ b. cond b n 0) (false_from_ne_true (q k) (λ yes. not_itself k (subst (IsBefore R k) (sym (one k yes)) (r.0 own a)))) in
       let rest = sum_one ks r.1 a in
       omega (arith, all, first, rest)
 
 due_made : (lease : Lease) (k : ℕ) (charge : Charge) → charge ≡ due lease k → k < lease.terms.months → Among (dues_of lease) charge
 due_made lease k charge is within =
-    subst (Among (dues_of lease)) (sym is) (of_map (due lease) (range_with_len 0 lease.terms.months) k (of_range 0 lease.terms.months k (omega arith) (omega (arith, within))))
+    subst (Among (dues_of lease)) (sym is)
+    (of_map (due lease) (range_with_len 0 lease.terms.months) k (of_range 0 lease.terms.months k (omega arith) (omega (arith, within))))
 
 -- ---- a lease's branch
 
@@ -106,7 +110,8 @@ module _ (books : Books) (names : NamesWhatIsThere books) where
       let refers = names.leases lease (is_among (values books.leases) lease a) in
       let found = (there text_total text_ties books.properties lease.terms.property).0 refers.property in
       let property = found.0 in
-      let its = (names.properties property (is_among (values books.properties) property (of_row text_total text_ties books.properties lease.terms.property property found.1))).branch in
+      let its = (names.properties property
+      (is_among (values books.properties) property (of_row text_total text_ties books.properties lease.terms.property property found.1))).branch in
       record {
         branch = property.branch;
         of = key_among books.branches property.branch its;
@@ -116,7 +121,8 @@ module _ (books : Books) (names : NamesWhatIsThere books) where
 
   module _ (month : ℕ) where
     -- each due of the month is a branch's
-    pub due_at_branch : (charge : Charge) → Among (dues books month) charge → (branch : List ℕ) × Among (keys books.branches) branch × Among (dues_of_branch books month branch) charge
+    pub due_at_branch : (charge : Charge) → Among (dues books month) charge → (branch : List ℕ) × Among (keys books.branches) branch
+        × Among (dues_of_branch books month branch) charge
     due_at_branch charge a =
         let d = is_due (values books.leases) month charge a in
         let at = branch_of d.lease d.of in
@@ -164,8 +170,10 @@ module _ (books : Books) (names : NamesWhatIsThere books) where
           let split : sum_by (λ branch. sum_by of_lease (filter (is_at branch) (lease ∷ leases))) (keys books.branches)
           ≡ sum_by (λ branch. cond (is_at branch lease) (of_lease lease) 0 + sum_by of_lease (filter (is_at branch) leases)) (keys books.branches)
           = λ i. sum_by (λ branch. sum_if of_lease (is_at branch lease) lease (filter (is_at branch) leases) i) (keys books.branches) in
-          let both = sum_both (λ branch. cond (is_at branch lease) (of_lease lease) 0) (λ branch. sum_by of_lease (filter (is_at branch) leases)) (keys books.branches) in
-          let own = sum_one text_cmp text_total (λ branch. is_at branch lease) (of_lease lease) its.branch its.is its.one (keys books.branches) branches_rise its.of in
+          let both = sum_both (λ branch. cond (is_at branch lease) (of_lease lease) 0) (λ branch. sum_by of_lease (filter (is_at branch) leases))
+          (keys books.branches) in
+          let own = sum_one text_cmp text_total (λ branch. is_at branch lease) (of_lease lease) its.branch its.is its.one
+          (keys books.branches) branches_rise its.of in
           let all = sum_by-cons of_lease lease leases in
           omega (arith, rest, split, both, own, all)
 
@@ -188,10 +196,12 @@ module _ (books : Books) (names : NamesWhatIsThere books) where
       -- what all batches post is what falls due
       pub all_are_dues : HaveTheSame all_posted (dues books month)
       all_are_dues charge = (
-        λ a. let of = in_flat_map (dues_of_branch books month) (keys books.branches) charge (subst (λ xs. Among xs charge) all_of_branches (among all_posted charge a)) in
+        λ a. let of = in_flat_map (dues_of_branch books month) (keys books.branches) charge
+            (subst (λ xs. Among xs charge) all_of_branches (among all_posted charge a)) in
             is_among (dues books month) charge (of_due_at_branch of.0 charge of.2),
         λ a. let at = due_at_branch charge (among (dues books month) charge a) in
-            is_among all_posted charge (subst (λ xs. Among xs charge) (sym all_of_branches) (of_flat_map (dues_of_branch books month) (keys books.branches) at.0 charge at.1 at.2)),
+            is_among all_posted charge
+            (subst (λ xs. Among xs charge) (sym all_of_branches) (of_flat_map (dues_of_branch books month) (keys books.branches) at.0 charge at.1 at.2)),
       )
 
       -- by number and by amount

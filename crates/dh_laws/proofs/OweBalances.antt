@@ -11,7 +11,8 @@ use Rattle.dh_types.specs.declared.command.ReceiptOrder.{ReceiptOrder}
 use Rattle.dh_types.specs.declared.command.RunOrder.{RunOrder}
 use Rattle.dh_types.specs.declared.reply.Reply.TheVariants as reply
 use Rattle.dh_types.specs.declared.reply.Refusal.TheVariants as refusal
-use Rattle.dh_types.specs.Records.{is_same_branch, is_same_client, is_same_inspection, is_same_lease_terms, is_same_owner, is_same_payment, is_same_property, is_same_receipt_kind, is_same_registration, is_same_staff, is_same_viewing}
+use Rattle.dh_types.specs.Records.{is_same_branch, is_same_client, is_same_inspection, is_same_lease_terms, is_same_owner, is_same_payment, is_same_property}
+use Rattle.dh_types.specs.Records.{is_same_receipt_kind, is_same_registration, is_same_staff, is_same_viewing}
 use Rattle.dh_types.proofs.SameValues.{numbers}
 use Rattle.dh_model.specs.declared.rows.Change.TheVariants as change
 use Rattle.dh_model.specs.declared.rows.Verdict.{Verdict}
@@ -22,7 +23,8 @@ use Rattle.dh_model.specs.Answers.{balance, charges_of, rent_paid}
 use Rattle.dh_model.specs.Checks.{names, receipt_of_key, run_of_key, unless}
 use Rattle.dh_model.specs.Rules.{IsLawful, KeysInOrder}
 use Rattle.dh_model.specs.Rules.Rule.{Keys}
-use Rattle.dh_model.specs.Verdicts.{branch_verdict, judged, lease_checks, lease_verdict, opened_run, property_checks, receipt_checks, receipt_verdict, registration_checks, run_verdict, signed, unless_paid, unless_posted, unless_receipt, unless_run, verdict_on}
+use Rattle.dh_model.specs.Verdicts.{branch_verdict, judged, lease_checks, lease_verdict, opened_run, property_checks, receipt_checks, receipt_verdict}
+use Rattle.dh_model.specs.Verdicts.{registration_checks, run_verdict, signed, unless_paid, unless_posted, unless_receipt, unless_run, verdict_on}
 use Rattle.dh_model.proofs.KeyOrders.{nat_ties, nat_total}
 use Rattle.dh_laws.specs.InOrder.{AreKeyed}
 use Rattle.dh_laws.specs.Balances.{BalancesMoveAsTold, due_on}
@@ -43,13 +45,16 @@ module _ (size : ℕ) (s : State) (lease : ℕ) (keyed : AreKeyed s.books) (lawf
       omega (arith, number, within.1))
 
   paid : (order : ReceiptOrder)
-      → Moves size s lease (command.Receipt order) (verdict.Change (change.Receipt (record { number = len s.books.receipts + 1; key = order.key; payment = order.payment })))
+      → Moves size s lease (command.Receipt order)
+      (verdict.Change (change.Receipt (record { number = len s.books.receipts + 1; key = order.key; payment = order.payment })))
   paid order =
       let receipt : Receipt = record { number = len s.books.receipts + 1; key = order.key; payment = order.payment } in
       let books = s.books in
-      more_paid (nat_eq order.payment.lease lease) (is_same_receipt_kind order.payment.kind Rent) (total_of (charges_of s.books lease)) (rent_paid s.books lease) order.payment.amount
+      more_paid (nat_eq order.payment.lease lease) (is_same_receipt_kind order.payment.kind Rent) (total_of (charges_of s.books lease))
+      (rent_paid s.books lease) order.payment.amount
       (rent_paid (record books { receipts = insert s.books.receipts (len s.books.receipts + 1) receipt }) lease)
-      (kept_twice_new nat_total nat_ties (λ it. it.payment.amount) (λ it. nat_eq it.payment.lease lease) (λ it. is_same_receipt_kind it.payment.kind Rent) s.books.receipts
+      (kept_twice_new nat_total nat_ties (λ it. it.payment.amount) (λ it. nat_eq it.payment.lease lease)
+      (λ it. is_same_receipt_kind it.payment.kind Rent) s.books.receipts
       (len s.books.receipts + 1) receipt next_receipt)
 
   unless_paid_before : (order : ReceiptOrder) (found : Option Receipt) (v : Verdict) → Moves size s lease (command.Receipt order) v
@@ -71,7 +76,8 @@ module _ (size : ℕ) (s : State) (lease : ℕ) (keyed : AreKeyed s.books) (lawf
       unless_paid_before order (receipt_of_key s.books order.key) (unless_run s.books run checked)
       (unless_run_before told run checked (on_checks size s lease told (receipt_checks s.books order) row (paid order)))
 
-  ran_moves : (order : RunOrder) → order.month ≡ s.books.next → balance (ran size s.books order.key) lease ≡ balance s.books lease +ℤ pos (total_of (due_on s.books order.month lease))
+  ran_moves : (order : RunOrder) → order.month ≡ s.books.next
+      → balance (ran size s.books order.key) lease ≡ balance s.books lease +ℤ pos (total_of (due_on s.books order.month lease))
   ran_moves order same =
       let after = total_of (charges_of (ran size s.books order.key) lease) in
       let before = total_of (charges_of s.books lease) in
@@ -87,12 +93,14 @@ module _ (size : ℕ) (s : State) (lease : ℕ) (keyed : AreKeyed s.books) (lawf
     unless_receipt_before None v h = h
     unless_receipt_before (Some receipt) v h = own size s lease
 
-    in_its_month : (b : Bool) → nat_eq order.month s.books.next ≡ b → (order.month ≡ s.books.next → Moves size s lease told (verdict.Change (change.Open (opened_run s.books order))))
+    in_its_month : (b : Bool) → nat_eq order.month s.books.next ≡ b
+        → (order.month ≡ s.books.next → Moves size s lease told (verdict.Change (change.Open (opened_run s.books order))))
         → Moves size s lease told (judged (unless b (refusal.NotNextMonth s.books.next) ∷ []) (change.Open (opened_run s.books order)))
     in_its_month true e h = h ((numbers order.month s.books.next).0 e)
     in_its_month false e h = own size s lease
 
-    on_run : (order.month ≡ s.books.next → Moves size s lease told (verdict.Change (change.Open (opened_run s.books order)))) → Moves size s lease told (run_verdict s.books order)
+    on_run : (order.month ≡ s.books.next → Moves size s lease told (verdict.Change (change.Open (opened_run s.books order))))
+        → Moves size s lease told (run_verdict s.books order)
     on_run h =
         let checked = judged (unless (nat_eq order.month s.books.next) (refusal.NotNextMonth s.books.next) ∷ []) (change.Open (opened_run s.books order)) in
         let receipt = receipt_of_key s.books order.key in
@@ -104,15 +112,19 @@ module _ (size : ℕ) (s : State) (lease : ℕ) (keyed : AreKeyed s.books) (lawf
       on_open size s lease (command.Branch it) s.open_run (branch_verdict s.books it)
       (on_row size s lease (command.Branch it) (is_same_branch it) (get s.books.branches it.number) [] (change.Branch it) (own size s lease))
   moves (command.Staff it) =
-      on_row size s lease (command.Staff it) (is_same_staff it) (get s.books.staff it.number) (names s.books.branches it.branch 5 ∷ []) (change.Staff it) (own size s lease)
+      on_row size s lease (command.Staff it) (is_same_staff it) (get s.books.staff it.number) (names s.books.branches it.branch 5
+      ∷ []) (change.Staff it) (own size s lease)
   moves (command.Owner it) = on_row size s lease (command.Owner it) (is_same_owner it) (get s.books.owners it.number) [] (change.Owner it) (own size s lease)
   moves (command.Property it) =
-      on_row size s lease (command.Property it) (is_same_property it) (get s.books.properties it.number) (property_checks s.books it) (change.Property it) (own size s lease)
+      on_row size s lease (command.Property it) (is_same_property it) (get s.books.properties it.number) (property_checks s.books it) (change.Property it)
+      (own size s lease)
   moves (command.Assign it) = on_assign size s lease it (get s.books.properties it.property)
   moves (command.Rent it) = on_rent size s lease it (get s.books.properties it.property)
-  moves (command.Client it) = on_row size s lease (command.Client it) (is_same_client it) (get s.books.clients it.number) [] (change.Client it) (own size s lease)
+  moves (command.Client it) =
+      on_row size s lease (command.Client it) (is_same_client it) (get s.books.clients it.number) [] (change.Client it) (own size s lease)
   moves (command.Register it) =
-      on_row size s lease (command.Register it) (is_same_registration it) (get s.books.registrations (it.client, it.branch)) (registration_checks s.books it) (change.Register it)
+      on_row size s lease (command.Register it) (is_same_registration it) (get s.books.registrations (it.client, it.branch)) (registration_checks s.books it)
+      (change.Register it)
       (own size s lease)
   moves (command.Viewing it) =
       on_row size s lease (command.Viewing it) (is_same_viewing it) (get s.books.viewings (it.client, it.property))
@@ -126,8 +138,10 @@ module _ (size : ℕ) (s : State) (lease : ℕ) (keyed : AreKeyed s.books) (lawf
       (on_row size s lease (command.Lease it) (λ other. is_same_lease_terms it other.terms) (get s.books.leases it.number) (lease_checks s.books it)
       (change.Lease (signed s.books it (get s.books.properties it.property))) (own size s lease))
   moves (command.Receipt order) = on_open size s lease (command.Receipt order) s.open_run (receipt_verdict s.books order) (on_receipt order)
-  moves (command.Run order) = on_open size s lease (command.Run order) s.open_run (run_verdict s.books order) (on_run (command.Run order) order (ran_moves order))
-  moves (command.Open order) = on_open size s lease (command.Open order) s.open_run (run_verdict s.books order) (on_run (command.Open order) order (ran_moves order))
+  moves (command.Run order) =
+      on_open size s lease (command.Run order) s.open_run (run_verdict s.books order) (on_run (command.Run order) order (ran_moves order))
+  moves (command.Open order) =
+      on_open size s lease (command.Open order) s.open_run (run_verdict s.books order) (on_run (command.Open order) order (ran_moves order))
   moves (command.Post count) = on_post size s lease count s.open_run
 
 pub balances_move_as_told : (size : ℕ) → BalancesMoveAsTold size

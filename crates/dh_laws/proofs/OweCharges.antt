@@ -42,7 +42,10 @@ module _ (size : ℕ) (books : Books) (keyed : AreKeyed books) (lawful : IsLawfu
 pub charges_are_dues : (size : ℕ) → ChargesAreDues size
 charges_are_dues size books charge pos keyed lawful = (
   λ h.
-      let a = among (values books.charges) charge h in
-      (charge.month, charged_was_run size books keyed lawful charge a, is_among (dues books charge.month) charge (charged_is_due size books keyed lawful charge a)),
+      let a = among (values books.charges) charge h in (
+        charge.month,
+        charged_was_run size books keyed lawful charge a,
+        is_among (dues books charge.month) charge (charged_is_due size books keyed lawful charge a),
+      ),
   λ h. is_among (values books.charges) charge (due_is_charged size books keyed lawful h.0 charge h.1 (among (dues books h.0) charge h.2)),
 )

@@ -71,7 +71,8 @@ module _ (size : ℕ) (books : Books) (keyed : AreKeyed books) (lawful : IsLawfu
       omega (arith, early, same))
 
   -- a run adds its due
-  pub ran_adds : (key : List ℕ) (lease : ℕ) → total_of (charges_of (ran size books key) lease) ≡ total_of (charges_of books lease) + total_of (due_on books books.next lease)
+  pub ran_adds : (key : List ℕ) (lease : ℕ)
+      → total_of (charges_of (ran size books key) lease) ≡ total_of (charges_of books lease) + total_of (due_on books books.next lease)
   ran_adds key lease =
       kept_added nats_total nats_tie charge_key (λ charge. charge.amount) (λ charge. nat_eq charge.lease lease) (dues books books.next) books.charges
       (dues_apart books books.next keyed) not_charged

@@ -73,8 +73,10 @@ module _ (size : ℕ) (books : Books) (lease count : ℕ) where
   resumed_keeps None = kept books lease
   resumed_keeps (Some run) =
       let all = batches size books run.month in
-      either_keeps (nat_le all (run.done + count)) (record { books = books; open_run = None }, reply.Posted (posted_sum run.month (get books.runs run.month)))
-      (record { books = books; open_run = Some (record { month = run.month; done = run.done + count }) }, reply.Part (record { month = run.month; done = run.done + count; of = all })) (kept books lease) (kept books lease)
+      either_keeps (nat_le all (run.done + count)) (record { books = books; open_run = None }, reply.Posted (posted_sum run.month (get books.runs run.month))) (
+        record { books = books; open_run = Some (record { month = run.month; done = run.done + count }) },
+        reply.Part (record { month = run.month; done = run.done + count; of = all }),
+      ) (kept books lease) (kept books lease)
 
 module _ (size : ℕ) (s : State) (lease : ℕ) where
   -- under this verdict the command moves what is owed as told
@@ -113,7 +115,8 @@ module _ (size : ℕ) (s : State) (lease : ℕ) where
       → Moves (command.Assign it) (if b then verdict.Already reply.Already else judged (manager_checks s.books property it.staff) (change.Assign it))
   assign_if it property true = own
   assign_if it property false =
-      on_checks (command.Assign it) (manager_checks s.books property it.staff) (change.Assign it) (managed_keeps s.books lease it (get s.books.properties it.property))
+      on_checks (command.Assign it) (manager_checks s.books property it.staff) (change.Assign it)
+      (managed_keeps s.books lease it (get s.books.properties it.property))
 
   pub on_assign : (it : Assignment) (found : Option Property) → Moves (command.Assign it) (assigned s.books it found)
   on_assign it None = own

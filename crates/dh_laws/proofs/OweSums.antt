@@ -52,7 +52,8 @@ module _ {K X : Type 0} {R : K → K → Ordering} (o : IsTotalOrder R) (anti : 
         → sum_by f (values (with_rows key rows m)) ≡ sum_by f (values m) + sum_by f rows
     sum_added f [] m apart none = let same = ap (λ n. sum_by f (values n)) (as_it_is m) in omega (arith, same)
     sum_added f (x ∷ rows) m apart none =
-        let first = sum_new o anti f (with_rows key rows m) (key x) x (get_past_rows o anti key rows m (key x) (λ y a e. apart.0 y a (sym e)) ∙ none x (inl refl)) in
+        let first = sum_new o anti f (with_rows key rows m) (key x) x (get_past_rows o anti key rows m (key x) (λ y a e. apart.0 y a (sym e))
+        ∙ none x (inl refl)) in
         let rest = sum_added f rows m apart.1 (λ y a. none y (inr a)) in
         let all = sum_by-cons f x rows in
         omega (arith, first, rest, all)

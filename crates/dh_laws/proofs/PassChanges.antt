@@ -55,7 +55,8 @@ module _ (size : ℕ) (b : Books) where
     properties_pass = completed_alike (open_row b)
 
   -- where no run is open there is nothing to pass
-  on_whole : (f : Books → Books) → ((row : Run) → completed size (f b) (Some row) ≡ f (completed size b (Some row))) → (found : Option Run) → completed size (f b) found ≡ f (completed size b found)
+  on_whole : (f : Books → Books) → ((row : Run) → completed size (f b) (Some row) ≡ f (completed size b (Some row))) → (found : Option Run)
+      → completed size (f b) found ≡ f (completed size b found)
   on_whole f passes None = refl
   on_whole f passes (Some row) = passes row
 
@@ -72,15 +73,22 @@ module _ (size : ℕ) (b : Books) where
     managed_there : (it : Assignment) (row : Property) → w.properties ≡ b.properties → get b.properties it.property ≡ Some row
         → managed w it (get w.properties it.property) ≡ record w { properties = insert b.properties it.property (record row { staff = it.staff }) }
     managed_there it row same is =
-        ap (managed w it) (ap (λ rows. get rows it.property) same ∙ is) ∙ ap (λ rows. record w { properties = insert rows it.property (record row { staff = it.staff }) }) same
+        ap (managed w it) (ap (λ rows. get rows it.property) same ∙ is)
+        ∙ ap (λ rows. record w { properties = insert rows it.property (record row { staff = it.staff }) }) same
 
     rent_there : (it : RentChange) (row : Property) → w.properties ≡ b.properties → get b.properties it.property ≡ Some row
         → at_rent w it (get w.properties it.property) ≡ record w { properties = insert b.properties it.property (record row { rent = it.rent }) }
     rent_there it row same is =
-        ap (at_rent w it) (ap (λ rows. get rows it.property) same ∙ is) ∙ ap (λ rows. record w { properties = insert rows it.property (record row { rent = it.rent }) }) same
+        ap (at_rent w it) (ap (λ rows. get rows it.property) same ∙ is)
+        ∙ ap (λ rows. record w { properties = insert rows it.property (record row { rent = it.rent }) }) same
 
     comment_there : (it : ViewingComment) (row : Viewing) → w.viewings ≡ b.viewings → get b.viewings (it.client, it.property) ≡ Some row
-        → with_comment w it (get w.viewings (it.client, it.property)) ≡ record w { viewings = insert b.viewings (it.client, it.property) (record row { comment = Some it.comment }) }
+        → with_comment w it (get w.viewings (it.client, it.property)) ≡ record w {
+          viewings = insert b.viewings (
+            it.client,
+            it.property,
+          ) (record row { comment = Some it.comment });
+        }
     comment_there it row same is =
         ap (with_comment w it) (ap (λ rows. get rows (it.client, it.property)) same ∙ is)
         ∙ ap (λ rows. record w { viewings = insert rows (it.client, it.property) (record row { comment = Some it.comment }) }) same

@@ -38,7 +38,8 @@ module _ (books : Books) (run : OpenRun) where
     judged_by_the_rest (command.Post count) free = cc
 
   -- and a run adds nothing else
-  judged_alike : (size : ℕ) (told : Command) (found : Option Run) → is_free told ≡ true → verdict_on books (Some run) told ≡ verdict_on (completed size books found) None told
+  judged_alike : (size : ℕ) (told : Command) (found : Option Run) → is_free told ≡ true
+      → verdict_on books (Some run) told ≡ verdict_on (completed size books found) None told
   judged_alike size told None free = judged_by_the_rest books.charges books.parts books.runs told free
   judged_alike size told (Some row) free =
       let all = completed size books (Some row) in

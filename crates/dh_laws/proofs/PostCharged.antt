@@ -22,7 +22,8 @@ abbrev pub part_month : Part → ℕ
 part_month part = part.month
 
 module _ (size : ℕ) (books : Books) (keyed : AreKeyed books) (rules : MeetsRules books size) where
-  owed_in : (b : Bool) (run : Run) (charge : Charge) → run.is_closed ≡ b → Among (values books.runs) run → charge.month ≡ run.month → Among (values books.charges) charge → IsOwed books charge
+  owed_in : (b : Bool) (run : Run) (charge : Charge) → run.is_closed ≡ b → Among (values books.runs) run → charge.month ≡ run.month
+      → Among (values books.charges) charge → IsOwed books charge
   owed_in true run charge e a own c =
       let month = (rules Rule.Months).closed run (is_among (values books.runs) run a) e in
       let here = of_rows charge_key charge_month nats_total nats_tie books.charges run.month charge c own in
@@ -31,7 +32,8 @@ module _ (size : ℕ) (books : Books) (keyed : AreKeyed books) (rules : MeetsRul
       let month = (rules Rule.Months).under_way run (is_among (values books.runs) run a) e in
       let here = of_rows charge_key charge_month nats_total nats_tie books.charges run.month charge c own in
       let posted = posted_charges size books run.month month.done in
-      (owed_posted size books run.month month.done charge (among posted charge ((month.posted.charges charge).0 (is_among (charges_in books run.month) charge here)))).0
+      (owed_posted size books run.month month.done charge
+      (among posted charge ((month.posted.charges charge).0 (is_among (charges_in books run.month) charge here)))).0
 
   -- what is charged falls due
   pub owed_charge : (charge : Charge) → Among (values books.charges) charge → IsOwed books charge

@@ -20,23 +20,28 @@ use Rattle.dh_laws.proofs.PostMonth.{stays}
 use Rattle.dh_laws.proofs.PostCharged.{charge_month, charges_fit, part_month, parts_fit}
 use Rattle.dh_laws.proofs.PostCounts.{Differ, lesser_differ, rows_differ, same_length, same_sum}
 
-pub closed_alike : (month : ℕ) (key : List ℕ) (xs ys : List Charge) → length xs ≡ length ys → total_of xs ≡ total_of ys → closed_run month key xs ≡ closed_run month key ys
+pub closed_alike : (month : ℕ) (key : List ℕ) (xs ys : List Charge) → length xs ≡ length ys → total_of xs ≡ total_of ys
+    → closed_run month key xs ≡ closed_run month key ys
 closed_alike month key xs ys count total = λ i. record { month = month; key = key; count = count i; total = total i; is_closed = true }
 
-module _ (size : ℕ) (books : Books) (pos : 1 ≤ size) (keyed : AreKeyed books) (rules : MeetsRules books size) (run : Run) (posted : ArePosted books size run.month (batches size books run.month)) where
+module _ (size : ℕ) (books : Books) (pos : 1 ≤ size) (keyed : AreKeyed books) (rules : MeetsRules books size) (run : Run)
+    (posted : ArePosted books size run.month (batches size books run.month)) where
   -- a charge of the month is one of its dues
   to_due : (charge : Charge) → Among (charges_in books run.month) charge → Among (dues books run.month) charge
   to_due charge a =
       among (dues books run.month) charge
-      ((all_are_dues books (rules Rule.References) run.month size pos keyed.leases charge).0 ((posted.charges charge).0 (is_among (charges_in books run.month) charge a)))
+      ((all_are_dues books (rules Rule.References) run.month size pos keyed.leases charge).0
+      ((posted.charges charge).0 (is_among (charges_in books run.month) charge a)))
 
   of_due : (charge : Charge) → Among (dues books run.month) charge → Among (charges_in books run.month) charge
   of_due charge a =
       among (charges_in books run.month) charge
-      ((posted.charges charge).1 ((all_are_dues books (rules Rule.References) run.month size pos keyed.leases charge).1 (is_among (dues books run.month) charge a)))
+      ((posted.charges charge).1 ((all_are_dues books (rules Rule.References) run.month size pos keyed.leases charge).1
+      (is_among (dues books run.month) charge a)))
 
   charges_differ : Rises Differ (charges_in books run.month)
-  charges_differ = filter_rises Differ (λ charge. nat_eq charge.month run.month) (values books.charges) (rows_differ nats_total nats_tie charge_key books.charges keyed.charges)
+  charges_differ = filter_rises Differ (λ charge. nat_eq charge.month run.month) (values books.charges)
+      (rows_differ nats_total nats_tie charge_key books.charges keyed.charges)
 
   dues_differ : Rises Differ (dues books run.month)
   dues_differ = lesser_differ lease_of (dues books run.month) (dues_rise (values books.leases) run.month (leases_rise books keyed.leases))
@@ -55,8 +60,10 @@ module _ (size : ℕ) (books : Books) (pos : 1 ≤ size) (keyed : AreKeyed books
   completed_is_closed =
       let all = posted_charges size books run.month (batches size books run.month) in
       let begun = posted_parts size books run.month (batches size books run.month) in
-      let charges = stays charge_key charge_month nats_total nats_tie books.charges run.month all (charges_fit size books keyed rules run.month (batches size books run.month)) posted.charges in
-      let parts = stays part_key part_month nat_text_total nat_text_ties books.parts run.month begun (parts_fit size books keyed rules run.month (batches size books run.month)) posted.parts in
+      let charges = stays charge_key charge_month nats_total nats_tie books.charges run.month all
+      (charges_fit size books keyed rules run.month (batches size books run.month)) posted.charges in
+      let parts = stays part_key part_month nat_text_total nat_text_ties books.parts run.month begun
+      (parts_fit size books keyed rules run.month (batches size books run.month)) posted.parts in
       let row = closed_alike run.month run.key all (charges_in books run.month) same_count same_total in
       λ i. record books { charges = charges i; parts = parts i; runs = insert books.runs run.month (row i) }
 

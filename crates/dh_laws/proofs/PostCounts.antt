@@ -1,5 +1,6 @@
 -- Sums over lists in which nothing stands twice.
-use Rattle.std.proofs.Common.{◌≡◌, ◌≢◌, ◌⊎◌, ◌∙◌, refl, sym, ap, subst, inl, inr, ℕ, ◌+◌, ◌<◌, ◌≤◌, List, [], ◌∷◌, ◌++◌, length, Ordering, is_lt, length-append, arith}
+use Rattle.std.proofs.Common.{◌≡◌, ◌≢◌, ◌⊎◌, ◌∙◌, refl, sym, ap, subst, inl, inr, ℕ, ◌+◌, ◌<◌, ◌≤◌, List, [], ◌∷◌, ◌++◌, length, Ordering, is_lt, length-append}
+use Rattle.std.proofs.Common.{arith}
 use lib.ListN.{length-map}
 use Rattle.std.specs.List.{flat_map, sum_by}
 use Rattle.std.specs.Cmp.{IsTotalOrder}
@@ -70,7 +71,8 @@ module _ {X : Type 0} where
       omega (arith, rest, all, own)
 
   -- and lists of the same elements to the same
-  pub same_sum : (f : X → ℕ) (xs ys : List X) → Rises Differ xs → Rises Differ ys → ((x : X) → Among xs x → Among ys x) → ((x : X) → Among ys x → Among xs x) → sum_by f xs ≡ sum_by f ys
+  pub same_sum : (f : X → ℕ) (xs ys : List X) → Rises Differ xs → Rises Differ ys → ((x : X) → Among xs x → Among ys x) → ((x : X) → Among ys x → Among xs x)
+      → sum_by f xs ≡ sum_by f ys
   same_sum f xs ys r s to from =
       let less = no_more f xs ys r to in
       let more = no_more f ys xs s from in
@@ -90,7 +92,8 @@ module _ {X : Type 0} where
       let other = counted ys in
       omega (arith, less, one, other)
 
-  pub same_length : (xs ys : List X) → Rises Differ xs → Rises Differ ys → ((x : X) → Among xs x → Among ys x) → ((x : X) → Among ys x → Among xs x) → length xs ≡ length ys
+  pub same_length : (xs ys : List X) → Rises Differ xs → Rises Differ ys → ((x : X) → Among xs x → Among ys x) → ((x : X) → Among ys x → Among xs x)
+      → length xs ≡ length ys
   same_length xs ys r s to from =
       let less = no_longer xs ys r to in
       let more = no_longer ys xs s from in
@@ -105,7 +108,8 @@ module _ {K X : Type 0} (f : K → List X) (size : ℕ) (small : (k : K) → len
   abbrev pub OneHolds : List K → Type 0
   OneHolds ks = (a b : K) (x y : X) → Among ks a → Among ks b → Among (f a) x → Among (f b) y → a ≡ b
 
-  by_first : (first : List X) (k : K) (ks : List K) → first ≡ f k → Rises Differ (k ∷ ks) → OneHolds (k ∷ ks) → length first ≤ size → length (flat_map f ks) ≤ size
+  by_first : (first : List X) (k : K) (ks : List K) → first ≡ f k → Rises Differ (k ∷ ks) → OneHolds (k ∷ ks) → length first ≤ size
+      → length (flat_map f ks) ≤ size
       → length (first ++ flat_map f ks) ≤ size
   by_first [] k ks e r one few rest = rest
   by_first (x ∷ xs) k ks e r one few rest =

@@ -6,7 +6,8 @@ use Rattle.dh_types.specs.declared.lease.Charge.{Charge}
 use Rattle.dh_types.specs.declared.run.Part.{Part}
 use Rattle.dh_model.specs.Books.{Books}
 use Rattle.dh_model.specs.Leases.{due, dues, dues_among}
-use Rattle.dh_model.specs.Runs.{batch_of, batches_before, begun_branches, charge_key, dues_of_branch, is_property_of, leases_of_branch, part_key, part_of, posted_charges, posted_of_branch, posted_parts}
+use Rattle.dh_model.specs.Runs.{batch_of, batches_before, begun_branches, charge_key, dues_of_branch, is_property_of, leases_of_branch, part_key, part_of}
+use Rattle.dh_model.specs.Runs.{posted_charges, posted_of_branch, posted_parts}
 use Rattle.dh_model.proofs.Among.{Among, in_filter, in_flat_map, in_map, of_filter, of_flat_map}
 use Rattle.dh_model.proofs.DueLemmas.{is_due}
 use Rattle.dh_model.proofs.KeyOrders.{nat_ties, nat_total}
@@ -32,13 +33,15 @@ module _ (books : Books) where
   pub owed_due : (month : ℕ) (charge : Charge) → Among (dues books month) charge → IsOwed books charge × (charge.month ≡ month)
   owed_due month charge a = owed_among month (values books.leases) charge (λ lease b. b) a
 
-  pub owed_of_branch : (month : ℕ) (branch : List ℕ) (charge : Charge) → Among (dues_of_branch books month branch) charge → IsOwed books charge × (charge.month ≡ month)
+  pub owed_of_branch : (month : ℕ) (branch : List ℕ) (charge : Charge) → Among (dues_of_branch books month branch) charge → IsOwed books charge
+      × (charge.month ≡ month)
   owed_of_branch month branch charge a =
       owed_among month (leases_of_branch books branch) charge
       (λ lease b. (in_filter (λ l. is_property_of branch (get books.properties l.terms.property)) (values books.leases) lease b).0) a
 
   -- a lease and an index are of one charge
-  pub one_charge : StandUnder (λ lease. lease.terms.number) books.leases → (x y : Charge) → IsOwed books x → IsOwed books y → charge_key x ≡ charge_key y → x ≡ y
+  pub one_charge : StandUnder (λ lease. lease.terms.number) books.leases → (x y : Charge) → IsOwed books x → IsOwed books y → charge_key x ≡ charge_key y
+      → x ≡ y
   one_charge keyed x y a b same =
       let a_key : charge_key x ≡ (a.lease.terms.number, a.k) = ap charge_key a.is in
       let b_key : charge_key y ≡ (b.lease.terms.number, b.k) = ap charge_key b.is in
@@ -72,7 +75,8 @@ module _ (size : ℕ) (books : Books) (month n : ℕ) where
   pub of_posted : (charge : Charge) → IsPosted size books month n charge → Among (posted_charges size books month n) charge
   of_posted charge p =
       of_flat_map (posted_of_branch size books month n) (keys books.branches) p.branch charge p.of
-      (of_filter (λ c. nat_lt (batch_of size books month p.branch c) n) (dues_of_branch books month p.branch) charge (lt-ltb (batch_of size books month p.branch charge) n p.early) p.due)
+      (of_filter (λ c. nat_lt (batch_of size books month p.branch c) n) (dues_of_branch books month p.branch) charge
+      (lt-ltb (batch_of size books month p.branch charge) n p.early) p.due)
 
   pub owed_posted : (charge : Charge) → Among (posted_charges size books month n) charge → IsOwed books charge × (charge.month ≡ month)
   owed_posted charge a = let p = is_posted charge a in owed_of_branch books month p.branch charge p.due
@@ -90,7 +94,8 @@ module _ (size : ℕ) (books : Books) (month n : ℕ) where
   one_begun x y a b same =
       let p = is_begun x a in
       let q = is_begun y b in
-      let branch : p.branch ≡ q.branch = sym (ap (λ (part : Part). part.branch) p.is) ∙ ap (λ (k : ℕ × List ℕ). k.1) same ∙ ap (λ (part : Part). part.branch) q.is in
+      let branch : p.branch ≡ q.branch =
+      sym (ap (λ (part : Part). part.branch) p.is) ∙ ap (λ (k : ℕ × List ℕ). k.1) same ∙ ap (λ (part : Part). part.branch) q.is in
       p.is ∙ ap (λ branch. part_of month branch (posted_of_branch size books month n branch)) branch ∙ sym q.is
 
   pub month_of_begun : (part : Part) → Among (posted_parts size books month n) part → part.month ≡ month

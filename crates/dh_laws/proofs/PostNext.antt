@@ -1,5 +1,6 @@
 -- The next batch adds the next charges.
-use Rattle.std.proofs.Common.{◌≡◌, ◌⊎◌, ◌∙◌, refl, sym, ap, subst, inl, inr, ℕ, ◌+◌, ◌-◌, ◌*◌, ◌/◌, ◌<◌, ◌≤◌, Bool, true, false, cond, nat_lt, List, [], ◌∷◌, length, Option, Some, None, Ordering, Less, Equal, Greater, is_lt, div-mul-le_self, le-add_right, arith}
+use Rattle.std.proofs.Common.{◌≡◌, ◌⊎◌, ◌∙◌, refl, sym, ap, subst, inl, inr, ℕ, ◌+◌, ◌-◌, ◌*◌, ◌/◌, ◌<◌, ◌≤◌, Bool, true, false, cond, nat_lt, List, [], ◌∷◌}
+use Rattle.std.proofs.Common.{length, Option, Some, None, Ordering, Less, Equal, Greater, is_lt, div-mul-le_self, le-add_right, arith}
 use Rattle.std.specs.Ordering.{ordering_reverse}
 use Rattle.std.specs.List.{IsAmong, count_by}
 use Rattle.std.specs.FinMap.{entries, entries_sorted, get, is_sorted, keys, values}
@@ -10,7 +11,8 @@ use Rattle.std.proofs.lemmas.List.Sums.{sum_by-cons}
 use Rattle.dh_types.specs.declared.lease.Charge.{Charge}
 use Rattle.dh_types.specs.declared.run.Part.{Part}
 use Rattle.dh_model.specs.Books.{Books, text_cmp}
-use Rattle.dh_model.specs.Runs.{batch_of, batches, batches_before, batches_of_branch, charge_key, dues_of_branch, part_key, place_among, posted_charges, posted_parts}
+use Rattle.dh_model.specs.Runs.{batch_of, batches, batches_before, batches_of_branch, charge_key, dues_of_branch, part_key, place_among, posted_charges}
+use Rattle.dh_model.specs.Runs.{posted_parts}
 use Rattle.dh_model.specs.Rules.{ArePosted, MeetsRules, charges_in, parts_in}
 use Rattle.dh_model.specs.Whole.{with_posted}
 use Rattle.dh_model.proofs.Among.{Among, among, is_among}

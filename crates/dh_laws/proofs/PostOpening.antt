@@ -71,7 +71,8 @@ module _ (size : ℕ) (books : Books) (pos : 1 ≤ size) (keyed : AreKeyed books
 
   not_charged : (k : ℕ × ℕ) (charge : Charge) → Has books.charges k charge → charge.month ≡ row.month → ⊥
   not_charged k charge h e =
-      not_there charge.month ((rules Rule.Months).charged charge (is_among (values books.charges) charge (of_row nats_total nats_tie books.charges k charge h))) e
+      not_there charge.month ((rules Rule.Months).charged charge (is_among (values books.charges) charge (of_row nats_total nats_tie books.charges k charge h)))
+      e
 
   not_summed : (k : ℕ × List ℕ) (part : Part) → Has books.parts k part → part.month ≡ row.month → ⊥
   not_summed k part h e =
@@ -90,10 +91,12 @@ module _ (size : ℕ) (books : Books) (pos : 1 ≤ size) (keyed : AreKeyed books
   completed_is_ran : completed size opened (Some row) ≡ ran size books row.key
   completed_is_ran =
       let begun = posted_parts size books row.month (batches size books row.month) in
-      let charges = ap (with_rows charge_key all) (none_of_month charge_key charge_month nats_total nats_tie books.charges row.month not_charged) ∙ charges_alike in
+      let charges = ap (with_rows charge_key all) (none_of_month charge_key charge_month nats_total nats_tie books.charges row.month not_charged)
+      ∙ charges_alike in
       let parts = ap (with_rows part_key begun) (none_of_month part_key part_month nat_text_total nat_text_ties books.parts row.month not_summed) in
       let names = rules Rule.References in
-      let done = closed_alike row.month row.key all (dues books row.month) (count_of_all books names row.month size pos keyed.leases) (total_of_all books names row.month size pos keyed.leases) in
+      let done = closed_alike row.month row.key all (dues books row.month) (count_of_all books names row.month size pos keyed.leases)
+      (total_of_all books names row.month size pos keyed.leases) in
       let runs = insert_again nat_total nat_ties books.runs row.month row (closed_run row.month row.key all) ∙ ap (insert books.runs row.month) done in
       let at_month : completed size opened (Some row) ≡ record books {
         charges = with_rows charge_key (dues books row.month) books.charges;
@@ -124,5 +127,6 @@ pub run_is_opening_made_whole : (size : ℕ) → RunIsOpeningMadeWhole size
 run_is_opening_made_whole size books order pos in_order h =
     let row = opened_run books order in
     let begins = (run_case books None (change.Open (opened_run books order)) order h).1 in
-    ap (completed size (changed (change.Open (opened_run books order)) books)) (opened_shown size books pos in_order.keyed in_order.rules row begins.month refl refl refl in_order.shown)
+    ap (completed size (changed (change.Open (opened_run books order)) books))
+    (opened_shown size books pos in_order.keyed in_order.rules row begins.month refl refl refl in_order.shown)
     ∙ completed_is_ran size books pos in_order.keyed in_order.rules row begins.month

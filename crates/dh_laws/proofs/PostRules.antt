@@ -22,7 +22,8 @@ use Rattle.dh_laws.proofs.PostCharged.{charge_month, charges_fit, part_month, pa
 
 module _ (size : ℕ) (books : Books) (keyed : AreKeyed books) (rules : MeetsRules books size) where
   branch_there : (branch : List ℕ) → Among (keys books.branches) branch → IsThere books.branches branch
-  branch_there branch a = contains_key-keys books.branches branch ∙ of_passes (eq_by_cmp text_cmp branch) (keys books.branches) branch a (key_itself text_total text_ties branch)
+  branch_there branch a =
+      contains_key-keys books.branches branch ∙ of_passes (eq_by_cmp text_cmp branch) (keys books.branches) branch a (key_itself text_total text_ties branch)
 
   lease_there : (charge : Charge) → IsOwed books charge → IsThere books.leases charge.lease
   lease_there charge owed =
@@ -35,13 +36,15 @@ module _ (size : ℕ) (books : Books) (keyed : AreKeyed books) (rules : MeetsRul
     charge_of : (charge : Charge) → IsAmong (values (with_posted size books month n).charges) charge
         → Among (posted_charges size books month n) charge ⊎ (Among (values books.charges) charge × (charge.month ≡ month → ⊥))
     charge_of charge a =
-        value_of_replaced charge_key charge_month nats_total nats_tie books.charges month (posted_charges size books month n) (charges_fit size books keyed rules month n) charge
+        value_of_replaced charge_key charge_month nats_total nats_tie books.charges month (posted_charges size books month n)
+        (charges_fit size books keyed rules month n) charge
         (among (values (with_posted size books month n).charges) charge a)
 
     part_row_of : (part : Part) → IsAmong (values (with_posted size books month n).parts) part
         → Among (posted_parts size books month n) part ⊎ (Among (values books.parts) part × (part.month ≡ month → ⊥))
     part_row_of part a =
-        value_of_replaced part_key part_month nat_text_total nat_text_ties books.parts month (posted_parts size books month n) (parts_fit size books keyed rules month n) part
+        value_of_replaced part_key part_month nat_text_total nat_text_ties books.parts month (posted_parts size books month n)
+        (parts_fit size books keyed rules month n) part
         (among (values (with_posted size books month n).parts) part a)
 
     pub posted_keyed : AreKeyed (with_posted size books month n)
@@ -55,10 +58,12 @@ module _ (size : ℕ) (books : Books) (keyed : AreKeyed books) (rules : MeetsRul
       viewings = keyed.viewings;
       inspections = keyed.inspections;
       leases = keyed.leases;
-      charges = keyed_replaced charge_key charge_month nats_total nats_tie books.charges month (posted_charges size books month n) (charges_fit size books keyed rules month n);
+      charges = keyed_replaced charge_key charge_month nats_total nats_tie books.charges month (posted_charges size books month n)
+          (charges_fit size books keyed rules month n);
       receipts = keyed.receipts;
       runs = keyed.runs;
-      parts = keyed_replaced part_key part_month nat_text_total nat_text_ties books.parts month (posted_parts size books month n) (parts_fit size books keyed rules month n);
+      parts = keyed_replaced part_key part_month nat_text_total nat_text_ties books.parts month (posted_parts size books month n)
+          (parts_fit size books keyed rules month n);
     }
 
     module _ (row : Run) (is : get books.runs month ≡ Some row) where
@@ -83,7 +88,8 @@ module _ (size : ℕ) (books : Books) (keyed : AreKeyed books) (rules : MeetsRul
           | inr old ↦ r.part_runs part (is_among (values books.parts) part old.0)
         ];
         part_branches = λ part a. elim (part_row_of part a) [
-          | inl new ↦ let b = is_begun size books month n part new in subst (IsThere books.branches) (sym (ap (λ (p : Part). p.branch) b.is)) (branch_there b.branch b.of)
+          | inl new ↦ let b = is_begun size books month n part new in
+              subst (IsThere books.branches) (sym (ap (λ (p : Part). p.branch) b.is)) (branch_there b.branch b.of)
           | inr old ↦ r.part_branches part (is_among (values books.parts) part old.0)
         ];
       }
@@ -92,22 +98,28 @@ module _ (size : ℕ) (books : Books) (keyed : AreKeyed books) (rules : MeetsRul
       pub are_posted : n ≤ batches size books month → ArePosted (with_posted size books month n) size month n
       are_posted few = record {
         few = few;
-        charges = in_month charge_key charge_month nats_total nats_tie books.charges month (posted_charges size books month n) (charges_fit size books keyed rules month n);
-        parts = in_month part_key part_month nat_text_total nat_text_ties books.parts month (posted_parts size books month n) (parts_fit size books keyed rules month n);
+        charges = in_month charge_key charge_month nats_total nats_tie books.charges month (posted_charges size books month n)
+            (charges_fit size books keyed rules month n);
+        parts = in_month part_key part_month nat_text_total nat_text_ties books.parts month (posted_parts size books month n)
+            (parts_fit size books keyed rules month n);
       }
 
-      part_stays : (other : ℕ) (branch : List ℕ) → (other ≡ month → ⊥) → IsThere books.parts (other, branch) → IsThere (with_posted size books month n).parts (other, branch)
+      part_stays : (other : ℕ) (branch : List ℕ) → (other ≡ month → ⊥) → IsThere books.parts (other, branch)
+          → IsThere (with_posted size books month n).parts (other, branch)
       part_stays other branch apart h =
           let at = (there nat_text_total nat_text_ties books.parts (other, branch)).0 h in
           let own : at.0.month ≡ other = ap (λ (k : ℕ × List ℕ). k.0) (keyed.parts (other, branch) at.0 at.1) in
-          let stays = of_old part_key part_month nat_text_total nat_text_ties books.parts month (posted_parts size books month n) (parts_fit size books keyed rules month n) (other, branch) at.0 at.1 (λ e. apart (sym own ∙ e)) in
+          let stays = of_old part_key part_month nat_text_total nat_text_ties books.parts month (posted_parts size books month n)
+          (parts_fit size books keyed rules month n) (other, branch) at.0 at.1 (λ e. apart (sym own ∙ e)) in
           (there nat_text_total nat_text_ties (with_posted size books month n).parts (other, branch)).1 (at.0, stays)
 
       -- and of another month nothing changes
       still_closed : (run : Run) → (run.month ≡ month → ⊥) → MonthIsClosed books run → MonthIsClosed (with_posted size books month n) run
       still_closed run other closed =
-          let charges = in_other_month charge_key charge_month nats_total nats_tie books.charges month (posted_charges size books month n) (charges_fit size books keyed rules month n) run.month other in
-          let parts = in_other_month part_key part_month nat_text_total nat_text_ties books.parts month (posted_parts size books month n) (parts_fit size books keyed rules month n) run.month other in
+          let charges = in_other_month charge_key charge_month nats_total nats_tie books.charges month (posted_charges size books month n)
+          (charges_fit size books keyed rules month n) run.month other in
+          let parts = in_other_month part_key part_month nat_text_total nat_text_ties books.parts month (posted_parts size books month n)
+          (parts_fit size books keyed rules month n) run.month other in
           record {
             charges = λ charge. (λ a. (closed.charges charge).0 ((charges charge).0 a), λ a. (charges charge).1 ((closed.charges charge).1 a));
             parts = λ part a. closed.parts part ((parts part).0 a);
@@ -139,7 +151,8 @@ module _ (size : ℕ) (books : Books) (keyed : AreKeyed books) (rules : MeetsRul
         other_month : (run : Run) → IsAmong (values books.runs) run → run.is_closed ≡ true → run.month ≡ month → ⊥
         other_month run a e same =
             let own : row.month ≡ month = keyed.runs month row is in
-            let one = one_row nat_total nat_ties (λ it. it.month) books.runs keyed.runs run row (among (values books.runs) run a) (of_row nat_total nat_ties books.runs month row is) (same ∙ sym own) in
+            let one = one_row nat_total nat_ties (λ it. it.month) books.runs keyed.runs run row (among (values books.runs) run a)
+            (of_row nat_total nat_ties books.runs month row is) (same ∙ sym own) in
             true≢false (sym e ∙ ap (λ (r : Run). r.is_closed) one ∙ is_open)
 
         months_in_order : MonthsInOrder (with_posted size books month n) size

@@ -1,5 +1,6 @@
 -- A batch has no more charges than the size.
-use Rattle.std.proofs.Common.{◌≡◌, ◌∙◌, refl, sym, ap, subst, inl, inr, ℕ, ◌+◌, ◌/◌, ◌≤◌, Bool, true, false, cond, nat_eq, List, [], ◌∷◌, ◌++◌, length, Ordering, Less, Equal, Greater, is_lt, le-add_right, length-append, arith}
+use Rattle.std.proofs.Common.{◌≡◌, ◌∙◌, refl, sym, ap, subst, inl, inr, ℕ, ◌+◌, ◌/◌, ◌≤◌, Bool, true, false, cond, nat_eq, List, [], ◌∷◌, ◌++◌, length}
+use Rattle.std.proofs.Common.{Ordering, Less, Equal, Greater, is_lt, le-add_right, length-append, arith}
 use Rattle.std.specs.Ordering.{ordering_reverse}
 use Rattle.std.specs.List.{filter, flat_map, sum_by}
 use Rattle.std.specs.Cmp.{IsTotalOrder}
@@ -30,7 +31,8 @@ use Rattle.dh_laws.proofs.PostCounts.{Differ, at_most_one, no_longer, rows_count
 use Rattle.dh_laws.proofs.PostRules.{posted_keyed}
 
 module _ {X : Type 0} (p q : X → Bool) (implies : (x : X) → p x ≡ true → q x ≡ true) where
-  twice_first : (a b : Bool) (x : X) (xs : List X) → p x ≡ a → q x ≡ b → filter p (filter q xs) ≡ filter p xs → filter p (cond b (x ∷ filter q xs) (filter q xs)) ≡ cond a (x ∷ filter p xs) (filter p xs)
+  twice_first : (a b : Bool) (x : X) (xs : List X) → p x ≡ a → q x ≡ b → filter p (filter q xs) ≡ filter p xs
+      → filter p (cond b (x ∷ filter q xs) (filter q xs)) ≡ cond a (x ∷ filter p xs) (filter p xs)
   twice_first a true x xs s t rest = ap (λ c. cond c (x ∷ filter p (filter q xs)) (filter p (filter q xs))) s ∙ ap (λ ys. cond a (x ∷ ys) ys) rest
   twice_first true false x xs s t rest = let yes = implies x s in cc
   twice_first false false x xs s t rest = rest
@@ -57,22 +59,26 @@ module _ (size : ℕ) (books : Books) (month : ℕ) where
   batch_at number branch = filter (λ charge. nat_eq (batch_of size books month branch charge) number) (dues_of_branch books month branch)
 
   module _ (pos : 1 ≤ size) (keyed : AreKeyed books) where
-    number_of_batch : (number : ℕ) (branch : List ℕ) (charge : Charge) → Among (batch_at number branch) charge → Among (dues_of_branch books month branch) charge × (batch_of size books month branch charge ≡ number)
+    number_of_batch : (number : ℕ) (branch : List ℕ) (charge : Charge) → Among (batch_at number branch) charge
+        → Among (dues_of_branch books month branch) charge × (batch_of size books month branch charge ≡ number)
     number_of_batch number branch charge a =
         let kept = in_filter (λ charge. nat_eq (batch_of size books month branch charge) number) (dues_of_branch books month branch) charge a in
         (kept.0, (numbers (batch_of size books month branch charge) number).0 kept.1)
 
     -- a branch's batches come before those of a greater one
-    earlier : (number : ℕ) (a b : List ℕ) (x y : Charge) → Among (keys books.branches) a → IsBefore text_cmp a b → Among (batch_at number a) x → Among (batch_at number b) y → ⊥
+    earlier : (number : ℕ) (a b : List ℕ) (x y : Charge) → Among (keys books.branches) a → IsBefore text_cmp a b → Among (batch_at number a) x
+        → Among (batch_at number b) y → ⊥
     earlier number a b x y h less p q =
         let own = own_is_before (batches_of_branch size books month) text_cmp text_total (keys books.branches) a b h less in
         let first = number_of_batch number a x p in
         let second = number_of_batch number b y q in
         let until = each_due_has_its_batch size books month a x pos keyed.leases (is_among (dues_of_branch books month a) x first.0) in
-        let from : batches_before size books month b ≤ batch_of size books month b y = le-add_right (batches_before size books month b) (place_among size (dues_of_branch books month b) y / size) in
+        let from : batches_before size books month b ≤ batch_of size books month b y =
+        le-add_right (batches_before size books month b) (place_among size (dues_of_branch books month b) y / size) in
         omega (arith, own, until, from, first.1, second.1)
 
-    by_order : (r : Ordering) (number : ℕ) (a b : List ℕ) (x y : Charge) → text_cmp a b ≡ r → Among (keys books.branches) a → Among (keys books.branches) b → Among (batch_at number a) x → Among (batch_at number b) y → a ≡ b
+    by_order : (r : Ordering) (number : ℕ) (a b : List ℕ) (x y : Charge) → text_cmp a b ≡ r → Among (keys books.branches) a → Among (keys books.branches) b
+        → Among (batch_at number a) x → Among (batch_at number b) y → a ≡ b
     by_order Less number a b x y e h g p q = absurd (earlier number a b x y h (ap is_lt e) p q)
     by_order Equal number a b x y e h g p q = text_ties a b e
     by_order Greater number a b x y e h g p q = absurd (earlier number b a y x g (ap is_lt (text_total.antisymm b a ∙ ap ordering_reverse e)) q p)
@@ -86,8 +92,10 @@ module _ (size : ℕ) (books : Books) (month : ℕ) where
     keys_differ : Rises Differ (keys books.branches)
     keys_differ =
         rises_by (IsBefore text_cmp) Differ
-        (λ x y before same. let itself : IsBefore text_cmp x x = subst (λ k. IsBefore text_cmp x k) (sym same) before in let never = ap is_lt (tied_itself text_total x) in cc)
-        (keys books.branches) (keys_rise text_cmp (entries books.branches) (holds (is_sorted text_cmp (entries books.branches)) (entries_sorted books.branches)))
+        (λ x y before same. let itself : IsBefore text_cmp x x = subst (λ k. IsBefore text_cmp x k) (sym same) before in
+        let never = ap is_lt (tied_itself text_total x) in cc)
+        (keys books.branches)
+        (keys_rise text_cmp (entries books.branches) (holds (is_sorted text_cmp (entries books.branches)) (entries_sorted books.branches)))
 
     -- a batch has no more charges than the size
     pub batch_is_small : (number : ℕ) → length (flat_map (batch_at number) (keys books.branches)) ≤ size
@@ -97,16 +105,19 @@ module _ (size : ℕ) (books : Books) (month : ℕ) where
 
     module _ (rules : MeetsRules books size) (done : ℕ) (posted : ArePosted books size month done) where
       -- a charge after the next batch was there, or is of it
-      was_or_new : (charge : Charge) → Among (values (with_posted size books month (done + 1)).charges) charge → Among (flat_map (batch_at done) (keys books.branches) ++ values books.charges) charge
+      was_or_new : (charge : Charge) → Among (values (with_posted size books month (done + 1)).charges) charge
+          → Among (flat_map (batch_at done) (keys books.branches) ++ values books.charges) charge
       was_or_new charge a =
           let new = flat_map (batch_at done) (keys books.branches) in
-          elim (value_of_replaced charge_key charge_month nats_total nats_tie books.charges month (posted_charges size books month (done + 1)) (charges_fit size books keyed rules month (done + 1)) charge a) [
+          elim (value_of_replaced charge_key charge_month nats_total nats_tie books.charges month (posted_charges size books month (done + 1))
+          (charges_fit size books keyed rules month (done + 1)) charge a) [
             | inl is ↦
                 let p = is_posted size books month (done + 1) charge is in
                 elim (cases_lt (batch_of size books month p.branch charge) done) [
                   | inl less ↦
                       let before = of_posted size books month done charge (record { branch = p.branch; of = p.of; due = p.due; early = less }) in
-                      let here = among (charges_in books month) charge ((posted.charges charge).1 (is_among (posted_charges size books month done) charge before)) in
+                      let here = among (charges_in books month) charge
+                      ((posted.charges charge).1 (is_among (posted_charges size books month done) charge before)) in
                       among_right new (values books.charges) charge (in_rows charge_key charge_month nats_total nats_tie books.charges month charge here).0
                   | inr later ↦
                       let last = p.early in

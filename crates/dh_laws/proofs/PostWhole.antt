@@ -32,8 +32,10 @@ module _ (size : ℕ) (books : Books) (keyed : AreKeyed books) (rules : MeetsRul
   pub completed_same : (row : Run) (n : ℕ) → completed size (with_posted size books row.month n) (Some row) ≡ completed size books (Some row)
   completed_same row n =
       let all = batches size books row.month in
-      let charges = others_stay charge_key charge_month nats_total nats_tie books.charges row.month (posted_charges size books row.month n) (charges_fit size books keyed rules row.month n) in
-      let parts = others_stay part_key part_month nat_text_total nat_text_ties books.parts row.month (posted_parts size books row.month n) (parts_fit size books keyed rules row.month n) in
+      let charges = others_stay charge_key charge_month nats_total nats_tie books.charges row.month (posted_charges size books row.month n)
+      (charges_fit size books keyed rules row.month n) in
+      let parts = others_stay part_key part_month nat_text_total nat_text_ties books.parts row.month (posted_parts size books row.month n)
+      (parts_fit size books keyed rules row.month n) in
       λ i. record books {
         charges = with_rows charge_key (posted_charges size books row.month all) (charges i);
         parts = with_rows part_key (posted_parts size books row.month all) (parts i);
@@ -56,6 +58,7 @@ next_batch_keeps_the_whole size books month done pos order more =
         shown = (row, shown, own, are_posted size books keyed rules month (done + 1) row here few);
       },
       ap (completed size (with_posted size books month (done + 1))) shown
-          ∙ subst (λ m. completed size (with_posted size books m (done + 1)) (Some row) ≡ completed size books (Some row)) own (completed_same size books keyed rules row (done + 1))
+          ∙ subst (λ m. completed size (with_posted size books m (done + 1)) (Some row) ≡ completed size books (Some row)) own
+          (completed_same size books keyed rules row (done + 1))
           ∙ sym (ap (completed size books) shown),
     )

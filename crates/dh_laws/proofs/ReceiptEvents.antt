@@ -40,7 +40,8 @@ module _ (size : ℕ) (P : Books → Type 0) (steps : StepsKeep size P) (wholes 
   mended_keeps b a is p = subst Of (sym is) (subst P (sym (wholes (whole size b.books) p)) p)
 
   -- past the events: the tables that they leave have it, and the rest follows those
-  pub through : (events rest : List (Event × Tables)) (t : Tables) → AreEntered events → Follow size t (events ++ rest) → Of t → (last : Tables) × Of last × Follow size last rest
+  pub through : (events rest : List (Event × Tables)) (t : Tables) → AreEntered events → Follow size t (events ++ rest) → Of t → (last : Tables) × Of last
+      × Follow size last rest
   through [] rest t e f p = (t, p, f)
   through ((Said it answer, a) ∷ events) rest t e f p = through events rest a e.1 f.2 (said_keeps it answer t a e.0 f.1 p)
   through ((Cut it, a) ∷ events) rest t e f p = through events rest a e.1 f.2 (cut_keeps it t a e.0 f.1 p)

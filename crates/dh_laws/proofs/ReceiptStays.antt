@@ -123,7 +123,8 @@ acknowledged_receipts_stay size start after said before later order number pos i
     let paid : List (Event × Tables) = (Said (command.Receipt order) (reply.Receipt number), said) ∷ later in
     let end : List (Event × Tables) = (Mended, after) ∷ [] in
     let joined = subst (Follow size start) (append_assoc before paid end) follow in
-    let first = through size (IsKept size) (kept_steps size pos) (kept_whole size) before (paid ++ end) start both.0 joined (record { keyed = law.0; lawful = law.1 }) in
+    let first = through size (IsKept size) (kept_steps size pos) (kept_whole size) before (paid
+    ++ end) start both.0 joined (record { keyed = law.0; lawful = law.1 }) in
     let is = first.2.1 in
     let new = told size (state_of size first.0) order number (ap (λ (r : State × Reply). r.1) is) in
     let has : HasFor size number row (whole size said.books) = record {

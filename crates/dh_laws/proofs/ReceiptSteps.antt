@@ -75,8 +75,10 @@ module _ (number : ℕ) (receipt : Receipt) where
   resumed_has size books count (Some run) h =
       let all = batches size books run.month in
       either_has (nat_le all (run.done + count))
-      (record { books = books; open_run = None }, reply.Posted (posted_sum run.month (get books.runs run.month)))
-      (record { books = books; open_run = Some (record { month = run.month; done = run.done + count }) }, reply.Part (record { month = run.month; done = run.done + count; of = all }))
+      (record { books = books; open_run = None }, reply.Posted (posted_sum run.month (get books.runs run.month))) (
+        record { books = books; open_run = Some (record { month = run.month; done = run.done + count }) },
+        reply.Part (record { month = run.month; done = run.done + count; of = all }),
+      )
       h h
 
   module _ (size : ℕ) (s : State) (keyed : AreKeyed s.books) (keys : KeysInOrder s.books) where
@@ -86,7 +88,8 @@ module _ (number : ℕ) (receipt : Receipt) where
     carried_has : (told : Command) (rows : Change) → verdict_on s.books s.open_run told ≡ verdict.Change rows → Has s.books → Carried told rows
     carried_has (command.Run order) rows e h = subst (Carried (command.Run order)) (sym (run_case s.books s.open_run rows order e).0) h
     carried_has (command.Open order) rows e h = subst (Carried (command.Open order)) (sym (run_case s.books s.open_run rows order e).0) h
-    carried_has (command.Post count) rows e h = subst (Carried (command.Post count)) (sym (post_case s.books s.open_run rows count e).0) (resumed_has size s.books count s.open_run h)
+    carried_has (command.Post count) rows e h =
+        subst (Carried (command.Post count)) (sym (post_case s.books s.open_run rows count e).0) (resumed_has size s.books count s.open_run h)
     carried_has told rows e h = changed_has s.books keyed keys s.open_run rows (accepted s.books s.open_run rows told e) h
 
     settled_has : (told : Command) (v : Verdict) → verdict_on s.books s.open_run told ≡ v → Has s.books → Has (settled size s told v).0.books

@@ -46,7 +46,8 @@ module _ (size : ℕ) where
   keeps_the_run s order (verdict.Refused why) = refl
 
   -- what is told over books with no run is told in the state of them
-  told_in : (s : State) (it : Command) (kept : Reply) → s.open_run ≡ None → step size (with_no_run s.books) it ≡ (with_no_run s.books, kept) → step size s it ≡ (s, kept)
+  told_in : (s : State) (it : Command) (kept : Reply) → s.open_run ≡ None → step size (with_no_run s.books) it ≡ (with_no_run s.books, kept)
+      → step size s it ≡ (s, kept)
   told_in s it kept none h =
       let same : with_no_run s.books ≡ s = λ i. record { books = s.books; open_run = sym none i } in
       subst (λ (t : State). step size t it ≡ (t, kept)) same h
@@ -74,10 +75,12 @@ module _ (size : ℕ) where
         → step size after (command.Receipt order) ≡ (after, reply.AlreadyReceipt number)
     receipt_again order after number e =
         let row : Receipt = record { number = number; key = order.key; payment = order.payment } in
-        let has : get after.books.receipts number ≡ Some row = subst (Has number row) (ap (λ (r : State × Reply). r.0.books) e) (told size (with_no_run books) order number (ap answer e)) in
+        let has : get after.books.receipts number ≡ Some row =
+        subst (Has number row) (ap (λ (r : State × Reply). r.0.books) e) (told size (with_no_run books) order number (ap answer e)) in
         let kept : IsKept size after.books = subst (λ (r : State × Reply). IsKept size r.0.books) e
         (kept_steps size pos (with_no_run books) (command.Receipt order) tt (record { keyed = keyed; lawful = lawful })) in
-        let none : after.open_run ≡ None = sym (ap (λ (r : State × Reply). r.0.open_run) e) ∙ keeps_the_run (with_no_run books) order (verdict_on books None (command.Receipt order)) in
+        let none : after.open_run ≡ None =
+        sym (ap (λ (r : State × Reply). r.0.open_run) e) ∙ keeps_the_run (with_no_run books) order (verdict_on books None (command.Receipt order)) in
         told_in after (command.Receipt order) (reply.AlreadyReceipt number) none
         ((receipts_repeat size after.books order (kept.lawful.rules Keys)).0 row
         (is_among (values after.books.receipts) row (of_row nat_total nat_ties after.books.receipts number row has), refl) refl)
@@ -95,7 +98,8 @@ module _ (size : ℕ) where
           (openings_repeat size after order keys).0 row has next,
         )
 
-    posted_again : (order : RunOrder) (after : State) (sum : RunSum) → step size (with_no_run books) (command.Run order) ≡ (after, reply.Posted sum) → IsToldPosted size after order sum
+    posted_again : (order : RunOrder) (after : State) (sum : RunSum) → step size (with_no_run books) (command.Run order) ≡ (after, reply.Posted sum)
+        → IsToldPosted size after order sum
     posted_again order after sum e =
         let was = was_posted size (with_no_run books) order sum (ap answer e) in
         let is : after ≡ with_no_run (ran size books order.key) = sym (ap state e) ∙ was.state in
@@ -104,15 +108,19 @@ module _ (size : ℕ) where
         subst (λ (s : State). IsToldPosted size s order sum) (sym is)
         (subst (IsToldPosted size (with_no_run (ran size books order.key)) order) (sym was.sum_is) (run_again order was.month kept))
 
-    opened_again : (order : RunOrder) (opened after : State) (month count : ℕ) (sum : RunSum) → step size (with_no_run books) (command.Open order) ≡ (opened, reply.Opened month)
+    opened_again : (order : RunOrder) (opened after : State) (month count : ℕ) (sum : RunSum)
+        → step size (with_no_run books) (command.Open order) ≡ (opened, reply.Opened month)
         → step size opened (command.Post count) ≡ (after, reply.Posted sum) → IsToldPosted size after order sum
     opened_again order opened after month count sum e f =
         let was = was_opened size (with_no_run books) order month (ap answer e) in
-        let is : opened ≡ record { books = ran size books order.key; open_run = Some (record { month = order.month; done = 0 }) } = sym (ap state e) ∙ was.state in
+        let is : opened ≡ record { books = ran size books order.key; open_run = Some (record { month = order.month; done = 0 }) } =
+        sym (ap state e) ∙ was.state in
         let kept : IsKept size (ran size books order.key) = subst (λ (s : State). IsKept size s.books) was.state
         (kept_steps size pos (with_no_run books) (command.Open order) tt (record { keyed = keyed; lawful = lawful })) in
-        let all = all_posted (ran size books order.key) order.month count after sum (subst (λ (s : State). step size s (command.Post count) ≡ (after, reply.Posted sum)) is f) in
-        let told_sum : sum ≡ sum_of (made size (with_no_run books) order) = all.1 ∙ ap (posted_sum order.month) (made_there size (with_no_run books) order was.next) in
+        let all = all_posted (ran size books order.key) order.month count after sum
+        (subst (λ (s : State). step size s (command.Post count) ≡ (after, reply.Posted sum)) is f) in
+        let told_sum : sum ≡ sum_of (made size (with_no_run books) order) =
+        all.1 ∙ ap (posted_sum order.month) (made_there size (with_no_run books) order was.next) in
         subst (λ (s : State). IsToldPosted size s order sum) (sym all.0)
         (subst (IsToldPosted size (with_no_run (ran size books order.key)) order) (sym told_sum) (run_again order was.next kept))
 

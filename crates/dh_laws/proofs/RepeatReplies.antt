@@ -24,8 +24,10 @@ use Rattle.dh_model.specs.Checks.{receipt_of_key, run_of_key, unless}
 use Rattle.dh_model.specs.Machine.{accepted, carried_out, posted_sum, resumed, settled, step}
 use Rattle.dh_model.specs.Rules.{KeysInOrder}
 use Rattle.dh_model.specs.Runs.{batches, sum_of}
-use Rattle.dh_model.specs.Verdicts.{judged, opened_run, receipt_checks, receipt_verdict, run_verdict, unless_paid, unless_posted, unless_receipt, unless_run, verdict_on}
-use Rattle.dh_laws.specs.Repeating.{Gets, IsReceiptOf, IsRunOf, NothingNewChangesNothing, ReceiptsRepeat, RepeatsGetTheirReply, RunsRepeat, is_of_nothing_new, with_no_run}
+use Rattle.dh_model.specs.Verdicts.{judged, opened_run, receipt_checks, receipt_verdict, run_verdict, unless_paid, unless_posted, unless_receipt, unless_run}
+use Rattle.dh_model.specs.Verdicts.{verdict_on}
+use Rattle.dh_laws.specs.Repeating.{Gets, IsReceiptOf, IsRunOf, NothingNewChangesNothing, ReceiptsRepeat, RepeatsGetTheirReply, RunsRepeat, is_of_nothing_new}
+use Rattle.dh_laws.specs.Repeating.{with_no_run}
 use Rattle.dh_laws.proofs.FindKeys.{no_receipt, no_run, one_receipt, one_run}
 
 -- ---- what the books say of a used key
@@ -72,9 +74,11 @@ module _ (books : Books) (keys : KeysInOrder books) where
 module _ (size : ℕ) where
   pub receipts_repeat : ReceiptsRepeat size
   receipts_repeat books order keys = (
-    λ receipt is same. ap (settled size (with_no_run books) (command.Receipt order)) (paid_by books keys order true receipt ((same_payment order.payment receipt.payment).1 same) is),
+    λ receipt is same. ap (settled size (with_no_run books) (command.Receipt order))
+        (paid_by books keys order true receipt ((same_payment order.payment receipt.payment).1 same) is),
     λ receipt is differ. ap (settled size (with_no_run books) (command.Receipt order))
-        (paid_by books keys order false receipt (false_from_ne_true (is_same_payment order.payment receipt.payment) (λ yes. differ ((same_payment order.payment receipt.payment).0 yes))) is),
+        (paid_by books keys order false receipt
+        (false_from_ne_true (is_same_payment order.payment receipt.payment) (λ yes. differ ((same_payment order.payment receipt.payment).0 yes))) is),
     λ run is. ap (settled size (with_no_run books) (command.Receipt order)) (paid_by_run books keys order run is),
   )
 
@@ -100,19 +104,27 @@ module _ (size : ℕ) where
   accepted_is_new (change.Receipt it) h = cc
   accepted_is_new _ h = cc
 
-  either_is_new : (b : Bool) (x y : State × Reply) → (is_of_nothing_new x.1 ≡ true → ⊥) → (is_of_nothing_new y.1 ≡ true → ⊥) → is_of_nothing_new (if b then x else y).1 ≡ true → ⊥
+  either_is_new : (b : Bool) (x y : State × Reply) → (is_of_nothing_new x.1 ≡ true → ⊥) → (is_of_nothing_new y.1 ≡ true → ⊥)
+      → is_of_nothing_new (if b then x else y).1 ≡ true → ⊥
   either_is_new true x y p q h = p h
   either_is_new false x y p q h = q h
 
-  resumed_stays : (s : State) (count : ℕ) (run : Option OpenRun) → s.open_run ≡ run → is_of_nothing_new (resumed size s.books count run).1 ≡ true → (resumed size s.books count run).0 ≡ s
+  resumed_stays : (s : State) (count : ℕ) (run : Option OpenRun) → s.open_run ≡ run → is_of_nothing_new (resumed size s.books count run).1 ≡ true
+      → (resumed size s.books count run).0 ≡ s
   resumed_stays s count None e h = λ i. record { books = s.books; open_run = sym e i }
   resumed_stays s count (Some run) e h =
       let all = batches size s.books run.month in
-      absurd (either_is_new (nat_le all (run.done + count)) (record { books = s.books; open_run = None }, reply.Posted (posted_sum run.month (get s.books.runs run.month)))
-      (record { books = s.books; open_run = Some (record { month = run.month; done = run.done + count }) }, reply.Part (record { month = run.month; done = run.done + count; of = all }))
+      absurd (either_is_new (nat_le all (run.done + count)) (
+        record { books = s.books; open_run = None },
+        reply.Posted (posted_sum run.month (get s.books.runs run.month)),
+      ) (
+        record { books = s.books; open_run = Some (record { month = run.month; done = run.done + count }) },
+        reply.Part (record { month = run.month; done = run.done + count; of = all }),
+      )
       (λ new. cc) (λ new. cc) h)
 
-  carried_stays : (s : State) (told : Command) (rows : Change) → is_of_nothing_new (carried_out size s told rows).1 ≡ true → (carried_out size s told rows).0 ≡ s
+  carried_stays : (s : State) (told : Command) (rows : Change) → is_of_nothing_new (carried_out size s told rows).1 ≡ true
+      → (carried_out size s told rows).0 ≡ s
   carried_stays s (command.Run order) (change.Open row) h = cc
   carried_stays s (command.Run order) rows h = absurd (accepted_is_new rows h)
   carried_stays s (command.Open order) (change.Open row) h = cc

@@ -60,7 +60,8 @@ module _ (size : ℕ) where
         let answered : List (Event × Tables) = (Said told answer, said) ∷ later in
         let end : List (Event × Tables) = (Mended, after) ∷ [] in
         let joined = subst (Follow size start) (append_assoc before answered end) follow in
-        let first = through size (IsKept size) (kept_steps size pos) (kept_whole size) before (answered ++ end) start both.0 joined (record { keyed = law.0; lawful = law.1 }) in
+        let first = through size (IsKept size) (kept_steps size pos) (kept_whole size) before (answered
+        ++ end) start both.0 joined (record { keyed = law.0; lawful = law.1 }) in
         let is = first.2.1 in
         let new = puts (state_of size first.0) (ap (λ (r : State × Reply). r.1) is) in
         let row = new.0 in
@@ -76,25 +77,35 @@ module _ (size : ℕ) where
   posted_puts order sum s told =
       let was = was_posted size s order sum told in
       let books : (step size s (command.Run order)).0.books ≡ ran size s.books order.key = ap (λ (t : State). t.books) was.state in
-      let row = made size s order in
-      (row, (sym was.month, refl, sym was.sum_is), subst (HasRun row) (sym books) (ap (get (ran size s.books order.key).runs) (sym was.month) ∙ made_there size s order was.month))
+      let row = made size s order in (
+        row,
+        (sym was.month, refl, sym was.sum_is),
+        subst (HasRun row) (sym books) (ap (get (ran size s.books order.key).runs) (sym was.month)
+            ∙ made_there size s order was.month),
+      )
 
   opened_puts : (order : RunOrder) (month : ℕ) (s : State) → (step size s (command.Open order)).1 ≡ reply.Opened month
       → (row : Run) × ((row.month ≡ order.month) × (row.key ≡ order.key) × (month ≡ order.month)) × HasRun row (step size s (command.Open order)).0.books
   opened_puts order month s told =
       let was = was_opened size s order month told in
       let books : (step size s (command.Open order)).0.books ≡ ran size s.books order.key = ap (λ (t : State). t.books) was.state in
-      let row = made size s order in
-      (row, (sym was.next, refl, was.month_is), subst (HasRun row) (sym books) (ap (get (ran size s.books order.key).runs) (sym was.next) ∙ made_there size s order was.next))
+      let row = made size s order in (
+        row,
+        (sym was.next, refl, was.month_is),
+        subst (HasRun row) (sym books) (ap (get (ran size s.books order.key).runs) (sym was.next)
+            ∙ made_there size s order was.next),
+      )
 
 pub acknowledged_runs_stay : (size : ℕ) → AcknowledgedRunsStay size
 acknowledged_runs_stay size start after said before later order pos in_order entered = (
   λ sum follow.
-      let kept = stays size (command.Run order) (reply.Posted sum) (λ row. (row.month ≡ order.month) × (row.key ≡ order.key) × (sum_of row ≡ sum)) tt (posted_puts size order sum)
+      let kept = stays size (command.Run order) (reply.Posted sum) (λ row. (row.month ≡ order.month) × (row.key ≡ order.key)
+      × (sum_of row ≡ sum)) tt (posted_puts size order sum)
       start after said before later pos in_order entered follow in
       (kept.0, closed_for size order kept.0 after.books kept.1.0 kept.1.1 kept.2, kept.1.2),
   λ month follow.
-      let kept = stays size (command.Open order) (reply.Opened month) (λ row. (row.month ≡ order.month) × (row.key ≡ order.key) × (month ≡ order.month)) tt (opened_puts size order month)
+      let kept = stays size (command.Open order) (reply.Opened month) (λ row. (row.month ≡ order.month) × (row.key ≡ order.key)
+      × (month ≡ order.month)) tt (opened_puts size order month)
       start after said before later pos in_order entered follow in
       (kept.0, closed_for size order kept.0 after.books kept.1.0 kept.1.1 kept.2, kept.1.2),
 )

@@ -67,8 +67,10 @@ module _ (run : Run) where
   resumed_has size books count (Some at) h =
       let all = batches size books at.month in
       either_has (nat_le all (at.done + count))
-      (record { books = books; open_run = None }, reply.Posted (posted_sum at.month (get books.runs at.month)))
-      (record { books = books; open_run = Some (record { month = at.month; done = at.done + count }) }, reply.Part (record { month = at.month; done = at.done + count; of = all }))
+      (record { books = books; open_run = None }, reply.Posted (posted_sum at.month (get books.runs at.month))) (
+        record { books = books; open_run = Some (record { month = at.month; done = at.done + count }) },
+        reply.Part (record { month = at.month; done = at.done + count; of = all }),
+      )
       h h
 
   module _ (size : ℕ) (s : State) (runs : RunsInOrder s.books) where
@@ -76,13 +78,16 @@ module _ (run : Run) where
     Carried told rows = HasRun (carried_out size s told rows).0.books
 
     -- a run is made in the next month
-    beside_made : (key : List ℕ) → HasRun s.books → get (insert s.books.runs s.books.next (closed_run s.books.next key (dues s.books s.books.next))) run.month ≡ Some run
+    beside_made : (key : List ℕ) → HasRun s.books
+        → get (insert s.books.runs s.books.next (closed_run s.books.next key (dues s.books s.books.next))) run.month ≡ Some run
     beside_made key h = beside_another s.books runs (closed_run s.books.next key (dues s.books s.books.next)) s.books.next refl h
 
     carried_has : (told : Command) (rows : Change) → verdict_on s.books s.open_run told ≡ verdict.Change rows → HasRun s.books → Carried told rows
     carried_has (command.Run order) rows e h = subst (Carried (command.Run order)) (sym (run_case s.books s.open_run rows order e).0) (beside_made order.key h)
-    carried_has (command.Open order) rows e h = subst (Carried (command.Open order)) (sym (run_case s.books s.open_run rows order e).0) (beside_made order.key h)
-    carried_has (command.Post count) rows e h = subst (Carried (command.Post count)) (sym (post_case s.books s.open_run rows count e).0) (resumed_has size s.books count s.open_run h)
+    carried_has (command.Open order) rows e h =
+        subst (Carried (command.Open order)) (sym (run_case s.books s.open_run rows order e).0) (beside_made order.key h)
+    carried_has (command.Post count) rows e h =
+        subst (Carried (command.Post count)) (sym (post_case s.books s.open_run rows count e).0) (resumed_has size s.books count s.open_run h)
     carried_has told rows e h = changed_has s.books runs s.open_run rows (accepted s.books s.open_run rows told e) h
 
     settled_has : (told : Command) (v : Verdict) → verdict_on s.books s.open_run told ≡ v → HasRun s.books → HasRun (settled size s told v).0.books

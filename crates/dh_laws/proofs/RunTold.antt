@@ -90,7 +90,8 @@ module _ (size : ℕ) (s : State) (order : RunOrder) where
         sum_is = sym is ∙ ap (posted_sum order.month) (made_there next);
       }
 
-  posted_by : (v : Verdict) (sum : RunSum) → verdict_on s.books s.open_run (command.Open order) ≡ v → (settled size s (command.Run order) v).1 ≡ reply.Posted sum
+  posted_by : (v : Verdict) (sum : RunSum) → verdict_on s.books s.open_run (command.Open order) ≡ v
+      → (settled size s (command.Run order) v).1 ≡ reply.Posted sum
       → IsPosted sum (settled size s (command.Run order) v).0
   posted_by (verdict.Change rows) sum e h = let case = run_case s.books s.open_run rows order e in posted_rows rows sum case.0 case.1.month h
   posted_by (verdict.Already kept) sum e h = let is = (of_run kept e).1 in cc
@@ -106,7 +107,8 @@ module _ (size : ℕ) (s : State) (order : RunOrder) where
       let is : order.month ≡ month = cc in
       record { next = next; state = ap (λ r. (carried_out size s (command.Open order) r).0) same; month_is = sym is }
 
-  opened_by : (v : Verdict) (month : ℕ) → verdict_on s.books s.open_run (command.Open order) ≡ v → (settled size s (command.Open order) v).1 ≡ reply.Opened month
+  opened_by : (v : Verdict) (month : ℕ) → verdict_on s.books s.open_run (command.Open order) ≡ v
+      → (settled size s (command.Open order) v).1 ≡ reply.Opened month
       → IsOpened month (settled size s (command.Open order) v).0
   opened_by (verdict.Change rows) month e h = let case = run_case s.books s.open_run rows order e in opened_rows rows month case.0 case.1.month h
   opened_by (verdict.Already kept) month e h = let is = (of_run kept e).1 in cc

@@ -1,5 +1,6 @@
 -- Leases, receipts and keys stay in order after every change.
-use Rattle.std.proofs.Common.{◌≡◌, ◌≢◌, ◌∙◌, refl, sym, ap, subst, inl, inr, ℕ, ◌+◌, ◌*◌, ◌≤◌, false, ◌&&◌, cond, nat_eq, List, [], ◌∷◌, ◌++◌, map, Option, Some, None, IfSome, AllPairs, is_some, arith}
+use Rattle.std.proofs.Common.{◌≡◌, ◌≢◌, ◌∙◌, refl, sym, ap, subst, inl, inr, ℕ, ◌+◌, ◌*◌, ◌≤◌, false, ◌&&◌, cond, nat_eq, List, [], ◌∷◌, ◌++◌, map, Option}
+use Rattle.std.proofs.Common.{Some, None, IfSome, AllPairs, is_some, arith}
 use Rattle.std.specs.FinMap.{get, insert, len, len-insert, values}
 use Rattle.std.proofs.lemmas.Bool.{false_from_ne_true, and_parts, and_from}
 use Rattle.dh_values.specs.declared.receipt_kind.ReceiptKind.TheVariants.{Deposit}
@@ -53,17 +54,25 @@ settled_alike b c same s =
     let keys = s.keys in
     record {
       overlaps = subst (λ leases. EachTwo leases (λ lease other. overlap lease.terms other.terms ≡ false)) (sym same.leases) s.overlaps;
-      starts = subst (λ leases. EachTwo leases (λ lease other. (is_same_text lease.terms.client other.terms.client && nat_eq lease.terms.start other.terms.start) ≡ false)) (sym same.leases) s.starts;
-      terms = subst (λ leases. Each leases (λ lease. (3 ≤ lease.terms.months) × (lease.terms.months ≤ 12) × (c.first ≤ month_of_day lease.terms.start))) (sym same.leases)
-          (subst (λ first. Each b.leases (λ lease. (3 ≤ lease.terms.months) × (lease.terms.months ≤ 12) × (first ≤ month_of_day lease.terms.start))) (sym same.first) s.terms);
+      starts = subst (λ leases. EachTwo leases (λ lease other. (is_same_text lease.terms.client other.terms.client
+          && nat_eq lease.terms.start other.terms.start) ≡ false)) (sym same.leases) s.starts;
+      terms = subst (λ leases. Each leases (λ lease. (3 ≤ lease.terms.months) × (lease.terms.months ≤ 12) × (c.first ≤ month_of_day lease.terms.start)))
+          (sym same.leases)
+          (subst (λ first. Each b.leases (λ lease. (3 ≤ lease.terms.months) × (lease.terms.months ≤ 12) × (first ≤ month_of_day lease.terms.start)))
+          (sym same.first) s.terms);
       deposits = record {
-        amounts = subst (λ receipts. Each receipts (λ receipt. receipt.payment.kind ≡ Deposit → IfSome (get c.leases receipt.payment.lease) (λ lease. receipt.payment.amount ≡ 2 * lease.rent))) (sym same.receipts)
-            (subst (λ leases. Each b.receipts (λ receipt. receipt.payment.kind ≡ Deposit → IfSome (get leases receipt.payment.lease) (λ lease. receipt.payment.amount ≡ 2 * lease.rent))) (sym same.leases) deposits.amounts);
-        one_each = subst (λ receipts. EachTwo receipts (λ receipt other. receipt.payment.kind ≡ Deposit → other.payment.kind ≡ Deposit → receipt.payment.lease ≢ other.payment.lease)) (sym same.receipts) deposits.one_each;
+        amounts = subst (λ receipts. Each receipts (λ receipt. receipt.payment.kind ≡ Deposit
+            → IfSome (get c.leases receipt.payment.lease) (λ lease. receipt.payment.amount ≡ 2 * lease.rent))) (sym same.receipts)
+            (subst (λ leases. Each b.receipts (λ receipt. receipt.payment.kind ≡ Deposit
+            → IfSome (get leases receipt.payment.lease) (λ lease. receipt.payment.amount ≡ 2 * lease.rent))) (sym same.leases) deposits.amounts);
+        one_each = subst (λ receipts. EachTwo receipts (λ receipt other. receipt.payment.kind ≡ Deposit → other.payment.kind ≡ Deposit
+            → receipt.payment.lease ≢ other.payment.lease)) (sym same.receipts) deposits.one_each;
       };
       keys = record {
-        keys = subst (λ receipts. AllPairs (λ key other. is_same_text key other ≡ false) (map (λ receipt. receipt.key) (values receipts) ++ map (λ run. run.key) (values c.runs))) (sym same.receipts)
-            (subst (λ runs. AllPairs (λ key other. is_same_text key other ≡ false) (map (λ receipt. receipt.key) (values b.receipts) ++ map (λ run. run.key) (values runs))) (sym same.runs) keys.keys);
+        keys = subst (λ receipts. AllPairs (λ key other. is_same_text key other ≡ false) (map (λ receipt. receipt.key) (values receipts)
+            ++ map (λ run. run.key) (values c.runs))) (sym same.receipts)
+            (subst (λ runs. AllPairs (λ key other. is_same_text key other ≡ false) (map (λ receipt. receipt.key) (values b.receipts)
+            ++ map (λ run. run.key) (values runs))) (sym same.runs) keys.keys);
         numbers = subst (λ receipts. Each receipts (λ receipt. (1 ≤ receipt.number) × (receipt.number ≤ len receipts))) (sym same.receipts) keys.numbers;
       };
     }
@@ -94,7 +103,8 @@ module _ (b : Books) (keyed : AreKeyed b) (settled : AreSettled b) where
   run_keys = map (λ (run : Run). run.key) (values b.runs)
 
   -- a new key differs from each, both ways
-  new_key_apart : (key : List ℕ) → IsNewKey b key → (other : List ℕ) → Among (receipt_keys ++ run_keys) other → (is_same_text other key ≡ false) × (is_same_text key other ≡ false)
+  new_key_apart : (key : List ℕ) → IsNewKey b key → (other : List ℕ) → Among (receipt_keys ++ run_keys) other → (is_same_text other key ≡ false)
+      × (is_same_text key other ≡ false)
   new_key_apart key new other a = elim (in_append receipt_keys run_keys other a) [
     | inl r ↦
         let of = in_map (λ (receipt : Receipt). receipt.key) (values b.receipts) other r in
@@ -112,7 +122,8 @@ module _ (b : Books) (keyed : AreKeyed b) (settled : AreSettled b) where
   with_key key new front back keys was is =
       let own = settled.keys in
       let rises : Rises (λ k other. is_same_text k other ≡ false) (front ++ back)
-      = subst (Rises (λ k other. is_same_text k other ≡ false)) was (pairs_rise (λ k other. is_same_text k other ≡ false) (receipt_keys ++ run_keys) own.keys) in
+      = subst (Rises (λ k other. is_same_text k other ≡ false)) was (pairs_rise (λ k other. is_same_text k other ≡ false) (receipt_keys
+      ++ run_keys) own.keys) in
       rising_pairs (λ k other. is_same_text k other ≡ false) keys
       (subst (Rises (λ k other. is_same_text k other ≡ false)) (sym is) (rises_put (λ k other. is_same_text k other ≡ false) front back key rises
       (λ other a. new_key_apart key new other (subst (λ ks. Among ks other) (sym was) a))))
@@ -139,9 +150,12 @@ module _ (b : Books) (keyed : AreKeyed b) (settled : AreSettled b) where
         record {
           keys = with_key it.key adds.key (map (λ (receipt : Receipt). receipt.key) p.before) (map (λ (receipt : Receipt). receipt.key) p.after ++ run_keys)
               (map (λ (receipt : Receipt). receipt.key) (values (insert b.receipts it.number it)) ++ run_keys)
-              (ap (λ receipts. map (λ (receipt : Receipt). receipt.key) receipts ++ run_keys) p.was ∙ map_front (λ (receipt : Receipt). receipt.key) p.before p.after run_keys)
-              (ap (λ receipts. map (λ (receipt : Receipt). receipt.key) receipts ++ run_keys) p.is ∙ map_front (λ (receipt : Receipt). receipt.key) p.before (it ∷ p.after) run_keys);
-          numbers = each_insert nat_total nat_ties b.receipts it.number it (λ receipt. (1 ≤ receipt.number) × (receipt.number ≤ len (insert b.receipts it.number it)))
+              (ap (λ receipts. map (λ (receipt : Receipt). receipt.key) receipts ++ run_keys) p.was
+              ∙ map_front (λ (receipt : Receipt). receipt.key) p.before p.after run_keys)
+              (ap (λ receipts. map (λ (receipt : Receipt). receipt.key) receipts ++ run_keys) p.is
+              ∙ map_front (λ (receipt : Receipt). receipt.key) p.before (it ∷ p.after) run_keys);
+          numbers = each_insert nat_total nat_ties b.receipts it.number it (λ receipt. (1 ≤ receipt.number)
+              × (receipt.number ≤ len (insert b.receipts it.number it)))
               (omega (arith, number), omega (arith, number, more))
               (λ k other apart e. let within = keys.numbers other (is_among (values b.receipts) other (of_row nat_total nat_ties b.receipts k other e)) in
               (within.0, omega (arith, within.1, more)));
@@ -165,11 +179,14 @@ module _ (b : Books) (keyed : AreKeyed b) (settled : AreSettled b) where
         }
 
     pub settled_with_receipt : AreSettled (record b { receipts = insert b.receipts it.number it })
-    settled_with_receipt = record { overlaps = settled.overlaps; starts = settled.starts; terms = settled.terms; deposits = deposits_after_receipt; keys = receipt_keys_after }
+    settled_with_receipt =
+        record { overlaps = settled.overlaps; starts = settled.starts; terms = settled.terms; deposits = deposits_after_receipt; keys = receipt_keys_after }
 
-  pub settled_with_run : (run : Option OpenRun) (it : Run) → OpensRun b run it → RunsInOrder b → AreSettled (record b { runs = insert b.runs it.month it; next = it.month + 1 })
+  pub settled_with_run : (run : Option OpenRun) (it : Run) → OpensRun b run it → RunsInOrder b
+      → AreSettled (record b { runs = insert b.runs it.month it; next = it.month + 1 })
   settled_with_run run it opens runs =
-      let fresh : get b.runs it.month ≡ None = absent (get b.runs it.month) (λ old is. let within = (runs.run it.month).0 (ap is_some is) in let next = opens.month in omega (arith, within.1, next)) in
+      let fresh : get b.runs it.month ≡ None = absent (get b.runs it.month) (λ old is. let within = (runs.run it.month).0 (ap is_some is) in
+      let next = opens.month in omega (arith, within.1, next)) in
       let p = values_new nat_total nat_ties b.runs it.month it fresh in
       let deposits = settled.deposits in
       let keys = settled.keys in
@@ -198,15 +215,18 @@ module _ (b : Books) (keyed : AreKeyed b) (settled : AreSettled b) where
       let both = and_from (is_same_text other.terms.client lease.terms.client) (nat_eq other.terms.start lease.terms.start) client start in
       cc)
 
-  pub settled_with_lease : (run : Option OpenRun) (it : Lease) → AddsLease b run it → (3 ≤ it.terms.months) × (it.terms.months ≤ 12) → RunsInOrder b → NamesWhatIsThere b
+  pub settled_with_lease : (run : Option OpenRun) (it : Lease) → AddsLease b run it → (3 ≤ it.terms.months) × (it.terms.months ≤ 12) → RunsInOrder b
+      → NamesWhatIsThere b
       → AreSettled (record b { leases = insert b.leases it.terms.number it })
   settled_with_lease run it adds limits runs names =
       let deposits = settled.deposits in
       let keys = settled.keys in
       let number = it.terms.number in
       record {
-        overlaps = each_two_insert nat_total nat_ties b.leases it.terms.number it (λ lease other. overlap lease.terms other.terms ≡ false) adds.new settled.overlaps
-            (λ k other e. let free = adds.free other (of_row nat_total nat_ties b.leases k other e) in (overlap_goes_both_ways other.terms it.terms ∙ free, free));
+        overlaps = each_two_insert nat_total nat_ties b.leases it.terms.number it
+            (λ lease other. overlap lease.terms other.terms ≡ false) adds.new settled.overlaps
+            (λ k other e. let free = adds.free other (of_row nat_total nat_ties b.leases k other e) in
+            (overlap_goes_both_ways other.terms it.terms ∙ free, free));
         starts = each_two_insert nat_total nat_ties b.leases it.terms.number it
             (λ lease other. (is_same_text lease.terms.client other.terms.client && nat_eq lease.terms.start other.terms.start) ≡ false) adds.new settled.starts
             (λ k other e. let first = adds.first other (of_row nat_total nat_ties b.leases k other e) in (first, starts_back it other first));
@@ -218,8 +238,10 @@ module _ (b : Books) (keyed : AreKeyed b) (settled : AreSettled b) where
           amounts = λ receipt a kind.
               let its = (there nat_total nat_ties b.leases receipt.payment.lease).0 (names.receipts receipt a) in
               let new = adds.new in
-              let apart : receipt.payment.lease ≢ it.terms.number = λ same. let none : get b.leases receipt.payment.lease ≡ None = ap (get b.leases) same ∙ new in let some = its.1 in cc in
-              subst (λ found. IfSome found (λ lease. receipt.payment.amount ≡ 2 * lease.rent)) (sym (get_other nat_total nat_ties b.leases it.terms.number it receipt.payment.lease apart)) (deposits.amounts receipt a kind);
+              let apart : receipt.payment.lease ≢ it.terms.number = λ same. let none : get b.leases receipt.payment.lease ≡ None =
+              ap (get b.leases) same ∙ new in let some = its.1 in cc in
+              subst (λ found. IfSome found (λ lease. receipt.payment.amount ≡ 2 * lease.rent))
+              (sym (get_other nat_total nat_ties b.leases it.terms.number it receipt.payment.lease apart)) (deposits.amounts receipt a kind);
           one_each = deposits.one_each;
         };
         keys = record { keys = keys.keys; numbers = keys.numbers };
@@ -234,7 +256,8 @@ module _ (b : Books) (run : Option OpenRun) (keyed : AreKeyed b) (settled : AreS
   pub keeps_settled : (rows : Change) → Accepted b run rows → IsLimited rows → AreSettled (changed rows b)
   keeps_settled (change.Assign it) a l = subst (λ found. AreSettled (managed b it found)) (sym a.is) (as_before (managed b it (Some a.row)) refl refl refl refl)
   keeps_settled (change.Rent it) a l = subst (λ found. AreSettled (at_rent b it found)) (sym a.1) (as_before (at_rent b it (Some a.0)) refl refl refl refl)
-  keeps_settled (change.Comment it) a l = subst (λ found. AreSettled (with_comment b it found)) (sym a.1) (as_before (with_comment b it (Some a.0)) refl refl refl refl)
+  keeps_settled (change.Comment it) a l =
+      subst (λ found. AreSettled (with_comment b it found)) (sym a.1) (as_before (with_comment b it (Some a.0)) refl refl refl refl)
   keeps_settled (change.Lease it) a l = settled_with_lease b keyed settled run it a l runs names
   keeps_settled (change.Receipt it) a l = settled_with_receipt b keyed settled run it a
   keeps_settled (change.Open it) a l = settled_with_run b keyed settled run it a runs

@@ -35,7 +35,8 @@ module _ (size : ℕ) (books : Books) (pos : 1 ≤ size) (keyed : AreKeyed books
   under_way row shown = let is = shown_row books row shown in months.under_way row (is_among (values books.runs) row is.0) is.1
 
   -- and at no other
-  only : (row : Run) (done : ℕ) → open_row books ≡ Some row → ArePosted books size row.month done → (other : Option OpenRun) → IsOpenAt size books other → other ≡ Some (at row.month done)
+  only : (row : Run) (done : ℕ) → open_row books ≡ Some row → ArePosted books size row.month done → (other : Option OpenRun) → IsOpenAt size books other
+      → other ≡ Some (at row.month done)
   only row done shown posted None none = let apart : None ≡ Some row = sym none ∙ shown in cc
   only row done shown posted (Some other) is =
       let row_is : is.0 ≡ row = inside is.0 row (sym is.1 ∙ shown) in
@@ -72,7 +73,8 @@ module _ (size : ℕ) (books : Books) (pos : 1 ≤ size) (keyed : AreKeyed books
       shown ∙ ap (λ (r : Run). Some r) (same_row other row is.0 is.1 a is_open)
 
   abbrev Shows : Option Run → Type 0
-  Shows found = (run : Option OpenRun) × IsOpenAt size books run × (is_some run ≡ is_some found) × ((other : Option OpenRun) → IsOpenAt size books other → other ≡ run)
+  Shows found = (run : Option OpenRun) × IsOpenAt size books run × (is_some run ≡ is_some found)
+      × ((other : Option OpenRun) → IsOpenAt size books other → other ≡ run)
 
   only_none : open_row books ≡ None → (other : Option OpenRun) → IsOpenAt size books other → other ≡ None
   only_none none None is = refl

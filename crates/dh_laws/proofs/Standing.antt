@@ -68,7 +68,8 @@ module _ (run : OpenRun) (s : State) where
     pub posted_in_part : (most : ℕ) → s.open_run ≡ Some run → n ≤ most → IsPostedInPart most s t
     posted_in_part most shown few =
         let fits = within in
-        let by : IsMovedBy batch_size (whole batch_size s.books) most s.open_run (Some now) = inr (run, shown, ((refl, omega arith, fits), omega (arith, few))) in
+        let by : IsMovedBy batch_size (whole batch_size s.books) most s.open_run (Some now) =
+        inr (run, shown, ((refl, omega arith, fits), omega (arith, few))) in
         record { books = h.same; run = subst (λ it. IsMovedBy batch_size (whole batch_size s.books) most s.open_run it) (sym h.is) by }
 
     -- where these are all
@@ -78,7 +79,8 @@ module _ (run : OpenRun) (s : State) where
     whole_again : whole batch_size (whole batch_size t.books) ≡ whole batch_size s.books
     whole_again = (at_the_end batch_size t.books t.open_run (omega arith) h.order).same ∙ h.same
 
-    pub closed_in_part : (most : ℕ) (u : State) → s.open_run ≡ Some run → n ≤ most → run.done + n ≡ all_of s run.month → u ≡ closed_state t → IsPostedInPart most s u
+    pub closed_in_part : (most : ℕ) (u : State) → s.open_run ≡ Some run → n ≤ most → run.done + n ≡ all_of s run.month → u ≡ closed_state t
+        → IsPostedInPart most s u
     closed_in_part most u shown few full made =
         let by : IsMovedBy batch_size (whole batch_size s.books) most s.open_run None = inr (run, shown, omega (arith, few, full)) in
         record {
@@ -87,7 +89,10 @@ module _ (run : OpenRun) (s : State) where
         }
 
     abbrev closing : State × Reply
-    closing = (record { books = whole batch_size s.books; open_run = None }, reply.Posted (posted_sum run.month (get (whole batch_size s.books).runs run.month)))
+    closing = (
+      record { books = whole batch_size s.books; open_run = None },
+      reply.Posted (posted_sum run.month (get (whole batch_size s.books).runs run.month)),
+    )
 
     abbrev going_on : ℕ → State × Reply
     going_on count = (
@@ -116,14 +121,19 @@ module _ (run : OpenRun) (s : State) where
 
     -- a `post` that left batches
     pub part_said : s.open_run ≡ Some run → run.done + n < all_of s run.month
-        → Happens batch_size (Said (command.Post n) (reply.Part (record { month = run.month; done = run.done + n; of = all_of s run.month }))) (tables s) (tables t)
+        → Happens batch_size (Said (command.Post n) (reply.Part (record { month = run.month; done = run.done + n; of = all_of s run.month }))) (tables s)
+        (tables t)
     part_said shown more =
         let rest : nat_le (all_of s run.month) (run.done + n) ≡ false = grind (arith, nat_tests, more) in
         posted_as n false shown rest
-        ∙ (λ i. (record { books = sym h.same i; open_run = sym h.is i }, reply.Part (record { month = run.month; done = run.done + n; of = all_of s run.month })))
+        ∙ (λ i. (
+          record { books = sym h.same i; open_run = sym h.is i },
+          reply.Part (record { month = run.month; done = run.done + n; of = all_of s run.month }),
+        ))
 
 -- nothing is posted where no run is open
-pub no_run_said : (most : ℕ) (s t : State) → s.open_run ≡ None → t ≡ s → Happens batch_size (Said (command.Post most) (reply.Refused refusal.NoRun)) (tables s) (tables t)
+pub no_run_said : (most : ℕ) (s t : State) → s.open_run ≡ None → t ≡ s
+    → Happens batch_size (Said (command.Post most) (reply.Refused refusal.NoRun)) (tables s) (tables t)
 no_run_said most s t none same =
     ap (λ it. step batch_size (record { books = whole batch_size s.books; open_run = it }) (command.Post most)) none
     ∙ (λ i. (record { books = whole batch_size s.books; open_run = sym none i }, reply.Refused refusal.NoRun))

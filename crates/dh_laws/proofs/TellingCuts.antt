@@ -24,7 +24,8 @@ use Rattle.dh_laws.proofs.TellingRuns.{at_most, at_most_all, begun_is, none_in_o
 use Rattle.dh_laws.proofs.TellingWhole.{shows_none, whole_itself}
 
 module _ (size : ℕ) where
-  run_done : (s : State) (told : Command) (v : Verdict) (after : Option OpenRun) → after ≡ (settled size s told v).0.open_run → after ≡ (step size s told).0.open_run → RunIfDone size s told v after
+  run_done : (s : State) (told : Command) (v : Verdict) (after : Option OpenRun) → after ≡ (settled size s told v).0.open_run
+      → after ≡ (step size s told).0.open_run → RunIfDone size s told v after
   run_done s (command.Run order) (verdict.Change (change.Open row)) after is same = subst (λ run. IsOfMonth size s.books row.month run) (sym is) tt
   run_done s _ _ after is same = same
 
@@ -51,15 +52,20 @@ module _ (size : ℕ) where
       let itself = whole_itself size before.books (shows_none size before none in_order) in
       let s = state_of size (tables before) in
       let accepted = opening_verdict size before order pos none in_order rows h in
-      let judged : verdict_on (whole size before.books) before.open_run (command.Run order) ≡ verdict.Change (change.Open row) = opening_judged size before order pos none in_order ∙ accepted in
+      let judged : verdict_on (whole size before.books) before.open_run (command.Run order) ≡ verdict.Change (change.Open row) =
+      opening_judged size before order pos none in_order ∙ accepted in
       let at : opened ≡ begun order (change.Open row) before = is ∙ begun_is size before order pos none in_order rows h in
       let made = opened_whole size before.books order pos (none_in_order size before order pos none in_order) accepted in
       let all : batches size (whole size opened.books) order.month ≡ batches size (whole size before.books) order.month =
-      batches_of_whole size opened.books order.month ∙ ap (λ (o : State). batches size o.books order.month) at ∙ sym (batches_of_whole size before.books order.month) in
-      let few = subst (λ n. at_most (batches size (whole size opened.books) order.month) (0 + count) ≤ n) all (at_most_all (batches size (whole size opened.books) order.month) (0 + count)) in
-      let of_month : IsOfMonth size (whole size before.books) row.month after.open_run = subst (λ run. IsOfMonth size (whole size before.books) row.month run) (sym stands) (refl, few) in (
+      batches_of_whole size opened.books order.month ∙ ap (λ (o : State). batches size o.books order.month) at
+      ∙ sym (batches_of_whole size before.books order.month) in
+      let few = subst (λ n. at_most (batches size (whole size opened.books) order.month) (0 + count) ≤ n) all
+      (at_most_all (batches size (whole size opened.books) order.month) (0 + count)) in
+      let of_month : IsOfMonth size (whole size before.books) row.month after.open_run =
+      subst (λ run. IsOfMonth size (whole size before.books) row.month run) (sym stands) (refl, few) in (
         record {
-          books = same ∙ ap (λ (o : State). whole size o.books) at ∙ made ∙ ap (λ b. ran size b order.key) (sym itself) ∙ sym (ap (λ v. (settled size s (command.Run order) v).0.books) judged);
+          books = same ∙ ap (λ (o : State). whole size o.books) at ∙ made ∙ ap (λ b. ran size b order.key) (sym itself)
+              ∙ sym (ap (λ v. (settled size s (command.Run order) v).0.books) judged);
           run = subst (λ v. RunIfDone size s (command.Run order) v after.open_run) (sym judged) of_month;
         },
         ordered,
@@ -85,8 +91,10 @@ other_stands before after (command.Open it) count h = tt
 other_stands before after (command.Post it) count h = tt
 
 -- a run stands as the verdict on it says
-pub judged_stands : (before after : State) (order : RunOrder) (count : ℕ) → before.open_run ≡ None → StandsAt order count (run_verdict before.books order) after → Stands before (Some count) (command.Run order) after
-judged_stands before after order count none h = subst (λ (o : Option OpenRun). StandsAt order count (verdict_on before.books o (command.Run order)) after) (sym none) h
+pub judged_stands : (before after : State) (order : RunOrder) (count : ℕ) → before.open_run ≡ None → StandsAt order count (run_verdict before.books order) after
+    → Stands before (Some count) (command.Run order) after
+judged_stands before after order count none h =
+    subst (λ (o : Option OpenRun). StandsAt order count (verdict_on before.books o (command.Run order)) after) (sym none) h
 
 -- what was answered stands where the machine does
 pub told_stands : (before after : State) (told : Command) (reply : Reply) → IsTold batch_size told reply before after → Stands before None told after

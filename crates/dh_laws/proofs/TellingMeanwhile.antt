@@ -17,13 +17,15 @@ use Rattle.dh_laws.specs.Passing.{is_free}
 use Rattle.dh_laws.proofs.KeepOrder.{changes_keep_order}
 use Rattle.dh_laws.proofs.PassChanges.{free_changes_pass_the_run}
 use Rattle.dh_laws.proofs.PassVerdicts.{free_are_judged_alike}
-use Rattle.dh_laws.proofs.VerdictCases.{assign_case, client_case, comment_case, inspection_case, owner_case, property_case, register_case, rent_case, staff_case, viewing_case}
+use Rattle.dh_laws.proofs.VerdictCases.{assign_case, client_case, comment_case, inspection_case, owner_case, property_case, register_case, rent_case}
+use Rattle.dh_laws.proofs.VerdictCases.{staff_case, viewing_case}
 use Rattle.dh_laws.specs.Events.{state_of}
 use Rattle.dh_laws.specs.StateTables.{tables}
 use Rattle.dh_laws.specs.Telling.{IsTold}
 
 module _ (size : ℕ) where
-  carried_free : (s : State) (told : Command) (rows : Change) → is_free told ≡ true → carried_out size s told rows ≡ (record s { books = changed rows s.books }, accepted rows)
+  carried_free : (s : State) (told : Command) (rows : Change) → is_free told ≡ true
+      → carried_out size s told rows ≡ (record s { books = changed rows s.books }, accepted rows)
   carried_free s (command.Staff it) rows free = refl
   carried_free s (command.Owner it) rows free = refl
   carried_free s (command.Property it) rows free = refl
@@ -99,8 +101,10 @@ module _ (size : ℕ) (books : Books) (run : OpenRun) (pos : 1 ≤ size) (in_ord
         let free = accepted_free told other h in
         let s = state_of size (tables at) in (
           ap (settled size s told) (judged_whole told ∙ h) ∙ carried_free size s told rows free
-              ∙ ap (λ (b : Books). (record { books = b; open_run = Some run }, accepted rows)) (sym (free_changes_pass_the_run size books run told rows pos in_order free h)),
-          subst (λ after. IsInOrder size (changed rows books) after) (run_stays told free h) (changes_keep_order size books (Some run) told rows pos in_order entered h),
+              ∙ ap (λ (b : Books). (record { books = b; open_run = Some run }, accepted rows))
+              (sym (free_changes_pass_the_run size books run told rows pos in_order free h)),
+          subst (λ after. IsInOrder size (changed rows books) after) (run_stays told free h)
+              (changes_keep_order size books (Some run) told rows pos in_order entered h),
         )
 
 no_run : IsSome {T = OpenRun} None → ⊥

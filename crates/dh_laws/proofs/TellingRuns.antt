@@ -52,7 +52,8 @@ module _ (size : ℕ) (books : Books) (order : RunOrder) (pos : 1 ≤ size) (in_
       opened_in_order,
     )
 
-module _ (size : ℕ) (before : State) (order : RunOrder) (pos : 1 ≤ size) (none : before.open_run ≡ None) (in_order : IsInOrder size before.books before.open_run) where
+module _ (size : ℕ) (before : State) (order : RunOrder) (pos : 1 ≤ size) (none : before.open_run ≡ None)
+    (in_order : IsInOrder size before.books before.open_run) where
   pub none_in_order : IsInOrder size before.books None
   none_in_order = subst (IsInOrder size before.books) none in_order
 
@@ -73,11 +74,13 @@ module _ (size : ℕ) (before : State) (order : RunOrder) (pos : 1 ≤ size) (no
     begun_is = ap (λ r. begun order r before) opening_rows
 
     pub begun_in_order : IsInOrder size (begun order rows before).books (begun order rows before).open_run
-    begun_in_order = subst (λ (s : State). IsInOrder size s.books s.open_run) (sym begun_is) (opened_in_order size before.books order pos none_in_order opening_verdict)
+    begun_in_order = subst (λ (s : State). IsInOrder size s.books s.open_run) (sym begun_is)
+        (opened_in_order size before.books order pos none_in_order opening_verdict)
 
     pub opening_told : IsTold size (command.Open order) (reply.Opened order.month) before (begun order rows before)
     opening_told =
-        subst (λ run. IsTold size (command.Open order) (reply.Opened order.month) (record { books = before.books; open_run = run }) (begun order rows before)) (sym none)
+        subst (λ run. IsTold size (command.Open order) (reply.Opened order.month) (record { books = before.books; open_run = run }) (begun order rows before))
+        (sym none)
         (subst (λ (s : State). IsTold size (command.Open order) (reply.Opened order.month) (record { books = before.books; open_run = None }) s) (sym begun_is)
         (opened_told size before.books order pos none_in_order opening_verdict))
 
@@ -116,8 +119,10 @@ module _ (size : ℕ) (before : State) (run : OpenRun) (count : ℕ) (is : befor
   closing_told whole_books after reply in_order same none few stepped =
       let enough : nat_le all (run.done + count) ≡ true = let alike = batches_of_whole size before.books run.month in grind (arith, nat_tests, few, alike) in
       let started : state_of size (tables before) ≡ record whole_books { open_run = Some run } = λ i. record { books = sym same i; open_run = is i } in
-      let made : step size (state_of size (tables before)) (command.Post count) ≡ (after, reply) = ap (λ (s : State). step size s (command.Post count)) started ∙ sym stepped in
-      let left : whole_books ≡ after = (λ i. record { books = same i; open_run = none i }) ∙ ap (λ (m : State × Reply). m.0) (sym (posted_as true enough) ∙ made) in
+      let made : step size (state_of size (tables before)) (command.Post count) ≡ (after, reply) =
+      ap (λ (s : State). step size s (command.Post count)) started ∙ sym stepped in
+      let left : whole_books ≡ after =
+      (λ i. record { books = same i; open_run = none i }) ∙ ap (λ (m : State × Reply). m.0) (sym (posted_as true enough) ∙ made) in
       let ordered = subst (λ (s : State). IsInOrder size s.books s.open_run) left in_order in
       let shown = shows_none size after (ap (λ (s : State). s.open_run) (sym left) ∙ none) ordered in
       (made ∙ ap (λ (s : State). (s, reply)) (sym (own_state size after shown)), ordered)
@@ -125,7 +130,8 @@ module _ (size : ℕ) (before : State) (run : OpenRun) (count : ℕ) (is : befor
   -- else it stays open
   pub part_told : (after : State) → IsInOrder size after.books after.open_run → whole size after.books ≡ whole size before.books
       → after.open_run ≡ Some (record { month = run.month; done = at_most all (run.done + count) }) → run.done + count < batches size before.books run.month
-      → IsTold size (command.Post count) (reply.Part (record { month = run.month; done = run.done + count; of = batches size before.books run.month })) before after
+      → IsTold size (command.Post count)
+      (reply.Part (record { month = run.month; done = run.done + count; of = batches size before.books run.month })) before after
   part_told after in_order same stands more =
       let alike = batches_of_whole size before.books run.month in
       let rest : nat_le all (run.done + count) ≡ false = grind (arith, nat_tests, more, alike) in

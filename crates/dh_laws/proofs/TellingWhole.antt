@@ -69,9 +69,11 @@ module _ (size : ℕ) where
   stepped_told before after told reply pos none other in_order entered is =
       let shown = shows_none before none in_order in
       let lawful = lawful_closed size before.books pos in_order.keyed in_order.rules shown in
-      let law = subst Law (sym is) (steps_keep size (changes_keep_order size) (whole_is_lawful size) (run_is_opening_made_whole size) before told pos in_order.keyed lawful entered) in
+      let law = subst Law (sym is)
+      (steps_keep size (changes_keep_order size) (whole_is_lawful size) (run_is_opening_made_whole size) before told pos in_order.keyed lawful entered) in
       let closed : open_row after.books ≡ None = none_open after.books (λ run a. law.1.closed run (is_among (values after.books.runs) run a)) in
-      let left : after.open_run ≡ None = ap (λ (made : State × Reply). made.0.open_run) is ∙ settled_closed before told (verdict_on before.books before.open_run told) none other in (
+      let left : after.open_run ≡ None =
+      ap (λ (made : State × Reply). made.0.open_run) is ∙ settled_closed before told (verdict_on before.books before.open_run told) none other in (
         ap (λ (s : State). step size s told) (own_state before shown) ∙ sym is ∙ ap (λ (s : State). (s, reply)) (sym (own_state after closed)),
         record { keyed = law.0; rules = law.1.rules; shown = subst (λ run. IsOpenAt size after.books run) (sym left) closed },
       )

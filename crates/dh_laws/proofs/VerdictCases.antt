@@ -1,5 +1,6 @@
 -- Each accepted command's rows, and what its checks found.
-use Rattle.std.proofs.Common.{◌≡◌, refl, sym, subst, ℕ, ◌+◌, ◌≤◌, Bool, true, false, nat_eq, nat_lt, ◌&&◌, if◌then◌else◌, [], ◌∷◌, ◌++◌, Option, Some, None, IfSome}
+use Rattle.std.proofs.Common.{◌≡◌, refl, sym, subst, ℕ, ◌+◌, ◌≤◌, Bool, true, false, nat_eq, nat_lt, ◌&&◌, if◌then◌else◌, [], ◌∷◌, ◌++◌, Option, Some, None}
+use Rattle.std.proofs.Common.{IfSome}
 use Rattle.std.specs.FinMap.{contains_key, get, len, values}
 use Rattle.dh_types.specs.declared.branch.Branch.{Branch}
 use Rattle.dh_types.specs.declared.staff.Staff.{Staff}
@@ -20,7 +21,8 @@ use Rattle.dh_types.specs.declared.command.ReceiptOrder.{ReceiptOrder}
 use Rattle.dh_types.specs.declared.command.RunOrder.{RunOrder}
 use Rattle.dh_types.specs.declared.reply.Refusal.TheVariants as refusal
 use Rattle.dh_types.specs.declared.reply.Reply.TheVariants as reply
-use Rattle.dh_types.specs.Records.{is_same_branch, is_same_client, is_same_inspection, is_same_lease_terms, is_same_optional, is_same_owner, is_same_property, is_same_registration, is_same_staff, is_same_viewing}
+use Rattle.dh_types.specs.Records.{is_same_branch, is_same_client, is_same_inspection, is_same_lease_terms, is_same_optional, is_same_owner, is_same_property}
+use Rattle.dh_types.specs.Records.{is_same_registration, is_same_staff, is_same_viewing}
 use Rattle.dh_types.proofs.SameValues.{numbers}
 use Rattle.dh_model.specs.declared.open_run.OpenRun.{OpenRun}
 use Rattle.dh_model.specs.declared.rows.Change.{Change}
@@ -28,11 +30,16 @@ use Rattle.dh_model.specs.declared.rows.Change.TheVariants as change
 use Rattle.dh_model.specs.declared.rows.Verdict.TheVariants as verdict
 use Rattle.dh_model.specs.Books.{Books}
 use Rattle.dh_model.specs.Leases.{overlap}
-use Rattle.dh_model.specs.Checks.{deposit_checks, first_failing, first_that_day, free_of_others, has_room, in_time, is_same_text, names, of_branch, receipt_of_key, registered, run_of_key, unless, where_given, works_at}
-use Rattle.dh_model.specs.Verdicts.{assigned, branch_verdict, commented, judged, lease_checks, lease_verdict, manager_checks, opened_run, post_verdict, property_checks, receipt_checks, receipt_verdict, registration_checks, rent_changed, run_verdict, signed, unless_receipt, unless_run, verdict_on}
-use Rattle.dh_laws.proofs.VerdictChecks.{CanManage, all_pass, can_manage, deposit_of, first_passes, holds_of, new_key, none_of_leases, passed, property_of, starts_in_time, was_closed, was_new, was_no_receipt, was_no_run, was_unpaid, was_unposted}
+use Rattle.dh_model.specs.Checks.{deposit_checks, first_failing, first_that_day, free_of_others, has_room, in_time, is_same_text, names, of_branch}
+use Rattle.dh_model.specs.Checks.{receipt_of_key, registered, run_of_key, unless, where_given, works_at}
+use Rattle.dh_model.specs.Verdicts.{assigned, branch_verdict, commented, judged, lease_checks, lease_verdict, manager_checks, opened_run, post_verdict}
+use Rattle.dh_model.specs.Verdicts.{property_checks, receipt_checks, receipt_verdict, registration_checks, rent_changed, run_verdict, signed, unless_receipt}
+use Rattle.dh_model.specs.Verdicts.{unless_run, verdict_on}
+use Rattle.dh_laws.proofs.VerdictChecks.{CanManage, all_pass, can_manage, deposit_of, first_passes, holds_of, new_key, none_of_leases, passed, property_of}
+use Rattle.dh_laws.proofs.VerdictChecks.{starts_in_time, was_closed, was_new, was_no_receipt, was_no_run, was_unpaid, was_unposted}
 use Rattle.dh_laws.specs.InOrder.{IsEntered}
-use Rattle.dh_laws.proofs.Acceptance.{Accepted, AddsBranch, AddsInspection, AddsLease, AddsProperty, AddsReceipt, AddsStaff, AddsViewing, Assigns, OpensRun, Registers}
+use Rattle.dh_laws.proofs.Acceptance.{Accepted, AddsBranch, AddsInspection, AddsLease, AddsProperty, AddsReceipt, AddsStaff, AddsViewing, Assigns, OpensRun}
+use Rattle.dh_laws.proofs.Acceptance.{Registers}
 
 same_given : (rows given : Change) → verdict.Change given ≡ verdict.Change rows → rows ≡ given
 same_given rows given h = let is : given ≡ rows = cc in sym is
@@ -57,7 +64,8 @@ module _ (books : Books) (run : Option OpenRun) (rows : Change) where
       let new = was_new (is_same_owner it) (get books.owners it.number) (judged [] (change.Owner it)) rows h in
       ((passed [] rows (change.Owner it) new.1).0, new.0)
 
-  pub property_case : (it : Property) → verdict_on books run (command.Property it) ≡ verdict.Change rows → (rows ≡ change.Property it) × AddsProperty books run it
+  pub property_case : (it : Property) → verdict_on books run (command.Property it) ≡ verdict.Change rows → (rows ≡ change.Property it)
+      × AddsProperty books run it
   property_case it h =
       let new = was_new (is_same_property it) (get books.properties it.number) (judged (property_checks books it) (change.Property it)) rows h in
       let all = passed (property_checks books it) rows (change.Property it) new.1 in
@@ -117,16 +125,20 @@ module _ (books : Books) (run : Option OpenRun) (rows : Change) where
       → (rows ≡ change.Rent it) × ((row : Property) × (get books.properties it.property ≡ Some row))
   rent_case it h = renting it (get books.properties it.property) refl h
 
-  pub client_case : (it : Client) → verdict_on books run (command.Client it) ≡ verdict.Change rows → (rows ≡ change.Client it) × (get books.clients it.number ≡ None)
+  pub client_case : (it : Client) → verdict_on books run (command.Client it) ≡ verdict.Change rows → (rows ≡ change.Client it)
+      × (get books.clients it.number ≡ None)
   client_case it h =
       let new = was_new (is_same_client it) (get books.clients it.number) (judged [] (change.Client it)) rows h in
       ((passed [] rows (change.Client it) new.1).0, new.0)
 
-  pub register_case : (it : Registration) → verdict_on books run (command.Register it) ≡ verdict.Change rows → (rows ≡ change.Register it) × Registers books run it
+  pub register_case : (it : Registration) → verdict_on books run (command.Register it) ≡ verdict.Change rows → (rows ≡ change.Register it)
+      × Registers books run it
   register_case it h =
-      let new = was_new (is_same_registration it) (get books.registrations (it.client, it.branch)) (judged (registration_checks books it) (change.Register it)) rows h in
+      let new = was_new (is_same_registration it) (get books.registrations (it.client, it.branch))
+      (judged (registration_checks books it) (change.Register it)) rows h in
       let all = passed (registration_checks books it) rows (change.Register it) new.1 in
-      let a = first_passes (names books.clients it.client 2) (names books.branches it.branch 3 ∷ names books.staff it.staff 4 ∷ of_branch books it.staff it.branch ∷ []) all.1 in
+      let a = first_passes (names books.clients it.client 2) (names books.branches it.branch 3 ∷ names books.staff it.staff 4
+      ∷ of_branch books it.staff it.branch ∷ []) all.1 in
       let b = first_passes (names books.branches it.branch 3) (names books.staff it.staff 4 ∷ of_branch books it.staff it.branch ∷ []) a.1 in
       let c = first_passes (names books.staff it.staff 4) (of_branch books it.staff it.branch ∷ []) b.1 in (
         all.0,
@@ -153,7 +165,8 @@ module _ (books : Books) (run : Option OpenRun) (rows : Change) where
         },
       )
 
-  commenting : (it : ViewingComment) (found : Option Viewing) → get books.viewings (it.client, it.property) ≡ found → commented books it found ≡ verdict.Change rows
+  commenting : (it : ViewingComment) (found : Option Viewing) → get books.viewings (it.client, it.property) ≡ found
+      → commented books it found ≡ verdict.Change rows
       → (rows ≡ change.Comment it) × ((row : Viewing) × (get books.viewings (it.client, it.property) ≡ Some row))
   commenting it None e h = cc
   commenting it (Some row) e h = (rent_if (is_same_optional is_same_text (Some it.comment) row.comment) (change.Comment it) h, (row, e))
@@ -162,7 +175,8 @@ module _ (books : Books) (run : Option OpenRun) (rows : Change) where
       → (rows ≡ change.Comment it) × ((row : Viewing) × (get books.viewings (it.client, it.property) ≡ Some row))
   comment_case it h = commenting it (get books.viewings (it.client, it.property)) refl h
 
-  pub inspection_case : (it : Inspection) → verdict_on books run (command.Inspection it) ≡ verdict.Change rows → (rows ≡ change.Inspection it) × AddsInspection books run it
+  pub inspection_case : (it : Inspection) → verdict_on books run (command.Inspection it) ≡ verdict.Change rows → (rows ≡ change.Inspection it)
+      × AddsInspection books run it
   inspection_case it h =
       let checks = names books.properties it.property 2 ∷ names books.staff it.staff 4 ∷ [] in
       let new = was_new (is_same_inspection it) (get books.inspections (it.property, it.day)) (judged checks (change.Inspection it)) rows h in
@@ -182,7 +196,8 @@ module _ (books : Books) (run : Option OpenRun) (rows : Change) where
       let d = free_of_others books terms ∷ [] in
       let c = first_that_day books terms.client terms.start ∷ free_of_others books terms ∷ [] in
       let b = in_time books terms.start ∷ first_that_day books terms.client terms.start ∷ free_of_others books terms ∷ [] in
-      let a = registered books terms.client terms.property ∷ in_time books terms.start ∷ first_that_day books terms.client terms.start ∷ free_of_others books terms ∷ [] in
+      let a = registered books terms.client terms.property ∷ in_time books terms.start ∷ first_that_day books terms.client terms.start
+      ∷ free_of_others books terms ∷ [] in
       let client = first_passes (names books.clients terms.client 3) (names books.properties terms.property 4 ∷ a) h in
       let property = first_passes (names books.properties terms.property 4) a client.1 in
       let branch = first_passes (registered books terms.client terms.property) b property.1 in
@@ -198,12 +213,14 @@ module _ (books : Books) (run : Option OpenRun) (rows : Change) where
         rent = refl;
         registered = row.2;
         in_time = starts_in_time books terms.start start.0;
-        first = none_of_leases (λ l. is_same_text l.terms.client terms.client && nat_eq l.terms.start terms.start) refusal.ClientStart (values books.leases) day.0;
+        first = none_of_leases (λ l. is_same_text l.terms.client terms.client && nat_eq l.terms.start terms.start) refusal.ClientStart
+            (values books.leases) day.0;
         free = none_of_leases (λ l. overlap terms l.terms) refusal.Overlap (values books.leases) (first_passes (free_of_others books terms) [] day.1).0;
       })
 
   pub lease_case : (terms : LeaseTerms) → verdict_on books run (command.Lease terms) ≡ verdict.Change rows
-      → (rows ≡ change.Lease (signed books terms (get books.properties terms.property))) × AddsLease books run (signed books terms (get books.properties terms.property))
+      → (rows ≡ change.Lease (signed books terms (get books.properties terms.property)))
+      × AddsLease books run (signed books terms (get books.properties terms.property))
   lease_case terms h =
       let free = was_closed run (lease_verdict books terms) rows h in
       let given = change.Lease (signed books terms (get books.properties terms.property)) in
@@ -224,7 +241,8 @@ module _ (books : Books) (run : Option OpenRun) (rows : Change) where
       let no_receipt = was_unpaid books order (receipt_of_key books order.key) (unless_run books (run_of_key books order.key) accepted) rows free.1 in
       let no_run = was_no_run books (run_of_key books order.key) accepted rows no_receipt.1 in
       let all = passed (receipt_checks books order) rows given no_run.1 in
-      let lease = first_passes (names books.leases order.payment.lease 3) (deposit_checks books order.payment ++ unless (nat_lt (len books.receipts) 99999999) refusal.Full ∷ []) all.1 in
+      let lease = first_passes (names books.leases order.payment.lease 3) (deposit_checks books order.payment
+      ++ unless (nat_lt (len books.receipts) 99999999) refusal.Full ∷ []) all.1 in
       let deposit = all_pass (deposit_checks books order.payment) (unless (nat_lt (len books.receipts) 99999999) refusal.Full ∷ []) lease.1 in (
         all.0,
         record {
@@ -243,7 +261,8 @@ module _ (books : Books) (run : Option OpenRun) (rows : Change) where
       let free = was_closed run (run_verdict books order) rows h in
       let given = change.Open (opened_run books order) in
       let checks = unless (nat_eq order.month books.next) (refusal.NotNextMonth books.next) ∷ [] in
-      let no_run = was_unposted books order (run_of_key books order.key) (unless_receipt books (receipt_of_key books order.key) (judged checks given)) rows free.1 in
+      let no_run = was_unposted books order (run_of_key books order.key)
+      (unless_receipt books (receipt_of_key books order.key) (judged checks given)) rows free.1 in
       let no_receipt = was_no_receipt books (receipt_of_key books order.key) (judged checks given) rows no_run.1 in
       let all = passed checks rows given no_receipt.1 in
       let month = first_passes (unless (nat_eq order.month books.next) (refusal.NotNextMonth books.next)) [] all.1 in (

@@ -1,5 +1,6 @@
 -- What a check that passes says.
-use Rattle.std.proofs.Common.{◌≡◌, ◌∙◌, refl, sym, ap, ℕ, ◌*◌, ◌<◌, ◌≤◌, Bool, true, false, not, nat_eq, nat_le, nat_lt, ◌&&◌, cond, List, [], ◌∷◌, ◌++◌, map, fold, Option, Some, None, IfSome, inl, inr, ◌≢◌, if◌then◌else◌}
+use Rattle.std.proofs.Common.{◌≡◌, ◌∙◌, refl, sym, ap, ℕ, ◌*◌, ◌<◌, ◌≤◌, Bool, true, false, not, nat_eq, nat_le, nat_lt, ◌&&◌, cond, List, [], ◌∷◌, ◌++◌, map}
+use Rattle.std.proofs.Common.{fold, Option, Some, None, IfSome, inl, inr, ◌≢◌, if◌then◌else◌}
 use Rattle.std.specs.Option.{option_map}
 use Rattle.std.specs.List.{filter, list_any}
 use Rattle.std.specs.List as list
@@ -27,7 +28,8 @@ use Rattle.dh_model.specs.declared.rows.Verdict.TheVariants as verdict
 use Rattle.dh_model.specs.Books.{Books}
 use Rattle.dh_model.specs.Rules.{IsThere}
 use Rattle.dh_model.specs.Runs.{sum_of}
-use Rattle.dh_model.specs.Checks.{Check, at_most, deposit_checks, first_failing, has_room, in_time, is_registered, is_same_text, is_twice, least, managed_besides, names, no_deposit_yet, of_branch, receipt_of_key, registered, run_of_key, unless, where_given, works_at}
+use Rattle.dh_model.specs.Checks.{Check, at_most, deposit_checks, first_failing, has_room, in_time, is_registered, is_same_text, is_twice, least}
+use Rattle.dh_model.specs.Checks.{managed_besides, names, no_deposit_yet, of_branch, receipt_of_key, registered, run_of_key, unless, where_given, works_at}
 use Rattle.dh_model.specs.Verdicts.{judged, rows_unless, unless_open, unless_paid, unless_posted, unless_receipt, unless_run, unless_there}
 use Rattle.dh_model.proofs.Among.{Among, of_passes}
 
@@ -49,12 +51,14 @@ pub never_if : (b : Bool) (rows : Change) → cond b (verdict.Already reply.Alre
 never_if true rows h = cc
 never_if false rows h = cc
 
-pub was_new : {X : Type 0} (is_same : X → Bool) (found : Option X) (otherwise : Verdict) (rows : Change) → unless_there is_same found otherwise ≡ verdict.Change rows
+pub was_new : {X : Type 0} (is_same : X → Bool) (found : Option X) (otherwise : Verdict) (rows : Change)
+    → unless_there is_same found otherwise ≡ verdict.Change rows
     → (found ≡ None) × (otherwise ≡ verdict.Change rows)
 was_new is_same None otherwise rows h = (refl, h)
 was_new is_same (Some row) otherwise rows h = absurd (never_if (is_same row) rows h)
 
-pub was_closed : (run : Option OpenRun) (otherwise : Verdict) (rows : Change) → unless_open run otherwise ≡ verdict.Change rows → (run ≡ None) × (otherwise ≡ verdict.Change rows)
+pub was_closed : (run : Option OpenRun) (otherwise : Verdict) (rows : Change) → unless_open run otherwise ≡ verdict.Change rows → (run ≡ None)
+    × (otherwise ≡ verdict.Change rows)
 was_closed None otherwise rows h = (refl, h)
 was_closed (Some run) otherwise rows h = cc
 
@@ -73,7 +77,8 @@ pub record CanManage (books : Books) (branch property member : List ℕ) : Type 
   pub room : managed_besides books member property < 100
 
 pub can_manage : (books : Books) (branch property : List ℕ) (member : Option (List ℕ)) (field : ℕ)
-    → where_given member (λ m. names books.staff m field) ≡ None → where_given member (λ m. of_branch books m branch) ≡ None → where_given member (λ m. has_room books m property) ≡ None
+    → where_given member (λ m. names books.staff m field) ≡ None → where_given member (λ m. of_branch books m branch) ≡ None
+    → where_given member (λ m. has_room books m property) ≡ None
     → IfSome member (CanManage books branch property)
 can_manage books branch property None field a b c = tt
 can_manage books branch property (Some member) field a b c = record {
@@ -103,7 +108,8 @@ none_by p true first lease leases e rest h a = cc
 none_by p false first lease leases e rest h (inl s) = ap p s ∙ e
 none_by p false first lease leases e rest h (inr a) = rest h a
 
-none_numbered : (p : Lease → Bool) (leases : List Lease) (lease : Lease) → map (λ l. l.terms.number) (filter p leases) ≡ [] → Among leases lease → p lease ≡ false
+none_numbered : (p : Lease → Bool) (leases : List Lease) (lease : Lease) → map (λ l. l.terms.number) (filter p leases) ≡ [] → Among leases lease
+    → p lease ≡ false
 none_numbered p [] lease h a = absurd a
 none_numbered p (first ∷ leases) lease h a = none_by p (p first) first lease leases refl (none_numbered p leases lease) h a
 
@@ -167,21 +173,25 @@ pub record IsFirstDeposit (books : Books) (payment : Payment) : Type 0 where
   pub amount : IfSome (get books.leases payment.lease) (λ lease. payment.amount ≡ 2 * lease.rent)
   pub first : (receipt : Receipt) → Among (values books.receipts) receipt → receipt.payment.kind ≡ Deposit → receipt.payment.lease ≢ payment.lease
 
-first_deposit : (books : Books) (payment : Payment) → no_deposit_yet books payment.lease ≡ None → is_twice (get books.leases payment.lease) payment.amount ≡ None → IsFirstDeposit books payment
+first_deposit : (books : Books) (payment : Payment) → no_deposit_yet books payment.lease ≡ None
+    → is_twice (get books.leases payment.lease) payment.amount ≡ None → IsFirstDeposit books payment
 first_deposit books payment none amount =
     let is_other = λ (receipt : Receipt). nat_eq receipt.payment.lease payment.lease && is_same_receipt_kind receipt.payment.kind Deposit in
-    let some = list_any (λ (receipt : Receipt). nat_eq receipt.payment.lease payment.lease && is_same_receipt_kind receipt.payment.kind Deposit) (values books.receipts) in
+    let some = list_any (λ (receipt : Receipt). nat_eq receipt.payment.lease payment.lease && is_same_receipt_kind receipt.payment.kind Deposit)
+    (values books.receipts) in
     record {
       amount = twice (get books.leases payment.lease) payment.amount amount;
       first = λ receipt a kind same.
           let fails = none_passes (λ (r : Receipt). nat_eq r.payment.lease payment.lease && is_same_receipt_kind r.payment.kind Deposit) (values books.receipts)
           (not-true some (holds_of (not some) refusal.DepositPaid none)) receipt a in
-          let apart = not_both (nat_eq receipt.payment.lease payment.lease) (is_same_receipt_kind receipt.payment.kind Deposit) fails ((receipt_kinds receipt.payment.kind Deposit).1 kind) in
+          let apart = not_both (nat_eq receipt.payment.lease payment.lease) (is_same_receipt_kind receipt.payment.kind Deposit) fails
+          ((receipt_kinds receipt.payment.kind Deposit).1 kind) in
           let alike = (numbers receipt.payment.lease payment.lease).1 same in
           cc;
     }
 
-pub deposit_of : (books : Books) (payment : Payment) → first_failing (deposit_checks books payment) ≡ None → payment.kind ≡ Deposit → IsFirstDeposit books payment
+pub deposit_of : (books : Books) (payment : Payment) → first_failing (deposit_checks books payment) ≡ None → payment.kind ≡ Deposit
+    → IsFirstDeposit books payment
 deposit_of books payment h kind =
     let checks = no_deposit_yet books payment.lease ∷ is_twice (get books.leases payment.lease) payment.amount ∷ [] in
     let all = if_chosen (is_same_receipt_kind payment.kind Deposit) checks h ((receipt_kinds payment.kind Deposit).1 kind) in
@@ -204,20 +214,26 @@ pub already_if : (b : Bool) (kept : Reply) (why : Refusal) (rows : Change) → (
 already_if true kept why rows h = cc
 already_if false kept why rows h = cc
 
-pub was_unpaid : (books : Books) (order : ReceiptOrder) (found : Option Receipt) (otherwise : Verdict) (rows : Change) → unless_paid books order found otherwise ≡ verdict.Change rows
+pub was_unpaid : (books : Books) (order : ReceiptOrder) (found : Option Receipt) (otherwise : Verdict) (rows : Change)
+    → unless_paid books order found otherwise ≡ verdict.Change rows
     → (found ≡ None) × (otherwise ≡ verdict.Change rows)
 was_unpaid books order None otherwise rows h = (refl, h)
-was_unpaid books order (Some receipt) otherwise rows h = absurd (already_if (is_same_payment order.payment receipt.payment) (reply.AlreadyReceipt receipt.number) refusal.KeyUsed rows h)
+was_unpaid books order (Some receipt) otherwise rows h =
+    absurd (already_if (is_same_payment order.payment receipt.payment) (reply.AlreadyReceipt receipt.number) refusal.KeyUsed rows h)
 
-pub was_no_run : (books : Books) (found : Option Run) (otherwise : Verdict) (rows : Change) → unless_run books found otherwise ≡ verdict.Change rows → (found ≡ None) × (otherwise ≡ verdict.Change rows)
+pub was_no_run : (books : Books) (found : Option Run) (otherwise : Verdict) (rows : Change) → unless_run books found otherwise ≡ verdict.Change rows
+    → (found ≡ None) × (otherwise ≡ verdict.Change rows)
 was_no_run books None otherwise rows h = (refl, h)
 was_no_run books (Some run) otherwise rows h = cc
 
-pub was_unposted : (books : Books) (order : RunOrder) (found : Option Run) (otherwise : Verdict) (rows : Change) → unless_posted books order found otherwise ≡ verdict.Change rows
+pub was_unposted : (books : Books) (order : RunOrder) (found : Option Run) (otherwise : Verdict) (rows : Change)
+    → unless_posted books order found otherwise ≡ verdict.Change rows
     → (found ≡ None) × (otherwise ≡ verdict.Change rows)
 was_unposted books order None otherwise rows h = (refl, h)
-was_unposted books order (Some run) otherwise rows h = absurd (already_if (nat_eq order.month run.month) (reply.AlreadyPosted (sum_of run)) refusal.KeyUsed rows h)
+was_unposted books order (Some run) otherwise rows h =
+    absurd (already_if (nat_eq order.month run.month) (reply.AlreadyPosted (sum_of run)) refusal.KeyUsed rows h)
 
-pub was_no_receipt : (books : Books) (found : Option Receipt) (otherwise : Verdict) (rows : Change) → unless_receipt books found otherwise ≡ verdict.Change rows → (found ≡ None) × (otherwise ≡ verdict.Change rows)
+pub was_no_receipt : (books : Books) (found : Option Receipt) (otherwise : Verdict) (rows : Change) → unless_receipt books found otherwise ≡ verdict.Change rows
+    → (found ≡ None) × (otherwise ≡ verdict.Change rows)
 was_no_receipt books None otherwise rows h = (refl, h)
 was_no_receipt books (Some receipt) otherwise rows h = cc

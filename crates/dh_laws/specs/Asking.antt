@@ -18,7 +18,8 @@ module _ (size : ℕ) where
   -- what is not put off is answered as by the whole books, whatever run stands beside these
   abbrev pub AnswersPassTheRun : Type 0
   AnswersPassTheRun = (books : Books) (run : OpenRun) (beside : Option OpenRun) (question : Question) → 1 ≤ size → IsInOrder size books (Some run)
-      → is_put_off question ≡ false → report (record { books = books; open_run = Some run }) question ≡ report (record { books = whole size books; open_run = beside }) question
+      → is_put_off question ≡ false
+      → report (record { books = books; open_run = Some run }) question ≡ report (record { books = whole size books; open_run = beside }) question
 
   -- and the open month has as many batches
   abbrev pub BatchesPassTheRun : Type 0

@@ -26,7 +26,8 @@ due_on books month lease = filter (λ charge. nat_eq charge.lease lease) (dues b
 abbrev pub moved : Books → Verdict → ℕ → ℤ
 moved books (verdict.Change (change.Open run)) lease = pos (total_of (due_on books run.month lease))
 moved books (verdict.Change (change.Receipt receipt)) lease =
-    if nat_eq receipt.payment.lease lease then (if is_same_receipt_kind receipt.payment.kind Rent then pos 0 -ℤ pos receipt.payment.amount else pos 0) else pos 0
+    if nat_eq receipt.payment.lease lease then
+    (if is_same_receipt_kind receipt.payment.kind Rent then pos 0 -ℤ pos receipt.payment.amount else pos 0) else pos 0
 moved books _ lease = pos 0
 
 module _ (size : ℕ) where

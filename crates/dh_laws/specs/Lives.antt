@@ -77,7 +77,8 @@ module _ (size : ℕ) where
 
   -- a month that was run is charged with each of its dues, and nothing else
   abbrev pub MonthsAreChargedOnce : Type 0
-  MonthsAreChargedOnce = (start after : Tables) (events : List (Event × Tables)) (month : ℕ) (charge : Charge) → 1 ≤ size → IsInOrder size start.books start.run → AreEntered events
+  MonthsAreChargedOnce = (start after : Tables) (events : List (Event × Tables)) (month : ℕ) (charge : Charge) → 1 ≤ size → IsInOrder size start.books start.run
+      → AreEntered events
       → Follow size start (events ++ (Mended, after) ∷ [])
       → (IsAmong (values after.books.charges) charge × (charge.month ≡ month)) ↔ (IsThere after.books.runs month × IsAmong (dues after.books month) charge)
 

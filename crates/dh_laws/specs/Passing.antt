@@ -26,7 +26,8 @@ module _ (size : ℕ) where
   FreeChangesPassTheRun = (books : Books) (run : OpenRun) (told : Command) (rows : Change) → 1 ≤ size → IsInOrder size books (Some run) → is_free told ≡ true
       → verdict_on books (Some run) told ≡ verdict.Change rows → whole size (changed rows books) ≡ changed rows (whole size books)
 
--- the verdict with the run open is that over the whole books with none, and where it is a change, the change of the whole books is the whole of the changed ones
+-- the verdict with the run open is that over the whole books with none, and where it is a change, the change of the whole books is the whole of the changed
+-- ones
 abbrev pub PassesTheRun : {Order : Type 0} → (Order → Command) → Type 0
 PassesTheRun {Order} told = (size : ℕ) (books : Books) (run : OpenRun) (order : Order) → 1 ≤ size → IsInOrder size books (Some run)
     → (verdict_on books (Some run) (told order) ≡ verdict_on (whole size books) None (told order))

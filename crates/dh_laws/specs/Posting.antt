@@ -21,7 +21,8 @@ closed books run = record books { runs = insert books.runs run.month (closed_run
 module _ (size : ℕ) where
   -- the next batch leaves books in order, and the whole of them as it was
   abbrev pub NextBatchKeepsTheWhole : Type 0
-  NextBatchKeepsTheWhole = (books : Books) (month done : ℕ) → 1 ≤ size → IsInOrder size books (Some (record { month = month; done = done })) → done < batches size books month
+  NextBatchKeepsTheWhole =
+      (books : Books) (month done : ℕ) → 1 ≤ size → IsInOrder size books (Some (record { month = month; done = done })) → done < batches size books month
       → IsInOrder size (with_posted size books month (done + 1)) (Some (record { month = month; done = done + 1 }))
       × (whole size (with_posted size books month (done + 1)) ≡ whole size books)
 
@@ -32,7 +33,8 @@ module _ (size : ℕ) where
 
   -- where no batch is left, closing makes the books whole
   abbrev pub ClosingMakesWhole : Type 0
-  ClosingMakesWhole = (books : Books) (month : ℕ) (run : Run) → 1 ≤ size → IsInOrder size books (Some (record { month = month; done = batches size books month }))
+  ClosingMakesWhole = (books : Books) (month : ℕ) (run : Run) → 1 ≤ size
+      → IsInOrder size books (Some (record { month = month; done = batches size books month }))
       → open_row books ≡ Some run → closed books run ≡ whole size books
 
   -- a run in one step is its opening made whole

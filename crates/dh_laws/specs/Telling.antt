@@ -30,7 +30,8 @@ begun order rows s = record { books = changed rows s.books; open_run = Some (rec
 
 -- a run that is accepted stands at so many batches, or at all where there are fewer
 abbrev pub StandsAt : RunOrder → ℕ → Verdict → State → Type 0
-StandsAt order count (verdict.Change rows) after = after.open_run ≡ advanced_run (whole batch_size after.books) count (Some (record { month = order.month; done = 0 }))
+StandsAt order count (verdict.Change rows) after =
+    after.open_run ≡ advanced_run (whole batch_size after.books) count (Some (record { month = order.month; done = 0 }))
 StandsAt order count _ after = Unit {0}
 
 -- so does such a command where so many are named; with none named the open run is the machine's

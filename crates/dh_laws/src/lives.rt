@@ -2,7 +2,8 @@
 
 ghost use Rattle.std.specs.Prelude.{ℕ};
 ghost use Rattle.dh_laws.specs.EachLife.{EachLifeKeepsABeginning};
-ghost use Rattle.dh_laws.specs.Lives.{AcknowledgedReceiptsStay, AcknowledgedRunsStay, AllLives, EmptyTablesAreShown, MendedBooksAreLawful, MonthsAreChargedOnce, OneLifeKeepsABeginning, SentAgainIsOnce};
+ghost use Rattle.dh_laws.specs.Lives.{AcknowledgedReceiptsStay, AcknowledgedRunsStay, AllLives, EmptyTablesAreShown, MendedBooksAreLawful};
+ghost use Rattle.dh_laws.specs.Lives.{MonthsAreChargedOnce, OneLifeKeepsABeginning, SentAgainIsOnce};
 
 /// Stopped before or within any write, any number of times, also within recovery: once recovery has come to its end the
 /// tables are those of the machine after a list of commands that keeps the order of the calls, holds every command that was

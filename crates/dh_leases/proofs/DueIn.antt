@@ -1,5 +1,6 @@
 -- The one due of a lease in a month.
-use Rattle.std.proofs.Common.{◌≡◌, ◌∙◌, ◌⊎◌, refl, sym, ap, inl, inr, ℕ, zero, suc, ◌+◌, ◌<◌, ◌≤◌, Bool, true, false, cond, nat_eq, List, [], ◌∷◌, map, append-nil, arith}
+use Rattle.std.proofs.Common.{◌≡◌, ◌∙◌, ◌⊎◌, refl, sym, ap, inl, inr, ℕ, zero, suc, ◌+◌, ◌<◌, ◌≤◌, Bool, true, false, cond, nat_eq, List, [], ◌∷◌, map}
+use Rattle.std.proofs.Common.{append-nil, arith}
 use Rattle.std.specs.List.{filter, range_with_len}
 use Rattle.std.proofs.lemmas.Bool.Decides.{nat_tests}
 use Rattle.dh_days.specs.Days.{month_of_day, plus_months}
@@ -51,7 +52,8 @@ module _ (lease : Lease) (month : ℕ) where
       step a n true (same (first + a) month (omega (arith, e))) ∙ ap (λ cs. due lease a ∷ cs) rest ∙ ap (λ i. due lease i ∷ []) (sym here)
   one_due a (suc n) (suc k) e h =
       let here : a + 1 + k ≡ a + suc k = omega arith in
-      step a n false (differs (first + a) month (inl (omega (arith, e)))) ∙ one_due (a + 1) n k (omega (arith, e)) (omega (arith, h)) ∙ ap (λ i. due lease i ∷ []) here
+      step a n false (differs (first + a) month (inl (omega (arith, e)))) ∙ one_due (a + 1) n k (omega (arith, e)) (omega (arith, h))
+      ∙ ap (λ i. due lease i ∷ []) here
 
   of_one : dues_among (lease ∷ []) month ≡ those 0 lease.terms.months
   of_one = ap (filter falls) (append-nil (dues_of lease))

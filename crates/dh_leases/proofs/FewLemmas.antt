@@ -1,5 +1,6 @@
 -- No lease has dues at two branches, so what is posted is no more than there are leases.
-use Rattle.std.proofs.Common.{◌≡◌, ◌∙◌, refl, sym, ap, subst, inl, inr, ℕ, ◌+◌, ◌≤◌, Bool, true, false, cond, List, [], ◌∷◌, length, Option, Some, None, is_lt, nat_lt, arith}
+use Rattle.std.proofs.Common.{◌≡◌, ◌∙◌, refl, sym, ap, subst, inl, inr, ℕ, ◌+◌, ◌≤◌, Bool, true, false, cond, List, [], ◌∷◌, length, Option, Some, None, is_lt}
+use Rattle.std.proofs.Common.{nat_lt, arith}
 use Rattle.std.specs.List.{count_by, filter, sum_by}
 use Rattle.std.specs.FinMap.{entries, entries_sorted, get, is_sorted, keys, values}
 use Rattle.std.proofs.lemmas.Bool.{cases_Bool, false≢true}
@@ -24,7 +25,8 @@ module _ {X Y : Type 0} (test : Y → X → Bool) (Before : Y → Y → Type 0) 
         | inl also ↦ absurd (apart a b x (later b (inl refl)) passes also)
         | inr other ↦ other
       ] in
-      let counted : count_by (λ c. test c x) (b ∷ bs) ≡ 0 + count_by (λ c. test c x) bs = sum_by-cons (λ c. cond (test c x) 1 0) b bs ∙ ap (λ t. cond t 1 0 + count_by (λ c. test c x) bs) fails in
+      let counted : count_by (λ c. test c x) (b ∷ bs) ≡ 0 + count_by (λ c. test c x) bs =
+      sum_by-cons (λ c. cond (test c x) 1 0) b bs ∙ ap (λ t. cond t 1 0 + count_by (λ c. test c x) bs) fails in
       let rest = none_later a bs x passes (λ c h. later c (inr h)) in
       omega (arith, counted, rest)
 
@@ -32,11 +34,13 @@ module _ {X Y : Type 0} (test : Y → X → Bool) (Before : Y → Y → Type 0) 
   at_most_one [] x r = omega arith
   at_most_one (b ∷ bs) x r = elim (cases_Bool (test b x)) [
     | inl passes ↦
-        let counted : count_by (λ c. test c x) (b ∷ bs) ≡ 1 + count_by (λ c. test c x) bs = sum_by-cons (λ c. cond (test c x) 1 0) b bs ∙ ap (λ t. cond t 1 0 + count_by (λ c. test c x) bs) passes in
+        let counted : count_by (λ c. test c x) (b ∷ bs) ≡ 1 + count_by (λ c. test c x) bs =
+        sum_by-cons (λ c. cond (test c x) 1 0) b bs ∙ ap (λ t. cond t 1 0 + count_by (λ c. test c x) bs) passes in
         let none = none_later b bs x passes r.0 in
         omega (arith, counted, none)
     | inr fails ↦
-        let counted : count_by (λ c. test c x) (b ∷ bs) ≡ 0 + count_by (λ c. test c x) bs = sum_by-cons (λ c. cond (test c x) 1 0) b bs ∙ ap (λ t. cond t 1 0 + count_by (λ c. test c x) bs) fails in
+        let counted : count_by (λ c. test c x) (b ∷ bs) ≡ 0 + count_by (λ c. test c x) bs =
+        sum_by-cons (λ c. cond (test c x) 1 0) b bs ∙ ap (λ t. cond t 1 0 + count_by (λ c. test c x) bs) fails in
         let rest = at_most_one bs x r.1 in
         omega (arith, counted, rest)
   ]
@@ -45,7 +49,8 @@ module _ {X Y : Type 0} (test : Y → X → Bool) (Before : Y → Y → Type 0) 
   one_or_none true x xs = omega arith
   one_or_none false x xs = omega arith
 
-  one_more : (bs : List Y) (x : X) (xs : List X) → sum_by (λ b. length (filter (test b) (x ∷ xs))) bs ≡ count_by (λ b. test b x) bs + sum_by (λ b. length (filter (test b) xs)) bs
+  one_more : (bs : List Y) (x : X) (xs : List X)
+      → sum_by (λ b. length (filter (test b) (x ∷ xs))) bs ≡ count_by (λ b. test b x) bs + sum_by (λ b. length (filter (test b) xs)) bs
   one_more [] x xs = omega arith
   one_more (b ∷ bs) x xs =
       let all = sum_by-cons (λ c. length (filter (test c) (x ∷ xs))) b bs in
@@ -91,7 +96,8 @@ module _ (size : ℕ) (books : Books) (month done : ℕ) where
   few_posted =
       let rise = keys_rise text_cmp (entries books.branches) (holds (is_sorted text_cmp (entries books.branches)) (entries_sorted books.branches)) in
       let all = length-flat_map (posted_of_branch size books month done) (keys books.branches) in
-      let few = sum_by-le-sum_by (λ branch. length (posted_of_branch size books month done branch)) (λ branch. length (leases_of_branch books branch)) (keys books.branches) few_of_branch in
+      let few = sum_by-le-sum_by (λ branch. length (posted_of_branch size books month done branch)) (λ branch. length (leases_of_branch books branch))
+      (keys books.branches) few_of_branch in
       let shared = shares (λ (branch : List ℕ) (lease : Lease). is_property_of branch (get books.properties lease.terms.property)) (IsBefore text_cmp)
       (λ a b lease. branches_apart a b (get books.properties lease.terms.property)) (keys books.branches) rise (values books.leases) in
       omega (arith, all, few, shared)

@@ -39,7 +39,8 @@ tested lease other h =
 of_tested : (lease other : LeaseTerms) → ByEnds lease other → by_ends lease other ≡ true
 of_tested lease other h =
     and_from (pointwise nat_eq lease.property other.property && nat_lt lease.start (end_of other)) (nat_lt other.start (end_of lease))
-    (and_from (pointwise nat_eq lease.property other.property) (nat_lt lease.start (end_of other)) ((texts lease.property other.property).1 h.0) (of_below lease.start (end_of other) h.1))
+    (and_from (pointwise nat_eq lease.property other.property) (nat_lt lease.start (end_of other)) ((texts lease.property other.property).1 h.0)
+    (of_below lease.start (end_of other) h.1))
     (of_below other.start (end_of lease) h.2)
 
 pub overlap_by_ends : (lease other : LeaseTerms) → IsDay lease.start → IsDay other.start → lease.start < end_of lease → other.start < end_of other

@@ -1,5 +1,6 @@
 -- What a branch has of a run, lease by lease.
-use Rattle.std.proofs.Common.{◌≡◌, ◌∙◌, refl, sym, ap, inl, inr, ℕ, ◌+◌, ◌-◌, ◌≤◌, Bool, true, false, cond, nat_eq, is_eq, List, [], ◌∷◌, ◌++◌, length, Some, None, append-nil, arith, length-append}
+use Rattle.std.proofs.Common.{◌≡◌, ◌∙◌, refl, sym, ap, inl, inr, ℕ, ◌+◌, ◌-◌, ◌≤◌, Bool, true, false, cond, nat_eq, is_eq, List, [], ◌∷◌, ◌++◌, length, Some}
+use Rattle.std.proofs.Common.{None, append-nil, arith, length-append}
 use Rattle.std.specs.List.{filter, flat_map}
 use Rattle.std.specs.FinMap.{FinMap, get}
 use Rattle.std.specs.BTreeMap.{is_at}
@@ -29,7 +30,8 @@ at_most_one lease month =
       | inr reached ↦ elim (cases_lt month (first + lease.terms.months)) [
         | inl within ↦
             let k = month - first in
-            let one = ap length (its_due lease month k k month (plus_months lease.terms.start k) (omega (arith, reached)) (omega (arith, reached, within)) refl refl refl) in
+            let one = ap length (its_due lease month k k month (plus_months lease.terms.start k) (omega (arith, reached))
+            (omega (arith, reached, within)) refl refl refl) in
             omega (arith, one)
         | inr late ↦ let none = ap length (none_after lease month late) in omega (arith, none)
       ]
@@ -37,7 +39,8 @@ at_most_one lease month =
 
 pub dues_of_two : (xs ys : List Lease) (month : ℕ) → dues_among (xs ++ ys) month ≡ dues_among xs month ++ dues_among ys month
 dues_of_two xs ys month =
-    ap (filter (λ charge. nat_eq charge.month month)) (flat_map-append dues_of xs ys) ∙ filter-append (λ charge. nat_eq charge.month month) (flat_map dues_of xs) (flat_map dues_of ys)
+    ap (filter (λ charge. nat_eq charge.month month)) (flat_map-append dues_of xs ys)
+    ∙ filter-append (λ charge. nat_eq charge.month month) (flat_map dues_of xs) (flat_map dues_of ys)
 
 -- leases have no more dues in a month than they are
 pub no_more_dues : (leases : List Lease) (month : ℕ) → length (dues_among leases month) ≤ length leases
@@ -63,10 +66,13 @@ abbrev pub of_branch : FinMap text_cmp Property → List ℕ → Lease → Bool
 of_branch properties branch lease = is_property_of branch (get properties lease.terms.property)
 
 module _ (properties : FinMap text_cmp Property) (month : ℕ) where
-  kept_last : (branch : List ℕ) (leases : List Lease) (lease : Lease) → of_branch properties branch lease ≡ true → filter (of_branch properties branch) (leases ++ lease ∷ []) ≡ filter (of_branch properties branch) leases ++ lease ∷ []
-  kept_last branch leases lease e = filter-append (of_branch properties branch) leases (lease ∷ []) ∙ ap (λ b. filter (of_branch properties branch) leases ++ cond b (lease ∷ []) []) e
+  kept_last : (branch : List ℕ) (leases : List Lease) (lease : Lease) → of_branch properties branch lease ≡ true
+      → filter (of_branch properties branch) (leases ++ lease ∷ []) ≡ filter (of_branch properties branch) leases ++ lease ∷ []
+  kept_last branch leases lease e =
+      filter-append (of_branch properties branch) leases (lease ∷ []) ∙ ap (λ b. filter (of_branch properties branch) leases ++ cond b (lease ∷ []) []) e
 
-  left_last : (branch : List ℕ) (leases : List Lease) (lease : Lease) → of_branch properties branch lease ≡ false → filter (of_branch properties branch) (leases ++ lease ∷ []) ≡ filter (of_branch properties branch) leases
+  left_last : (branch : List ℕ) (leases : List Lease) (lease : Lease) → of_branch properties branch lease ≡ false
+      → filter (of_branch properties branch) (leases ++ lease ∷ []) ≡ filter (of_branch properties branch) leases
   left_last branch leases lease e =
       filter-append (of_branch properties branch) leases (lease ∷ [])
       ∙ ap (λ b. filter (of_branch properties branch) leases ++ cond b (lease ∷ []) []) e
@@ -87,13 +93,16 @@ module _ (properties : FinMap text_cmp Property) (month : ℕ) where
   -- the charge comes behind those of its branch
   pub due_put : (leases : List Lease) (lease : Lease) (property : Property) (charge : Charge) (q : List ℕ) → get properties lease.terms.property ≡ Some property
       → charge ∷ [] ≡ dues_among (lease ∷ []) month
-      → dues_among (filter (of_branch properties q) leases) month ++ cond (is_at (text_cmp property.branch) q) (charge ∷ []) [] ≡ dues_among (filter (of_branch properties q) (leases ++ lease ∷ [])) month
+      → dues_among (filter (of_branch properties q) leases) month
+      ++ cond (is_at (text_cmp property.branch) q) (charge ∷ []) [] ≡ dues_among (filter (of_branch properties q) (leases ++ lease ∷ [])) month
   due_put leases lease property charge q there its =
       let dues = dues_among (filter (of_branch properties q) leases) month in
       elim (cases_Bool (is_at (text_cmp property.branch) q)) [
         | inl same ↦
-            ap (λ b. dues ++ cond b (charge ∷ []) []) same ∙ ap (λ cs. dues ++ cs) its ∙ sym (dues_of_two (filter (of_branch properties q) leases) (lease ∷ []) month)
-            ∙ ap (λ ls. dues_among ls month) (sym (kept_last q leases lease (ap (is_property_of q) there ∙ (texts property.branch q).1 (same_branch property.branch q same))))
+            ap (λ b. dues ++ cond b (charge ∷ []) []) same ∙ ap (λ cs. dues ++ cs) its
+            ∙ sym (dues_of_two (filter (of_branch properties q) leases) (lease ∷ []) month)
+            ∙ ap (λ ls. dues_among ls month)
+            (sym (kept_last q leases lease (ap (is_property_of q) there ∙ (texts property.branch q).1 (same_branch property.branch q same))))
         | inr other ↦
             ap (λ b. dues ++ cond b (charge ∷ []) []) other ∙ append-nil dues
             ∙ ap (λ ls. dues_among ls month) (sym (left_last q leases lease (ap (is_property_of q) there ∙ other_branch property.branch q other)))

@@ -1,5 +1,6 @@
 -- What is posted after so many batches: the first of each branch's dues.
-use Rattle.std.proofs.Common.{◌≡◌, ◌∙◌, refl, sym, ap, subst, inl, inr, ℕ, suc, ◌+◌, ◌-◌, ◌*◌, ◌/◌, ◌<◌, ◌≤◌, Bool, true, false, cond, nat_lt, List, [], ◌∷◌, ◌++◌, length, map, take, append-nil, Ordering, Less, Equal, Greater, is_lt, le-div_iff_mul-le, le-ltb, lt-ltb, arith}
+use Rattle.std.proofs.Common.{◌≡◌, ◌∙◌, refl, sym, ap, subst, inl, inr, ℕ, suc, ◌+◌, ◌-◌, ◌*◌, ◌/◌, ◌<◌, ◌≤◌, Bool, true, false, cond, nat_lt, List, [], ◌∷◌}
+use Rattle.std.proofs.Common.{◌++◌, length, map, take, append-nil, Ordering, Less, Equal, Greater, is_lt, le-div_iff_mul-le, le-ltb, lt-ltb, arith}
 use Rattle.std.specs.List.{filter, flat_map, sum_by}
 use Rattle.std.specs.Ordering.{ordering_reverse}
 use Rattle.std.specs.Cmp.{IsTotalOrder}
@@ -45,10 +46,12 @@ module _ {K : Type 0} (R : K → K → Ordering) (o : IsTotalOrder R) where
       ap (λ b. cond b (k ∷ filter (λ other. is_lt (R other k)) ys) (filter (λ other. is_lt (R other k)) ys)) (ap is_lt (tied_itself o k))
       ∙ none_lesser k ys r.0
   lesser_are (x ∷ xs) ys k r =
-      ap (λ b. cond b (x ∷ filter (λ other. is_lt (R other k)) (xs ++ k ∷ ys)) (filter (λ other. is_lt (R other k)) (xs ++ k ∷ ys))) (r.0 k (in_the_middle xs ys k))
+      ap (λ b. cond b (x ∷ filter (λ other. is_lt (R other k)) (xs ++ k ∷ ys)) (filter (λ other. is_lt (R other k)) (xs ++ k ∷ ys)))
+      (r.0 k (in_the_middle xs ys k))
       ∙ ap (λ zs. x ∷ zs) (lesser_are xs ys k r.1)
 
-module _ {X : Type 0} (number : X → ℕ) (test : ℕ → Bool) (limit : ℕ) (passes : (n : ℕ) → n < limit → test n ≡ true) (fails : (n : ℕ) → limit ≤ n → test n ≡ false) where
+module _ {X : Type 0} (number : X → ℕ) (test : ℕ → Bool) (limit : ℕ) (passes : (n : ℕ) → n < limit → test n ≡ true) (fails : (n : ℕ) → limit ≤ n
+    → test n ≡ false) where
   -- of elements that are numbered those below the limit are the first ones
   first_kept : (a : ℕ) (xs : List X) → Numbered number a xs → filter (λ x. test (number x)) xs ≡ take (limit - a) xs
   first_kept a [] is = sym (take_all (limit - a) [] (omega arith))
@@ -95,15 +98,18 @@ module _ (size : ℕ) (books : Books) (month done : ℕ) (pos : 1 ≤ size) (are
   rise : Rises (IsBefore text_cmp) (keys books.branches)
   rise = keys_rise text_cmp (entries books.branches) (holds (is_sorted text_cmp (entries books.branches)) (entries_sorted books.branches))
 
-  first_posted : (branch : List ℕ) → posted_of_branch size books month done branch ≡ take ((done - batches_before size books month branch) * size) (dues_of_branch books month branch)
+  first_posted : (branch : List ℕ)
+      → posted_of_branch size books month done branch ≡ take ((done - batches_before size books month branch) * size) (dues_of_branch books month branch)
   first_posted branch =
       let before = batches_before size books month branch in
       let dues = dues_of_branch books month branch in
-      first_kept (place_among size dues) (λ place. nat_lt (before + place / size) done) ((done - before) * size) (early size pos before done) (late size pos before done)
+      first_kept (place_among size dues) (λ place. nat_lt (before + place / size) done) ((done - before) * size) (early size pos before done)
+      (late size pos before done)
       0 dues (places_numbered size books month pos are branch)
       ∙ ap (λ m. take m dues) (omega arith)
 
-  module _ (xs ys : List (List ℕ)) (branch : List ℕ) (all : keys books.branches ≡ xs ++ branch ∷ ys) (left : ℕ) (is : left ≡ left_after size books month done xs) where
+  module _ (xs ys : List (List ℕ)) (branch : List ℕ) (all : keys books.branches ≡ xs ++ branch
+      ∷ ys) (left : ℕ) (is : left ≡ left_after size books month done xs) where
     before_are : batches_before size books month branch ≡ sum_by (batches_of_branch size books month) xs
     before_are =
         ap (λ ks. sum_by (batches_of_branch size books month) (filter (λ other. is_lt (text_cmp other branch)) ks)) all
@@ -120,7 +126,8 @@ module _ (size : ℕ) (books : Books) (month done : ℕ) (pos : 1 ≤ size) (are
           → posted ++ take (left * size) charges ≡ flat_map (posted_of_branch size books month done) (xs ++ branch ∷ [])
       charges_next posted had =
           ap (λ cs. cs ++ take (left * size) charges) had
-          ∙ ap (λ cs. flat_map (posted_of_branch size books month done) xs ++ cs) (posted_next ∙ sym (append-nil (posted_of_branch size books month done branch)))
+          ∙ ap (λ cs. flat_map (posted_of_branch size books month done) xs ++ cs) (posted_next
+          ∙ sym (append-nil (posted_of_branch size books month done branch)))
           ∙ sym (flat_map-append (posted_of_branch size books month done) xs (branch ∷ []))
 
       pub left_next : left - batches_for size (length charges) ≡ left_after size books month done (xs ++ branch ∷ [])
@@ -135,7 +142,8 @@ module _ (size : ℕ) (books : Books) (month done : ℕ) (pos : 1 ≤ size) (are
       parts_next parts part had some its =
           let row = part_after size books month done in
           let begun = has_begun size books month done in
-          let begins : nat_lt (batches_before size books month branch) done ≡ true = lt-ltb (batches_before size books month branch) done (omega (arith, some, left_before)) in
+          let begins : nat_lt (batches_before size books month branch) done ≡ true =
+          lt-ltb (batches_before size books month branch) done (omega (arith, some, left_before)) in
           ap (λ ps. ps ++ part ∷ []) had
           ∙ ap (λ p. map row (filter begun xs) ++ p ∷ []) (its ∙ ap (part_of month branch) posted_next)
           ∙ sym (map-append row (filter begun xs) (branch ∷ []))
@@ -147,5 +155,7 @@ module _ (size : ℕ) (books : Books) (month done : ℕ) (pos : 1 ≤ size) (are
     no_part_next parts had none =
         let row = part_after size books month done in
         let begun = has_begun size books month done in
-        let waits : nat_lt (batches_before size books month branch) done ≡ false = le-ltb (batches_before size books month branch) done (omega (arith, none, left_before)) in
-        had ∙ ap (map row) (sym (filter-append begun xs (branch ∷ []) ∙ ap (λ b. filter begun xs ++ cond b (branch ∷ []) []) waits ∙ append-nil (filter begun xs)))
+        let waits : nat_lt (batches_before size books month branch) done ≡ false =
+        le-ltb (batches_before size books month branch) done (omega (arith, none, left_before)) in
+        had ∙ ap (map row) (sym (filter-append begun xs (branch ∷ []) ∙ ap (λ b. filter begun xs ++ cond b (branch ∷ []) []) waits
+        ∙ append-nil (filter begun xs)))

@@ -21,7 +21,8 @@ pub all_parts : (size : ℕ) (books : Books) (month : ℕ) → 1 ≤ size → Ar
 all_parts size books month pos are =
     let all = last_batch_posts_all size books month pos are in
     let done = batches size books month in
-    map_among (λ branch. part_of month branch (dues_of_branch books month branch)) (λ branch. part_of month branch (posted_of_branch size books month done branch)) (keys books.branches)
+    map_among (λ branch. part_of month branch (dues_of_branch books month branch))
+    (λ branch. part_of month branch (posted_of_branch size books month done branch)) (keys books.branches)
     (λ branch a. ap (part_of month branch) (sym (all.0 branch (is_among (keys books.branches) branch a))))
     ∙ ap (map (λ branch. part_of month branch (posted_of_branch size books month done branch))) (sym all.1)
 
@@ -41,7 +42,15 @@ pub record OfRun (size : ℕ) (books : Books) (month : ℕ) (key : List ℕ) (ch
 
 module _ (s : State) where
   together : List Charge → List Part → Run → ℕ → State
-  together charges parts run next = record s { books = record s.books { charges = with_rows charge_key charges s.books.charges; parts = with_rows part_key parts s.books.parts; runs = insert s.books.runs run.month run; next = next } }
+  together charges parts run next =
+      record s {
+        books = record s.books {
+          charges = with_rows charge_key charges s.books.charges;
+          parts = with_rows part_key parts s.books.parts;
+          runs = insert s.books.runs run.month run;
+          next = next;
+        };
+      }
 
   all_rows : (s1 s2 s3 s4 : State) (charges : List Charge) (parts : List Part) (run : Run) (next : ℕ) → Posted s s1 s2 s3 s4 charges parts run next
       → s4 ≡ together charges parts run next
@@ -50,7 +59,13 @@ module _ (s : State) where
       h.moved
       ∙ ap (λ (t : State). let u : State = record t { books = record t.books { next = next } } in u) h.run_put
       ∙ ap (λ (t : State). let u : State = record t { books = record t.books { runs = insert t.books.runs run.month run; next = next } } in u) h.parted
-      ∙ ap (λ (t : State). let u : State = record t { books = record t.books { parts = with_rows part_key parts t.books.parts; runs = insert t.books.runs run.month run; next = next } } in u) h.charged
+      ∙ ap (λ (t : State). let u : State = record t {
+        books = record t.books {
+          parts = with_rows part_key parts t.books.parts;
+          runs = insert t.books.runs run.month run;
+          next = next;
+        };
+      } in u) h.charged
 
   run_rows : (size month : ℕ) (key : List ℕ) (charges : List Charge) (parts : List Part) (run : Run) (next : ℕ) → 1 ≤ size → AreNumbered s.books
       → month ≡ s.books.next → OfRun size s.books month key charges parts run next → together charges parts run next ≡ record s { books = ran size s.books key }
@@ -63,7 +78,8 @@ module _ (s : State) where
       ∙ ap (λ m. together (dues s.books m) (posted_parts size s.books m (batches size s.books m)) (closed_run m key (dues s.books m)) (m + 1)) is
 
   -- the books with the run
-  pub run_made : (size month : ℕ) (key : List ℕ) (s1 s2 s3 s4 : State) (charges : List Charge) (parts : List Part) (run : Run) (next : ℕ) → 1 ≤ size → AreNumbered s.books
+  pub run_made : (size month : ℕ) (key : List ℕ) (s1 s2 s3 s4 : State) (charges : List Charge) (parts : List Part) (run : Run) (next : ℕ) → 1 ≤ size
+      → AreNumbered s.books
       → month ≡ s.books.next → Posted s s1 s2 s3 s4 charges parts run next → OfRun size s.books month key charges parts run next
       → s4 ≡ record s { books = ran size s.books key }
   run_made size month key s1 s2 s3 s4 charges parts run next pos are is h of =

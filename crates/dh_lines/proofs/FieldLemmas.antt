@@ -1,5 +1,6 @@
 -- Which field of a line is the first bad one.
-use Rattle.std.proofs.Common.{◌≡◌, ◌∙◌, ℕ, zero, suc, ◌+◌, ◌-◌, ◌<◌, ◌≤◌, get_or, subst, Bool, true, false, List, [], ◌∷◌, Option, Some, None, length, drop, map, Bor, Result, Ok, Err, refl, sym, ap, arith, add-one}
+use Rattle.std.proofs.Common.{◌≡◌, ◌∙◌, ℕ, zero, suc, ◌+◌, ◌-◌, ◌<◌, ◌≤◌, get_or, subst, Bool, true, false, List, [], ◌∷◌, Option, Some, None, length, drop}
+use Rattle.std.proofs.Common.{map, Bor, Result, Ok, Err, refl, sym, ap, arith, add-one}
 use Rattle.std.specs.Prelude.{IsErrAnd, IsUtf8}
 use Rattle.std.proofs.lemmas.Str.{IsUtf8-from_is_utf8}
 use Rattle.std.specs.Str.{is_utf8, chars}
@@ -48,7 +49,8 @@ not_true true h = absurd (h refl)
 not_true false h = refl
 
 -- a `?` that hands an error on
-pub handed_on : {T : Type 0} (r : Result T Unread) (e : Unread) (test : List ℕ → Bool) (fields : Fields) (n : ℕ) → IsErrAnd r (λ y. y ≡ e) → StopsAt test fields n e
+pub handed_on : {T : Type 0} (r : Result T Unread) (e : Unread) (test : List ℕ → Bool) (fields : Fields) (n : ℕ) → IsErrAnd r (λ y. y ≡ e)
+    → StopsAt test fields n e
     → ReadsField test fields n r
 handed_on (Ok x) e test fields n is h = absurd is
 handed_on (Err y) e test fields n is h = subst (λ z. StopsAt test fields n z) (sym is) h
@@ -125,15 +127,18 @@ handed (Ok request) e wanted is h = absurd is
 handed (Err y) e wanted is h = subst (λ x. GivesUp x wanted) (sym is) h
 
 module _ {fields : Fields} {n : ℕ} {bad : Option ℕ} where
-  pub good : {test : List ℕ → Bool} {tests : List (List ℕ → Bool)} → Left fields n (test ∷ tests) bad → is_field test fields (suc n) ≡ true → Left fields (suc n) tests bad
+  pub good : {test : List ℕ → Bool} {tests : List (List ℕ → Bool)} → Left fields n (test ∷ tests) bad → is_field test fields (suc n) ≡ true
+      → Left fields (suc n) tests bad
   good {test} {tests} w h = record { is = w.is ∙ good_is test tests fields n (suc n) h ∙ ap (λ k. first_bad k tests (drop (suc n) fields)) (add-one (suc n)) }
 
-  stop : {test : List ℕ → Bool} {tests : List (List ℕ → Bool)} (e : Unread) (request : Request) → Left fields n (test ∷ tests) bad → StopsAt test fields (suc n) e → GivesUp e (judged bad request)
+  stop : {test : List ℕ → Bool} {tests : List (List ℕ → Bool)} (e : Unread) (request : Request) → Left fields n (test ∷ tests) bad
+      → StopsAt test fields (suc n) e → GivesUp e (judged bad request)
   stop Memory request w h = tt
   stop {test} {tests} (Field k) request w h = rw (w.is, bad_is test tests fields n (suc n) h.1, h.0) refl
 
   -- the next field is bad
-  pub stops : {test : List ℕ → Bool} {tests : List (List ℕ → Bool)} (r : Result Request Unread) (e : Unread) (request : Request) → Left fields n (test ∷ tests) bad
+  pub stops : {test : List ℕ → Bool} {tests : List (List ℕ → Bool)} (r : Result Request Unread) (e : Unread) (request : Request)
+      → Left fields n (test ∷ tests) bad
       → IsErrAnd r (λ y. y ≡ e) → StopsAt test fields (suc n) e → Gives r (judged bad request)
   stops r e request w is h = handed r e (judged bad request) is (stop e request w h)
 

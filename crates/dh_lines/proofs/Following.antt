@@ -1,5 +1,6 @@
 -- The machine follows what was read: its state, what was written and how many records it refused.
-use Rattle.std.proofs.Common.{◌≡◌, ◌∙◌, ℕ, zero, suc, ◌+◌, Option, Some, IfSome, List, [], ◌∷◌, ◌++◌, length, take, drop, true, false, refl, sym, ap, subst, arith, add-one, add-zero, zero-add, add_assoc, append_assoc, append-nil, slice_get, take-append-drop, length-append}
+use Rattle.std.proofs.Common.{◌≡◌, ◌∙◌, ℕ, zero, suc, ◌+◌, Option, Some, IfSome, List, [], ◌∷◌, ◌++◌, length, take, drop, true, false, refl, sym, ap, subst}
+use Rattle.std.proofs.Common.{arith, add-one, add-zero, zero-add, add_assoc, append_assoc, append-nil, slice_get, take-append-drop, length-append}
 use Rattle.std.specs.Prelude.{if◌then◌else◌}
 use Rattle.std.specs.Io.KnownBytes.{Appends}
 use Rattle.std.proofs.KnownBytes.{Appends-nil, Appends-trans}
@@ -60,7 +61,8 @@ one_more : (p f : Fields) (s t : parser.State) (xs ys : List ℕ) → f ≡ p �
 one_more p f s t xs ys e h k = rw (e, h, k) refl
 
 -- n records were read and answered, r of them refused, and the machine came from its start to s
-pub record Follows {R : Type 0} (rem : R → Option (List ℕ)) (records : Reader R) (old now : Option (List ℕ)) (start s : State) (n r : ℕ) (input : List ℕ) : Type 0 where
+pub record Follows {R : Type 0} (rem : R → Option (List ℕ)) (records : Reader R) (old now : Option (List ℕ)) (start s : State) (n r : ℕ)
+    (input : List ℕ) : Type 0 where
   pub left : List ℕ
   pub source : source_of rem records ≡ Some left
   pub rest : drop n (records_of input) ≡ all_from default_config (reader_state records) left
@@ -70,7 +72,8 @@ pub record Follows {R : Type 0} (rem : R → Option (List ℕ)) (records : Reade
   pub refused : r ≡ refused_in start (take n (records_of input))
 
 -- a record more was read, and is not answered yet
-pub record Found {R : Type 0} (rem : R → Option (List ℕ)) (records : Reader R) (old now : Option (List ℕ)) (start s : State) (n r : ℕ) (f : Fields) (input : List ℕ) : Type 0 where
+pub record Found {R : Type 0} (rem : R → Option (List ℕ)) (records : Reader R) (old now : Option (List ℕ)) (start s : State) (n r : ℕ) (f : Fields)
+    (input : List ℕ) : Type 0 where
   pub left : List ℕ
   pub source : source_of rem records ≡ Some left
   pub next : IsNext (records_of input) n f (all_from default_config (reader_state records) left)
@@ -86,7 +89,8 @@ pub record Ended (old now : Option (List ℕ)) (start s : State) (n r : ℕ) (in
   pub refused : r ≡ refused_in start (records_of input)
 
 module _ {R : Type 0} (rem : R → Option (List ℕ)) where
-  pub follows-start : (records : Reader R) (old : Option (List ℕ)) (start : State) (input : List ℕ) → source_of rem records ≡ Some (strip_bom input) → reader_state records ≡ st.StartRecord
+  pub follows-start : (records : Reader R) (old : Option (List ℕ)) (start : State) (input : List ℕ) → source_of rem records ≡ Some (strip_bom input)
+      → reader_state records ≡ st.StartRecord
       → Follows rem records old old start start 0 0 input
   follows-start records old start input source state = record {
     left = strip_bom input;
@@ -108,21 +112,24 @@ module _ {R : Type 0} (rem : R → Option (List ℕ)) where
       all_from-next default_config (reader_state a) w.left p is ∙ one_more p.0 f p.1 (reader_state b) p.2 left fields after.0 after.1 in
       record { left = left; source = source; next = next_of (records_of input) n f _ (w.rest ∙ all); written = w.written; state = w.state; refused = w.refused }
 
-  pub follows-next : (b : Reader R) (old mid now : Option (List ℕ)) (start s t : State) (n r q : ℕ) (f : Fields) (input : List ℕ) → Found rem b old mid start s n r f input
+  pub follows-next : (b : Reader R) (old mid now : Option (List ℕ)) (start s t : State) (n r q : ℕ) (f : Fields) (input : List ℕ)
+      → Found rem b old mid start s n r f input
       → Appends mid now (line (n + 1) s f) → t ≡ (answered s f).state → q ≡ r + refusals s f → Follows rem b old now start t (n + 1) q input
   follows-next b old mid now start s t n r q f input w h state refused =
       let before = take n (records_of input) in
       let number : 1 + length before ≡ n + 1 = rw w.next.count (omega arith) in
       let lines : lines_from 1 start (take (suc n) (records_of input)) ≡ lines_from 1 start before ++ line (n + 1) s f =
       ap (lines_from 1 start) w.next.taken ∙ lines-more 1 start before f
-      ∙ ap (λ k. lines_from 1 start before ++ line k (state_after start before) f) number ∙ ap (λ x. lines_from 1 start before ++ line (n + 1) x f) (sym w.state) in
+      ∙ ap (λ k. lines_from 1 start before ++ line k (state_after start before) f) number
+      ∙ ap (λ x. lines_from 1 start before ++ line (n + 1) x f) (sym w.state) in
       record {
         left = w.left;
         source = w.source;
         rest = rw add-one w.next.rest;
         count = rw (add-one, w.next.taken, length-append, w.next.count) (omega arith);
         written = rw (add-one, lines) (Appends-trans old mid now _ _ w.written h);
-        state = state ∙ ap (λ x. (answered x f).state) w.state ∙ sym (state-more start before f) ∙ ap (state_after start) (sym w.next.taken) ∙ ap (λ k. state_after start (take k (records_of input))) (sym (add-one n));
+        state = state ∙ ap (λ x. (answered x f).state) w.state ∙ sym (state-more start before f) ∙ ap (state_after start) (sym w.next.taken)
+            ∙ ap (λ k. state_after start (take k (records_of input))) (sym (add-one n));
         refused = refused ∙ ap (λ k. k + refusals s f) w.refused ∙ ap (λ x. refused_in start before + refusals x f) w.state ∙ sym (refused-more start before f)
             ∙ ap (refused_in start) (sym w.next.taken) ∙ ap (λ k. refused_in start (take k (records_of input))) (sym (add-one n));
       }
@@ -130,8 +137,10 @@ module _ {R : Type 0} (rem : R → Option (List ℕ)) where
   pub follows-end : (a b : Reader R) (old now : Option (List ℕ)) (start s : State) (n r : ℕ) (f : Fields) (input : List ℕ) → reader_config a ≡ default_config
       → ReadRecord rem a b false f → Follows rem a old now start s n r input → Ended old now start s n r input
   follows-end a b old now start s n r f input config read w =
-      let none : drop n (records_of input) ≡ [] = w.rest ∙ all_from-end default_config (reader_state a) w.left (rows-end rem a b f default_config w.left config w.source read) in
-      let all : take n (records_of input) ≡ records_of input = sym (append-nil (take n (records_of input))) ∙ ap (λ l. take n (records_of input) ++ l) (sym none) ∙ take-append-drop n (records_of input) in
+      let none : drop n (records_of input) ≡ [] =
+      w.rest ∙ all_from-end default_config (reader_state a) w.left (rows-end rem a b f default_config w.left config w.source read) in
+      let all : take n (records_of input) ≡ records_of input =
+      sym (append-nil (take n (records_of input))) ∙ ap (λ l. take n (records_of input) ++ l) (sym none) ∙ take-append-drop n (records_of input) in
       record {
         written = subst (λ l. Appends old now (lines_from 1 start l)) all w.written;
         state = w.state ∙ ap (state_after start) all;
@@ -141,7 +150,8 @@ module _ {R : Type 0} (rem : R → Option (List ℕ)) where
 
 -- the same, where the input is known
 module _ {R : Type 0} (rem : R → Option (List ℕ)) (known : Option (List ℕ)) where
-  pub found : (a b : Reader R) (old now : Option (List ℕ)) (start s : State) (n r : ℕ) (f : Fields) → reader_config a ≡ default_config → ReadRecord rem a b true f
+  pub found : (a b : Reader R) (old now : Option (List ℕ)) (start s : State) (n r : ℕ) (f : Fields) → reader_config a ≡ default_config
+      → ReadRecord rem a b true f
       → IfSome known (Follows rem a old now start s n r) → IfSome known (Found rem b old now start s n r f)
   found a b old now start s n r f config read w = IfSome_then known w (λ input v. found-next rem a b old now start s n r f input config read v)
 
@@ -150,6 +160,7 @@ module _ {R : Type 0} (rem : R → Option (List ℕ)) (known : Option (List ℕ)
   goes_on b old mid now start s t n r q f w h state refused =
       IfSome_then known w (λ input v. follows-next rem b old mid now start s t n r q f input v h state refused)
 
-  pub ends : (a b : Reader R) (old now : Option (List ℕ)) (start s : State) (n r : ℕ) (f : Fields) → reader_config a ≡ default_config → ReadRecord rem a b false f
+  pub ends : (a b : Reader R) (old now : Option (List ℕ)) (start s : State) (n r : ℕ) (f : Fields) → reader_config a ≡ default_config
+      → ReadRecord rem a b false f
       → IfSome known (Follows rem a old now start s n r) → IfSome known (Ended old now start s n r)
   ends a b old now start s n r f config read w = IfSome_then known w (λ input v. follows-end rem a b old now start s n r f input config read v)

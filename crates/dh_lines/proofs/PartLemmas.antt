@@ -42,10 +42,12 @@ module _ {T E : Type 0} (r : Result T E) where
   number_is number text = append_assoc (decimal number) (32 ∷ []) text
 
   -- a line's number, and then its text
-  pub number-broke : (a b : Option (List ℕ)) (number : ℕ) (text : List ℕ) → IsErr r → (n : ℕ) × Appends a b (take n (decimal number ++ 32 ∷ [])) → Puts a b r (numbered number text)
+  pub number-broke : (a b : Option (List ℕ)) (number : ℕ) (text : List ℕ) → IsErr r → (n : ℕ) × Appends a b (take n (decimal number ++ 32 ∷ []))
+      → Puts a b r (numbered number text)
   number-broke a b number text is h = subst (Puts a b r) (number_is number text) (broke a b (decimal number ++ 32 ∷ []) text is h)
 
-  pub number-goes_on : (a b c : Option (List ℕ)) (number : ℕ) (text : List ℕ) → Appends a b (decimal number ++ 32 ∷ []) → Puts b c r text → Puts a c r (numbered number text)
+  pub number-goes_on : (a b c : Option (List ℕ)) (number : ℕ) (text : List ℕ) → Appends a b (decimal number ++ 32 ∷ []) → Puts b c r text
+      → Puts a c r (numbered number text)
   number-goes_on a b c number text h k = subst (Puts a c r) (number_is number text) (goes_on a b c (decimal number ++ 32 ∷ []) text h k)
 
 -- an answer that is no refusal is shown

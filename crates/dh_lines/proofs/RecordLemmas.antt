@@ -17,7 +17,8 @@ take-none (x ∷ fields) zero h = cc
 take-none (x ∷ fields) (suc i) h = ap (λ l. x ∷ l) (take-none fields i h)
 
 -- the fields gathered so far, and one more
-pub gathered-next : (fields : List (List ℕ)) (items more : List (Bor (List ℕ))) (f : Bor (List ℕ)) (i j : ℕ) → map (λ g. g.now) items ≡ take i fields → more ≡ items ++ f ∷ []
+pub gathered-next : (fields : List (List ℕ)) (items more : List (Bor (List ℕ))) (f : Bor (List ℕ)) (i j : ℕ) → map (λ g. g.now) items ≡ take i fields
+    → more ≡ items ++ f ∷ []
     → Some f.now ≡ field_at fields i → j ≡ i + 1 → map (λ g. g.now) more ≡ take j fields
 gathered-next fields items more f i j so_far pushed next count =
     rw (pushed, count, add-one, take-next fields i f.now next, map-append (λ (g : Bor (List ℕ)). g.now) items (f ∷ []), so_far) refl

@@ -1,5 +1,6 @@
 -- From what one record does to what a batch does.
-use Rattle.std.proofs.Common.{◌≡◌, ◌∙◌, ◌⊎◌, inl, inr, ℕ, zero, suc, ◌+◌, ◌≤◌, Bool, true, false, Option, List, [], ◌∷◌, ◌++◌, length, take, Result, Ok, Err, refl, sym, ap, subst, arith, add-one, append-nil}
+use Rattle.std.proofs.Common.{◌≡◌, ◌∙◌, ◌⊎◌, inl, inr, ℕ, zero, suc, ◌+◌, ◌≤◌, Bool, true, false, Option, List, [], ◌∷◌, ◌++◌, length, take, Result, Ok, Err}
+use Rattle.std.proofs.Common.{refl, sym, ap, subst, arith, add-one, append-nil}
 use Rattle.std.specs.Prelude.{IsErrAnd, if◌then◌else◌}
 use Rattle.std.specs.Io.KnownBytes.{Appends}
 use Rattle.std.proofs.KnownBytes.{Appends-trans}
@@ -28,7 +29,8 @@ nothing_more : (a b : Option (List ℕ)) (text : List ℕ) → Appends a b text 
 nothing_more a b text h = subst (Appends a b) (sym (append-nil text)) h
 
 module _ {S : Type 0} (g : Ghosts S) (old new : Seat S) (a b : Option (List ℕ)) where
-  pub all_answered : (n r : ℕ) (input : List ℕ) → Ended a b (machine g old) (machine g new) n r input → AnsweredAll g old new a b (record { records = n; refused = r }) input
+  pub all_answered : (n r : ℕ) (input : List ℕ) → Ended a b (machine g old) (machine g new) n r input
+      → AnsweredAll g old new a b (record { records = n; refused = r }) input
   all_answered n r input w = record { written = w.written; state = w.state; records = w.count; refused = w.refused }
 
 module _ {S R : Type 0} (g : Ghosts S) (old new : Seat S) (a b : Option (List ℕ)) (rem : R → Option (List ℕ)) (records : Reader R) (n r : ℕ) (input : List ℕ)
@@ -46,14 +48,16 @@ module _ {S R : Type 0} (g : Ghosts S) (old new : Seat S) (a b : Option (List �
   }
 
   -- between records a crash leaves the tables, and of a fault's line a beginning may be written
-  pub agrees_between : (c : Option (List ℕ)) (fault : Fault) → (m : ℕ) × Appends b c (take m (fault_line (n + 1) fault)) → LeavesItsTables g new → AgreesWithLines g old new a c input
+  pub agrees_between : (c : Option (List ℕ)) (fault : Fault) → (m : ℕ) × Appends b c (take m (fault_line (n + 1) fault)) → LeavesItsTables g new
+      → AgreesWithLines g old new a c input
   agrees_between c fault h left = record {
     count = n;
     text = take h.0 (fault_line (n + 1) fault);
     few = few (records_of input) n w.count;
     written = Appends-trans a b c _ _ w.written h.1;
     part = inr (fault, h.0, refl);
-    left = leaves_what_holds g new (λ left. (left ≡ state_after (machine g old) (take n (records_of input))) ⊎ (left ≡ state_after (machine g old) (take (n + 1) (records_of input)))) left (inl w.state);
+    left = leaves_what_holds g new (λ left. (left ≡ state_after (machine g old) (take n (records_of input)))
+        ⊎ (left ≡ state_after (machine g old) (take (n + 1) (records_of input)))) left (inl w.state);
   }
 
   pub agrees_now : LeavesItsTables g new → AgreesWithLines g old new a b input
@@ -63,14 +67,17 @@ module _ {S R : Type 0} (g : Ghosts S) (old new : Seat S) (a b : Option (List �
     few = few (records_of input) n w.count;
     written = nothing_more a b (lines_from 1 (machine g old) (take n (records_of input))) w.written;
     part = inr (Memory, 0, refl);
-    left = leaves_what_holds g new (λ left. (left ≡ state_after (machine g old) (take n (records_of input))) ⊎ (left ≡ state_after (machine g old) (take (n + 1) (records_of input)))) left (inl w.state);
+    left = leaves_what_holds g new (λ left. (left ≡ state_after (machine g old) (take n (records_of input)))
+        ⊎ (left ≡ state_after (machine g old) (take (n + 1) (records_of input)))) left (inl w.state);
   }
 
-module _ {S R : Type 0} (g : Ghosts S) (old mid new : Seat S) (a b c : Option (List ℕ)) (rem : R → Option (List ℕ)) (records : Reader R) (n r : ℕ) (f : Fields) (input : List ℕ)
+module _ {S R : Type 0} (g : Ghosts S) (old mid new : Seat S) (a b c : Option (List ℕ)) (rem : R → Option (List ℕ)) (records : Reader R) (n r : ℕ) (f : Fields)
+    (input : List ℕ)
     (w : Found rem records a b (machine g old) (machine g mid) n r f input) where
   next_state : (answered (machine g mid) f).state ≡ state_after (machine g old) (take (n + 1) (records_of input))
   next_state =
-      ap (λ s. (answered s f).state) w.state ∙ sym (state-more (machine g old) (take n (records_of input)) f) ∙ ap (state_after (machine g old)) (sym w.next.taken)
+      ap (λ s. (answered s f).state) w.state ∙ sym (state-more (machine g old) (take n (records_of input)) f)
+      ∙ ap (state_after (machine g old)) (sym w.next.taken)
       ∙ ap (λ k. state_after (machine g old) (take k (records_of input))) (sym (add-one n))
 
   same_line : line (n + 1) (machine g mid) f ≡ line (n + 1) (state_after (machine g old) (take n (records_of input))) f
@@ -96,12 +103,14 @@ module _ {S R : Type 0} (g : Ghosts S) (old mid new : Seat S) (a b c : Option (L
   }
 
   -- what a crash leaves agrees with the lines as far as they were written
-  pub agrees_early : (e : BatchFault) → EndsEarly g mid new b c (n + 1) (answered (machine g mid) f) e → LeavesEither g new (machine g mid) (answered (machine g mid) f).state
+  pub agrees_early : (e : BatchFault) → EndsEarly g mid new b c (n + 1) (answered (machine g mid) f) e
+      → LeavesEither g new (machine g mid) (answered (machine g mid) f).state
       → AgreesWithLines g old new a c input
   agrees_early e h left = agree e h
     where
       either : LeavesEither g new (state_after (machine g old) (take n (records_of input))) (state_after (machine g old) (take (n + 1) (records_of input)))
-      either = subst (λ s. LeavesEither g new s (state_after (machine g old) (take (n + 1) (records_of input)))) w.state (subst (λ s. LeavesEither g new (machine g mid) s) next_state left)
+      either = subst (λ s. LeavesEither g new s (state_after (machine g old) (take (n + 1) (records_of input)))) w.state
+          (subst (λ s. LeavesEither g new (machine g mid) s) next_state left)
 
       agree : (e : BatchFault) → EndsEarly g mid new b c (n + 1) (answered (machine g mid) f) e → AgreesWithLines g old new a c input
       agree (Agency fault) h = record {

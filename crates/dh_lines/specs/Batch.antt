@@ -70,7 +70,8 @@ module _ {S : Type 0} (g : Ghosts S) (old new : Seat S) (a b : Option (List ℕ)
     pub fields : Fields
     pub cut : ℕ
     pub here : slice_get (records_of input) count ≡ Some fields
-    pub written : Appends a b (lines_from 1 (machine g old) (take count (records_of input)) ++ take cut (line (count + 1) (state_after (machine g old) (take count (records_of input))) fields))
+    pub written : Appends a b (lines_from 1 (machine g old) (take count (records_of input))
+        ++ take cut (line (count + 1) (state_after (machine g old) (take count (records_of input))) fields))
     pub state : machine g new ≡ state_after (machine g old) (take (count + 1) (records_of input))
 
   -- what the result of a batch says
@@ -87,6 +88,8 @@ module _ {S : Type 0} (g : Ghosts S) (old new : Seat S) (a b : Option (List ℕ)
     pub text : List ℕ
     pub few : count ≤ length (records_of input)
     pub written : Appends a b (lines_from 1 (machine g old) (take count (records_of input)) ++ text)
-    pub part : ((fields : Fields) × (m : ℕ) × (slice_get (records_of input) count ≡ Some fields) × (text ≡ take m (line (count + 1) (state_after (machine g old) (take count (records_of input))) fields)))
+    pub part : ((fields : Fields) × (m : ℕ) × (slice_get (records_of input) count ≡ Some fields)
+        × (text ≡ take m (line (count + 1) (state_after (machine g old) (take count (records_of input))) fields)))
         ⊎ ((fault : Fault) × (m : ℕ) × (text ≡ take m (fault_line (count + 1) fault)))
-    pub left : LeavesEither g new (state_after (machine g old) (take count (records_of input))) (state_after (machine g old) (take (count + 1) (records_of input)))
+    pub left : LeavesEither g new (state_after (machine g old) (take count (records_of input)))
+        (state_after (machine g old) (take (count + 1) (records_of input)))

@@ -35,8 +35,11 @@ fn answer_command<S: Alter, W: Write>(
     command: &Command,
     writer: &mut W,
 ) -> Result<bool, BatchFault>
-    ensures answers { IsClean S.Store agency.new → Answers S.Store agency.old agency.new (W.contents writer.old) (W.contents writer.new) number (replied (known_step (machine S.Store agency.old) command.now)) result }
-    ensures crash { IsClean S.Store agency.new → agency.old.is_stopped ≡ false → LeavesEither S.Store agency.new (machine S.Store agency.old) (known_step (machine S.Store agency.old) command.now).0 }
+    ensures answers { IsClean S.Store agency.new
+        → Answers S.Store agency.old agency.new (W.contents writer.old) (W.contents writer.new) number
+        (replied (known_step (machine S.Store agency.old) command.now)) result }
+    ensures crash { IsClean S.Store agency.new → agency.old.is_stopped ≡ false
+        → LeavesEither S.Store agency.new (machine S.Store agency.old) (known_step (machine S.Store agency.old) command.now).0 }
     ensures left { IsClean S.Store agency.new → agency.new.is_stopped ≡ false → LeavesItsTables S.Store agency.new }
     ensures cause { agency.old.is_stopped ≡ false → IfErr result IsFirst }
     ensures stops { (agency.new.is_stopped ≡ agency.old.is_stopped) ⊎ (IsAgencyFault result × (agency.new.is_stopped ≡ true)) }
@@ -59,8 +62,11 @@ fn answer_question<S: Alter, W: Write>(
     question: Question,
     writer: &mut W,
 ) -> Result<bool, BatchFault>
-    ensures answers { IsClean S.Store agency.new → Answers S.Store agency.old agency.new (W.contents writer.old) (W.contents writer.new) number (reported (machine S.Store agency.old) (known_report (machine S.Store agency.old) question)) result }
-    ensures crash { IsClean S.Store agency.new → agency.old.is_stopped ≡ false → LeavesEither S.Store agency.new (machine S.Store agency.old) (machine S.Store agency.old) }
+    ensures answers { IsClean S.Store agency.new
+        → Answers S.Store agency.old agency.new (W.contents writer.old) (W.contents writer.new) number
+        (reported (machine S.Store agency.old) (known_report (machine S.Store agency.old) question)) result }
+    ensures crash { IsClean S.Store agency.new → agency.old.is_stopped ≡ false
+        → LeavesEither S.Store agency.new (machine S.Store agency.old) (machine S.Store agency.old) }
     ensures left { IsClean S.Store agency.new → agency.new.is_stopped ≡ false → LeavesItsTables S.Store agency.new }
     ensures cause { agency.old.is_stopped ≡ false → IfErr result IsFirst }
     ensures stops { (agency.new.is_stopped ≡ agency.old.is_stopped) ⊎ (IsAgencyFault result × (agency.new.is_stopped ≡ true)) }
@@ -83,7 +89,9 @@ pub fn answer<S: Alter, W: Write>(
     row: &ByteRecord,
     writer: &mut W,
 ) -> Result<bool, BatchFault>
-    ensures answers { IsClean S.Store agency.new → Answers S.Store agency.old agency.new (W.contents writer.old) (W.contents writer.new) number (answered (machine S.Store agency.old) (fields_of row.now)) result }
+    ensures answers { IsClean S.Store agency.new
+        → Answers S.Store agency.old agency.new (W.contents writer.old) (W.contents writer.new) number
+        (answered (machine S.Store agency.old) (fields_of row.now)) result }
     ensures crash { IsClean S.Store agency.new → agency.old.is_stopped ≡ false → LeavesItsTables S.Store agency.old
         → LeavesEither S.Store agency.new (machine S.Store agency.old) (answered (machine S.Store agency.old) (fields_of row.now)).state }
     ensures left { IsClean S.Store agency.new → LeavesItsTables S.Store agency.old → agency.new.is_stopped ≡ false → LeavesItsTables S.Store agency.new }

@@ -9,7 +9,8 @@ use Rattle.std.proofs.lemmas.Bool.{false≢true}
 
 module _ {X : Type 0} where
   -- what was found, then this value, and then the rest
-  pub in_front : (found : Option X) (here : Bool) (v : X) (rest : Option X) → option_or (option_or found (cond here (Some v) None)) rest ≡ option_or found (cond here (Some v) rest)
+  pub in_front : (found : Option X) (here : Bool) (v : X) (rest : Option X)
+      → option_or (option_or found (cond here (Some v) None)) rest ≡ option_or found (cond here (Some v) rest)
   in_front None true v rest = refl
   in_front None false v rest = refl
   in_front (Some w) here v rest = refl
@@ -18,7 +19,8 @@ module _ {X : Type 0} where
   nothing_after None = refl
   nothing_after (Some w) = refl
 
-  new_there : (here : Bool) (v : X) (found : Option X) → (here ≡ true → is_some found ≡ false) → cond here (Some v) found ≡ option_or found (cond here (Some v) None)
+  new_there : (here : Bool) (v : X) (found : Option X) → (here ≡ true → is_some found ≡ false)
+      → cond here (Some v) found ≡ option_or found (cond here (Some v) None)
   new_there here v None none = refl
   new_there true v (Some w) none = absurd (false≢true (sym (none refl)))
   new_there false v (Some w) none = refl

@@ -1,15 +1,18 @@
 -- What a loop over leases has found so far, and what is left.
-use Rattle.std.proofs.Common.{◌≡◌, ◌∙◌, refl, sym, ap, subst, inl, inr, ℕ, ◌+◌, ◌<◌, ◌≤◌, Bool, true, false, cond, ◌&&◌, List, [], ◌∷◌, ◌++◌, map, append_assoc, arith}
+use Rattle.std.proofs.Common.{◌≡◌, ◌∙◌, refl, sym, ap, subst, inl, inr, ℕ, ◌+◌, ◌<◌, ◌≤◌, Bool, true, false, cond, ◌&&◌, List, [], ◌∷◌, ◌++◌, map, append_assoc}
+use Rattle.std.proofs.Common.{arith}
 use Rattle.std.specs.List.{filter}
 use Rattle.dh_model.proofs.Among.{Among}
 use Rattle.dh_model.proofs.Rising.{Lesser, Rises}
 
 module _ {X Y : Type 0} (p q : X → Bool) (f : X → Y) where
-  by_both : (x : X) (xs : List X) (t b : Bool) → (t && p x) ≡ b → filter p (cond t (x ∷ filter q xs) (filter q xs)) ≡ cond b (x ∷ filter p (filter q xs)) (filter p (filter q xs))
+  by_both : (x : X) (xs : List X) (t b : Bool) → (t && p x) ≡ b
+      → filter p (cond t (x ∷ filter q xs) (filter q xs)) ≡ cond b (x ∷ filter p (filter q xs)) (filter p (filter q xs))
   by_both x xs true b is = ap (λ s. cond s (x ∷ filter p (filter q xs)) (filter p (filter q xs))) is
   by_both x xs false b is = ap (λ s. cond s (x ∷ filter p (filter q xs)) (filter p (filter q xs))) is
 
-  left : (x : X) (xs ys : List X) (b : Bool) → xs ≡ x ∷ ys → (q x && p x) ≡ b → map f (filter p (filter q xs)) ≡ map f (cond b (x ∷ filter p (filter q ys)) (filter p (filter q ys)))
+  left : (x : X) (xs ys : List X) (b : Bool) → xs ≡ x ∷ ys → (q x && p x) ≡ b
+      → map f (filter p (filter q xs)) ≡ map f (cond b (x ∷ filter p (filter q ys)) (filter p (filter q ys)))
   left x xs ys b front is = ap (λ zs. map f (filter p (filter q zs))) front ∙ ap (map f) (by_both x ys (q x) b is)
 
   -- none was looked at
@@ -24,7 +27,8 @@ module _ {X Y : Type 0} (p q : X → Bool) (f : X → Y) where
       ∙ sym (ap (λ zs. found ++ zs) (left x xs ys true front is)) ∙ so_far
 
   -- it fails one
-  pub none_more : (x : X) (xs ys : List X) (found all : List Y) → xs ≡ x ∷ ys → (q x && p x) ≡ false → found ++ map f (filter p (filter q xs)) ≡ all → found ++ map f (filter p (filter q ys)) ≡ all
+  pub none_more : (x : X) (xs ys : List X) (found all : List Y) → xs ≡ x ∷ ys → (q x && p x) ≡ false → found ++ map f (filter p (filter q xs)) ≡ all → found
+      ++ map f (filter p (filter q ys)) ≡ all
   none_more x xs ys found all front is so_far = sym (ap (λ zs. found ++ zs) (left x xs ys false front is)) ∙ so_far
 
 module _ {X : Type 0} (number : X → ℕ) (x : X) (xs ys : List X) (front : xs ≡ x ∷ ys) where

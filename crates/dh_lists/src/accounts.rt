@@ -72,7 +72,8 @@ pub(crate) struct Accounts {
 impl Accounts {
     /// The accounts of the books. It fails where memory runs out.
     pub(crate) fn of(alloc: Global, books: &Books) -> Result<Accounts, AllocError>
-        ensures { IfOk result (λ accounts. (lease : ℕ) → (pos (sum_at accounts.charged lease) -ℤ pos (sum_at accounts.paid lease)) ≡ balance books.now.books lease) }
+        ensures { IfOk result (λ accounts. (lease : ℕ)
+            → (pos (sum_at accounts.charged lease) -ℤ pos (sum_at accounts.paid lease)) ≡ balance books.now.books lease) }
     {
         let charged = charged(alloc, books)?;
         let paid = rent_paid(alloc, books)?;

@@ -1,5 +1,6 @@
 -- What is among the elements of a list.
-use Rattle.std.proofs.Common.{◌≡◌, ◌⊎◌, refl, inl, inr, ℕ, zero, suc, ◌+◌, ◌<◌, ◌≤◌, Bool, true, false, cond, List, [], ◌∷◌, ◌++◌, map, length, slice_index_or, arith}
+use Rattle.std.proofs.Common.{◌≡◌, ◌⊎◌, refl, inl, inr, ℕ, zero, suc, ◌+◌, ◌<◌, ◌≤◌, Bool, true, false, cond, List, [], ◌∷◌, ◌++◌, map, length, slice_index_or}
+use Rattle.std.proofs.Common.{arith}
 use Rattle.std.specs.List.{IsAmong, filter, flat_map, list_any, range_with_len}
 use Rattle.std.proofs.lemmas.Bool.{cases_lt, or_cases, or_left, or_right}
 
@@ -26,7 +27,8 @@ is_among (x ∷ xs) v (inl e) = (0, (omega arith, e))
 is_among (x ∷ xs) v (inr h) = later x v xs (is_among xs v h)
 
 module _ {X : Type 0} (p : X → Bool) where
-  kept_step : (b : Bool) (x v : X) (xs ks : List X) → p x ≡ b → (Among ks v → Among xs v × (p v ≡ true)) → Among (cond b (x ∷ ks) ks) v → Among (x ∷ xs) v × (p v ≡ true)
+  kept_step : (b : Bool) (x v : X) (xs ks : List X) → p x ≡ b → (Among ks v → Among xs v × (p v ≡ true)) → Among (cond b (x ∷ ks) ks) v → Among (x ∷ xs) v
+      × (p v ≡ true)
   kept_step true x v xs ks e rest (inl s) = (inl s, rw s e)
   kept_step true x v xs ks e rest (inr h) = (inr (rest h).0, (rest h).1)
   kept_step false x v xs ks e rest h = (inr (rest h).0, (rest h).1)

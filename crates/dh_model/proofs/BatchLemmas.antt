@@ -1,5 +1,6 @@
 -- Batches of rent runs.
-use Rattle.std.proofs.Common.{◌≡◌, ◌∙◌, refl, ap, inl, inr, ℕ, ◌+◌, ◌-◌, ◌*◌, ◌/◌, ◌<◌, ◌≤◌, Bool, true, cond, nat_eq, nat_lt, List, [], ◌∷◌, length, div-mul-le_self, le-div_iff_mul-le, lt-ltb, arith}
+use Rattle.std.proofs.Common.{◌≡◌, ◌∙◌, refl, ap, inl, inr, ℕ, ◌+◌, ◌-◌, ◌*◌, ◌/◌, ◌<◌, ◌≤◌, Bool, true, cond, nat_eq, nat_lt, List, [], ◌∷◌, length}
+use Rattle.std.proofs.Common.{div-mul-le_self, le-div_iff_mul-le, lt-ltb, arith}
 use Rattle.std.specs.List.{filter}
 use Rattle.std.specs.FinMap.{keys}
 use Rattle.std.proofs.Math.Nat.{lt-div-mul-add}
@@ -17,7 +18,8 @@ use Rattle.dh_model.proofs.BranchDues.{dues_of_branch_rise, lease_of}
 
 module _ (size : ℕ) (pos : 1 ≤ size) where
   -- the places of a batch
-  places_of_batch : (before place number : ℕ) → nat_eq (before + place / size) number ≡ true → ((number - before) * size ≤ place) × (place < (number - before) * size + size)
+  places_of_batch : (before place number : ℕ) → nat_eq (before + place / size) number ≡ true → ((number - before) * size ≤ place)
+      × (place < (number - before) * size + size)
   places_of_batch before place number h =
       let same = (numbers (before + place / size) number).0 h in
       let quotient : number - before ≡ place / size = omega (arith, same) in

@@ -1,5 +1,6 @@
 -- The dues of a branch: they rise by lease, and no two branches share one.
-use Rattle.std.proofs.Common.{◌≡◌, ◌∙◌, refl, sym, ap, inl, inr, ℕ, zero, suc, ◌+◌, ◌<◌, Bool, true, false, cond, T, List, [], ◌∷◌, map, Option, Some, None, Ordering, Less, Equal, Greater, is_lt, is_eq, nat_cmp, arith}
+use Rattle.std.proofs.Common.{◌≡◌, ◌∙◌, refl, sym, ap, inl, inr, ℕ, zero, suc, ◌+◌, ◌<◌, Bool, true, false, cond, T, List, [], ◌∷◌, map, Option, Some, None}
+use Rattle.std.proofs.Common.{Ordering, Less, Equal, Greater, is_lt, is_eq, nat_cmp, arith}
 use Rattle.std.specs.List.{filter, flat_map, range_with_len}
 use Rattle.std.specs.Ordering.{eq_by_cmp, ordering_reverse}
 use Rattle.std.specs.Cmp.{IsTotalOrder}
@@ -74,7 +75,8 @@ is_before Equal m n e h = absurd (let no : false ≡ true = h in cc)
 is_before Greater m n e h = absurd (let no : false ≡ true = h in cc)
 
 -- leases in the order of their numbers
-rise_by_number : (es : List (ℕ × Lease)) → is_sorted nat_cmp es ≡ true → ((e : ℕ × Lease) → Among es e → e.1.terms.number ≡ e.0) → Rises (Lesser number_of) (map (λ e. e.1) es)
+rise_by_number : (es : List (ℕ × Lease)) → is_sorted nat_cmp es ≡ true → ((e : ℕ × Lease) → Among es e → e.1.terms.number ≡ e.0)
+    → Rises (Lesser number_of) (map (λ e. e.1) es)
 rise_by_number [] h are = tt
 rise_by_number (e ∷ es) h are =
     let parts = and_parts (below_all nat_cmp e.0 es) (is_sorted nat_cmp es) h in (
@@ -109,7 +111,8 @@ module _ (books : Books) (are : AreNumbered books) where
 
 -- of one lease's dues a month has one at most
 module _ (lease : Lease) (month : ℕ) where
-  later_due : (k n : ℕ) (charge : Charge) → (due lease k).month ≡ month → Among (filter (falls_in month) (map (due lease) (range_with_len (k + 1) n))) charge → ⊥
+  later_due : (k n : ℕ) (charge : Charge) → (due lease k).month ≡ month → Among (filter (falls_in month) (map (due lease) (range_with_len (k + 1) n))) charge
+      → ⊥
   later_due k n charge here a =
       let kept = in_filter (falls_in month) (map (due lease) (range_with_len (k + 1) n)) charge a in
       let of = in_map (due lease) (range_with_len (k + 1) n) charge kept.0 in
@@ -118,8 +121,10 @@ module _ (lease : Lease) (month : ℕ) where
       let same = ap (λ (c : Charge). c.month) of.2 in
       omega (arith, here, there, same, within.0)
 
-  one_by_month : (b : Bool) (k n : ℕ) → falls_in month (due lease k) ≡ b → Rises (Lesser lease_of) (filter (falls_in month) (map (due lease) (range_with_len (k + 1) n)))
-      → Rises (Lesser lease_of) (cond b (due lease k ∷ filter (falls_in month) (map (due lease) (range_with_len (k + 1) n))) (filter (falls_in month) (map (due lease) (range_with_len (k + 1) n))))
+  one_by_month : (b : Bool) (k n : ℕ) → falls_in month (due lease k) ≡ b
+      → Rises (Lesser lease_of) (filter (falls_in month) (map (due lease) (range_with_len (k + 1) n)))
+      → Rises (Lesser lease_of) (cond b (due lease k ∷ filter (falls_in month) (map (due lease) (range_with_len (k + 1) n)))
+      (filter (falls_in month) (map (due lease) (range_with_len (k + 1) n))))
   one_by_month true k n e rest = (λ charge a. absurd (later_due k n charge ((numbers (due lease k).month month).0 e) a), rest)
   one_by_month false k n e rest = rest
 
@@ -160,7 +165,8 @@ module _ (books : Books) (month : ℕ) (are : AreNumbered books) where
   pub dues_of_branch_rise : (branch : List ℕ) → Rises (Lesser lease_of) (dues_of_branch books month branch)
   dues_of_branch_rise branch =
       dues_rise (leases_of_branch books branch) month
-      (filter_rises (Lesser number_of) (λ lease. is_property_of branch (get books.properties lease.terms.property)) (values books.leases) (leases_rise books are))
+      (filter_rises (Lesser number_of) (λ lease. is_property_of branch (get books.properties lease.terms.property)) (values books.leases)
+      (leases_rise books are))
 
   -- the lease of a branch's due
   record IsDueOf (branch : List ℕ) (charge : Charge) : Type 0 where
@@ -182,4 +188,5 @@ module _ (books : Books) (month : ℕ) (are : AreNumbered books) where
       let x = due_of_branch a charge p in
       let y = due_of_branch b charge q in
       let same = inside x.lease y.lease (sym x.is ∙ y.is) in
-      same_branch a b (get books.properties x.lease.terms.property) x.of (ap (λ (lease : Lease). is_property_of b (get books.properties lease.terms.property)) same ∙ y.of)
+      same_branch a b (get books.properties x.lease.terms.property) x.of
+      (ap (λ (lease : Lease). is_property_of b (get books.properties lease.terms.property)) same ∙ y.of)

@@ -39,13 +39,15 @@ due_of lease k h = of_map (due lease) (range_with_len 0 lease.terms.months) k (o
 of_due : (leases : List Lease) (month : ℕ) (charge : Charge) → IsDue leases month charge → Among (dues_among leases month) charge
 of_due leases month charge d =
     let made : Among (dues_of d.lease) charge = rw d.is (due_of d.lease d.k d.within) in
-    of_filter (falls_in month) (flat_map dues_of leases) charge ((numbers charge.month month).1 d.month_is) (of_flat_map dues_of leases d.lease charge d.of made)
+    of_filter (falls_in month) (flat_map dues_of leases) charge ((numbers charge.month month).1 d.month_is)
+    (of_flat_map dues_of leases d.lease charge d.of made)
 
 pub dues_are_those_of_leases : DuesAreThoseOfLeases
 dues_are_those_of_leases books month charge =
     let leases = values books.leases in (
       λ h. let d = is_due leases month charge (among (dues books month) charge h) in (d.lease, d.k, is_among leases d.lease d.of, d.within, d.is, d.month_is),
-      λ h. is_among (dues books month) charge (of_due leases month charge (record { lease = h.0; k = h.1; of = among leases h.0 h.2; within = h.3; is = h.4; month_is = h.5 })),
+      λ h. is_among (dues books month) charge
+          (of_due leases month charge (record { lease = h.0; k = h.1; of = among leases h.0 h.2; within = h.3; is = h.4; month_is = h.5 })),
     )
 
 month_of_due : (books : Books) (month : ℕ) (charge : Charge) → IsAmong (dues books month) charge → charge.month ≡ month

@@ -95,7 +95,8 @@ of_is_day day h = of_at_most (number_in_month day) (days_in (month_of_day day)) 
 
 pub overlap_is_common_day : OverlapIsCommonDay
 overlap_is_common_day lease other s e = (
-  λ h. let c = shared lease other h in (c.property, (c.day, between lease.start (end_of lease) c.day s e c.by_lease.0 c.by_lease.1 c.is, c.by_lease, c.by_other)),
+  λ h. let c = shared lease other h in
+      (c.property, (c.day, between lease.start (end_of lease) c.day s e c.by_lease.0 c.by_lease.1 c.is, c.by_lease, c.by_other)),
   λ h. of_shared lease other (record { property = h.0; day = h.1.0; is = of_is_day h.1.0 h.1.1; by_lease = h.1.2; by_other = h.1.3 }),
 )
 

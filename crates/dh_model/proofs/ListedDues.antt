@@ -8,7 +8,8 @@ use Rattle.dh_model.proofs.BranchDues.{dues_rise, leases_rise}
 use Rattle.dh_model.proofs.Pairs.{rising_pairs}
 
 pub dues_rise_by_lease : DuesRiseByLease
-dues_rise_by_lease books month are = rising_pairs (λ charge other. charge.lease < other.lease) (dues books month) (dues_rise (values books.leases) month (leases_rise books are))
+dues_rise_by_lease books month are =
+    rising_pairs (λ charge other. charge.lease < other.lease) (dues books month) (dues_rise (values books.leases) month (leases_rise books are))
 
 pub each_due_is_listed_once : EachDueIsListedOnce
 each_due_is_listed_once books month are =

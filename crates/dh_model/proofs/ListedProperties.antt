@@ -1,5 +1,6 @@
 -- Which properties are vacant, and which suit a client, and in which order they are listed.
-use Rattle.std.proofs.Common.{◌≡◌, ◌∙◌, refl, sym, ap, inl, inr, ℕ, Bool, true, false, cond, not, nat_le, nat_lt, ◌&&◌, List, [], ◌∷◌, map, Some, Ordering, Less, Equal, Greater, is_lt, nat_cmp, arith}
+use Rattle.std.proofs.Common.{◌≡◌, ◌∙◌, refl, sym, ap, inl, inr, ℕ, Bool, true, false, cond, not, nat_le, nat_lt, ◌&&◌, List, [], ◌∷◌, map, Some, Ordering}
+use Rattle.std.proofs.Common.{Less, Equal, Greater, is_lt, nat_cmp, arith}
 use Rattle.std.specs.List.{filter, list_any}
 use Rattle.std.specs.Ordering.{eq_by_cmp, ordering_then}
 use Rattle.std.specs.Cmp.{IsTotalOrder}
@@ -18,7 +19,8 @@ use Rattle.dh_model.specs.Books.{Books, pair_cmp, text_cmp}
 use Rattle.dh_model.specs.Leases.{Covers, covers, end_of}
 use Rattle.dh_model.specs.Checks.{is_same_text}
 use Rattle.dh_model.specs.Answers.{is_vacant, matches, matching, vacant}
-use Rattle.dh_model.specs.ListLaws.{IsCheaper, IsNotLet, MatchingRiseByRent, MatchingSuitTheClient, PropertiesAreNumbered, Suits, VacantAreNotLet, VacantRiseByNumber}
+use Rattle.dh_model.specs.ListLaws.{IsCheaper, IsNotLet, MatchingRiseByRent, MatchingSuitTheClient, PropertiesAreNumbered, Suits, VacantAreNotLet}
+use Rattle.dh_model.specs.ListLaws.{VacantRiseByNumber}
 use Rattle.dh_model.proofs.Among.{Among, among, in_filter, in_map, is_among, of_filter, of_passes, some_passes}
 use Rattle.dh_model.proofs.KeyOrders.{nat_text_ties, nat_text_total, nat_ties, text_ties, text_total}
 use Rattle.dh_model.proofs.MapRows.{below_at, cases_key, entry_found, found_entry, inside, is_less, key_itself, keys_differ, of_row, row_of, sorted}
@@ -48,10 +50,13 @@ module _ (books : Books) (day : ℕ) (property : Property) where
   lets lease = is_same_text lease.terms.property property.number && covers lease.terms day
 
   let_by : (lease : Lease) → lease.terms.property ≡ property.number → Covers lease.terms day → lets lease ≡ true
-  let_by lease same h = and_from (is_same_text lease.terms.property property.number) (covers lease.terms day) ((texts lease.terms.property property.number).1 same) (of_covered lease.terms day h)
+  let_by lease same h =
+      and_from (is_same_text lease.terms.property property.number) (covers lease.terms day) ((texts lease.terms.property property.number).1 same)
+      (of_covered lease.terms day h)
 
   not_let : is_vacant books day property ≡ true → IsNotLet books day property
-  not_let h lease a same c = not_true (list_any lets (values books.leases)) h (of_passes lets (values books.leases) lease (among (values books.leases) lease a) (let_by lease same c))
+  not_let h lease a same c =
+      not_true (list_any lets (values books.leases)) h (of_passes lets (values books.leases) lease (among (values books.leases) lease a) (let_by lease same c))
 
   of_not_let : IsNotLet books day property → is_vacant books day property ≡ true
   of_not_let h = not_from (list_any lets (values books.leases)) (λ some.
@@ -62,7 +67,8 @@ module _ (books : Books) (day : ℕ) (property : Property) where
 pub vacant_are_not_let : VacantAreNotLet
 vacant_are_not_let books day property =
     let all = values books.properties in (
-      λ a. let kept = in_filter (is_vacant books day) all property (among (vacant books day) property a) in (is_among all property kept.0, not_let books day property kept.1),
+      λ a. let kept = in_filter (is_vacant books day) all property (among (vacant books day) property a) in
+          (is_among all property kept.0, not_let books day property kept.1),
       λ h. is_among (vacant books day) property (of_filter (is_vacant books day) all property (of_not_let books day property h.1) (among all property h.0)),
     )
 
@@ -135,9 +141,11 @@ number_of property = property.number
 pub vacant_rise_by_number : VacantRiseByNumber
 vacant_rise_by_number books day are =
     let rise = rows_rise text_total text_ties (λ (property : Property). property.number) books.properties are in
-    let kept = filter_rises (λ (property : Property) (other : Property). IsBefore text_cmp property.number other.number) (is_vacant books day) (values books.properties) rise in
+    let kept = filter_rises (λ (property : Property) (other : Property). IsBefore text_cmp property.number other.number) (is_vacant books day)
+    (values books.properties) rise in
     rising_pairs (λ property other. text_cmp property.number other.number ≡ Less) (vacant books day)
-    (rises_by (λ (property : Property) (other : Property). IsBefore text_cmp property.number other.number) (λ (property : Property) (other : Property). text_cmp property.number other.number ≡ Less)
+    (rises_by (λ (property : Property) (other : Property). IsBefore text_cmp property.number other.number)
+    (λ (property : Property) (other : Property). text_cmp property.number other.number ≡ Less)
     (λ property other h. is_less (text_cmp property.number other.number) h) (vacant books day) kept)
 
 -- ---- matching properties
@@ -152,7 +160,8 @@ module _ (books : Books) (client : Client) (day : ℕ) where
   suits : (property : Property) → Among suiting property → Suits books client day property
   suits property a =
       let kept = in_filter (matches books client day) (values books.properties) property a in
-      let first = and_parts (is_same_property_type property.property_type client.preferred_type && nat_le property.rent client.greatest_rent) (is_vacant books day property) kept.1 in
+      let first = and_parts (is_same_property_type property.property_type client.preferred_type && nat_le property.rent client.greatest_rent)
+      (is_vacant books day property) kept.1 in
       let parts = and_parts (is_same_property_type property.property_type client.preferred_type) (nat_le property.rent client.greatest_rent) first.0 in
       record {
         of = is_among (values books.properties) property kept.0;
@@ -171,7 +180,8 @@ module _ (books : Books) (client : Client) (day : ℕ) where
       (among (values books.properties) property s.of)
 
   -- a number is of one property
-  one_number : PropertiesAreNumbered books.properties → (property other : Property) → Among (values books.properties) property → Among (values books.properties) other
+  one_number : PropertiesAreNumbered books.properties → (property other : Property) → Among (values books.properties) property
+      → Among (values books.properties) other
       → other.number ≡ property.number → other ≡ property
   one_number are property other a b same =
       let p = row_of text_total text_ties books.properties property a in
@@ -179,9 +189,11 @@ module _ (books : Books) (client : Client) (day : ℕ) where
       let key : q.0 ≡ p.0 = sym (are q.0 other q.1) ∙ same ∙ are p.0 property p.1 in
       inside other property (sym q.1 ∙ ap (get books.properties) key ∙ p.1)
 
-  one_suiting : PropertiesAreNumbered books.properties → (property : Property) → Among suiting property → (other : Property) → Among suiting other → rent_key other ≡ rent_key property → other ≡ property
+  one_suiting : PropertiesAreNumbered books.properties → (property : Property) → Among suiting property → (other : Property) → Among suiting other
+      → rent_key other ≡ rent_key property → other ≡ property
   one_suiting are property a other b same =
-      one_number are property other (in_filter (matches books client day) (values books.properties) property a).0 (in_filter (matches books client day) (values books.properties) other b).0
+      one_number are property other (in_filter (matches books client day) (values books.properties) property a).0
+      (in_filter (matches books client day) (values books.properties) other b).0
       (ap (λ (k : ℕ × List ℕ). k.1) same)
 
 pub matching_suit_the_client : MatchingSuitTheClient
@@ -189,10 +201,12 @@ matching_suit_the_client books client day property are =
     let all = suiting books client day in (
       λ a. suits books client day property (value_of_by_key nat_text_total nat_text_ties rent_key all property (among (matching books client day) property a)),
       λ s. let a = of_suits books client day property s in
-          is_among (matching books client day) property (of_by_key nat_text_total nat_text_ties rent_key all property a (one_suiting books client day are property a)),
+          is_among (matching books client day) property
+          (of_by_key nat_text_total nat_text_ties rent_key all property a (one_suiting books client day are property a)),
     )
 
-cheaper_by : (r : Ordering) (property other : Property) → nat_cmp property.rent other.rent ≡ r → is_lt (ordering_then r (text_cmp property.number other.number)) ≡ true → IsCheaper property other
+cheaper_by : (r : Ordering) (property other : Property) → nat_cmp property.rent other.rent ≡ r
+    → is_lt (ordering_then r (text_cmp property.number other.number)) ≡ true → IsCheaper property other
 cheaper_by Less property other e h = inl (ranked property.rent other.rent Less (sym e))
 cheaper_by Equal property other e h = inr (nat_ties property.rent other.rent e, is_less (text_cmp property.number other.number) h)
 cheaper_by Greater property other e h = cc

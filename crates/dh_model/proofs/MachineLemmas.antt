@@ -14,7 +14,8 @@ use Rattle.dh_model.specs.declared.rows.Change.TheVariants as change
 use Rattle.dh_model.specs.declared.rows.Verdict.{Verdict}
 use Rattle.dh_model.specs.declared.rows.Verdict.TheVariants as verdict
 use Rattle.dh_model.specs.Books.{Books, State}
-use Rattle.dh_model.specs.MachineLaws.{FreeKeepTheRun, FrozenAreRefused, HalfRunsAreNotShown, PostsAddUp, RefusalsChangeNothing, RunIsOpeningAndBatches, is_frozen, is_post}
+use Rattle.dh_model.specs.MachineLaws.{FreeKeepTheRun, FrozenAreRefused, HalfRunsAreNotShown, PostsAddUp, RefusalsChangeNothing, RunIsOpeningAndBatches}
+use Rattle.dh_model.specs.MachineLaws.{is_frozen, is_post}
 use Rattle.dh_model.specs.Runs.{batches, ran}
 use Rattle.dh_model.specs.Verdicts.{verdict_on}
 use Rattle.dh_model.specs.Machine.{accepted, carried_out, posted, posted_sum, resumed, settled, step}
@@ -40,12 +41,14 @@ not_refused _ why h = cc
 abbrev either : Bool → State × Reply → State × Reply → State × Reply
 either b x y = if b then x else y
 
-never : (b : Bool) (x y : State × Reply) (why : Refusal) → (x.1 ≡ reply.Refused why → ⊥) → (y.1 ≡ reply.Refused why → ⊥) → (either b x y).1 ≡ reply.Refused why → ⊥
+never : (b : Bool) (x y : State × Reply) (why : Refusal) → (x.1 ≡ reply.Refused why → ⊥) → (y.1 ≡ reply.Refused why → ⊥) → (either b x y).1 ≡ reply.Refused why
+    → ⊥
 never true x y why p q h = p h
 never false x y why p q h = q h
 
 module _ (size : ℕ) where
-  carried_keeps : (s : State) (told : Command) (rows : Change) → is_frozen told ≡ false → is_post told ≡ false → (carried_out size s told rows).0.open_run ≡ s.open_run
+  carried_keeps : (s : State) (told : Command) (rows : Change) → is_frozen told ≡ false → is_post told ≡ false
+      → (carried_out size s told rows).0.open_run ≡ s.open_run
   carried_keeps s (command.Staff it) rows h g = refl
   carried_keeps s (command.Owner it) rows h g = refl
   carried_keeps s (command.Property it) rows h g = refl
@@ -69,15 +72,19 @@ module _ (size : ℕ) where
   posted_never : (books : Books) (count : ℕ) (run : OpenRun) (why : Refusal) → (posted size books count run).1 ≡ reply.Refused why → ⊥
   posted_never books count run why h =
       let all = batches size books run.month in
-      never (nat_le all (run.done + count)) (record { books = books; open_run = None }, reply.Posted (posted_sum run.month (get books.runs run.month)))
-      (record { books = books; open_run = Some (record { month = run.month; done = run.done + count }) }, reply.Part (record { month = run.month; done = run.done + count; of = all })) why
+      never (nat_le all (run.done + count)) (record { books = books; open_run = None }, reply.Posted (posted_sum run.month (get books.runs run.month))) (
+        record { books = books; open_run = Some (record { month = run.month; done = run.done + count }) },
+        reply.Part (record { month = run.month; done = run.done + count; of = all }),
+      ) why
       (λ e. cc) (λ e. cc) h
 
-  resumed_keeps : (s : State) (count : ℕ) (run : Option OpenRun) (why : Refusal) → s.open_run ≡ run → (resumed size s.books count run).1 ≡ reply.Refused why → (resumed size s.books count run).0 ≡ s
+  resumed_keeps : (s : State) (count : ℕ) (run : Option OpenRun) (why : Refusal) → s.open_run ≡ run → (resumed size s.books count run).1 ≡ reply.Refused why
+      → (resumed size s.books count run).0 ≡ s
   resumed_keeps s count None why e h = λ i. record { books = s.books; open_run = sym e i }
   resumed_keeps s count (Some run) why e h = absurd (posted_never s.books count run why h)
 
-  carried_refuses : (s : State) (told : Command) (rows : Change) (why : Refusal) → (carried_out size s told rows).1 ≡ reply.Refused why → (carried_out size s told rows).0 ≡ s
+  carried_refuses : (s : State) (told : Command) (rows : Change) (why : Refusal) → (carried_out size s told rows).1 ≡ reply.Refused why
+      → (carried_out size s told rows).0 ≡ s
   carried_refuses s (command.Run order) (change.Open row) why h = cc
   carried_refuses s (command.Run order) rows why h = absurd (not_refused rows why h)
   carried_refuses s (command.Open order) (change.Open row) why h = cc
@@ -100,7 +107,10 @@ module _ (size : ℕ) where
   not_reached m n h = grind (arith, nat_tests)
 
   all_posted : (books : Books) (month count : ℕ) → batches size books month ≤ count
-      → posted size books count (record { month = month; done = 0 }) ≡ (record { books = books; open_run = None }, reply.Posted (posted_sum month (get books.runs month)))
+      → posted size books count (record { month = month; done = 0 }) ≡ (
+        record { books = books; open_run = None },
+        reply.Posted (posted_sum month (get books.runs month)),
+      )
   all_posted books month count h = rw (reached (batches size books month) (0 + count) (omega (arith, h))) refl
 
   pub run_is_opening : RunIsOpeningAndBatches size

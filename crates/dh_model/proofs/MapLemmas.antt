@@ -7,7 +7,8 @@ use Rattle.std.specs.List.{AllByRecursion}
 use Rattle.std.specs.List.Sorted.{IsStrictlySortedBy}
 use Rattle.std.specs.Map.{lookup, keys_of}
 use Rattle.std.specs.Cmp.{IsTotalOrder, eq_by_cmp_equiv}
-use Rattle.std.specs.FinMap.{IsAntisymmetric, get, from_entries, insert, entries, empty, get-from_entries, get-insert, entries-insert, len-entries, len-empty, same_map}
+use Rattle.std.specs.FinMap.{IsAntisymmetric, get, from_entries, insert, entries, empty, get-from_entries, get-insert, entries-insert, len-entries, len-empty}
+use Rattle.std.specs.FinMap.{same_map}
 use Rattle.std.specs.FinMap.Entries.{find, put, by_order}
 
 module _ {K X : Type 0} {R : K → K → Ordering} (o : IsTotalOrder R) where

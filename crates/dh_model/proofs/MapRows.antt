@@ -1,9 +1,11 @@
 -- Rows of finite maps, by their keys.
-use Rattle.std.proofs.Common.{◌≡◌, ◌≢◌, ◌↔◌, ◌⊎◌, ◌∙◌, refl, sym, ap, subst, inl, inr, ℕ, ◌+◌, Bool, true, false, cond, List, [], ◌∷◌, ◌++◌, map, Option, Some, None, is_some, Ordering, Less, Equal, Greater, is_lt, is_eq, arith}
+use Rattle.std.proofs.Common.{◌≡◌, ◌≢◌, ◌↔◌, ◌⊎◌, ◌∙◌, refl, sym, ap, subst, inl, inr, ℕ, ◌+◌, Bool, true, false, cond, List, [], ◌∷◌, ◌++◌, map, Option, Some}
+use Rattle.std.proofs.Common.{None, is_some, Ordering, Less, Equal, Greater, is_lt, is_eq, arith}
 use Rattle.std.specs.List.{IsAmong, sum_by}
 use Rattle.std.specs.Ordering.{eq_by_cmp, ordering_reverse}
 use Rattle.std.specs.Cmp.{IsTotalOrder}
-use Rattle.std.specs.FinMap.{FinMap, IsAntisymmetric, contains_key, entries, entries_sorted, find, get, get-entries, get-insert, entries-insert, insert, is_sorted, values}
+use Rattle.std.specs.FinMap.{FinMap, IsAntisymmetric, contains_key, entries, entries_sorted, find, get, get-entries, get-insert, entries-insert, insert}
+use Rattle.std.specs.FinMap.{is_sorted, values}
 use Rattle.std.specs.FinMap.Entries.{below_all, by_order, put}
 use Rattle.std.proofs.lemmas.Cmp.{tied_itself}
 use Rattle.std.proofs.lemmas.Bool.{and_parts, false_from_ne_true}

@@ -1,5 +1,6 @@
 -- Lists whose elements rise, and the numbers of their places.
-use Rattle.std.proofs.Common.{◌≡◌, ◌∙◌, refl, ap, inl, inr, ℕ, zero, suc, ◌+◌, ◌-◌, ◌<◌, ◌≤◌, Bool, true, false, cond, nat_lt, List, [], ◌∷◌, ◌++◌, length, Ordering, is_lt, le-ltb, lt-ltb, arith}
+use Rattle.std.proofs.Common.{◌≡◌, ◌∙◌, refl, ap, inl, inr, ℕ, zero, suc, ◌+◌, ◌-◌, ◌<◌, ◌≤◌, Bool, true, false, cond, nat_lt, List, [], ◌∷◌, ◌++◌, length}
+use Rattle.std.proofs.Common.{Ordering, is_lt, le-ltb, lt-ltb, arith}
 use Rattle.std.specs.List.{count_by, filter}
 use Rattle.std.proofs.lemmas.Bool.{cases_Bool, cases_lt}
 use Rattle.std.proofs.lemmas.List.Sums.{sum_by-cons}
@@ -15,7 +16,8 @@ module _ {X : Type 0} (Before : X → X → Type 0) where
   Rises [] = Unit {0}
   Rises (x ∷ xs) = ((y : X) → Among xs y → Before x y) × Rises xs
 
-  kept_rises : (p : X → Bool) (b : Bool) (x : X) (xs : List X) → ((y : X) → Among xs y → Before x y) → Rises (filter p xs) → Rises (cond b (x ∷ filter p xs) (filter p xs))
+  kept_rises : (p : X → Bool) (b : Bool) (x : X) (xs : List X) → ((y : X) → Among xs y → Before x y) → Rises (filter p xs)
+      → Rises (cond b (x ∷ filter p xs) (filter p xs))
   kept_rises p true x xs before rest = (λ y h. before y (in_filter p xs y h).0, rest)
   kept_rises p false x xs before rest = rest
 

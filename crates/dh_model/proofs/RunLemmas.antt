@@ -7,7 +7,8 @@ use Rattle.std.proofs.lemmas.Bool.{cases_lt}
 use Rattle.dh_types.specs.declared.lease.Charge.{Charge}
 use Rattle.dh_types.specs.declared.run.Part.{Part}
 use Rattle.dh_model.specs.Books.{Books, text_cmp}
-use Rattle.dh_model.specs.Runs.{batch_of, batches, batches_before, batches_of_branch, begun_branches, dues_of_branch, part_of, place_among, posted_charges, posted_of_branch, posted_parts}
+use Rattle.dh_model.specs.Runs.{batch_of, batches, batches_before, batches_of_branch, begun_branches, dues_of_branch, part_of, place_among, posted_charges}
+use Rattle.dh_model.specs.Runs.{posted_of_branch, posted_parts}
 use Rattle.dh_model.specs.BatchLaws.{AreNumbered, OneNumberOfBatches}
 use Rattle.dh_model.specs.Rules.{ArePosted}
 use Rattle.dh_model.proofs.Among.{Among, among, in_filter, in_flat_map, in_map, is_among, of_filter, of_flat_map, of_map}
@@ -50,7 +51,8 @@ is_posted size books month n charge a =
 of_posted : (size : ℕ) (books : Books) (month n : ℕ) (charge : Charge) → IsPosted size books month n charge → Among (posted_charges size books month n) charge
 of_posted size books month n charge p =
     of_flat_map (posted_of_branch size books month n) (keys books.branches) p.branch charge p.of
-    (of_filter (λ c. nat_lt (batch_of size books month p.branch c) n) (dues_of_branch books month p.branch) charge (lt-ltb (batch_of size books month p.branch charge) n p.early) p.due)
+    (of_filter (λ c. nat_lt (batch_of size books month p.branch c) n) (dues_of_branch books month p.branch) charge
+    (lt-ltb (batch_of size books month p.branch charge) n p.early) p.due)
 
 -- what is posted after more batches is so after fewer
 record SaysTheSame (size : ℕ) (books : Books) (month j k : ℕ) : Type 0 where
@@ -59,7 +61,8 @@ record SaysTheSame (size : ℕ) (books : Books) (month j k : ℕ) : Type 0 where
 
 says_the_same : (size : ℕ) (books : Books) (month j k : ℕ) → ArePosted books size month j → ArePosted books size month k → SaysTheSame size books month j k
 says_the_same size books month j k p q = record {
-  charges = λ charge a. among (posted_charges size books month j) charge ((p.charges charge).0 ((q.charges charge).1 (is_among (posted_charges size books month k) charge a)));
+  charges = λ charge a. among (posted_charges size books month j) charge
+      ((p.charges charge).0 ((q.charges charge).1 (is_among (posted_charges size books month k) charge a)));
   parts = λ part a. among (posted_parts size books month j) part ((p.parts part).0 ((q.parts part).1 (is_among (posted_parts size books month k) part a)));
 }
 

@@ -33,7 +33,8 @@ module _ (books : Books) where
 
   -- of the preferred type, at no more than the greatest rent, and vacant
   abbrev pub matches : Client → ℕ → Property → Bool
-  matches client day property = is_same_property_type property.property_type client.preferred_type && nat_le property.rent client.greatest_rent && is_vacant day property
+  matches client day property =
+      is_same_property_type property.property_type client.preferred_type && nat_le property.rent client.greatest_rent && is_vacant day property
 
   -- rising by rent, and then by number
   abbrev pub by_rent : List Property → FinMap (pair_cmp nat_cmp text_cmp) Property
@@ -56,7 +57,12 @@ module _ (books : Books) where
   balance lease = pos (total_of (charges_of lease)) -ℤ pos (rent_paid lease)
 
   abbrev pub debt : Lease → Debt
-  debt lease = record { lease = lease.terms.number; client = lease.terms.client; balance = balance lease.terms.number; name = option_map (λ client. client.name) (get books.clients lease.terms.client) }
+  debt lease = record {
+    lease = lease.terms.number;
+    client = lease.terms.client;
+    balance = balance lease.terms.number;
+    name = option_map (λ client. client.name) (get books.clients lease.terms.client);
+  }
 
   -- the leases of the branch's properties on which rent is owed, rising by number
   abbrev pub debts : List ℕ → List Debt
@@ -78,7 +84,8 @@ module _ (books : Books) where
 
   abbrev pub run_report : Option Run → Report
   run_report None = NoReport refusal.NoRun
-  run_report (Some run) = if run.is_closed then RunParts (filter (λ part. nat_eq part.month run.month) (values books.parts)) (sum_of run) else NoReport refusal.NoRun
+  run_report (Some run) =
+      if run.is_closed then RunParts (filter (λ part. nat_eq part.month run.month) (values books.parts)) (sum_of run) else NoReport refusal.NoRun
 
 -- an open run refuses what would show it half made
 abbrev pub unless_open : Option OpenRun → Report → Report

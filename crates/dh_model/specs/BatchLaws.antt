@@ -20,7 +20,8 @@ module _ (size : ℕ) where
   -- each due of a branch belongs to one of the branch's batches
   abbrev pub EachDueHasItsBatch : Type 0
   EachDueHasItsBatch = (books : Books) (month : ℕ) (branch : List ℕ) (charge : Charge) → 1 ≤ size → AreNumbered books
-      → IsAmong (dues_of_branch books month branch) charge → batch_of size books month branch charge < batches_before size books month branch + batches_of_branch size books month branch
+      → IsAmong (dues_of_branch books month branch) charge
+      → batch_of size books month branch charge < batches_before size books month branch + batches_of_branch size books month branch
 
   -- and these are among all batches
   abbrev pub BatchesOfBranchesAreAmongAll : Type 0
@@ -30,7 +31,8 @@ module _ (size : ℕ) where
   -- after the last batch all dues of each branch are posted, and each branch has begun
   abbrev pub LastBatchPostsAll : Type 0
   LastBatchPostsAll = (books : Books) (month : ℕ) → 1 ≤ size → AreNumbered books
-      → ((branch : List ℕ) → IsAmong (keys books.branches) branch → posted_of_branch size books month (batches size books month) branch ≡ dues_of_branch books month branch)
+      → ((branch : List ℕ) → IsAmong (keys books.branches) branch
+      → posted_of_branch size books month (batches size books month) branch ≡ dues_of_branch books month branch)
       × (begun_branches size books month (batches size books month) ≡ keys books.branches)
 
   -- an open run stands at one number of batches

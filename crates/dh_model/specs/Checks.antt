@@ -1,5 +1,6 @@
 -- The checks that a command has to pass.
-use Rattle.std.specs.Prelude.{ℕ, ◌*◌, min, Bool, true, false, not, ◌&&◌, nat_eq, nat_le, nat_lt, if◌then◌else◌, List, [], ◌∷◌, map, Option, Some, None, option_map}
+use Rattle.std.specs.Prelude.{ℕ, ◌*◌, min, Bool, true, false, not, ◌&&◌, nat_eq, nat_le, nat_lt, if◌then◌else◌, List, [], ◌∷◌, map, Option, Some, None}
+use Rattle.std.specs.Prelude.{option_map}
 use Rattle.std.specs.declared.cmp.Ordering.{Ordering}
 use Rattle.std.specs.Option.{option_or}
 use Rattle.std.specs.List.{count_by, filter, find, fold, list_any}
@@ -86,16 +87,20 @@ in_time books start = unless (nat_le books.next (month_of_day start)) (refusal.M
 -- no lease of the client starts that day
 abbrev pub first_that_day : Books → List ℕ → ℕ → Check
 first_that_day books client day =
-    option_map refusal.ClientStart (least (map (λ lease. lease.terms.number) (filter (λ lease. is_same_text lease.terms.client client && nat_eq lease.terms.start day) (values books.leases))))
+    option_map refusal.ClientStart
+    (least (map (λ lease. lease.terms.number) (filter (λ lease. is_same_text lease.terms.client client
+    && nat_eq lease.terms.start day) (values books.leases))))
 
 -- no lease of the property covers a common day
 abbrev pub free_of_others : Books → LeaseTerms → Check
-free_of_others books terms = option_map refusal.Overlap (least (map (λ lease. lease.terms.number) (filter (λ lease. overlap terms lease.terms) (values books.leases))))
+free_of_others books terms =
+    option_map refusal.Overlap (least (map (λ lease. lease.terms.number) (filter (λ lease. overlap terms lease.terms) (values books.leases))))
 
 -- the lease has no deposit receipt
 abbrev pub no_deposit_yet : Books → ℕ → Check
 no_deposit_yet books lease =
-    unless (not (list_any (λ receipt. nat_eq receipt.payment.lease lease && is_same_receipt_kind receipt.payment.kind Deposit) (values books.receipts))) refusal.DepositPaid
+    unless (not (list_any (λ receipt. nat_eq receipt.payment.lease lease && is_same_receipt_kind receipt.payment.kind Deposit) (values books.receipts)))
+    refusal.DepositPaid
 
 -- the deposit is twice the lease's rent
 abbrev pub is_twice : Option Lease → ℕ → Check

@@ -120,13 +120,34 @@ owner_code =
 
 abbrev pub property_code : Coded Property
 property_code =
-    code_by (List ℕ × (List ℕ × (List ℕ × (List ℕ × (PropertyType × (ℕ × (ℕ × (List ℕ × (Option (List ℕ) × List ℕ))))))))) (coded× coded_text (coded× coded_text (coded× coded_text (coded× coded_text (coded× property_type_code (coded× coded_ℕ (coded× coded_ℕ (coded× coded_text (coded× (coded_option coded_text) coded_text)))))))))
-    (λ x. (x.number, (x.street, (x.city, (x.postcode, (x.property_type, (x.rooms, (x.rent, (x.owner, (x.staff, x.branch)))))))))) (λ p. record { number = p.0; street = p.1.0; city = p.1.1.0; postcode = p.1.1.1.0; property_type = p.1.1.1.1.0; rooms = p.1.1.1.1.1.0; rent = p.1.1.1.1.1.1.0; owner = p.1.1.1.1.1.1.1.0; staff = p.1.1.1.1.1.1.1.1.0; branch = p.1.1.1.1.1.1.1.1.1 }) (λ _. refl)
+    code_by (List ℕ × (List ℕ × (List ℕ × (List ℕ × (PropertyType × (ℕ × (ℕ × (List ℕ × (Option (List ℕ) × List ℕ)))))))))
+    (coded× coded_text (coded× coded_text
+    (coded× coded_text (coded× coded_text
+    (coded× property_type_code (coded× coded_ℕ (coded× coded_ℕ (coded× coded_text (coded× (coded_option coded_text) coded_text)))))))))
+    (λ x. (x.number, (x.street, (x.city, (x.postcode, (x.property_type, (x.rooms, (x.rent, (x.owner, (x.staff, x.branch))))))))))
+    (λ p. record {
+      number = p.0;
+      street = p.1.0;
+      city = p.1.1.0;
+      postcode = p.1.1.1.0;
+      property_type = p.1.1.1.1.0;
+      rooms = p.1.1.1.1.1.0;
+      rent = p.1.1.1.1.1.1.0;
+      owner = p.1.1.1.1.1.1.1.0;
+      staff = p.1.1.1.1.1.1.1.1.0;
+      branch = p.1.1.1.1.1.1.1.1.1;
+    }) (λ _. refl)
 
 abbrev pub client_code : Coded Client
 client_code =
     code_by (List ℕ × (List ℕ × (List ℕ × (PropertyType × ℕ)))) (coded× coded_text (coded× coded_text (coded× coded_text (coded× property_type_code coded_ℕ))))
-    (λ x. (x.number, (x.name, (x.telephone, (x.preferred_type, x.greatest_rent))))) (λ p. record { number = p.0; name = p.1.0; telephone = p.1.1.0; preferred_type = p.1.1.1.0; greatest_rent = p.1.1.1.1 }) (λ _. refl)
+    (λ x. (x.number, (x.name, (x.telephone, (x.preferred_type, x.greatest_rent))))) (λ p. record {
+      number = p.0;
+      name = p.1.0;
+      telephone = p.1.1.0;
+      preferred_type = p.1.1.1.0;
+      greatest_rent = p.1.1.1.1;
+    }) (λ _. refl)
 
 abbrev pub registration_code : Coded Registration
 registration_code =
@@ -145,8 +166,16 @@ inspection_code =
 
 abbrev pub lease_terms_code : Coded LeaseTerms
 lease_terms_code =
-    code_by (ℕ × (List ℕ × (List ℕ × (ℕ × (ℕ × PaymentMethod))))) (coded× coded_ℕ (coded× coded_text (coded× coded_text (coded× coded_ℕ (coded× coded_ℕ payment_method_code)))))
-    (λ x. (x.number, (x.client, (x.property, (x.start, (x.months, x.method)))))) (λ p. record { number = p.0; client = p.1.0; property = p.1.1.0; start = p.1.1.1.0; months = p.1.1.1.1.0; method = p.1.1.1.1.1 }) (λ _. refl)
+    code_by (ℕ × (List ℕ × (List ℕ × (ℕ × (ℕ × PaymentMethod)))))
+    (coded× coded_ℕ (coded× coded_text (coded× coded_text (coded× coded_ℕ (coded× coded_ℕ payment_method_code)))))
+    (λ x. (x.number, (x.client, (x.property, (x.start, (x.months, x.method)))))) (λ p. record {
+      number = p.0;
+      client = p.1.0;
+      property = p.1.1.0;
+      start = p.1.1.1.0;
+      months = p.1.1.1.1.0;
+      method = p.1.1.1.1.1;
+    }) (λ _. refl)
 
 abbrev pub lease_code : Coded Lease
 lease_code =
@@ -156,7 +185,8 @@ lease_code =
 abbrev pub charge_code : Coded Charge
 charge_code =
     code_by (ℕ × (ℕ × (ℕ × (ℕ × ℕ)))) (coded× coded_ℕ (coded× coded_ℕ (coded× coded_ℕ (coded× coded_ℕ coded_ℕ))))
-    (λ x. (x.lease, (x.index, (x.month, (x.day, x.amount))))) (λ p. record { lease = p.0; index = p.1.0; month = p.1.1.0; day = p.1.1.1.0; amount = p.1.1.1.1 }) (λ _. refl)
+    (λ x. (x.lease, (x.index, (x.month, (x.day, x.amount))))) (λ p. record { lease = p.0; index = p.1.0; month = p.1.1.0; day = p.1.1.1.0; amount = p.1.1.1.1 })
+    (λ _. refl)
 
 abbrev pub payment_code : Coded Payment
 payment_code =
@@ -171,22 +201,86 @@ receipt_code =
 abbrev pub run_code : Coded Run
 run_code =
     code_by (ℕ × (List ℕ × (ℕ × (ℕ × Bool)))) (coded× coded_ℕ (coded× coded_text (coded× coded_ℕ (coded× coded_ℕ coded_bool))))
-    (λ x. (x.month, (x.key, (x.count, (x.total, x.is_closed))))) (λ p. record { month = p.0; key = p.1.0; count = p.1.1.0; total = p.1.1.1.0; is_closed = p.1.1.1.1 }) (λ _. refl)
+    (λ x. (x.month, (x.key, (x.count, (x.total, x.is_closed))))) (λ p. record {
+      month = p.0;
+      key = p.1.0;
+      count = p.1.1.0;
+      total = p.1.1.1.0;
+      is_closed = p.1.1.1.1;
+    }) (λ _. refl)
 
 abbrev pub part_code : Coded Part
 part_code =
     code_by (ℕ × (List ℕ × (Option ℕ × (ℕ × ℕ)))) (coded× coded_ℕ (coded× coded_text (coded× (coded_option coded_ℕ) (coded× coded_ℕ coded_ℕ))))
-    (λ x. (x.month, (x.branch, (x.through, (x.count, x.total))))) (λ p. record { month = p.0; branch = p.1.0; through = p.1.1.0; count = p.1.1.1.0; total = p.1.1.1.1 }) (λ _. refl)
+    (λ x. (x.month, (x.branch, (x.through, (x.count, x.total))))) (λ p. record {
+      month = p.0;
+      branch = p.1.0;
+      through = p.1.1.0;
+      count = p.1.1.1.0;
+      total = p.1.1.1.1;
+    }) (λ _. refl)
 
 abbrev pub open_run_code : Coded OpenRun
 open_run_code = code_by (ℕ × ℕ) (coded× coded_ℕ coded_ℕ) (λ x. (x.month, x.done)) (λ p. record { month = p.0; done = p.1 }) (λ _. refl)
 
 abbrev pub books_code : Coded Books
 books_code =
-    code_by (FinMap text_cmp Branch × (FinMap text_cmp Staff × (FinMap text_cmp Owner × (FinMap text_cmp Property × (FinMap text_cmp Client × (FinMap (pair_cmp text_cmp text_cmp) Registration × (FinMap (pair_cmp text_cmp text_cmp) Viewing × (FinMap (pair_cmp text_cmp nat_cmp) Inspection × (FinMap nat_cmp Lease × (FinMap (pair_cmp nat_cmp nat_cmp) Charge × (FinMap nat_cmp Receipt × (FinMap nat_cmp Run × (FinMap (pair_cmp nat_cmp text_cmp) Part × (ℕ × ℕ))))))))))))))
-    (coded× (fin.code coded_text branch_code) (coded× (fin.code coded_text staff_code) (coded× (fin.code coded_text owner_code) (coded× (fin.code coded_text property_code) (coded× (fin.code coded_text client_code) (coded× (fin.code (coded× coded_text coded_text) registration_code) (coded× (fin.code (coded× coded_text coded_text) viewing_code) (coded× (fin.code (coded× coded_text coded_ℕ) inspection_code) (coded× (fin.code coded_ℕ lease_code) (coded× (fin.code (coded× coded_ℕ coded_ℕ) charge_code) (coded× (fin.code coded_ℕ receipt_code) (coded× (fin.code coded_ℕ run_code) (coded× (fin.code (coded× coded_ℕ coded_text) part_code) (coded× coded_ℕ coded_ℕ))))))))))))))
-    (λ x. (x.branches, (x.staff, (x.owners, (x.properties, (x.clients, (x.registrations, (x.viewings, (x.inspections, (x.leases, (x.charges, (x.receipts, (x.runs, (x.parts, (x.first, x.next)))))))))))))))
-    (λ p. record { branches = p.0; staff = p.1.0; owners = p.1.1.0; properties = p.1.1.1.0; clients = p.1.1.1.1.0; registrations = p.1.1.1.1.1.0; viewings = p.1.1.1.1.1.1.0; inspections = p.1.1.1.1.1.1.1.0; leases = p.1.1.1.1.1.1.1.1.0; charges = p.1.1.1.1.1.1.1.1.1.0; receipts = p.1.1.1.1.1.1.1.1.1.1.0; runs = p.1.1.1.1.1.1.1.1.1.1.1.0; parts = p.1.1.1.1.1.1.1.1.1.1.1.1.0; first = p.1.1.1.1.1.1.1.1.1.1.1.1.1.0; next = p.1.1.1.1.1.1.1.1.1.1.1.1.1.1 }) (λ _. refl)
+    code_by (FinMap text_cmp Branch
+    × (FinMap text_cmp Staff
+    × (FinMap text_cmp Owner
+    × (FinMap text_cmp Property
+    × (FinMap text_cmp Client
+    × (FinMap (pair_cmp text_cmp text_cmp) Registration
+    × (FinMap (pair_cmp text_cmp text_cmp) Viewing
+    × (FinMap (pair_cmp text_cmp nat_cmp) Inspection
+    × (FinMap nat_cmp Lease
+    × (FinMap (pair_cmp nat_cmp nat_cmp) Charge
+    × (FinMap nat_cmp Receipt × (FinMap nat_cmp Run × (FinMap (pair_cmp nat_cmp text_cmp) Part × (ℕ × ℕ))))))))))))))
+    (coded× (fin.code coded_text branch_code)
+    (coded× (fin.code coded_text staff_code)
+    (coded× (fin.code coded_text owner_code)
+    (coded× (fin.code coded_text property_code)
+    (coded× (fin.code coded_text client_code)
+    (coded× (fin.code (coded× coded_text coded_text) registration_code)
+    (coded× (fin.code (coded× coded_text coded_text) viewing_code)
+    (coded× (fin.code (coded× coded_text coded_ℕ) inspection_code)
+    (coded× (fin.code coded_ℕ lease_code)
+    (coded× (fin.code (coded× coded_ℕ coded_ℕ) charge_code)
+    (coded× (fin.code coded_ℕ receipt_code)
+    (coded× (fin.code coded_ℕ run_code) (coded× (fin.code (coded× coded_ℕ coded_text) part_code) (coded× coded_ℕ coded_ℕ))))))))))))))
+    (λ x. (
+      x.branches,
+      (
+        x.staff,
+        (
+          x.owners,
+          (
+            x.properties,
+            (x.clients, (x.registrations, (x.viewings, (x.inspections, (x.leases, (x.charges, (x.receipts, (x.runs, (x.parts, (x.first, x.next)))))))))),
+          ),
+        ),
+      ),
+    ))
+    (λ p. record {
+      branches = p.0;
+      staff = p.1.0;
+      owners = p.1.1.0;
+      properties = p.1.1.1.0;
+      clients = p.1.1.1.1.0;
+      registrations = p.1.1.1.1.1.0;
+      viewings = p.1.1.1.1.1.1.0;
+      inspections = p.1.1.1.1.1.1.1.0;
+      leases = p.1.1.1.1.1.1.1.1.0;
+      charges = p.1.1.1.1.1.1.1.1.1.0;
+      receipts =
+          p.1.1.1.1.1.1.1.1.1.1.0;
+      runs = p.1.1.1.1.1.1.1.1.1.1.1.0;
+      parts = p.1.1.1.1.1.1.1.1.1.1.1.1.0;
+      first = p.1.1.1.1.1.1.1.1.1.1.1.1.1.0;
+      next =
+          p.1.1.1.1.1.1.1.1.1.1.1.1.1.1;
+    }) (λ _. refl)
 
 abbrev pub state_code : Coded State
-state_code = code_by (Books × Option OpenRun) (coded× books_code (coded_option open_run_code)) (λ s. (s.books, s.open_run)) (λ p. record { books = p.0; open_run = p.1 }) (λ _. refl)
+state_code = code_by (Books × Option OpenRun) (coded× books_code (coded_option open_run_code)) (λ s. (s.books, s.open_run))
+    (λ p. record { books = p.0; open_run = p.1 }) (λ _. refl)

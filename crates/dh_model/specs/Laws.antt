@@ -26,7 +26,8 @@ OverlapIsByEnds = (lease other : LeaseTerms) → IsDay lease.start → IsDay oth
 -- a charge falls due in a month exactly where it is some lease's, of an index below its months, and of that month
 abbrev pub DuesAreThoseOfLeases : Type 0
 DuesAreThoseOfLeases = (books : Books) (month : ℕ) (charge : Charge)
-    → IsAmong (dues books month) charge ↔ ((lease : Lease) × (k : ℕ) × IsAmong (values books.leases) lease × (k < lease.terms.months) × (charge ≡ due lease k) × (charge.month ≡ month))
+    → IsAmong (dues books month) charge ↔ ((lease : Lease) × (k : ℕ) × IsAmong (values books.leases) lease × (k < lease.terms.months) × (charge ≡ due lease k)
+    × (charge.month ≡ month))
 
 -- a charge that falls due in two months does so in one
 abbrev pub MonthsShareNoDue : Type 0

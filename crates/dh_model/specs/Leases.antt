@@ -34,7 +34,13 @@ overlap lease other = pointwise nat_eq lease.property other.property && list_any
 
 -- the charge of the lease and this index: in its month the whole of its own rent, counted from the start each time
 abbrev pub due : Lease → ℕ → Charge
-due lease k = record { lease = lease.terms.number; index = k; month = month_of_day lease.terms.start + k; day = plus_months lease.terms.start k; amount = lease.rent }
+due lease k = record {
+  lease = lease.terms.number;
+  index = k;
+  month = month_of_day lease.terms.start + k;
+  day = plus_months lease.terms.start k;
+  amount = lease.rent;
+}
 
 -- all that ever falls due on the lease
 abbrev pub dues_of : Lease → List Charge

@@ -71,7 +71,10 @@ module _ (size : ℕ) where
       let all = batches size books run.month in
       if nat_le all (run.done + count)
       then (record { books = books; open_run = None }, reply.Posted (posted_sum run.month (get books.runs run.month)))
-      else (record { books = books; open_run = Some (record { month = run.month; done = run.done + count }) }, reply.Part (record { month = run.month; done = run.done + count; of = all }))
+      else (
+        record { books = books; open_run = Some (record { month = run.month; done = run.done + count }) },
+        reply.Part (record { month = run.month; done = run.done + count; of = all }),
+      )
 
   abbrev pub resumed : Books → ℕ → Option OpenRun → State × Reply
   resumed books count None = (record { books = books; open_run = None }, reply.Refused refusal.NoRun)

@@ -42,7 +42,10 @@ module _ (size : ℕ) where
   -- while a run is open, what is frozen is refused and changes nothing
   abbrev pub FrozenAreRefused : Type 0
   FrozenAreRefused = (books : Books) (run : OpenRun) (told : Command) → is_frozen told ≡ true
-      → step size (record { books = books; open_run = Some run }) told ≡ (record { books = books; open_run = Some run }, reply.Refused (refusal.RunOpen run.month))
+      → step size (record { books = books; open_run = Some run }) told ≡ (
+        record { books = books; open_run = Some run },
+        reply.Refused (refusal.RunOpen run.month),
+      )
 
   -- a refusal changes nothing
   abbrev pub RefusalsChangeNothing : Type 0

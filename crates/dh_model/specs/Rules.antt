@@ -118,7 +118,8 @@ module _ (books : Books) where
 
   -- 5: no two leases of one client start on one day
   abbrev pub OneStartADay : Type 0
-  OneStartADay = EachTwo books.leases (λ lease other. (is_same_text lease.terms.client other.terms.client && nat_eq lease.terms.start other.terms.start) ≡ false)
+  OneStartADay = EachTwo books.leases (λ lease other. (is_same_text lease.terms.client other.terms.client && nat_eq lease.terms.start other.terms.start)
+      ≡ false)
 
   -- 6: a lease has 3 to 12 months and starts in the first month or later
   abbrev pub LeasesInTime : Type 0
@@ -126,12 +127,15 @@ module _ (books : Books) where
 
   -- 7: a deposit is twice its lease's rent, and a lease has one at most
   pub record DepositsInOrder : Type 0 where
-    pub amounts : Each books.receipts (λ receipt. receipt.payment.kind ≡ Deposit → IfSome (get books.leases receipt.payment.lease) (λ lease. receipt.payment.amount ≡ 2 * lease.rent))
-    pub one_each : EachTwo books.receipts (λ receipt other. receipt.payment.kind ≡ Deposit → other.payment.kind ≡ Deposit → receipt.payment.lease ≢ other.payment.lease)
+    pub amounts : Each books.receipts (λ receipt. receipt.payment.kind ≡ Deposit
+        → IfSome (get books.leases receipt.payment.lease) (λ lease. receipt.payment.amount ≡ 2 * lease.rent))
+    pub one_each : EachTwo books.receipts (λ receipt other. receipt.payment.kind ≡ Deposit → other.payment.kind ≡ Deposit
+        → receipt.payment.lease ≢ other.payment.lease)
 
   -- 8: no key stands twice over receipts and runs, and receipts are numbered from 1 to their count
   pub record KeysInOrder : Type 0 where
-    pub keys : AllPairs (λ key other. is_same_text key other ≡ false) (map (λ receipt. receipt.key) (values books.receipts) ++ map (λ run. run.key) (values books.runs))
+    pub keys : AllPairs (λ key other. is_same_text key other ≡ false) (map (λ receipt. receipt.key) (values books.receipts)
+        ++ map (λ run. run.key) (values books.runs))
     pub numbers : Each books.receipts (λ receipt. (1 ≤ receipt.number) × (receipt.number ≤ len books.receipts))
 
   -- 9: the runs are the months from the first to the one before the next; all but the last are closed

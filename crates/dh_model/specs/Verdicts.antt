@@ -22,7 +22,8 @@ use Rattle.dh_types.specs.declared.command.ReceiptOrder.{ReceiptOrder}
 use Rattle.dh_types.specs.declared.command.RunOrder.{RunOrder}
 use Rattle.dh_types.specs.declared.reply.Reply.TheVariants as reply
 use Rattle.dh_types.specs.declared.reply.Refusal.TheVariants as refusal
-use Rattle.dh_types.specs.Records.{is_same_branch, is_same_client, is_same_inspection, is_same_lease_terms, is_same_optional, is_same_owner, is_same_payment, is_same_property, is_same_registration, is_same_staff, is_same_viewing}
+use Rattle.dh_types.specs.Records.{is_same_branch, is_same_client, is_same_inspection, is_same_lease_terms, is_same_optional, is_same_owner, is_same_payment}
+use Rattle.dh_types.specs.Records.{is_same_property, is_same_registration, is_same_staff, is_same_viewing}
 use Rattle.dh_model.specs.declared.open_run.OpenRun.{OpenRun}
 use Rattle.dh_model.specs.declared.rows.Change.{Change}
 use Rattle.dh_model.specs.declared.rows.Change.TheVariants as change
@@ -30,7 +31,8 @@ use Rattle.dh_model.specs.declared.rows.Verdict.{Verdict}
 use Rattle.dh_model.specs.declared.rows.Verdict.TheVariants as verdict
 use Rattle.dh_model.specs.Books.{Books}
 use Rattle.dh_model.specs.Runs.{sum_of}
-use Rattle.dh_model.specs.Checks.{Check, deposit_checks, first_failing, first_that_day, free_of_others, has_room, in_time, is_same_text, names, of_branch, receipt_of_key, registered, run_of_key, unless, where_given}
+use Rattle.dh_model.specs.Checks.{Check, deposit_checks, first_failing, first_that_day, free_of_others, has_room, in_time, is_same_text, names, of_branch}
+use Rattle.dh_model.specs.Checks.{receipt_of_key, registered, run_of_key, unless, where_given}
 
 -- the rows, where no check failed
 abbrev pub rows_unless : Check → Change → Verdict
@@ -55,7 +57,8 @@ module _ (books : Books) where
   branch_verdict branch = unless_there (is_same_branch branch) (get books.branches branch.number) (judged [] (change.Branch branch))
 
   abbrev pub staff_verdict : Staff → Verdict
-  staff_verdict member = unless_there (is_same_staff member) (get books.staff member.number) (judged (names books.branches member.branch 5 ∷ []) (change.Staff member))
+  staff_verdict member =
+      unless_there (is_same_staff member) (get books.staff member.number) (judged (names books.branches member.branch 5 ∷ []) (change.Staff member))
 
   abbrev pub owner_verdict : Owner → Verdict
   owner_verdict owner = unless_there (is_same_owner owner) (get books.owners owner.number) (judged [] (change.Owner owner))
@@ -70,7 +73,8 @@ module _ (books : Books) where
       ∷ []
 
   abbrev pub property_verdict : Property → Verdict
-  property_verdict property = unless_there (is_same_property property) (get books.properties property.number) (judged (property_checks property) (change.Property property))
+  property_verdict property =
+      unless_there (is_same_property property) (get books.properties property.number) (judged (property_checks property) (change.Property property))
 
   abbrev pub manager_checks : Property → Option (List ℕ) → List Check
   manager_checks property member =
@@ -108,7 +112,8 @@ module _ (books : Books) where
       ∷ []
 
   abbrev pub register_verdict : Registration → Verdict
-  register_verdict it = unless_there (is_same_registration it) (get books.registrations (it.client, it.branch)) (judged (registration_checks it) (change.Register it))
+  register_verdict it =
+      unless_there (is_same_registration it) (get books.registrations (it.client, it.branch)) (judged (registration_checks it) (change.Register it))
 
   abbrev pub viewing_verdict : Viewing → Verdict
   viewing_verdict it =

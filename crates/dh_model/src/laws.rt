@@ -1,6 +1,7 @@
 //! Laws of the model: each function does nothing, and its clause is the law.
 
-ghost use Rattle.dh_model.specs.Laws.{DuesAreCovered, DuesAreThoseOfLeases, DuesLieInTheirMonth, DuesNumberTheMonths, MonthsShareNoDue, OneDueInAMonth, OverlapGoesBothWays, OverlapIsByEnds, OverlapIsCommonDay};
+ghost use Rattle.dh_model.specs.Laws.{DuesAreCovered, DuesAreThoseOfLeases, DuesLieInTheirMonth, DuesNumberTheMonths, MonthsShareNoDue, OneDueInAMonth};
+ghost use Rattle.dh_model.specs.Laws.{OverlapGoesBothWays, OverlapIsByEnds, OverlapIsCommonDay};
 
 /// Leases overlap exactly where they are of one property and some day is covered by both.
 pub fn overlap_is_a_common_day()

@@ -1,5 +1,6 @@
 -- All that ever falls due, against what falls due in a month.
-use Rattle.std.proofs.Common.{◌≡◌, ◌∙◌, refl, sym, ap, ℕ, suc, ◌+◌, ◌-◌, ◌<◌, ◌≤◌, Bool, true, false, cond, ◌&&◌, nat_eq, List, [], ◌∷◌, ◌++◌, map, Option, Some, None, append_assoc, arith}
+use Rattle.std.proofs.Common.{◌≡◌, ◌∙◌, refl, sym, ap, ℕ, suc, ◌+◌, ◌-◌, ◌<◌, ◌≤◌, Bool, true, false, cond, ◌&&◌, nat_eq, List, [], ◌∷◌, ◌++◌, map, Option}
+use Rattle.std.proofs.Common.{Some, None, append_assoc, arith}
 use Rattle.std.specs.List.{filter, flat_map, range_with_len}
 use Rattle.std.specs.FinMap.{get, values}
 use Rattle.std.proofs.lemmas.List.{map-append}
@@ -65,20 +66,23 @@ module _ (books : Books) where
     none_kept true = refl
     none_kept false = refl
 
-    one_kept : (b a : Bool) (due : Due) (ds : List Due) (cs : List Charge) → map charge_of ds ≡ cond b cs [] → map charge_of (cond (a && b) (due ∷ ds) ds) ≡ cond b (cond a (due.charge ∷ cs) cs) []
+    one_kept : (b a : Bool) (due : Due) (ds : List Due) (cs : List Charge) → map charge_of ds ≡ cond b cs []
+        → map charge_of (cond (a && b) (due ∷ ds) ds) ≡ cond b (cond a (due.charge ∷ cs) cs) []
     one_kept true true due ds cs h = ap (λ es. due.charge ∷ es) h
     one_kept true false due ds cs h = h
     one_kept false true due ds cs h = h
     one_kept false false due ds cs h = h
 
-    of_one_lease : (place : Option (List ℕ)) (b : Bool) → is_at_branch branch place ≡ b → (cs : List Charge) → map charge_of (filter falls_here (map (due_at place) cs)) ≡ cond b (filter (falls_in month) cs) []
+    of_one_lease : (place : Option (List ℕ)) (b : Bool) → is_at_branch branch place ≡ b → (cs : List Charge)
+        → map charge_of (filter falls_here (map (due_at place) cs)) ≡ cond b (filter (falls_in month) cs) []
     of_one_lease place b e [] = none_kept b
     of_one_lease place b e (c ∷ cs) =
         let rest = filter falls_here (map (due_at place) cs) in
         ap (λ a. map charge_of (cond (nat_eq c.month month && a) (due_at place c ∷ rest) rest)) e
         ∙ one_kept b (nat_eq c.month month) (due_at place c) rest (filter (falls_in month) cs) (of_one_lease place b e cs)
 
-    with_lease : (b : Bool) (lease : Lease) (kept : List Lease) → cond b (filter (falls_in month) (dues_of lease)) [] ++ dues_among kept month ≡ dues_among (cond b (lease ∷ kept) kept) month
+    with_lease : (b : Bool) (lease : Lease) (kept : List Lease) → cond b (filter (falls_in month) (dues_of lease)) []
+        ++ dues_among kept month ≡ dues_among (cond b (lease ∷ kept) kept) month
     with_lease true lease kept = sym (filter-append (falls_in month) (dues_of lease) (flat_map dues_of kept))
     with_lease false lease kept = refl
 
@@ -87,7 +91,8 @@ module _ (books : Books) where
     of_leases (lease ∷ leases) =
         ap (map charge_of) (filter-append falls_here (dues_at books lease) (flat_map (dues_at books) leases))
         ∙ map-append charge_of (filter falls_here (dues_at books lease)) (filter falls_here (flat_map (dues_at books) leases))
-        ∙ ap (λ cs. cs ++ map charge_of (filter falls_here (flat_map (dues_at books) leases))) (of_one_lease (place_of lease) (of_branch lease) (same_place branch (get books.properties lease.terms.property)) (dues_of lease))
+        ∙ ap (λ cs. cs ++ map charge_of (filter falls_here (flat_map (dues_at books) leases)))
+        (of_one_lease (place_of lease) (of_branch lease) (same_place branch (get books.properties lease.terms.property)) (dues_of lease))
         ∙ ap (λ cs. cond (of_branch lease) (filter (falls_in month) (dues_of lease)) [] ++ cs) (of_leases leases)
         ∙ with_lease (of_branch lease) lease (filter of_branch leases)
 
@@ -108,7 +113,8 @@ module _ (branch : Option (List ℕ)) (lease : Lease) where
 
   module _ (i : ℕ) (within : i < lease.terms.months) where
     left_first : left branch lease i ≡ due_at branch (due lease i) ∷ left branch lease (i + 1)
-    left_first = let n : lease.terms.months - i ≡ suc (lease.terms.months - (i + 1)) = omega (arith, within) in ap (λ n. map (due_at branch) (map (due lease) (range_with_len i n))) n
+    left_first = let n : lease.terms.months - i ≡ suc (lease.terms.months - (i + 1)) = omega (arith, within) in
+        ap (λ n. map (due_at branch) (map (due lease) (range_with_len i n))) n
 
     its : (month : ℕ) → month ≡ month_of_day lease.terms.start + i → due lease i ∷ [] ≡ dues_among (lease ∷ []) month
     its month is = its_due lease month i i (month_of_day lease.terms.start + i) (plus_months lease.terms.start i) (sym is) within refl (sym is) refl
@@ -123,7 +129,8 @@ module _ (branch : Option (List ℕ)) (lease : Lease) where
     some_due month is none = none_of (due lease i) (none ∙ sym (its month is))
 
     -- one due more at the end of what was made
-    pub due_added : (old new all : List Due) (charge : Charge) (month : ℕ) → month ≡ month_of_day lease.terms.start + i → charge ∷ [] ≡ dues_among (lease ∷ []) month
+    pub due_added : (old new all : List Due) (charge : Charge) (month : ℕ) → month ≡ month_of_day lease.terms.start + i → charge
+        ∷ [] ≡ dues_among (lease ∷ []) month
         → new ≡ old ++ due_at branch charge ∷ [] → old ++ left branch lease i ≡ all → new ++ left branch lease (i + 1) ≡ all
     due_added old new all charge month is made added so_far =
         let same : charge ≡ due lease i = first_of charge (due lease i) (made ∙ sym (its month is)) in
@@ -132,7 +139,8 @@ module _ (branch : Option (List ℕ)) (lease : Lease) where
         ∙ ap (λ ds. old ++ ds) (sym left_first) ∙ so_far
 
 -- the dues of the first of the leases that are left, put at the end of what was made
-pub dues_added : (f : Lease → List Due) (lease : Lease) (xs ys : List Lease) (made next all more : List Due) → xs ≡ lease ∷ ys → next ≡ made ++ more → more ≡ f lease → made ++ flat_map f xs ≡ all → next ++ flat_map f ys ≡ all
+pub dues_added : (f : Lease → List Due) (lease : Lease) (xs ys : List Lease) (made next all more : List Due) → xs ≡ lease ∷ ys → next ≡ made ++ more
+    → more ≡ f lease → made ++ flat_map f xs ≡ all → next ++ flat_map f ys ≡ all
 dues_added f lease xs ys made next all more front added same so_far =
     ap (λ ds. ds ++ flat_map f ys) (added ∙ ap (λ ds. made ++ ds) same) ∙ append_assoc made (f lease) (flat_map f ys)
     ∙ sym (ap (λ ls. made ++ flat_map f ls) front) ∙ so_far

@@ -8,7 +8,8 @@ use Rattle.std.specs.List.{IsAmong}
 use Rattle.std.proofs.lemmas.Map.Views.{btree_set_contains_from_list}
 
 -- a set has what is among the list that it was made of
-pub set_tells : {K : Type 0} {R : K → K → Ordering} → IsTotalOrder R → IsAntisymmetric R → (xs : List K) (s : set.BTreeSet K) → set.IsFromIterResult R xs s → (q : K) → (set.contains R s q ≡ true) ↔ IsAmong xs q
+pub set_tells : {K : Type 0} {R : K → K → Ordering} → IsTotalOrder R → IsAntisymmetric R → (xs : List K) (s : set.BTreeSet K) → set.IsFromIterResult R xs s
+    → (q : K) → (set.contains R s q ≡ true) ↔ IsAmong xs q
 set_tells o ties xs s made q =
     let tells = btree_set_contains_from_list o ties xs s made q in (
       λ h. let at = tells.0 h in (at.0, (at.1, sym at.2)),

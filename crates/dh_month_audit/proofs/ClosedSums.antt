@@ -1,5 +1,6 @@
 -- Sums of dues, one due after the other.
-use Rattle.std.proofs.Common.{◌≡◌, ◌↔◌, ◌∙◌, refl, sym, ap, subst, ℕ, ◌+◌, ◌*◌, ◌<◌, ◌≤◌, Bool, true, false, cond, ◌&&◌, nat_eq, is_eq, List, [], ◌∷◌, ◌++◌, map, length, length-append, append-nil, take, slice_index_or, Option, Some, None, arith}
+use Rattle.std.proofs.Common.{◌≡◌, ◌↔◌, ◌∙◌, refl, sym, ap, subst, ℕ, ◌+◌, ◌*◌, ◌<◌, ◌≤◌, Bool, true, false, cond, ◌&&◌, nat_eq, is_eq, List, [], ◌∷◌, ◌++◌}
+use Rattle.std.proofs.Common.{map, length, length-append, append-nil, take, slice_index_or, Option, Some, None, arith}
 use Rattle.std.specs.declared.cmp.Ordering.{Ordering}
 use Rattle.std.specs.List.{filter}
 use Rattle.std.specs.Option.{option_eq}
@@ -30,24 +31,31 @@ one_more charges charge =
     let count = length-append charges (charge ∷ []) in
     let total = sum_by_push (λ c. c.amount) charges charge in
     ap (λ (t : Option ℕ). let s : Sum = record { through = t; count = length (charges ++ charge ∷ []); total = total_of (charges ++ charge ∷ []) } in s) through
-    ∙ ap (λ (n : ℕ). let s : Sum = record { through = Some (at_least (greatest_lease charges) charge.lease); count = n; total = total_of (charges ++ charge ∷ []) } in s) count
+    ∙ ap (λ (n : ℕ). let s : Sum = record {
+      through = Some (at_least (greatest_lease charges) charge.lease);
+      count = n;
+      total = total_of (charges ++ charge ∷ []);
+    } in s) count
     ∙ ap (λ (n : ℕ). let s : Sum = record { through = Some (at_least (greatest_lease charges) charge.lease); count = length charges + 1; total = n } in s) total
 
 module _ (p : Due → Bool) where
   abbrev pub sum_kept : List Due → Sum
   sum_kept dues = sum_of (map charge_of (filter p dues))
 
-  kept_last : (b : Bool) (ds : List Due) (due : Due) → sum_of (map charge_of (ds ++ cond b (due ∷ []) [])) ≡ cond b (with_charge (sum_of (map charge_of ds)) due.charge) (sum_of (map charge_of ds))
+  kept_last : (b : Bool) (ds : List Due) (due : Due)
+      → sum_of (map charge_of (ds ++ cond b (due ∷ []) [])) ≡ cond b (with_charge (sum_of (map charge_of ds)) due.charge) (sum_of (map charge_of ds))
   kept_last true ds due = ap sum_of (map-append charge_of ds (due ∷ [])) ∙ one_more (map charge_of ds) due.charge
   kept_last false ds due = ap (λ es. sum_of (map charge_of es)) (append-nil ds)
 
-  pub sum_step : (done : List Due) (due : Due) (b : Bool) → p due ≡ b → sum_kept (done ++ due ∷ []) ≡ cond b (with_charge (sum_kept done) due.charge) (sum_kept done)
+  pub sum_step : (done : List Due) (due : Due) (b : Bool) → p due ≡ b
+      → sum_kept (done ++ due ∷ []) ≡ cond b (with_charge (sum_kept done) due.charge) (sum_kept done)
   sum_step done due b e =
       ap (λ ds. sum_of (map charge_of ds)) (filter-append p done (due ∷ []))
       ∙ ap (λ b. sum_of (map charge_of (filter p done ++ cond b (due ∷ []) []))) e
       ∙ kept_last b (filter p done) due
 
-  kept_count : (b : Bool) (due : Due) (ks xs : List Due) → length (map charge_of ks) ≤ length xs → length (map charge_of (cond b (due ∷ ks) ks)) ≤ length (due ∷ xs)
+  kept_count : (b : Bool) (due : Due) (ks xs : List Due) → length (map charge_of ks) ≤ length xs
+      → length (map charge_of (cond b (due ∷ ks) ks)) ≤ length (due ∷ xs)
   kept_count true due ks xs h = omega (arith, h)
   kept_count false due ks xs h = omega (arith, h)
 
@@ -56,8 +64,10 @@ module _ (p : Due → Bool) where
   few_kept (due ∷ dues) = kept_count (p due) due (filter p dues) dues (few_kept dues)
 
 -- what is under each key, after a due was put under one
-module _ {K : Type 0} {R : K → K → Ordering} (o : IsTotalOrder R) (ties : IsAntisymmetric R) (p : K → Due → Bool) (k : K) (done : List Due) (due : Due) (old new : K → Sum)
-    (tells : (q : K) → (p q due ≡ true) ↔ (k ≡ q)) (was : (q : K) → old q ≡ sum_kept (p q) done) (is : (q : K) → new q ≡ cond (is_eq (R k q)) (with_charge (old k) due.charge) (old q)) where
+module _ {K : Type 0} {R : K → K → Ordering} (o : IsTotalOrder R) (ties : IsAntisymmetric R) (p : K → Due → Bool) (k : K) (done : List Due) (due : Due)
+    (old new : K → Sum)
+    (tells : (q : K) → (p q due ≡ true) ↔ (k ≡ q)) (was : (q : K) → old q ≡ sum_kept (p q) done) (is : (q : K)
+    → new q ≡ cond (is_eq (R k q)) (with_charge (old k) due.charge) (old q)) where
   put_by : (q : K) (b : Bool) → is_eq (R k q) ≡ b → cond b (with_charge (old k) due.charge) (old q) ≡ sum_kept (p q) (done ++ due ∷ [])
   put_by q true e =
       let same : k ≡ q = same_key o ties k q e in
@@ -71,7 +81,8 @@ module _ {K : Type 0} {R : K → K → Ordering} (o : IsTotalOrder R) (ties : Is
   pub put_one : (q : K) → new q ≡ sum_kept (p q) (done ++ due ∷ [])
   put_one q = is q ∙ ap (λ b. cond b (with_charge (old k) due.charge) (old q)) refl ∙ put_by q (is_eq (R k q)) refl
 
-  small_by : (b : Bool) (q : K) → due.charge.amount ≤ 999999 → ((q : K) → (old q).total ≤ 999999 * (old q).count) → (cond b (with_charge (old k) due.charge) (old q)).total ≤ 999999 * (cond b (with_charge (old k) due.charge) (old q)).count
+  small_by : (b : Bool) (q : K) → due.charge.amount ≤ 999999 → ((q : K) → (old q).total ≤ 999999 * (old q).count)
+      → (cond b (with_charge (old k) due.charge) (old q)).total ≤ 999999 * (cond b (with_charge (old k) due.charge) (old q)).count
   small_by true q amount small = let had = small k in omega (arith, had, amount)
   small_by false q amount small = small q
 
@@ -99,10 +110,12 @@ under m n a b h =
     λ i. (first i, second i)
 
 of_under : (m n : ℕ) (a b : List ℕ) → at_key m a ≡ at_key n b → (nat_eq m n && is_at_branch b (Some a)) ≡ true
-of_under m n a b e = and_from (nat_eq m n) (is_at_branch b (Some a)) ((numbers m n).1 (ap (λ (t : ℕ × List ℕ). t.0) e)) ((texts a b).1 (ap (λ (t : ℕ × List ℕ). t.1) e))
+of_under m n a b e = and_from (nat_eq m n) (is_at_branch b (Some a)) ((numbers m n).1 (ap (λ (t : ℕ × List ℕ). t.0) e))
+    ((texts a b).1 (ap (λ (t : ℕ × List ℕ). t.1) e))
 
 -- or its month and its branch
-pub branch_tells : (due : Due) (branch : List ℕ) → due.branch ≡ Some branch → (key : ℕ × List ℕ) → (is_under key due ≡ true) ↔ (at_key due.charge.month branch ≡ key)
+pub branch_tells : (due : Due) (branch : List ℕ) → due.branch ≡ Some branch → (key : ℕ × List ℕ) → (is_under key due ≡ true)
+    ↔ (at_key due.charge.month branch ≡ key)
 branch_tells due branch is key = (
   λ h. under due.charge.month key.0 branch key.1 (sym (ap (λ o. nat_eq due.charge.month key.0 && is_at_branch key.1 o) is) ∙ h),
   λ e. ap (λ o. nat_eq due.charge.month key.0 && is_at_branch key.1 o) is ∙ of_under due.charge.month key.0 branch key.1 e,
@@ -142,12 +155,15 @@ same_sums a b = (
       let count = (numbers a.count b.count).0 others.0 in
       let total = (numbers a.total b.total).0 others.1 in
       λ i. sum_from (through i) (count i) (total i),
-  λ e. and_from (option_eq nat_eq a.through b.through) (nat_eq a.count b.count && nat_eq a.total b.total) ((option_told a.through b.through).1 (ap (λ (s : Sum). s.through) e))
-      (and_from (nat_eq a.count b.count) (nat_eq a.total b.total) ((numbers a.count b.count).1 (ap (λ (s : Sum). s.count) e)) ((numbers a.total b.total).1 (ap (λ (s : Sum). s.total) e))),
+  λ e. and_from (option_eq nat_eq a.through b.through) (nat_eq a.count b.count
+      && nat_eq a.total b.total) ((option_told a.through b.through).1 (ap (λ (s : Sum). s.through) e))
+      (and_from (nat_eq a.count b.count) (nat_eq a.total b.total) ((numbers a.count b.count).1 (ap (λ (s : Sum). s.count) e))
+      ((numbers a.total b.total).1 (ap (λ (s : Sum). s.total) e))),
 )
 
 -- a sum of some of the dues so far counts fewer than all
-pub count_fits : (p : Due → Bool) (dues : List Due) (i most : ℕ) (sum : Sum) → sum ≡ sum_kept p (take i dues) → i < length dues → length dues ≤ most → sum.count + 1 ≤ most
+pub count_fits : (p : Due → Bool) (dues : List Due) (i most : ℕ) (sum : Sum) → sum ≡ sum_kept p (take i dues) → i < length dues → length dues ≤ most
+    → sum.count + 1 ≤ most
 count_fits p dues i most sum is within long =
     let count = ap (λ (s : Sum). s.count) is in
     let few = few_kept p (take i dues) in

@@ -16,7 +16,8 @@ use Rattle.dh_model.specs.Rules.{Each, HaveTheSame, IsThere, MonthIsClosed, char
 use Rattle.dh_model.proofs.Among.{Among, among, in_filter, in_map, is_among, of_filter, of_map}
 use Rattle.dh_month_audit.specs.declared.closed_dues.Due.{Due}
 use Rattle.dh_month_audit.specs.declared.closed_sums.Sum.{Sum}
-use Rattle.dh_month_audit.specs.ClosedMonths.{DuesHaveParts, IsOf, IsSumIfOf, RunsAreSums, all_dues, charges_of_branch, charges_of_month, charges_of_months, closed_months, dues_of_months, is_at_branch, is_in, sum_of, sum_of_part}
+use Rattle.dh_month_audit.specs.ClosedMonths.{DuesHaveParts, IsOf, IsSumIfOf, RunsAreSums, all_dues, charges_of_branch, charges_of_month, charges_of_months}
+use Rattle.dh_month_audit.specs.ClosedMonths.{closed_months, dues_of_months, is_at_branch, is_in, sum_of, sum_of_part}
 use Rattle.dh_month_audit.proofs.ClosedDues.{branch_of_all, month_of_all}
 use Rattle.dh_month_audit.proofs.ClosedSums.{at_key, branch_tells, is_under}
 
@@ -47,7 +48,8 @@ at_branch : (o : Option (List ℕ)) (P : List ℕ → Type 0) (branch : List ℕ
 at_branch None P branch e h = absurd (false≢true e)
 at_branch (Some other) P branch e h = subst P ((texts other branch).0 e) h
 
-module _ (books : Books) (months : set.BTreeSet ℕ) (are : (month : ℕ) → IsOf months month ↔ IsAmong (closed_months books) month) (ds : List Due) (all_are : ds ≡ all_dues books) where
+module _ (books : Books) (months : set.BTreeSet ℕ) (are : (month : ℕ) → IsOf months month ↔ IsAmong (closed_months books) month) (ds : List Due)
+    (all_are : ds ≡ all_dues books) where
   abbrev AllClosed : Type 0
   AllClosed = Each books.runs (λ run. run.is_closed ≡ true → MonthIsClosed books run)
 
@@ -93,7 +95,8 @@ module _ (books : Books) (months : set.BTreeSet ℕ) (are : (month : ℕ) → Is
       let due = of.0 in
       let month = due.charge.month in
       let there : IsAmong (dues books month) due.charge = subst (λ cs. IsAmong cs due.charge) (month_charges month)
-      (is_among (charges_of_month ds month) due.charge (of_map charge_of (filter (is_in month) ds) due (of_filter (is_in month) ds due ((numbers month month).1 refl) of.1))) in
+      (is_among (charges_of_month ds month) due.charge
+      (of_map charge_of (filter (is_in month) ds) due (of_filter (is_in month) ds due ((numbers month month).1 refl) of.1))) in
       subst (λ (c : Charge). IsAmong (dues books c.month) c) (sym of.2) there
 
   -- the due of a charge that falls due in the month
@@ -105,7 +108,8 @@ module _ (books : Books) (months : set.BTreeSet ℕ) (are : (month : ℕ) → Is
 
   due_of : (month : ℕ) (charge : Charge) → IsAmong (dues books month) charge → DueOf month charge
   due_of month charge a =
-      let of = in_map charge_of (filter (is_in month) ds) charge (among (charges_of_month ds month) charge (subst (λ cs. IsAmong cs charge) (sym (month_charges month)) a)) in
+      let of = in_map charge_of (filter (is_in month) ds) charge
+      (among (charges_of_month ds month) charge (subst (λ cs. IsAmong cs charge) (sym (month_charges month)) a)) in
       let kept = in_filter (is_in month) ds of.0 of.1 in
       record { due = of.0; is = is_among ds of.0 kept.0; charge_is = of.2; month_is = (numbers of.0.charge.month month).0 kept.1 }
 
@@ -113,7 +117,8 @@ module _ (books : Books) (months : set.BTreeSet ℕ) (are : (month : ℕ) → Is
 
   charge_in : (charge : Charge) (month : ℕ) → IsAmong (values books.charges) charge → charge.month ≡ month → IsAmong (charges_in books month) charge
   charge_in charge month a e =
-      is_among (charges_in books month) charge (of_filter (λ charge. nat_eq charge.month month) (values books.charges) charge ((numbers charge.month month).1 e) (among (values books.charges) charge a))
+      is_among (charges_in books month) charge (of_filter (λ charge. nat_eq charge.month month) (values books.charges) charge ((numbers charge.month month).1 e)
+      (among (values books.charges) charge a))
 
   in_charges : (charge : Charge) (month : ℕ) → IsAmong (charges_in books month) charge → IsAmong (values books.charges) charge × (charge.month ≡ month)
   in_charges charge month a =
@@ -128,29 +133,37 @@ module _ (books : Books) (months : set.BTreeSet ℕ) (are : (month : ℕ) → Is
   pub all_charges : AllClosed → SameCharges
   all_charges all = λ charge. (
     λ a.
-        let kept = in_filter (λ charge. set.contains nat_cmp months charge.month) (values books.charges) charge (among (charges_of_months books months) charge a) in
-        let d = due_of charge.month charge ((charges_at all charge.month kept.1 charge).0 (charge_in charge charge.month (is_among (values books.charges) charge kept.0) refl)) in
+        let kept = in_filter (λ charge. set.contains nat_cmp months charge.month) (values books.charges) charge
+        (among (charges_of_months books months) charge a) in
+        let d = due_of charge.month charge
+        ((charges_at all charge.month kept.1 charge).0 (charge_in charge charge.month (is_among (values books.charges) charge kept.0) refl)) in
         is_among (dues_of_months ds months) charge (of_filter (λ charge. set.contains nat_cmp months charge.month) (map charge_of ds) charge kept.1
         (subst (Among (map charge_of ds)) (sym d.charge_is) (of_map charge_of ds d.due (among ds d.due d.is)))),
     λ a.
         let kept = in_filter (λ charge. set.contains nat_cmp months charge.month) (map charge_of ds) charge (among (dues_of_months ds months) charge a) in
         let row = in_charges charge charge.month ((charges_at all charge.month kept.1 charge).1 (falls_due charge kept.0)) in
-        is_among (charges_of_months books months) charge (of_filter (λ charge. set.contains nat_cmp months charge.month) (values books.charges) charge kept.1 (among (values books.charges) charge row.0)),
+        is_among (charges_of_months books months) charge (of_filter (λ charge. set.contains nat_cmp months charge.month) (values books.charges) charge kept.1
+        (among (values books.charges) charge row.0)),
   )
 
   same_charges : SameCharges → (month : ℕ) → IsOf months month → HaveTheSame (charges_in books month) (dues books month)
   same_charges same month h = λ charge. (
     λ a.
         let kept = in_charges charge month a in
-        let row : Among (charges_of_months books months) charge = of_filter (λ charge. set.contains nat_cmp months charge.month) (values books.charges) charge (subst (IsOf months) (sym kept.1) h) (among (values books.charges) charge kept.0) in
-        let due = in_filter (λ charge. set.contains nat_cmp months charge.month) (map charge_of ds) charge (among (dues_of_months ds months) charge ((same charge).0 (is_among (charges_of_months books months) charge row))) in
+        let row : Among (charges_of_months books months) charge =
+        of_filter (λ charge. set.contains nat_cmp months charge.month) (values books.charges) charge (subst (IsOf months) (sym kept.1) h)
+        (among (values books.charges) charge kept.0) in
+        let due = in_filter (λ charge. set.contains nat_cmp months charge.month) (map charge_of ds) charge
+        (among (dues_of_months ds months) charge ((same charge).0 (is_among (charges_of_months books months) charge row))) in
         subst (λ m. IsAmong (dues books m) charge) kept.1 (falls_due charge due.0),
     λ a.
         let d = due_of month charge a in
         let month_is : charge.month ≡ month = ap (λ (c : Charge). c.month) d.charge_is ∙ d.month_is in
-        let due : Among (dues_of_months ds months) charge = of_filter (λ charge. set.contains nat_cmp months charge.month) (map charge_of ds) charge (subst (IsOf months) (sym month_is) h)
+        let due : Among (dues_of_months ds months) charge =
+        of_filter (λ charge. set.contains nat_cmp months charge.month) (map charge_of ds) charge (subst (IsOf months) (sym month_is) h)
         (subst (Among (map charge_of ds)) (sym d.charge_is) (of_map charge_of ds d.due (among ds d.due d.is))) in
-        let row = in_filter (λ charge. set.contains nat_cmp months charge.month) (values books.charges) charge (among (charges_of_months books months) charge ((same charge).1 (is_among (dues_of_months ds months) charge due))) in
+        let row = in_filter (λ charge. set.contains nat_cmp months charge.month) (values books.charges) charge
+        (among (charges_of_months books months) charge ((same charge).1 (is_among (dues_of_months ds months) charge due))) in
         charge_in charge month (is_among (values books.charges) charge row.0) month_is,
   )
 
@@ -158,7 +171,8 @@ module _ (books : Books) (months : set.BTreeSet ℕ) (are : (month : ℕ) → Is
 
   part_in : (part : Part) (month : ℕ) → IsAmong (values books.parts) part → part.month ≡ month → IsAmong (parts_in books month) part
   part_in part month a e =
-      is_among (parts_in books month) part (of_filter (λ part. nat_eq part.month month) (values books.parts) part ((numbers part.month month).1 e) (among (values books.parts) part a))
+      is_among (parts_in books month) part (of_filter (λ part. nat_eq part.month month) (values books.parts) part ((numbers part.month month).1 e)
+      (among (values books.parts) part a))
 
   in_parts : (part : Part) (month : ℕ) → IsAmong (parts_in books month) part → IsAmong (values books.parts) part × (part.month ≡ month)
   in_parts part month a =
@@ -172,13 +186,15 @@ module _ (books : Books) (months : set.BTreeSet ℕ) (are : (month : ℕ) → Is
   parts_sums all = λ part a h.
       let r = closed_run part.month h in
       let parts : PartsAt part.month = subst PartsAt r.month_is (all r.run r.is r.closed).parts in
-      of_part_from part (dues_of_branch books part.month part.branch) (parts part (part_in part part.month a refl)) ∙ ap sum_of (sym (branch_charges part.month part.branch))
+      of_part_from part (dues_of_branch books part.month part.branch) (parts part (part_in part part.month a refl))
+      ∙ ap sum_of (sym (branch_charges part.month part.branch))
 
   parts_at : Each books.parts (IsSumIfOf months branch_sum) → (month : ℕ) → IsOf months month → PartsAt month
   parts_at sums month h = λ part a.
       let kept = in_parts part month a in
       let is : part ≡ part_of part.month part.branch (dues_of_branch books part.month part.branch) =
-      part_from part (dues_of_branch books part.month part.branch) (sums part kept.0 (subst (IsOf months) (sym kept.1) h) ∙ ap sum_of (branch_charges part.month part.branch)) in
+      part_from part (dues_of_branch books part.month part.branch) (sums part kept.0 (subst (IsOf months) (sym kept.1) h)
+      ∙ ap sum_of (branch_charges part.month part.branch)) in
       subst (λ m. part ≡ part_of m part.branch (dues_of_branch books m part.branch)) kept.1 is
 
   abbrev AllPartsAt : ℕ → Type 0
@@ -188,7 +204,8 @@ module _ (books : Books) (months : set.BTreeSet ℕ) (are : (month : ℕ) → Is
   here due branch a is =
       let month = due.charge.month in
       subst (λ cs. Among cs due.charge) (branch_charges month branch)
-      (of_map charge_of (filter (is_under (at_key month branch)) ds) due (of_filter (is_under (at_key month branch)) ds due ((branch_tells due branch is (at_key month branch)).1 refl) (among ds due a)))
+      (of_map charge_of (filter (is_under (at_key month branch)) ds) due
+      (of_filter (is_under (at_key month branch)) ds due ((branch_tells due branch is (at_key month branch)).1 refl) (among ds due a)))
 
   abbrev HasItsPart : ℕ → List ℕ → Type 0
   HasItsPart month branch = IsThere books.branches branch → IsThere books.parts (month, branch)
@@ -198,7 +215,8 @@ module _ (books : Books) (months : set.BTreeSet ℕ) (are : (month : ℕ) → Is
       let month = due.charge.month in
       let r = closed_run month h in
       let parts : AllPartsAt month = subst AllPartsAt r.month_is (all r.run r.is r.closed).all_parts in
-      if_some due.branch (HasItsPart month) (λ branch is there. parts branch there (none_of (dues_of_branch books month branch) due.charge (here due branch a is)))
+      if_some due.branch (HasItsPart month)
+      (λ branch is there. parts branch there (none_of (dues_of_branch books month branch) due.charge (here due branch a is)))
 
   all_parts_at : DuesHaveParts books ds months → (month : ℕ) → IsOf months month → AllPartsAt month
   all_parts_at have month h = λ branch there some.
@@ -208,7 +226,8 @@ module _ (books : Books) (months : set.BTreeSet ℕ) (are : (month : ℕ) → Is
       let kept = in_filter (is_under (at_key month branch)) ds due of.1 in
       let passes = and_parts (nat_eq due.charge.month month) (is_at_branch branch due.branch) kept.1 in
       let month_is : due.charge.month ≡ month = (numbers due.charge.month month).0 passes.0 in
-      let part : IsThere books.parts (due.charge.month, branch) = at_branch due.branch (HasItsPart due.charge.month) branch passes.1 (have due (is_among ds due kept.0) (subst (IsOf months) (sym month_is) h)) there in
+      let part : IsThere books.parts (due.charge.month, branch) =
+      at_branch due.branch (HasItsPart due.charge.month) branch passes.1 (have due (is_among ds due kept.0) (subst (IsOf months) (sym month_is) h)) there in
       subst (λ m. IsThere books.parts (m, branch)) month_is part
 
   -- ---- the run, and all

@@ -1,5 +1,6 @@
 -- Numbers that follow one another.
-use Rattle.std.proofs.Common.{◌≡◌, ◌↔◌, ◌∙◌, refl, sym, subst, inl, inr, ℕ, ◌+◌, ◌<◌, ◌≤◌, Bool, true, false, nat_eq, List, [], ◌∷◌, Ordering, Less, Equal, Greater, is_lt, nat_cmp, arith}
+use Rattle.std.proofs.Common.{◌≡◌, ◌↔◌, ◌∙◌, refl, sym, subst, inl, inr, ℕ, ◌+◌, ◌<◌, ◌≤◌, Bool, true, false, nat_eq, List, [], ◌∷◌, Ordering, Less, Equal}
+use Rattle.std.proofs.Common.{Greater, is_lt, nat_cmp, arith}
 use Rattle.std.specs.FinMap.{FinMap, contains_key-keys, entries, entries_sorted, is_sorted, keys}
 use Rattle.std.specs.Ordering.{eq_by_cmp}
 use Rattle.std.proofs.lemmas.Bool.{cases_lt, false≢true}
@@ -86,7 +87,8 @@ module _ {X : Type 0} (rows : FinMap nat_cmp X) where
 
   is_key : (n : ℕ) → IsThere rows n ↔ Among (keys rows) n
   is_key n = (
-    λ there. let key = some_passes (eq_by_cmp nat_cmp n) (keys rows) (sym (contains_key-keys rows n) ∙ there) in subst (Among (keys rows)) (sym (same_key nat_total nat_ties n key.0 key.2)) key.1,
+    λ there. let key = some_passes (eq_by_cmp nat_cmp n) (keys rows) (sym (contains_key-keys rows n) ∙ there) in
+        subst (Among (keys rows)) (sym (same_key nat_total nat_ties n key.0 key.2)) key.1,
     λ a. contains_key-keys rows n ∙ of_passes (eq_by_cmp nat_cmp n) (keys rows) n a (key_itself nat_total nat_ties n),
   )
 
@@ -99,15 +101,20 @@ module _ {X : Type 0} (rows : FinMap nat_cmp X) where
     λ yes.
         let range = range_of (keys rows) first next (tells.0 yes) in
         (range.0, λ n. (λ there. (range.1 n).0 ((is_key n).0 there), λ within. (is_key n).1 ((range.1 n).1 within))),
-    λ are. tells.1 (of_range (keys rows) first next keys_increase (are.0, λ n. (λ a. (are.1 n).0 ((is_key n).1 a), λ within. (is_key n).0 ((are.1 n).1 within)))),
+    λ are. tells.1 (of_range (keys rows) first next keys_increase (
+      are.0,
+      λ n. (λ a. (are.1 n).0 ((is_key n).1 a), λ within. (is_key n).0 ((are.1 n).1 within)),
+    )),
   )
 
 -- another number comes first
-pub no_more : (n expected next : ℕ) (ns all : List ℕ) (first : ℕ) → Follow all first next ↔ Follow (n ∷ ns) expected next → (n ≡ expected → ⊥) → (false ≡ true) ↔ Follow all first next
+pub no_more : (n expected next : ℕ) (ns all : List ℕ) (first : ℕ) → Follow all first next ↔ Follow (n ∷ ns) expected next → (n ≡ expected → ⊥) → (false ≡ true)
+    ↔ Follow all first next
 no_more n expected next ns all first is differs = (λ e. absurd (false≢true e), λ follow. absurd (differs (is.0 follow).0))
 
 -- no number is left
-pub no_rest : (expected next n : ℕ) (all : List ℕ) (first : ℕ) → Follow all first next ↔ Follow [] expected next → n ≡ next → (nat_eq expected n ≡ true) ↔ Follow all first next
+pub no_rest : (expected next n : ℕ) (all : List ℕ) (first : ℕ) → Follow all first next ↔ Follow [] expected next → n ≡ next → (nat_eq expected n ≡ true)
+    ↔ Follow all first next
 no_rest expected next n all first is same = (
   λ yes. is.1 ((numbers expected n).0 yes ∙ same),
   λ follow. (numbers expected n).1 (is.0 follow ∙ sym same),

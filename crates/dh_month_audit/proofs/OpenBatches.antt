@@ -1,5 +1,7 @@
 -- How many batches the part rows of an open month show.
-use Rattle.std.proofs.Common.{◌≡◌, ◌∙◌, refl, sym, ap, subst, inl, inr, ℕ, suc, ◌+◌, ◌-◌, ◌*◌, ◌/◌, ◌<◌, ◌≤◌, Bool, true, false, cond, nat_eq, nat_lt, List, [], ◌∷◌, ◌++◌, map, max, length, get_or, take, Ordering, Less, Equal, Greater, is_lt, ◌==◌, le-div_iff_mul-le, le-ltb, lt-ltb, ltb-true, Option, Some, is_eq, arith}
+use Rattle.std.proofs.Common.{◌≡◌, ◌∙◌, refl, sym, ap, subst, inl, inr, ℕ, suc, ◌+◌, ◌-◌, ◌*◌, ◌/◌, ◌<◌, ◌≤◌, Bool, true, false, cond, nat_eq, nat_lt, List, []}
+use Rattle.std.proofs.Common.{◌∷◌, ◌++◌, map, max, length, get_or, take, Ordering, Less, Equal, Greater, is_lt, ◌==◌, le-div_iff_mul-le, le-ltb, lt-ltb}
+use Rattle.std.proofs.Common.{ltb-true, Option, Some, is_eq, arith}
 use Rattle.std.specs.List.{IsAmong, count_by, filter, sum_by}
 use Rattle.std.specs.Ordering.{nat_cmp, ord_max, ordering_reverse}
 use Rattle.std.specs.Cmp.{Equal-is, IsTotalOrder}
@@ -19,7 +21,8 @@ use Rattle.dh_types.proofs.SameValues.{numbers}
 use Rattle.dh_model.specs.Books.{Books, text_cmp}
 use Rattle.dh_model.specs.BatchLaws.{AreNumbered}
 use Rattle.dh_model.specs.Rules.{ArePosted, parts_in}
-use Rattle.dh_model.specs.Runs.{batch_of, batches, batches_before, batches_for, batches_of_branch, begun_branches, dues_of_branch, part_of, place_among, posted_of_branch, posted_parts}
+use Rattle.dh_model.specs.Runs.{batch_of, batches, batches_before, batches_for, batches_of_branch, begun_branches, dues_of_branch, part_of, place_among}
+use Rattle.dh_model.specs.Runs.{posted_of_branch, posted_parts}
 use Rattle.dh_model.proofs.Among.{Among, among, in_append, in_filter, in_map, is_among, of_filter, of_map}
 use Rattle.dh_model.proofs.BatchLemmas.{batch_begins, places_numbered}
 use Rattle.dh_model.proofs.BranchDues.{holds, keys_rise}
@@ -96,7 +99,8 @@ module _ (size : ℕ) (books : Books) (month : ℕ) where
         omega (arith, few, all)
 
     -- and all of these but the last are full
-    many_posted : (branch : List ℕ) → batches_before size books month branch < done → done ≤ batches_before size books month branch + batches_of_branch size books month branch
+    many_posted : (branch : List ℕ) → batches_before size books month branch < done
+        → done ≤ batches_before size books month branch + batches_of_branch size books month branch
         → 1 < done - batches_before size books month branch
         → (done - batches_before size books month branch - 1) * size < length (posted_of_branch size books month done branch)
     many_posted branch begun until more =
@@ -125,9 +129,13 @@ module _ (size : ℕ) (books : Books) (month : ℕ) where
         let of = in_map (λ b. part_of month b (posted b)) (begun_branches size books month done) part a in
         let kept = in_filter (λ b. nat_lt (batches_before size books month b) done) (keys books.branches) of.0 of.1 in
         let begun = ltb-true (batches_before size books month of.0) done kept.1 in
-        let fits = no_more_batches size pos (length (posted of.0)) (done - batches_before size books month of.0) (omega (arith, begun)) (few_posted of.0 begun) in
+        let fits = no_more_batches size pos (length (posted of.0)) (done - batches_before size books month of.0) (omega (arith, begun))
+        (few_posted of.0 begun) in
         let few : shows (part_of month of.0 (posted of.0)) ≤ done = omega (arith, begun, fits) in
-        record { of = subst (λ (p : Part). IsAmong (keys books.branches) p.branch) (sym of.2) (is_among (keys books.branches) of.0 kept.0); few = subst (λ p. shows p ≤ done) (sym of.2) few }
+        record {
+          of = subst (λ (p : Part). IsAmong (keys books.branches) p.branch) (sym of.2) (is_among (keys books.branches) of.0 kept.0);
+          few = subst (λ p. shows p ≤ done) (sym of.2) few;
+        }
 
     -- one shows them all
     pub record ShowsAll : Type 0 where
@@ -166,12 +174,14 @@ module _ (size : ℕ) (books : Books) (month : ℕ) where
 
       -- and what all rows of the month show at most is their number
       pub shown_is_done : (shown : ℕ) → shown ≤ done
-          → ((part : Part) → Among (values books.parts) part → part.month ≡ month → IsAmong (keys books.branches) part.branch → shows part ≤ shown) → shown ≡ done
+          → ((part : Part) → Among (values books.parts) part → part.month ≡ month → IsAmong (keys books.branches) part.branch → shows part ≤ shown)
+          → shown ≡ done
       shown_is_done shown within reached = elim (cases_lt shown done) [
         | inl fewer ↦
             let few = are_posted.few in
             let last = last_shows (omega (arith, fewer)) few in
-            let here = among (parts_in books month) last.part ((are_posted.parts last.part).1 (is_among (posted_parts size books month done) last.part last.of)) in
+            let here = among (parts_in books month) last.part
+            ((are_posted.parts last.part).1 (is_among (posted_parts size books month done) last.part last.of)) in
             let kept = in_filter (λ (p : Part). nat_eq p.month month) (values books.parts) last.part here in
             let its = posted_shows last.part last.of in
             let no_more = reached last.part kept.0 ((numbers last.part.month month).0 kept.1) its.of in
@@ -232,12 +242,14 @@ module _ (size : ℕ) (books : Books) (month : ℕ) where
         before = ap (sum_by (batches_of_branch size books month)) (ap (filter (λ other. is_lt (text_cmp other branch))) split ∙ before);
       }
 
-  pub turn : (parts : List Part) (i : ℕ) (d : Part) → parts ≡ map part_of_all (keys books.branches) → i < length (keys books.branches) → IsTurnOf i (get_or parts i d)
+  pub turn : (parts : List Part) (i : ℕ) (d : Part) → parts ≡ map part_of_all (keys books.branches) → i < length (keys books.branches)
+      → IsTurnOf i (get_or parts i d)
   turn parts i d are within =
       let at = ap (λ ps. get_or ps i d) are ∙ get_or-map part_of_all (keys books.branches) i [] d within in
       subst (IsTurnOf i) (sym at) (turn_of i [] within)
 
-  module _ (i : ℕ) (part : Part) (of : IsTurnOf i part) (all : ℕ) (so_far : all ≡ sum_by (batches_of_branch size books month) (take i (keys books.branches))) where
+  module _ (i : ℕ) (part : Part) (of : IsTurnOf i part) (all : ℕ)
+      (so_far : all ≡ sum_by (batches_of_branch size books month) (take i (keys books.branches))) where
     pub one_more : all + batches_for size part.count ≡ sum_by (batches_of_branch size books month) (take (i + 1) (keys books.branches))
     one_more =
         let sum = sum_by_push (batches_of_branch size books month) (take i (keys books.branches)) part.branch in
@@ -257,7 +269,8 @@ module _ (size : ℕ) (books : Books) (month : ℕ) where
         → Among (take (i + 1) (keys books.branches)) q → unwrap_or new 0 ≡ batches_before size books month q
     value_kept q old new puts had a = elim (cases_Bool (is_at (text_cmp part.branch) q)) [
       | inl same ↦
-          ap (λ o. unwrap_or o 0) (puts ∙ ap (λ b. cond b (Some all) old) same) ∙ so_far ∙ sym of.before ∙ ap (batches_before size books month) (same_branch part.branch q same)
+          ap (λ o. unwrap_or o 0) (puts ∙ ap (λ b. cond b (Some all) old) same) ∙ so_far ∙ sym of.before
+          ∙ ap (batches_before size books month) (same_branch part.branch q same)
       | inr other ↦ elim (in_append (take i (keys books.branches)) (part.branch ∷ []) q (subst (λ ks. Among ks q) of.taken a)) [
         | inl earlier ↦ ap (λ o. unwrap_or o 0) (puts ∙ ap (λ b. cond b (Some all) old) other) ∙ had earlier
         | inr own ↦ elim own [
@@ -284,14 +297,16 @@ module _ (size : ℕ) (books : Books) (month : ℕ) (part : Part) where
   IsFound found = IsAmong (keys books.branches) part.branch → found ≡ batches_before size books month part.branch
 
   module _ (found shown next : ℕ) (is : IsFound found) (chosen : next ≡ max shown (found + batches_for size part.count)) where
-    pub within_more : 1 ≤ size → AreNumbered books → (done : ℕ) → ArePosted books size month done → Among (values books.parts) part → part.month ≡ month → shown ≤ done → next ≤ done
+    pub within_more : 1 ≤ size → AreNumbered books → (done : ℕ) → ArePosted books size month done → Among (values books.parts) part → part.month ≡ month
+        → shown ≤ done → next ≤ done
     within_more pos are done posted a same so_far =
         let its = row_shows_within size books month pos are done posted part a same in
         let at = is its.of in
         let few = its.few in
         omega (arith, chosen, at, few, so_far)
 
-    pub reached_more : (before : List Part) → ((row : Part) → Among before row → row.month ≡ month → IsAmong (keys books.branches) row.branch → shows size books month row ≤ shown)
+    pub reached_more : (before : List Part) → ((row : Part) → Among before row → row.month ≡ month → IsAmong (keys books.branches) row.branch
+        → shows size books month row ≤ shown)
         → (row : Part) → Among (before ++ part ∷ []) row → row.month ≡ month → IsAmong (keys books.branches) row.branch → shows size books month row ≤ next
     reached_more before had row a same of = elim (in_append before (part ∷ []) row a) [
       | inl earlier ↦ let h = had row earlier same of in omega (arith, chosen, h)
@@ -304,7 +319,8 @@ module _ (size : ℕ) (books : Books) (month : ℕ) (part : Part) where
       ]
     ]
 
-  pub reached_other : (shown : ℕ) (before : List Part) → (part.month ≡ month → ⊥) → ((row : Part) → Among before row → row.month ≡ month → IsAmong (keys books.branches) row.branch → shows size books month row ≤ shown)
+  pub reached_other : (shown : ℕ) (before : List Part) → (part.month ≡ month → ⊥)
+      → ((row : Part) → Among before row → row.month ≡ month → IsAmong (keys books.branches) row.branch → shows size books month row ≤ shown)
       → (row : Part) → Among (before ++ part ∷ []) row → row.month ≡ month → IsAmong (keys books.branches) row.branch → shows size books month row ≤ shown
   reached_other shown before other had row a same of = elim (in_append before (part ∷ []) row a) [
     | inl earlier ↦ had row earlier same of
@@ -335,6 +351,7 @@ greater_is a b = elim (cases_lt b a) [
       let first : ord_max nat_cmp a b ≡ a = ap (λ t. cond (is_lt (cond t Less (cond (b == a) Equal Greater))) a b) (lt-ltb b a less) in
       omega (arith, first, less)
   | inr other ↦
-      let second : ord_max nat_cmp a b ≡ b = ap (λ t. cond (is_lt (cond t Less (cond (b == a) Equal Greater))) a b) (le-ltb b a other) ∙ ap (λ t. cond t a b) (not_less (b == a)) in
+      let second : ord_max nat_cmp a b ≡ b =
+      ap (λ t. cond (is_lt (cond t Less (cond (b == a) Equal Greater))) a b) (le-ltb b a other) ∙ ap (λ t. cond t a b) (not_less (b == a)) in
       omega (arith, second, other)
 ]

@@ -1,5 +1,6 @@
 -- What a test of all rows says of each row.
-use Rattle.std.proofs.Common.{◌≡◌, ◌↔◌, ◌∙◌, refl, sym, ap, subst, ℕ, zero, suc, ◌<◌, Bool, true, false, List, [], ◌∷◌, ◌++◌, map, append_assoc, length, slice_index_or, arith}
+use Rattle.std.proofs.Common.{◌≡◌, ◌↔◌, ◌∙◌, refl, sym, ap, subst, ℕ, zero, suc, ◌<◌, Bool, true, false, List, [], ◌∷◌, ◌++◌, map, append_assoc, length}
+use Rattle.std.proofs.Common.{slice_index_or, arith}
 use Rattle.std.specs.Bool.{MatchBool}
 use Rattle.std.specs.Fn.{Called}
 use Rattle.std.specs.Iterator.{YieldsThen}
@@ -18,14 +19,17 @@ module _ {X : Type 0} where
   element (x ∷ xs) (suc i) h = element xs i (omega (arith, h))
 
   module _ (P : X → Type 0) (xs : List X) where
-    pub each_from_cases : (r : Bool) → MatchBool r (AllWithin P xs 0 (length xs)) ((k : ℕ) × (k < length xs) × HoldsAt (λ x. P x → ⊥) xs k) → (r ≡ true) ↔ ((x : X) → IsAmong xs x → P x)
+    pub each_from_cases : (r : Bool) → MatchBool r (AllWithin P xs 0 (length xs)) ((k : ℕ) × (k < length xs) × HoldsAt (λ x. P x → ⊥) xs k) → (r ≡ true)
+        ↔ ((x : X) → IsAmong xs x → P x)
     each_from_cases true h = (λ _ x is. subst P (sym is.1.1) (h is.0 x (omega arith) is.1.0), λ _. refl)
-    each_from_cases false h = (λ e. absurd (false≢true e), λ each. let it = element xs h.0 h.1 in absurd (h.2 it.0 (subst P it.1 (each it.0 (h.0, (h.1, it.1))))))
+    each_from_cases false h =
+        (λ e. absurd (false≢true e), λ each. let it = element xs h.0 h.1 in absurd (h.2 it.0 (subst P it.1 (each it.0 (h.0, (h.1, it.1))))))
 
 module _ {S A B F : Type 0} {steps : S → Option A → S → Type 0} {v : A → B} {g : Mut F (A × Unit {0}) Bool} {s : S} {all : List B} where
   -- a chain's test of all items, by what the closure says of one
   pub each_from_all : (P : B → Type 0) (u : S) (f : F) (r : Bool)
-      → (xs : List A) × (o : Option A) × (j : F) × YieldsThen steps s xs o u × FoldsTo (λ p x q. Called g p (x, tt) true q) f xs j × MatchOption o (r ≡ true) (λ x. (r ≡ false) × ((h : F) × Called g j (x, tt) false h))
+      → (xs : List A) × (o : Option A) × (j : F) × YieldsThen steps s xs o u × FoldsTo (λ p x q. Called g p (x, tt) true q) f xs j
+      × MatchOption o (r ≡ true) (λ x. (r ≡ false) × ((h : F) × Called g j (x, tt) false h))
       → YieldsList steps v s all
       → ((x : A) (b : Bool) (q : F) → Called g f (x, tt) b q → (q ≡ f) × ((b ≡ true) ↔ P (v x)))
       → (r ≡ true) ↔ ((x : B) → IsAmong all x → P x)
@@ -36,7 +40,8 @@ module _ {S A B F : Type 0} {steps : S → Option A → S → Type 0} {v : A →
       (λ x q called p. false≢true ((tells x false q called).1.1 p)))
 
 -- the first of what is left, put at the end of what was made
-pub one_pushed : {X Y : Type 0} (f : X → Y) (x : X) (xs ys : List X) (made next all : List Y) (y : Y) → xs ≡ x ∷ ys → next ≡ made ++ y ∷ [] → y ≡ f x → made ++ map f xs ≡ all → next ++ map f ys ≡ all
+pub one_pushed : {X Y : Type 0} (f : X → Y) (x : X) (xs ys : List X) (made next all : List Y) (y : Y) → xs ≡ x ∷ ys → next ≡ made ++ y ∷ [] → y ≡ f x → made
+    ++ map f xs ≡ all → next ++ map f ys ≡ all
 one_pushed f x xs ys made next all y front added same so_far =
     ap (λ zs. zs ++ map f ys) (added ∙ ap (λ z. made ++ z ∷ []) same) ∙ append_assoc made (f x ∷ []) (map f ys)
     ∙ sym (ap (λ zs. made ++ map f zs) front) ∙ so_far

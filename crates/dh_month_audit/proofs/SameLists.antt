@@ -21,7 +21,8 @@ of_contains xs x h = (h.0, (h.1, sym h.2))
 contains_among : {X : Type 0} (xs : List X) (x : X) → IsAmong xs x → Contains xs x
 contains_among xs x h = (h.0, h.1.0, sym h.1.1)
 
-module _ {K : Type 0} {R : K → K → Ordering} (o : IsTotalOrder R) (xs ys : List K) (s t : BTreeSet K) (of_xs : IsFromIterResult R xs s) (of_ys : IsFromIterResult R ys t) where
+module _ {K : Type 0} {R : K → K → Ordering} (o : IsTotalOrder R) (xs ys : List K) (s t : BTreeSet K) (of_xs : IsFromIterResult R xs s)
+    (of_ys : IsFromIterResult R ys t) where
   -- a set of one list is a subset of that of another if all elements of the one are among the other's
   pub subset_among : IsAntisymmetric R → IsSubset R s t → (x : K) → IsAmong xs x → IsAmong ys x
   subset_among exact within x a =

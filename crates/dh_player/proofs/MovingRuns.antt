@@ -1,5 +1,6 @@
 -- Where the open run stands after batches, or at its end.
-use Rattle.std.proofs.Common.{◌≡◌, ◌∙◌, refl, sym, ap, subst, inl, inr, ℕ, ◌+◌, ◌-◌, ◌≤◌, min, Bool, true, false, nat_le, if◌then◌else◌, Option, Some, None, arith}
+use Rattle.std.proofs.Common.{◌≡◌, ◌∙◌, refl, sym, ap, subst, inl, inr, ℕ, ◌+◌, ◌-◌, ◌≤◌, min, Bool, true, false, nat_le, if◌then◌else◌, Option, Some, None}
+use Rattle.std.proofs.Common.{arith}
 use Rattle.std.proofs.lemmas.Bool.Decides.{nat_tests}
 use Rattle.dh_types.specs.declared.command.Command.{Command}
 use Rattle.dh_types.specs.declared.command.Command.TheVariants as command
@@ -66,7 +67,8 @@ module _ (size : ℕ) where
     pub same : whole size after.books ≡ whole size before.books
     pub is : after.open_run ≡ run
 
-  pub batches_done : (before after : State) (run : OpenRun) (n count : ℕ) → before.open_run ≡ Some run → n ≡ run.done + min count (batches size before.books run.month - run.done)
+  pub batches_done : (before after : State) (run : OpenRun) (n count : ℕ) → before.open_run ≡ Some run
+      → n ≡ run.done + min count (batches size before.books run.month - run.done)
       → after ≡ stands_at before.books run n → IsInOrder size before.books before.open_run
       → Led before after (Some (record { month = run.month; done = capped run.done count (batches size (whole size before.books) run.month) }))
   batches_done before after run n count shown counted made order =
@@ -78,10 +80,12 @@ module _ (size : ℕ) where
         order = subst (λ (s : State). IsInOrder size s.books s.open_run) (sym made) led.order;
         same = ap (λ (s : State). whole size s.books) made ∙ led.same;
         is = ap (λ (s : State). s.open_run) made
-            ∙ ap (λ m. Some (record { month = run.month; done = m })) (counted ∙ capped_is run.done count all few ∙ ap (capped run.done count) (sym (batches_of_whole size before.books run.month)));
+            ∙ ap (λ m. Some (record { month = run.month; done = m })) (counted ∙ capped_is run.done count all few
+            ∙ ap (capped run.done count) (sym (batches_of_whole size before.books run.month)));
       }
 
-  pub end_reached : (before after : State) → 1 ≤ size → after ≡ record { books = whole size before.books; open_run = None } → IsInOrder size before.books before.open_run
+  pub end_reached : (before after : State) → 1 ≤ size → after ≡ record { books = whole size before.books; open_run = None }
+      → IsInOrder size before.books before.open_run
       → Led before after None
   end_reached before after pos made order =
       let led = at_the_end size before.books before.open_run pos order in
@@ -91,7 +95,8 @@ module _ (size : ℕ) where
         is = ap (λ (s : State). s.open_run) made;
       }
 
-advanced_by : (books : Books) (count most : ℕ) (run : Option OpenRun) → count ≤ most → IsWithin batch_size books run → IsMovedBy batch_size books most run (advanced_run books count run)
+advanced_by : (books : Books) (count most : ℕ) (run : Option OpenRun) → count ≤ most → IsWithin batch_size books run
+    → IsMovedBy batch_size books most run (advanced_run books count run)
 advanced_by books count most None few within = inl refl
 advanced_by books count most (Some run) few within =
     let at = is_capped run.done count (batches batch_size books run.month) within in
@@ -108,7 +113,8 @@ moved_within : (books : Books) (most : ℕ) (far : Reach) (run : Option OpenRun)
 moved_within books most (reach.Batches count) run within = advanced_by books (min count most) most run (omega arith) within
 moved_within books most reach.End run within = by (nat_le (batches_left books run) most) refl
   where
-    by : (b : Bool) → nat_le (batches_left books run) most ≡ b → IsMovedBy batch_size books most run (moved_run books (if b then reach.End else reach.Batches most) run)
+    by : (b : Bool) → nat_le (batches_left books run) most ≡ b
+        → IsMovedBy batch_size books most run (moved_run books (if b then reach.End else reach.Batches most) run)
     by true e = ended_by books most run (at_most (batches_left books run) most e)
     by false e = advanced_by books most most run (omega arith) within
 
@@ -127,18 +133,22 @@ left_of_whole books (Some run) = ap (λ all. all - run.done) (batches_of_whole b
 -- the tables with the open run moved so far
 abbrev pub Moves : State → Reach → State → Type 0
 Moves before far after =
-    AreInOrder before → AreInOrder after × (whole batch_size after.books ≡ whole batch_size before.books) × (after.open_run ≡ moved_run (whole batch_size before.books) far before.open_run)
+    AreInOrder before → AreInOrder after × (whole batch_size after.books ≡ whole batch_size before.books)
+    × (after.open_run ≡ moved_run (whole batch_size before.books) far before.open_run)
 
-pub torn_so_far : (before after : State) (far : Reach) → Moves before far after → AreInOrder before → IsTorn batch_size (tables before) (tables after) × AreInOrder after
+pub torn_so_far : (before after : State) (far : Reach) → Moves before far after → AreInOrder before → IsTorn batch_size (tables before) (tables after)
+    × AreInOrder after
 torn_so_far before after far moves order =
     let made = whole batch_size before.books in
     let led = moves order in
     let on = moved_on made far before.open_run (within_whole batch_size before.books before.open_run order) in
     (record { books = led.1; run = subst (λ run. IsMovedOn batch_size made before.open_run run) (sym led.2) on }, led.0)
 
-pub post_cut : (before after : State) (told : Command) (count : ℕ) (far to : Reach) → told ≡ command.Post count → to ≡ reach_within (batches_left before.books before.open_run) count far
+pub post_cut : (before after : State) (told : Command) (count : ℕ) (far to : Reach) → told ≡ command.Post count
+    → to ≡ reach_within (batches_left before.books before.open_run) count far
     → Moves before to after → AreInOrder before
-    → (IsUndone batch_size told (tables before) (tables after) × AreInOrder after) × (after.open_run ≡ undone_run (whole batch_size before.books) told far before.open_run)
+    → (IsUndone batch_size told (tables before) (tables after) × AreInOrder after)
+    × (after.open_run ≡ undone_run (whole batch_size before.books) told far before.open_run)
 post_cut before after told count far to posts within moves order =
     let made = whole batch_size before.books in
     let led = moves order in
@@ -146,7 +156,8 @@ post_cut before after told count far to posts within moves order =
     led.2 ∙ ap (λ it. moved_run made it before.open_run) (within ∙ ap (λ left. reach_within left count far) (sym (left_of_whole before.books before.open_run)))
     in
     let by = moved_within made count far before.open_run (within_whole batch_size before.books before.open_run order) in
-    let moved : RunIfUndone batch_size made (command.Post count) before.open_run after.open_run = subst (λ it. IsMovedBy batch_size made count before.open_run it) (sym run) by in (
+    let moved : RunIfUndone batch_size made (command.Post count) before.open_run after.open_run =
+    subst (λ it. IsMovedBy batch_size made count before.open_run it) (sym run) by in (
       (record { books = led.1; run = subst (λ it. RunIfUndone batch_size made it before.open_run after.open_run) (sym posts) moved }, led.0),
       subst (λ it. after.open_run ≡ undone_run made it far before.open_run) (sym posts) run,
     )

@@ -1,5 +1,6 @@
 -- Happenings, one after the other.
-use Rattle.std.proofs.Common.{◌≡◌, ◌∙◌, refl, sym, ap, subst, inl, inr, ℕ, suc, ◌+◌, ◌<◌, ◌≤◌, List, [], ◌∷◌, ◌++◌, Option, Some, None, length, drop, get_or, drop-cons, add-one}
+use Rattle.std.proofs.Common.{◌≡◌, ◌∙◌, refl, sym, ap, subst, inl, inr, ℕ, suc, ◌+◌, ◌<◌, ◌≤◌, List, [], ◌∷◌, ◌++◌, Option, Some, None, length, drop, get_or}
+use Rattle.std.proofs.Common.{drop-cons, add-one}
 use Rattle.std.specs.Option.{option_to_list}
 use Rattle.std.proofs.lemmas.List.{append-nil, append_assoc, drop_all}
 use Rattle.dh_types.specs.declared.reply.Reply.{Reply}
@@ -15,7 +16,8 @@ use Rattle.dh_player.specs.Playing.{IsPlayed, IsStep, counted}
 
 -- what is kept of these events, from these books on
 abbrev KeptFrom : List Happening → State → State → List (Event × Tables) → Books → Type 0
-KeptFrom happenings middle after events books = Kept batch_size (record { books = books; open_run = middle.open_run }) events (counted happenings) (state_of batch_size (tables after))
+KeptFrom happenings middle after events books =
+    Kept batch_size (record { books = books; open_run = middle.open_run }) events (counted happenings) (state_of batch_size (tables after))
 
 pub nothing_played : (s : State) → IsPlayed [] [] s s
 nothing_played s = record { events = []; follow = tt; are = tt; answers = refl; ends = refl; kept = (refl, refl) }
@@ -73,7 +75,8 @@ one_more happening.Mended happenings None replies before middle after o step p =
   kept =
       let whole = mended_whole batch_size (tables middle) _ step o.shown in
       let none = ap (λ (t : Tables). t.run) step in
-      subst (λ (s : State). Kept batch_size s p.events (counted happenings) (state_of batch_size (tables after))) (λ i. record { books = whole i; open_run = none i }) p.kept;
+      subst (λ (s : State). Kept batch_size s p.events (counted happenings) (state_of batch_size (tables after)))
+      (λ i. record { books = whole i; open_run = none i }) p.kept;
 }
 one_more (happening.Said told) happenings None replies before middle after o step p = absurd step
 one_more (happening.Undone told reach) happenings (Some reply) replies before middle after o step p = absurd step
@@ -109,7 +112,8 @@ module _ (all : List Happening) (start : State) where
             (subst (λ hs. IsPlayed hs (option_to_list reply ++ more) now after) (sym front) (one_more one rest reply more now next after made.1 made.0 p))),
       )
 
-  pub so_far_all : (i : ℕ) (replies : List Reply) (now : State) → length all ≤ i → SoFar (drop i all) replies now → AreInOrder start → IsPlayed all replies start now
+  pub so_far_all : (i : ℕ) (replies : List Reply) (now : State) → length all ≤ i → SoFar (drop i all) replies now → AreInOrder start
+      → IsPlayed all replies start now
   so_far_all i replies now ended so in_order =
       subst (λ rs. IsPlayed all rs start now) (append-nil replies)
       ((so in_order).1 [] now (subst (λ hs. IsPlayed hs [] now now) (sym (drop_all i all ended)) (nothing_played now)))

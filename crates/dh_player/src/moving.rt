@@ -25,7 +25,8 @@ pub enum Reach {
 
 /// The tables with so many batches more of the open run, as far as there are; it stays open.
 pub fn advanced(alloc: Global, before: Books, count: u128) -> Result<Books, AllocError>
-    ensures { IfOk result (λ after. AreInOrder before → AreInOrder after × (whole batch_size after.books ≡ whole batch_size before.books) × (after.open_run ≡ advanced_run (whole batch_size before.books) count before.open_run)) }
+    ensures { IfOk result (λ after. AreInOrder before → AreInOrder after × (whole batch_size after.books ≡ whole batch_size before.books)
+        × (after.open_run ≡ advanced_run (whole batch_size before.books) count before.open_run)) }
 {
     let Some(run) = before.open_run() else {
         return Ok(before);
@@ -53,7 +54,8 @@ pub fn mended(alloc: Global, before: Books) -> Result<Books, AllocError>
 
 /// The tables with the open run moved so far.
 pub fn moved(alloc: Global, before: Books, reach: Reach) -> Result<Books, AllocError>
-    ensures { IfOk result (λ after. AreInOrder before → AreInOrder after × (whole batch_size after.books ≡ whole batch_size before.books) × (after.open_run ≡ moved_run (whole batch_size before.books) reach before.open_run)) }
+    ensures { IfOk result (λ after. AreInOrder before → AreInOrder after × (whole batch_size after.books ≡ whole batch_size before.books)
+        × (after.open_run ≡ moved_run (whole batch_size before.books) reach before.open_run)) }
 {
     match reach {
         Reach::Batches(count) => advanced(alloc, before, count),

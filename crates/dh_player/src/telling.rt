@@ -152,7 +152,8 @@ pub fn said(alloc: Global, before: Books, command: &Command) -> Result<Told, All
 // `run` over tables without an open run, cut after so many batches.
 fn cut_run(alloc: Global, before: Books, order: &RunOrder, count: u128) -> Result<Books, AllocError>
     requires { before.open_run ≡ None }
-    ensures { IfOk result (λ after. AreInOrder before → IsCutDone batch_size (command.Run order.now) before after × StandsAt order.now count (run_verdict before.books order.now) after) }
+    ensures { IfOk result (λ after. AreInOrder before → IsCutDone batch_size (command.Run order.now) before after
+        × StandsAt order.now count (run_verdict before.books order.now) after) }
 {
     match decide_run(&before, order) {
         Verdict::Change(rows) => advanced(alloc, begun(before, order, rows)?, count),

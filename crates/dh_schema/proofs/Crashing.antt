@@ -24,7 +24,8 @@ survives_committed g old begun last new P is inside made commit =
     (survives_begin g old (state g last) _ (rw is at inside)) commit
 
 -- between calls a store that is open leaves its last commit, and that is what it shows
-pub ready_leaves : (s : State) → ((left : Trees) → IsTrue s.is_open → s.may_leave left → left ≡ s.committed.trees) → (IsTrue s.is_open → s.may_leave s.committed.trees) → IsReady s → LeavesItsTables s
+pub ready_leaves : (s : State) → ((left : Trees) → IsTrue s.is_open → s.may_leave left → left ≡ s.committed.trees)
+    → (IsTrue s.is_open → s.may_leave s.committed.trees) → IsReady s → LeavesItsTables s
 ready_leaves s settled stays ready =
     let same = ap (λ (d : Database). d.trees) (sym ready.settled) in
     record {

@@ -36,7 +36,8 @@ no_entry false x o h = (refl, h)
 neither : (a b : Bool) → a ≡ false → b ≡ false → (a || b) ≡ false
 neither a b p q = rw (p, q) refl
 
-no_key : (k : List ℕ) (es : List (List ℕ × Branch)) → find text_cmp k es ≡ None → list_any (eq_by_cmp text_cmp k) (map (λ (e : List ℕ × Branch). e.0) es) ≡ false
+no_key : (k : List ℕ) (es : List (List ℕ × Branch)) → find text_cmp k es ≡ None
+    → list_any (eq_by_cmp text_cmp k) (map (λ (e : List ℕ × Branch). e.0) es) ≡ false
 no_key k [] h = refl
 no_key k (e ∷ es) h =
     let both = no_entry (eq_by_cmp text_cmp k e.0) e.1 (find text_cmp k es) h in
@@ -55,17 +56,23 @@ pub one-read : (rows : List Row) (row : Row) (b : Branch) (old mid new : State) 
 one-read rows row b old mid new were is grammar absent made =
     let es = map entry rows in
     let branches : mid.books.branches ≡ map.from_entries {R = text_cmp} es = ap (λ (s : State). s.books.branches) were.books in
-    let missing : find text_cmp b.number es ≡ None = sym (map.get-from_entries nat_list_cmp_total es b.number) ∙ sym (ap (λ m. map.get m b.number) branches) ∙ absent in
+    let missing : find text_cmp b.number es ≡ None =
+    sym (map.get-from_entries nat_list_cmp_total es b.number) ∙ sym (ap (λ m. map.get m b.number) branches) ∙ absent in
     let here : entry row ≡ (b.number, b) = ap entry is in
     let grown : map.from_entries {R = text_cmp} (map entry (rows ++ row ∷ [])) ≡ map.insert mid.books.branches b.number b =
-    ap (map.from_entries {R = text_cmp}) (map-push entry rows row ∙ ap (λ e. es ++ e ∷ []) here) ∙ map.from_entries_push nat_list_cmp_total exact_bytes es b.number b missing
+    ap (map.from_entries {R = text_cmp}) (map-push entry rows row ∙ ap (λ e. es ++ e ∷ []) here)
+    ∙ map.from_entries_push nat_list_cmp_total exact_bytes es b.number b missing
     ∙ sym (ap (λ m. map.insert m b.number b) branches) in
     let fresh : list_any (eq_by_cmp text_cmp b.number) (map (λ r. (branch_in r).number) rows) ≡ false =
     sym (ap (list_any (eq_by_cmp text_cmp b.number)) (map-map (λ (e : List ℕ × Branch). e.0) entry rows)) ∙ no_key b.number es missing in
     let number : (branch_in row).number ≡ b.number = ap (λ (e : List ℕ × Branch). e.0) here in
     record {
       grammar = all-push _ rows row were.grammar grammar;
-      distinct = rw (map-push (λ r. (branch_in r).number) rows row, number) (IsDistinct-push (eq_by_cmp_equiv nat_list_cmp_total) _ b.number were.distinct fresh);
-      books = made ∙ ap (λ (s : State). let t : State = record s { books = record s.books { branches = map.insert mid.books.branches b.number b } } in t) were.books
+      distinct = rw (
+        map-push (λ r. (branch_in r).number) rows row,
+        number,
+      ) (IsDistinct-push (eq_by_cmp_equiv nat_list_cmp_total) _ b.number were.distinct fresh);
+      books = made ∙ ap (λ (s : State). let t : State = record s { books = record s.books { branches = map.insert mid.books.branches b.number b } } in
+          t) were.books
           ∙ ap (λ bs. let t : State = record old { books = record old.books { branches = bs } } in t) (sym grown);
     }

@@ -31,15 +31,18 @@ pub record Puts (schema : Schema) (tree : ℕ) (row : Row) (old new : Trees) : T
   -- each rule of the schema holds but the foreign keys
   pub fits : Fits schema new
 
-module _ (text : List ℕ) (schema : Schema) (at : ℕ) (table : Table) (terms : List Term) (width : ℕ) (params source : Row) (is : IsInsertText text schema at table terms width params source) where
+module _ (text : List ℕ) (schema : Schema) (at : ℕ) (table : Table) (terms : List Term) (width : ℕ) (params source : Row)
+    (is : IsInsertText text schema at table terms width params source) where
   pub inserts : (old new : State) (count : ℕ) → old.now.schema ≡ schema → Executes text params old new (Ok count)
       → (new.now.schema ≡ schema) × Puts schema table.tree (with_rowid Chosen (old.now.trees table.tree) (cast_row table source)) old.now.trees new.now.trees
   inserts old new count has h =
       let db = old.now.trees in
       let command = Insert at (Values terms width) in
       let w = runs_as text params old new schema has command is.command is.plain count h in
-      let changed = subst (λ s. Does old.step_limit (mode_of old) params (record old.now { schema = s }) (statement_of text (understood schema text)) None command (Ok (w.tally, new.now))) has w.changed in
-      let on = subst (λ o. AtPlace (λ t. OnRows (record { limit = old.step_limit; keys = Enforced; schema = schema; table = t; params = params }) (mode_of old) None command db) o (Ok (w.tally, new.now))) is.listed changed in
+      let changed = subst (λ s. Does old.step_limit (mode_of old) params (record old.now { schema = s })
+      (statement_of text (understood schema text)) None command (Ok (w.tally, new.now))) has w.changed in
+      let on = subst (λ o. AtPlace (λ t. OnRows (record { limit = old.step_limit; keys = Enforced; schema = schema; table = t; params = params })
+      (mode_of old) None command db) o (Ok (w.tally, new.now))) is.listed changed in
       let done = went on in
       let now = ap (λ (p : Tally × Database). p.1) (same_value (went (went done.2).2).2) in
       let given = went done.1 in

@@ -16,7 +16,8 @@ use Rattle.dh_schema.specs.Layout.{our_schema}
 use Rattle.dh_schema.specs.Tables.{books_over, only_months, by_number, empty_over, IsSound}
 use Rattle.dh_schema.specs.Store.{AreTables, IsReady, tables}
 
-module _ (trees : Trees) (months : Months) (grammar : is_meta_row (meta_row months) ≡ true) (meta : meta_rows trees ≡ meta_row months ∷ []) (none : trees 1 ≡ []) where
+module _ (trees : Trees) (months : Months) (grammar : is_meta_row (meta_row months) ≡ true) (meta : meta_rows trees ≡ meta_row months
+    ∷ []) (none : trees 1 ≡ []) where
   sound : IsSound trees
   unfolding IsDistinct
   sound = record {
@@ -33,7 +34,8 @@ module _ (trees : Trees) (months : Months) (grammar : is_meta_row (meta_row mont
   )
 
 -- what was committed over our tables is ready
-pub ready_after : (P : machine.State → Type 0) (last new : State) → last.now.schema ≡ our_schema → Shows last new last.now last.now false → AreTables P last.now.trees → IsReady new × P (tables new)
+pub ready_after : (P : machine.State → Type 0) (last new : State) → last.now.schema ≡ our_schema → Shows last new last.now last.now false
+    → AreTables P last.now.trees → IsReady new × P (tables new)
 ready_after P last new has shown made =
     let trees = ap (λ (d : Database). d.trees) shown.now_is in
     let moved = subst (AreTables P) (sym trees) made in (

@@ -41,7 +41,8 @@ module _ (trees : Trees) (metas rows : List Row) (read_meta : IsPermutation (met
 
   -- meta has this row alone
   pub meta_is : (months : Months) → metas ≡ meta_row months ∷ [] → meta_rows trees ≡ meta_row months ∷ []
-  meta_is months is = one_permutation (meta_row months) (meta_rows trees) (subst (λ xs. IsPermutation xs (meta_rows trees)) is (IsPermutation-sym (meta_rows trees) metas read_meta))
+  meta_is months is = one_permutation (meta_row months) (meta_rows trees)
+      (subst (λ xs. IsPermutation xs (meta_rows trees)) is (IsPermutation-sym (meta_rows trees) metas read_meta))
 
   module _ (read_branches : IsPermutation (branch_rows trees) rows) where
     pub has_values : (old new : State) → IsOnlyMeta metas → AreBranches rows old new → HasValues trees
@@ -54,7 +55,9 @@ module _ (trees : Trees) (metas rows : List Row) (read_meta : IsPermutation (met
 
     pub loaded : (months : Months) (new : State) → metas ≡ meta_row months ∷ [] → AreBranches rows (empty_over months) new → new ≡ tables_in trees
     loaded months new is gathered =
-        let distinct : IsDistinct (eq_by_cmp text_cmp) (map (λ (e : List ℕ × Branch). e.0) (map entry rows)) = rw (map-map (λ (e : List ℕ × Branch). e.0) entry rows) gathered.distinct in
+        let distinct : IsDistinct (eq_by_cmp text_cmp) (map (λ (e : List ℕ × Branch). e.0) (map entry rows)) =
+        rw (map-map (λ (e : List ℕ × Branch). e.0) entry rows) gathered.distinct in
         let same : map.from_entries {R = text_cmp} (map entry (branch_rows trees)) ≡ map.from_entries (map entry rows) =
-        from_permutation nat_list_cmp_total exact_bytes (map entry rows) (map entry (branch_rows trees)) (IsPermutation-map entry rows (branch_rows trees) (IsPermutation-sym (branch_rows trees) rows read_branches)) distinct in
+        from_permutation nat_list_cmp_total exact_bytes (map entry rows) (map entry (branch_rows trees))
+        (IsPermutation-map entry rows (branch_rows trees) (IsPermutation-sym (branch_rows trees) rows read_branches)) distinct in
         gathered.books ∙ ap₂ (λ bs (m : Months). books_over m bs) (sym same) (sym (ap only_months (meta_is months is)))

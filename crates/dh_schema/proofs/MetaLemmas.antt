@@ -22,7 +22,8 @@ stored m = Int (pos 1) ∷ Null ∷ Int (pos 1) ∷ Int (pos m.first) ∷ Int (p
 cast_stored : (m : Months) → cast_row meta (stored m) ≡ stored m
 cast_stored m = rw (cast_int (pos 1), cast_null, cast_int (pos m.first), cast_int (pos m.next)) refl
 
-pub adds_meta : (old new : State) (m : Months) (count : ℕ) → old.now.schema ≡ our_schema → old.now.trees 0 ≡ [] → Executes insert_meta (meta_row m) old new (Ok count)
+pub adds_meta : (old new : State) (m : Months) (count : ℕ) → old.now.schema ≡ our_schema → old.now.trees 0 ≡ []
+    → Executes insert_meta (meta_row m) old new (Ok count)
     → (new.now.schema ≡ our_schema) × (meta_rows new.now.trees ≡ meta_row m ∷ []) × (new.now.trees 1 ≡ old.now.trees 1)
 adds_meta old new m count has empty h =
     let it = inserts insert_meta our_schema 0 meta meta_terms 5 (meta_row m) (stored m) (insert_meta_is _ _ _ _) old new count has h in

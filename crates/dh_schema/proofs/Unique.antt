@@ -55,7 +55,8 @@ none : {X : Type 0} (p : X → Bool) (xs : List X) → list_any p xs ≡ false �
 none p [] h = tt
 none p (x ∷ xs) h = (or_left (p x) _ h, none p xs (or_right (p x) _ h))
 
-apart : (n : ℤ) (place : ℕ) (row : Row) (rows : List Row) → rowid row ≡ Int n → AllByRecursion (λ other. is_int (rowid other) ≡ true) rows → AllByRecursion (λ other. is_eq (value_cmp (rowid other) (rowid row)) ≡ false) rows
+apart : (n : ℤ) (place : ℕ) (row : Row) (rows : List Row) → rowid row ≡ Int n → AllByRecursion (λ other. is_int (rowid other) ≡ true) rows
+    → AllByRecursion (λ other. is_eq (value_cmp (rowid other) (rowid row)) ≡ false) rows
     → AllByRecursion (λ other. (agree plain (place ∷ []) other (place ∷ []) row && differ (rowid other) (rowid row)) ≡ false) rows
     → AllByRecursion (λ other. agree plain (place ∷ []) other (place ∷ []) row ≡ false) rows
 apart n place row [] is ints ids clash = tt

@@ -24,9 +24,11 @@ fn make_tables<S: Alter>(
 ) -> Result<(), Error>
     requires autocommit { (state S.Store conn.old).in_transaction ≡ false }
     requires blank { IsBlank (state S.Store conn.old) }
-    ensures done { HasCleanDisk (state S.Store conn.new) → OnOk result (IsReady (state S.Store conn.new) × (tables (state S.Store conn.new) ≡ empty_over months.now)) }
+    ensures done { HasCleanDisk (state S.Store conn.new)
+        → OnOk result (IsReady (state S.Store conn.new) × (tables (state S.Store conn.new) ≡ empty_over months.now)) }
     ensures left { HasCleanDisk (state S.Store conn.new) → OnOk result (LeavesItsTables (state S.Store conn.new)) }
-    ensures undone { HasCleanDisk (state S.Store conn.new) → IsTrue (state S.Store conn.new).is_open → OnErr result ((state S.Store conn.new).committed ≡ (state S.Store conn.old).committed) }
+    ensures undone { HasCleanDisk (state S.Store conn.new) → IsTrue (state S.Store conn.new).is_open
+        → OnErr result ((state S.Store conn.new).committed ≡ (state S.Store conn.old).committed) }
     ensures survives { Commits (state S.Store conn.old) (state S.Store conn.new) (λ t. t ≡ empty_over months.now) }
 {
     let mut tx = conn.transaction();
@@ -43,7 +45,8 @@ pub fn install<S: Alter>(alloc: Global, conn: &mut Connection<S>, first: Month) 
     requires { first ≤ 26411 }
     ensures done { HasCleanDisk (state S.Store conn.new) → OnOk result (IsReady (state S.Store conn.new) × (tables (state S.Store conn.new) ≡ start first)) }
     ensures left { HasCleanDisk (state S.Store conn.new) → OnOk result (LeavesItsTables (state S.Store conn.new)) }
-    ensures undone { HasCleanDisk (state S.Store conn.new) → IsTrue (state S.Store conn.new).is_open → OnErr result ((state S.Store conn.new).committed ≡ (state S.Store conn.old).committed) }
+    ensures undone { HasCleanDisk (state S.Store conn.new) → IsTrue (state S.Store conn.new).is_open
+        → OnErr result ((state S.Store conn.new).committed ≡ (state S.Store conn.old).committed) }
     ensures cause { IfErr result IsFirstFault }
     ensures occupied { ¬ IsBlank (state S.Store conn.old) → (result ≡ Err Fault.Store) × (conn.new ≡ conn.old) }
     ensures survives { Commits (state S.Store conn.old) (state S.Store conn.new) (λ t. t ≡ start first) }

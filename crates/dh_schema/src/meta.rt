@@ -16,7 +16,8 @@ use std::alloc::Global;
 pub(crate) fn create_meta<S: Alter>(tx: &mut Transaction<'_, S>) -> Result<(), Error>
     requires { HasCleanDisk (state S.Store tx.old.conn.now) → IsWritingOn no_schema (state S.Store tx.old.conn.now) }
     ensures same_reference { tx.new.conn.ghost_name ≡ tx.old.conn.ghost_name }
-    ensures made { HasCleanDisk (state S.Store tx.new.conn.now) → OnOk result (IsWritingOn meta_schema (state S.Store tx.new.conn.now) × ((state S.Store tx.new.conn.now).now.trees 0 ≡ [])) }
+    ensures made { HasCleanDisk (state S.Store tx.new.conn.now)
+        → OnOk result (IsWritingOn meta_schema (state S.Store tx.new.conn.now) × ((state S.Store tx.new.conn.now).now.trees 0 ≡ [])) }
     ensures kept { HasCleanDisk (state S.Store tx.new.conn.now) → KeepsCommit (state S.Store tx.old.conn.now) (state S.Store tx.new.conn.now) }
     ensures crash { Survives (state S.Store tx.old.conn.now) (state S.Store tx.new.conn.now) (λ _. ⊥) }
 {
@@ -33,9 +34,13 @@ pub(crate) fn insert_meta<S: Alter>(
     tx: &mut Transaction<'_, S>,
     months: &Meta,
 ) -> Result<(), Error>
-    requires { HasCleanDisk (state S.Store tx.old.conn.now) → IsWritingOn our_schema (state S.Store tx.old.conn.now) × ((state S.Store tx.old.conn.now).now.trees 0 ≡ []) }
+    requires { HasCleanDisk (state S.Store tx.old.conn.now) → IsWritingOn our_schema (state S.Store tx.old.conn.now)
+        × ((state S.Store tx.old.conn.now).now.trees 0 ≡ []) }
     ensures same_reference { tx.new.conn.ghost_name ≡ tx.old.conn.ghost_name }
-    ensures made { HasCleanDisk (state S.Store tx.new.conn.now) → OnOk result (IsWritingOn our_schema (state S.Store tx.new.conn.now) × (is_meta_row (meta_row months.now) ≡ true) × (meta_rows (state S.Store tx.new.conn.now).now.trees ≡ meta_row months.now ∷ []) × ((state S.Store tx.new.conn.now).now.trees 1 ≡ (state S.Store tx.old.conn.now).now.trees 1)) }
+    ensures made { HasCleanDisk (state S.Store tx.new.conn.now)
+        → OnOk result (IsWritingOn our_schema (state S.Store tx.new.conn.now) × (is_meta_row (meta_row months.now) ≡ true)
+        × (meta_rows (state S.Store tx.new.conn.now).now.trees ≡ meta_row months.now ∷ [])
+        × ((state S.Store tx.new.conn.now).now.trees 1 ≡ (state S.Store tx.old.conn.now).now.trees 1)) }
     ensures kept { HasCleanDisk (state S.Store tx.new.conn.now) → KeepsCommit (state S.Store tx.old.conn.now) (state S.Store tx.new.conn.now) }
     ensures crash { Survives (state S.Store tx.old.conn.now) (state S.Store tx.new.conn.now) (λ _. ⊥) }
 {
@@ -52,7 +57,8 @@ pub(crate) fn select_meta<S: Alter>(conn: &mut Connection<S>) -> Result<Vec<Row>
     requires { HasCleanDisk (state S.Store conn.old) → HasTables (state S.Store conn.old) }
     ensures rows { HasCleanDisk (state S.Store conn.new) → IfOk result (λ rows. IsPermutation (meta_rows (state S.Store conn.old).now.trees) rows.items) }
     ensures same { HasCleanDisk (state S.Store conn.new) → OnOk result (IsUnchanged (state S.Store conn.old) (state S.Store conn.new)) }
-    ensures undone { HasCleanDisk (state S.Store conn.new) → OnErr result (IsUnchanged (state S.Store conn.old) (state S.Store conn.new) ⊎ IsRolledBack (state S.Store conn.old) (state S.Store conn.new)) }
+    ensures undone { HasCleanDisk (state S.Store conn.new)
+        → OnErr result (IsUnchanged (state S.Store conn.old) (state S.Store conn.new) ⊎ IsRolledBack (state S.Store conn.old) (state S.Store conn.new)) }
     ensures crash { Survives (state S.Store conn.old) (state S.Store conn.new) (λ _. ⊥) }
 {
     conn.query_all("SELECT id, version, first_month, next_month FROM meta", &[])

@@ -37,9 +37,12 @@ pub fn version<S: Alter>(conn: &mut Connection<S>) -> Result<i64, LoadFault>
     requires { HasCleanDisk (state S.Store conn.old) → HasTables (state S.Store conn.old) }
     ensures found { HasCleanDisk (state S.Store conn.new) → IfOk result (λ n. only_version (meta_rows (state S.Store conn.old).now.trees) ≡ Some n) }
     ensures cause { IfErr result IsLoadFault }
-    ensures damaged { HasCleanDisk (state S.Store conn.new) → result ≡ Err LoadFault.Damaged → only_version (meta_rows (state S.Store conn.old).now.trees) ≡ None }
+    ensures damaged { HasCleanDisk (state S.Store conn.new) → result ≡ Err LoadFault.Damaged
+        → only_version (meta_rows (state S.Store conn.old).now.trees) ≡ None }
     ensures same { HasCleanDisk (state S.Store conn.new) → OnOk result (IsUnchanged (state S.Store conn.old) (state S.Store conn.new)) }
-    ensures kept { HasCleanDisk (state S.Store conn.new) → IsTrue (state S.Store conn.new).is_open → (state S.Store conn.old).now ≡ (state S.Store conn.old).committed → ((state S.Store conn.new).now ≡ (state S.Store conn.old).now) × ((state S.Store conn.new).committed ≡ (state S.Store conn.old).committed) }
+    ensures kept { HasCleanDisk (state S.Store conn.new) → IsTrue (state S.Store conn.new).is_open
+        → (state S.Store conn.old).now ≡ (state S.Store conn.old).committed → ((state S.Store conn.new).now ≡ (state S.Store conn.old).now)
+        × ((state S.Store conn.new).committed ≡ (state S.Store conn.old).committed) }
     ensures crash { Survives (state S.Store conn.old) (state S.Store conn.new) (λ _. ⊥) }
 {
     let rows = select_meta(conn)?;
@@ -55,7 +58,9 @@ pub fn load<S: Alter>(alloc: Global, conn: &mut Connection<S>) -> Result<Books, 
     ensures cause { IfErr result IsLoadFault }
     ensures damaged { HasCleanDisk (state S.Store conn.new) → result ≡ Err LoadFault.Damaged → ¬ HasValues (state S.Store conn.old).now.trees }
     ensures same { HasCleanDisk (state S.Store conn.new) → OnOk result (IsUnchanged (state S.Store conn.old) (state S.Store conn.new)) }
-    ensures kept { HasCleanDisk (state S.Store conn.new) → IsTrue (state S.Store conn.new).is_open → (state S.Store conn.old).now ≡ (state S.Store conn.old).committed → ((state S.Store conn.new).now ≡ (state S.Store conn.old).now) × ((state S.Store conn.new).committed ≡ (state S.Store conn.old).committed) }
+    ensures kept { HasCleanDisk (state S.Store conn.new) → IsTrue (state S.Store conn.new).is_open
+        → (state S.Store conn.old).now ≡ (state S.Store conn.old).committed → ((state S.Store conn.new).now ≡ (state S.Store conn.old).now)
+        × ((state S.Store conn.new).committed ≡ (state S.Store conn.old).committed) }
     ensures crash { Survives (state S.Store conn.old) (state S.Store conn.new) (λ _. ⊥) }
 {
     let rows = select_meta(conn)?;

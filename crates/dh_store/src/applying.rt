@@ -28,9 +28,11 @@ fn commit_change<S: Alter>(
     requires table { has_table change.now ≡ true }
     requires autocommit { (state S.Store conn.old).in_transaction ≡ false }
     requires ready { HasCleanDisk (state S.Store conn.old) → IsReady (state S.Store conn.old) }
-    ensures done { HasCleanDisk (state S.Store conn.new) → OnOk result (IsReady (state S.Store conn.new) × (tables (state S.Store conn.new) ≡ with_change change.now (tables (state S.Store conn.old)))) }
+    ensures done { HasCleanDisk (state S.Store conn.new)
+        → OnOk result (IsReady (state S.Store conn.new) × (tables (state S.Store conn.new) ≡ with_change change.now (tables (state S.Store conn.old)))) }
     ensures left { HasCleanDisk (state S.Store conn.new) → OnOk result (LeavesItsTables (state S.Store conn.new)) }
-    ensures undone { HasCleanDisk (state S.Store conn.new) → IsTrue (state S.Store conn.new).is_open → OnErr result (tables (state S.Store conn.new) ≡ tables (state S.Store conn.old)) }
+    ensures undone { HasCleanDisk (state S.Store conn.new) → IsTrue (state S.Store conn.new).is_open
+        → OnErr result (tables (state S.Store conn.new) ≡ tables (state S.Store conn.old)) }
     ensures survives { Commits (state S.Store conn.old) (state S.Store conn.new) (λ t. t ≡ with_change change.now (tables (state S.Store conn.old))) }
 {
     let mut tx = conn.transaction();
@@ -51,12 +53,15 @@ pub fn apply<S: Alter>(
     change: &Change,
 ) -> Result<(), Fault>
     requires { HasCleanDisk (state S.Store conn.old) → IsReady (state S.Store conn.old) }
-    ensures done { HasCleanDisk (state S.Store conn.new) → OnOk result (IsReady (state S.Store conn.new) × (tables (state S.Store conn.new) ≡ with_change change.now (tables (state S.Store conn.old)))) }
+    ensures done { HasCleanDisk (state S.Store conn.new)
+        → OnOk result (IsReady (state S.Store conn.new) × (tables (state S.Store conn.new) ≡ with_change change.now (tables (state S.Store conn.old)))) }
     ensures left { HasCleanDisk (state S.Store conn.new) → OnOk result (LeavesItsTables (state S.Store conn.new)) }
-    ensures undone { HasCleanDisk (state S.Store conn.new) → IsTrue (state S.Store conn.new).is_open → OnErr result (tables (state S.Store conn.new) ≡ tables (state S.Store conn.old)) }
+    ensures undone { HasCleanDisk (state S.Store conn.new) → IsTrue (state S.Store conn.new).is_open
+        → OnErr result (tables (state S.Store conn.new) ≡ tables (state S.Store conn.old)) }
     ensures cause { IfErr result IsFirstFault }
     ensures unknown { has_table change.now ≡ false → (result ≡ Err Fault.Store) × (conn.new ≡ conn.old) }
-    ensures crash { HasCleanDisk (state S.Store conn.new) → Leaves (state S.Store conn.new) (λ t. (t ≡ tables (state S.Store conn.old)) ⊎ (t ≡ with_change change.now (tables (state S.Store conn.old)))) }
+    ensures crash { HasCleanDisk (state S.Store conn.new)
+        → Leaves (state S.Store conn.new) (λ t. (t ≡ tables (state S.Store conn.old)) ⊎ (t ≡ with_change change.now (tables (state S.Store conn.old)))) }
     ensures survives { Commits (state S.Store conn.old) (state S.Store conn.new) (λ t. t ≡ with_change change.now (tables (state S.Store conn.old))) }
 {
     if !has_table(change) || !conn.is_autocommit() {

@@ -21,8 +21,10 @@ use std::alloc::{AllocError, Global};
 fn books_of<S: Alter>(alloc: Global, conn: &mut Connection<S>) -> Result<Books, Fault>
     requires { HasCleanDisk (state S.Store conn.old) → IsReady (state S.Store conn.old) }
     ensures books { HasCleanDisk (state S.Store conn.new) → IfOk result (λ books. books ≡ tables (state S.Store conn.old)) }
-    ensures done { HasCleanDisk (state S.Store conn.new) → OnOk result (IsReady (state S.Store conn.new) × (tables (state S.Store conn.new) ≡ tables (state S.Store conn.old))) }
-    ensures kept { HasCleanDisk (state S.Store conn.new) → IsTrue (state S.Store conn.new).is_open → tables (state S.Store conn.new) ≡ tables (state S.Store conn.old) }
+    ensures done { HasCleanDisk (state S.Store conn.new)
+        → OnOk result (IsReady (state S.Store conn.new) × (tables (state S.Store conn.new) ≡ tables (state S.Store conn.old))) }
+    ensures kept { HasCleanDisk (state S.Store conn.new) → IsTrue (state S.Store conn.new).is_open
+        → tables (state S.Store conn.new) ≡ tables (state S.Store conn.old) }
     ensures cause { IfErr result IsFirstFault }
     ensures crash { Survives (state S.Store conn.old) (state S.Store conn.new) (λ _. ⊥) }
 {
@@ -63,9 +65,12 @@ pub fn ask<S: Alter>(
     command: &Command,
 ) -> Result<Verdict, Fault>
     requires { HasCleanDisk (state S.Store conn.old) → IsReady (state S.Store conn.old) }
-    ensures verdict { HasCleanDisk (state S.Store conn.new) → IfOk result (λ v. v ≡ known_verdict (tables (state S.Store conn.old)).books (tables (state S.Store conn.old)).open_run command.now) }
-    ensures done { HasCleanDisk (state S.Store conn.new) → OnOk result (IsReady (state S.Store conn.new) × (tables (state S.Store conn.new) ≡ tables (state S.Store conn.old))) }
-    ensures kept { HasCleanDisk (state S.Store conn.new) → IsTrue (state S.Store conn.new).is_open → tables (state S.Store conn.new) ≡ tables (state S.Store conn.old) }
+    ensures verdict { HasCleanDisk (state S.Store conn.new)
+        → IfOk result (λ v. v ≡ known_verdict (tables (state S.Store conn.old)).books (tables (state S.Store conn.old)).open_run command.now) }
+    ensures done { HasCleanDisk (state S.Store conn.new)
+        → OnOk result (IsReady (state S.Store conn.new) × (tables (state S.Store conn.new) ≡ tables (state S.Store conn.old))) }
+    ensures kept { HasCleanDisk (state S.Store conn.new) → IsTrue (state S.Store conn.new).is_open
+        → tables (state S.Store conn.new) ≡ tables (state S.Store conn.old) }
     ensures cause { IfErr result IsFirstFault }
     ensures crash { Survives (state S.Store conn.old) (state S.Store conn.new) (λ _. ⊥) }
 {
@@ -84,8 +89,10 @@ pub fn look_up<S: Alter>(
 ) -> Result<Answer, Fault>
     requires { HasCleanDisk (state S.Store conn.old) → IsReady (state S.Store conn.old) }
     ensures answer { HasCleanDisk (state S.Store conn.new) → IfOk result (λ a. report_of a ≡ known_report (tables (state S.Store conn.old)) question.now) }
-    ensures done { HasCleanDisk (state S.Store conn.new) → OnOk result (IsReady (state S.Store conn.new) × (tables (state S.Store conn.new) ≡ tables (state S.Store conn.old))) }
-    ensures kept { HasCleanDisk (state S.Store conn.new) → IsTrue (state S.Store conn.new).is_open → tables (state S.Store conn.new) ≡ tables (state S.Store conn.old) }
+    ensures done { HasCleanDisk (state S.Store conn.new)
+        → OnOk result (IsReady (state S.Store conn.new) × (tables (state S.Store conn.new) ≡ tables (state S.Store conn.old))) }
+    ensures kept { HasCleanDisk (state S.Store conn.new) → IsTrue (state S.Store conn.new).is_open
+        → tables (state S.Store conn.new) ≡ tables (state S.Store conn.old) }
     ensures cause { IfErr result IsFirstFault }
     ensures crash { Survives (state S.Store conn.old) (state S.Store conn.new) (λ _. ⊥) }
 {

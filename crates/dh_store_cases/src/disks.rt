@@ -12,7 +12,9 @@ use sqlite_disk::{Crash, Fuse, Memory};
 use std::alloc::{AllocError, Global};
 use std::io;
 
-type TrialDisk = Untrusted<Fuse<Memory>>;
+type Trial<D> = Connection<FileStore<Untrusted<D>>>;
+
+type Left<D> = Files<Untrusted<D>>;
 
 // What an agency was told before it stopped.
 #[derive(Clone, Copy)]
@@ -25,35 +27,58 @@ enum Told {
     Wrong,
 }
 
+// The replies that an agency gave so far.
+#[derive(Clone, Copy)]
+struct Replies {
+    acknowledged: u64,
+    is_stopped: bool,
+    is_wrong: bool,
+}
+
+impl Replies {
+    fn none() -> Replies {
+        Replies {
+            acknowledged: 0,
+            is_stopped: false,
+            is_wrong: false,
+        }
+    }
+
+    // Up to a fault each reply is `ok`, and after it fault 23.
+    fn note(&mut self, reply: &str) {
+        if self.is_stopped {
+            self.is_wrong |= reply != "fault 23";
+        } else if reply == "ok" {
+            self.acknowledged = self.acknowledged.saturating_add(1);
+        } else {
+            self.is_stopped = true;
+            self.is_wrong |= reply != "fault 22";
+        }
+    }
+
+    // In the end the branches are shown, unless the agency has stopped.
+    fn end(self, shown: &str) -> Told {
+        if self.is_wrong || (shown == "fault 23") != self.is_stopped {
+            return Told::Wrong;
+        }
+        Told::Acknowledged(self.acknowledged)
+    }
+}
+
 // How many of the lines are acknowledged, where each of them is, up to a fault.
 fn acknowledged<S: Alter>(
     alloc: Global,
     agency: &mut Agency<S>,
     lines: &str,
 ) -> Result<Told, AllocError> {
-    let mut count = 0u64;
-    let mut is_stopped = false;
+    let mut replies = Replies::none();
     for line in lines.lines() {
-        let reply = told(alloc, agency, line)?;
-        match reply.as_str() {
-            "ok" if !is_stopped => count = count.saturating_add(1),
-            "fault 22" if !is_stopped => is_stopped = true,
-            "fault 23" if is_stopped => {}
-            _ => return Ok(Told::Wrong),
-        }
+        replies.note(told(alloc, agency, line)?.as_str());
     }
-    let shown = told(alloc, agency, "show")?;
-    if (shown.as_str() == "fault 23") == is_stopped {
-        return Ok(Told::Acknowledged(count));
-    }
-    Ok(Told::Wrong)
+    Ok(replies.end(told(alloc, agency, "show")?.as_str()))
 }
 
-fn told_on_disks(
-    alloc: Global,
-    conn: Connection<FileStore<TrialDisk>>,
-    lines: &str,
-) -> (Told, Files<TrialDisk>) {
+fn told_on_disks<D: Crash + Drop>(alloc: Global, conn: Trial<D>, lines: &str) -> (Told, Left<D>) {
     match create(alloc, conn, january()) {
         Ok(mut agency) => {
             let told = acknowledged(alloc, &mut agency, lines).unwrap_or(Told::Wrong);
@@ -63,33 +88,31 @@ fn told_on_disks(
     }
 }
 
-// Tells the lines to a new agency on disks of which one stops after so many calls.
-fn stopped(
-    alloc: Global,
-    log_calls: u64,
-    file_calls: u64,
-    lines: &str,
-) -> (Told, Files<TrialDisk>) {
-    let files = Files {
-        log: Untrusted {
-            inner: Fuse::new(Memory::new(alloc), log_calls),
-            missed: 0,
-        },
-        db: Untrusted {
-            inner: Fuse::new(Memory::new(alloc), file_calls),
-            missed: 0,
-        },
-    };
+// Tells the lines to a new agency on these disks.
+fn told_on_files<D: Crash + Drop>(alloc: Global, files: Left<D>, lines: &str) -> (Told, Left<D>) {
     match Connection::open_files(alloc, files, Options::new(7)) {
         Ok(conn) => told_on_disks(alloc, conn, lines),
         Err((_, left)) => (Told::NotMade, left.into_files()),
     }
 }
 
-fn load_text(
-    alloc: Global,
-    conn: &mut Connection<FileStore<TrialDisk>>,
-) -> Result<String, AllocError> {
+// A disk in memory that stops after so many calls.
+fn stopping(alloc: Global, calls: u64) -> Untrusted<Fuse<Memory>> {
+    Untrusted {
+        inner: Fuse::new(Memory::new(alloc), calls),
+        missed: 0,
+    }
+}
+
+// New disks of which one stops after so many calls.
+fn disks(alloc: Global, log_calls: u64, file_calls: u64) -> Left<Fuse<Memory>> {
+    Files {
+        log: stopping(alloc, log_calls),
+        db: stopping(alloc, file_calls),
+    }
+}
+
+fn load_text<D: Crash + Drop>(alloc: Global, conn: &mut Trial<D>) -> Result<String, AllocError> {
     match load(alloc, conn) {
         Ok(books) => format!(in alloc; "{} branches", books.branches().count()),
         Err(LoadFault::Damaged) => "damaged".to_string(alloc),
@@ -97,10 +120,7 @@ fn load_text(
     }
 }
 
-fn version_text(
-    alloc: Global,
-    conn: &mut Connection<FileStore<TrialDisk>>,
-) -> Result<String, AllocError> {
+fn version_text<D: Crash + Drop>(alloc: Global, conn: &mut Trial<D>) -> Result<String, AllocError> {
     match version(conn) {
         Ok(number) => format!(in alloc; "version {number}"),
         Err(LoadFault::Damaged) => "damaged".to_string(alloc),
@@ -109,9 +129,9 @@ fn version_text(
 }
 
 // The statements run on the tables, and how these then are read; with no statement, the rows of the branches.
-fn read_after(
+fn read_after<D: Crash + Drop>(
     alloc: Global,
-    conn: &mut Connection<FileStore<TrialDisk>>,
+    conn: &mut Trial<D>,
     statements: &str,
 ) -> Result<String, AllocError> {
     if statements.is_empty() {
@@ -126,9 +146,9 @@ fn read_after(
 }
 
 // What is in the file after a power cut, opened anew, and after these statements.
-fn found(
+fn found<D: Crash + Drop>(
     alloc: Global,
-    mut left: Files<TrialDisk>,
+    mut left: Left<D>,
     statements: &str,
 ) -> Result<String, AllocError> {
     left.log.crash();
@@ -156,6 +176,17 @@ fn is_kept(told: Told, found: &str, all: &str) -> bool {
     }
 }
 
+// How the lines end on disks of which one stops, and what is found there after a power cut and these statements.
+fn told_and_found<D: Crash + Drop>(
+    alloc: Global,
+    files: Left<D>,
+    lines: &str,
+    statements: &str,
+) -> Result<(Told, String), AllocError> {
+    let (told, left) = told_on_files(alloc, files, lines);
+    Ok((told, found(alloc, left, statements)?))
+}
+
 fn play_stop(
     rt: &HostRuntime,
     report: &mut Report,
@@ -163,8 +194,8 @@ fn play_stop(
     lines: &str,
     all: &str,
 ) -> io::Result<()> {
-    let (told, left) = stopped(rt.alloc(), log_calls, file_calls, lines);
-    let found = found(rt.alloc(), left, "")?;
+    let files = disks(rt.alloc(), log_calls, file_calls);
+    let (told, found) = told_and_found(rt.alloc(), files, lines, "")?;
     let case = format!(in rt.alloc();
         "stops after {log_calls} calls of the log, {file_calls} of the file"
     )?;
@@ -187,13 +218,14 @@ pub fn play(rt: &HostRuntime, report: &mut Report, lines: &str) -> io::Result<()
         play_stop(rt, report, (calls, u64::MAX), lines, all)?;
         play_stop(rt, report, (u64::MAX, calls), lines, all)?;
     }
-    let (_, left) = stopped(rt.alloc(), CALLS, CALLS, lines);
-    let found = found(rt.alloc(), left, "")?;
+    let files = disks(rt.alloc(), CALLS, CALLS);
+    let (_, found) = told_and_found(rt.alloc(), files, lines, "")?;
     report.compare(rt, "disks that do not stop", found.as_str(), all)
 }
 
 /// How tables of one branch are read after these statements.
 pub fn damaged(alloc: Global, statements: &str) -> io::Result<String> {
-    let (_, left) = stopped(alloc, u64::MAX, u64::MAX, "branch,B1,a,b,c");
-    Ok(found(alloc, left, statements)?)
+    let files = disks(alloc, u64::MAX, u64::MAX);
+    let (_, found) = told_and_found(alloc, files, "branch,B1,a,b,c", statements)?;
+    Ok(found)
 }

@@ -25,7 +25,9 @@ fn at_most(least: Option<LeaseNo>, number: LeaseNo) -> LeaseNo
 
 // The least number of a lease of the client that starts that day.
 fn lease_that_day(books: &Books, client: &Id, day: EntryDay) -> Option<LeaseNo>
-    ensures { result ≡ least (map (λ lease. lease.terms.number) (filter (λ lease. is_same_text lease.terms.client client.now && nat_eq lease.terms.start day) (fin.values books.now.books.leases))) }
+    ensures { result ≡ least
+        (map (λ lease. lease.terms.number) (filter (λ lease. is_same_text lease.terms.client client.now
+        && nat_eq lease.terms.start day) (fin.values books.now.books.leases))) }
 {
     books
         .leases()
@@ -47,7 +49,9 @@ fn overlapping(books: &Books, terms: &LeaseTerms) -> Option<LeaseNo>
 
 // The first check that the terms fail, for a property of this branch.
 fn signing_refusal(books: &Books, terms: &LeaseTerms, branch: &Id) -> Option<Refusal>
-    ensures { result ≡ first_failing (unless (fin.contains_key books.now.books.registrations (terms.now.client, branch.now)) refusal.NotRegistered ∷ in_time books.now.books terms.now.start ∷ first_that_day books.now.books terms.now.client terms.now.start ∷ free_of_others books.now.books terms.now ∷ []) }
+    ensures { result ≡ first_failing (unless (fin.contains_key books.now.books.registrations (terms.now.client, branch.now)) refusal.NotRegistered
+        ∷ in_time books.now.books terms.now.start ∷ first_that_day books.now.books terms.now.client terms.now.start ∷ free_of_others books.now.books terms.now
+        ∷ []) }
 {
     if books.registration(&(terms.client, *branch)).is_none() {
         return Some(Refusal::NotRegistered);

@@ -32,7 +32,8 @@ fn run_of_key<'a>(books: &'a Books, key: &Key) -> Option<&'a Run>
 
 // Whether the lease has a deposit receipt.
 fn has_deposit(books: &Books, lease: LeaseNo) -> bool
-    ensures { result ≡ list_any (λ receipt. nat_eq receipt.payment.lease lease && is_same_receipt_kind receipt.payment.kind Deposit) (fin.values books.now.books.receipts) }
+    ensures { result ≡ list_any (λ receipt. nat_eq receipt.payment.lease lease && is_same_receipt_kind receipt.payment.kind Deposit)
+        (fin.values books.now.books.receipts) }
 {
     books.receipts().any(|receipt| {
         receipt.payment.lease == lease && receipt.payment.kind == ReceiptKind::Deposit

@@ -13,7 +13,8 @@ returns g c =
     let laws = eq_by_cmp_equiv total in
     let values = c.args.values.items in
     let long : vec_len c.args.values ≡ length values = search rules in
-    let made = fact_from_collect {E = Unit {0}} (set.IsFromIterResult g.T.Ord.cmp) (Ok c.in_ok-set.set) c.in_ok-set.ensures.ran (YieldsList-from_vec values c.into_iter.ensures.rest (search rules)) in
+    let made = fact_from_collect {E = Unit {0}} (set.IsFromIterResult g.T.Ord.cmp) (Ok c.in_ok-set.set) c.in_ok-set.ensures.ran
+    (YieldsList-from_vec values c.into_iter.ensures.rest (search rules)) in
     let count = btree_set_len-from_list total values c.in_ok-set.set made in
     let same = Decides-eqb c.len.result c.len-count.result in (
       λ yes. IsDistinct-from_count laws values (sym (c.len.ensures.len ∙ count) ∙ same.0 yes ∙ c.len-count.ensures ∙ long),

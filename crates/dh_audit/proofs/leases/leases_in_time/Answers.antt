@@ -8,5 +8,6 @@ use Rattle.dh_audit.proofs.leases.leases_in_time.Goals as goal
 pub returns : goal.returns
 returns c =
     let books = c.args.books.now.books in
-    each_from_all (λ lease. (3 ≤ lease.terms.months) × (lease.terms.months ≤ 12) × (books.first ≤ month_of_day lease.terms.start)) _ _ c.all.result c.all.ensures.ran
+    each_from_all (λ lease. (3 ≤ lease.terms.months) × (lease.terms.months ≤ 12)
+    × (books.first ≤ month_of_day lease.terms.start)) _ _ c.all.result c.all.ensures.ran
     (YieldsList-from_rest (fin.values books.leases) c.leases.ensures.rows) (λ x b q k. search (rules, tests))

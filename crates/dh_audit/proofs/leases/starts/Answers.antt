@@ -7,4 +7,6 @@ use Rattle.dh_audit.proofs.leases.starts.Goals as goal
 pub returns : goal.returns
 returns c =
     items_from_collect c.collect.result c.collect.ensures.ran
-    (YieldsList-from_map _ (λ lease. (lease.terms.client, lease.terms.start)) (YieldsList-at c.map.ensures.source (YieldsList-from_rest (fin.values c.args.books.now.books.leases) c.leases.ensures.rows)) c.map.ensures.closure (λ x r q k. search (rules, tests)))
+    (YieldsList-from_map _ (λ lease. (lease.terms.client, lease.terms.start))
+    (YieldsList-at c.map.ensures.source (YieldsList-from_rest (fin.values c.args.books.now.books.leases) c.leases.ensures.rows)) c.map.ensures.closure
+    (λ x r q k. search (rules, tests)))

@@ -11,5 +11,6 @@ returns c =
     items_from_collect c.collect.result c.collect.ensures.ran
     (YieldsList-from_map _ (λ receipt. receipt.payment.lease) (YieldsList-at c.map.ensures.source
     (YieldsList-from_filter _ (λ receipt. is_same_receipt_kind receipt.payment.kind Deposit)
-    (YieldsList-at c.filter.ensures.source (YieldsList-from_rest (fin.values c.args.books.now.books.receipts) c.receipts.ensures)) c.filter.ensures.closure (λ x b q k. search (rules, tests))))
+    (YieldsList-at c.filter.ensures.source (YieldsList-from_rest (fin.values c.args.books.now.books.receipts) c.receipts.ensures)) c.filter.ensures.closure
+    (λ x b q k. search (rules, tests))))
     c.map.ensures.closure (λ x r q k. search (rules, tests)))

@@ -11,5 +11,6 @@ pub returns : goal.returns
 returns c = λ other.
     let counts = c.args.counts.now in
     let next = c.count_at-count.result + 1 in
-    ap (λ o. unwrap_or o 0) (c.in_ok-_before.ensures.updates.0 other ∙ ap (λ b. cond b (Some next) (get text_cmp counts other)) (sym (texts_ties c.args.member other)))
+    ap (λ o. unwrap_or o 0) (c.in_ok-_before.ensures.updates.0 other
+    ∙ ap (λ b. cond b (Some next) (get text_cmp counts other)) (sym (texts_ties c.args.member other)))
     ∙ one_more counts c.args.member other next (ap (λ (n : ℕ). n + 1) c.count_at-count.ensures) (is_same_text c.args.member other) refl

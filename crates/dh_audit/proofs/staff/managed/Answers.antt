@@ -11,9 +11,11 @@ loop-property-preserved-in-Continue-1 c =
     let front = rest_more deref _ _ _ _ c.in-Some.is c.next.ensures.steps in
     record {
       value = λ member.
-          counted_on (λ property. is_same_optional is_same_text property.staff (Some member)) c.in-Some.property.now _ _ _ _ (is_same_text c.in-Some-staff.member member) front
+          counted_on (λ property. is_same_optional is_same_text property.staff (Some member)) c.in-Some.property.now _ _ _ _
+          (is_same_text c.in-Some-staff.member member) front
           (ap (λ o. is_same_optional is_same_text o (Some member)) c.in-Some-staff.is) (c.in_ok-add.ensures member) _ (c.loop-property.invariant.value member);
       range = λ member.
-          still_fits (λ property. is_same_optional is_same_text property.staff (Some member)) c.in-Some.property.now _ _ _ _ (is_same_text c.in-Some-staff.member member) front
+          still_fits (λ property. is_same_optional is_same_text property.staff (Some member)) c.in-Some.property.now _ _ _ _
+          (is_same_text c.in-Some-staff.member member) front
           (ap (λ o. is_same_optional is_same_text o (Some member)) c.in-Some-staff.is) (c.in_ok-add.ensures member) _ (c.loop-property.invariant.range member);
     }

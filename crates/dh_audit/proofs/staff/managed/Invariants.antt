@@ -8,6 +8,7 @@ use Rattle.dh_audit.proofs.staff.managed.Given as goal
 
 abbrev pub invariant-loop-property : goal.invariant-loop-property
 invariant-loop-property l = record {
-  value : (member : List ℕ) → count_at l.counts member + count_by (λ property. is_same_optional is_same_text property.staff (Some member)) l.property-iterator ≡ managed_by l.books.books member;
+  value : (member : List ℕ) → count_at l.counts member + count_by (λ property. is_same_optional is_same_text property.staff (Some member)) l.property-iterator
+      ≡ managed_by l.books.books member;
   range : (member : List ℕ) → count_at l.counts member + length l.property-iterator ≤ l._count;
 }

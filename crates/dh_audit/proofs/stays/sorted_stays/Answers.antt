@@ -5,7 +5,8 @@ use Rattle.dh_audit.specs.Stays.{IsSound, stay_key}
 use Rattle.dh_audit.proofs.stays.sorted_stays.Goals as goal
 
 pub returns-clause-rows : goal.returns-clause-rows
-returns-clause-rows c = subst (λ stays. IsPermutation stays c.sort_unstable_by_key.new.self.items) c.in_ok-stays.ensures.rows c.sort_unstable_by_key.ensures.permutation
+returns-clause-rows c =
+    subst (λ stays. IsPermutation stays c.sort_unstable_by_key.new.self.items) c.in_ok-stays.ensures.rows c.sort_unstable_by_key.ensures.permutation
 
 pub returns-clause-sound : goal.returns-clause-sound
 returns-clause-sound c = All-permutation IsSound _ _ c.sort_unstable_by_key.ensures.permutation c.in_ok-stays.ensures.sound

@@ -9,6 +9,8 @@ use Rattle.dh_audit.proofs.stays.stays.Goals as goal
 
 pub loop-lease-preserved : goal.loop-lease-preserved
 loop-lease-preserved c = record {
-  rows = one_pushed (λ lease. stay_of lease.terms) c.in-Some.lease.now _ _ _ _ _ c.of.result (rest_more deref _ _ _ _ c.in-Some.is c.next.ensures.steps) c.in_ok-push.ensures.items c.of.ensures.value c.loop-lease.invariant.rows;
-  sound = subst (All IsSound) (sym c.in_ok-push.ensures.items) (All-push IsSound c.loop-lease.stays.items c.of.result c.loop-lease.invariant.sound c.of.ensures.sound);
+  rows = one_pushed (λ lease. stay_of lease.terms) c.in-Some.lease.now _ _ _ _ _ c.of.result
+      (rest_more deref _ _ _ _ c.in-Some.is c.next.ensures.steps) c.in_ok-push.ensures.items c.of.ensures.value c.loop-lease.invariant.rows;
+  sound = subst (All IsSound) (sym c.in_ok-push.ensures.items)
+      (All-push IsSound c.loop-lease.stays.items c.of.result c.loop-lease.invariant.sound c.of.ensures.sound);
 }

@@ -11,7 +11,9 @@ returns-in_err-text_at-clause-reads c =
     (stopped is_id fields c.args.number c.requires refl is_id-IsUtf8 c.in_err-text_at.field-0.0 c.in_err-text_at.ensures)
 
 pub returns-in-Ok-clause-reads : goal.returns-in-Ok-clause-reads
-returns-in-Ok-clause-reads c = accepted is_id (map (λ f. f.now) c.args.fields.now) c.args.number c.requires refl _ c.in_ok-text_at.ensures (c.in-Ok.ensures.exact.0 refl)
+returns-in-Ok-clause-reads c =
+    accepted is_id (map (λ f. f.now) c.args.fields.now) c.args.number c.requires refl _ c.in_ok-text_at.ensures (c.in-Ok.ensures.exact.0 refl)
 
 pub returns-in-Err-clause-reads : goal.returns-in-Err-clause-reads
-returns-in-Err-clause-reads c = (refl, refused is_id (map (λ f. f.now) c.args.fields.now) c.args.number c.requires refl _ c.in_ok-text_at.ensures (λ p. apart (c.in-Err.ensures.exact.1 p)))
+returns-in-Err-clause-reads c =
+    (refl, refused is_id (map (λ f. f.now) c.args.fields.now) c.args.number c.requires refl _ c.in_ok-text_at.ensures (λ p. apart (c.in-Err.ensures.exact.1 p)))

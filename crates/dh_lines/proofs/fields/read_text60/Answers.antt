@@ -11,7 +11,8 @@ returns-in_err-text_at-clause-reads c =
     (stopped (is_text 60) fields c.args.number c.requires no_text60 (is_text-IsUtf8 60) c.in_err-text_at.field-0.0 c.in_err-text_at.ensures)
 
 pub returns-in_err-text-clause-reads : goal.returns-in_err-text-clause-reads
-returns-in_err-text-clause-reads c = handed_on c.from_residual-in_err-text.result Memory (is_text 60) (map (λ f. f.now) c.args.fields.now) c.args.number c.from_residual-in_err-text.ensures.1 tt
+returns-in_err-text-clause-reads c =
+    handed_on c.from_residual-in_err-text.result Memory (is_text 60) (map (λ f. f.now) c.args.fields.now) c.args.number c.from_residual-in_err-text.ensures.1 tt
 
 pub returns-in-Ok-clause-reads : goal.returns-in-Ok-clause-reads
 returns-in-Ok-clause-reads c =

@@ -6,7 +6,8 @@ use Rattle.dh_lines.proofs.PartLemmas.{number-broke, number-goes_on, shown_is}
 use Rattle.dh_lines.proofs.replies.put_answer_line.Goals as goal
 
 pub returns-in_err-put_number : goal.returns-in_err-put_number
-returns-in_err-put_number g c = number-broke c.from_residual.result _ _ c.args.number (reported_text (report_of c.args.answer.now)) c.from_residual.ensures.0 c.in_err-put_number.ensures
+returns-in_err-put_number g c =
+    number-broke c.from_residual.result _ _ c.args.number (reported_text (report_of c.args.answer.now)) c.from_residual.ensures.0 c.in_err-put_number.ensures
 
 pub returns : goal.returns
 returns g c =

@@ -5,12 +5,14 @@ use Rattle.dh_lines.proofs.PartLemmas.{broke, goes_on, number-broke, number-goes
 use Rattle.dh_lines.proofs.replies.put_refused_line.Goals as goal
 
 pub returns-in_err-put_number : goal.returns-in_err-put_number
-returns-in_err-put_number g c = number-broke c.from_residual.result _ _ c.args.number (refusal_text c.args.refusal ++ newline) c.from_residual.ensures.0 c.in_err-put_number.ensures
+returns-in_err-put_number g c =
+    number-broke c.from_residual.result _ _ c.args.number (refusal_text c.args.refusal ++ newline) c.from_residual.ensures.0 c.in_err-put_number.ensures
 
 pub returns-in_err-put_refusal : goal.returns-in_err-put_refusal
 returns-in_err-put_refusal g c =
     number-goes_on c.from_residual-in_err-put_refusal.result _ _ _ c.args.number (refusal_text c.args.refusal ++ newline) c.in_ok-put_number.ensures
-    (broke c.from_residual-in_err-put_refusal.result _ _ (refusal_text c.args.refusal) newline c.from_residual-in_err-put_refusal.ensures.0 c.in_err-put_refusal.ensures)
+    (broke c.from_residual-in_err-put_refusal.result _ _
+    (refusal_text c.args.refusal) newline c.from_residual-in_err-put_refusal.ensures.0 c.in_err-put_refusal.ensures)
 
 pub returns : goal.returns
 returns g c =

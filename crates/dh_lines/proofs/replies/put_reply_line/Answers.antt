@@ -5,7 +5,8 @@ use Rattle.dh_lines.proofs.PartLemmas.{broke, goes_on, number-broke, number-goes
 use Rattle.dh_lines.proofs.replies.put_reply_line.Goals as goal
 
 pub returns-in_err-put_number : goal.returns-in_err-put_number
-returns-in_err-put_number g c = number-broke c.from_residual.result _ _ c.args.number (reply_text c.args.reply ++ newline) c.from_residual.ensures.0 c.in_err-put_number.ensures
+returns-in_err-put_number g c =
+    number-broke c.from_residual.result _ _ c.args.number (reply_text c.args.reply ++ newline) c.from_residual.ensures.0 c.in_err-put_number.ensures
 
 pub returns-in_err-put_reply : goal.returns-in_err-put_reply
 returns-in_err-put_reply g c =

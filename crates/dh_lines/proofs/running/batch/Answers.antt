@@ -5,7 +5,8 @@ use Rattle.csv.specs.Records.{fields_of}
 use Rattle.dh_types.specs.declared.reply.Fault.TheVariants.{Memory}
 use Rattle.dh_agency.specs.Agency.{IsClean}
 use Rattle.dh_lines.proofs.Following.{goes_on, ends, found}
-use Rattle.dh_lines.proofs.RunningLemmas.{all_answered, first_answered, faulted_between, agrees_between, agrees_now, ends_early, agrees_early, ends_handed, one_at_most, still_on}
+use Rattle.dh_lines.proofs.RunningLemmas.{all_answered, first_answered, faulted_between, agrees_between, agrees_now, ends_early, agrees_early, ends_handed}
+use Rattle.dh_lines.proofs.RunningLemmas.{one_at_most, still_on}
 use Rattle.dh_lines.proofs.running.batch.Goals as goal
 
 pub loop-n-preserved : goal.loop-n-preserved
@@ -41,24 +42,28 @@ returns-in-Ok-false-clause-ends g c clean =
     let read = rw c.in-Ok-false.field-0-test at (c.in-Ok-false.ensures.reads inv.plain inv.ready) in
     let rem : MutBor g.row.R.Denot → Option (List ℕ) = λ r. g.R.Read.remaining r.now in
     let known : Option (List ℕ) = g.R.Read.remaining c.args.reader.now in
-    let all = ends rem known c.loop-n.records c.read_byte_record.new.self _ _ _ _ c.loop-n.n c.loop-n.refused (fields_of c.read_byte_record.new.row) inv.config read (inv.follows clean) in
+    let all = ends rem known c.loop-n.records c.read_byte_record.new.self _ _ _ _ c.loop-n.n c.loop-n.refused
+    (fields_of c.read_byte_record.new.row) inv.config read (inv.follows clean) in
     IfSome_then known all (λ input w. all_answered g.S.Store c.args.agency.now c.loop-n.agency _ _ c.loop-n.n c.loop-n.refused input w)
 
 pub returns-in-Ok-false-clause-crash : goal.returns-in-Ok-false-clause-crash
 returns-in-Ok-false-clause-crash g c clean live h =
     let inv = c.loop-n.invariant in
     let left = inv.left clean h (inv.stopped ∙ live) in
-    IfSome_then (g.R.Read.remaining c.args.reader.now) (inv.follows clean) (λ input w. agrees_now g.S.Store c.args.agency.now c.loop-n.agency _ _ _ _ _ _ input w left)
+    IfSome_then (g.R.Read.remaining c.args.reader.now) (inv.follows clean)
+    (λ input w. agrees_now g.S.Store c.args.agency.now c.loop-n.agency _ _ _ _ _ _ input w left)
 
 pub returns-then-is_io_error-clause-ends : goal.returns-then-is_io_error-clause-ends
 returns-then-is_io_error-clause-ends g c clean =
-    IfSome_then (g.R.Read.remaining c.args.reader.now) (c.loop-n.invariant.follows clean) (λ input w. first_answered g.S.Store c.args.agency.now c.loop-n.agency _ _ _ _ _ _ input w)
+    IfSome_then (g.R.Read.remaining c.args.reader.now) (c.loop-n.invariant.follows clean)
+    (λ input w. first_answered g.S.Store c.args.agency.now c.loop-n.agency _ _ _ _ _ _ input w)
 
 pub returns-then-is_io_error-clause-crash : goal.returns-then-is_io_error-clause-crash
 returns-then-is_io_error-clause-crash g c clean live h =
     let inv = c.loop-n.invariant in
     let left = inv.left clean h (inv.stopped ∙ live) in
-    IfSome_then (g.R.Read.remaining c.args.reader.now) (inv.follows clean) (λ input w. agrees_now g.S.Store c.args.agency.now c.loop-n.agency _ _ _ _ _ _ input w left)
+    IfSome_then (g.R.Read.remaining c.args.reader.now) (inv.follows clean)
+    (λ input w. agrees_now g.S.Store c.args.agency.now c.loop-n.agency _ _ _ _ _ _ input w left)
 
 pub returns-in-Err-clause-ends : goal.returns-in-Err-clause-ends
 returns-in-Err-clause-ends g c clean =
@@ -75,13 +80,15 @@ returns-in-Err-clause-crash g c clean live h =
 
 pub returns-clause-ends : goal.returns-clause-ends
 returns-clause-ends g c clean =
-    IfSome_then (g.R.Read.remaining c.args.reader.now) (c.loop-n.invariant.follows clean) (λ input w. first_answered g.S.Store c.args.agency.now c.loop-n.agency _ _ _ _ _ _ input w)
+    IfSome_then (g.R.Read.remaining c.args.reader.now) (c.loop-n.invariant.follows clean)
+    (λ input w. first_answered g.S.Store c.args.agency.now c.loop-n.agency _ _ _ _ _ _ input w)
 
 pub returns-clause-crash : goal.returns-clause-crash
 returns-clause-crash g c clean live h =
     let inv = c.loop-n.invariant in
     let left = inv.left clean h (inv.stopped ∙ live) in
-    IfSome_then (g.R.Read.remaining c.args.reader.now) (inv.follows clean) (λ input w. agrees_now g.S.Store c.args.agency.now c.loop-n.agency _ _ _ _ _ _ input w left)
+    IfSome_then (g.R.Read.remaining c.args.reader.now) (inv.follows clean)
+    (λ input w. agrees_now g.S.Store c.args.agency.now c.loop-n.agency _ _ _ _ _ _ input w left)
 
 pub returns-in_err-is_refused-clause-ends : goal.returns-in_err-is_refused-clause-ends
 returns-in_err-is_refused-clause-ends g c clean =

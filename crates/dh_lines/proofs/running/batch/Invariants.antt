@@ -15,5 +15,6 @@ invariant-loop-n g l = record {
   stopped : l.agency.is_stopped ≡ l.initial.agency.is_stopped;
   left : IsClean g.S.Store l.agency → LeavesItsTables g.S.Store l.initial.agency → l.agency.is_stopped ≡ false → LeavesItsTables g.S.Store l.agency;
   follows : IsClean g.S.Store l.agency → IfSome (g.R.Read.remaining l.fn.reader)
-      (Follows (λ r. g.R.Read.remaining r.now) l.records (g.W.Write.contents l.initial.writer) (g.W.Write.contents l.writer) (machine g.S.Store l.initial.agency) (machine g.S.Store l.agency) l.n l.refused);
+      (Follows (λ r. g.R.Read.remaining r.now) l.records (g.W.Write.contents l.initial.writer) (g.W.Write.contents l.writer)
+      (machine g.S.Store l.initial.agency) (machine g.S.Store l.agency) l.n l.refused);
 }

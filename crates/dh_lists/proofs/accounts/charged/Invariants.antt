@@ -7,6 +7,7 @@ use Rattle.dh_lists.proofs.accounts.charged.Given as goal
 
 abbrev pub invariant-loop-charge : goal.invariant-loop-charge
 invariant-loop-charge l = record {
-  value : (lease : ℕ) → sum_at l.sums lease + total_of (filter (λ charge. nat_eq charge.lease lease) l.charge-iterator) ≡ total_of (charges_of l.books.books lease);
+  value : (lease : ℕ) → sum_at l.sums lease + total_of (filter (λ charge. nat_eq charge.lease lease) l.charge-iterator) ≡ total_of
+      (charges_of l.books.books lease);
   range : (lease : ℕ) → sum_at l.sums lease + 999999 * length l.charge-iterator ≤ 999999 * l._count;
 }

@@ -10,7 +10,8 @@ abbrev pub invariant-loop-receipt : goal.invariant-loop-receipt
 invariant-loop-receipt l = record {
   value : (lease : ℕ)
       → sum_at l.sums lease
-      + sum_by (λ receipt. receipt.payment.amount) (filter (λ receipt. is_same_receipt_kind receipt.payment.kind Rent) (filter (λ receipt. nat_eq receipt.payment.lease lease) l.receipt-iterator))
+      + sum_by (λ receipt. receipt.payment.amount)
+      (filter (λ receipt. is_same_receipt_kind receipt.payment.kind Rent) (filter (λ receipt. nat_eq receipt.payment.lease lease) l.receipt-iterator))
       ≡ rent_paid l.books.books lease;
   range : (lease : ℕ) → sum_at l.sums lease + 99999999 * length l.receipt-iterator ≤ 99999999 * l._count;
 }

@@ -8,7 +8,8 @@ use Rattle.dh_lists.proofs.balances.rent_paid.Given as goal
 abbrev pub invariant-loop-receipt : goal.invariant-loop-receipt
 invariant-loop-receipt l = record {
   value : l.sum
-      + sum_by (λ receipt. receipt.payment.amount) (filter (λ receipt. is_same_receipt_kind receipt.payment.kind Rent) (filter (λ receipt. nat_eq receipt.payment.lease l.lease) l.receipt-iterator))
+      + sum_by (λ receipt. receipt.payment.amount)
+      (filter (λ receipt. is_same_receipt_kind receipt.payment.kind Rent) (filter (λ receipt. nat_eq receipt.payment.lease l.lease) l.receipt-iterator))
       ≡ rent_paid l.books.books l.lease;
   range : l.sum + 99999999 * length l.receipt-iterator ≤ 99999999 * l._count;
 }

@@ -46,19 +46,60 @@ loop-lease-preserved-then-is_debt c =
     let books = c.args.books.now.books in
     let lease = c.in-Some.lease.now in
     let front : c.loop-lease.lease-iterator ≡ lease ∷ c.next.new.self = rest_more deref _ _ _ _ c.in-Some.is c.next.ensures.steps in
-    let worth : c.balance-balance.result ≡ balance books lease.terms.number = c.balance-balance.ensures.value ∙ c.in_ok-accounts.ensures c.key-number.result ∙ ap (balance books) c.key-number.ensures in
+    let worth : c.balance-balance.result ≡ balance books lease.terms.number =
+    c.balance-balance.ensures.value ∙ c.in_ok-accounts.ensures c.key-number.result ∙ ap (balance books) c.key-number.ensures in
     let is : (belongs books c.args.branch.now lease && int_lt (pos 0) c.balance-balance.result) ≡ true = sym c.is_debt.ensures ∙ c.if-is_debt.true in
     let more : pos 0 <ℤ c.balance-balance.result = lt_z_yes (T_from_true _ (and_parts (belongs books c.args.branch.now lease) _ is).1) in
     let sum = owed_more books c.loop-lease.debts.items c.push.new.self.items c.in_ok-debt.field-0 c.in_ok-push.ensures.items in
     let own : c.in_ok-debt.field-0.balance ≡ balance books lease.terms.number = ap (λ (d : Debt). d.balance) c.in_ok-debt.ensures in
     record {
       debts = one_more (owes books) (belongs books c.args.branch.now) (debt books) lease _ _ _ _ _ c.in_ok-debt.field-0 front
-          (ap (λ b. belongs books c.args.branch.now lease && int_lt (pos 0) b) (sym worth) ∙ is) c.in_ok-push.ensures.items c.in_ok-debt.ensures c.loop-lease.invariant.debts;
-      total = omega (arith, ints, c.loop-lease.invariant.total, c.loop-lease.invariant.some, c.loop-lease.invariant.range, c.loop-lease.invariant.few, c.pence.ensures, c.balance-balance.ensures.range, worth, more, sum, own);
-      some = omega (arith, ints, c.loop-lease.invariant.some, c.loop-lease.invariant.range, c.loop-lease.invariant.few, c.pence.ensures, c.balance-balance.ensures.range, more);
-      range = omega (arith, ints, c.loop-lease.invariant.some, c.loop-lease.invariant.range, c.loop-lease.invariant.few, c.pence.ensures, c.balance-balance.ensures.range, more, c.in_ok-push.ensures.len);
-      few = omega (arith, c.loop-lease.invariant.above lease (is_here number_of lease _ _ front), c.key-number.ensures, c.number-most.ensures.range, c.in_ok-push.ensures.len);
-      above = above_more number_of lease _ _ front c.loop-lease.invariant.rising _ _ (c.loop-lease.invariant.above lease (is_here number_of lease _ _ front)) (omega (arith, c.in_ok-push.ensures.len));
+          (ap (λ b. belongs books c.args.branch.now lease && int_lt (pos 0) b) (sym worth)
+          ∙ is) c.in_ok-push.ensures.items c.in_ok-debt.ensures c.loop-lease.invariant.debts;
+      total = omega (
+        arith,
+        ints,
+        c.loop-lease.invariant.total,
+        c.loop-lease.invariant.some,
+        c.loop-lease.invariant.range,
+        c.loop-lease.invariant.few,
+        c.pence.ensures,
+        c.balance-balance.ensures.range,
+        worth,
+        more,
+        sum,
+        own,
+      );
+      some = omega (
+        arith,
+        ints,
+        c.loop-lease.invariant.some,
+        c.loop-lease.invariant.range,
+        c.loop-lease.invariant.few,
+        c.pence.ensures,
+        c.balance-balance.ensures.range,
+        more,
+      );
+      range = omega (
+        arith,
+        ints,
+        c.loop-lease.invariant.some,
+        c.loop-lease.invariant.range,
+        c.loop-lease.invariant.few,
+        c.pence.ensures,
+        c.balance-balance.ensures.range,
+        more,
+        c.in_ok-push.ensures.len,
+      );
+      few = omega (
+        arith,
+        c.loop-lease.invariant.above lease (is_here number_of lease _ _ front),
+        c.key-number.ensures,
+        c.number-most.ensures.range,
+        c.in_ok-push.ensures.len,
+      );
+      above = above_more number_of lease _ _ front c.loop-lease.invariant.rising _ _ (c.loop-lease.invariant.above lease (is_here number_of lease _ _ front))
+          (omega (arith, c.in_ok-push.ensures.len));
       rising = rest_rises number_of lease _ _ front c.loop-lease.invariant.rising;
     }
 
@@ -67,11 +108,13 @@ loop-lease-preserved c =
     let books = c.args.books.now.books in
     let lease = c.in-Some.lease.now in
     let front : c.loop-lease.lease-iterator ≡ lease ∷ c.next.new.self = rest_more deref _ _ _ _ c.in-Some.is c.next.ensures.steps in
-    let worth : c.balance-balance.result ≡ balance books lease.terms.number = c.balance-balance.ensures.value ∙ c.in_ok-accounts.ensures c.key-number.result ∙ ap (balance books) c.key-number.ensures in
+    let worth : c.balance-balance.result ≡ balance books lease.terms.number =
+    c.balance-balance.ensures.value ∙ c.in_ok-accounts.ensures c.key-number.result ∙ ap (balance books) c.key-number.ensures in
     let is : (belongs books c.args.branch.now lease && int_lt (pos 0) c.balance-balance.result) ≡ false = sym c.is_debt.ensures ∙ c.if-is_debt.false in
     let inv = c.loop-lease.invariant in
     record {
-      debts = none_more (owes books) (belongs books c.args.branch.now) (debt books) lease _ _ _ _ front (ap (λ b. belongs books c.args.branch.now lease && int_lt (pos 0) b) (sym worth) ∙ is) inv.debts;
+      debts = none_more (owes books) (belongs books c.args.branch.now) (debt books) lease _ _ _ _ front (ap (λ b. belongs books c.args.branch.now lease
+          && int_lt (pos 0) b) (sym worth) ∙ is) inv.debts;
       total = inv.total;
       some = inv.some;
       range = inv.range;

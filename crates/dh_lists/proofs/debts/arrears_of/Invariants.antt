@@ -12,7 +12,9 @@ use Rattle.dh_lists.proofs.debts.arrears_of.Given as goal
 abbrev pub invariant-loop-lease : goal.invariant-loop-lease
 invariant-loop-lease l = record {
   debts : l.debts.items
-      ++ map (debt l.books.books) (filter (λ lease. int_lt (pos 0) (balance l.books.books lease.terms.number)) (filter (λ lease. is_property_of l.branch (fin.get l.books.books.properties lease.terms.property)) l.lease-iterator))
+      ++ map (debt l.books.books)
+      (filter (λ lease. int_lt (pos 0) (balance l.books.books lease.terms.number))
+      (filter (λ lease. is_property_of l.branch (fin.get l.books.books.properties lease.terms.property)) l.lease-iterator))
       ≡ debts l.books.books l.branch;
   total : l.total ≡ owed l.books.books l.debts.items;
   some : pos 0 ≤ℤ l.total;

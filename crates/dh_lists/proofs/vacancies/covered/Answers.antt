@@ -24,7 +24,8 @@ more test x xs ys n m s v all front is covers put so_far =
 pub loop-lease-preserved-then-covers : goal.loop-lease-preserved-then-covers
 loop-lease-preserved-then-covers c = λ number.
     let terms = c.in-Some.lease.now.terms in
-    more _ _ _ _ _ (contains text_cmp c.loop-lease.numbers number) (is_same_text terms.property number) (covers terms c.args.day) _ (rest_more deref _ _ _ _ c.in-Some.is c.next.ensures.steps) refl
+    more _ _ _ _ _ (contains text_cmp c.loop-lease.numbers number) (is_same_text terms.property number) (covers terms c.args.day) _
+    (rest_more deref _ _ _ _ c.in-Some.is c.next.ensures.steps) refl
     (sym c.covers.ensures ∙ c.if-covers.true)
     (c.in_ok-_is_new.ensures.updates.0 number ∙ ap (λ b. cond b true (contains text_cmp c.loop-lease.numbers number)) (sym (texts_ties terms.property number)))
     (c.loop-lease.invariant number)

@@ -18,5 +18,6 @@ returns c =
     (fact_from_collect (set.IsFromIterResult nat_cmp) c.collect.result c.collect.ensures.ran
     (YieldsList-from_map _ (λ run. run.month) (YieldsList-at c.map.ensures.source
     (YieldsList-from_filter _ (λ run. run.is_closed)
-    (YieldsList-at c.filter.ensures.source (YieldsList-from_rest (fin.values books.runs) c.runs.ensures)) c.filter.ensures.closure (λ x b q k. search (rules, tests))))
+    (YieldsList-at c.filter.ensures.source (YieldsList-from_rest (fin.values books.runs) c.runs.ensures)) c.filter.ensures.closure
+    (λ x b q k. search (rules, tests))))
     c.map.ensures.closure (λ x r q k. search (rules, tests))))

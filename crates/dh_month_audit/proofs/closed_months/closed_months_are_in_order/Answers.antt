@@ -36,7 +36,8 @@ returns c =
     let are = c.deref-dues.ensures.value ∙ c.in_ok-all.ensures in
     IfOk-weaker c.charges_are_dues.result _ _
     (λ b tells. (
-      λ yes. all_closed books months c.in_ok-months.ensures dues are (c.in_ok-runs_are_sums.ensures.0 c.if-not-branch.false) (c.in_ok-parts_are_sums.ensures.0 c.if-not-branch-2.false)
+      λ yes. all_closed books months c.in_ok-months.ensures dues are (c.in_ok-runs_are_sums.ensures.0 c.if-not-branch.false)
+          (c.in_ok-parts_are_sums.ensures.0 c.if-not-branch-2.false)
           (c.dues_have_parts.ensures.0 c.if-not-dues_have_parts.false) (tells.0 yes),
       λ all. tells.1 (all_charges books months c.in_ok-months.ensures dues are all),
     ))

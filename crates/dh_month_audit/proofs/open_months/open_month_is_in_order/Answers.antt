@@ -16,6 +16,12 @@ returns c =
     let shown = c.in_ok-shown.shown in
     IfOk-weaker c.are_posted.result (λ b. (b ≡ true) ↔ ArePosted books batch_size run.month shown) (λ b. (b ≡ true) ↔ MonthIsOpen books batch_size run)
     (λ b tells. (
-      λ yes. record { done = shown; posted = tells.0 yes; count = c.if-run-ne0.false; total = (numbers run.total c.of_pence.result).0 (from_not (nat_eq run.total c.of_pence.result) (sym c.ne.ensures ∙ c.if-ne.false)) ∙ c.of_pence.ensures },
+      λ yes. record {
+        done = shown;
+        posted = tells.0 yes;
+        count = c.if-run-ne0.false;
+        total = (numbers run.total c.of_pence.result).0 (from_not (nat_eq run.total c.of_pence.result) (sym c.ne.ensures ∙ c.if-ne.false))
+            ∙ c.of_pence.ensures;
+      },
       λ open_now. tells.1 (subst (ArePosted books batch_size run.month) (sym (c.in_ok-shown.ensures open_now.done open_now.posted)) open_now.posted),
     )) c.are_posted.ensures

@@ -20,7 +20,8 @@ loop-part-preserved c =
     let are = c.deref-part-items.ensures.value ∙ c.in_ok-parts.ensures.value in
     let long = ap length are ∙ length-map branches (part_of_all batch_size books month) in
     let here : i < length branches = omega (arith, long, c.loop-part-test.true) in
-    let of : IsTurnOf batch_size books month i part = subst (IsTurnOf batch_size books month i) (sym c.part-item.is) (turn batch_size books month items i part are here) in
+    let of : IsTurnOf batch_size books month i part =
+    subst (IsTurnOf batch_size books month i) (sym c.part-item.is) (turn batch_size books month items i part are here) in
     let so_far = c.loop-part.invariant.all in
     let more = one_more batch_size books month i part of all so_far in
     let own = c.batches_for-all.ensures.value ∙ ap (batches_for batch_size) c.from.ensures in
@@ -29,7 +30,8 @@ loop-part-preserved c =
       all = ap (λ n. all + n) own ∙ more;
       value = λ q a. value_kept batch_size books month i part of all so_far q _ _ (c.in_ok-insert.ensures.updates.0 q) (c.loop-part.invariant.value q) a;
       small = omega (arith, small, c.batches_for-all.ensures.bound, c.from.ensures);
-      bound = λ q. small_kept (tree.is_at (text_cmp part.branch) q) all (4294967296 * (i + 1)) _ _ (c.in_ok-insert.ensures.updates.0 q) (omega (arith, small)) (let had = c.loop-part.invariant.bound q in omega (arith, had));
+      bound = λ q. small_kept (tree.is_at (text_cmp part.branch) q) all (4294967296 * (i + 1)) _ _ (c.in_ok-insert.ensures.updates.0 q) (omega (arith, small))
+          (let had = c.loop-part.invariant.bound q in omega (arith, had));
     }
 
 pub returns : goal.returns

@@ -12,5 +12,6 @@ use Rattle.dh_month_audit.proofs.open_shown.batches_shown.Given as goal
 abbrev pub invariant-loop-part : goal.invariant-loop-part
 invariant-loop-part l = record {
   within : (done : ℕ) → ArePosted l.books.books batch_size l.fn.month done → l.shown ≤ done;
-  reached : (part : Part) → Among (map deref l.yielded) part → part.month ≡ l.fn.month → IsAmong (keys l.books.books.branches) part.branch → shows batch_size l.books.books l.fn.month part ≤ l.shown;
+  reached : (part : Part) → Among (map deref l.yielded) part → part.month ≡ l.fn.month → IsAmong (keys l.books.books.branches) part.branch
+      → shows batch_size l.books.books l.fn.month part ≤ l.shown;
 }

@@ -10,7 +10,8 @@ returns-then-number-expected c =
     let books = c.args.books.now.books in
     keys_tell books.runs books.first books.next _
     (no_more c.in-Some.month.now c.loop-month.expected books.next _ (fin.keys books.runs) books.first
-    (subst (λ rest. Follow (fin.keys books.runs) books.first books.next ↔ Follow rest c.loop-month.expected books.next) (rest_more deref _ _ _ c.in-Some.month c.in-Some.is c.next.ensures.steps) c.loop-month.invariant.follow)
+    (subst (λ rest. Follow (fin.keys books.runs) books.first books.next ↔ Follow rest c.loop-month.expected books.next)
+    (rest_more deref _ _ _ c.in-Some.month c.in-Some.is c.next.ensures.steps) c.loop-month.invariant.follow)
     (λ e. c.if-number-expected.true (c.number.ensures.value ∙ e)))
 
 pub returns : goal.returns
@@ -18,5 +19,6 @@ returns c =
     let books = c.args.books.now.books in
     keys_tell books.runs books.first books.next _
     (no_rest c.loop-month.expected books.next _ (fin.keys books.runs) books.first
-    (subst (λ rest. Follow (fin.keys books.runs) books.first books.next ↔ Follow rest c.loop-month.expected books.next) c.in-None.ensures.steps.0 c.loop-month.invariant.follow)
+    (subst (λ rest. Follow (fin.keys books.runs) books.first books.next
+    ↔ Follow rest c.loop-month.expected books.next) c.in-None.ensures.steps.0 c.loop-month.invariant.follow)
     (c.number-2.ensures.value ∙ c.next-2.ensures))

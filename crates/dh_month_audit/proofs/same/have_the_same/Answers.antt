@@ -13,8 +13,10 @@ returns g c = λ exact.
     let ys = c.args.right.items in
     let s = c.in_ok-left.left in
     let t = c.in_ok-right.right in
-    let of_xs = fact_from_collect {E = Unit {0}} (set.IsFromIterResult g.T.Ord.cmp) (Ok s) c.in_ok-left.ensures.ran (YieldsList-from_vec xs c.into_iter.ensures.rest (search rules)) in
-    let of_ys = fact_from_collect {E = Unit {0}} (set.IsFromIterResult g.T.Ord.cmp) (Ok t) c.in_ok-right.ensures.ran (YieldsList-from_vec ys c.into_iter-2.ensures.rest (search rules)) in
+    let of_xs = fact_from_collect {E = Unit {0}} (set.IsFromIterResult g.T.Ord.cmp) (Ok s) c.in_ok-left.ensures.ran
+    (YieldsList-from_vec xs c.into_iter.ensures.rest (search rules)) in
+    let of_ys = fact_from_collect {E = Unit {0}} (set.IsFromIterResult g.T.Ord.cmp) (Ok t) c.in_ok-right.ensures.ran
+    (YieldsList-from_vec ys c.into_iter-2.ensures.rest (search rules)) in
     elim c.if-is_subset.branch [
       | then-is_subset w ↦ (
         λ yes x. (

@@ -4,4 +4,5 @@ use Rattle.dh_player.proofs.moving.torn.Goals as goal
 
 pub returns-clause-happens : goal.returns-clause-happens
 returns-clause-happens c =
-    IfOk-weaker c.moved.result (λ after. Moves c.args.before c.args.reach after) _ (λ after moves. torn_so_far c.args.before after c.args.reach moves) c.moved.ensures
+    IfOk-weaker c.moved.result (λ after. Moves c.args.before c.args.reach after) _
+    (λ after moves. torn_so_far c.args.before after c.args.reach moves) c.moved.ensures

@@ -13,8 +13,10 @@ loop-happening-preserved c =
     let here : c.loop-happening.happening-index < length all = omega arith in
     let added : c.match-left.replies.items ≡ replies ++ option_to_list left.reply =
     elim c.match-left.branch [
-      | in-Some+in_ok-push w ↦ ap (λ v. v.items) w.replies-is ∙ (rw w.in-Some.is at w.in_ok-push.ensures.items) ∙ ap (λ r. replies ++ option_to_list r) (sym w.in-Some.is)
-      | in_default w ↦ let none : left.reply ≡ None = search rules in ap (λ v. v.items) w.replies-is ∙ sym (ap (λ r. replies ++ option_to_list r) none ∙ append-nil replies)
+      | in-Some+in_ok-push w ↦ ap (λ v. v.items) w.replies-is ∙ (rw w.in-Some.is at w.in_ok-push.ensures.items)
+          ∙ ap (λ r. replies ++ option_to_list r) (sym w.in-Some.is)
+      | in_default w ↦ let none : left.reply ≡ None = search rules in
+          ap (λ v. v.items) w.replies-is ∙ sym (ap (λ r. replies ++ option_to_list r) none ∙ append-nil replies)
     ] in
     so_far_more all c.args.start c.loop-happening.happening-index _ left.reply replies _ c.loop-happening.tables left.tables here
     c.happening-item.is c.loop-happening.invariant c.in_ok-left.ensures added

@@ -23,5 +23,6 @@ returns-in_ok-begun-in-Change c =
     let kept = h ordered in
     let stands = kept.2 ∙ ap (λ (s : State). advanced_run (whole batch_size opened.books) c.args.count s.open_run) is in (
       standing_done batch_size before opened after order rows c.args.count (omega arith) c.requires in_order accepted is kept.0 kept.1 stands,
-      subst (λ (v : Verdict). StandsAt order c.args.count v after) (sym accepted) (stands ∙ ap (λ (b : Books). advanced_run b c.args.count (Some (record { month = order.month; done = 0 }))) (sym kept.1)),
+      subst (λ (v : Verdict). StandsAt order c.args.count v after) (sym accepted) (stands
+          ∙ ap (λ (b : Books). advanced_run b c.args.count (Some (record { month = order.month; done = 0 }))) (sym kept.1)),
     )) c.advanced.ensures

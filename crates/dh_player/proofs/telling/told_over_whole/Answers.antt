@@ -6,4 +6,5 @@ use Rattle.dh_player.proofs.telling.told_over_whole.Goals as goal
 pub returns : goal.returns
 returns c = λ in_order.
     let made = c.in_ok-stepped.stepped in
-    stepped_told batch_size c.args.before made.books c.args.command.now made.reply (omega arith) c.requires.run c.requires.command in_order c.commands_are_entered.ensures c.in_ok-stepped.ensures
+    stepped_told batch_size c.args.before made.books c.args.command.now made.reply
+    (omega arith) c.requires.run c.requires.command in_order c.commands_are_entered.ensures c.in_ok-stepped.ensures

@@ -20,9 +20,12 @@ loop-row-preserved c =
     let row = c.row-item.result in
     let more = rw (← c.row-item.is) at (take_more c.args.rows.now c.loop-row.row-index row low) in
     let read = subst (λ (o : Option Branch). IfSome o (λ b. branch_row b ≡ row)) c.in-Some.is c.in_ok-branch.ensures.read in
-    let grammar : is_branch_row row ≡ true = (subst (λ (o : Option Branch). IsSome o ↔ (is_branch_row row ≡ true)) c.in-Some.is c.in_ok-branch.ensures.exact).0 refl in
+    let grammar : is_branch_row row ≡ true =
+    (subst (λ (o : Option Branch). IsSome o ↔ (is_branch_row row ≡ true)) c.in-Some.is c.in_ok-branch.ensures.exact).0 refl in
     subst (λ rows. AreBranches rows c.args.books.now c.put_branch.new.self) (sym more)
-    (one-read _ row c.in-Some.branch c.args.books.now c.loop-row.books c.put_branch.new.self c.loop-row.invariant (sym read) grammar (sym c.branch-books.ensures ∙ not_some c.branch-books.result (sym c.is_some.ensures ∙ c.if-is_some.false)) c.in_ok-put_branch.ensures.ok)
+    (one-read _ row c.in-Some.branch c.args.books.now c.loop-row.books c.put_branch.new.self c.loop-row.invariant (sym read) grammar (sym c.branch-books.ensures
+    ∙ not_some c.branch-books.result (sym c.is_some.ensures ∙ c.if-is_some.false)) c.in_ok-put_branch.ensures.ok)
 
 pub returns-clause-gathered : goal.returns-clause-gathered
-returns-clause-gathered c = subst (λ rows. AreBranches rows c.args.books.now c.loop-row.books) (take_all c.loop-row.row-index c.args.rows.now (omega arith)) c.loop-row.invariant
+returns-clause-gathered c =
+    subst (λ rows. AreBranches rows c.args.books.now c.loop-row.books) (take_all c.loop-row.row-index c.args.rows.now (omega arith)) c.loop-row.invariant

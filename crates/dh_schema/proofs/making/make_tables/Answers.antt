@@ -35,7 +35,8 @@ returns-clause-survives g c =
     let put = c.in_ok-insert_meta.ensures.made clean in
     let two = c.in_ok-create_branch.ensures.made (omega (arith, c.insert_meta.ensures.crash.clean, clean)) in
     new_tables (state g.S.Store last).now.trees c.args.months.now put.1 put.2 (put.3 ∙ two.1) in
-    let whole = survives_committed g.S.Store old c.transaction-tx.result.conn.now last c.commit.new.self.0 P c.transaction-tx.ensures.begun inside made c.commit.ensures.survives in
+    let whole = survives_committed g.S.Store old c.transaction-tx.result.conn.now last c.commit.new.self.0 P c.transaction-tx.ensures.begun inside made
+    c.commit.ensures.survives in
     let same : c.commit.new.self.0 ≡ c.conn-2-1.given.0 = search rules in
     subst (λ h. Survives (state g.S.Store old) (state g.S.Store h) P) same whole
 
@@ -49,6 +50,7 @@ returns-in_err-commit-clause-survives g c =
     let put = c.in_ok-insert_meta.ensures.made clean in
     let two = c.in_ok-create_branch.ensures.made (omega (arith, c.insert_meta.ensures.crash.clean, clean)) in
     new_tables (state g.S.Store last).now.trees c.args.months.now put.1 put.2 (put.3 ∙ two.1) in
-    let whole = survives_committed g.S.Store old c.transaction-tx.result.conn.now last c.commit.new.self.0 P c.transaction-tx.ensures.begun inside made c.commit.ensures.survives in
+    let whole = survives_committed g.S.Store old c.transaction-tx.result.conn.now last c.commit.new.self.0 P c.transaction-tx.ensures.begun inside made
+    c.commit.ensures.survives in
     let same : c.commit.new.self.0 ≡ c.conn-2-1.given.0 = search rules in
     subst (λ h. Survives (state g.S.Store old) (state g.S.Store h) P) same whole

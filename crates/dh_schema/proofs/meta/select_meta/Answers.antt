@@ -7,16 +7,20 @@ use Rattle.dh_schema.proofs.meta.select_meta.Goals as goal
 
 pub returns-clause-rows : goal.returns-clause-rows
 returns-clause-rows g c clean =
-    shows_ok select_meta our_schema 0 meta_project [] _ select_meta_is c.query_all.result _ _ (c.requires (omega (arith, c.query_all.ensures.survives.clean))) (c.query_all.ensures.ok clean)
+    shows_ok select_meta our_schema 0 meta_project [] _ select_meta_is c.query_all.result _ _ (c.requires (omega (arith, c.query_all.ensures.survives.clean)))
+    (c.query_all.ensures.ok clean)
 
 pub returns-clause-same : goal.returns-clause-same
 returns-clause-same g c clean =
-    same_ok select_meta our_schema 0 meta_project [] _ select_meta_is c.query_all.result _ _ (c.requires (omega (arith, c.query_all.ensures.survives.clean))) (c.query_all.ensures.ok clean)
+    same_ok select_meta our_schema 0 meta_project [] _ select_meta_is c.query_all.result _ _ (c.requires (omega (arith, c.query_all.ensures.survives.clean)))
+    (c.query_all.ensures.ok clean)
 
 pub returns-clause-undone : goal.returns-clause-undone
 returns-clause-undone g c clean =
-    undone_err select_meta our_schema 0 meta_project [] _ select_meta_is c.query_all.result _ _ (c.requires (omega (arith, c.query_all.ensures.survives.clean))) (c.query_all.ensures.err clean)
+    undone_err select_meta our_schema 0 meta_project [] _ select_meta_is c.query_all.result _ _ (c.requires (omega (arith, c.query_all.ensures.survives.clean)))
+    (c.query_all.ensures.err clean)
 
 pub returns-clause-crash : goal.returns-clause-crash
 returns-clause-crash g c =
-    commits_nothing select_meta our_schema 0 meta_project [] _ select_meta_is (state g.S.Store c.args.conn.now) (state g.S.Store c.query_all.new.self) c.requires c.query_all.ensures.survives
+    commits_nothing select_meta our_schema 0 meta_project [] _ select_meta_is (state g.S.Store c.args.conn.now)
+    (state g.S.Store c.query_all.new.self) c.requires c.query_all.ensures.survives

@@ -7,8 +7,10 @@ use Rattle.dh_agency.proofs.agency.Agency.step.Goals as goal
 
 pub returns-in-Ok-clause-crash : goal.returns-in-Ok-clause-crash
 returns-in-Ok-clause-crash g c clean was =
-    subst (λ (a : Seat g.row.S.Denot). store.Leaves (state g.S.Store c.carry_out.new.conn) (IsBeforeOrAfter (machine g.S.Store a) c.args.command.now)) c.self.view_is (c.carry_out.ensures.crash clean)
+    subst (λ (a : Seat g.row.S.Denot). store.Leaves (state g.S.Store c.carry_out.new.conn) (IsBeforeOrAfter (machine g.S.Store a) c.args.command.now))
+    c.self.view_is (c.carry_out.ensures.crash clean)
 
 pub returns-in-Err-clause-crash : goal.returns-in-Err-clause-crash
 returns-in-Err-clause-crash g c clean was =
-    subst (λ (a : Seat g.row.S.Denot). store.Leaves (state g.S.Store c.carry_out.new.conn) (IsBeforeOrAfter (machine g.S.Store a) c.args.command.now)) c.self.view_is (c.carry_out.ensures.crash clean)
+    subst (λ (a : Seat g.row.S.Denot). store.Leaves (state g.S.Store c.carry_out.new.conn) (IsBeforeOrAfter (machine g.S.Store a) c.args.command.now))
+    c.self.view_is (c.carry_out.ensures.crash clean)

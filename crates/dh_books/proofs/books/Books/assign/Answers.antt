@@ -27,8 +27,11 @@ returns c =
     let found = ap option_copied_mut (sym c.in-Some.is) ∙ c.get_mut.ensures.value in
     let writes = (c.get_mut.follows.holds row).3 (search rules) in
     let made = one-given text_total text_ties b.properties.entries (c.get_mut.follows.lender row).entries c.args.it.property row writes.0 in
-    let there = found ∙ sym (get-made text_total b.properties.entries c.args.it.property) ∙ ap (λ (s : State). fin.get s.books.properties c.args.it.property) c.self.view_is in
+    let there = found ∙ sym (get-made text_total b.properties.entries c.args.it.property)
+    ∙ ap (λ (s : State). fin.get s.books.properties c.args.it.property) c.self.view_is in
     ap (with_properties b) made
-    ∙ ap (λ (s : State). let t : State = record s { books = record s.books { properties = fin.insert s.books.properties c.args.it.property row } } in t) c.self.view_is
-    ∙ ap (λ (r : Property). let t : State = record s { books = record s.books { properties = fin.insert s.books.properties c.args.it.property r } } in t) c.put_manager.ensures
+    ∙ ap (λ (s : State). let t : State = record s { books = record s.books { properties = fin.insert s.books.properties c.args.it.property row } } in
+    t) c.self.view_is
+    ∙ ap (λ (r : Property). let t : State = record s { books = record s.books { properties = fin.insert s.books.properties c.args.it.property r } } in
+    t) c.put_manager.ensures
     ∙ ap (λ o. let t : State = record s { books = managed s.books c.args.it o } in t) there

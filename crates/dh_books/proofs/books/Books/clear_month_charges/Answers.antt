@@ -13,8 +13,14 @@ use Rattle.dh_books.proofs.books.Books.clear_month_charges.Goals as goal
 pub returns : goal.returns
 returns c =
     let b = c.self.inside in
-    let kept = filter_same_pairs _ (λ (e : (ℕ × ℕ) × Charge). not (nat_eq e.1.month c.args.month)) _ (λ k v t w f h. search rules) _ _ c.retain.ensures.filtered in
+    let kept = filter_same_pairs _ (λ (e : (ℕ × ℕ) × Charge). not (nat_eq e.1.month c.args.month)) _
+    (λ k v t w f h. search rules) _ _ c.retain.ensures.filtered in
     let all = entries-made (pair_total nat_total nat_total) b.charges.entries c.retain.ensures.was_ordered in
     let made = ap fin.from_entries (kept ∙ ap (filter (λ (e : (ℕ × ℕ) × Charge). not (nat_eq e.1.month c.args.month))) (sym all)) in
     ap (λ m. let s : State = record (state_of b) { books = record (state_of b).books { charges = m } } in s) made
-    ∙ ap (λ (s : State). let t : State = record s { books = record s.books { charges = rows_where (λ charge. not (nat_eq charge.month c.args.month)) s.books.charges } } in t) c.self.view_is
+    ∙ ap (λ (s : State). let t : State = record s {
+      books = record s.books {
+        charges = rows_where
+            (λ charge. not (nat_eq charge.month c.args.month)) s.books.charges;
+      };
+    } in t) c.self.view_is

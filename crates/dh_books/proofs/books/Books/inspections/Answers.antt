@@ -7,5 +7,6 @@ use Rattle.dh_books.proofs.books.Books.inspections.Goals as goal
 
 pub returns : goal.returns
 returns c =
-    c.values.ensures.rest ∙ sym (ap (map (λ e. e.1)) (entries-made (pair_total text_total nat_total) c.self.inside.inspections.entries c.values.ensures.ordered))
+    c.values.ensures.rest
+    ∙ sym (ap (map (λ e. e.1)) (entries-made (pair_total text_total nat_total) c.self.inside.inspections.entries c.values.ensures.ordered))
     ∙ ap (λ (s : State). fin.values s.books.inspections) c.self.view_is

@@ -17,4 +17,5 @@ pub returns-clause-numbered : goal.returns-clause-numbered
 returns-clause-numbered c = subst (λ (s : State). AreNumbered s.books) c.self.view_is c.self.invariant.numbered
 
 pub returns-clause-few : goal.returns-clause-few
-returns-clause-few c = subst (λ (s : State). length (fin.values s.books.leases) ≤ 99999999) c.self.view_is (few_leases (state_of c.self.inside).books c.self.invariant)
+returns-clause-few c =
+    subst (λ (s : State). length (fin.values s.books.leases) ≤ 99999999) c.self.view_is (few_leases (state_of c.self.inside).books c.self.invariant)

@@ -10,6 +10,9 @@ pub returns-clause-ok : goal.returns-clause-ok
 returns-clause-ok c =
     let r = c.args.row in
     let b = c.self.inside in
-    let made = one-given (pair_total nat_total nat_total) (pair_ties nat_ties nat_ties) b.charges.entries c.insert.new.self.entries (r.lease, r.index) r c.in_ok-_before.ensures.updates.0 in
+    let made = one-given (pair_total nat_total nat_total) (pair_ties nat_ties nat_ties) b.charges.entries c.insert.new.self.entries (
+      r.lease,
+      r.index,
+    ) r c.in_ok-_before.ensures.updates.0 in
     ap (λ m. let s : State = record (state_of b) { books = record (state_of b).books { charges = m } } in s) made
     ∙ ap (λ (s : State). let t : State = record s { books = record s.books { charges = fin.insert s.books.charges (r.lease, r.index) r } } in t) c.self.view_is

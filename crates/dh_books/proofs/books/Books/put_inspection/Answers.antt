@@ -10,6 +10,10 @@ pub returns-clause-ok : goal.returns-clause-ok
 returns-clause-ok c =
     let r = c.args.row in
     let b = c.self.inside in
-    let made = one-given (pair_total text_total nat_total) (pair_ties text_ties nat_ties) b.inspections.entries c.insert.new.self.entries (r.property, r.day) r c.in_ok-_before.ensures.updates.0 in
+    let made = one-given (pair_total text_total nat_total) (pair_ties text_ties nat_ties) b.inspections.entries c.insert.new.self.entries (
+      r.property,
+      r.day,
+    ) r c.in_ok-_before.ensures.updates.0 in
     ap (λ m. let s : State = record (state_of b) { books = record (state_of b).books { inspections = m } } in s) made
-    ∙ ap (λ (s : State). let t : State = record s { books = record s.books { inspections = fin.insert s.books.inspections (r.property, r.day) r } } in t) c.self.view_is
+    ∙ ap (λ (s : State). let t : State = record s { books = record s.books { inspections = fin.insert s.books.inspections (r.property, r.day) r } } in
+    t) c.self.view_is

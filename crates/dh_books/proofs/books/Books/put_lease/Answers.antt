@@ -12,13 +12,15 @@ pub returns-clause-ok : goal.returns-clause-ok
 returns-clause-ok c =
     let r = c.args.row in
     let b = c.self.inside in
-    let made = one-given nat_total nat_ties b.leases.entries c.insert.new.self.entries r.terms.number r (rw c.key-number.ensures at c.in_ok-_before.ensures.updates.0) in
+    let made = one-given nat_total nat_ties b.leases.entries c.insert.new.self.entries r.terms.number r
+    (rw c.key-number.ensures at c.in_ok-_before.ensures.updates.0) in
     ap (λ m. let s : State = record (state_of b) { books = record (state_of b).books { leases = m } } in s) made
     ∙ ap (λ (s : State). let t : State = record s { books = record s.books { leases = fin.insert s.books.leases r.terms.number r } } in t) c.self.view_is
 
 pub invariant_of-self-2 : goal.invariant_of-self-2
 invariant_of-self-2 c =
     let b = c.self.inside in
-    let made = one-given nat_total nat_ties b.leases.entries c.insert.new.self.entries c.args.row.terms.number c.args.row (rw c.key-number.ensures at c.in_ok-_before.ensures.updates.0) in
+    let made = one-given nat_total nat_ties b.leases.entries c.insert.new.self.entries c.args.row.terms.number c.args.row
+    (rw c.key-number.ensures at c.in_ok-_before.ensures.updates.0) in
     let is : IsLeaseNo c.args.row.terms.number = subst IsLeaseNo c.key-number.ensures (omega arith, omega arith) in
     subst AreKept (sym made) (put_kept (fin.from_entries b.leases.entries) c.args.row is c.self.invariant)

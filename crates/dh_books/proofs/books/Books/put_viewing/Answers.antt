@@ -10,6 +10,10 @@ pub returns-clause-ok : goal.returns-clause-ok
 returns-clause-ok c =
     let r = c.args.row in
     let b = c.self.inside in
-    let made = one-given (pair_total text_total text_total) (pair_ties text_ties text_ties) b.viewings.entries c.insert.new.self.entries (r.client, r.property) r c.in_ok-_before.ensures.updates.0 in
+    let made = one-given (pair_total text_total text_total) (pair_ties text_ties text_ties) b.viewings.entries c.insert.new.self.entries (
+      r.client,
+      r.property,
+    ) r c.in_ok-_before.ensures.updates.0 in
     ap (λ m. let s : State = record (state_of b) { books = record (state_of b).books { viewings = m } } in s) made
-    ∙ ap (λ (s : State). let t : State = record s { books = record s.books { viewings = fin.insert s.books.viewings (r.client, r.property) r } } in t) c.self.view_is
+    ∙ ap (λ (s : State). let t : State = record s { books = record s.books { viewings = fin.insert s.books.viewings (r.client, r.property) r } } in
+    t) c.self.view_is

@@ -7,5 +7,6 @@ use Rattle.dh_books.proofs.books.Books.receipt_count.Goals as goal
 
 pub returns : goal.returns
 returns c =
-    c.len.ensures.len ∙ sym (ap length (entries-made nat_total c.self.inside.receipts.entries c.len.ensures.ordered)) ∙ sym (fin.len-entries (fin.from_entries c.self.inside.receipts.entries))
+    c.len.ensures.len ∙ sym (ap length (entries-made nat_total c.self.inside.receipts.entries c.len.ensures.ordered))
+    ∙ sym (fin.len-entries (fin.from_entries c.self.inside.receipts.entries))
     ∙ ap (λ (s : State). fin.len s.books.receipts) c.self.view_is

@@ -7,5 +7,6 @@ use Rattle.dh_books.proofs.books.Books.registrations.Goals as goal
 
 pub returns : goal.returns
 returns c =
-    c.values.ensures.rest ∙ sym (ap (map (λ e. e.1)) (entries-made (pair_total text_total text_total) c.self.inside.registrations.entries c.values.ensures.ordered))
+    c.values.ensures.rest
+    ∙ sym (ap (map (λ e. e.1)) (entries-made (pair_total text_total text_total) c.self.inside.registrations.entries c.values.ensures.ordered))
     ∙ ap (λ (s : State). fin.values s.books.registrations) c.self.view_is

@@ -13,7 +13,8 @@ pub returns-in_default : goal.returns-in_default
 returns-in_default c =
     let b = c.self.inside in
     let s = c.args.self.now in
-    let found = ap option_copied_mut (sym c.in_default.is) ∙ c.get_mut.ensures.value ∙ sym (get-made (pair_total text_total text_total) b.viewings.entries (c.args.it.client, c.args.it.property))
+    let found = ap option_copied_mut (sym c.in_default.is) ∙ c.get_mut.ensures.value
+    ∙ sym (get-made (pair_total text_total text_total) b.viewings.entries (c.args.it.client, c.args.it.property))
     ∙ ap (λ (s : State). fin.get s.books.viewings (c.args.it.client, c.args.it.property)) c.self.view_is in
     ap (λ m. with_viewings b (fin.from_entries m.entries)) c.get_mut.follows.holds-at-none
     ∙ c.self.view_is
@@ -26,9 +27,25 @@ returns c =
     let row = c.put_comment.new.viewing in
     let found = ap option_copied_mut (sym c.in-Some.is) ∙ c.get_mut.ensures.value in
     let writes = (c.get_mut.follows.holds row).3 (search rules) in
-    let made = one-given (pair_total text_total text_total) (pair_ties text_ties text_ties) b.viewings.entries (c.get_mut.follows.lender row).entries (c.args.it.client, c.args.it.property) row writes.0 in
-    let there = found ∙ sym (get-made (pair_total text_total text_total) b.viewings.entries (c.args.it.client, c.args.it.property)) ∙ ap (λ (s : State). fin.get s.books.viewings (c.args.it.client, c.args.it.property)) c.self.view_is in
+    let made = one-given (pair_total text_total text_total) (pair_ties text_ties text_ties) b.viewings.entries (c.get_mut.follows.lender row).entries
+    (c.args.it.client, c.args.it.property) row writes.0 in
+    let there = found ∙ sym (get-made (pair_total text_total text_total) b.viewings.entries (c.args.it.client, c.args.it.property))
+    ∙ ap (λ (s : State). fin.get s.books.viewings (c.args.it.client, c.args.it.property)) c.self.view_is in
     ap (with_viewings b) made
-    ∙ ap (λ (s : State). let t : State = record s { books = record s.books { viewings = fin.insert s.books.viewings (c.args.it.client, c.args.it.property) row } } in t) c.self.view_is
-    ∙ ap (λ (r : Viewing). let t : State = record s { books = record s.books { viewings = fin.insert s.books.viewings (c.args.it.client, c.args.it.property) r } } in t) c.put_comment.ensures
+    ∙ ap (λ (s : State). let t : State = record s {
+      books = record s.books {
+        viewings = fin.insert s.books.viewings (
+          c.args.it.client,
+          c.args.it.property,
+        ) row;
+      };
+    } in t) c.self.view_is
+    ∙ ap (λ (r : Viewing). let t : State = record s {
+      books = record s.books {
+        viewings = fin.insert s.books.viewings (
+          c.args.it.client,
+          c.args.it.property,
+        ) r;
+      };
+    } in t) c.put_comment.ensures
     ∙ ap (λ o. let t : State = record s { books = with_comment s.books c.args.it o } in t) there
