@@ -1,0 +1,33 @@
+use Rattle.std.proofs.Common.{◌∙◌, refl, arith}
+use Rattle.sqlite.specs.Held.{state}
+use Rattle.dh_catalog.proofs.Going.{none_gone, next_at, all_at, kept_on, crash_on}
+use Rattle.dh_catalog.proofs.making.create_each.Goals as goal
+
+pub loop-text-init : goal.loop-text-init
+loop-text-init g c = (refl, none_gone _ _ c.requires)
+
+pub loop-text-preserved : goal.loop-text-preserved
+loop-text-preserved g c = (
+  c.execute.ensures.same_reference ∙ c.loop-text.invariant.0,
+  next_at c.args.texts.now c.loop-text.text-index _ (state g.S.Store c.args.tx.now.conn.now) (state g.S.Store c.loop-text.tx.conn.now) (state g.S.Store c.execute.new.self.conn.now) c.in_ok-execute.field-0
+      (omega arith) c.loop-text.invariant.1 c.execute.ensures.survives c.in_ok-execute.ensures.runs,
+)
+
+pub returns-in_err-execute-clause-same_reference : goal.returns-in_err-execute-clause-same_reference
+returns-in_err-execute-clause-same_reference g c = c.execute.ensures.same_reference ∙ c.loop-text.invariant.0
+
+pub returns-in_err-execute-clause-kept : goal.returns-in_err-execute-clause-kept
+returns-in_err-execute-clause-kept g c = kept_on _ _ (state g.S.Store c.args.tx.now.conn.now) (state g.S.Store c.loop-text.tx.conn.now) (state g.S.Store c.execute.new.self.conn.now) c.loop-text.invariant.1 c.execute.ensures.survives _ _ c.execute.ensures.runs
+
+pub returns-in_err-execute-clause-crash : goal.returns-in_err-execute-clause-crash
+returns-in_err-execute-clause-crash g c = crash_on _ _ (state g.S.Store c.args.tx.now.conn.now) (state g.S.Store c.loop-text.tx.conn.now) (state g.S.Store c.execute.new.self.conn.now) c.loop-text.invariant.1 c.execute.ensures.survives
+
+pub returns-clause-made : goal.returns-clause-made
+returns-clause-made g c clean =
+    all_at c.args.texts.now c.loop-text.text-index (state g.S.Store c.args.tx.now.conn.now) (state g.S.Store c.loop-text.tx.conn.now) c.loop-text-test.false c.loop-text.invariant.1 clean
+
+pub returns-clause-kept : goal.returns-clause-kept
+returns-clause-kept g c = c.loop-text.invariant.1.kept
+
+pub returns-clause-crash : goal.returns-clause-crash
+returns-clause-crash g c = c.loop-text.invariant.1.crash

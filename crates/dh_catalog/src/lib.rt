@@ -1,0 +1,7 @@
+//! The fourteen tables as the store reads them, how they are made, and whether a store has exactly them.
+#![tactic(auto)]
+
+mod making;
+pub mod texts;
+
+pub use making::create_all;
