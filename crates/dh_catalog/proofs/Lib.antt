@@ -20,3 +20,4 @@ pub mod LeaseClientText
 pub mod ChargeMonthText
 pub mod ReceiptLeaseText
 pub mod Building
+pub mod Telling

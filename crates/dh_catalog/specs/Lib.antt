@@ -17,3 +17,4 @@ pub mod LookIndexes
 pub mod Layout
 pub mod Making
 pub mod Meanings
+pub mod Same

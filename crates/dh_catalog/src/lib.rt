@@ -2,6 +2,9 @@
 #![tactic(auto)]
 
 mod making;
+mod ours;
+mod same;
 pub mod texts;
 
 pub use making::create_all;
+pub use ours::is_ours;
