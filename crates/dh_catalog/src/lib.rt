@@ -7,4 +7,4 @@ mod same;
 pub mod texts;
 
 pub use making::create_all;
-pub use ours::is_ours;
+pub use ours::{has_our_tables, is_ours, our_store};

@@ -169,4 +169,3 @@ pub(crate) fn is_same_schema(a: &Schema, b: &Schema) -> bool
         && a.views.is_empty()
         && b.views.is_empty()
 }
-
