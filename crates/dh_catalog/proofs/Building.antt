@@ -1,10 +1,9 @@
 -- The texts build our schema.
-use Rattle.std.proofs.Common.{◌≡◌, [], inl, inr, refl, sym, subst, map, Ok, Err, Result, OnOk}
-use Rattle.std.specs.List.{AllByRecursion}
+use Rattle.std.proofs.Common.{◌≡◌, ℕ, List, inl, inr, refl, sym, subst, map, drop, Ok, Err, Result, OnOk}
 use Rattle.sqlite_schema.specs.declared.schema.Schema.{Schema}
 use Rattle.sqlite.specs.State.{State}
 use Rattle.dh_catalog.specs.declared.texts.TheConstants.{TEXTS}
-use Rattle.dh_catalog.specs.Layout.{no_schema, meta_schema, branch_schema, staff_schema, owner_schema, property_schema, client_schema, registration_schema, viewing_schema, inspection_schema, lease_schema, charge_schema, receipt_schema, run_schema, part_schema, property_staff_schema, lease_property_schema, lease_client_schema, charge_month_schema, our_schema}
+use Rattle.dh_catalog.specs.Layout.{no_schema, property_schema, inspection_schema, part_schema, our_schema, our_tables}
 use Rattle.dh_catalog.specs.Meanings.{Build}
 use Rattle.dh_catalog.specs.Making.{AreEmpty, IsWritingOn, Makes}
 use Rattle.dh_catalog.proofs.MetaText.{meta_is}
@@ -27,89 +26,26 @@ use Rattle.dh_catalog.proofs.LeaseClientText.{lease_client_is}
 use Rattle.dh_catalog.proofs.ChargeMonthText.{charge_month_is}
 use Rattle.dh_catalog.proofs.ReceiptLeaseText.{receipt_lease_is}
 
-all_build : Build (map (λ text. text.now) TEXTS) no_schema our_schema
-all_build = (
-  meta_schema,
-  inl meta_is,
-  (
-    branch_schema,
-    inl branch_is,
-    (
-      staff_schema,
-      inl staff_is,
-      (
-        owner_schema,
-        inl owner_is,
-        (
-          property_schema,
-          inl property_is,
-          (
-            client_schema,
-            inl client_is,
-            (
-              registration_schema,
-              inl registration_is,
-              (
-                viewing_schema,
-                inl viewing_is,
-                (
-                  inspection_schema,
-                  inl inspection_is,
-                  (
-                    lease_schema,
-                    inl lease_is,
-                    (
-                      charge_schema,
-                      inl charge_is,
-                      (
-                        receipt_schema,
-                        inl receipt_is,
-                        (
-                          run_schema,
-                          inl run_is,
-                          (
-                            part_schema,
-                            inl part_is,
-                            (
-                              property_staff_schema,
-                              inr property_staff_is,
-                              (
-                                lease_property_schema,
-                                inr lease_property_is,
-                                (
-                                  lease_client_schema,
-                                  inr lease_client_is,
-                                  (
-                                    charge_month_schema,
-                                    inr charge_month_is,
-                                    (
-                                      our_schema,
-                                      inr receipt_lease_is,
-                                      refl,
-                                    ),
-                                  ),
-                                ),
-                              ),
-                            ),
-                          ),
-                        ),
-                      ),
-                    ),
-                  ),
-                ),
-              ),
-            ),
-          ),
-        ),
-      ),
-    ),
-  ),
-)
+-- the texts, as a call passes them
+abbrev all_texts : List (List ℕ)
+all_texts = map (λ text. text.now) TEXTS
+
+from_looks : Build (drop 14 all_texts) part_schema our_schema
+from_looks = (_, inr property_staff_is, (_, inr lease_property_is, (_, inr lease_client_is, (_, inr charge_month_is, (_, inr receipt_lease_is, refl)))))
+
+from_lease : Build (drop 9 all_texts) inspection_schema our_schema
+from_lease = (_, inl lease_is, (_, inl charge_is, (_, inl receipt_is, (_, inl run_is, (_, inl part_is, from_looks)))))
+
+from_client : Build (drop 5 all_texts) property_schema our_schema
+from_client = (_, inl client_is, (_, inl registration_is, (_, inl viewing_is, (_, inl inspection_is, from_lease))))
+
+all_build : Build all_texts no_schema our_schema
+all_build = (_, inl meta_is, (_, inl branch_is, (_, inl staff_is, (_, inl owner_is, (_, inl property_is, from_client)))))
 
 -- so they have made it, where there was no table
-pub made_all : {E : Type 0} (r : Result (Unit {0}) E) (old new : State) → old.now.schema ≡ no_schema → OnOk r (Makes (map (λ text. text.now) TEXTS) old new) → OnOk r (IsWritingOn our_schema new × AreEmpty new.now)
+pub made_all : {E : Type 0} (r : Result (Unit {0}) E) (old new : State) → old.now.schema ≡ no_schema → OnOk r (Makes all_texts old new)
+    → OnOk r (IsWritingOn our_schema new × AreEmpty our_tables new.now.trees)
 made_all (Err e) old new has makes = tt
 made_all (Ok done) old new has makes =
-    makes our_schema
-    (subst (λ s. Build (map (λ text. text.now) TEXTS) s our_schema) (sym has) all_build)
-    (subst (λ (s : Schema). AllByRecursion (λ t. old.now.trees t.tree ≡ []) s.tables) (sym has) tt)
+    let none = sym has in
+    makes our_schema (subst (λ s. Build all_texts s our_schema) none all_build) (subst (λ (s : Schema). AreEmpty s.tables old.now.trees) none tt)

@@ -20,11 +20,14 @@ use Rattle.dh_catalog.specs.PartTable.{part, part_key}
 use Rattle.dh_catalog.specs.LookIndexes.{property_staff, lease_property, lease_client, charge_month, receipt_lease}
 
 abbrev pub our_tables : List Table
-our_tables = meta ∷ branch ∷ staff ∷ owner ∷ property ∷ client ∷ registration ∷ viewing ∷ inspection ∷ lease ∷ charge ∷ receipt ∷ run ∷ part ∷ []
+our_tables =
+    meta ∷ branch ∷ staff ∷ owner ∷ property ∷ client ∷ registration ∷ viewing
+    ∷ inspection ∷ lease ∷ charge ∷ receipt ∷ run ∷ part ∷ []
 
 abbrev pub our_indexes : List Index
 our_indexes =
-    branch_key ∷ staff_key ∷ owner_key ∷ property_key ∷ client_key ∷ registration_key ∷ viewing_key ∷ inspection_key ∷ charge_key ∷ receipt_key ∷ run_key ∷ part_key
+    branch_key ∷ staff_key ∷ owner_key ∷ property_key ∷ client_key ∷ registration_key ∷ viewing_key ∷ inspection_key
+    ∷ charge_key ∷ receipt_key ∷ run_key ∷ part_key
     ∷ property_staff ∷ lease_property ∷ lease_client ∷ charge_month ∷ receipt_lease ∷ []
 
 -- the first so many tables and so many indexes

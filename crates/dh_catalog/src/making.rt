@@ -3,7 +3,7 @@
 ghost use Rattle.std.specs.Prelude.{◌≡◌, IsTrue, map, OnOk};
 ghost use Rattle.sqlite.specs.State.{HasCleanDisk, KeepsCommit, Survives};
 ghost use Rattle.sqlite.specs.Held.{state};
-ghost use Rattle.dh_catalog.specs.Layout.{no_schema, our_schema};
+ghost use Rattle.dh_catalog.specs.Layout.{no_schema, our_schema, our_tables};
 ghost use Rattle.dh_catalog.specs.Making.{IsWritingOn, AreEmpty, Makes};
 
 use crate::texts::TEXTS;
@@ -28,7 +28,7 @@ fn create_each<S: Alter>(tx: &mut Transaction<'_, S>, texts: &[&str]) -> Result<
 pub fn create_all<S: Alter>(tx: &mut Transaction<'_, S>) -> Result<(), Error>
     requires { HasCleanDisk (state S.Store tx.old.conn.now) → IsWritingOn no_schema (state S.Store tx.old.conn.now) }
     ensures same_reference { tx.new.conn.ghost_name ≡ tx.old.conn.ghost_name }
-    ensures made { HasCleanDisk (state S.Store tx.new.conn.now) → OnOk result (IsWritingOn our_schema (state S.Store tx.new.conn.now) × AreEmpty (state S.Store tx.new.conn.now).now) }
+    ensures made { HasCleanDisk (state S.Store tx.new.conn.now) → OnOk result (IsWritingOn our_schema (state S.Store tx.new.conn.now) × AreEmpty our_tables (state S.Store tx.new.conn.now).now.trees) }
     ensures kept { HasCleanDisk (state S.Store tx.new.conn.now) → KeepsCommit (state S.Store tx.old.conn.now) (state S.Store tx.new.conn.now) }
     ensures crash { Survives (state S.Store tx.old.conn.now) (state S.Store tx.new.conn.now) (λ _. ⊥) }
 {

@@ -7,24 +7,36 @@ pub loop-text-init : goal.loop-text-init
 loop-text-init g c = (refl, none_gone _ _ c.requires)
 
 pub loop-text-preserved : goal.loop-text-preserved
-loop-text-preserved g c = (
-  c.execute.ensures.same_reference ∙ c.loop-text.invariant.0,
-  next_at c.args.texts.now c.loop-text.text-index _ (state g.S.Store c.args.tx.now.conn.now) (state g.S.Store c.loop-text.tx.conn.now) (state g.S.Store c.execute.new.self.conn.now) c.in_ok-execute.field-0
-      (omega arith) c.loop-text.invariant.1 c.execute.ensures.survives c.in_ok-execute.ensures.runs,
-)
+loop-text-preserved g c =
+    let old = state g.S.Store c.args.tx.now.conn.now in
+    let now = state g.S.Store c.loop-text.tx.conn.now in
+    let new = state g.S.Store c.execute.new.self.conn.now in (
+      c.execute.ensures.same_reference ∙ c.loop-text.invariant.0,
+      next_at c.args.texts.now c.loop-text.text-index old new _ now c.in_ok-execute.field-0 (omega arith)
+          c.loop-text.invariant.1 c.execute.ensures.survives c.in_ok-execute.ensures.runs,
+    )
 
 pub returns-in_err-execute-clause-same_reference : goal.returns-in_err-execute-clause-same_reference
 returns-in_err-execute-clause-same_reference g c = c.execute.ensures.same_reference ∙ c.loop-text.invariant.0
 
 pub returns-in_err-execute-clause-kept : goal.returns-in_err-execute-clause-kept
-returns-in_err-execute-clause-kept g c = kept_on _ _ (state g.S.Store c.args.tx.now.conn.now) (state g.S.Store c.loop-text.tx.conn.now) (state g.S.Store c.execute.new.self.conn.now) c.loop-text.invariant.1 c.execute.ensures.survives _ _ c.execute.ensures.runs
+returns-in_err-execute-clause-kept g c =
+    let old = state g.S.Store c.args.tx.now.conn.now in
+    let now = state g.S.Store c.loop-text.tx.conn.now in
+    let new = state g.S.Store c.execute.new.self.conn.now in
+    kept_on _ _ old now new c.loop-text.invariant.1 c.execute.ensures.survives _ _ c.execute.ensures.runs
 
 pub returns-in_err-execute-clause-crash : goal.returns-in_err-execute-clause-crash
-returns-in_err-execute-clause-crash g c = crash_on _ _ (state g.S.Store c.args.tx.now.conn.now) (state g.S.Store c.loop-text.tx.conn.now) (state g.S.Store c.execute.new.self.conn.now) c.loop-text.invariant.1 c.execute.ensures.survives
+returns-in_err-execute-clause-crash g c =
+    let old = state g.S.Store c.args.tx.now.conn.now in
+    let now = state g.S.Store c.loop-text.tx.conn.now in
+    crash_on _ _ old now (state g.S.Store c.execute.new.self.conn.now) c.loop-text.invariant.1 c.execute.ensures.survives
 
 pub returns-clause-made : goal.returns-clause-made
 returns-clause-made g c clean =
-    all_at c.args.texts.now c.loop-text.text-index (state g.S.Store c.args.tx.now.conn.now) (state g.S.Store c.loop-text.tx.conn.now) c.loop-text-test.false c.loop-text.invariant.1 clean
+    let old = state g.S.Store c.args.tx.now.conn.now in
+    let new = state g.S.Store c.loop-text.tx.conn.now in
+    all_at c.args.texts.now c.loop-text.text-index old new c.loop-text-test.false c.loop-text.invariant.1 clean
 
 pub returns-clause-kept : goal.returns-clause-kept
 returns-clause-kept g c = c.loop-text.invariant.1.kept
