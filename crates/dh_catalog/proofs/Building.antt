@@ -3,9 +3,9 @@ use Rattle.std.proofs.Common.{◌≡◌, ℕ, List, inl, inr, refl, sym, subst, 
 use Rattle.sqlite_schema.specs.declared.schema.Schema.{Schema}
 use Rattle.sqlite.specs.State.{State}
 use Rattle.dh_catalog.specs.declared.texts.TheConstants.{TEXTS}
-use Rattle.dh_catalog.specs.Layout.{no_schema, property_schema, inspection_schema, part_schema, our_schema, our_tables}
+use Rattle.dh_catalog.specs.Layout.{no_schema, property_schema, inspection_schema, part_schema, our_schema}
 use Rattle.dh_catalog.specs.Meanings.{Build}
-use Rattle.dh_catalog.specs.Making.{AreEmpty, IsWritingOn, Makes}
+use Rattle.dh_catalog.specs.Making.{AreEmpty, HasEmptyTables, Makes}
 use Rattle.dh_catalog.proofs.MetaText.{meta_is}
 use Rattle.dh_catalog.proofs.BranchText.{branch_is}
 use Rattle.dh_catalog.proofs.StaffText.{staff_is}
@@ -26,7 +26,6 @@ use Rattle.dh_catalog.proofs.LeaseClientText.{lease_client_is}
 use Rattle.dh_catalog.proofs.ChargeMonthText.{charge_month_is}
 use Rattle.dh_catalog.proofs.ReceiptLeaseText.{receipt_lease_is}
 
--- the texts, as a call passes them
 abbrev all_texts : List (List ℕ)
 all_texts = map (λ text. text.now) TEXTS
 
@@ -44,7 +43,7 @@ all_build = (_, inl meta_is, (_, inl branch_is, (_, inl staff_is, (_, inl owner_
 
 -- so they have made it, where there was no table
 pub made_all : {E : Type 0} (r : Result (Unit {0}) E) (old new : State) → old.now.schema ≡ no_schema → OnOk r (Makes all_texts old new)
-    → OnOk r (IsWritingOn our_schema new × AreEmpty our_tables new.now.trees)
+    → OnOk r (HasEmptyTables new)
 made_all (Err e) old new has makes = tt
 made_all (Ok done) old new has makes =
     let none = sym has in

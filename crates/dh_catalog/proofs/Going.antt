@@ -1,5 +1,5 @@
 -- Texts that are run one after the other.
-use Rattle.std.proofs.Common.{◌+◌, ◌<◌, ◌≤◌, length, map, drop, get_or, Bor, ℕ, List, [], ◌∷◌, false, inl, IsTrue, Ok, Result, refl, sym, subst, arith}
+use Rattle.std.proofs.Common.{◌+◌, ◌<◌, ◌≤◌, length, drop, get_or, Bor, ℕ, List, [], ◌∷◌, false, inl, IsTrue, Ok, Result, refl, sym, subst, arith}
 use Rattle.std.proofs.lemmas.List.{drop_more, drop_all}
 use Rattle.sqlite_schema.specs.declared.schema.Schema.{Schema}
 use Rattle.sqlite.specs.declared.error.Error.{Error}
@@ -7,7 +7,7 @@ use Rattle.sqlite.specs.State.{State, HasCleanDisk, KeepsCommit, Survives, Execu
 use Rattle.sqlite.proofs.StateLemmas.{survives_then}
 use Rattle.sqlite.proofs.InsideLemmas.{inside_keeps, keeps_then}
 use Rattle.dh_catalog.specs.Meanings.{Build}
-use Rattle.dh_catalog.specs.Making.{AreEmpty, Makes}
+use Rattle.dh_catalog.specs.Making.{AreEmpty, all_of, Makes}
 use Rattle.dh_catalog.proofs.Creating.{made_one}
 
 -- where all texts build a schema, those that are left build it of this one, whose tables are empty
@@ -75,17 +75,6 @@ module _ (texts left : List (List ℕ)) (text : List ℕ) (old now new : State) 
         crash = crash_on texts (text ∷ left) old now new gone survives;
       }
 
-all_gone : (texts : List (List ℕ)) (old new : State) → HasGone texts [] old new → HasCleanDisk new → Makes texts old new
-all_gone texts old new gone clean after build empty =
-    let it = gone.made clean after build empty in (
-      record { inside = gone.inside clean; schema_is = it.0 },
-      subst (λ (s : Schema). AreEmpty s.tables new.now.trees) it.0 it.1,
-    )
-
--- the texts behind borrows
-abbrev all_of : List (Bor (List ℕ)) → List (List ℕ)
-all_of texts = map (λ text. text.now) texts
-
 -- those from this place on are left
 abbrev pub IsAt : List (Bor (List ℕ)) → ℕ → State → State → Type 0
 IsAt texts at old now = HasGone (all_of texts) (all_of (drop at texts)) old now
@@ -99,4 +88,9 @@ module _ (texts : List (Bor (List ℕ))) (at : ℕ) (old new : State) where
       gone_on (all_of texts) (all_of (drop (at + 1) texts)) head old now new count is survives runs
 
   pub all_at : length texts ≤ at → IsAt texts at old new → HasCleanDisk new → Makes (all_of texts) old new
-  all_at high gone = all_gone (all_of texts) old new (subst (λ left. HasGone (all_of texts) (all_of left) old new) (drop_all at texts high) gone)
+  all_at high gone clean after build empty =
+      let done = subst (λ left. HasGone (all_of texts) (all_of left) old new) (drop_all at texts high) gone in
+      let it = done.made clean after build empty in (
+        record { inside = done.inside clean; schema_is = it.0 },
+        subst (λ (s : Schema). AreEmpty s.tables new.now.trees) it.0 it.1,
+      )

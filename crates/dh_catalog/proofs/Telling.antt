@@ -13,7 +13,8 @@ use Rattle.sqlite_schema.specs.declared.schema.Action.TheVariants.{NoAction, Res
 use Rattle.sqlite_schema.specs.declared.schema.Schema.{Schema}
 use Rattle.sqlite_schema.specs.Rules.{kind_code}
 use Rattle.dh_catalog.specs.Layout.{our_schema}
-use Rattle.dh_catalog.specs.Same.{are_binary, are_empty, are_idle, are_null, is_flag, is_place, is_same_column, is_same_index, is_same_order, is_same_reference, is_same_schema, is_same_table}
+use Rattle.dh_catalog.specs.Same.{are_binary, are_empty, are_idle, are_null, is_flag, is_place}
+use Rattle.dh_catalog.specs.Same.{is_same_column, is_same_index, is_same_order, is_same_reference, is_same_schema, is_same_table}
 
 abbrev Tells : {X : Type 0} → (X → X → Bool) → Type 0
 Tells {X} same = (a b : X) → same a b ≡ true → a ≡ b
@@ -105,7 +106,8 @@ orders a b h = λ i. record { digits = numbers a.digits b.digits h i }
 
 columns : Tells is_same_column
 columns a b h =
-    let e = each (pointwise nat_eq a.name b.name ∷ nat_eq (kind_code a.kind) (kind_code b.kind) ∷ is_flag a.is_strict b.is_strict ∷ is_flag a.not_null b.not_null ∷ are_null a.default b.default ∷ are_binary a.collation b.collation ∷ []) h in
+    let e = each (pointwise nat_eq a.name b.name ∷ nat_eq (kind_code a.kind) (kind_code b.kind)
+    ∷ is_flag a.is_strict b.is_strict ∷ is_flag a.not_null b.not_null ∷ are_null a.default b.default ∷ are_binary a.collation b.collation ∷ []) h in
     λ i. record {
       name = texts a.name b.name e.0 i;
       kind = kinds a.kind b.kind e.1.0 i;
@@ -117,7 +119,9 @@ columns a b h =
 
 references : Tells is_same_reference
 references a b h =
-    let e = each (pointwise nat_eq a.columns b.columns ∷ pointwise nat_eq a.parent b.parent ∷ are_empty a.parent_columns b.parent_columns ∷ are_idle a.on_delete b.on_delete ∷ are_idle a.on_update b.on_update ∷ is_flag a.is_deferred b.is_deferred ∷ []) h in
+    let e = each (pointwise nat_eq a.columns b.columns ∷ pointwise nat_eq a.parent b.parent
+    ∷ are_empty a.parent_columns b.parent_columns ∷ are_idle a.on_delete b.on_delete
+    ∷ are_idle a.on_update b.on_update ∷ is_flag a.is_deferred b.is_deferred ∷ []) h in
     λ i. record {
       columns = texts a.columns b.columns e.0 i;
       parent = texts a.parent b.parent e.1.0 i;
@@ -155,7 +159,8 @@ tables a b h =
 
 indexes : Tells is_same_index
 indexes a b h =
-    let e = each (pointwise nat_eq a.name b.name ∷ nat_eq a.tree b.tree ∷ nat_eq a.table b.table ∷ pointwise nat_eq a.columns b.columns ∷ is_same_order a.order b.order ∷ is_flag a.is_unique b.is_unique ∷ []) h in
+    let e = each (pointwise nat_eq a.name b.name ∷ nat_eq a.tree b.tree ∷ nat_eq a.table b.table
+    ∷ pointwise nat_eq a.columns b.columns ∷ is_same_order a.order b.order ∷ is_flag a.is_unique b.is_unique ∷ []) h in
     λ i. record {
       name = texts a.name b.name e.0 i;
       tree = numbers a.tree b.tree e.1.0 i;

@@ -1,4 +1,4 @@
--- charge: a row a lease and its k-th month.
+-- charge: a row a charge of a lease, by its place k among them.
 use Rattle.std.specs.Prelude.{[], ◌∷◌, codes}
 use Rattle.sqlite_value.specs.Keys.{plain}
 use Rattle.sqlite_schema.specs.declared.schema.Kind.TheVariants.{Integer, Text}

@@ -1,4 +1,4 @@
--- inspection: a row a property and day.
+-- inspection: a row a property and a day.
 use Rattle.std.specs.Prelude.{[], ◌∷◌, codes}
 use Rattle.sqlite_value.specs.Keys.{plain}
 use Rattle.sqlite_schema.specs.declared.schema.Kind.TheVariants.{Text}

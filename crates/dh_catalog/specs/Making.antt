@@ -1,10 +1,12 @@
 -- What a store shows while its tables are made.
-use Rattle.std.specs.Prelude.{◌≡◌, ℕ, List, [], IsTrue}
+use Rattle.std.specs.Prelude.{◌≡◌, ℕ, List, [], map, IsTrue}
+use Rattle.std.specs.Borrow.{Bor}
 use Rattle.std.specs.List.{AllByRecursion}
 use Rattle.sqlite_trees.specs.Tree.{Trees}
 use Rattle.sqlite_schema.specs.declared.schema.Table.{Table}
 use Rattle.sqlite_schema.specs.declared.schema.Schema.{Schema}
 use Rattle.sqlite.specs.State.{State}
+use Rattle.dh_catalog.specs.Layout.{our_schema, our_tables}
 use Rattle.dh_catalog.specs.Meanings.{Build}
 
 -- Within a transaction, over a store of this schema.
@@ -15,6 +17,14 @@ pub record IsWritingOn (schema : Schema) (s : State) : Type 0 where
 -- None of the tables has a row.
 abbrev pub AreEmpty : List Table → Trees → Type 0
 AreEmpty tables trees = AllByRecursion (λ table. trees table.tree ≡ []) tables
+
+-- Within a transaction, over a store that has our tables and indexes, and not a row.
+abbrev pub HasEmptyTables : State → Type 0
+HasEmptyTables s = IsWritingOn our_schema s × AreEmpty our_tables s.now.trees
+
+-- the texts themselves
+abbrev pub all_of : List (Bor (List ℕ)) → List (List ℕ)
+all_of texts = map (λ text. text.now) texts
 
 -- Where the texts build a schema, and the tables so far were empty, it is now that schema, and its tables are empty.
 abbrev pub Makes : List (List ℕ) → State → State → Type 0

@@ -1,4 +1,4 @@
--- part: a row a month and branch: what a run has done there.
+-- part: a row a branch and a month: what the run has done there.
 use Rattle.std.specs.Prelude.{[], ◌∷◌, codes}
 use Rattle.sqlite_value.specs.Keys.{plain}
 use Rattle.sqlite_schema.specs.declared.schema.Kind.TheVariants.{Integer, Text}

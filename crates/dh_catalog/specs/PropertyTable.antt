@@ -1,4 +1,4 @@
--- property: a row a property, by its number; nobody manages one without staff_no.
+-- property: a row a property, by its number; staff_no is NULL where nobody manages it.
 use Rattle.std.specs.Prelude.{[], ◌∷◌, codes}
 use Rattle.sqlite_value.specs.Keys.{plain}
 use Rattle.sqlite_schema.specs.declared.schema.Kind.TheVariants.{Integer, Text}

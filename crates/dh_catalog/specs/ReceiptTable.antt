@@ -1,4 +1,4 @@
--- receipt: a row a receipt, by its number; its request key is of no other.
+-- receipt: a row a receipt, by its number; no two have the same request key.
 use Rattle.std.specs.Prelude.{[], ◌∷◌, codes, Some}
 use Rattle.sqlite_value.specs.Keys.{plain}
 use Rattle.sqlite_schema.specs.declared.schema.Kind.TheVariants.{Integer, Text}

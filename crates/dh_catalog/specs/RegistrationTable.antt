@@ -1,4 +1,4 @@
--- registration: a row a client and branch.
+-- registration: a row a client and a branch.
 use Rattle.std.specs.Prelude.{[], ◌∷◌, codes}
 use Rattle.sqlite_value.specs.Keys.{plain}
 use Rattle.sqlite_schema.specs.declared.schema.Kind.TheVariants.{Text}

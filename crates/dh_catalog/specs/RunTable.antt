@@ -1,4 +1,4 @@
--- run: a row a month whose run was begun; its request key is of no other.
+-- run: a row a month whose run was opened; no two have the same request key.
 use Rattle.std.specs.Prelude.{[], ◌∷◌, codes, Some}
 use Rattle.sqlite_value.specs.Keys.{plain}
 use Rattle.sqlite_schema.specs.declared.schema.Kind.TheVariants.{Integer, Text}

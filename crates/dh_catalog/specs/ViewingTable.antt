@@ -1,4 +1,4 @@
--- viewing: a row a client and property; the comment may lack.
+-- viewing: a row a client and a property; comment is NULL where there is none.
 use Rattle.std.specs.Prelude.{[], ◌∷◌, codes}
 use Rattle.sqlite_value.specs.Keys.{plain}
 use Rattle.sqlite_schema.specs.declared.schema.Kind.TheVariants.{Text}

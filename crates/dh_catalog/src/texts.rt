@@ -1,4 +1,4 @@
-//! The texts that make the tables and their indexes.
+//! The texts that make the tables and their indexes. A table comes behind those that it refers to.
 
 /// `meta`: one row with the version and the months.
 pub const META: &str = "CREATE TABLE meta (\
@@ -28,7 +28,7 @@ pub const OWNER: &str = "CREATE TABLE owner (\
     address TEXT NOT NULL, \
     telephone TEXT NOT NULL) STRICT";
 
-/// `property`: a row a property, by its number; nobody manages one without staff_no.
+/// `property`: a row a property, by its number; staff_no is NULL where nobody manages it.
 pub const PROPERTY: &str = "CREATE TABLE property (\
     property_no TEXT NOT NULL PRIMARY KEY, \
     street TEXT NOT NULL, \
@@ -49,7 +49,7 @@ pub const CLIENT: &str = "CREATE TABLE client (\
     pref_type TEXT NOT NULL, \
     max_rent INTEGER NOT NULL) STRICT";
 
-/// `registration`: a row a client and branch.
+/// `registration`: a row a client and a branch.
 pub const REGISTRATION: &str = "CREATE TABLE registration (\
     client_no TEXT NOT NULL REFERENCES client, \
     branch_no TEXT NOT NULL REFERENCES branch, \
@@ -57,7 +57,7 @@ pub const REGISTRATION: &str = "CREATE TABLE registration (\
     day TEXT NOT NULL, \
     PRIMARY KEY (client_no, branch_no)) STRICT";
 
-/// `viewing`: a row a client and property; the comment may lack.
+/// `viewing`: a row a client and a property; comment is NULL where there is none.
 pub const VIEWING: &str = "CREATE TABLE viewing (\
     client_no TEXT NOT NULL REFERENCES client, \
     property_no TEXT NOT NULL REFERENCES property, \
@@ -65,7 +65,7 @@ pub const VIEWING: &str = "CREATE TABLE viewing (\
     comment TEXT, \
     PRIMARY KEY (client_no, property_no)) STRICT";
 
-/// `inspection`: a row a property and day.
+/// `inspection`: a row a property and a day.
 pub const INSPECTION: &str = "CREATE TABLE inspection (\
     property_no TEXT NOT NULL REFERENCES property, \
     day TEXT NOT NULL, \
@@ -83,7 +83,7 @@ pub const LEASE: &str = "CREATE TABLE lease (\
     method TEXT NOT NULL, \
     rent INTEGER NOT NULL) STRICT";
 
-/// `charge`: a row a lease and its k-th month.
+/// `charge`: a row a charge of a lease, by its place k among them.
 pub const CHARGE: &str = "CREATE TABLE charge (\
     lease_no INTEGER NOT NULL REFERENCES lease, \
     k INTEGER NOT NULL, \
@@ -92,7 +92,7 @@ pub const CHARGE: &str = "CREATE TABLE charge (\
     amount INTEGER NOT NULL, \
     PRIMARY KEY (lease_no, k)) STRICT";
 
-/// `receipt`: a row a receipt, by its number; its request key is of no other.
+/// `receipt`: a row a receipt, by its number; no two have the same request key.
 pub const RECEIPT: &str = "CREATE TABLE receipt (\
     receipt_no INTEGER PRIMARY KEY, \
     req_key TEXT NOT NULL UNIQUE, \
@@ -101,7 +101,7 @@ pub const RECEIPT: &str = "CREATE TABLE receipt (\
     amount INTEGER NOT NULL, \
     day TEXT NOT NULL) STRICT";
 
-/// `run`: a row a month whose run was begun; its request key is of no other.
+/// `run`: a row a month whose run was opened; no two have the same request key.
 pub const RUN: &str = "CREATE TABLE run (\
     month INTEGER PRIMARY KEY, \
     req_key TEXT NOT NULL UNIQUE, \
@@ -109,7 +109,7 @@ pub const RUN: &str = "CREATE TABLE run (\
     due_total INTEGER NOT NULL, \
     closed INTEGER NOT NULL) STRICT";
 
-/// `part`: a row a month and branch: what a run has done there.
+/// `part`: a row a branch and a month: what the run has done there.
 pub const PART: &str = "CREATE TABLE part (\
     month INTEGER NOT NULL REFERENCES run, \
     branch_no TEXT NOT NULL REFERENCES branch, \
@@ -118,19 +118,19 @@ pub const PART: &str = "CREATE TABLE part (\
     due_total INTEGER NOT NULL, \
     PRIMARY KEY (month, branch_no)) STRICT";
 
-/// The index `property_staff`.
+/// The index of the properties that a member of staff manages.
 pub const PROPERTY_STAFF: &str = "CREATE INDEX property_staff ON property (staff_no)";
 
-/// The index `lease_property`.
+/// The index of the leases of a property.
 pub const LEASE_PROPERTY: &str = "CREATE INDEX lease_property ON lease (property_no)";
 
-/// The index `lease_client`.
+/// The index of the leases of a client, and those of a client that start on a day.
 pub const LEASE_CLIENT: &str = "CREATE INDEX lease_client ON lease (client_no, start_day)";
 
-/// The index `charge_month`.
+/// The index of the charges of a month.
 pub const CHARGE_MONTH: &str = "CREATE INDEX charge_month ON charge (month)";
 
-/// The index `receipt_lease`.
+/// The index of the receipts of a lease, and those of a kind.
 pub const RECEIPT_LEASE: &str = "CREATE INDEX receipt_lease ON receipt (lease_no, kind)";
 
 /// The texts in the order in which they are run.
