@@ -1,9 +1,9 @@
 -- The texts build our schema.
-use Rattle.std.proofs.Common.{◌≡◌, ℕ, List, inl, inr, refl, sym, subst, map, drop, Ok, Err, Result, OnOk}
+use Rattle.std.proofs.Common.{◌≡◌, ◌∙◌, ◌++◌, ap, ℕ, List, inl, inr, refl, sym, subst, map, drop, Ok, Err, Result, OnOk}
 use Rattle.sqlite_schema.specs.declared.schema.Schema.{Schema}
 use Rattle.sqlite.specs.State.{State}
 use Rattle.dh_catalog.specs.declared.texts.TheConstants.{TEXTS}
-use Rattle.dh_catalog.specs.Layout.{no_schema, property_schema, inspection_schema, part_schema, our_schema}
+use Rattle.dh_catalog.specs.Layout.{no_schema, property_schema, inspection_schema, part_schema, our_schema, our_tables}
 use Rattle.dh_catalog.specs.Meanings.{Build}
 use Rattle.dh_catalog.specs.Making.{AreEmpty, HasEmptyTables, Makes}
 use Rattle.dh_catalog.proofs.MetaText.{meta_is}
@@ -46,5 +46,6 @@ pub made_all : {E : Type 0} (r : Result (Unit {0}) E) (old new : State) → old.
     → OnOk r (HasEmptyTables new)
 made_all (Err e) old new has makes = tt
 made_all (Ok done) old new has makes =
-    let none = sym has in
-    makes our_schema (subst (λ s. Build all_texts s our_schema) none all_build) (subst (λ (s : Schema). AreEmpty s.tables old.now.trees) none tt)
+    let it = makes our_schema (subst (λ s. Build all_texts s our_schema) (sym has) all_build) in
+    let made : it.1.made ≡ our_tables = sym (sym (ap (λ (s : Schema). s.tables) it.0.schema_is) ∙ it.1.behind ∙ ap (λ (s : Schema). s.tables ++ it.1.made) has) in
+    (it.0, subst (λ tables. AreEmpty tables new.now.trees) made it.1.empty)
