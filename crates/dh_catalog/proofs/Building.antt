@@ -47,5 +47,6 @@ pub made_all : {E : Type 0} (r : Result (Unit {0}) E) (old new : State) → old.
 made_all (Err e) old new has makes = tt
 made_all (Ok done) old new has makes =
     let it = makes our_schema (subst (λ s. Build all_texts s our_schema) (sym has) all_build) in
-    let made : it.1.made ≡ our_tables = sym (sym (ap (λ (s : Schema). s.tables) it.0.schema_is) ∙ it.1.behind ∙ ap (λ (s : Schema). s.tables ++ it.1.made) has) in
-    (it.0, subst (λ tables. AreEmpty tables new.now.trees) made it.1.empty)
+    let all : our_tables ≡ new.now.schema.tables = sym (ap (λ (s : Schema). s.tables) it.0.schema_is) in
+    let made : our_tables ≡ it.1.made = all ∙ it.1.behind ∙ ap (λ (s : Schema). s.tables ++ it.1.made) has in
+    (it.0, subst (λ tables. AreEmpty tables new.now.trees) (sym made) it.1.empty)

@@ -1,5 +1,6 @@
 -- Texts that are run one after the other.
-use Rattle.std.proofs.Common.{◌∙◌, ◌++◌, ◌+◌, ◌<◌, ◌≤◌, length, drop, get_or, Bor, ℕ, List, [], ◌∷◌, inl, IsTrue, refl, sym, ap, subst, arith, append-nil, append_assoc}
+use Rattle.std.proofs.Common.{◌∙◌, ◌++◌, ◌+◌, ◌<◌, ◌≤◌, length, drop, get_or, Bor, ℕ, List}
+use Rattle.std.proofs.Common.{[], ◌∷◌, inl, IsTrue, refl, sym, ap, subst, arith, append-nil, append_assoc}
 use Rattle.std.proofs.lemmas.List.{drop_more, drop_all}
 use Rattle.sqlite_trees.specs.Tree.{Trees}
 use Rattle.sqlite_schema.specs.declared.schema.Table.{Table}
@@ -108,7 +109,8 @@ abbrev pub IsAt : List (Bor (List ℕ)) → ℕ → State → State → Type 0
 IsAt texts at old now = HasGone (all_of texts) (all_of (drop at texts)) old now
 
 module _ (texts : List (Bor (List ℕ))) (at : ℕ) (old new : State) where
-  pub next_at : (text : Bor (List ℕ)) (now : State) → at < length texts → IsAt texts at old now → HasRun (get_or texts at text).now now new → IsAt texts (at + 1) old new
+  pub next_at : (text : Bor (List ℕ)) (now : State) → at < length texts → IsAt texts at old now
+      → HasRun (get_or texts at text).now now new → IsAt texts (at + 1) old new
   next_at text now low gone ran =
       let is = subst (λ left. HasGone (all_of texts) (all_of left) old now) (drop_more texts at text low) gone in
       gone_on (all_of texts) (all_of (drop (at + 1) texts)) (get_or texts at text).now old now new is ran
