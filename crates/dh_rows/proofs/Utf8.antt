@@ -15,10 +15,11 @@ use Rattle.dh_values.proofs.Ascii.{is_key-IsUtf8, and_left}
 use Rattle.dh_days.specs.Months.{IsMonth, month_text, two_digits}
 use Rattle.dh_days.specs.Days.{IsDay, day_text, day_until}
 use Rattle.dh_days.proofs.ReadDays.{read_day_known, read_day_printed}
-use Rattle.dh_rows.specs.Cells.{IsTextCell, is_text_that}
+use Rattle.dh_rows.specs.Cells.{IsTextCell, is_read_cell, is_text_that}
 
 module _ (test : List ℕ → Bool) (are_text : (bytes : List ℕ) → test bytes ≡ true → IsUtf8 bytes) where
   fails : (v : Value) → ¬ IsTextCell v → is_text_that test v ≡ true → false ≡ true
+  unfolding is_text_that
   fails (Text bytes) bad h = absurd (bad (are_text bytes h))
   fails Null bad h = h
   fails (Int n) bad h = h
@@ -28,6 +29,18 @@ module _ (test : List ℕ → Bool) (are_text : (bytes : List ℕ) → test byte
   -- what a reader owes where the column is no text
   pub no_value : (v : Value) → ¬ IsTextCell v → (false ≡ true → is_text_that test v ≡ true) × (is_text_that test v ≡ true → false ≡ true)
   no_value v bad = ((λ e. absurd (cc)), fails v bad)
+
+module _ {T : Type 0} (read : List ℕ → Option T) (are_text : (bytes : List ℕ) → is_some (read bytes) ≡ true → IsUtf8 bytes) where
+  is_unread : (v : Value) → ¬ IsTextCell v → is_read_cell read v ≡ true → false ≡ true
+  unfolding is_read_cell
+  is_unread (Text bytes) bad h = absurd (bad (are_text bytes h))
+  is_unread Null bad h = h
+  is_unread (Int n) bad h = h
+  is_unread (Real x) bad h = h
+  is_unread (Blob b) bad h = h
+
+  pub no_read_value : (v : Value) → ¬ IsTextCell v → (false ≡ true → is_read_cell read v ≡ true) × (is_read_cell read v ≡ true → false ≡ true)
+  no_read_value v bad = ((λ e. absurd (cc)), is_unread v bad)
 
 pub texts_are_utf8 : (most : ℕ) (bytes : List ℕ) → is_text most bytes ≡ true → IsUtf8 bytes
 texts_are_utf8 most bytes h = IsUtf8-from_is_utf8 bytes (and_left _ _ (and_left _ _ (and_left _ _ h)))

@@ -19,7 +19,7 @@ IsTextCell (Text bytes) = IsUtf8 bytes
 IsTextCell _ = ⊥
 
 -- a text that passes the test
-abbrev pub is_text_that : (List ℕ → Bool) → Value → Bool
+unfoldable pub is_text_that : (List ℕ → Bool) → Value → Bool
 is_text_that test (Text bytes) = test bytes
 is_text_that test _ = false
 
@@ -38,8 +38,9 @@ abbrev pub is_text_cell : ℕ → Value → Bool
 is_text_cell most v = is_text_that (is_text most) v
 
 -- a text that is read as a value
-abbrev pub is_read_cell : {T : Type 0} → (List ℕ → Option T) → Value → Bool
-is_read_cell read v = is_text_that (λ bytes. is_some (read bytes)) v
+unfoldable pub is_read_cell : {T : Type 0} → (List ℕ → Option T) → Value → Bool
+is_read_cell read (Text bytes) = is_some (read bytes)
+is_read_cell read _ = false
 
 -- the value that the text is read as, and else this one
 abbrev pub read_in : {T : Type 0} → (List ℕ → Option T) → T → Value → T
@@ -143,9 +144,11 @@ through_in v = through_of (number_in v)
 
 -- a day that passes as a text is read back from its text
 pub day_back : (day : ℕ) → is_day_cell (Text (day_text day)) ≡ true → day_in (Text (day_text day)) ≡ day
+unfolding is_read_cell
 day_back day good = ap (λ o. unwrap_or o 0) (text_read_again LAST_MONTH_OF_ENTRY_DAYS day good)
 
 pub due_day_back : (day : ℕ) → is_due_day_cell (Text (day_text day)) ≡ true → due_day_in (Text (day_text day)) ≡ day
+unfolding is_read_cell
 due_day_back day good = ap (λ o. unwrap_or o 0) (text_read_again LAST_ENTRY_MONTH day good)
 
 pub flag_back : (flag : Bool) → flag_in (Int (pos (flag_number flag))) ≡ flag

@@ -2,7 +2,6 @@
 use Rattle.std.specs.Prelude.{◌≡◌, Bool, true, ◌&&◌, ◌==◌, [], ◌∷◌, length}
 use Rattle.sqlite_value.specs.declared.value.Value.TheVariants.{Text}
 use Rattle.sqlite_value.specs.Order.{Row, column}
-use Rattle.dh_values.specs.Texts.{is_id}
 use Rattle.dh_values.proofs.Ascii.{and_left, and_right}
 use Rattle.dh_days.specs.Days.{day_text}
 use Rattle.dh_types.specs.declared.viewing.Inspection.{Inspection}
@@ -28,5 +27,5 @@ inspection_in row = record {
 -- a row is read back as what it was made of
 pub inspection_back : (n : Inspection) → is_inspection_row (inspection_row n) ≡ true → inspection_in (inspection_row n) ≡ n
 inspection_back n good =
-    let day = day_back n.day (and_right (is_id n.property) _ (and_left _ _ (and_left _ _ good))) in
+    let day = day_back n.day (and_right (is_id_cell (Text n.property)) _ (and_left _ _ (and_left _ _ good))) in
     λ i. record { property = n.property; day = day i; staff = n.staff; comment = n.comment }

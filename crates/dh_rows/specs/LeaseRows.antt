@@ -2,7 +2,6 @@
 use Rattle.std.specs.Prelude.{◌≡◌, pos, Bool, true, ◌&&◌, ◌==◌, [], ◌∷◌, length, refl}
 use Rattle.sqlite_value.specs.declared.value.Value.TheVariants.{Int, Text}
 use Rattle.sqlite_value.specs.Order.{Row, column}
-use Rattle.dh_values.specs.Texts.{is_id}
 use Rattle.dh_values.proofs.Ascii.{and_left, and_right}
 use Rattle.dh_values.specs.declared.limits.TheConstants.{LEAST_LEASE_MONTHS, MOST_LEASE_MONTHS}
 use Rattle.dh_values.specs.declared.payment_method.PaymentMethod.{PaymentMethod}
@@ -48,7 +47,7 @@ method_back Transfer = refl
 pub lease_back : (l : Lease) → is_lease_row (lease_row l) ≡ true → lease_in (lease_row l) ≡ l
 lease_back l good =
     let t = l.terms in
-    let first = is_named_number_cell (Int (pos t.number)) && is_id t.client && is_id t.property in
+    let first = is_named_number_cell (Int (pos t.number)) && is_id_cell (Text t.client) && is_id_cell (Text t.property) in
     let start = day_back t.start (and_right first _ (and_left _ _ (and_left _ _ (and_left _ _ good)))) in
     λ i. record {
       terms = record { number = t.number; client = t.client; property = t.property; start = start i; months = t.months; method = method_back t.method i };

@@ -2,7 +2,6 @@
 use Rattle.std.specs.Prelude.{◌≡◌, pos, Bool, true, ◌&&◌, ◌==◌, [], ◌∷◌, length}
 use Rattle.sqlite_value.specs.declared.value.Value.TheVariants.{Int, Text}
 use Rattle.sqlite_value.specs.Order.{Row, column}
-use Rattle.dh_values.specs.Texts.{is_id}
 use Rattle.dh_values.proofs.Ascii.{and_left, and_right}
 use Rattle.dh_types.specs.declared.run.Part.{Part}
 use Rattle.dh_rows.specs.Cells.{is_count_cell, is_id_cell, is_month_cell, is_pence_cell, is_through_cell, number_in, text_in, through_back}
@@ -30,5 +29,5 @@ part_in row = record {
 -- a row is read back as what it was made of
 pub part_back : (p : Part) → is_part_row (part_row p) ≡ true → part_in (part_row p) ≡ p
 part_back p good =
-    let through = through_back p.through (and_right (is_month_cell (Int (pos p.month)) && is_id p.branch) _ (and_left _ _ (and_left _ _ good))) in
+    let through = through_back p.through (and_right (is_month_cell (Int (pos p.month)) && is_id_cell (Text p.branch)) _ (and_left _ _ (and_left _ _ good))) in
     λ i. record { month = p.month; branch = p.branch; through = through i; count = p.count; total = p.total }

@@ -2,7 +2,6 @@
 use Rattle.std.specs.Prelude.{◌≡◌, Bool, true, ◌&&◌, ◌==◌, [], ◌∷◌, length}
 use Rattle.sqlite_value.specs.declared.value.Value.TheVariants.{Text}
 use Rattle.sqlite_value.specs.Order.{Row, column}
-use Rattle.dh_values.specs.Texts.{is_id}
 use Rattle.dh_values.proofs.Ascii.{and_right}
 use Rattle.dh_days.specs.Days.{day_text}
 use Rattle.dh_types.specs.declared.client.Registration.{Registration}
@@ -28,5 +27,5 @@ registration_in row = record {
 -- a row is read back as what it was made of
 pub registration_back : (r : Registration) → is_registration_row (registration_row r) ≡ true → registration_in (registration_row r) ≡ r
 registration_back r good =
-    let day = day_back r.day (and_right (is_id r.client && is_id r.branch && is_id r.staff) _ good) in
+    let day = day_back r.day (and_right (is_id_cell (Text r.client) && is_id_cell (Text r.branch) && is_id_cell (Text r.staff)) _ good) in
     λ i. record { client = r.client; branch = r.branch; staff = r.staff; day = day i }

@@ -2,7 +2,6 @@
 use Rattle.std.specs.Prelude.{◌≡◌, Bool, true, ◌&&◌, ◌==◌, [], ◌∷◌, length}
 use Rattle.sqlite_value.specs.declared.value.Value.TheVariants.{Text}
 use Rattle.sqlite_value.specs.Order.{Row, column}
-use Rattle.dh_values.specs.Texts.{is_id}
 use Rattle.dh_values.proofs.Ascii.{and_left, and_right}
 use Rattle.dh_days.specs.Days.{day_text}
 use Rattle.dh_types.specs.declared.viewing.Viewing.{Viewing}
@@ -29,5 +28,5 @@ viewing_in row = record {
 -- a row is read back as what it was made of
 pub viewing_back : (v : Viewing) → is_viewing_row (viewing_row v) ≡ true → viewing_in (viewing_row v) ≡ v
 viewing_back v good =
-    let day = day_back v.day (and_right (is_id v.client && is_id v.property) _ (and_left _ _ good)) in
+    let day = day_back v.day (and_right (is_id_cell (Text v.client) && is_id_cell (Text v.property)) _ (and_left _ _ good)) in
     λ i. record { client = v.client; property = v.property; day = day i; comment = optional_back v.comment i }

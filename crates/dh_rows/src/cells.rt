@@ -35,6 +35,7 @@ fn str_at(row: &Row, at: usize) -> Option<&str>
 }
 
 /// The code in the column, where it is one.
+#[tactic(auto, unfolding(crate::specs::Cells::is_text_that))]
 pub(crate) fn id_at(row: &Row, at: usize) -> Option<Id>
     requires { at < length row.now }
     ensures read { IfSome result (λ id. column row.now at ≡ Text id) }
@@ -47,6 +48,7 @@ pub(crate) fn id_at(row: &Row, at: usize) -> Option<Id>
 }
 
 /// The key of a command in the column, where it is one.
+#[tactic(auto, unfolding(crate::specs::Cells::is_text_that))]
 pub(crate) fn key_at(row: &Row, at: usize) -> Option<Key>
     requires { at < length row.now }
     ensures read { IfSome result (λ key. column row.now at ≡ Text key) }
@@ -59,6 +61,7 @@ pub(crate) fn key_at(row: &Row, at: usize) -> Option<Key>
 }
 
 /// The short text in the column, where it is one.
+#[tactic(auto, unfolding(crate::specs::Cells::is_text_that))]
 pub(crate) fn text_at(alloc: Global, row: &Row, at: usize) -> Result<Option<Text60>, AllocError>
     requires { at < length row.now }
     ensures read { IfOk result (λ found. IfSome found (λ text. column row.now at ≡ Text text)) }
@@ -71,6 +74,7 @@ pub(crate) fn text_at(alloc: Global, row: &Row, at: usize) -> Result<Option<Text
 }
 
 /// The comment in the column, where it is one.
+#[tactic(auto, unfolding(crate::specs::Cells::is_text_that))]
 pub(crate) fn comment_at(alloc: Global, row: &Row, at: usize) -> Result<Option<Comment>, AllocError>
     requires { at < length row.now }
     ensures read { IfOk result (λ found. IfSome found (λ text. column row.now at ≡ Text text)) }
@@ -83,6 +87,7 @@ pub(crate) fn comment_at(alloc: Global, row: &Row, at: usize) -> Result<Option<C
 }
 
 /// The position in the column, where it is one.
+#[tactic(auto, unfolding(crate::specs::Cells::is_read_cell))]
 pub(crate) fn position_at(row: &Row, at: usize) -> Option<Position>
     requires { at < length row.now }
     ensures read { IfSome result (λ position. column row.now at ≡ Text (position_text position)) }
@@ -95,6 +100,7 @@ pub(crate) fn position_at(row: &Row, at: usize) -> Option<Position>
 }
 
 /// The type of a property in the column, where it is one.
+#[tactic(auto, unfolding(crate::specs::Cells::is_read_cell))]
 pub(crate) fn property_type_at(row: &Row, at: usize) -> Option<PropertyType>
     requires { at < length row.now }
     ensures read { IfSome result (λ property_type. column row.now at ≡ Text (property_type_text property_type)) }
@@ -107,6 +113,7 @@ pub(crate) fn property_type_at(row: &Row, at: usize) -> Option<PropertyType>
 }
 
 /// The method of payment in the column, where it is one.
+#[tactic(auto, unfolding(crate::specs::Cells::is_read_cell))]
 pub(crate) fn payment_method_at(row: &Row, at: usize) -> Option<PaymentMethod>
     requires { at < length row.now }
     ensures read { IfSome result (λ method. column row.now at ≡ Text (payment_method_text method)) }
@@ -119,6 +126,7 @@ pub(crate) fn payment_method_at(row: &Row, at: usize) -> Option<PaymentMethod>
 }
 
 /// The kind of a receipt in the column, where it is one.
+#[tactic(auto, unfolding(crate::specs::Cells::is_read_cell))]
 pub(crate) fn receipt_kind_at(row: &Row, at: usize) -> Option<ReceiptKind>
     requires { at < length row.now }
     ensures read { IfSome result (λ kind. column row.now at ≡ Text (receipt_kind_text kind)) }
@@ -131,6 +139,7 @@ pub(crate) fn receipt_kind_at(row: &Row, at: usize) -> Option<ReceiptKind>
 }
 
 /// The day in the column, where it is one that lines know.
+#[tactic(auto, unfolding(crate::specs::Cells::is_read_cell))]
 pub(crate) fn day_at(row: &Row, at: usize) -> Option<EntryDay>
     requires { at < length row.now }
     ensures read { IfSome result (λ day. column row.now at ≡ Text (day_text day)) }
@@ -143,6 +152,7 @@ pub(crate) fn day_at(row: &Row, at: usize) -> Option<EntryDay>
 }
 
 /// The day in the column, where it is one on which rent can fall due.
+#[tactic(auto, unfolding(crate::specs::Cells::is_read_cell))]
 pub(crate) fn due_day_at(row: &Row, at: usize) -> Option<Day>
     requires { at < length row.now }
     ensures read { IfSome result (λ day. column row.now at ≡ Text (day_text day)) }

@@ -2,6 +2,7 @@
 
 use crate::Record;
 use crate::cells::{id_at, property_type_at, rent_at, text_at};
+use crate::params::{id_param, property_type_param, text_param};
 use dh_types::{Client, Id};
 use sqlite::Row;
 use sqlite::types::ValueRef;
@@ -37,10 +38,10 @@ impl Record for Client {
         _day: &'a [u8],
     ) -> Result<Vec<ValueRef<'a>>, AllocError> {
         [
-            ValueRef::Text(self.number.as_str().as_bytes()),
-            ValueRef::Text(self.name.as_str().as_bytes()),
-            ValueRef::Text(self.telephone.as_str().as_bytes()),
-            ValueRef::Text(self.preferred_type.as_str().as_bytes()),
+            id_param(&self.number),
+            text_param(&self.name),
+            text_param(&self.telephone),
+            property_type_param(self.preferred_type),
             ValueRef::Int(i64::from(self.greatest_rent.pence())),
         ]
         .to_vec(alloc)

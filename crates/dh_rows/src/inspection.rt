@@ -2,7 +2,7 @@
 
 use crate::Record;
 use crate::cells::{comment_at, day_at, id_at};
-use crate::params::day_param;
+use crate::params::{comment_param, day_param, id_param};
 use dh_types::{EntryDay, Id, Inspection};
 use sqlite::Row;
 use sqlite::types::ValueRef;
@@ -38,10 +38,10 @@ impl Record for Inspection {
 
     fn to_row<'a>(&'a self, alloc: Global, day: &'a [u8]) -> Result<Vec<ValueRef<'a>>, AllocError> {
         [
-            ValueRef::Text(self.property.as_str().as_bytes()),
+            id_param(&self.property),
             day_param(self.day, day),
-            ValueRef::Text(self.staff.as_str().as_bytes()),
-            ValueRef::Text(self.comment.as_str().as_bytes()),
+            id_param(&self.staff),
+            comment_param(&self.comment),
         ]
         .to_vec(alloc)
     }

@@ -2,7 +2,7 @@
 
 use crate::Record;
 use crate::cells::{bounded_at, day_at, id_at, payment_method_at, rent_at};
-use crate::params::day_param;
+use crate::params::{day_param, id_param, payment_method_param};
 use dh_types::{Lease, LeaseNo, LeaseTerms};
 use sqlite::Row;
 use sqlite::types::ValueRef;
@@ -39,11 +39,11 @@ impl Record for Lease {
     fn to_row<'a>(&'a self, alloc: Global, day: &'a [u8]) -> Result<Vec<ValueRef<'a>>, AllocError> {
         [
             ValueRef::Int(i64::from(self.terms.number.number())),
-            ValueRef::Text(self.terms.client.as_str().as_bytes()),
-            ValueRef::Text(self.terms.property.as_str().as_bytes()),
+            id_param(&self.terms.client),
+            id_param(&self.terms.property),
             day_param(self.terms.start, day),
             ValueRef::Int(i64::from(self.terms.months.number())),
-            ValueRef::Text(self.terms.method.as_str().as_bytes()),
+            payment_method_param(self.terms.method),
             ValueRef::Int(i64::from(self.rent.pence())),
         ]
         .to_vec(alloc)

@@ -2,6 +2,7 @@
 
 use crate::Record;
 use crate::cells::{id_at, text_at};
+use crate::params::{id_param, text_param};
 use dh_types::{Id, Owner};
 use sqlite::Row;
 use sqlite::types::ValueRef;
@@ -37,10 +38,10 @@ impl Record for Owner {
         _day: &'a [u8],
     ) -> Result<Vec<ValueRef<'a>>, AllocError> {
         [
-            ValueRef::Text(self.number.as_str().as_bytes()),
-            ValueRef::Text(self.name.as_str().as_bytes()),
-            ValueRef::Text(self.address.as_str().as_bytes()),
-            ValueRef::Text(self.telephone.as_str().as_bytes()),
+            id_param(&self.number),
+            text_param(&self.name),
+            text_param(&self.address),
+            text_param(&self.telephone),
         ]
         .to_vec(alloc)
     }

@@ -3,7 +3,7 @@
 use crate::Record;
 use crate::cells::{id_at, month_at, number_at, pence_at, through_at};
 use crate::limits::MOST_COUNT;
-use crate::params::through_param;
+use crate::params::{id_param, through_param};
 use dh_types::{EntryMonth, Id, Part};
 use sqlite::Row;
 use sqlite::types::ValueRef;
@@ -40,7 +40,7 @@ impl Record for Part {
     ) -> Result<Vec<ValueRef<'a>>, AllocError> {
         [
             ValueRef::Int(i64::from(self.month.number())),
-            ValueRef::Text(self.branch.as_str().as_bytes()),
+            id_param(&self.branch),
             through_param(self.through),
             ValueRef::Int(i64::from(self.count)),
             ValueRef::Int(self.total.pence() as i64),

@@ -2,7 +2,7 @@
 
 use crate::Record;
 use crate::cells::{bounded_at, id_at, optional_id_at, property_type_at, rent_at, text_at};
-use crate::params::optional_id_param;
+use crate::params::{id_param, optional_id_param, property_type_param, text_param};
 use dh_types::{Id, Property};
 use sqlite::Row;
 use sqlite::types::ValueRef;
@@ -38,16 +38,16 @@ impl Record for Property {
         _day: &'a [u8],
     ) -> Result<Vec<ValueRef<'a>>, AllocError> {
         [
-            ValueRef::Text(self.number.as_str().as_bytes()),
-            ValueRef::Text(self.street.as_str().as_bytes()),
-            ValueRef::Text(self.city.as_str().as_bytes()),
-            ValueRef::Text(self.postcode.as_str().as_bytes()),
-            ValueRef::Text(self.property_type.as_str().as_bytes()),
+            id_param(&self.number),
+            text_param(&self.street),
+            text_param(&self.city),
+            text_param(&self.postcode),
+            property_type_param(self.property_type),
             ValueRef::Int(i64::from(self.rooms.number())),
             ValueRef::Int(i64::from(self.rent.pence())),
-            ValueRef::Text(self.owner.as_str().as_bytes()),
+            id_param(&self.owner),
             optional_id_param(&self.staff),
-            ValueRef::Text(self.branch.as_str().as_bytes()),
+            id_param(&self.branch),
         ]
         .to_vec(alloc)
     }

@@ -2,7 +2,7 @@
 
 use crate::Record;
 use crate::cells::{amount_at, bounded_at, day_at, key_at, receipt_kind_at};
-use crate::params::day_param;
+use crate::params::{day_param, key_param, receipt_kind_param};
 use dh_types::{Payment, Receipt, ReceiptNo};
 use sqlite::Row;
 use sqlite::types::ValueRef;
@@ -39,9 +39,9 @@ impl Record for Receipt {
     fn to_row<'a>(&'a self, alloc: Global, day: &'a [u8]) -> Result<Vec<ValueRef<'a>>, AllocError> {
         [
             ValueRef::Int(i64::from(self.number.number())),
-            ValueRef::Text(self.key.as_str().as_bytes()),
+            key_param(&self.key),
             ValueRef::Int(i64::from(self.payment.lease.number())),
-            ValueRef::Text(self.payment.kind.as_str().as_bytes()),
+            receipt_kind_param(self.payment.kind),
             ValueRef::Int(i64::from(self.payment.amount.pence())),
             day_param(self.payment.day, day),
         ]

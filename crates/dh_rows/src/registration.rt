@@ -2,7 +2,7 @@
 
 use crate::Record;
 use crate::cells::{day_at, id_at};
-use crate::params::day_param;
+use crate::params::{day_param, id_param};
 use dh_types::{Id, Registration};
 use sqlite::Row;
 use sqlite::types::ValueRef;
@@ -38,9 +38,9 @@ impl Record for Registration {
 
     fn to_row<'a>(&'a self, alloc: Global, day: &'a [u8]) -> Result<Vec<ValueRef<'a>>, AllocError> {
         [
-            ValueRef::Text(self.client.as_str().as_bytes()),
-            ValueRef::Text(self.branch.as_str().as_bytes()),
-            ValueRef::Text(self.staff.as_str().as_bytes()),
+            id_param(&self.client),
+            id_param(&self.branch),
+            id_param(&self.staff),
             day_param(self.day, day),
         ]
         .to_vec(alloc)

@@ -3,7 +3,7 @@
 use crate::Record;
 use crate::cells::{flag_at, key_at, month_at, number_at, pence_at};
 use crate::limits::MOST_COUNT;
-use crate::params::flag_param;
+use crate::params::{flag_param, key_param};
 use dh_types::{EntryMonth, Run};
 use sqlite::Row;
 use sqlite::types::ValueRef;
@@ -40,7 +40,7 @@ impl Record for Run {
     ) -> Result<Vec<ValueRef<'a>>, AllocError> {
         [
             ValueRef::Int(i64::from(self.month.number())),
-            ValueRef::Text(self.key.as_str().as_bytes()),
+            key_param(&self.key),
             ValueRef::Int(i64::from(self.count)),
             ValueRef::Int(self.total.pence() as i64),
             flag_param(self.is_closed),

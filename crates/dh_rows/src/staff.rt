@@ -2,6 +2,7 @@
 
 use crate::Record;
 use crate::cells::{id_at, position_at, text_at};
+use crate::params::{id_param, position_param, text_param};
 use dh_types::{Id, Staff};
 use sqlite::Row;
 use sqlite::types::ValueRef;
@@ -37,10 +38,10 @@ impl Record for Staff {
         _day: &'a [u8],
     ) -> Result<Vec<ValueRef<'a>>, AllocError> {
         [
-            ValueRef::Text(self.number.as_str().as_bytes()),
-            ValueRef::Text(self.name.as_str().as_bytes()),
-            ValueRef::Text(self.position.as_str().as_bytes()),
-            ValueRef::Text(self.branch.as_str().as_bytes()),
+            id_param(&self.number),
+            text_param(&self.name),
+            position_param(self.position),
+            id_param(&self.branch),
         ]
         .to_vec(alloc)
     }

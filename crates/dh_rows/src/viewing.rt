@@ -2,7 +2,7 @@
 
 use crate::Record;
 use crate::cells::{day_at, id_at, optional_comment_at};
-use crate::params::{day_param, optional_comment_param};
+use crate::params::{day_param, id_param, optional_comment_param};
 use dh_types::{Id, Viewing};
 use sqlite::Row;
 use sqlite::types::ValueRef;
@@ -38,8 +38,8 @@ impl Record for Viewing {
 
     fn to_row<'a>(&'a self, alloc: Global, day: &'a [u8]) -> Result<Vec<ValueRef<'a>>, AllocError> {
         [
-            ValueRef::Text(self.client.as_str().as_bytes()),
-            ValueRef::Text(self.property.as_str().as_bytes()),
+            id_param(&self.client),
+            id_param(&self.property),
             day_param(self.day, day),
             optional_comment_param(&self.comment),
         ]
