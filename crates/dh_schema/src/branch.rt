@@ -48,7 +48,7 @@ pub fn insert_branch<S: Alter>(
         ⊎ IsRolledBack (state S.Store tx.old.conn.now) (state S.Store tx.new.conn.now)) }
     ensures crash { Survives (state S.Store tx.old.conn.now) (state S.Store tx.new.conn.now) (λ _. ⊥) }
 {
-    let values = branch.to_row(alloc)?;
+    let values = branch.to_row(alloc, &[])?;
     tx.execute(
         "INSERT INTO branch (branch_no, street, city, postcode) VALUES (?1, ?2, ?3, ?4)",
         &values,
