@@ -6,6 +6,7 @@ use Rattle.std.specs.Option.{option_map}
 use Rattle.std.specs.FinMap.{contains_key, get, len, values}
 use Rattle.dh_values.specs.declared.receipt_kind.ReceiptKind.TheVariants.{Deposit}
 use Rattle.dh_days.specs.Days.{month_of_day}
+use Rattle.dh_values.specs.declared.limits.TheConstants.{MOST_NUMBER}
 use Rattle.dh_types.specs.declared.client.Client.{Client}
 use Rattle.dh_types.specs.declared.lease.Lease.{Lease}
 use Rattle.dh_types.specs.declared.lease.LeaseTerms.{LeaseTerms}
@@ -191,10 +192,10 @@ module _ (month : ℕ) where
 
     receipt_other : (order : ReceiptOrder) → AllOther (receipt_checks books order)
     receipt_other order =
-        both_other (names books.leases order.payment.lease 3 ∷ deposit_checks books order.payment) (unless (nat_lt (len books.receipts) 99999999) refusal.Full
+        both_other (names books.leases order.payment.lease 3 ∷ deposit_checks books order.payment) (unless (nat_lt (len books.receipts) MOST_NUMBER) refusal.Full
         ∷ [])
         (names_other (contains_key books.leases order.payment.lease) 3, deposit_other order.payment)
-        (other_unless (nat_lt (len books.receipts) 99999999) refusal.Full (λ e. cc), tt)
+        (other_unless (nat_lt (len books.receipts) MOST_NUMBER) refusal.Full (λ e. cc), tt)
 
     assigned_unlike : (it : Assignment) (found : Option Property) → Unlike (assigned books it found)
     assigned_unlike it None = λ e. cc

@@ -2,6 +2,7 @@
 use Rattle.std.proofs.Common.{◌≡◌, refl, sym, subst, ℕ, ◌+◌, ◌≤◌, Bool, true, false, nat_eq, nat_lt, ◌&&◌, if◌then◌else◌, [], ◌∷◌, ◌++◌, Option, Some, None}
 use Rattle.std.proofs.Common.{IfSome}
 use Rattle.std.specs.FinMap.{contains_key, get, len, values}
+use Rattle.dh_values.specs.declared.limits.TheConstants.{MOST_NUMBER}
 use Rattle.dh_types.specs.declared.branch.Branch.{Branch}
 use Rattle.dh_types.specs.declared.staff.Staff.{Staff}
 use Rattle.dh_types.specs.declared.owner.Owner.{Owner}
@@ -242,8 +243,8 @@ module _ (books : Books) (run : Option OpenRun) (rows : Change) where
       let no_run = was_no_run books (run_of_key books order.key) accepted rows no_receipt.1 in
       let all = passed (receipt_checks books order) rows given no_run.1 in
       let lease = first_passes (names books.leases order.payment.lease 3) (deposit_checks books order.payment
-      ++ unless (nat_lt (len books.receipts) 99999999) refusal.Full ∷ []) all.1 in
-      let deposit = all_pass (deposit_checks books order.payment) (unless (nat_lt (len books.receipts) 99999999) refusal.Full ∷ []) lease.1 in (
+      ++ unless (nat_lt (len books.receipts) MOST_NUMBER) refusal.Full ∷ []) all.1 in
+      let deposit = all_pass (deposit_checks books order.payment) (unless (nat_lt (len books.receipts) MOST_NUMBER) refusal.Full ∷ []) lease.1 in (
         all.0,
         record {
           closed = free.0;

@@ -8,7 +8,7 @@ ghost use Rattle.dh_model.specs.Answers.{matching_report, report};
 
 use crate::{arrears, branches, matching, run_report, statement, vacant};
 use dh_books::Books;
-use dh_types::{Answer, ClientDay, Question, Refusal};
+use dh_types::{Answer, ClientDay, Question, Refusal, field};
 use std::alloc::{AllocError, Global};
 
 // The properties that match; refused 2 with field 3 where no client has the number.
@@ -16,7 +16,7 @@ fn matching_report(alloc: Global, books: &Books, asked: ClientDay) -> Result<Ans
     ensures { IfOk result (λ answer. report_of answer ≡ matching_report books.now.books (fin.get books.now.books.clients asked.client) asked.day) }
 {
     let Some(client) = books.client(&asked.client) else {
-        return Ok(Answer::Refused(Refusal::Unknown(3)));
+        return Ok(Answer::Refused(Refusal::Unknown(field::ASKED_ABOUT)));
     };
     Ok(Answer::Matching(matching(alloc, books, client, asked.day.day())?))
 }

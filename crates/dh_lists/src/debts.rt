@@ -9,7 +9,7 @@ ghost use Rattle.dh_model.specs.Runs.{is_property_of};
 
 use crate::accounts::Accounts;
 use dh_books::Books;
-use dh_types::{Answer, Arrears, Balance, Debt, Id, Lease, Refusal, Text60};
+use dh_types::{Answer, Arrears, Balance, Debt, Id, Lease, Refusal, Text60, field};
 use std::alloc::{AllocError, Global};
 
 // The name of the client of this number, where he is in the books.
@@ -81,7 +81,7 @@ pub fn arrears(alloc: Global, books: &Books, branch: &Id) -> Result<Answer, Allo
     ensures { IfOk result (λ answer. report_of answer ≡ arrears books.now.books branch.now) }
 {
     if books.branch(branch).is_none() {
-        return Ok(Answer::Refused(Refusal::Unknown(3)));
+        return Ok(Answer::Refused(Refusal::Unknown(field::ASKED_ABOUT)));
     }
     Ok(Answer::Arrears(arrears_of(alloc, books, branch)?))
 }

@@ -7,7 +7,7 @@ ghost use Rattle.dh_model.specs.Answers.{charges_of, receipts_of, statement};
 
 use crate::balance;
 use dh_books::Books;
-use dh_types::{Answer, Balance, Charge, LeaseNo, Receipt, Refusal, Statement};
+use dh_types::{Answer, Balance, Charge, LeaseNo, Receipt, Refusal, Statement, field};
 use std::alloc::{AllocError, Global};
 
 // The charges on the lease, rising by index.
@@ -38,7 +38,7 @@ pub fn statement(alloc: Global, books: &Books, lease: LeaseNo) -> Result<Answer,
     ensures { IfOk result (λ answer. report_of answer ≡ statement books.now.books (fin.get books.now.books.leases lease)) }
 {
     let Some(lease) = books.lease(&lease) else {
-        return Ok(Answer::Refused(Refusal::Unknown(3)));
+        return Ok(Answer::Refused(Refusal::Unknown(field::ASKED_ABOUT)));
     };
     let number = lease.key();
     Ok(Answer::Statement(Statement {

@@ -4,6 +4,7 @@ use Rattle.std.specs.List.{filter, fold, list_any, sum_by}
 use Rattle.std.specs.Ordering.{nat_cmp}
 use Rattle.std.specs.FinMap.{FinMap, contains_key, from_entries, get, values}
 use Rattle.dh_values.specs.declared.receipt_kind.ReceiptKind.TheVariants.{Rent}
+use Rattle.dh_types.specs.declared.field.TheConstants.{ASKED_ABOUT}
 use Rattle.dh_types.specs.declared.property.Property.{Property}
 use Rattle.dh_types.specs.declared.client.Client.{Client}
 use Rattle.dh_types.specs.declared.lease.Lease.{Lease}
@@ -72,15 +73,15 @@ module _ (books : Books) where
   owed owing = fold (λ sum it. sum +ℤ it.balance) (pos 0) owing
 
   abbrev pub matching_report : Option Client → ℕ → Report
-  matching_report None day = NoReport (refusal.Unknown 3)
+  matching_report None day = NoReport (refusal.Unknown ASKED_ABOUT)
   matching_report (Some client) day = MatchingList (matching client day)
 
   abbrev pub statement : Option Lease → Report
-  statement None = NoReport (refusal.Unknown 3)
+  statement None = NoReport (refusal.Unknown ASKED_ABOUT)
   statement (Some lease) = LeaseStatement lease (charges_of lease.terms.number) (receipts_of lease.terms.number) (balance lease.terms.number)
 
   abbrev pub arrears : List ℕ → Report
-  arrears branch = if contains_key books.branches branch then BranchArrears (debts branch) (owed (debts branch)) else NoReport (refusal.Unknown 3)
+  arrears branch = if contains_key books.branches branch then BranchArrears (debts branch) (owed (debts branch)) else NoReport (refusal.Unknown ASKED_ABOUT)
 
   abbrev pub run_report : Option Run → Report
   run_report None = NoReport refusal.NoRun

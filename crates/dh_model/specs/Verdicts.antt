@@ -1,6 +1,10 @@
 -- What the books say of each command: the first check that fails, or the rows that it adds or replaces.
 use Rattle.std.specs.Prelude.{ℕ, ◌+◌, Bool, nat_eq, nat_lt, false, if◌then◌else◌, List, [], ◌∷◌, ◌++◌, Option, Some, None}
 use Rattle.std.specs.FinMap.{get, len}
+use Rattle.dh_values.specs.declared.limits.TheConstants.{MOST_NUMBER}
+use Rattle.dh_types.specs.declared.field.TheConstants.{STAFF_BRANCH, PROPERTY_OWNER, PROPERTY_STAFF, PROPERTY_BRANCH, CHANGED_PROPERTY, ASSIGNED_STAFF}
+use Rattle.dh_types.specs.declared.field.TheConstants.{REGISTERED_CLIENT, REGISTERED_BRANCH, REGISTERED_STAFF, VIEWING_CLIENT, VIEWING_PROPERTY}
+use Rattle.dh_types.specs.declared.field.TheConstants.{INSPECTED_PROPERTY, INSPECTION_STAFF, LEASE_CLIENT, LEASE_PROPERTY, RECEIPT_LEASE}
 use Rattle.dh_types.specs.declared.branch.Branch.{Branch}
 use Rattle.dh_types.specs.declared.staff.Staff.{Staff}
 use Rattle.dh_types.specs.declared.owner.Owner.{Owner}
@@ -58,16 +62,16 @@ module _ (books : Books) where
 
   abbrev pub staff_verdict : Staff → Verdict
   staff_verdict member =
-      unless_there (is_same_staff member) (get books.staff member.number) (judged (names books.branches member.branch 5 ∷ []) (change.Staff member))
+      unless_there (is_same_staff member) (get books.staff member.number) (judged (names books.branches member.branch STAFF_BRANCH ∷ []) (change.Staff member))
 
   abbrev pub owner_verdict : Owner → Verdict
   owner_verdict owner = unless_there (is_same_owner owner) (get books.owners owner.number) (judged [] (change.Owner owner))
 
   abbrev pub property_checks : Property → List Check
   property_checks property =
-      names books.owners property.owner 9
-      ∷ where_given property.staff (λ member. names books.staff member 10)
-      ∷ names books.branches property.branch 11
+      names books.owners property.owner PROPERTY_OWNER
+      ∷ where_given property.staff (λ member. names books.staff member PROPERTY_STAFF)
+      ∷ names books.branches property.branch PROPERTY_BRANCH
       ∷ where_given property.staff (λ member. of_branch books member property.branch)
       ∷ where_given property.staff (λ member. has_room books member property.number)
       ∷ []
@@ -78,14 +82,14 @@ module _ (books : Books) where
 
   abbrev pub manager_checks : Property → Option (List ℕ) → List Check
   manager_checks property member =
-      where_given member (λ m. names books.staff m 3)
+      where_given member (λ m. names books.staff m ASSIGNED_STAFF)
       ∷ where_given member (λ m. of_branch books m property.branch)
       ∷ where_given member (λ m. has_room books m property.number)
       ∷ []
 
   -- the manager of a property that is there
   abbrev pub assigned : Assignment → Option Property → Verdict
-  assigned it None = verdict.Refused (refusal.Unknown 2)
+  assigned it None = verdict.Refused (refusal.Unknown CHANGED_PROPERTY)
   assigned it (Some property) =
       if is_same_optional is_same_text it.staff property.staff then verdict.Already reply.Already
       else judged (manager_checks property it.staff) (change.Assign it)
@@ -94,7 +98,7 @@ module _ (books : Books) where
   assign_verdict it = assigned it (get books.properties it.property)
 
   abbrev pub rent_changed : RentChange → Option Property → Verdict
-  rent_changed it None = verdict.Refused (refusal.Unknown 2)
+  rent_changed it None = verdict.Refused (refusal.Unknown CHANGED_PROPERTY)
   rent_changed it (Some property) = if nat_eq it.rent property.rent then verdict.Already reply.Already else verdict.Change (change.Rent it)
 
   abbrev pub rent_verdict : RentChange → Verdict
@@ -105,9 +109,9 @@ module _ (books : Books) where
 
   abbrev pub registration_checks : Registration → List Check
   registration_checks it =
-      names books.clients it.client 2
-      ∷ names books.branches it.branch 3
-      ∷ names books.staff it.staff 4
+      names books.clients it.client REGISTERED_CLIENT
+      ∷ names books.branches it.branch REGISTERED_BRANCH
+      ∷ names books.staff it.staff REGISTERED_STAFF
       ∷ of_branch books it.staff it.branch
       ∷ []
 
@@ -118,10 +122,10 @@ module _ (books : Books) where
   abbrev pub viewing_verdict : Viewing → Verdict
   viewing_verdict it =
       unless_there (is_same_viewing it) (get books.viewings (it.client, it.property))
-      (judged (names books.clients it.client 2 ∷ names books.properties it.property 3 ∷ []) (change.Viewing it))
+      (judged (names books.clients it.client VIEWING_CLIENT ∷ names books.properties it.property VIEWING_PROPERTY ∷ []) (change.Viewing it))
 
   abbrev pub commented : ViewingComment → Option Viewing → Verdict
-  commented it None = verdict.Refused (refusal.Unknown 2)
+  commented it None = verdict.Refused (refusal.Unknown VIEWING_CLIENT)
   commented it (Some viewing) =
       if is_same_optional is_same_text (Some it.comment) viewing.comment then verdict.Already reply.Already
       else verdict.Change (change.Comment it)
@@ -132,12 +136,12 @@ module _ (books : Books) where
   abbrev pub inspection_verdict : Inspection → Verdict
   inspection_verdict it =
       unless_there (is_same_inspection it) (get books.inspections (it.property, it.day))
-      (judged (names books.properties it.property 2 ∷ names books.staff it.staff 4 ∷ []) (change.Inspection it))
+      (judged (names books.properties it.property INSPECTED_PROPERTY ∷ names books.staff it.staff INSPECTION_STAFF ∷ []) (change.Inspection it))
 
   abbrev pub lease_checks : LeaseTerms → List Check
   lease_checks terms =
-      names books.clients terms.client 3
-      ∷ names books.properties terms.property 4
+      names books.clients terms.client LEASE_CLIENT
+      ∷ names books.properties terms.property LEASE_PROPERTY
       ∷ registered books terms.client terms.property
       ∷ in_time books terms.start
       ∷ first_that_day books terms.client terms.start
@@ -166,8 +170,8 @@ module _ (books : Books) where
 
   abbrev pub receipt_checks : ReceiptOrder → List Check
   receipt_checks order =
-      (names books.leases order.payment.lease 3 ∷ deposit_checks books order.payment)
-      ++ unless (nat_lt (len books.receipts) 99999999) refusal.Full ∷ []
+      (names books.leases order.payment.lease RECEIPT_LEASE ∷ deposit_checks books order.payment)
+      ++ unless (nat_lt (len books.receipts) MOST_NUMBER) refusal.Full ∷ []
 
   abbrev pub receipt_verdict : ReceiptOrder → Verdict
   receipt_verdict order =

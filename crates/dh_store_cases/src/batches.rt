@@ -2,10 +2,9 @@
 
 ghost use Rattle.std.specs.Prelude.{◌≤◌, length};
 
-use crate::agencies::in_memory;
 use crate::escapes::{bytes_of, text_of};
-use crate::report::Report;
 use dh_agency::Agency;
+use dh_agency_scripts::{Report, in_memory};
 use dh_lines::ends::{FailingReader, FailingWriter};
 use dh_lines::{BatchFault, Summary, batch};
 use sqlite::Alter;

@@ -2,18 +2,13 @@
 //! answered otherwise, and then `N cases, M differ`. A block of cases has its kind in the first line: `play` has the kinds.
 #![tactic(auto)]
 
-mod agencies;
 mod batches;
-mod disks;
 mod escapes;
-mod report;
 mod requests;
 mod rows;
 mod tables;
-mod untrusted;
-mod words;
 
-use report::Report;
+use dh_agency_scripts::{Report, play_in_memory};
 use sqlite::{Alter, Connection};
 use std::alloc::{AllocError, Global};
 use std::io;
@@ -45,7 +40,6 @@ fn answer_in_memory(alloc: Global, kind: &str, input: &str) -> io::Result<String
 // What the input of a case of this kind is answered.
 fn answer(alloc: Global, kind: &str, input: &str) -> io::Result<String> {
     match kind {
-        "tables damaged" => disks::damaged(alloc, input),
         "a line" => requests::read(alloc, input),
         "fields" => requests::read_split(alloc, input),
         "lines written" => requests::written(alloc, input),
@@ -66,8 +60,7 @@ fn play_lines(rt: &HostRuntime, report: &mut Report, kind: &str, lines: &str) ->
 
 fn play(rt: &HostRuntime, report: &mut Report, kind: &str, lines: &str) -> io::Result<()> {
     match kind {
-        "an agency in memory" => agencies::play(rt, report, lines),
-        "an agency on disks that stop" => disks::play(rt, report, lines),
+        "an agency in memory" => play_in_memory(rt, report, lines),
         "a reader that fails" => batches::play_reader(rt, report),
         "a writer that fails" => batches::play_writer(rt, report),
         _ => play_lines(rt, report, kind, lines),

@@ -1,9 +1,9 @@
 //! Lines read, and replies and reports written.
 
 use crate::escapes::{bytes_of, text_of};
-use crate::rows::branch_text;
-use crate::words::branch;
 use csv::{ByteRecord, ReaderBuilder};
+use dh_agency_scripts::branch;
+use dh_examples::ToLine;
 use dh_lines::ends::FailingWriter;
 use dh_lines::{
     Request, put_answer_line, put_fault_line, put_refused_line, put_reply_line, read_fields,
@@ -15,7 +15,7 @@ use std::io;
 
 fn request_text(alloc: Global, request: &Request) -> Result<String, AllocError> {
     match request {
-        Request::Command(Command::Branch(branch)) => branch_text(alloc, branch),
+        Request::Command(Command::Branch(branch)) => branch.to_line(alloc),
         Request::Question(Question::Branches) => "show branches".to_string(alloc),
         _ => "another".to_string(alloc),
     }

@@ -5,8 +5,7 @@ ghost use Rattle.sqlite.specs.State.{HasCleanDisk};
 ghost use Rattle.sqlite.specs.Held.{state};
 ghost use Rattle.dh_schema.specs.Store.{IsReady};
 
-use crate::rows::{branches_in, found};
-use crate::words::{branch, january};
+use dh_agency_scripts::{branch, branches_in, found, january};
 use dh_model::Change;
 use dh_schema::{install, version};
 use dh_store::apply;

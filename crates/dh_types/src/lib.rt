@@ -6,6 +6,7 @@ mod answer;
 mod branch;
 mod client;
 mod command;
+pub mod field;
 pub mod laws;
 mod lease;
 mod owner;

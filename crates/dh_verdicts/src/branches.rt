@@ -5,7 +5,7 @@ ghost use Rattle.dh_model.specs.Verdicts.{branch_verdict, owner_verdict, staff_v
 
 use dh_books::Books;
 use dh_model::{Change, Verdict};
-use dh_types::{Branch, Owner, Refusal, Reply, Staff};
+use dh_types::{Branch, Owner, Refusal, Reply, Staff, field};
 use std::alloc::{AllocError, Global};
 
 /// What the books say of a new branch: its row; that it is there already; or that its number is taken.
@@ -25,7 +25,7 @@ pub fn decide_staff(alloc: Global, books: &Books, member: &Staff) -> Result<Verd
 {
     match books.member(&member.number) {
         None if books.branch(&member.branch).is_none() => {
-            Ok(Verdict::Refused(Refusal::Unknown(5)))
+            Ok(Verdict::Refused(Refusal::Unknown(field::STAFF_BRANCH)))
         }
         None => Ok(Verdict::Change(Change::Staff(member.try_clone(alloc)?))),
         Some(there) if member == there => Ok(Verdict::Already(Reply::Already)),

@@ -7,7 +7,7 @@ ghost use Rattle.dh_model.specs.Verdicts.{client_verdict, comment_verdict, inspe
 use crate::checks::of_branch;
 use dh_books::Books;
 use dh_model::{Change, Verdict};
-use dh_types::{Client, Inspection, Refusal, Registration, Reply, Viewing, ViewingComment};
+use dh_types::{Client, Inspection, Refusal, Registration, Reply, Viewing, ViewingComment, field};
 use std::alloc::{AllocError, Global};
 
 /// What the books say of a new client: its row; that it is there already; or that its number is taken.
@@ -26,13 +26,13 @@ fn registration_refusal(books: &Books, registration: &Registration) -> Option<Re
     ensures { result ≡ first_failing (registration_checks books.now.books registration.now) }
 {
     if books.client(&registration.client).is_none() {
-        return Some(Refusal::Unknown(2));
+        return Some(Refusal::Unknown(field::REGISTERED_CLIENT));
     }
     if books.branch(&registration.branch).is_none() {
-        return Some(Refusal::Unknown(3));
+        return Some(Refusal::Unknown(field::REGISTERED_BRANCH));
     }
     if books.member(&registration.staff).is_none() {
-        return Some(Refusal::Unknown(4));
+        return Some(Refusal::Unknown(field::REGISTERED_STAFF));
     }
     of_branch(books, &registration.staff, &registration.branch)
 }
@@ -56,9 +56,9 @@ fn viewing_refusal(books: &Books, viewing: &Viewing) -> Option<Refusal>
     ensures { result ≡ first_failing (names books.now.books.clients viewing.now.client 2 ∷ names books.now.books.properties viewing.now.property 3 ∷ []) }
 {
     if books.client(&viewing.client).is_none() {
-        Some(Refusal::Unknown(2))
+        Some(Refusal::Unknown(field::VIEWING_CLIENT))
     } else if books.property(&viewing.property).is_none() {
-        Some(Refusal::Unknown(3))
+        Some(Refusal::Unknown(field::VIEWING_PROPERTY))
     } else {
         None
     }
@@ -91,7 +91,7 @@ pub fn decide_comment(
     ensures { IfOk result (λ v. v ≡ comment_verdict books.now.books comment.now) }
 {
     let Some(viewing) = books.viewing(&(comment.client, comment.property)) else {
-        return Ok(Verdict::Refused(Refusal::Unknown(2)));
+        return Ok(Verdict::Refused(Refusal::Unknown(field::VIEWING_CLIENT)));
     };
     match &viewing.comment {
         Some(there) if comment.comment == *there => Ok(Verdict::Already(Reply::Already)),
@@ -108,9 +108,9 @@ fn inspection_refusal(books: &Books, inspection: &Inspection) -> Option<Refusal>
     ensures { result ≡ first_failing (names books.now.books.properties inspection.now.property 2 ∷ names books.now.books.staff inspection.now.staff 4 ∷ []) }
 {
     if books.property(&inspection.property).is_none() {
-        Some(Refusal::Unknown(2))
+        Some(Refusal::Unknown(field::INSPECTED_PROPERTY))
     } else if books.member(&inspection.staff).is_none() {
-        Some(Refusal::Unknown(4))
+        Some(Refusal::Unknown(field::INSPECTION_STAFF))
     } else {
         None
     }

@@ -11,7 +11,7 @@ ghost use Rattle.dh_model.specs.Verdicts.{lease_verdict};
 use dh_books::Books;
 use dh_leases::overlap;
 use dh_model::{Change, Verdict};
-use dh_types::{EntryDay, Id, Lease, LeaseNo, LeaseTerms, Refusal, Reply};
+use dh_types::{EntryDay, Id, Lease, LeaseNo, LeaseTerms, Refusal, Reply, field};
 
 // The lesser of the number and the least so far.
 fn at_most(least: Option<LeaseNo>, number: LeaseNo) -> LeaseNo
@@ -78,10 +78,10 @@ pub fn decide_lease(books: &Books, terms: &LeaseTerms) -> Verdict
         };
     }
     if books.client(&terms.client).is_none() {
-        return Verdict::Refused(Refusal::Unknown(3));
+        return Verdict::Refused(Refusal::Unknown(field::LEASE_CLIENT));
     }
     let Some(property) = books.property(&terms.property) else {
-        return Verdict::Refused(Refusal::Unknown(4));
+        return Verdict::Refused(Refusal::Unknown(field::LEASE_PROPERTY));
     };
     match signing_refusal(books, terms, &property.branch) {
         Some(refusal) => Verdict::Refused(refusal),

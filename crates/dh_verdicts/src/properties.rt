@@ -7,7 +7,7 @@ ghost use Rattle.dh_model.specs.Verdicts.{assign_verdict, manager_checks, proper
 use crate::checks::may_manage;
 use dh_books::Books;
 use dh_model::{Change, Verdict};
-use dh_types::{Assignment, Id, Property, Refusal, RentChange, Reply};
+use dh_types::{Assignment, Id, Property, Refusal, RentChange, Reply, field};
 use std::alloc::{AllocError, Global};
 
 // The first check that a new property fails.
@@ -15,15 +15,15 @@ fn property_refusal(books: &Books, property: &Property) -> Option<Refusal>
     ensures { result ≡ first_failing (property_checks books.now.books property.now) }
 {
     if books.owner(&property.owner).is_none() {
-        return Some(Refusal::Unknown(9));
+        return Some(Refusal::Unknown(field::PROPERTY_OWNER));
     }
     if let Some(member) = &property.staff
         && books.member(member).is_none()
     {
-        return Some(Refusal::Unknown(10));
+        return Some(Refusal::Unknown(field::PROPERTY_STAFF));
     }
     if books.branch(&property.branch).is_none() {
-        return Some(Refusal::Unknown(11));
+        return Some(Refusal::Unknown(field::PROPERTY_BRANCH));
     }
     let Some(member) = &property.staff else {
         return None;
@@ -58,7 +58,7 @@ fn manager_refusal(books: &Books, property: &Property, member: Option<Id>) -> Op
         return None;
     };
     if books.member(&member).is_none() {
-        return Some(Refusal::Unknown(3));
+        return Some(Refusal::Unknown(field::ASSIGNED_STAFF));
     }
     may_manage(books, &member, property)
 }
@@ -68,7 +68,7 @@ pub fn decide_assign(books: &Books, assignment: &Assignment) -> Verdict
     ensures { result ≡ assign_verdict books.now.books assignment.now }
 {
     let Some(property) = books.property(&assignment.property) else {
-        return Verdict::Refused(Refusal::Unknown(2));
+        return Verdict::Refused(Refusal::Unknown(field::CHANGED_PROPERTY));
     };
     if assignment.staff == property.staff {
         return Verdict::Already(Reply::Already);
@@ -84,7 +84,7 @@ pub fn decide_rent(books: &Books, change: &RentChange) -> Verdict
     ensures { result ≡ rent_verdict books.now.books change.now }
 {
     match books.property(&change.property) {
-        None => Verdict::Refused(Refusal::Unknown(2)),
+        None => Verdict::Refused(Refusal::Unknown(field::CHANGED_PROPERTY)),
         Some(property) if change.rent == property.rent => Verdict::Already(Reply::Already),
         Some(_) => Verdict::Change(Change::Rent(*change)),
     }

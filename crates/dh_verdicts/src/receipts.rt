@@ -13,8 +13,9 @@ use dh_books::Books;
 use dh_model::{Change, Verdict};
 use dh_types::{
     Key, LeaseNo, Payment, Pence, Receipt, ReceiptKind, ReceiptNo, ReceiptOrder, Refusal, Rent,
-    Reply, Run, RunOrder, RunSum,
+    Reply, Run, RunOrder, RunSum, field,
 };
+use dh_values::limits::MOST_NUMBER;
 
 // The receipt that has this key.
 fn receipt_of_key<'a>(books: &'a Books, key: &Key) -> Option<&'a Receipt>
@@ -52,7 +53,7 @@ fn payment_refusal(books: &Books, payment: &Payment) -> Option<Refusal>
     ensures { result ≡ first_failing (names books.now.books.leases payment.now.lease 3 ∷ deposit_checks books.now.books payment.now) }
 {
     let Some(lease) = books.lease(&payment.lease) else {
-        return Some(Refusal::Unknown(3));
+        return Some(Refusal::Unknown(field::RECEIPT_LEASE));
     };
     if payment.kind != ReceiptKind::Deposit {
         return None;
@@ -86,7 +87,7 @@ pub fn decide_receipt(books: &Books, order: &ReceiptOrder) -> Verdict
         return Verdict::Refused(refusal);
     }
     let count = books.receipt_count();
-    if count >= 99_999_999 {
+    if count >= MOST_NUMBER as usize {
         return Verdict::Refused(Refusal::Full);
     }
     Verdict::Change(Change::Receipt(Receipt {

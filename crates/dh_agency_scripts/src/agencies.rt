@@ -1,10 +1,10 @@
 //! Agencies in memory.
 
 use crate::report::Report;
-use crate::rows::{branch_text, branches_in};
+use crate::rows::branches_in;
 use crate::words::january;
 use dh_agency::{Agency, NotOpened, create};
-use dh_examples::command;
+use dh_examples::{ToLine, command};
 use dh_types::{Answer, Branch, Command, Question};
 use sqlite::{Alter, Connection, MemStore};
 use std::alloc::{AllocError, Global};
@@ -35,7 +35,7 @@ fn branches_text(alloc: Global, branches: &[Branch]) -> Result<String, AllocErro
     }
     let mut text = String::new(alloc);
     for branch in branches {
-        text.push_str(branch_text(alloc, branch)?.as_str())?;
+        text.push_str(branch.to_line(alloc)?.as_str())?;
         text.push_str(";")?;
     }
     Ok(text)
@@ -85,7 +85,7 @@ fn tell<S: Alter>(
 }
 
 /// The lines told to an agency in memory, and in the end the rows of its tables.
-pub fn play(rt: &HostRuntime, report: &mut Report, lines: &str) -> io::Result<()> {
+pub fn play_in_memory(rt: &HostRuntime, report: &mut Report, lines: &str) -> io::Result<()> {
     let (lines, want) = lines.split_once("\nrows -> ").unwrap_or((lines, ""));
     let Some(mut agency) = in_memory(rt.alloc())? else {
         return report.compare(rt, "an agency in memory", "none", "one");

@@ -1,20 +1,17 @@
 //! Agencies on disks in memory: what stands there after a stop at any call, and how damaged tables are read.
 
-use crate::agencies::told;
-use crate::report::Report;
-use crate::rows::branches_in;
 use crate::untrusted::Untrusted;
-use crate::words::january;
 use dh_agency::{Agency, NotOpened, create};
+use dh_agency_scripts::{Report, branches_in, january, told};
 use dh_schema::{LoadFault, load, version};
 use sqlite::{Alter, Connection, FileStore, Files, Options};
 use sqlite_disk::{Crash, Fuse, Memory};
 use std::alloc::{AllocError, Global};
 use std::io;
 
-type Trial<D> = Connection<FileStore<Untrusted<D>>>;
+type TrialDisk = Untrusted<Fuse<Memory>>;
 
-type Left<D> = Files<Untrusted<D>>;
+type Trial = Connection<FileStore<TrialDisk>>;
 
 // What an agency was told before it stopped.
 #[derive(Clone, Copy)]
@@ -78,26 +75,19 @@ fn acknowledged<S: Alter>(
     Ok(replies.end(told(alloc, agency, "show")?.as_str()))
 }
 
-fn told_on_disks<D: Crash + Drop>(alloc: Global, conn: Trial<D>, lines: &str) -> (Told, Left<D>) {
+// Tells the lines to a new agency over the connection, which is given back.
+fn told_over<S: Alter>(alloc: Global, conn: Connection<S>, lines: &str) -> (Told, Connection<S>) {
     match create(alloc, conn, january()) {
         Ok(mut agency) => {
             let told = acknowledged(alloc, &mut agency, lines).unwrap_or(Told::Wrong);
-            (told, agency.into_store().into_store().close())
+            (told, agency.into_store())
         }
-        Err(NotOpened { conn, cause: _ }) => (Told::NotMade, conn.into_store().close()),
-    }
-}
-
-// Tells the lines to a new agency on these disks.
-fn told_on_files<D: Crash + Drop>(alloc: Global, files: Left<D>, lines: &str) -> (Told, Left<D>) {
-    match Connection::open_files(alloc, files, Options::new(7)) {
-        Ok(conn) => told_on_disks(alloc, conn, lines),
-        Err((_, left)) => (Told::NotMade, left.into_files()),
+        Err(NotOpened { conn, cause: _ }) => (Told::NotMade, conn),
     }
 }
 
 // A disk in memory that stops after so many calls.
-fn stopping(alloc: Global, calls: u64) -> Untrusted<Fuse<Memory>> {
+fn stopping(alloc: Global, calls: u64) -> TrialDisk {
     Untrusted {
         inner: Fuse::new(Memory::new(alloc), calls),
         missed: 0,
@@ -105,14 +95,30 @@ fn stopping(alloc: Global, calls: u64) -> Untrusted<Fuse<Memory>> {
 }
 
 // New disks of which one stops after so many calls.
-fn disks(alloc: Global, log_calls: u64, file_calls: u64) -> Left<Fuse<Memory>> {
+fn disks(alloc: Global, log_calls: u64, file_calls: u64) -> Files<TrialDisk> {
     Files {
         log: stopping(alloc, log_calls),
         db: stopping(alloc, file_calls),
     }
 }
 
-fn load_text<D: Crash + Drop>(alloc: Global, conn: &mut Trial<D>) -> Result<String, AllocError> {
+// Tells the lines to a new agency on these disks, which are given back.
+fn told_on(alloc: Global, files: Files<TrialDisk>, lines: &str) -> (Told, Files<TrialDisk>) {
+    match Connection::open_files(alloc, files, Options::new(7)) {
+        Ok(conn) => {
+            let (told, conn) = told_over(alloc, conn, lines);
+            (told, conn.into_store().close())
+        }
+        Err((_, left)) => (Told::NotMade, left.into_files()),
+    }
+}
+
+// Whether the statements were run.
+fn is_run<S: Alter>(conn: &mut Connection<S>, statements: &str) -> bool {
+    conn.execute_batch(statements).is_ok()
+}
+
+fn load_text(alloc: Global, conn: &mut Trial) -> Result<String, AllocError> {
     match load(alloc, conn) {
         Ok(books) => format!(in alloc; "{} branches", books.branches().count()),
         Err(LoadFault::Damaged) => "damaged".to_string(alloc),
@@ -120,7 +126,7 @@ fn load_text<D: Crash + Drop>(alloc: Global, conn: &mut Trial<D>) -> Result<Stri
     }
 }
 
-fn version_text<D: Crash + Drop>(alloc: Global, conn: &mut Trial<D>) -> Result<String, AllocError> {
+fn version_text(alloc: Global, conn: &mut Trial) -> Result<String, AllocError> {
     match version(conn) {
         Ok(number) => format!(in alloc; "version {number}"),
         Err(LoadFault::Damaged) => "damaged".to_string(alloc),
@@ -129,15 +135,11 @@ fn version_text<D: Crash + Drop>(alloc: Global, conn: &mut Trial<D>) -> Result<S
 }
 
 // The statements run on the tables, and how these then are read; with no statement, the rows of the branches.
-fn read_after<D: Crash + Drop>(
-    alloc: Global,
-    conn: &mut Trial<D>,
-    statements: &str,
-) -> Result<String, AllocError> {
+fn read_after(alloc: Global, conn: &mut Trial, statements: &str) -> Result<String, AllocError> {
     if statements.is_empty() {
         return branches_in(alloc, conn);
     }
-    if conn.execute_batch(statements).is_err() {
+    if !is_run(conn, statements) {
         return "not done".to_string(alloc);
     }
     let number = version_text(alloc, conn)?;
@@ -146,9 +148,9 @@ fn read_after<D: Crash + Drop>(
 }
 
 // What is in the file after a power cut, opened anew, and after these statements.
-fn found<D: Crash + Drop>(
+fn found(
     alloc: Global,
-    mut left: Left<D>,
+    mut left: Files<TrialDisk>,
     statements: &str,
 ) -> Result<String, AllocError> {
     left.log.crash();
@@ -177,13 +179,13 @@ fn is_kept(told: Told, found: &str, all: &str) -> bool {
 }
 
 // How the lines end on disks of which one stops, and what is found there after a power cut and these statements.
-fn told_and_found<D: Crash + Drop>(
+fn told_and_found(
     alloc: Global,
-    files: Left<D>,
+    files: Files<TrialDisk>,
     lines: &str,
     statements: &str,
 ) -> Result<(Told, String), AllocError> {
-    let (told, left) = told_on_files(alloc, files, lines);
+    let (told, left) = told_on(alloc, files, lines);
     Ok((told, found(alloc, left, statements)?))
 }
 

@@ -1,0 +1,36 @@
+//! Plays the cases of standard input over agencies on disks in memory, which stop or are damaged, and prints each that is answered
+//! otherwise, and then `N cases, M differ`. A block of cases has its kind in the first line: `play` has the kinds.
+#![tactic(auto)]
+
+mod disks;
+mod untrusted;
+
+use dh_agency_scripts::Report;
+use std::io;
+
+fn play_damage(rt: &HostRuntime, report: &mut Report, lines: &str) -> io::Result<()> {
+    for line in lines.lines() {
+        let (statements, want) = line.split_once(" -> ").unwrap_or((line, ""));
+        let got = disks::damaged(rt.alloc(), statements)?;
+        report.compare(rt, statements, got.as_str(), want)?;
+    }
+    Ok(())
+}
+
+fn play(rt: &HostRuntime, report: &mut Report, kind: &str, lines: &str) -> io::Result<()> {
+    match kind {
+        "an agency on disks that stop" => disks::play(rt, report, lines),
+        "tables damaged" => play_damage(rt, report, lines),
+        _ => report.compare(rt, kind, "no kind", ""),
+    }
+}
+
+fn main(rt: HostRuntime) -> io::Result<()> {
+    let text = io::read_to_string(rt.alloc(), rt.reader())?;
+    let mut report = Report::new();
+    for block in text.as_str().split("\n\n") {
+        let (kind, lines) = block.split_once('\n').unwrap_or((block, ""));
+        play(&rt, &mut report, kind, lines)?;
+    }
+    report.end(&rt)
+}
