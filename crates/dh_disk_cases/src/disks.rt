@@ -75,17 +75,6 @@ fn acknowledged<S: Alter>(
     Ok(replies.end(told(alloc, agency, "show")?.as_str()))
 }
 
-// Tells the lines to a new agency over the connection, which is given back.
-fn told_over<S: Alter>(alloc: Global, conn: Connection<S>, lines: &str) -> (Told, Connection<S>) {
-    match create(alloc, conn, january()) {
-        Ok(mut agency) => {
-            let told = acknowledged(alloc, &mut agency, lines).unwrap_or(Told::Wrong);
-            (told, agency.into_store())
-        }
-        Err(NotOpened { conn, cause: _ }) => (Told::NotMade, conn),
-    }
-}
-
 // A disk in memory that stops after so many calls.
 fn stopping(alloc: Global, calls: u64) -> TrialDisk {
     Untrusted {
@@ -102,49 +91,85 @@ fn disks(alloc: Global, log_calls: u64, file_calls: u64) -> Files<TrialDisk> {
     }
 }
 
+// Stores that are closed and opened anew, and whose tables are read in whatever state they are. What is generic over them is
+// cheap to prove.
+trait Doubted: Alter + Sized {
+    type Left;
+
+    fn closed(conn: Connection<Self>) -> Self::Left;
+
+    fn version_text(alloc: Global, conn: &mut Connection<Self>) -> Result<String, AllocError>;
+
+    fn load_text(alloc: Global, conn: &mut Connection<Self>) -> Result<String, AllocError>;
+}
+
+impl Doubted for FileStore<TrialDisk> {
+    type Left = Files<TrialDisk>;
+
+    fn closed(conn: Trial) -> Files<TrialDisk> {
+        conn.into_store().close()
+    }
+
+    fn version_text(alloc: Global, conn: &mut Trial) -> Result<String, AllocError> {
+        match version(conn) {
+            Ok(number) => format!(in alloc; "version {number}"),
+            Err(LoadFault::Damaged) => "damaged".to_string(alloc),
+            Err(LoadFault::Fault(fault)) => format!(in alloc; "{fault}"),
+        }
+    }
+
+    fn load_text(alloc: Global, conn: &mut Trial) -> Result<String, AllocError> {
+        match load(alloc, conn) {
+            Ok(books) => format!(in alloc; "{} branches", books.branches().count()),
+            Err(LoadFault::Damaged) => "damaged".to_string(alloc),
+            Err(LoadFault::Fault(fault)) => format!(in alloc; "{fault}"),
+        }
+    }
+}
+
+// Tells the lines to a new agency over the connection, which is closed in the end.
+fn told_over<S: Doubted>(alloc: Global, conn: Connection<S>, lines: &str) -> (Told, S::Left) {
+    match create(alloc, conn, january()) {
+        Ok(mut agency) => {
+            let told = acknowledged(alloc, &mut agency, lines).unwrap_or(Told::Wrong);
+            (told, S::closed(agency.into_store()))
+        }
+        Err(NotOpened { conn, cause: _ }) => (Told::NotMade, S::closed(conn)),
+    }
+}
+
 // Tells the lines to a new agency on these disks, which are given back.
 fn told_on(alloc: Global, files: Files<TrialDisk>, lines: &str) -> (Told, Files<TrialDisk>) {
     match Connection::open_files(alloc, files, Options::new(7)) {
-        Ok(conn) => {
-            let (told, conn) = told_over(alloc, conn, lines);
-            (told, conn.into_store().close())
-        }
+        Ok(conn) => told_over(alloc, conn, lines),
         Err((_, left)) => (Told::NotMade, left.into_files()),
     }
 }
 
-// Whether the statements were run.
-fn is_run<S: Alter>(conn: &mut Connection<S>, statements: &str) -> bool {
-    conn.execute_batch(statements).is_ok()
-}
-
-fn load_text(alloc: Global, conn: &mut Trial) -> Result<String, AllocError> {
-    match load(alloc, conn) {
-        Ok(books) => format!(in alloc; "{} branches", books.branches().count()),
-        Err(LoadFault::Damaged) => "damaged".to_string(alloc),
-        Err(LoadFault::Fault(fault)) => format!(in alloc; "{fault}"),
-    }
-}
-
-fn version_text(alloc: Global, conn: &mut Trial) -> Result<String, AllocError> {
-    match version(conn) {
-        Ok(number) => format!(in alloc; "version {number}"),
-        Err(LoadFault::Damaged) => "damaged".to_string(alloc),
-        Err(LoadFault::Fault(fault)) => format!(in alloc; "{fault}"),
-    }
-}
-
 // The statements run on the tables, and how these then are read; with no statement, the rows of the branches.
-fn read_after(alloc: Global, conn: &mut Trial, statements: &str) -> Result<String, AllocError> {
+fn read_after<S: Doubted>(
+    alloc: Global,
+    conn: &mut Connection<S>,
+    statements: &str,
+) -> Result<String, AllocError> {
     if statements.is_empty() {
         return branches_in(alloc, conn);
     }
-    if !is_run(conn, statements) {
+    if conn.execute_batch(statements).is_err() {
         return "not done".to_string(alloc);
     }
-    let number = version_text(alloc, conn)?;
-    let books = load_text(alloc, conn)?;
+    let number = S::version_text(alloc, conn)?;
+    let books = S::load_text(alloc, conn)?;
     format!(in alloc; "{number}, {books}")
+}
+
+// The same, and the connection is given up.
+fn read_over<S: Doubted + Drop>(
+    alloc: Global,
+    mut conn: Connection<S>,
+    statements: &str,
+) -> Result<String, AllocError> {
+    read_after(alloc, &mut conn, statements)
 }
 
 // What is in the file after a power cut, opened anew, and after these statements.
@@ -156,7 +181,7 @@ fn found(
     left.log.crash();
     left.db.crash();
     match Connection::open_files(alloc, left, Options::new(7)) {
-        Ok(mut conn) => read_after(alloc, &mut conn, statements),
+        Ok(conn) => read_over(alloc, conn, statements),
         Err((_, left)) => {
             drop(left.into_files());
             "not opened".to_string(alloc)
