@@ -1,12 +1,49 @@
 //! Properties as rows.
 
+ghost use Rattle.std.specs.Prelude.{◌≡◌, ◌↔◌, true, length, IfOk, IfSome, IsSome};
+ghost use Rattle.sqlite_value.specs.Order.{column};
+ghost use Rattle.sqlite_value.specs.declared.value.Value.TheVariants.{Text};
+ghost use Rattle.dh_rows.specs.Cells.{is_text_cell};
+
 use crate::Record;
 use crate::cells::{bounded_at, id_at, optional_id_at, property_type_at, rent_at, text_at};
 use crate::params::{id_param, optional_id_param, property_type_param, text_param};
-use dh_types::{Id, Property};
+use dh_types::{Id, Property, Text60};
 use sqlite::Row;
 use sqlite::types::ValueRef;
 use std::alloc::{AllocError, Global};
+
+/// Where a property stands.
+#[derive(Drop)]
+struct Place {
+    street: Text60,
+    city: Text60,
+    postcode: Text60,
+}
+
+// The street, the city and the postcode in the columns behind the number, where each is a short text.
+fn place_in(alloc: Global, columns: &Row) -> Result<Option<Place>, AllocError>
+    requires { length columns.now ≡ 10 }
+    ensures read { IfOk result (λ found. IfSome found (λ p. (column columns.now 1 ≡ Text p.street) × (column columns.now 2 ≡ Text p.city)
+        × (column columns.now 3 ≡ Text p.postcode))) }
+    ensures exact { IfOk result (λ found. IsSome found ↔ ((is_text_cell 60 (column columns.now 1) ≡ true) × (is_text_cell 60 (column columns.now 2) ≡ true)
+        × (is_text_cell 60 (column columns.now 3) ≡ true))) }
+{
+    let Some(street) = text_at(alloc, columns, 1)? else {
+        return Ok(None);
+    };
+    let Some(city) = text_at(alloc, columns, 2)? else {
+        return Ok(None);
+    };
+    let Some(postcode) = text_at(alloc, columns, 3)? else {
+        return Ok(None);
+    };
+    Ok(Some(Place {
+        street,
+        city,
+        postcode,
+    }))
+}
 
 impl Record for Property {
     ghost use Rattle.std.specs.Prelude.{◌≡◌};
@@ -77,20 +114,14 @@ impl Record for Property {
         let Some(branch) = id_at(columns, 9) else {
             return Ok(None);
         };
-        let Some(street) = text_at(alloc, columns, 1)? else {
-            return Ok(None);
-        };
-        let Some(city) = text_at(alloc, columns, 2)? else {
-            return Ok(None);
-        };
-        let Some(postcode) = text_at(alloc, columns, 3)? else {
+        let Some(place) = place_in(alloc, columns)? else {
             return Ok(None);
         };
         Ok(Some(Property {
             number,
-            street,
-            city,
-            postcode,
+            street: place.street,
+            city: place.city,
+            postcode: place.postcode,
             property_type,
             rooms,
             rent,

@@ -26,7 +26,7 @@ use Rattle.dh_types.specs.declared.branch.Branch.{Branch}
 use Rattle.dh_model.specs.Books.{text_cmp}
 use Rattle.dh_model.specs.Machine.{changed}
 use Rattle.dh_model.specs.declared.rows.Change.TheVariants as change
-use Rattle.dh_rows.specs.Cells.{is_id_cell, is_text_cell, text_in}
+use Rattle.dh_rows.specs.Cells.{is_id_cell, is_text_cell, is_text_that, text_in}
 use Rattle.dh_rows.specs.BranchRows.{branch_row, branch_in, is_branch_row}
 use Rattle.dh_schema.specs.MetaTable.{meta_columns}
 use Rattle.dh_schema.specs.BranchTable.{branch, branch_columns, branch_rows}
@@ -45,6 +45,7 @@ all_moved P = along_permutation (λ xs ys. AllByRecursion P xs → AllByRecursio
     (λ x y zs h. (h.1.0, (h.0, h.1.1))) (λ xs ys zs f g h. g (f h))
 
 id_text : (v : Value) → is_id_cell v ≡ true → v ≡ Text (text_in v)
+unfolding is_text_that
 id_text Null h = cc
 id_text (Int n) h = cc
 id_text (Real x) h = cc

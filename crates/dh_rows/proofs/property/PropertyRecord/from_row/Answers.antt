@@ -5,9 +5,10 @@ use Rattle.dh_rows.proofs.property.PropertyRecord.from_row.Goals as goal
 pub returns-clause-read : goal.returns-clause-read
 returns-clause-read c =
     let number = c.in-Some.ensures.read in
-    let street = rw c.in-Some-2.is at c.in_ok-street.ensures.read in
-    let city = rw c.in-Some-3.is at c.in_ok-city.ensures.read in
-    let postcode = rw c.in-Some-4.is at c.in_ok-postcode.ensures.read in
+    let place = rw c.in-Some-2.is at c.in_ok-place.ensures.read in
+    let street = place.0 in
+    let city = place.1 in
+    let postcode = place.2 in
     let property_type = c.in-Some-property_type_at.ensures.read in
     let rooms = c.in-Some-bounded_at.ensures.read in
     let rent = c.in-Some-rent_at.ensures.read in
