@@ -192,7 +192,8 @@ module _ (month : ℕ) where
 
     receipt_other : (order : ReceiptOrder) → AllOther (receipt_checks books order)
     receipt_other order =
-        both_other (names books.leases order.payment.lease 3 ∷ deposit_checks books order.payment) (unless (nat_lt (len books.receipts) MOST_NUMBER) refusal.Full
+        both_other (names books.leases order.payment.lease 3
+        ∷ deposit_checks books order.payment) (unless (nat_lt (len books.receipts) MOST_NUMBER) refusal.Full
         ∷ [])
         (names_other (contains_key books.leases order.payment.lease) 3, deposit_other order.payment)
         (other_unless (nat_lt (len books.receipts) MOST_NUMBER) refusal.Full (λ e. cc), tt)

@@ -9,5 +9,6 @@ returns-clause-made g c clean =
     let new = state g.S.Store c.execute.new.self.conn.now in
     let was = c.requires (omega (arith, c.execute.ensures.survives.clean)) in
     let ran = c.in_ok-execute.ensures.runs clean was.0.inside in
-    let it = adds_meta old new c.args.months.now c.in_ok-execute.field-0 was.0.schema_is was.1 (rw (c.deref.ensures.value, c.in_ok-values.ensures.columns) at ran.0) in
+    let it = adds_meta old new c.args.months.now c.in_ok-execute.field-0 was.0.schema_is was.1
+    (rw (c.deref.ensures.value, c.in_ok-values.ensures.columns) at ran.0) in
     (record { inside = ran.1.mode; schema_is = it.0 }, (c.in_ok-values.ensures.grammar tt), it.1, it.2)
