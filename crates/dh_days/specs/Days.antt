@@ -4,7 +4,7 @@ use Rattle.std.specs.Prelude.{option_and_then, List, ◌∷◌, ◌++◌, length
 use Rattle.std.specs.List.{list_all}
 use Rattle.std.specs.Char.{is_ascii_digit}
 use Rattle.dh_values.specs.Numbers.{number}
-use Rattle.dh_days.specs.declared.limits.TheConstants.{LAST_MONTH_OF_ENTRY_DAYS}
+use Rattle.dh_days.specs.declared.limits.TheConstants.{LAST_ENTRY_MONTH, LAST_MONTH_OF_ENTRY_DAYS}
 use Rattle.dh_days.specs.Months.{IsMonth, month_of, month_text, two_digits}
 
 -- every fourth year, but of the centuries only every fourth
@@ -45,14 +45,21 @@ IsEntryDay day = IsDay day × (month_of_day day ≤ LAST_MONTH_OF_ENTRY_DAYS)
 abbrev pub has_day_form : List ℕ → Bool
 has_day_form text = nat_eq (length text) 10 && nat_eq (slice_index text 7) 45 && list_all is_ascii_digit (drop 8 text)
 
--- the day of this number in a month, if lines know it
-abbrev pub entry_day_at : ℕ → ℕ → Option ℕ
-entry_day_at number month = if nat_le month LAST_MONTH_OF_ENTRY_DAYS && nat_le 1 number
-    && nat_le number (days_in month) then Some (day_at month number) else None
+-- the day of this number in a month, if it is no later than the last
+abbrev pub day_at_until : ℕ → ℕ → ℕ → Option ℕ
+day_at_until last number month = if nat_le month last && nat_le 1 number && nat_le number (days_in month) then Some (day_at month number) else None
+
+-- the day that a text YYYY-MM-DD spells, from 2000-01-01 on, in a month up to the last, which is 2200-12 at most
+abbrev pub day_until : ℕ → List ℕ → Option ℕ
+day_until last text = if has_day_form text then option_and_then (day_at_until last (number (drop 8 text))) (month_of (take 7 text)) else None
 
 -- the day that a text YYYY-MM-DD spells, 2000-01-01 to 2199-12-31
 abbrev pub day_of : List ℕ → Option ℕ
-day_of text = if has_day_form text then option_and_then (entry_day_at (number (drop 8 text))) (month_of (take 7 text)) else None
+day_of text = day_until LAST_MONTH_OF_ENTRY_DAYS text
+
+-- the day that a text YYYY-MM-DD spells, 2000-01-01 to 2200-12-31: rent falls due on no other
+abbrev pub due_day_of : List ℕ → Option ℕ
+due_day_of text = day_until LAST_ENTRY_MONTH text
 
 -- YYYY-MM-DD
 abbrev pub day_text : ℕ → List ℕ

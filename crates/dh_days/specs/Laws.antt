@@ -1,10 +1,10 @@
 -- What the definitions owe each other.
-use Rattle.std.specs.Prelude.{ℕ, ◌≡◌, ◌+◌, ◌<◌, ◌≤◌, Some}
+use Rattle.std.specs.Prelude.{ℕ, ◌≡◌, ◌+◌, ◌<◌, ◌≤◌, true, Some, is_some, List}
 use Rattle.std.specs.Ordering.{nat_cmp}
 use Rattle.std.specs.Cmp.Lexicographic.{slice_cmp}
-use Rattle.dh_days.specs.declared.limits.TheConstants.{LAST_MONTH}
+use Rattle.dh_days.specs.declared.limits.TheConstants.{LAST_ENTRY_MONTH, LAST_MONTH}
 use Rattle.dh_days.specs.Months.{IsMonth, IsEntryMonth, month_of, month_text}
-use Rattle.dh_days.specs.Days.{IsDay, IsEntryDay, day_of, day_text, month_of_day, plus_months}
+use Rattle.dh_days.specs.Days.{IsDay, IsEntryDay, day_of, day_text, day_until, due_day_of, month_of_day, plus_months}
 
 -- a month that lines know, printed and read, is itself
 abbrev pub PrintedMonthsAreRead : Type 0
@@ -21,6 +21,18 @@ MonthTextsAreInOrder = (m n : ℕ) → IsMonth m → IsMonth n → slice_cmp nat
 -- a day that lines know, printed and read, is itself
 abbrev pub PrintedDaysAreRead : Type 0
 PrintedDaysAreRead = (d : ℕ) → IsEntryDay d → day_of (day_text d) ≡ Some d
+
+-- a day on which rent can fall due, printed and read, is itself
+abbrev pub PrintedDueDaysAreRead : Type 0
+PrintedDueDaysAreRead = (d : ℕ) → IsDay d → month_of_day d ≤ LAST_ENTRY_MONTH → due_day_of (day_text d) ≡ Some d
+
+-- a day that is read, in a month up to any last, prints as it was read
+abbrev pub ReadDaysArePrinted : Type 0
+ReadDaysArePrinted = (last day : ℕ) (text : List ℕ) → day_until last text ≡ Some day → day_text day ≡ text
+
+-- where the text that a number prints as is read, it is read as that number
+abbrev pub DayTextsAreOfOne : Type 0
+DayTextsAreOfOne = (last day : ℕ) → is_some (day_until last (day_text day)) ≡ true → day_until last (day_text day) ≡ Some day
 
 -- days that print as one are one
 abbrev pub DaysPrintApart : Type 0

@@ -2,12 +2,12 @@
 
 ghost use Rattle.std.specs.Prelude.{◌≡◌, ◌↔◌, ◌+◌, ◌<◌, ◌≤◌, IsSome, IfSome, MatchResult, None, Some, pos, ◌≤ℤ◌};
 ghost use Rattle.dh_days.specs.Months.{IsMonth};
-ghost use Rattle.dh_days.specs.Days.{IsDay, IsEntryDay, days_in, day_at, day_of, day_text, has_day_form, month_of_day, number_in_month, plus_months};
+ghost use Rattle.dh_days.specs.Days.{IsDay, days_in, day_at, day_of, day_text, day_until, due_day_of, has_day_form, month_of_day, number_in_month, plus_months};
 ghost use Rattle.dh_days.specs.Dates.{IsDateOf};
 ghost use Rattle.dh_days.specs.declared.limits.TheConstants.{LAST_MONTH};
 
 use crate::Month;
-use crate::limits::{FIRST_MONTH, LAST_MONTH, LAST_MONTH_OF_ENTRY_DAYS};
+use crate::limits::{FIRST_MONTH, LAST_ENTRY_MONTH, LAST_MONTH, LAST_MONTH_OF_ENTRY_DAYS};
 use crate::month::spelled_month;
 use dh_values::BadText;
 use dh_values::digits::{are_digits, number};
@@ -44,16 +44,16 @@ fn has_day_form(bytes: &[u8]) -> bool
     bytes.len() == 10 && bytes[7] == b'-' && are_digits(&bytes[8..])
 }
 
-// The day that the bytes spell.
-pub(crate) fn spelled_day(bytes: &[u8]) -> Option<Day>
-    ensures value { result ≡ day_of bytes.now }
-    ensures range { IfSome result IsEntryDay }
+// The day that the bytes spell, in a month up to the last.
+pub(crate) fn spelled_day(bytes: &[u8], last: u32) -> Option<Day>
+    ensures value { result ≡ day_until last bytes.now }
+    ensures range { IfSome result (λ d. IsDay d × (month_of_day d ≤ last)) }
 {
     if !has_day_form(bytes) {
         return None;
     }
     let month = spelled_month(&bytes[..7])?;
-    if month > LAST_MONTH_OF_ENTRY_DAYS {
+    if month > last {
         return None;
     }
     Day::try_of(Month::of_number(month), number(&bytes[8..]))
@@ -65,7 +65,18 @@ impl Day {
     pub fn read(text: &str) -> Result<Day, BadText>
         ensures { MatchResult result (λ d. day_of text.now ≡ Some d) (λ _. day_of text.now ≡ None) }
     {
-        match spelled_day(text.as_bytes()) {
+        match spelled_day(text.as_bytes(), LAST_MONTH_OF_ENTRY_DAYS) {
+            Some(day) => Ok(day),
+            None => Err(BadText),
+        }
+    }
+
+    /// The day that the text spells, as `2025-01-31`, where rent can fall due on it: 2000-01-01 to 2200-12-31. It takes no
+    /// memory. `BadText` where the text is no such day.
+    pub fn read_due(text: &str) -> Result<Day, BadText>
+        ensures { MatchResult result (λ d. due_day_of text.now ≡ Some d) (λ _. due_day_of text.now ≡ None) }
+    {
+        match spelled_day(text.as_bytes(), LAST_ENTRY_MONTH) {
             Some(day) => Ok(day),
             None => Err(BadText),
         }

@@ -36,7 +36,7 @@ impl EntryDay {
     pub fn read(text: &str) -> Result<EntryDay, BadText>
         ensures { MatchResult result (λ d. day_of text.now ≡ Some d) (λ _. day_of text.now ≡ None) }
     {
-        match spelled_day(text.as_bytes()) {
+        match spelled_day(text.as_bytes(), LAST_MONTH_OF_ENTRY_DAYS) {
             Some(day) => Ok(EntryDay { day }),
             None => Err(BadText),
         }

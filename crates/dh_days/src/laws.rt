@@ -1,7 +1,9 @@
 //! Laws of days and months: each function does nothing, and its clause is the law.
 
-ghost use Rattle.dh_days.specs.Laws.{DayTextsAreInOrder, DaysLieByMonth, DaysPrintApart, MonthOfMonthsLater, MonthTextsAreInOrder, MonthsLaterInOrder};
-ghost use Rattle.dh_days.specs.Laws.{MonthsLaterIsDay, MonthsPrintApart, MoreMonthsLater, NoMonthLater, PrintedDaysAreRead, PrintedMonthsAreRead};
+ghost use Rattle.dh_days.specs.Laws.{DayTextsAreInOrder, DayTextsAreOfOne, DaysLieByMonth, DaysPrintApart, MonthOfMonthsLater, MonthTextsAreInOrder};
+ghost use Rattle.dh_days.specs.Laws.{MonthsLaterInOrder};
+ghost use Rattle.dh_days.specs.Laws.{MonthsLaterIsDay, MonthsPrintApart, MoreMonthsLater, NoMonthLater, PrintedDaysAreRead, PrintedDueDaysAreRead};
+ghost use Rattle.dh_days.specs.Laws.{PrintedMonthsAreRead, ReadDaysArePrinted};
 
 /// A month that lines know, printed and read, is itself.
 pub fn printed_months_are_read()
@@ -21,6 +23,21 @@ pub fn month_texts_are_in_order()
 /// A day that lines know, printed and read, is itself.
 pub fn printed_days_are_read()
     ensures { PrintedDaysAreRead }
+{}
+
+/// A day on which rent can fall due, printed and read, is itself.
+pub fn printed_due_days_are_read()
+    ensures { PrintedDueDaysAreRead }
+{}
+
+/// A day that is read prints as it was read.
+pub fn read_days_are_printed()
+    ensures { ReadDaysArePrinted }
+{}
+
+/// Where the text that a number prints as is read, it is read as that number.
+pub fn day_texts_are_of_one()
+    ensures { DayTextsAreOfOne }
 {}
 
 /// Days that print as one are one.

@@ -1,10 +1,26 @@
-//! Records as rows of the tables.
+//! Records as rows of the tables. Read `Record` first.
 #![tactic(auto)]
 
 mod branch;
 mod cells;
+mod charge;
+mod client;
+mod inspection;
+pub mod laws;
+mod lease;
+pub mod limits;
 mod meta;
+mod owner;
+mod params;
+mod part;
+mod property;
+mod receipt;
 mod record;
+mod registration;
+mod run;
+mod staff;
+mod viewing;
 
-pub use meta::{Meta, VERSION};
+pub use limits::VERSION;
+pub use meta::Meta;
 pub use record::Record;

@@ -43,7 +43,7 @@ pub fn insert_branch<S: Alter>(
     ensures undone { HasCleanDisk (state S.Store tx.new.conn.now) → OnErr result (IsUnchanged (state S.Store tx.old.conn.now) (state S.Store tx.new.conn.now) ⊎ IsRolledBack (state S.Store tx.old.conn.now) (state S.Store tx.new.conn.now)) }
     ensures crash { Survives (state S.Store tx.old.conn.now) (state S.Store tx.new.conn.now) (λ _. ⊥) }
 {
-    let values = branch.to_row(alloc)?;
+    let values = branch.to_row(alloc, &[])?;
     tx.execute(
         "INSERT INTO branch (branch_no, street, city, postcode) VALUES (?1, ?2, ?3, ?4)",
         &values,

@@ -39,7 +39,7 @@ pub(crate) fn insert_meta<S: Alter>(
     ensures kept { HasCleanDisk (state S.Store tx.new.conn.now) → KeepsCommit (state S.Store tx.old.conn.now) (state S.Store tx.new.conn.now) }
     ensures crash { Survives (state S.Store tx.old.conn.now) (state S.Store tx.new.conn.now) (λ _. ⊥) }
 {
-    let values = months.to_row(alloc)?;
+    let values = months.to_row(alloc, &[])?;
     tx.execute(
         "INSERT INTO meta (id, version, first_month, next_month) VALUES (?1, ?2, ?3, ?4)",
         &values,

@@ -118,7 +118,7 @@ fn branch_through<S: Alter>(
     conn: &mut Connection<S>,
     branch: &Branch,
 ) -> Result<String, AllocError> {
-    let values = branch.to_row(alloc)?;
+    let values = branch.to_row(alloc, &[])?;
     let Some(row) = row_of(conn, FOUR, &values) else {
         return "no row".to_string(alloc);
     };
@@ -144,7 +144,7 @@ pub fn months_back<S: Alter>(
     conn: &mut Connection<S>,
 ) -> Result<String, AllocError> {
     let months = Meta::new(Month::of_number(24000), Month::of_number(26412));
-    let values = months.to_row(alloc)?;
+    let values = months.to_row(alloc, &[])?;
     match row_of(conn, FOUR, &values) {
         Some(row) => months_of(alloc, &row),
         None => "no row".to_string(alloc),

@@ -1,0 +1,7 @@
+//! The bounds of columns that have no type of their own, and the version.
+
+/// The version of the tables.
+pub const VERSION: u32 = 1;
+
+/// The most charges of a run or of a part of one.
+pub const MOST_COUNT: u32 = 4_294_967_295;
