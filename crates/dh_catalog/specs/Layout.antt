@@ -1,0 +1,97 @@
+-- The tables and indexes, in the order in which they are made. What is new comes behind what stands, so that no tree moves.
+use Rattle.std.specs.Prelude.{ℕ, List, [], ◌∷◌, take}
+use Rattle.sqlite_schema.specs.declared.schema.Table.{Table}
+use Rattle.sqlite_schema.specs.declared.schema.Index.{Index}
+use Rattle.sqlite_schema.specs.declared.schema.Schema.{Schema}
+use Rattle.dh_catalog.specs.MetaTable.{meta}
+use Rattle.dh_catalog.specs.BranchTable.{branch, branch_key}
+use Rattle.dh_catalog.specs.StaffTable.{staff, staff_key}
+use Rattle.dh_catalog.specs.OwnerTable.{owner, owner_key}
+use Rattle.dh_catalog.specs.PropertyTable.{property, property_key}
+use Rattle.dh_catalog.specs.ClientTable.{client, client_key}
+use Rattle.dh_catalog.specs.RegistrationTable.{registration, registration_key}
+use Rattle.dh_catalog.specs.ViewingTable.{viewing, viewing_key}
+use Rattle.dh_catalog.specs.InspectionTable.{inspection, inspection_key}
+use Rattle.dh_catalog.specs.LeaseTable.{lease}
+use Rattle.dh_catalog.specs.ChargeTable.{charge, charge_key}
+use Rattle.dh_catalog.specs.ReceiptTable.{receipt, receipt_key}
+use Rattle.dh_catalog.specs.RunTable.{run, run_key}
+use Rattle.dh_catalog.specs.PartTable.{part, part_key}
+use Rattle.dh_catalog.specs.LookIndexes.{property_staff, lease_property, lease_client, charge_month, receipt_lease}
+
+abbrev pub our_tables : List Table
+our_tables =
+    meta ∷ branch ∷ staff ∷ owner ∷ property ∷ client ∷ registration ∷ viewing
+    ∷ inspection ∷ lease ∷ charge ∷ receipt ∷ run ∷ part ∷ []
+
+abbrev pub our_indexes : List Index
+our_indexes =
+    branch_key ∷ staff_key ∷ owner_key ∷ property_key ∷ client_key ∷ registration_key ∷ viewing_key ∷ inspection_key
+    ∷ charge_key ∷ receipt_key ∷ run_key ∷ part_key
+    ∷ property_staff ∷ lease_property ∷ lease_client ∷ charge_month ∷ receipt_lease ∷ []
+
+-- the first so many tables and so many indexes
+abbrev pub first : ℕ → ℕ → Schema
+first tables indexes = record { tables = take tables our_tables; indexes = take indexes our_indexes; views = [] }
+
+-- the schema before all, and after each that is made
+abbrev pub no_schema : Schema
+no_schema = first 0 0
+
+abbrev pub meta_schema : Schema
+meta_schema = first 1 0
+
+abbrev pub branch_schema : Schema
+branch_schema = first 2 1
+
+abbrev pub staff_schema : Schema
+staff_schema = first 3 2
+
+abbrev pub owner_schema : Schema
+owner_schema = first 4 3
+
+abbrev pub property_schema : Schema
+property_schema = first 5 4
+
+abbrev pub client_schema : Schema
+client_schema = first 6 5
+
+abbrev pub registration_schema : Schema
+registration_schema = first 7 6
+
+abbrev pub viewing_schema : Schema
+viewing_schema = first 8 7
+
+abbrev pub inspection_schema : Schema
+inspection_schema = first 9 8
+
+abbrev pub lease_schema : Schema
+lease_schema = first 10 8
+
+abbrev pub charge_schema : Schema
+charge_schema = first 11 9
+
+abbrev pub receipt_schema : Schema
+receipt_schema = first 12 10
+
+abbrev pub run_schema : Schema
+run_schema = first 13 11
+
+abbrev pub part_schema : Schema
+part_schema = first 14 12
+
+abbrev pub property_staff_schema : Schema
+property_staff_schema = first 14 13
+
+abbrev pub lease_property_schema : Schema
+lease_property_schema = first 14 14
+
+abbrev pub lease_client_schema : Schema
+lease_client_schema = first 14 15
+
+abbrev pub charge_month_schema : Schema
+charge_month_schema = first 14 16
+
+-- all of them
+abbrev pub our_schema : Schema
+our_schema = record { tables = our_tables; indexes = our_indexes; views = [] }

@@ -1,0 +1,157 @@
+//! The texts that make the tables and their indexes. A table comes behind those that it refers to.
+
+/// `meta`: one row with the version and the months.
+pub const META: &str = "CREATE TABLE meta (\
+    id INTEGER PRIMARY KEY, \
+    version INTEGER NOT NULL, \
+    first_month INTEGER NOT NULL, \
+    next_month INTEGER NOT NULL) STRICT";
+
+/// `branch`: a row a branch, by its number.
+pub const BRANCH: &str = "CREATE TABLE branch (\
+    branch_no TEXT NOT NULL PRIMARY KEY, \
+    street TEXT NOT NULL, \
+    city TEXT NOT NULL, \
+    postcode TEXT NOT NULL) STRICT";
+
+/// `staff`: a row a member of staff, by the number.
+pub const STAFF: &str = "CREATE TABLE staff (\
+    staff_no TEXT NOT NULL PRIMARY KEY, \
+    name TEXT NOT NULL, \
+    position TEXT NOT NULL, \
+    branch_no TEXT NOT NULL REFERENCES branch) STRICT";
+
+/// `owner`: a row an owner, by the number.
+pub const OWNER: &str = "CREATE TABLE owner (\
+    owner_no TEXT NOT NULL PRIMARY KEY, \
+    name TEXT NOT NULL, \
+    address TEXT NOT NULL, \
+    telephone TEXT NOT NULL) STRICT";
+
+/// `property`: a row a property, by its number; staff_no is NULL where nobody manages it.
+pub const PROPERTY: &str = "CREATE TABLE property (\
+    property_no TEXT NOT NULL PRIMARY KEY, \
+    street TEXT NOT NULL, \
+    city TEXT NOT NULL, \
+    postcode TEXT NOT NULL, \
+    type TEXT NOT NULL, \
+    rooms INTEGER NOT NULL, \
+    rent INTEGER NOT NULL, \
+    owner_no TEXT NOT NULL REFERENCES owner, \
+    staff_no TEXT REFERENCES staff, \
+    branch_no TEXT NOT NULL REFERENCES branch) STRICT";
+
+/// `client`: a row a client, by the number.
+pub const CLIENT: &str = "CREATE TABLE client (\
+    client_no TEXT NOT NULL PRIMARY KEY, \
+    name TEXT NOT NULL, \
+    telephone TEXT NOT NULL, \
+    pref_type TEXT NOT NULL, \
+    max_rent INTEGER NOT NULL) STRICT";
+
+/// `registration`: a row a client and a branch.
+pub const REGISTRATION: &str = "CREATE TABLE registration (\
+    client_no TEXT NOT NULL REFERENCES client, \
+    branch_no TEXT NOT NULL REFERENCES branch, \
+    staff_no TEXT NOT NULL REFERENCES staff, \
+    day TEXT NOT NULL, \
+    PRIMARY KEY (client_no, branch_no)) STRICT";
+
+/// `viewing`: a row a client and a property; comment is NULL where there is none.
+pub const VIEWING: &str = "CREATE TABLE viewing (\
+    client_no TEXT NOT NULL REFERENCES client, \
+    property_no TEXT NOT NULL REFERENCES property, \
+    day TEXT NOT NULL, \
+    comment TEXT, \
+    PRIMARY KEY (client_no, property_no)) STRICT";
+
+/// `inspection`: a row a property and a day.
+pub const INSPECTION: &str = "CREATE TABLE inspection (\
+    property_no TEXT NOT NULL REFERENCES property, \
+    day TEXT NOT NULL, \
+    staff_no TEXT NOT NULL REFERENCES staff, \
+    comment TEXT NOT NULL, \
+    PRIMARY KEY (property_no, day)) STRICT";
+
+/// `lease`: a row a lease, by its number.
+pub const LEASE: &str = "CREATE TABLE lease (\
+    lease_no INTEGER PRIMARY KEY, \
+    client_no TEXT NOT NULL REFERENCES client, \
+    property_no TEXT NOT NULL REFERENCES property, \
+    start_day TEXT NOT NULL, \
+    months INTEGER NOT NULL, \
+    method TEXT NOT NULL, \
+    rent INTEGER NOT NULL) STRICT";
+
+/// `charge`: a row a charge of a lease, by its place k among them.
+pub const CHARGE: &str = "CREATE TABLE charge (\
+    lease_no INTEGER NOT NULL REFERENCES lease, \
+    k INTEGER NOT NULL, \
+    month INTEGER NOT NULL, \
+    day TEXT NOT NULL, \
+    amount INTEGER NOT NULL, \
+    PRIMARY KEY (lease_no, k)) STRICT";
+
+/// `receipt`: a row a receipt, by its number; no two have the same request key.
+pub const RECEIPT: &str = "CREATE TABLE receipt (\
+    receipt_no INTEGER PRIMARY KEY, \
+    req_key TEXT NOT NULL UNIQUE, \
+    lease_no INTEGER NOT NULL REFERENCES lease, \
+    kind TEXT NOT NULL, \
+    amount INTEGER NOT NULL, \
+    day TEXT NOT NULL) STRICT";
+
+/// `run`: a row a month whose run was opened; no two have the same request key.
+pub const RUN: &str = "CREATE TABLE run (\
+    month INTEGER PRIMARY KEY, \
+    req_key TEXT NOT NULL UNIQUE, \
+    due_count INTEGER NOT NULL, \
+    due_total INTEGER NOT NULL, \
+    closed INTEGER NOT NULL) STRICT";
+
+/// `part`: a row a branch and a month: what the run has done there.
+pub const PART: &str = "CREATE TABLE part (\
+    month INTEGER NOT NULL REFERENCES run, \
+    branch_no TEXT NOT NULL REFERENCES branch, \
+    through_lease INTEGER NOT NULL, \
+    due_count INTEGER NOT NULL, \
+    due_total INTEGER NOT NULL, \
+    PRIMARY KEY (month, branch_no)) STRICT";
+
+/// The index of the properties that a member of staff manages.
+pub const PROPERTY_STAFF: &str = "CREATE INDEX property_staff ON property (staff_no)";
+
+/// The index of the leases of a property.
+pub const LEASE_PROPERTY: &str = "CREATE INDEX lease_property ON lease (property_no)";
+
+/// The index of the leases of a client, and those of a client that start on a day.
+pub const LEASE_CLIENT: &str = "CREATE INDEX lease_client ON lease (client_no, start_day)";
+
+/// The index of the charges of a month.
+pub const CHARGE_MONTH: &str = "CREATE INDEX charge_month ON charge (month)";
+
+/// The index of the receipts of a lease, and those of a kind.
+pub const RECEIPT_LEASE: &str = "CREATE INDEX receipt_lease ON receipt (lease_no, kind)";
+
+/// The texts in the order in which they are run.
+pub(crate) static TEXTS: [&str; 19] = [
+    META,
+    BRANCH,
+    STAFF,
+    OWNER,
+    PROPERTY,
+    CLIENT,
+    REGISTRATION,
+    VIEWING,
+    INSPECTION,
+    LEASE,
+    CHARGE,
+    RECEIPT,
+    RUN,
+    PART,
+    PROPERTY_STAFF,
+    LEASE_PROPERTY,
+    LEASE_CLIENT,
+    CHARGE_MONTH,
+    RECEIPT_LEASE,
+];
