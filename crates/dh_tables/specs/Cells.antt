@@ -1,0 +1,112 @@
+-- The kinds of value that the columns of our tables hold, and what a comparison says of them.
+use Rattle.std.specs.Prelude.{◌≡◌, refl, ℕ, ℤ, pos, negsuc, nat_eq, Bool, true, false, List, Option, Some, None}
+use Rattle.std.proofs.Common.{◌∙◌, ap}
+use Rattle.sqlite_value.specs.declared.value.Value.{Value}
+use Rattle.sqlite_value.specs.declared.value.Value.TheVariants.{Null, Int, Real, Text, Blob}
+use Rattle.sqlite_value.specs.declared.keys.Collation.TheVariants.{Binary}
+use Rattle.sqlite_schema.specs.declared.schema.Kind.TheVariants as kind
+use Rattle.sqlite_schema.specs.Rules.{equal}
+use Rattle.sqlite_sql.specs.Ops.{binary, is_null}
+use Rattle.sqlite_rules.specs.Cast.{cast}
+use Rattle.dh_types.specs.Records.{is_same_optional}
+use Rattle.dh_model.specs.Checks.{is_same_text}
+use Rattle.dh_rows.specs.Cells.{is_id_cell, is_key_cell, is_number_cell, is_optional, is_read_cell, is_text_cell, is_text_that, number_in, optional_text_in, text_in}
+use Rattle.dh_sql.specs.Cells.{Cell}
+use Rattle.dh_sql.proofs.Casting.{cast_int, cast_null}
+use Rattle.dh_sql.proofs.Comparing.{numbers_same, texts_same}
+
+-- ---- what a value is that passes a test
+
+pub is_text : (test : List ℕ → Bool) (v : Value) → is_text_that test v ≡ true → v ≡ Text (text_in v)
+unfolding is_text_that
+is_text test (Text t) h = refl
+is_text test Null h = cc
+is_text test (Int n) h = cc
+is_text test (Real x) h = cc
+is_text test (Blob b) h = cc
+
+pub is_read_text : {T : Type 0} (read : List ℕ → Option T) (v : Value) → is_read_cell read v ≡ true → v ≡ Text (text_in v)
+unfolding is_read_cell
+is_read_text read (Text t) h = refl
+is_read_text read Null h = cc
+is_read_text read (Int n) h = cc
+is_read_text read (Real x) h = cc
+is_read_text read (Blob b) h = cc
+
+pub is_number : (low high : ℕ) (v : Value) → is_number_cell low high v ≡ true → v ≡ Int (pos (number_in v))
+is_number low high (Int (pos n)) h = refl
+is_number low high (Int (negsuc n)) h = cc
+is_number low high Null h = cc
+is_number low high (Real x) h = cc
+is_number low high (Text t) h = cc
+is_number low high (Blob b) h = cc
+
+-- ---- such a value is written as it is
+
+pub text_suits : (v : Value) → v ≡ Text (text_in v) → cast kind.Text v ≡ v
+text_suits (Text t) h = refl
+text_suits Null h = refl
+text_suits (Int n) h = cc
+text_suits (Real x) h = cc
+text_suits (Blob b) h = refl
+
+pub number_suits : (low high : ℕ) (v : Value) → is_number_cell low high v ≡ true → cast kind.Integer v ≡ v
+number_suits low high (Int n) h = cast_int n
+number_suits low high Null h = cc
+number_suits low high (Real x) h = cc
+number_suits low high (Text t) h = cc
+number_suits low high (Blob b) h = cc
+
+pub optional_suits : (test : List ℕ → Bool) (v : Value) → is_optional (is_text_that test) v ≡ true → cast kind.Text v ≡ v
+optional_suits test Null h = refl
+optional_suits test (Text t) h = refl
+optional_suits test (Int n) h = text_suits (Int n) (is_text test (Int n) h)
+optional_suits test (Real x) h = text_suits (Real x) (is_text test (Real x) h)
+optional_suits test (Blob b) h = refl
+
+pub null_suits : (v : Value) → is_null v ≡ true → cast kind.Integer v ≡ v
+null_suits Null h = cast_null
+null_suits (Int n) h = cc
+null_suits (Real x) h = cc
+null_suits (Text t) h = cc
+null_suits (Blob b) h = cc
+
+-- ---- the kinds of cell
+
+abbrev pub text_that : (List ℕ → Bool) → Cell
+text_that test = record { kind = kind.Text; test = is_text_that test; suits = λ v h. text_suits v (is_text test v h) }
+
+abbrev pub read_as : {T : Type 0} → (List ℕ → Option T) → Cell
+read_as read = record { kind = kind.Text; test = is_read_cell read; suits = λ v h. text_suits v (is_read_text read v h) }
+
+abbrev pub optional_text_that : (List ℕ → Bool) → Cell
+optional_text_that test = record { kind = kind.Text; test = is_optional (is_text_that test); suits = optional_suits test }
+
+abbrev pub number_from : ℕ → ℕ → Cell
+number_from low high = record { kind = kind.Integer; test = is_number_cell low high; suits = number_suits low high }
+
+-- the column of a key that is the rowid holds NULL
+abbrev pub rowid_column : Cell
+rowid_column = record { kind = kind.Integer; test = is_null; suits = null_suits }
+
+-- ---- what SQL's = says
+
+pub same_text : (v : Value) (bytes : List ℕ) → v ≡ Text (text_in v) → equal Binary v (Text bytes) ≡ is_same_text (text_in v) bytes
+same_text v bytes is = ap (λ w. equal Binary w (Text bytes)) is ∙ texts_same (text_in v) bytes
+
+pub same_number : (v : Value) (n : ℕ) → v ≡ Int (pos (number_in v)) → equal Binary v (Int (pos n)) ≡ nat_eq (number_in v) n
+same_number v n is = ap (λ w. equal Binary w (Int (pos n))) is ∙ numbers_same (number_in v) n
+
+-- NULL is equal to nothing
+null_equal : (bytes : List ℕ) → equal Binary Null (Text bytes) ≡ false
+unfolding binary
+null_equal bytes = refl
+
+pub same_optional : (test : List ℕ → Bool) (v : Value) (bytes : List ℕ) → is_optional (is_text_that test) v ≡ true
+    → equal Binary v (Text bytes) ≡ is_same_optional is_same_text (optional_text_in v) (Some bytes)
+unfolding is_text_that
+same_optional test Null bytes h = null_equal bytes
+same_optional test (Text t) bytes h = texts_same t bytes
+same_optional test (Int n) bytes h = cc
+same_optional test (Real x) bytes h = cc
+same_optional test (Blob b) bytes h = cc

@@ -1,0 +1,5 @@
+pub mod Cells
+pub mod Tables
+pub mod Questions
+pub mod Calls
+pub mod BranchTable

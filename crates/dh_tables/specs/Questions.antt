@@ -1,0 +1,21 @@
+-- A question about the rows of one table, answered by a fixed text.
+use Rattle.std.specs.Prelude.{◌≡◌, ℕ, Bool, true, List, []}
+use Rattle.sqlite_value.specs.Order.{Row}
+use Rattle.sqlite_sql.specs.Term.{Term}
+use Rattle.dh_catalog.specs.Layout.{our_schema}
+use Rattle.dh_sql.specs.Queries.{passes_all, shows}
+use Rattle.dh_sql.specs.Shape.{IsStored, Shape, stored_in}
+use Rattle.dh_sql.specs.Texts.{IsSelectText}
+
+-- SELECT project FROM table WHERE tests
+pub record Asking : Type 0 where
+  pub text : List ℕ
+  pub tests : List Term
+  pub project : List Term
+  pub names : List (List ℕ)
+
+-- the text shows the columns of the rows that are asked for
+pub record IsAsking {K X Q : Type 0} (it : Shape K X) (asking : Asking) (given : Q → Row) (asks : Q → X → Bool) : Type 0 where
+  pub selects : IsSelectText asking.text our_schema it.tree asking.tests asking.project [] asking.names
+  pub shows_columns : (q : Q) (r : Row) → shows asking.project (given q) r ≡ it.columns r
+  pub passes : (q : Q) (r : Row) → IsStored it r → passes_all (given q) asking.tests r ≡ asks q (stored_in it r)
