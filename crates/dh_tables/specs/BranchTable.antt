@@ -1,6 +1,5 @@
 -- The table branch.
 use Rattle.std.specs.Prelude.{◌≡◌, refl, ℕ, List, [], ◌∷◌, codes, true}
-use Rattle.std.proofs.Common.{◌∙◌}
 use Rattle.sqlite_value.specs.declared.value.Value.TheVariants.{Null, Text}
 use Rattle.sqlite_value.specs.declared.keys.Collation.TheVariants.{Binary}
 use Rattle.sqlite_value.specs.Order.{Row, column}
@@ -21,9 +20,8 @@ use Rattle.dh_sql.specs.Cells.{Cell}
 use Rattle.dh_sql.specs.Shape.{Shape}
 use Rattle.dh_sql.specs.Texts.{IsInsertText, IsSelectText}
 use Rattle.dh_sql.proofs.Casting.{cast_null, pass_each, row_stays}
-use Rattle.dh_sql.proofs.Running.{and_true}
 use Rattle.dh_tables.specs.declared.branch.BranchNumbered.{BranchNumbered}
-use Rattle.dh_tables.specs.Cells.{is_text as text_is, same_text, text_that}
+use Rattle.dh_tables.specs.Cells.{is_text as text_is, pass_one, same_text, text_that}
 use Rattle.dh_tables.specs.Questions.{Asking, IsAsking}
 use Rattle.dh_tables.specs.Tables.{Adding, IsAdding, Shelf, without_rowid}
 
@@ -92,5 +90,5 @@ branch_is_numbered = record {
   shows_columns = λ q r. refl;
   passes = λ q r good.
       let cells = (pass_each branch_cells true (branch_columns r) good).1 in
-      and_true _ ∙ same_text (column r 1) q.number (text_is is_id (column r 1) cells.0);
+      pass_one (same_text (column r 1) q.number (text_is is_id (column r 1) cells.0));
 }

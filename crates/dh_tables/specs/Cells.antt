@@ -1,5 +1,5 @@
 -- The kinds of value that the columns of our tables hold, and what a comparison says of them.
-use Rattle.std.specs.Prelude.{◌≡◌, refl, ℕ, ℤ, pos, negsuc, nat_eq, Bool, true, false, List, Option, Some, None}
+use Rattle.std.specs.Prelude.{◌≡◌, refl, ℕ, ℤ, pos, negsuc, nat_eq, ◌&&◌, Bool, true, false, List, Option, Some, None}
 use Rattle.std.proofs.Common.{◌∙◌, ap}
 use Rattle.sqlite_value.specs.declared.value.Value.{Value}
 use Rattle.sqlite_value.specs.declared.value.Value.TheVariants.{Null, Int, Real, Text, Blob}
@@ -13,6 +13,7 @@ use Rattle.dh_model.specs.Checks.{is_same_text}
 use Rattle.dh_rows.specs.Cells.{is_id_cell, is_key_cell, is_number_cell, is_optional, is_read_cell, is_text_cell, is_text_that, number_in, optional_text_in, text_in}
 use Rattle.dh_sql.specs.Cells.{Cell}
 use Rattle.dh_sql.proofs.Casting.{cast_int, cast_null}
+use Rattle.dh_sql.proofs.Running.{and_true}
 use Rattle.dh_sql.proofs.Comparing.{numbers_same, texts_same}
 
 -- ---- what a value is that passes a test
@@ -110,3 +111,11 @@ same_optional test (Text t) bytes h = texts_same t bytes
 same_optional test (Int n) bytes h = cc
 same_optional test (Real x) bytes h = cc
 same_optional test (Blob b) bytes h = cc
+
+-- ---- tests behind WHERE
+
+pub pass_one : {a b : Bool} → a ≡ b → (a && true) ≡ b
+pass_one {a = a} is = and_true a ∙ is
+
+pub pass_both : {a b c d : Bool} → a ≡ c → b ≡ d → (a && (b && true)) ≡ (c && d)
+pass_both {b = b} is_a is_b = λ i. is_a i && (and_true b ∙ is_b) i

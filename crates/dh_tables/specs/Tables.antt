@@ -1,5 +1,5 @@
 -- What a kind of record has to have for a table of its own.
-use Rattle.std.specs.Prelude.{◌≡◌, ℕ, Bool, true, List, [], ◌∷◌, Some, slice_get}
+use Rattle.std.specs.Prelude.{◌≡◌, ℕ, Bool, true, List, [], ◌∷◌, ◌++◌, take, drop, Some, slice_get}
 use Rattle.std.specs.declared.cmp.Ordering.{Ordering}
 use Rattle.std.specs.FinMap.{FinMap}
 use Rattle.sqlite_value.specs.declared.value.Value.TheVariants.{Null}
@@ -37,6 +37,10 @@ pub record Adding (X : Type 0) : Type 0 where
 -- the row of a record whose key is not its rowid
 abbrev pub without_rowid : {X : Type 0} → (X → Row) → X → Row
 without_rowid row x = Null ∷ row x
+
+-- the row of one whose key is: its own column holds NULL
+abbrev pub own_rowid : {X : Type 0} → (X → Row) → X → Row
+own_rowid row x = take 1 (row x) ++ Null ∷ drop 1 (row x)
 
 -- the text adds the row of a record, which is read back as the record
 pub record IsAdding {K X : Type 0} (it : Shape K X) (row : X → Row) (is_row : Row → Bool) (adding : Adding X) : Type 0 where

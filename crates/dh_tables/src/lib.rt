@@ -5,10 +5,14 @@ mod branch;
 mod fetching;
 mod gathering;
 mod look;
+mod run;
+mod staff;
 mod table;
 
 pub use branch::BranchNumbered;
 pub use fetching::{fetch, fetch_more};
 pub use gathering::gather;
 pub use look::{Look, rows_asked};
+pub use run::{RunKeyed, RunOf};
+pub use staff::MemberNumbered;
 pub use table::{Tabled, insert};
