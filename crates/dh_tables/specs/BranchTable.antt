@@ -84,11 +84,11 @@ selects : IsSelectText branch_numbered.text our_schema 1 branch_numbered.tests b
 unfolding understood everything
 selects = record { command = refl; unlisted = refl; plain = (refl, refl); stored = λ db. refl }
 
-pub branch_is_numbered : IsAsking branch_shape branch_numbered (λ (q : BranchNumbered). Text q.number ∷ []) (λ q b. is_same_text b.number q.number)
+pub branch_is_numbered : IsAsking branch_shape branch_numbered (λ (q : BranchNumbered). Unit {0}) (λ q. Text q.number ∷ []) (λ q b. is_same_text b.number q.number)
 branch_is_numbered = record {
   selects = selects;
   shows_columns = λ q r. refl;
-  passes = λ q r good.
+  passes = λ q r known good.
       let cells = (pass_each branch_cells true (branch_columns r) good).1 in
       pass_one (same_text (column r 1) q.number (text_is is_id (column r 1) cells.0));
 }

@@ -1,6 +1,6 @@
 -- The kinds of value that the columns of our tables hold, and what a comparison says of them.
-use Rattle.std.specs.Prelude.{◌≡◌, refl, ℕ, ℤ, pos, negsuc, nat_eq, ◌&&◌, Bool, true, false, List, Option, Some, None}
-use Rattle.std.proofs.Common.{◌∙◌, ap}
+use Rattle.std.specs.Prelude.{◌≡◌, refl, ℕ, ℤ, pos, negsuc, nat_eq, ◌&&◌, Bool, true, false, List, Option, Some, None, is_some, unwrap_or}
+use Rattle.std.proofs.Common.{◌∙◌, ap, sym}
 use Rattle.sqlite_value.specs.declared.value.Value.{Value}
 use Rattle.sqlite_value.specs.declared.value.Value.TheVariants.{Null, Int, Real, Text, Blob}
 use Rattle.sqlite_value.specs.declared.keys.Collation.TheVariants.{Binary}
@@ -8,13 +8,18 @@ use Rattle.sqlite_schema.specs.declared.schema.Kind.TheVariants as kind
 use Rattle.sqlite_schema.specs.Rules.{equal}
 use Rattle.sqlite_sql.specs.Ops.{binary, is_null}
 use Rattle.sqlite_rules.specs.Cast.{cast}
+use Rattle.dh_days.specs.Days.{IsEntryDay, day_of, day_text}
+use Rattle.dh_days.specs.declared.limits.TheConstants.{LAST_MONTH_OF_ENTRY_DAYS}
+use Rattle.dh_days.proofs.DayTexts.{printed_day_read}
+use Rattle.dh_days.proofs.ReadDays.{read_day_printed}
+use Rattle.dh_types.proofs.SameValues.{numbers, texts}
 use Rattle.dh_types.specs.Records.{is_same_optional}
 use Rattle.dh_model.specs.Checks.{is_same_text}
-use Rattle.dh_rows.specs.Cells.{is_id_cell, is_key_cell, is_number_cell, is_optional, is_read_cell, is_text_cell, is_text_that, number_in, optional_text_in, text_in}
+use Rattle.dh_rows.specs.Cells.{day_in, is_day_cell, is_number_cell, is_optional, is_read_cell, is_text_that, number_in, optional_text_in, text_in}
 use Rattle.dh_sql.specs.Cells.{Cell}
 use Rattle.dh_sql.proofs.Casting.{cast_int, cast_null}
 use Rattle.dh_sql.proofs.Running.{and_true}
-use Rattle.dh_sql.proofs.Comparing.{numbers_same, texts_same}
+use Rattle.dh_sql.proofs.Comparing.{alike, numbers_same, texts_same}
 
 -- ---- what a value is that passes a test
 
@@ -97,6 +102,29 @@ same_text v bytes is = ap (λ w. equal Binary w (Text bytes)) is ∙ texts_same 
 
 pub same_number : (v : Value) (n : ℕ) → v ≡ Int (pos (number_in v)) → equal Binary v (Int (pos n)) ≡ nat_eq (number_in v) n
 same_number v n is = ap (λ w. equal Binary w (Int (pos n))) is ∙ numbers_same (number_in v) n
+
+known : (o : Option ℕ) → is_some o ≡ true → o ≡ Some (unwrap_or o 0)
+known (Some n) h = refl
+known None h = cc
+
+some_is : (m n : ℕ) → Some m ≡ Some n → m ≡ n
+some_is m n h = cc
+
+same_day_text : (day : ℕ) → IsEntryDay day → (t : List ℕ) (n : ℕ) → day_of t ≡ Some n → equal Binary (Text t) (Text (day_text day)) ≡ nat_eq n day
+same_day_text day is_day t n read =
+    let printed : day_text n ≡ t = read_day_printed LAST_MONTH_OF_ENTRY_DAYS n t read in
+    texts_same t (day_text day) ∙ alike _ _
+    (λ same. (numbers n day).1 (some_is n day (sym read ∙ ap day_of ((texts t (day_text day)).0 same) ∙ printed_day_read day is_day)))
+    (λ same. (texts t (day_text day)).1 (sym printed ∙ ap day_text ((numbers n day).0 same)))
+
+-- days are compared by their texts
+pub same_day : (v : Value) (day : ℕ) → IsEntryDay day → is_day_cell v ≡ true → equal Binary v (Text (day_text day)) ≡ nat_eq (day_in v) day
+unfolding is_read_cell
+same_day (Text t) day is_day h = same_day_text day is_day t (day_in (Text t)) (known (day_of t) h)
+same_day Null day is_day h = cc
+same_day (Int n) day is_day h = cc
+same_day (Real x) day is_day h = cc
+same_day (Blob b) day is_day h = cc
 
 -- NULL is equal to nothing
 null_equal : (bytes : List ℕ) → equal Binary Null (Text bytes) ≡ false

@@ -4,4 +4,6 @@ pub mod Questions
 pub mod Calls
 pub mod BranchTable
 pub mod StaffTable
+pub mod PropertyTable
+pub mod InspectionTable
 pub mod RunTable

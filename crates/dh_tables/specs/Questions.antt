@@ -15,7 +15,7 @@ pub record Asking : Type 0 where
   pub names : List (List ℕ)
 
 -- the text shows the columns of the rows that are asked for
-pub record IsAsking {K X Q : Type 0} (it : Shape K X) (asking : Asking) (given : Q → Row) (asks : Q → X → Bool) : Type 0 where
+pub record IsAsking {K X Q : Type 0} (it : Shape K X) (asking : Asking) (can_ask : Q → Type 0) (given : Q → Row) (asks : Q → X → Bool) : Type 0 where
   pub selects : IsSelectText asking.text our_schema it.tree asking.tests asking.project [] asking.names
   pub shows_columns : (q : Q) (r : Row) → shows asking.project (given q) r ≡ it.columns r
-  pub passes : (q : Q) (r : Row) → IsStored it r → passes_all (given q) asking.tests r ≡ asks q (stored_in it r)
+  pub passes : (q : Q) (r : Row) → can_ask q → IsStored it r → passes_all (given q) asking.tests r ≡ asks q (stored_in it r)

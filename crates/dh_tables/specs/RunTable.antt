@@ -101,11 +101,11 @@ run_of_selects : IsSelectText run_of.text our_schema 22 run_of.tests run_project
 unfolding understood everything
 run_of_selects = record { command = refl; unlisted = refl; plain = (refl, refl); stored = λ db. refl }
 
-pub run_of_is : IsAsking run_shape run_of (λ (q : RunOf). Int (pos q.month) ∷ []) (λ q r. nat_eq r.month q.month)
+pub run_of_is : IsAsking run_shape run_of (λ (q : RunOf). Unit {0}) (λ q. Int (pos q.month) ∷ []) (λ q r. nat_eq r.month q.month)
 run_of_is = record {
   selects = run_of_selects;
   shows_columns = λ q r. refl;
-  passes = λ q r good.
+  passes = λ q r known good.
       let cells = (pass_each run_cells true (run_columns r) good).1 in
       pass_one (same_number (column r 0) q.month (is_number FIRST_MONTH LAST_ENTRY_MONTH (column r 0) cells.0));
 }
@@ -124,11 +124,11 @@ run_keyed_selects : IsSelectText run_keyed.text our_schema 22 run_keyed.tests ru
 unfolding understood everything
 run_keyed_selects = record { command = refl; unlisted = refl; plain = (refl, refl); stored = λ db. refl }
 
-pub run_keyed_is : IsAsking run_shape run_keyed (λ (q : RunKeyed). Text q.key ∷ []) (λ q r. is_same_text r.key q.key)
+pub run_keyed_is : IsAsking run_shape run_keyed (λ (q : RunKeyed). Unit {0}) (λ q. Text q.key ∷ []) (λ q r. is_same_text r.key q.key)
 run_keyed_is = record {
   selects = run_keyed_selects;
   shows_columns = λ q r. refl;
-  passes = λ q r good.
+  passes = λ q r known good.
       let cells = (pass_each run_cells true (run_columns r) good).1 in
       pass_one (same_text (column r 2) q.key (text_is is_key (column r 2) cells.1.0));
 }

@@ -91,11 +91,11 @@ member_numbered_selects : IsSelectText member_numbered.text our_schema 3 member_
 unfolding understood everything
 member_numbered_selects = record { command = refl; unlisted = refl; plain = (refl, refl); stored = λ db. refl }
 
-pub member_numbered_is : IsAsking staff_shape member_numbered (λ (q : MemberNumbered). Text q.number ∷ []) (λ q s. is_same_text s.number q.number)
+pub member_numbered_is : IsAsking staff_shape member_numbered (λ (q : MemberNumbered). Unit {0}) (λ q. Text q.number ∷ []) (λ q s. is_same_text s.number q.number)
 member_numbered_is = record {
   selects = member_numbered_selects;
   shows_columns = λ q r. refl;
-  passes = λ q r good.
+  passes = λ q r known good.
       let cells = (pass_each staff_cells true (staff_columns r) good).1 in
       pass_one (same_text (column r 1) q.number (text_is is_id (column r 1) cells.0));
 }

@@ -61,7 +61,11 @@ impl Look for BranchNumbered {
         "SELECT branch_no, street, city, postcode FROM branch WHERE branch_no = ?1"
     }
 
-    fn params(&self, alloc: Global) -> Result<Vec<ValueRef<'_>>, AllocError> {
+    fn day_bytes(&self, alloc: Global) -> Result<Vec<u8>, AllocError> {
+        Ok(Vec::new(alloc))
+    }
+
+    fn params<'a>(&'a self, alloc: Global, _day: &'a [u8]) -> Result<Vec<ValueRef<'a>>, AllocError> {
         [ValueRef::Text(self.number.as_str().as_bytes())].to_vec(alloc)
     }
 

@@ -1,6 +1,6 @@
 //! Looking at some rows of a table.
 
-ghost use Rattle.std.specs.Prelude.{◌≡◌, Bool, IfOk, OnOk, OnErr};
+ghost use Rattle.std.specs.Prelude.{◌≡◌, ℕ, Bool, List, [], IfOk, OnOk, OnErr};
 ghost use Rattle.std.specs.List.{IsDistinct};
 ghost use Rattle.std.specs.Ordering.{eq_by_cmp};
 ghost use Rattle.sqlite_value.specs.Order.{Row as SqlRow};
@@ -30,15 +30,27 @@ pub trait Look {
 
     ghost given: { Self → SqlRow };
 
+    /// The text of the question's day, and no byte where it has none.
+    ghost day_column: { Self → List ℕ } = { λ _. [] };
+
+    /// What the question's type tells of its values.
+    ghost can_ask: { Self → Type 0 } = { λ _. Unit {0} };
+
     /// The text.
     fn text() -> &'static str
         ensures { result.now ≡ asking.text };
 
-    /// The parameters.
-    fn params(&self, alloc: Global) -> Result<Vec<ValueRef<'_>>, AllocError>
-        ensures { IfOk result (λ values. bound values.items ≡ given self.now) };
+    /// The text of the question's day, and no byte where it has none.
+    fn day_bytes(&self, alloc: Global) -> Result<Vec<u8>, AllocError>
+        ensures { IfOk result (λ text. text.items ≡ day_column self.now) };
 
-    ghost is_asking: { IsAsking Self.Record.shape asking given asks };
+    /// The parameters, given the text of the day, as `day_bytes` answers it.
+    fn params<'a>(&'a self, alloc: Global, day: &'a [u8]) -> Result<Vec<ValueRef<'a>>, AllocError>
+        requires { day.now ≡ day_column self.now }
+        ensures values { IfOk result (λ values. bound values.items ≡ given self.now) }
+        ensures known { IfOk result (λ _. can_ask self.now) };
+
+    ghost is_asking: { IsAsking Self.Record.shape asking can_ask given asks };
 }
 
 /// The rows that are asked for, in some order, none twice. It changes nothing.
@@ -55,6 +67,7 @@ pub fn rows_asked<L: Look, S: Alter>(
     ensures undone { HasCleanDisk (state S.Store conn.new) → OnErr result (IsUndone (state S.Store conn.old) (state S.Store conn.new)) }
     ensures crash { CommitsNothing (state S.Store conn.old) (state S.Store conn.new) }
 {
-    let params = question.params(alloc)?;
+    let day = question.day_bytes(alloc)?;
+    let params = question.params(alloc, &day)?;
     conn.query_all(L::text(), &params)
 }

@@ -60,7 +60,11 @@ impl Look for RunOf {
         "SELECT month, req_key, due_count, due_total, closed FROM run WHERE month = ?1"
     }
 
-    fn params(&self, alloc: Global) -> Result<Vec<ValueRef<'_>>, AllocError> {
+    fn day_bytes(&self, alloc: Global) -> Result<Vec<u8>, AllocError> {
+        Ok(Vec::new(alloc))
+    }
+
+    fn params<'a>(&'a self, alloc: Global, _day: &'a [u8]) -> Result<Vec<ValueRef<'a>>, AllocError> {
         [ValueRef::Int(i64::from(self.month.number()))].to_vec(alloc)
     }
 
@@ -91,7 +95,11 @@ impl Look for RunKeyed {
         "SELECT month, req_key, due_count, due_total, closed FROM run WHERE req_key = ?1"
     }
 
-    fn params(&self, alloc: Global) -> Result<Vec<ValueRef<'_>>, AllocError> {
+    fn day_bytes(&self, alloc: Global) -> Result<Vec<u8>, AllocError> {
+        Ok(Vec::new(alloc))
+    }
+
+    fn params<'a>(&'a self, alloc: Global, _day: &'a [u8]) -> Result<Vec<ValueRef<'a>>, AllocError> {
         [ValueRef::Text(self.key.as_str().as_bytes())].to_vec(alloc)
     }
 
