@@ -4,6 +4,14 @@ pub mod Questions
 pub mod Calls
 pub mod BranchTable
 pub mod StaffTable
+pub mod OwnerTable
 pub mod PropertyTable
+pub mod ClientTable
+pub mod RegistrationTable
+pub mod ViewingTable
 pub mod InspectionTable
+pub mod LeaseTable
+pub mod ChargeTable
+pub mod ReceiptTable
 pub mod RunTable
+pub mod PartTable

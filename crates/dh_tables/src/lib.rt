@@ -2,21 +2,37 @@
 #![tactic(auto)]
 
 mod branch;
+mod charge;
+mod client;
 mod fetching;
 mod gathering;
 mod inspection;
+mod lease;
 mod look;
+mod owner;
+mod part;
 mod property;
+mod receipt;
+mod registration;
 mod run;
 mod staff;
 mod table;
+mod viewing;
 
 pub use branch::BranchNumbered;
+pub use charge::{ChargesOfLease, ChargesOfMonth};
+pub use client::ClientNumbered;
 pub use fetching::{fetch, fetch_more};
 pub use gathering::gather;
 pub use inspection::{InspectionOf, InspectionsOf};
+pub use lease::{LeaseNumbered, LeasesOfClient, LeasesOfClientFrom, LeasesOfProperty};
 pub use look::{Look, rows_asked};
+pub use owner::OwnerNumbered;
+pub use part::{PartOf, PartsOfMonth};
 pub use property::{PropertiesManaged, PropertyNumbered};
+pub use receipt::{ReceiptKeyed, ReceiptsOfLease};
+pub use registration::RegistrationAt;
 pub use run::{RunKeyed, RunOf};
 pub use staff::MemberNumbered;
 pub use table::{Tabled, insert};
+pub use viewing::ViewingOf;
