@@ -22,12 +22,13 @@ use Rattle.sqlite.specs.Table.{Table}
 use Rattle.sqlite.specs.Term.{Term}
 use Rattle.sqlite.specs.Tree.{has_rowid, put_row, rowid}
 use Rattle.sqlite.proofs.Callers.{runs_as, statement_of}
-use Rattle.dh_sql.specs.Changes.{Becomes}
+use Rattle.dh_sql.specs.Changes.{Becomes, IsTurnedInto}
 use Rattle.dh_sql.specs.Queries.{passes_all, plain_query, shows}
 use Rattle.dh_sql.specs.Shape.{AreApart, IsKept, IsStored, Shape, rows_in, stored_in}
 use Rattle.dh_sql.specs.Texts.{IsQuiet, IsUpdateText}
 use Rattle.dh_sql.proofs.Apart.{apart_with}
 use Rattle.dh_sql.proofs.Found.{keyed_rows}
+use Rattle.dh_sql.proofs.Lists.{has_all}
 use Rattle.dh_sql.proofs.Reading.{plain_rows}
 use Rattle.dh_sql.proofs.Staying.{others_stay}
 use Rattle.dh_sql.proofs.Updating.{apart_among, kept_after, only_row, others_apart, others_own, own, updated, was, is}
@@ -46,19 +47,12 @@ module _ {K X : Type 0} {R : K → K → Ordering} (o : IsTotalOrder R) (anti : 
   abbrev pub after : Row → Row → Row
   after params r = drop 1 (shows project params r)
 
-  -- it is written as it is, with the rowid of the old, and is this record
-  pub record TurnsInto (params r : Row) (y : X) : Type 0 where
-    pub stays : cast_row t (after params r) ≡ after params r
-    pub rowid_is : rowid (after params r) ≡ rowid r
-    pub grammar : IsStored it (after params r)
-    pub record_is : stored_in it (after params r) ≡ y
-
   module _ (old new : State) (params : Row) (count : ℕ) (k : K) (x y : X) (has : old.now.schema ≡ schema) (kept : IsKept it R old.now.trees)
       (apart : AreApart (old.now.trees t.tree))
       (passing : (r : Row) → Has (old.now.trees t.tree) r
         → (passes_all params tests r ≡ true → it.key (stored_in it r) ≡ k) × (it.key (stored_in it r) ≡ k → passes_all params tests r ≡ true))
       (keeps : (r : Row) → rowid (shows project params r) ≡ rowid r)
-      (turns : (r : Row) → IsStored it r → is_int (rowid r) ≡ true → stored_in it r ≡ x → TurnsInto params r y) where
+      (turns : (r : Row) → IsStored it r → is_int (rowid r) ≡ true → stored_in it r ≡ x → IsTurnedInto it t r (after params r) y) where
     -- the record under the key is another, and all else is as it was
     pub changes : get (rows_in it {R = R} old.now.trees) k ≡ Some x → it.key y ≡ k → Executes text params old new (Ok count)
         → Becomes it R schema (insert (rows_in it old.now.trees) k y) old new
@@ -103,3 +97,25 @@ module _ {K X : Type 0} {R : K → K → Ordering} (o : IsTotalOrder R) (anti : 
           apart = λ _. apart_with rest (new.now.trees t.tree) s behind keyed ints free among;
           others = others_stay schema t.tree old.now.trees new.now.trees did.applied.tables;
         }
+
+  -- the same, of a shape whose tree is that of the table
+  pub amends : t.tree ≡ shape.tree → (old new : State) (params : Row) (count : ℕ) (k : K) (x y : X) → old.now.schema ≡ schema → IsKept shape R old.now.trees
+      → AreApart (old.now.trees shape.tree)
+      → ((r : Row) → IsStored shape r
+        → (passes_all params tests r ≡ true → shape.key (stored_in shape r) ≡ k) × (shape.key (stored_in shape r) ≡ k → passes_all params tests r ≡ true))
+      → ((r : Row) → rowid (shows project params r) ≡ rowid r)
+      → ((r : Row) → IsStored shape r → is_int (rowid r) ≡ true → stored_in shape r ≡ x → IsTurnedInto shape t r (after params r) y)
+      → get (rows_in shape {R = R} old.now.trees) k ≡ Some x → shape.key y ≡ k → Executes text params old new (Ok count)
+      → Becomes shape R schema (insert (rows_in shape old.now.trees) k y) old new
+  amends tree_is old new params count k x y has =
+      let placed : ℕ → Shape K X = λ n. record shape { tree = n } in
+      subst (λ n. IsKept (placed n) R old.now.trees → AreApart (old.now.trees n)
+        → ((r : Row) → IsStored (placed n) r
+          → (passes_all params tests r ≡ true → shape.key (stored_in shape r) ≡ k) × (shape.key (stored_in shape r) ≡ k → passes_all params tests r ≡ true))
+        → ((r : Row) → rowid (shows project params r) ≡ rowid r)
+        → ((r : Row) → IsStored (placed n) r → is_int (rowid r) ≡ true → stored_in (placed n) r ≡ x → IsTurnedInto (placed n) t r (after params r) y)
+        → get (rows_in (placed n) {R = R} old.now.trees) k ≡ Some x → shape.key y ≡ k → Executes text params old new (Ok count)
+        → Becomes (placed n) R schema (insert (rows_in (placed n) old.now.trees) k y) old new) tree_is
+      (λ kept apart finds keeps turns there same h.
+        let passing = λ (r : Row) (at : Has (old.now.trees t.tree) r). finds r (has_all (IsStored it) (old.now.trees t.tree) r kept.values at) in
+        changes old new params count k x y has kept apart passing keeps turns there same h)

@@ -4,13 +4,22 @@ use Rattle.std.specs.declared.cmp.Ordering.{Ordering}
 use Rattle.std.specs.FinMap.{FinMap}
 use Rattle.sqlite_schema.specs.declared.schema.Schema.{Schema}
 use Rattle.sqlite_schema.specs.declared.schema.Table.{Table}
-use Rattle.sqlite_trees.specs.Tree.{Trees}
+use Rattle.sqlite_value.specs.Order.{Row}
+use Rattle.sqlite_rules.specs.Cast.{cast_row}
+use Rattle.sqlite_trees.specs.Tree.{Trees, rowid}
 use Rattle.sqlite.specs.State.{State}
-use Rattle.dh_sql.specs.Shape.{AreApart, IsKept, Shape, rows_in}
+use Rattle.dh_sql.specs.Shape.{AreApart, IsKept, IsStored, Shape, rows_in, stored_in}
 
 -- each table of the schema but that of one tree is as it was
 abbrev pub OthersStay : Schema → ℕ → Trees → Trees → Type 0
 OthersStay schema tree old new = (at : ℕ) (t : Table) → slice_get schema.tables at ≡ Some t → nat_eq t.tree tree ≡ false → new t.tree ≡ old t.tree
+
+-- a stored row is written as this one, which has its rowid and is this record
+pub record IsTurnedInto {K X : Type 0} (it : Shape K X) (table : Table) (before after : Row) (y : X) : Type 0 where
+  pub stays : cast_row table after ≡ after
+  pub rowid_is : rowid after ≡ rowid before
+  pub grammar : IsStored it after
+  pub record_is : stored_in it after ≡ y
 
 module _ {K X : Type 0} (it : Shape K X) (R : K → K → Ordering) where
   -- the table has the records that it had, and is in order where it was

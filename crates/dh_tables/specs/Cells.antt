@@ -1,6 +1,8 @@
 -- The kinds of value that the columns of our tables hold, and what a comparison says of them.
-use Rattle.std.specs.Prelude.{◌≡◌, refl, ℕ, ℤ, pos, negsuc, nat_eq, ◌&&◌, Bool, true, false, List, Option, Some, None, is_some, unwrap_or}
-use Rattle.std.proofs.Common.{◌∙◌, ap, sym}
+use Rattle.std.specs.Prelude.{◌≡◌, refl, ℕ, ℤ, pos, negsuc, nat_eq, ◌&&◌, Bool, true, false, List, Option, Some, None, IfSome, is_some, unwrap_or}
+use Rattle.std.proofs.Common.{◌∙◌, ◌≤◌, ap, arith, sym}
+use Rattle.std.proofs.lemmas.Bool.{and_parts}
+use Rattle.std.proofs.lemmas.Bool.Decides.{nat_tests}
 use Rattle.sqlite_value.specs.declared.value.Value.{Value}
 use Rattle.sqlite_value.specs.declared.value.Value.TheVariants.{Null, Int, Real, Text, Blob}
 use Rattle.sqlite_value.specs.declared.keys.Collation.TheVariants.{Binary}
@@ -15,7 +17,7 @@ use Rattle.dh_days.proofs.ReadDays.{read_day_printed}
 use Rattle.dh_types.proofs.SameValues.{numbers, texts}
 use Rattle.dh_types.specs.Records.{is_same_optional}
 use Rattle.dh_model.specs.Checks.{is_same_text}
-use Rattle.dh_rows.specs.Cells.{day_in, is_day_cell, is_number_cell, is_optional, is_read_cell, is_text_that, number_in, optional_text_in, text_in}
+use Rattle.dh_rows.specs.Cells.{day_in, is_day_cell, is_number_cell, is_optional, is_read_cell, is_text_that, number_in, optional_text, optional_text_in, text_in}
 use Rattle.dh_sql.specs.Cells.{Cell}
 use Rattle.dh_sql.proofs.Casting.{cast_int, cast_null}
 use Rattle.dh_sql.proofs.Running.{and_true}
@@ -147,3 +149,42 @@ pass_one {a = a} is = and_true a ∙ is
 
 pub pass_both : {a b c d : Bool} → a ≡ c → b ≡ d → (a && (b && true)) ≡ (c && d)
 pass_both {b = b} is_a is_b = λ i. is_a i && (and_true b ∙ is_b) i
+
+-- what such a test says of the key of a row
+pub tells_text : (found asked : List ℕ) {b : Bool} → b ≡ is_same_text found asked → (b ≡ true → found ≡ asked) × (found ≡ asked → b ≡ true)
+tells_text found asked is = (λ h. (texts found asked).0 (sym is ∙ h), λ e. is ∙ (texts found asked).1 e)
+
+pub tells_number : (found asked : ℕ) {b : Bool} → b ≡ nat_eq found asked → (b ≡ true → found ≡ asked) × (found ≡ asked → b ≡ true)
+tells_number found asked is = (λ h. (numbers found asked).0 (sym is ∙ h), λ e. is ∙ (numbers found asked).1 e)
+
+-- and so of two
+pub tells_both : {A B : Type 0} {f x : A} {g y : B} {a b c : Bool} → (a ≡ true → f ≡ x) × (f ≡ x → a ≡ true) → (b ≡ true → g ≡ y) × (g ≡ y → b ≡ true)
+    → c ≡ (a && b) → (c ≡ true → ◌≡◌ {A = A × B} (f, g) (x, y)) × (◌≡◌ {A = A × B} (f, g) (x, y) → c ≡ true)
+tells_both {A = A} {B = B} {a = a} {b = b} one two is = (
+  λ h.
+    let parts = and_parts a b (sym is ∙ h) in
+    let first = one.0 parts.0 in
+    let second = two.0 parts.1 in
+    λ i. (first i, second i),
+  λ e. is ∙ both_hold a b (one.1 (ap (λ (p : A × B). p.0) e)) (two.1 (ap (λ (p : A × B). p.1) e)),
+)
+  where
+    both_hold : (a b : Bool) → a ≡ true → b ≡ true → (a && b) ≡ true
+    both_hold a b h k = rw (h, k) refl
+
+-- ---- values that are given
+
+pub in_range : (low high n : ℕ) → low ≤ n → n ≤ high → is_number_cell low high (Int (pos n)) ≡ true
+in_range low high n from to = grind (arith, nat_tests)
+
+pub to_limit : (high n : ℕ) → n ≤ high → is_number_cell 0 high (Int (pos n)) ≡ true
+to_limit high n to = grind (arith, nat_tests)
+
+pub text_passes : (test : List ℕ → Bool) (bytes : List ℕ) → test bytes ≡ true → is_text_that test (Text bytes) ≡ true
+unfolding is_text_that
+text_passes test bytes h = h
+
+pub optional_passes : (test : List ℕ → Bool) (text : Option (List ℕ)) → IfSome text (λ bytes. test bytes ≡ true)
+    → is_optional (is_text_that test) (optional_text text) ≡ true
+optional_passes test None h = refl
+optional_passes test (Some bytes) h = text_passes test bytes h

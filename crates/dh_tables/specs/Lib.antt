@@ -15,3 +15,7 @@ pub mod ChargeTable
 pub mod ReceiptTable
 pub mod RunTable
 pub mod PartTable
+pub mod Amendments
+pub mod PropertyChanges
+pub mod ViewingChanges
+pub mod RunChanges

@@ -1,6 +1,7 @@
 //! The tables of records: adding a row, and looking at rows. Read [`Tabled`] and [`Look`] first.
 #![tactic(auto)]
 
+mod amend;
 mod branch;
 mod charge;
 mod client;
@@ -12,13 +13,17 @@ mod look;
 mod owner;
 mod part;
 mod property;
+mod property_changes;
 mod receipt;
 mod registration;
 mod run;
+mod run_changes;
 mod staff;
 mod table;
 mod viewing;
+mod viewing_changes;
 
+pub use amend::{Amend, update};
 pub use branch::BranchNumbered;
 pub use charge::{ChargesOfLease, ChargesOfMonth};
 pub use client::ClientNumbered;
