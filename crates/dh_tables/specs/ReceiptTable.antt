@@ -1,31 +1,41 @@
 -- The table receipt, whose key is its rowid.
-use Rattle.std.specs.Prelude.{◌≡◌, refl, ℕ, List, [], ◌∷◌, codes, drop, true, pos, nat_eq}
+use Rattle.std.proofs.Common.{◌∙◌, inl, inr, subst, sym, true≢false}
+use Rattle.std.proofs.lemmas.Bool.{cases_Bool}
+use Rattle.std.proofs.lemmas.Slice.Eq.{bytes_eq-Decides}
+use Rattle.std.specs.Prelude.{◌&&◌, bytes_eq, is_some, unwrap_or, ◌≡◌, refl, ℕ, List, [], ◌∷◌, codes, drop, true, pos, nat_eq}
 use Rattle.std.specs.Ordering.{nat_cmp}
-use Rattle.sqlite_value.specs.declared.value.Value.TheVariants.{Int, Null, Text}
+use Rattle.sqlite_value.specs.declared.value.Value.{Value}
+use Rattle.sqlite_value.specs.declared.value.Value.TheVariants.{Blob, Int, Null, Real, Text}
 use Rattle.sqlite_value.specs.declared.keys.Collation.TheVariants.{Binary}
 use Rattle.sqlite_value.specs.Order.{Row, column}
 use Rattle.sqlite_sql.specs.declared.ops.BinaryOp.TheVariants.{Compare}
 use Rattle.sqlite_sql.specs.declared.ops.CompareOp.TheVariants.{Eq}
 use Rattle.sqlite_sql.specs.Term.{Term, lit, col, op2}
+use Rattle.sqlite_schema.specs.Rules.{equal}
 use Rattle.sqlite_rules.specs.Cast.{cast_row}
 use Rattle.sqlite_tied.specs.Compute.{everything}
 use Rattle.sqlite.specs.Listing.{understood}
 use Rattle.dh_values.specs.Texts.{is_key}
+use Rattle.dh_values.specs.declared.receipt_kind.ReceiptKind.TheVariants.{Deposit, Rent}
 use Rattle.dh_values.specs.Kinds.{receipt_kind_of}
 use Rattle.dh_values.specs.declared.limits.TheConstants.{MOST_AMOUNT, MOST_NUMBER}
 use Rattle.dh_days.specs.Days.{day_of}
 use Rattle.dh_types.specs.declared.lease.Receipt.{Receipt}
+use Rattle.dh_types.specs.Records.{is_same_receipt_kind}
 use Rattle.dh_model.specs.Checks.{is_same_text}
 use Rattle.dh_rows.specs.ReceiptRows.{receipt_in, receipt_row, is_receipt_row}
+use Rattle.dh_rows.specs.Cells.{is_read_cell, read_in}
 use Rattle.dh_catalog.specs.Layout.{our_schema}
 use Rattle.dh_catalog.specs.ReceiptTable.{receipt}
 use Rattle.dh_sql.specs.Cells.{Cell}
 use Rattle.dh_sql.specs.Shape.{Shape}
 use Rattle.dh_sql.specs.Texts.{IsInsertText, IsSelectText}
 use Rattle.dh_sql.proofs.Casting.{cast_int, pass_each, row_stays}
+use Rattle.dh_sql.proofs.Comparing.{texts_same}
+use Rattle.dh_tables.specs.declared.receipt.DepositsOfLease.{DepositsOfLease}
 use Rattle.dh_tables.specs.declared.receipt.ReceiptKeyed.{ReceiptKeyed}
 use Rattle.dh_tables.specs.declared.receipt.ReceiptsOfLease.{ReceiptsOfLease}
-use Rattle.dh_tables.specs.Cells.{is_number, is_text as text_is, number_from, pass_one, read_as, rowid_column, same_number, same_text, text_that}
+use Rattle.dh_tables.specs.Cells.{is_number, is_text as text_is, number_from, pass_both, pass_one, read_as, rowid_column, same_number, same_text, text_that}
 use Rattle.dh_tables.specs.Questions.{Asking, IsAsking}
 use Rattle.dh_tables.specs.Tables.{Adding, IsAdding, Shelf, own_rowid}
 
@@ -133,4 +143,54 @@ receipts_of_lease_is = record {
   passes = λ q r known good.
       let cells = (pass_each receipt_cells true (receipt_columns r) good).1 in
       pass_one (same_number (column r 3) q.lease (is_number 1 MOST_NUMBER (column r 3) cells.1.1.0));
+}
+
+-- ---- the deposits of a lease
+
+abbrev pub deposits_of_lease : Asking
+deposits_of_lease = record {
+  text = codes "SELECT receipt_no, req_key, lease_no, kind, amount, day FROM receipt WHERE lease_no = ?1 AND kind = 'deposit'";
+  tests = op2 (Compare Eq Binary) (col 1 3) (col 0 0) ∷ op2 (Compare Eq Binary) (col 1 4) (lit (Text (codes "deposit"))) ∷ [];
+  project = receipt_project;
+  names = receipt_names;
+}
+
+deposits_of_lease_selects : IsSelectText deposits_of_lease.text our_schema 20 deposits_of_lease.tests receipt_project [] receipt_names
+unfolding understood everything
+deposits_of_lease_selects = record { command = refl; unlisted = refl; plain = (refl, refl); stored = λ db. refl }
+
+-- the name of a kind is that of the deposit where the kind is
+named_deposit : (t : List ℕ) → is_some (receipt_kind_of t) ≡ true
+    → is_same_text t (codes "deposit") ≡ is_same_receipt_kind (unwrap_or (receipt_kind_of t) Rent) Deposit
+named_deposit t good = elim (cases_Bool (bytes_eq t (codes "rent"))) [
+  | inl rent ↦ by_name (codes "rent") ((bytes_eq-Decides t (codes "rent")).0 rent) refl
+  | inr other ↦ elim (cases_Bool (bytes_eq t (codes "deposit"))) [
+    | inl deposit ↦ by_name (codes "deposit") ((bytes_eq-Decides t (codes "deposit")).0 deposit) refl
+    | inr none ↦ absurd (true≢false (sym good ∙ rw (other, none) refl))
+  ]
+]
+  where
+    by_name : (name : List ℕ) → t ≡ name
+        → is_same_text name (codes "deposit") ≡ is_same_receipt_kind (unwrap_or (receipt_kind_of name) Rent) Deposit
+        → is_same_text t (codes "deposit") ≡ is_same_receipt_kind (unwrap_or (receipt_kind_of t) Rent) Deposit
+    by_name name is h =
+        subst (λ s. is_same_text s (codes "deposit") ≡ is_same_receipt_kind (unwrap_or (receipt_kind_of s) Rent) Deposit) (sym is) h
+
+same_deposit : (v : Value) → is_read_cell receipt_kind_of v ≡ true
+    → equal Binary v (Text (codes "deposit")) ≡ is_same_receipt_kind (read_in receipt_kind_of Rent v) Deposit
+unfolding is_read_cell
+same_deposit (Text t) good = texts_same t (codes "deposit") ∙ named_deposit t good
+same_deposit Null good = cc
+same_deposit (Int n) good = cc
+same_deposit (Real x) good = cc
+same_deposit (Blob b) good = cc
+
+pub deposits_of_lease_is : IsAsking receipt_shape deposits_of_lease (λ (q : DepositsOfLease). Unit {0}) (λ q. Int (pos q.lease) ∷ [])
+    (λ q r. nat_eq r.payment.lease q.lease && is_same_receipt_kind r.payment.kind Deposit)
+deposits_of_lease_is = record {
+  selects = deposits_of_lease_selects;
+  shows_columns = λ q r. refl;
+  passes = λ q r known good.
+      let cells = (pass_each receipt_cells true (receipt_columns r) good).1 in
+      pass_both (same_number (column r 3) q.lease (is_number 1 MOST_NUMBER (column r 3) cells.1.1.0)) (same_deposit (column r 4) cells.1.1.1.0);
 }

@@ -37,7 +37,7 @@ pub use look::{Look, rows_asked};
 pub use owner::OwnerNumbered;
 pub use part::{PartOf, PartsOfMonth};
 pub use property::{PropertiesManaged, PropertyNumbered};
-pub use receipt::{ReceiptKeyed, ReceiptsOfLease};
+pub use receipt::{DepositsOfLease, ReceiptKeyed, ReceiptsOfLease};
 pub use registration::RegistrationAt;
 pub use run::{RunKeyed, RunOf};
 pub use staff::MemberNumbered;

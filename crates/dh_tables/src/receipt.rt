@@ -105,3 +105,39 @@ impl Look for ReceiptsOfLease {
 
     ghost is_asking = { receipts_of_lease_is };
 }
+
+/// The deposits that were paid for this lease.
+#[derive(Drop)]
+pub struct DepositsOfLease {
+    pub lease: LeaseNo,
+}
+
+impl Look for DepositsOfLease {
+    ghost use Rattle.std.specs.Prelude.{◌∷◌, [], nat_eq, pos, ◌&&◌};
+    ghost use Rattle.sqlite_value.specs.declared.value.Value.TheVariants.{Int};
+    ghost use Rattle.dh_values.specs.declared.receipt_kind.ReceiptKind.TheVariants.{Deposit};
+    ghost use Rattle.dh_types.specs.Records.{is_same_receipt_kind};
+    ghost use Rattle.dh_tables.specs.ReceiptTable.{deposits_of_lease, deposits_of_lease_is};
+
+    type Record = Receipt;
+
+    ghost asks = { λ q r. nat_eq r.payment.lease q.lease && is_same_receipt_kind r.payment.kind Deposit };
+
+    ghost asking = { deposits_of_lease };
+
+    ghost given = { λ q. Int (pos q.lease) ∷ [] };
+
+    fn text() -> &'static str {
+        "SELECT receipt_no, req_key, lease_no, kind, amount, day FROM receipt WHERE lease_no = ?1 AND kind = 'deposit'"
+    }
+
+    fn day_bytes(&self, alloc: Global) -> Result<Vec<u8>, AllocError> {
+        Ok(Vec::new(alloc))
+    }
+
+    fn params<'a>(&'a self, alloc: Global, _day: &'a [u8]) -> Result<Vec<ValueRef<'a>>, AllocError> {
+        [ValueRef::Int(i64::from(self.lease.number()))].to_vec(alloc)
+    }
+
+    ghost is_asking = { deposits_of_lease_is };
+}
