@@ -50,7 +50,7 @@ module _ {K X : Type 0} {R : K → K → Ordering} (o : IsTotalOrder R) (anti : 
   module _ (old new : State) (params : Row) (count : ℕ) (k : K) (x y : X) (has : old.now.schema ≡ schema) (kept : IsKept it R old.now.trees)
       (apart : AreApart (old.now.trees t.tree))
       (passing : (r : Row) → Has (old.now.trees t.tree) r
-        → (passes_all params tests r ≡ true → it.key (stored_in it r) ≡ k) × (it.key (stored_in it r) ≡ k → passes_all params tests r ≡ true))
+      → (passes_all params tests r ≡ true → it.key (stored_in it r) ≡ k) × (it.key (stored_in it r) ≡ k → passes_all params tests r ≡ true))
       (keeps : (r : Row) → rowid (shows project params r) ≡ rowid r)
       (turns : (r : Row) → IsStored it r → is_int (rowid r) ≡ true → stored_in it r ≡ x → IsTurnedInto it t r (after params r) y) where
     -- the record under the key is another, and all else is as it was
@@ -86,7 +86,7 @@ module _ {K X : Type 0} {R : K → K → Ordering} (o : IsTotalOrder R) (anti : 
         let keyed : is_int (rowid s) ≡ true = ap is_int at_s ∙ rowid_r in
         let rest = filter (λ s. not (finds s)) rows in
         let free = subst (λ v. AllByRecursion (λ z. has_rowid (id_in v) z ≡ false) rest) (sym at_s)
-            (others_apart t rows answer finds shown found keeps kept.rowids apart r only.1) in
+        (others_apart t rows answer finds shown found keeps kept.rowids apart r only.1) in
         let ints = others_own t rows answer finds shown found keeps kept.rowids apart r only.1 in
         let among = apart_among t rows answer finds shown found keeps kept.rowids apart r only.1 in
         let put = updated o anti it old.now.trees kept new.now.trees r s x y rest before behind only.2 record_is (key ∙ sym same) in
@@ -102,7 +102,7 @@ module _ {K X : Type 0} {R : K → K → Ordering} (o : IsTotalOrder R) (anti : 
   pub amends : t.tree ≡ shape.tree → (old new : State) (params : Row) (count : ℕ) (k : K) (x y : X) → old.now.schema ≡ schema → IsKept shape R old.now.trees
       → AreApart (old.now.trees shape.tree)
       → ((r : Row) → IsStored shape r
-        → (passes_all params tests r ≡ true → shape.key (stored_in shape r) ≡ k) × (shape.key (stored_in shape r) ≡ k → passes_all params tests r ≡ true))
+      → (passes_all params tests r ≡ true → shape.key (stored_in shape r) ≡ k) × (shape.key (stored_in shape r) ≡ k → passes_all params tests r ≡ true))
       → ((r : Row) → rowid (shows project params r) ≡ rowid r)
       → ((r : Row) → IsStored shape r → is_int (rowid r) ≡ true → stored_in shape r ≡ x → IsTurnedInto shape t r (after params r) y)
       → get (rows_in shape {R = R} old.now.trees) k ≡ Some x → shape.key y ≡ k → Executes text params old new (Ok count)
@@ -110,12 +110,12 @@ module _ {K X : Type 0} {R : K → K → Ordering} (o : IsTotalOrder R) (anti : 
   amends tree_is old new params count k x y has =
       let placed : ℕ → Shape K X = λ n. record shape { tree = n } in
       subst (λ n. IsKept (placed n) R old.now.trees → AreApart (old.now.trees n)
-        → ((r : Row) → IsStored (placed n) r
-          → (passes_all params tests r ≡ true → shape.key (stored_in shape r) ≡ k) × (shape.key (stored_in shape r) ≡ k → passes_all params tests r ≡ true))
-        → ((r : Row) → rowid (shows project params r) ≡ rowid r)
-        → ((r : Row) → IsStored (placed n) r → is_int (rowid r) ≡ true → stored_in (placed n) r ≡ x → IsTurnedInto (placed n) t r (after params r) y)
-        → get (rows_in (placed n) {R = R} old.now.trees) k ≡ Some x → shape.key y ≡ k → Executes text params old new (Ok count)
-        → Becomes (placed n) R schema (insert (rows_in (placed n) old.now.trees) k y) old new) tree_is
+      → ((r : Row) → IsStored (placed n) r
+      → (passes_all params tests r ≡ true → shape.key (stored_in shape r) ≡ k) × (shape.key (stored_in shape r) ≡ k → passes_all params tests r ≡ true))
+      → ((r : Row) → rowid (shows project params r) ≡ rowid r)
+      → ((r : Row) → IsStored (placed n) r → is_int (rowid r) ≡ true → stored_in (placed n) r ≡ x → IsTurnedInto (placed n) t r (after params r) y)
+      → get (rows_in (placed n) {R = R} old.now.trees) k ≡ Some x → shape.key y ≡ k → Executes text params old new (Ok count)
+      → Becomes (placed n) R schema (insert (rows_in (placed n) old.now.trees) k y) old new) tree_is
       (λ kept apart finds keeps turns there same h.
-        let passing = λ (r : Row) (at : Has (old.now.trees t.tree) r). finds r (has_all (IsStored it) (old.now.trees t.tree) r kept.values at) in
-        changes old new params count k x y has kept apart passing keeps turns there same h)
+      let passing = λ (r : Row) (at : Has (old.now.trees t.tree) r). finds r (has_all (IsStored it) (old.now.trees t.tree) r kept.values at) in
+      changes old new params count k x y has kept apart passing keeps turns there same h)

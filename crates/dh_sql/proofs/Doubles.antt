@@ -52,10 +52,10 @@ module _ {K X : Type 0} {R : K → K → Ordering} (o : IsTotalOrder R) (it : Sh
       elim (cases_Bool (contains_key m k)) [
         | inl there ↦ absurd (let same : len (insert m k x) ≡ len m = size ∙ ap (λ b. cond b (len m) (len m + 1)) there in omega (arith, h, few, same))
         | inr new ↦
-          let same : len (insert m k x) ≡ len m + 1 = size ∙ ap (λ b. cond b (len m) (len m + 1)) new in
-          let rest = apart rows (insert m k x) (omega (arith, h, same)) in
-          let parts = split k x m rows rest.0 in
-          ((new, parts.1), (parts.0, rest.1))
+            let same : len (insert m k x) ≡ len m + 1 = size ∙ ap (λ b. cond b (len m) (len m + 1)) new in
+            let rest = apart rows (insert m k x) (omega (arith, h, same)) in
+            let parts = split k x m rows rest.0 in
+            ((new, parts.1), (parts.0, rest.1))
       ]
 
   -- as many as there are rows: no key stands twice

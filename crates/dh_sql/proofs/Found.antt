@@ -76,7 +76,7 @@ module _ {K X : Type 0} {R : K → K → Ordering} (o : IsTotalOrder R) (anti : 
           let keys : IsDistinct (eq_by_cmp R) (keys_of (map by all)) = rw (map-map (λ (e : K × Row). e.0) by all) kept.keys in
           let some = IsDistinct-keys_filter (eq_by_cmp R) (λ (e : K × Row). passes e.1) (map by all) keys in
           let listed = ap keys_of (filter-map (λ (e : K × Row). passes e.1) by all) ∙ map-map (λ (e : K × Row). e.0) by (filter passes all)
-              ∙ sym (map-map (λ row. it.key (it.row_in row)) it.columns (filter passes all)) in
+          ∙ sym (map-map (λ row. it.key (it.row_in row)) it.columns (filter passes all)) in
           let theirs = subst (IsDistinct (eq_by_cmp R)) listed some in
           IsDistinct-IsPermutation (eq_by_cmp R) (eq_by_cmp_equiv o).symm _ _ (IsPermutation-map (λ row. it.key (it.row_in row)) _ _ perm) theirs
 

@@ -41,8 +41,8 @@ module _ (text : List ℕ) (schema : Schema) (at : ℕ) (table : Table) (terms :
       let changed =
       subst (λ s. Does old.step_limit (mode_of old) params (record old.now { schema = s }) statement None command (Ok (w.tally, new.now))) has w.changed in
       let on = subst (λ o. AtPlace (λ t.
-          OnRows (record { limit = old.step_limit; keys = Enforced; schema = schema; table = t; params = params }) (mode_of old) None command db)
-          o (Ok (w.tally, new.now))) is.listed changed in
+      OnRows (record { limit = old.step_limit; keys = Enforced; schema = schema; table = t; params = params }) (mode_of old) None command db)
+      o (Ok (w.tally, new.now))) is.listed changed in
       let done = went on in
       let now = ap (λ (p : Tally × Database). p.1) (same_value (went (went done.2).2).2) in
       let given = went done.1 in

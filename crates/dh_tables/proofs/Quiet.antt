@@ -10,7 +10,7 @@ use Rattle.dh_sql.specs.Texts.{IsQuiet}
 
 either : (b : Bool) (tree : ℕ) (olds news : List Row)
     → flat_map (λ child. filter_map (λ ref.
-      work_by 0 tree (pairs olds news) child ref (deed_for Enforced b ref) (parent_key our_schema.tables ref)) child.references) our_schema.tables ≡ []
+    work_by 0 tree (pairs olds news) child ref (deed_for Enforced b ref) (parent_key our_schema.tables ref)) child.references) our_schema.tables ≡ []
 either true tree olds news = refl
 either false tree olds news = refl
 

@@ -1,5 +1,5 @@
 -- A change of one record, told to its table by a fixed text.
-use Rattle.std.specs.Prelude.{◌≡◌, ℕ, Bool, true, List, drop, Some}
+use Rattle.std.specs.Prelude.{◌≡◌, ℕ, true, List, drop}
 use Rattle.sqlite_value.specs.Order.{Row}
 use Rattle.sqlite_sql.specs.Term.{Term}
 use Rattle.sqlite_schema.specs.declared.schema.Table.{Table}

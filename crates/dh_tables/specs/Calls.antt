@@ -1,6 +1,6 @@
 -- What a call on our tables needs, and what it leaves.
 use Rattle.std.specs.Prelude.{◌≡◌, ◌⊎◌, IsTrue}
-use Rattle.sqlite.specs.State.{HasCleanDisk, IsRolledBack, IsUnchanged, State, Survives}
+use Rattle.sqlite.specs.State.{IsRolledBack, IsUnchanged, State, Survives}
 use Rattle.dh_catalog.specs.Layout.{our_schema}
 
 -- open, with our tables

@@ -1,5 +1,5 @@
 -- The kinds of value that the columns of our tables hold, and what a comparison says of them.
-use Rattle.std.specs.Prelude.{◌≡◌, refl, ℕ, ℤ, pos, negsuc, nat_eq, ◌&&◌, Bool, true, false, List, Option, Some, None, IfSome, is_some, unwrap_or}
+use Rattle.std.specs.Prelude.{◌≡◌, refl, ℕ, pos, negsuc, nat_eq, ◌&&◌, Bool, true, false, List, Option, Some, None, IfSome, is_some, unwrap_or}
 use Rattle.std.proofs.Common.{◌∙◌, ◌≤◌, ap, arith, sym}
 use Rattle.std.proofs.lemmas.Bool.{and_parts}
 use Rattle.std.proofs.lemmas.Bool.Decides.{nat_tests}
@@ -162,10 +162,10 @@ pub tells_both : {A B : Type 0} {f x : A} {g y : B} {a b c : Bool} → (a ≡ tr
     → c ≡ (a && b) → (c ≡ true → ◌≡◌ {A = A × B} (f, g) (x, y)) × (◌≡◌ {A = A × B} (f, g) (x, y) → c ≡ true)
 tells_both {A = A} {B = B} {a = a} {b = b} one two is = (
   λ h.
-    let parts = and_parts a b (sym is ∙ h) in
-    let first = one.0 parts.0 in
-    let second = two.0 parts.1 in
-    λ i. (first i, second i),
+      let parts = and_parts a b (sym is ∙ h) in
+      let first = one.0 parts.0 in
+      let second = two.0 parts.1 in
+      λ i. (first i, second i),
   λ e. is ∙ both_hold a b (one.1 (ap (λ (p : A × B). p.0) e)) (two.1 (ap (λ (p : A × B). p.1) e)),
 )
   where

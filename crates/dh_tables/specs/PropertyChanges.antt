@@ -1,9 +1,9 @@
 -- A property's manager, and its rent.
-use Rattle.std.specs.Prelude.{◌≡◌, refl, ℕ, pos, true, List, [], ◌∷◌, Option, Some, None, codes, drop, IfSome, ◌≤◌}
-use Rattle.std.proofs.Common.{◌∙◌, ap, sym}
+use Rattle.std.specs.Prelude.{◌≡◌, refl, ℕ, pos, true, List, [], ◌∷◌, Option, codes, drop, IfSome}
+use Rattle.std.proofs.Common.{ap}
 use Rattle.sqlite_value.specs.declared.value.Value.TheVariants.{Int, Text}
 use Rattle.sqlite_value.specs.Order.{Row, column}
-use Rattle.sqlite_sql.specs.Term.{Term, col}
+use Rattle.sqlite_sql.specs.Term.{col}
 use Rattle.sqlite_tied.specs.Compute.{everything}
 use Rattle.sqlite_trees.specs.Tree.{rowid}
 use Rattle.sqlite_trees.specs.View.{is_int}
@@ -60,10 +60,21 @@ manager_turns : (q : Assignment) (r : Row) → IfSome q.staff (λ id. is_id id �
 manager_turns q r known good own =
     let c = (pass_each property_cells true (property_columns r) good).1 in
     let new : Row =
-        column r 1 ∷ column r 2 ∷ column r 3 ∷ column r 4 ∷ column r 5 ∷ column r 6 ∷ column r 7 ∷ column r 8 ∷ optional_text q.staff ∷ column r 10 ∷ [] in
+    column r 1 ∷ column r 2 ∷ column r 3 ∷ column r 4 ∷ column r 5 ∷ column r 6 ∷ column r 7 ∷ column r 8 ∷ optional_text q.staff ∷ column r 10 ∷ [] in
     let front = c.1.1.1.1 in
-    let cells : AreCells property_cells new = (c.0, (c.1.0, (c.1.1.0, (c.1.1.1.0,
-      (front.0, (front.1.0, (front.1.1.0, (front.1.1.1.0, (optional_passes is_id q.staff known, (front.1.1.1.1.1.0, tt)))))))))) in
+    let cells : AreCells property_cells new = (
+      c.0,
+      (
+        c.1.0,
+        (
+          c.1.1.0,
+          (
+            c.1.1.1.0,
+            (front.0, (front.1.0, (front.1.1.0, (front.1.1.1.0, (optional_passes is_id q.staff known, (front.1.1.1.1.1.0, tt)))))),
+          ),
+        ),
+      ),
+    ) in
     record {
       stays = row_stays property_cells property (column r 0) new refl (cast_rowid (column r 0) own) cells;
       rowid_is = refl;
@@ -106,7 +117,7 @@ rent_turns : (q : RentChange) (r : Row) → IsRent q.rent → IsStored property_
 rent_turns q r known good own =
     let c = (pass_each property_cells true (property_columns r) good).1 in
     let new : Row =
-        column r 1 ∷ column r 2 ∷ column r 3 ∷ column r 4 ∷ column r 5 ∷ column r 6 ∷ Int (pos q.rent) ∷ column r 8 ∷ column r 9 ∷ column r 10 ∷ [] in
+    column r 1 ∷ column r 2 ∷ column r 3 ∷ column r 4 ∷ column r 5 ∷ column r 6 ∷ Int (pos q.rent) ∷ column r 8 ∷ column r 9 ∷ column r 10 ∷ [] in
     let front = c.1.1.1.1 in
     let cells : AreCells property_cells new = (c.0, (c.1.0, (c.1.1.0, (c.1.1.1.0, (front.0, (front.1.0, (in_range 1 MOST_RENT q.rent known.0 known.1, front.1.1.1))))))) in
     record {

@@ -1,5 +1,5 @@
 -- The table registration.
-use Rattle.std.specs.Prelude.{◌≡◌, refl, ℕ, List, [], ◌∷◌, codes, true, ◌&&◌}
+use Rattle.std.specs.Prelude.{refl, ℕ, List, [], ◌∷◌, codes, true, ◌&&◌}
 use Rattle.sqlite_value.specs.declared.value.Value.TheVariants.{Null, Text}
 use Rattle.sqlite_value.specs.declared.keys.Collation.TheVariants.{Binary}
 use Rattle.sqlite_value.specs.Order.{Row, column}

@@ -1,5 +1,5 @@
 -- A run that is closed, and a part of a run that goes on.
-use Rattle.std.specs.Prelude.{◌≡◌, ◌≤◌, refl, ℕ, pos, true, List, [], ◌∷◌, Option, codes, drop}
+use Rattle.std.specs.Prelude.{◌≡◌, ◌≤◌, refl, ℕ, pos, true, [], ◌∷◌, Option, codes, drop}
 use Rattle.std.proofs.Common.{ap}
 use Rattle.sqlite_value.specs.declared.value.Value.TheVariants.{Int, Null, Text}
 use Rattle.sqlite_value.specs.Order.{Row, column}
@@ -11,7 +11,6 @@ use Rattle.sqlite.specs.Listing.{understood}
 use Rattle.dh_values.specs.Texts.{is_id}
 use Rattle.dh_values.specs.declared.limits.TheConstants.{MOST_PENCE}
 use Rattle.dh_days.specs.declared.limits.TheConstants.{FIRST_MONTH, LAST_ENTRY_MONTH}
-use Rattle.dh_types.specs.declared.run.Run.{Run}
 use Rattle.dh_types.specs.declared.run.Part.{Part}
 use Rattle.dh_types.specs.declared.run.RunSum.{RunSum}
 use Rattle.dh_rows.specs.declared.limits.TheConstants.{MOST_COUNT}
@@ -115,7 +114,7 @@ part_finds q r good =
     let p = stored_in part_shape r in
     tells_both (tells_number p.month q.month refl) (tells_text p.branch q.branch refl)
     (pass_both (same_number (column r 1) q.month (is_number FIRST_MONTH LAST_ENTRY_MONTH (column r 1) cells.0))
-      (same_text (column r 2) q.branch (text_is is_id (column r 2) cells.1.0)))
+    (same_text (column r 2) q.branch (text_is is_id (column r 2) cells.1.0)))
 
 part_turns : (q : Part) (r : Row) → IsPart q → IsStored part_shape r → is_int (rowid r) ≡ true
     → IsTurnedInto part_shape part r (drop 1 (shows part_amending.project (part_given q) r))

@@ -1,5 +1,5 @@
 -- UPDATE viewing SET comment = ?3 WHERE client_no = ?1 AND property_no = ?2
-use Rattle.std.specs.Prelude.{◌≡◌, refl, ℕ, true, List, [], ◌∷◌, Some, codes, drop}
+use Rattle.std.specs.Prelude.{◌≡◌, refl, true, [], ◌∷◌, Some, codes, drop}
 use Rattle.sqlite_value.specs.declared.value.Value.TheVariants.{Text}
 use Rattle.sqlite_value.specs.Order.{Row, column}
 use Rattle.sqlite_sql.specs.Term.{col}

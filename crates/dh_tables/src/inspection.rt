@@ -114,7 +114,11 @@ impl Look for InspectionsOf {
         Ok(Vec::new(alloc))
     }
 
-    fn params<'a>(&'a self, alloc: Global, _day: &'a [u8]) -> Result<Vec<ValueRef<'a>>, AllocError> {
+    fn params<'a>(
+        &'a self,
+        alloc: Global,
+        _day: &'a [u8],
+    ) -> Result<Vec<ValueRef<'a>>, AllocError> {
         [ValueRef::Text(self.property.as_str().as_bytes())].to_vec(alloc)
     }
 

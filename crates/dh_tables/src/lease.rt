@@ -64,7 +64,11 @@ impl Look for LeaseNumbered {
         Ok(Vec::new(alloc))
     }
 
-    fn params<'a>(&'a self, alloc: Global, _day: &'a [u8]) -> Result<Vec<ValueRef<'a>>, AllocError> {
+    fn params<'a>(
+        &'a self,
+        alloc: Global,
+        _day: &'a [u8],
+    ) -> Result<Vec<ValueRef<'a>>, AllocError> {
         [ValueRef::Int(i64::from(self.number.number()))].to_vec(alloc)
     }
 
@@ -99,7 +103,11 @@ impl Look for LeasesOfProperty {
         Ok(Vec::new(alloc))
     }
 
-    fn params<'a>(&'a self, alloc: Global, _day: &'a [u8]) -> Result<Vec<ValueRef<'a>>, AllocError> {
+    fn params<'a>(
+        &'a self,
+        alloc: Global,
+        _day: &'a [u8],
+    ) -> Result<Vec<ValueRef<'a>>, AllocError> {
         [ValueRef::Text(self.property.as_str().as_bytes())].to_vec(alloc)
     }
 
@@ -134,7 +142,11 @@ impl Look for LeasesOfClient {
         Ok(Vec::new(alloc))
     }
 
-    fn params<'a>(&'a self, alloc: Global, _day: &'a [u8]) -> Result<Vec<ValueRef<'a>>, AllocError> {
+    fn params<'a>(
+        &'a self,
+        alloc: Global,
+        _day: &'a [u8],
+    ) -> Result<Vec<ValueRef<'a>>, AllocError> {
         [ValueRef::Text(self.client.as_str().as_bytes())].to_vec(alloc)
     }
 

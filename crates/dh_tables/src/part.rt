@@ -67,7 +67,11 @@ impl Look for PartOf {
         Ok(Vec::new(alloc))
     }
 
-    fn params<'a>(&'a self, alloc: Global, _day: &'a [u8]) -> Result<Vec<ValueRef<'a>>, AllocError> {
+    fn params<'a>(
+        &'a self,
+        alloc: Global,
+        _day: &'a [u8],
+    ) -> Result<Vec<ValueRef<'a>>, AllocError> {
         [
             ValueRef::Int(i64::from(self.month.number())),
             ValueRef::Text(self.branch.as_str().as_bytes()),
@@ -105,7 +109,11 @@ impl Look for PartsOfMonth {
         Ok(Vec::new(alloc))
     }
 
-    fn params<'a>(&'a self, alloc: Global, _day: &'a [u8]) -> Result<Vec<ValueRef<'a>>, AllocError> {
+    fn params<'a>(
+        &'a self,
+        alloc: Global,
+        _day: &'a [u8],
+    ) -> Result<Vec<ValueRef<'a>>, AllocError> {
         [ValueRef::Int(i64::from(self.month.number()))].to_vec(alloc)
     }
 

@@ -65,7 +65,11 @@ impl Look for ReceiptKeyed {
         Ok(Vec::new(alloc))
     }
 
-    fn params<'a>(&'a self, alloc: Global, _day: &'a [u8]) -> Result<Vec<ValueRef<'a>>, AllocError> {
+    fn params<'a>(
+        &'a self,
+        alloc: Global,
+        _day: &'a [u8],
+    ) -> Result<Vec<ValueRef<'a>>, AllocError> {
         [ValueRef::Text(self.key.as_str().as_bytes())].to_vec(alloc)
     }
 
@@ -99,7 +103,11 @@ impl Look for ReceiptsOfLease {
         Ok(Vec::new(alloc))
     }
 
-    fn params<'a>(&'a self, alloc: Global, _day: &'a [u8]) -> Result<Vec<ValueRef<'a>>, AllocError> {
+    fn params<'a>(
+        &'a self,
+        alloc: Global,
+        _day: &'a [u8],
+    ) -> Result<Vec<ValueRef<'a>>, AllocError> {
         [ValueRef::Int(i64::from(self.lease.number()))].to_vec(alloc)
     }
 
@@ -135,7 +143,11 @@ impl Look for DepositsOfLease {
         Ok(Vec::new(alloc))
     }
 
-    fn params<'a>(&'a self, alloc: Global, _day: &'a [u8]) -> Result<Vec<ValueRef<'a>>, AllocError> {
+    fn params<'a>(
+        &'a self,
+        alloc: Global,
+        _day: &'a [u8],
+    ) -> Result<Vec<ValueRef<'a>>, AllocError> {
         [ValueRef::Int(i64::from(self.lease.number()))].to_vec(alloc)
     }
 

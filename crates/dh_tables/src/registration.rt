@@ -66,7 +66,11 @@ impl Look for RegistrationAt {
         Ok(Vec::new(alloc))
     }
 
-    fn params<'a>(&'a self, alloc: Global, _day: &'a [u8]) -> Result<Vec<ValueRef<'a>>, AllocError> {
+    fn params<'a>(
+        &'a self,
+        alloc: Global,
+        _day: &'a [u8],
+    ) -> Result<Vec<ValueRef<'a>>, AllocError> {
         [
             ValueRef::Text(self.client.as_str().as_bytes()),
             ValueRef::Text(self.branch.as_str().as_bytes()),

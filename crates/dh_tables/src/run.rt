@@ -64,7 +64,11 @@ impl Look for RunOf {
         Ok(Vec::new(alloc))
     }
 
-    fn params<'a>(&'a self, alloc: Global, _day: &'a [u8]) -> Result<Vec<ValueRef<'a>>, AllocError> {
+    fn params<'a>(
+        &'a self,
+        alloc: Global,
+        _day: &'a [u8],
+    ) -> Result<Vec<ValueRef<'a>>, AllocError> {
         [ValueRef::Int(i64::from(self.month.number()))].to_vec(alloc)
     }
 
@@ -99,7 +103,11 @@ impl Look for RunKeyed {
         Ok(Vec::new(alloc))
     }
 
-    fn params<'a>(&'a self, alloc: Global, _day: &'a [u8]) -> Result<Vec<ValueRef<'a>>, AllocError> {
+    fn params<'a>(
+        &'a self,
+        alloc: Global,
+        _day: &'a [u8],
+    ) -> Result<Vec<ValueRef<'a>>, AllocError> {
         [ValueRef::Text(self.key.as_str().as_bytes())].to_vec(alloc)
     }
 

@@ -1,5 +1,4 @@
-use Rattle.std.proofs.Common.{◌≡◌, ◌∙◌, subst, sym, ap, arith, List, ℕ, Ok}
-use Rattle.sqlite_value.specs.Order.{Row}
+use Rattle.std.proofs.Common.{◌∙◌, subst, arith, List, ℕ, Ok}
 use Rattle.sqlite.specs.State.{Executes, HasCleanDisk}
 use Rattle.sqlite.specs.Held.{state}
 use Rattle.dh_catalog.specs.Layout.{our_schema}

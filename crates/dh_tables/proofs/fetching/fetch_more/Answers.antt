@@ -1,6 +1,4 @@
-use Rattle.std.proofs.Common.{◌∙◌, ap, arith}
-use Rattle.sqlite.specs.State.{HasCleanDisk}
-use Rattle.sqlite.specs.Effect.{Database}
+use Rattle.std.proofs.Common.{◌∙◌, ap}
 use Rattle.sqlite.specs.Held.{state}
 use Rattle.dh_sql.specs.Shape.{rows_in}
 use Rattle.dh_sql.specs.Gathered.{put_rows}

@@ -1,6 +1,5 @@
-use Rattle.std.proofs.Common.{◌∙◌, ap, arith, List}
+use Rattle.std.proofs.Common.{◌∙◌, ap, List}
 use Rattle.sqlite_value.specs.Order.{Row}
-use Rattle.sqlite.specs.State.{HasCleanDisk}
 use Rattle.sqlite.specs.Held.{state}
 use Rattle.dh_sql.specs.Shape.{rows_in, rows_of}
 use Rattle.dh_sql.proofs.Found.{keyed_rows}

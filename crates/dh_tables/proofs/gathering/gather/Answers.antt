@@ -46,7 +46,7 @@ loop-row-preserved g c =
     let step : put_rows T.shape (take (c.loop-row.row-index + 1) c.args.rows.now) (T.shelf.held old) ≡ added =
     ap (λ rs. put_rows T.shape rs (T.shelf.held old)) more ∙ push T.shape rows row (T.shelf.held old) ∙ ap (λ y. insert m (T.shape.key y) y) record_is in
     let books = c.in_ok-put.ensures ∙ ap (λ n. T.shelf.with c.loop-row.books (insert n (T.shape.key x) x)) held
-        ∙ ap (λ (s : State). T.shelf.with s added) c.loop-row.invariant.0 ∙ T.shelf.with_with old m added ∙ ap (T.shelf.with old) (sym step) in
+    ∙ ap (λ (s : State). T.shelf.with s added) c.loop-row.invariant.0 ∙ T.shelf.with_with old m added ∙ ap (T.shelf.with old) (sym step) in
     let here : g.R.Record.is_row row ≡ true = good in
     (books, subst (AllByRecursion (λ r. g.R.Record.is_row r ≡ true)) (sym more) (one_more (λ r. g.R.Record.is_row r ≡ true) rows row c.loop-row.invariant.1 here))
 

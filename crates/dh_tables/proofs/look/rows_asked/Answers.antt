@@ -10,7 +10,7 @@ use Rattle.dh_tables.proofs.look.rows_asked.Goals as goal
 -- the rows are shown by the text of the question
 shown : (g : Over) (c : goal.After-drop-day-2 g) → HasCleanDisk (state g.S.Store c.query_all.new.self)
     → IfOk c.query_all.result (λ rows.
-      Shown g.L.Look.asking.text (g.L.Look.given c.args.question.now) (state g.S.Store c.args.conn.now) (state g.S.Store c.query_all.new.self) rows.items)
+    Shown g.L.Look.asking.text (g.L.Look.given c.args.question.now) (state g.S.Store c.args.conn.now) (state g.S.Store c.query_all.new.self) rows.items)
 shown g c clean =
     let old = state g.S.Store c.args.conn.now in
     let new = state g.S.Store c.query_all.new.self in

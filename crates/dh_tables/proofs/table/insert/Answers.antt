@@ -1,4 +1,4 @@
-use Rattle.std.proofs.Common.{◌≡◌, ◌∙◌, subst, arith, List, ℕ, Ok}
+use Rattle.std.proofs.Common.{◌∙◌, subst, arith, List, ℕ, Ok}
 use Rattle.std.specs.FinMap as fin
 use Rattle.sqlite.specs.State.{Executes, HasCleanDisk}
 use Rattle.sqlite.specs.Held.{state}
