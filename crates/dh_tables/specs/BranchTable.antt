@@ -83,7 +83,8 @@ selects : IsSelectText branch_numbered.text our_schema 1 branch_numbered.tests b
 unfolding understood everything
 selects = record { command = refl; unlisted = refl; plain = (refl, refl); stored = λ db. refl }
 
-pub branch_is_numbered : IsAsking branch_shape branch_numbered (λ (q : BranchNumbered). Unit {0}) (λ q. Text q.number ∷ []) (λ q b. is_same_text b.number q.number)
+pub branch_is_numbered : IsAsking branch_shape branch_numbered
+    (λ (q : BranchNumbered). Unit {0}) (λ q. Text q.number ∷ []) (λ q b. is_same_text b.number q.number)
 branch_is_numbered = record {
   selects = selects;
   shows_columns = λ q r. refl;

@@ -95,7 +95,8 @@ charges_of_lease_selects : IsSelectText charges_of_lease.text our_schema 18 char
 unfolding understood everything
 charges_of_lease_selects = record { command = refl; unlisted = refl; plain = (refl, refl); stored = λ db. refl }
 
-pub charges_of_lease_is : IsAsking charge_shape charges_of_lease (λ (q : ChargesOfLease). Unit {0}) (λ q. Int (pos q.lease) ∷ []) (λ q c. nat_eq c.lease q.lease)
+pub charges_of_lease_is : IsAsking charge_shape charges_of_lease
+    (λ (q : ChargesOfLease). Unit {0}) (λ q. Int (pos q.lease) ∷ []) (λ q c. nat_eq c.lease q.lease)
 charges_of_lease_is = record {
   selects = charges_of_lease_selects;
   shows_columns = λ q r. refl;
@@ -118,7 +119,8 @@ charges_of_month_selects : IsSelectText charges_of_month.text our_schema 18 char
 unfolding understood everything
 charges_of_month_selects = record { command = refl; unlisted = refl; plain = (refl, refl); stored = λ db. refl }
 
-pub charges_of_month_is : IsAsking charge_shape charges_of_month (λ (q : ChargesOfMonth). Unit {0}) (λ q. Int (pos q.month) ∷ []) (λ q c. nat_eq c.month q.month)
+pub charges_of_month_is : IsAsking charge_shape charges_of_month
+    (λ (q : ChargesOfMonth). Unit {0}) (λ q. Int (pos q.month) ∷ []) (λ q c. nat_eq c.month q.month)
 charges_of_month_is = record {
   selects = charges_of_month_selects;
   shows_columns = λ q r. refl;

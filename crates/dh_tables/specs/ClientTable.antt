@@ -92,7 +92,8 @@ client_numbered_selects : IsSelectText client_numbered.text our_schema 9 client_
 unfolding understood everything
 client_numbered_selects = record { command = refl; unlisted = refl; plain = (refl, refl); stored = λ db. refl }
 
-pub client_numbered_is : IsAsking client_shape client_numbered (λ (q : ClientNumbered). Unit {0}) (λ q. Text q.number ∷ []) (λ q c. is_same_text c.number q.number)
+pub client_numbered_is : IsAsking client_shape client_numbered
+    (λ (q : ClientNumbered). Unit {0}) (λ q. Text q.number ∷ []) (λ q c. is_same_text c.number q.number)
 client_numbered_is = record {
   selects = client_numbered_selects;
   shows_columns = λ q r. refl;

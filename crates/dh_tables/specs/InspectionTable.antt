@@ -57,7 +57,8 @@ inspection_adding = record {
   source = without_rowid inspection_row;
 }
 
-inserts : (x : Inspection) → IsInsertText inspection_adding.text our_schema 8 inspection inspection_adding.terms 5 (inspection_row x) (inspection_adding.source x)
+inserts : (x : Inspection)
+    → IsInsertText inspection_adding.text our_schema 8 inspection inspection_adding.terms 5 (inspection_row x) (inspection_adding.source x)
 unfolding understood everything
 inserts x = record { command = refl; plain = (refl, refl); listed = refl; is_uncounted = refl; value = refl }
 
@@ -66,7 +67,8 @@ inspection_is_adding = record {
   tree_is = refl;
   listed = refl;
   inserts = inserts;
-  stays = λ x good. row_stays inspection_cells inspection Null (inspection_row x) refl cast_null (pass_each inspection_cells true (inspection_row x) good).1;
+  stays = λ x good.
+      row_stays inspection_cells inspection Null (inspection_row x) refl cast_null (pass_each inspection_cells true (inspection_row x) good).1;
   columns = λ x rows. refl;
   keyed = λ x rows. refl;
 }
@@ -93,7 +95,9 @@ inspection_of_selects : IsSelectText inspection_of.text our_schema 15 inspection
 unfolding understood everything
 inspection_of_selects = record { command = refl; unlisted = refl; plain = (refl, refl); stored = λ db. refl }
 
-pub inspection_of_is : IsAsking inspection_shape inspection_of (λ (q : InspectionOf). IsEntryDay q.day) (λ q. Text q.property ∷ Text (day_text q.day) ∷ []) (λ q n. is_same_text n.property q.property && nat_eq n.day q.day)
+pub inspection_of_is : IsAsking inspection_shape inspection_of
+    (λ (q : InspectionOf). IsEntryDay q.day) (λ q. Text q.property ∷ Text (day_text q.day) ∷ [])
+    (λ q n. is_same_text n.property q.property && nat_eq n.day q.day)
 inspection_of_is = record {
   selects = inspection_of_selects;
   shows_columns = λ q r. refl;
@@ -117,7 +121,8 @@ inspections_of_selects : IsSelectText inspections_of.text our_schema 15 inspecti
 unfolding understood everything
 inspections_of_selects = record { command = refl; unlisted = refl; plain = (refl, refl); stored = λ db. refl }
 
-pub inspections_of_is : IsAsking inspection_shape inspections_of (λ (q : InspectionsOf). Unit {0}) (λ q. Text q.property ∷ []) (λ q n. is_same_text n.property q.property)
+pub inspections_of_is : IsAsking inspection_shape inspections_of
+    (λ (q : InspectionsOf). Unit {0}) (λ q. Text q.property ∷ []) (λ q n. is_same_text n.property q.property)
 inspections_of_is = record {
   selects = inspections_of_selects;
   shows_columns = λ q r. refl;

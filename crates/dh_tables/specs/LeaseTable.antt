@@ -27,7 +27,8 @@ use Rattle.dh_tables.specs.declared.lease.LeaseNumbered.{LeaseNumbered}
 use Rattle.dh_tables.specs.declared.lease.LeasesOfProperty.{LeasesOfProperty}
 use Rattle.dh_tables.specs.declared.lease.LeasesOfClient.{LeasesOfClient}
 use Rattle.dh_tables.specs.declared.lease.LeasesOfClientFrom.{LeasesOfClientFrom}
-use Rattle.dh_tables.specs.Cells.{is_number, is_text as text_is, number_from, pass_both, pass_one, read_as, rowid_column, same_day, same_number, same_text, text_that}
+use Rattle.dh_tables.specs.Cells.{is_number, is_text as text_is, number_from, pass_both, pass_one}
+use Rattle.dh_tables.specs.Cells.{read_as, rowid_column, same_day, same_number, same_text, text_that}
 use Rattle.dh_tables.specs.Questions.{Asking, IsAsking}
 use Rattle.dh_tables.specs.Tables.{Adding, IsAdding, Shelf, own_rowid}
 
@@ -71,7 +72,8 @@ inserts x = record { command = refl; plain = (refl, refl); listed = refl; is_unc
 stays : (x : Lease) → is_lease_row (lease_row x) ≡ true → cast_row lease (lease_adding.source x) ≡ lease_adding.source x
 stays x good =
     let cells = (pass_each lease_cells true (lease_row x) good).1 in
-    row_stays (rowid_column ∷ drop 1 lease_cells) lease (Int (pos x.terms.number)) (drop 1 (lease_adding.source x)) refl (cast_int (pos x.terms.number)) (refl, cells.1)
+    row_stays (rowid_column ∷ drop 1 lease_cells) lease (Int (pos x.terms.number)) (drop 1 (lease_adding.source x))
+    refl (cast_int (pos x.terms.number)) (refl, cells.1)
 
 pub lease_is_adding : IsAdding lease_shape lease_row is_lease_row lease_adding
 lease_is_adding = record {
@@ -105,7 +107,8 @@ lease_numbered_selects : IsSelectText lease_numbered.text our_schema 17 lease_nu
 unfolding understood everything
 lease_numbered_selects = record { command = refl; unlisted = refl; plain = (refl, refl); stored = λ db. refl }
 
-pub lease_numbered_is : IsAsking lease_shape lease_numbered (λ (q : LeaseNumbered). Unit {0}) (λ q. Int (pos q.number) ∷ []) (λ q l. nat_eq l.terms.number q.number)
+pub lease_numbered_is : IsAsking lease_shape lease_numbered
+    (λ (q : LeaseNumbered). Unit {0}) (λ q. Int (pos q.number) ∷ []) (λ q l. nat_eq l.terms.number q.number)
 lease_numbered_is = record {
   selects = lease_numbered_selects;
   shows_columns = λ q r. refl;
@@ -128,7 +131,8 @@ leases_of_property_selects : IsSelectText leases_of_property.text our_schema 17 
 unfolding understood everything
 leases_of_property_selects = record { command = refl; unlisted = refl; plain = (refl, refl); stored = λ db. refl }
 
-pub leases_of_property_is : IsAsking lease_shape leases_of_property (λ (q : LeasesOfProperty). Unit {0}) (λ q. Text q.property ∷ []) (λ q l. is_same_text l.terms.property q.property)
+pub leases_of_property_is : IsAsking lease_shape leases_of_property
+    (λ (q : LeasesOfProperty). Unit {0}) (λ q. Text q.property ∷ []) (λ q l. is_same_text l.terms.property q.property)
 leases_of_property_is = record {
   selects = leases_of_property_selects;
   shows_columns = λ q r. refl;
@@ -151,7 +155,8 @@ leases_of_client_selects : IsSelectText leases_of_client.text our_schema 17 leas
 unfolding understood everything
 leases_of_client_selects = record { command = refl; unlisted = refl; plain = (refl, refl); stored = λ db. refl }
 
-pub leases_of_client_is : IsAsking lease_shape leases_of_client (λ (q : LeasesOfClient). Unit {0}) (λ q. Text q.client ∷ []) (λ q l. is_same_text l.terms.client q.client)
+pub leases_of_client_is : IsAsking lease_shape leases_of_client
+    (λ (q : LeasesOfClient). Unit {0}) (λ q. Text q.client ∷ []) (λ q l. is_same_text l.terms.client q.client)
 leases_of_client_is = record {
   selects = leases_of_client_selects;
   shows_columns = λ q r. refl;
@@ -174,7 +179,9 @@ leases_of_client_from_selects : IsSelectText leases_of_client_from.text our_sche
 unfolding understood everything
 leases_of_client_from_selects = record { command = refl; unlisted = refl; plain = (refl, refl); stored = λ db. refl }
 
-pub leases_of_client_from_is : IsAsking lease_shape leases_of_client_from (λ (q : LeasesOfClientFrom). IsEntryDay q.start) (λ q. Text q.client ∷ Text (day_text q.start) ∷ []) (λ q l. is_same_text l.terms.client q.client && nat_eq l.terms.start q.start)
+pub leases_of_client_from_is : IsAsking lease_shape leases_of_client_from
+    (λ (q : LeasesOfClientFrom). IsEntryDay q.start) (λ q. Text q.client ∷ Text (day_text q.start) ∷ [])
+    (λ q l. is_same_text l.terms.client q.client && nat_eq l.terms.start q.start)
 leases_of_client_from_is = record {
   selects = leases_of_client_from_selects;
   shows_columns = λ q r. refl;

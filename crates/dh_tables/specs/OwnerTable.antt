@@ -90,7 +90,8 @@ owner_numbered_selects : IsSelectText owner_numbered.text our_schema 5 owner_num
 unfolding understood everything
 owner_numbered_selects = record { command = refl; unlisted = refl; plain = (refl, refl); stored = λ db. refl }
 
-pub owner_numbered_is : IsAsking owner_shape owner_numbered (λ (q : OwnerNumbered). Unit {0}) (λ q. Text q.number ∷ []) (λ q o. is_same_text o.number q.number)
+pub owner_numbered_is : IsAsking owner_shape owner_numbered
+    (λ (q : OwnerNumbered). Unit {0}) (λ q. Text q.number ∷ []) (λ q o. is_same_text o.number q.number)
 owner_numbered_is = record {
   selects = owner_numbered_selects;
   shows_columns = λ q r. refl;

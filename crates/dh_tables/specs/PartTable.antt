@@ -96,7 +96,8 @@ part_of_selects : IsSelectText part_of.text our_schema 24 part_of.tests part_pro
 unfolding understood everything
 part_of_selects = record { command = refl; unlisted = refl; plain = (refl, refl); stored = λ db. refl }
 
-pub part_of_is : IsAsking part_shape part_of (λ (q : PartOf). Unit {0}) (λ q. Int (pos q.month) ∷ Text q.branch ∷ []) (λ q p. nat_eq p.month q.month && is_same_text p.branch q.branch)
+pub part_of_is : IsAsking part_shape part_of
+    (λ (q : PartOf). Unit {0}) (λ q. Int (pos q.month) ∷ Text q.branch ∷ []) (λ q p. nat_eq p.month q.month && is_same_text p.branch q.branch)
 part_of_is = record {
   selects = part_of_selects;
   shows_columns = λ q r. refl;

@@ -119,7 +119,8 @@ rent_turns q r known good own =
     let new : Row =
     column r 1 ∷ column r 2 ∷ column r 3 ∷ column r 4 ∷ column r 5 ∷ column r 6 ∷ Int (pos q.rent) ∷ column r 8 ∷ column r 9 ∷ column r 10 ∷ [] in
     let front = c.1.1.1.1 in
-    let cells : AreCells property_cells new = (c.0, (c.1.0, (c.1.1.0, (c.1.1.1.0, (front.0, (front.1.0, (in_range 1 MOST_RENT q.rent known.0 known.1, front.1.1.1))))))) in
+    let cells : AreCells property_cells new =
+    (c.0, (c.1.0, (c.1.1.0, (c.1.1.1.0, (front.0, (front.1.0, (in_range 1 MOST_RENT q.rent known.0 known.1, front.1.1.1))))))) in
     record {
       stays = row_stays property_cells property (column r 0) new refl (cast_rowid (column r 0) own) cells;
       rowid_is = refl;

@@ -100,7 +100,8 @@ property_numbered_selects : IsSelectText property_numbered.text our_schema 7 pro
 unfolding understood everything
 property_numbered_selects = record { command = refl; unlisted = refl; plain = (refl, refl); stored = λ db. refl }
 
-pub property_numbered_is : IsAsking property_shape property_numbered (λ (q : PropertyNumbered). Unit {0}) (λ q. Text q.number ∷ []) (λ q p. is_same_text p.number q.number)
+pub property_numbered_is : IsAsking property_shape property_numbered
+    (λ (q : PropertyNumbered). Unit {0}) (λ q. Text q.number ∷ []) (λ q p. is_same_text p.number q.number)
 property_numbered_is = record {
   selects = property_numbered_selects;
   shows_columns = λ q r. refl;
@@ -123,7 +124,8 @@ properties_managed_selects : IsSelectText properties_managed.text our_schema 7 p
 unfolding understood everything
 properties_managed_selects = record { command = refl; unlisted = refl; plain = (refl, refl); stored = λ db. refl }
 
-pub properties_managed_is : IsAsking property_shape properties_managed (λ (q : PropertiesManaged). Unit {0}) (λ q. Text q.staff ∷ []) (λ q p. is_same_optional is_same_text p.staff (Some q.staff))
+pub properties_managed_is : IsAsking property_shape properties_managed
+    (λ (q : PropertiesManaged). Unit {0}) (λ q. Text q.staff ∷ []) (λ q p. is_same_optional is_same_text p.staff (Some q.staff))
 properties_managed_is = record {
   selects = properties_managed_selects;
   shows_columns = λ q r. refl;

@@ -79,7 +79,8 @@ inserts x = record { command = refl; plain = (refl, refl); listed = refl; is_unc
 stays : (x : Receipt) → is_receipt_row (receipt_row x) ≡ true → cast_row receipt (receipt_adding.source x) ≡ receipt_adding.source x
 stays x good =
     let cells = (pass_each receipt_cells true (receipt_row x) good).1 in
-    row_stays (rowid_column ∷ drop 1 receipt_cells) receipt (Int (pos x.number)) (drop 1 (receipt_adding.source x)) refl (cast_int (pos x.number)) (refl, cells.1)
+    row_stays (rowid_column ∷ drop 1 receipt_cells) receipt (Int (pos x.number)) (drop 1 (receipt_adding.source x))
+    refl (cast_int (pos x.number)) (refl, cells.1)
 
 pub receipt_is_adding : IsAdding receipt_shape receipt_row is_receipt_row receipt_adding
 receipt_is_adding = record {
@@ -136,7 +137,8 @@ receipts_of_lease_selects : IsSelectText receipts_of_lease.text our_schema 20 re
 unfolding understood everything
 receipts_of_lease_selects = record { command = refl; unlisted = refl; plain = (refl, refl); stored = λ db. refl }
 
-pub receipts_of_lease_is : IsAsking receipt_shape receipts_of_lease (λ (q : ReceiptsOfLease). Unit {0}) (λ q. Int (pos q.lease) ∷ []) (λ q r. nat_eq r.payment.lease q.lease)
+pub receipts_of_lease_is : IsAsking receipt_shape receipts_of_lease
+    (λ (q : ReceiptsOfLease). Unit {0}) (λ q. Int (pos q.lease) ∷ []) (λ q r. nat_eq r.payment.lease q.lease)
 receipts_of_lease_is = record {
   selects = receipts_of_lease_selects;
   shows_columns = λ q r. refl;

@@ -32,7 +32,13 @@ abbrev pub registration_cells : List Cell
 registration_cells = text_that is_id ∷ text_that is_id ∷ text_that is_id ∷ read_as day_of ∷ []
 
 abbrev pub registration_shape : Shape (List ℕ × List ℕ) Registration
-registration_shape = record { tree = 11; columns = registration_columns; is_row = is_registration_row; row_in = registration_in; key = λ r. (r.client, r.branch) }
+registration_shape = record {
+  tree = 11;
+  columns = registration_columns;
+  is_row = is_registration_row;
+  row_in = registration_in;
+  key = λ r. (r.client, r.branch);
+}
 
 abbrev pub registration_shelf : Shelf (List ℕ × List ℕ) Registration (pair_cmp text_cmp text_cmp)
 registration_shelf = record {
@@ -55,7 +61,8 @@ registration_adding = record {
   source = without_rowid registration_row;
 }
 
-inserts : (x : Registration) → IsInsertText registration_adding.text our_schema 6 registration registration_adding.terms 5 (registration_row x) (registration_adding.source x)
+inserts : (x : Registration)
+    → IsInsertText registration_adding.text our_schema 6 registration registration_adding.terms 5 (registration_row x) (registration_adding.source x)
 unfolding understood everything
 inserts x = record { command = refl; plain = (refl, refl); listed = refl; is_uncounted = refl; value = refl }
 
@@ -64,7 +71,8 @@ registration_is_adding = record {
   tree_is = refl;
   listed = refl;
   inserts = inserts;
-  stays = λ x good. row_stays registration_cells registration Null (registration_row x) refl cast_null (pass_each registration_cells true (registration_row x) good).1;
+  stays = λ x good.
+      row_stays registration_cells registration Null (registration_row x) refl cast_null (pass_each registration_cells true (registration_row x) good).1;
   columns = λ x rows. refl;
   keyed = λ x rows. refl;
 }
@@ -91,7 +99,9 @@ registration_at_selects : IsSelectText registration_at.text our_schema 11 regist
 unfolding understood everything
 registration_at_selects = record { command = refl; unlisted = refl; plain = (refl, refl); stored = λ db. refl }
 
-pub registration_at_is : IsAsking registration_shape registration_at (λ (q : RegistrationAt). Unit {0}) (λ q. Text q.client ∷ Text q.branch ∷ []) (λ q r. is_same_text r.client q.client && is_same_text r.branch q.branch)
+pub registration_at_is : IsAsking registration_shape registration_at
+    (λ (q : RegistrationAt). Unit {0}) (λ q. Text q.client ∷ Text q.branch ∷ [])
+    (λ q r. is_same_text r.client q.client && is_same_text r.branch q.branch)
 registration_at_is = record {
   selects = registration_at_selects;
   shows_columns = λ q r. refl;

@@ -25,7 +25,8 @@ use Rattle.dh_sql.specs.Shape.{IsStored, stored_in}
 use Rattle.dh_sql.specs.Texts.{IsUpdateText}
 use Rattle.dh_sql.proofs.Casting.{cast_rowid, pass_all, pass_each, row_stays}
 use Rattle.dh_tables.specs.Amendments.{Amending, IsAmending}
-use Rattle.dh_tables.specs.Cells.{is_number, is_text as text_is, pass_both, pass_one, rowid_column, same_number, same_text, tells_both, tells_number, tells_text, to_limit}
+use Rattle.dh_tables.specs.Cells.{is_number, is_text as text_is, pass_both, pass_one, rowid_column}
+use Rattle.dh_tables.specs.Cells.{same_number, same_text, tells_both, tells_number, tells_text, to_limit}
 use Rattle.dh_tables.specs.RunTable.{run_cells, run_columns, run_of, run_shape}
 use Rattle.dh_tables.specs.PartTable.{part_cells, part_columns, part_of, part_shape}
 

@@ -91,7 +91,8 @@ member_numbered_selects : IsSelectText member_numbered.text our_schema 3 member_
 unfolding understood everything
 member_numbered_selects = record { command = refl; unlisted = refl; plain = (refl, refl); stored = λ db. refl }
 
-pub member_numbered_is : IsAsking staff_shape member_numbered (λ (q : MemberNumbered). Unit {0}) (λ q. Text q.number ∷ []) (λ q s. is_same_text s.number q.number)
+pub member_numbered_is : IsAsking staff_shape member_numbered
+    (λ (q : MemberNumbered). Unit {0}) (λ q. Text q.number ∷ []) (λ q s. is_same_text s.number q.number)
 member_numbered_is = record {
   selects = member_numbered_selects;
   shows_columns = λ q r. refl;

@@ -44,7 +44,8 @@ finds q r good =
     let cells = (pass_each viewing_cells true (viewing_columns r) good).1 in
     let v = stored_in viewing_shape r in
     tells_both (tells_text v.client q.client refl) (tells_text v.property q.property refl)
-    (pass_both (same_text (column r 1) q.client (text_is is_id (column r 1) cells.0)) (same_text (column r 2) q.property (text_is is_id (column r 2) cells.1.0)))
+    (pass_both (same_text (column r 1) q.client (text_is is_id (column r 1) cells.0))
+    (same_text (column r 2) q.property (text_is is_id (column r 2) cells.1.0)))
 
 turns : (q : ViewingComment) (r : Row) → is_text 200 q.comment ≡ true → IsStored viewing_shape r → is_int (rowid r) ≡ true
     → IsTurnedInto viewing_shape viewing r (drop 1 (shows comment_amending.project (comment_given q) r))

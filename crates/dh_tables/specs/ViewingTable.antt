@@ -91,7 +91,9 @@ viewing_of_selects : IsSelectText viewing_of.text our_schema 13 viewing_of.tests
 unfolding understood everything
 viewing_of_selects = record { command = refl; unlisted = refl; plain = (refl, refl); stored = λ db. refl }
 
-pub viewing_of_is : IsAsking viewing_shape viewing_of (λ (q : ViewingOf). Unit {0}) (λ q. Text q.client ∷ Text q.property ∷ []) (λ q v. is_same_text v.client q.client && is_same_text v.property q.property)
+pub viewing_of_is : IsAsking viewing_shape viewing_of
+    (λ (q : ViewingOf). Unit {0}) (λ q. Text q.client ∷ Text q.property ∷ [])
+    (λ q v. is_same_text v.client q.client && is_same_text v.property q.property)
 viewing_of_is = record {
   selects = viewing_of_selects;
   shows_columns = λ q r. refl;

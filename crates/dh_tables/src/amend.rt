@@ -10,7 +10,7 @@ ghost use Rattle.dh_catalog.specs.Layout.{our_schema};
 ghost use Rattle.dh_sql.specs.Shape.{AreApart, IsKept, rows_in};
 ghost use Rattle.dh_sql.specs.Changes.{Becomes};
 ghost use Rattle.dh_tables.specs.Amendments.{Amending, IsAmending};
-ghost use Rattle.dh_tables.specs.Calls.{CommitsNothing, IsUndone, IsWriting};
+ghost use Rattle.dh_tables.specs.Calls.{Amends, CommitsNothing, GoesOn, IsUndone, IsWriting};
 
 use crate::Tabled;
 use sqlite::types::ValueRef;
@@ -57,10 +57,13 @@ pub fn update<A: Amend, S: Alter>(
     requires kept { HasCleanDisk (state S.Store tx.old.conn.now) → IsKept A.Record.shape A.Record.order (state S.Store tx.old.conn.now).now.trees }
     requires apart { HasCleanDisk (state S.Store tx.old.conn.now) → AreApart ((state S.Store tx.old.conn.now).now.trees A.Record.shape.tree) }
     ensures same_reference { tx.new.conn.ghost_name ≡ tx.old.conn.ghost_name }
-    ensures amended { HasCleanDisk (state S.Store tx.new.conn.now) → OnOk result ((x : A.Record) → fin.get (rows_in A.Record.shape {R = A.Record.order} (state S.Store tx.old.conn.now).now.trees) (A.key change.now) ≡ Some x
-        → Becomes A.Record.shape A.Record.order our_schema (fin.insert (rows_in A.Record.shape (state S.Store tx.old.conn.now).now.trees) (A.key change.now) (A.amended change.now x)) (state S.Store tx.old.conn.now) (state S.Store tx.new.conn.now)) }
-    ensures shown { HasCleanDisk (state S.Store tx.new.conn.now) → OnOk result (Shows (state S.Store tx.old.conn.now) (state S.Store tx.new.conn.now) (state S.Store tx.new.conn.now).now (state S.Store tx.old.conn.now).committed true) }
-    ensures undone { HasCleanDisk (state S.Store tx.new.conn.now) → OnErr result (IsUndone (state S.Store tx.old.conn.now) (state S.Store tx.new.conn.now)) }
+    ensures amended { HasCleanDisk (state S.Store tx.new.conn.now)
+        → OnOk result (Amends A.Record.shape A.Record.order (A.key change.now) (A.amended change.now)
+        (state S.Store tx.old.conn.now) (state S.Store tx.new.conn.now)) }
+    ensures shown { HasCleanDisk (state S.Store tx.new.conn.now)
+        → OnOk result (GoesOn (state S.Store tx.old.conn.now) (state S.Store tx.new.conn.now)) }
+    ensures undone { HasCleanDisk (state S.Store tx.new.conn.now)
+        → OnErr result (IsUndone (state S.Store tx.old.conn.now) (state S.Store tx.new.conn.now)) }
     ensures crash { CommitsNothing (state S.Store tx.old.conn.now) (state S.Store tx.new.conn.now) }
 {
     let params = change.params(alloc)?;

@@ -6,7 +6,7 @@ ghost use Rattle.sqlite.specs.State.{HasCleanDisk, IsUnchanged};
 ghost use Rattle.sqlite.specs.Held.{state};
 ghost use Rattle.dh_model.specs.Whole.{rows_where};
 ghost use Rattle.dh_sql.specs.Shape.{IsKept, rows_in};
-ghost use Rattle.dh_tables.specs.Calls.{CommitsNothing, IsReading, IsUndone};
+ghost use Rattle.dh_tables.specs.Calls.{CommitsNothing, HasFetched, HasFetchedMore, IsReading, IsUndone};
 
 use crate::{Look, gather, rows_asked};
 use dh_books::Books;
@@ -24,7 +24,9 @@ pub fn fetch<L: Look, S: Alter>(
     requires reading { HasCleanDisk (state S.Store conn.old) → IsReading (state S.Store conn.old) }
     requires kept { HasCleanDisk (state S.Store conn.old) → IsKept L.Record.shape L.Record.order (state S.Store conn.old).now.trees }
     requires none { HasCleanDisk (state S.Store conn.old) → L.Record.shelf.held books.old ≡ fin.empty }
-    ensures fetched { HasCleanDisk (state S.Store conn.new) → IfOk result (λ done. done ≡ true → books.new ≡ L.Record.shelf.with books.old (rows_where (L.asks question.now) (rows_in L.Record.shape (state S.Store conn.old).now.trees))) }
+    ensures fetched { HasCleanDisk (state S.Store conn.new)
+        → IfOk result (λ done. done ≡ true
+        → HasFetched L.Record.shape L.Record.order L.Record.shelf (L.asks question.now) (state S.Store conn.old) books.old books.new) }
     ensures same { HasCleanDisk (state S.Store conn.new) → OnOk result (IsUnchanged (state S.Store conn.old) (state S.Store conn.new)) }
     ensures undone { HasCleanDisk (state S.Store conn.new) → OnErr result (IsUndone (state S.Store conn.old) (state S.Store conn.new)) }
     ensures crash { CommitsNothing (state S.Store conn.old) (state S.Store conn.new) }
@@ -43,8 +45,9 @@ pub fn fetch_more<L: Look, S: Alter>(
 ) -> Result<bool, Error>
     requires reading { HasCleanDisk (state S.Store conn.old) → IsReading (state S.Store conn.old) }
     requires kept { HasCleanDisk (state S.Store conn.old) → IsKept L.Record.shape L.Record.order (state S.Store conn.old).now.trees }
-    ensures fetched { HasCleanDisk (state S.Store conn.new) → IfOk result (λ done. done ≡ true → (test : L.Record → Bool) → L.Record.shelf.held books.old ≡ rows_where test (rows_in L.Record.shape (state S.Store conn.old).now.trees)
-        → books.new ≡ L.Record.shelf.with books.old (rows_where (λ x. test x || L.asks question.now x) (rows_in L.Record.shape (state S.Store conn.old).now.trees))) }
+    ensures fetched { HasCleanDisk (state S.Store conn.new)
+        → IfOk result (λ done. done ≡ true
+        → HasFetchedMore L.Record.shape L.Record.order L.Record.shelf (L.asks question.now) (state S.Store conn.old) books.old books.new) }
     ensures same { HasCleanDisk (state S.Store conn.new) → OnOk result (IsUnchanged (state S.Store conn.old) (state S.Store conn.new)) }
     ensures undone { HasCleanDisk (state S.Store conn.new) → OnErr result (IsUndone (state S.Store conn.old) (state S.Store conn.new)) }
     ensures crash { CommitsNothing (state S.Store conn.old) (state S.Store conn.new) }

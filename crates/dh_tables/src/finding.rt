@@ -7,7 +7,7 @@ ghost use Rattle.sqlite.specs.Held.{state};
 ghost use Rattle.dh_model.specs.Whole.{rows_where};
 ghost use Rattle.dh_sql.specs.Shape.{IsKept, rows_in, rows_of};
 ghost use Rattle.dh_tables.specs.Questions.{AsksFor, only_record};
-ghost use Rattle.dh_tables.specs.Calls.{CommitsNothing, IsReading, IsUndone};
+ghost use Rattle.dh_tables.specs.Calls.{CommitsNothing, IsFound, IsReading, IsUndone, asked_in};
 
 use crate::{Look, Tabled, rows_asked};
 use sqlite::{Alter, Connection, Error, ErrorCode, Row};
@@ -36,8 +36,10 @@ pub fn find<L: Look, S: Alter>(
 ) -> Result<Option<L::Record>, Error>
     requires reading { HasCleanDisk (state S.Store conn.old) → IsReading (state S.Store conn.old) }
     requires kept { HasCleanDisk (state S.Store conn.old) → IsKept L.Record.shape L.Record.order (state S.Store conn.old).now.trees }
-    ensures only { HasCleanDisk (state S.Store conn.new) → IfOk result (λ found. rows_where (L.asks question.now) (rows_in L.Record.shape {R = L.Record.order} (state S.Store conn.old).now.trees) ≡ only_record L.Record.shape found) }
-    ensures found { HasCleanDisk (state S.Store conn.new) → IfOk result (λ found. (key : L.Record.Key) → AsksFor L.Record.shape (L.asks question.now) key → found ≡ fin.get (rows_in L.Record.shape {R = L.Record.order} (state S.Store conn.old).now.trees) key) }
+    ensures only { HasCleanDisk (state S.Store conn.new)
+        → IfOk result (λ found. asked_in L.Record.shape L.Record.order (L.asks question.now) (state S.Store conn.old) ≡ only_record L.Record.shape found) }
+    ensures found { HasCleanDisk (state S.Store conn.new)
+        → IfOk result (IsFound L.Record.shape L.Record.order (L.asks question.now) (state S.Store conn.old)) }
     ensures same { HasCleanDisk (state S.Store conn.new) → OnOk result (IsUnchanged (state S.Store conn.old) (state S.Store conn.new)) }
     ensures undone { HasCleanDisk (state S.Store conn.new) → OnErr result (IsUndone (state S.Store conn.old) (state S.Store conn.new)) }
     ensures crash { CommitsNothing (state S.Store conn.old) (state S.Store conn.new) }

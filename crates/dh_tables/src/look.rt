@@ -10,7 +10,7 @@ ghost use Rattle.sqlite.specs.Held.{state};
 ghost use Rattle.dh_model.specs.Whole.{rows_where};
 ghost use Rattle.dh_sql.specs.Shape.{IsKept, rows_in, rows_of, shown_keys};
 ghost use Rattle.dh_tables.specs.Questions.{Asking, IsAsking};
-ghost use Rattle.dh_tables.specs.Calls.{CommitsNothing, IsReading, IsUndone};
+ghost use Rattle.dh_tables.specs.Calls.{AreAsked, CommitsNothing, IsReading, IsUndone};
 
 use crate::Tabled;
 use sqlite::types::ValueRef;
@@ -61,8 +61,10 @@ pub fn rows_asked<L: Look, S: Alter>(
 ) -> Result<Vec<Row>, Error>
     requires reading { HasCleanDisk (state S.Store conn.old) → IsReading (state S.Store conn.old) }
     requires kept { HasCleanDisk (state S.Store conn.old) → IsKept L.Record.shape L.Record.order (state S.Store conn.old).now.trees }
-    ensures rows { HasCleanDisk (state S.Store conn.new) → IfOk result (λ rows. rows_of L.Record.shape {R = L.Record.order} rows.items ≡ rows_where (L.asks question.now) (rows_in L.Record.shape (state S.Store conn.old).now.trees)) }
-    ensures distinct { HasCleanDisk (state S.Store conn.new) → IfOk result (λ rows. IsDistinct (eq_by_cmp L.Record.order) (shown_keys L.Record.shape rows.items)) }
+    ensures rows { HasCleanDisk (state S.Store conn.new)
+        → IfOk result (λ rows. AreAsked L.Record.shape L.Record.order (L.asks question.now) (state S.Store conn.old) rows.items) }
+    ensures distinct { HasCleanDisk (state S.Store conn.new)
+        → IfOk result (λ rows. IsDistinct (eq_by_cmp L.Record.order) (shown_keys L.Record.shape rows.items)) }
     ensures same { HasCleanDisk (state S.Store conn.new) → OnOk result (IsUnchanged (state S.Store conn.old) (state S.Store conn.new)) }
     ensures undone { HasCleanDisk (state S.Store conn.new) → OnErr result (IsUndone (state S.Store conn.old) (state S.Store conn.new)) }
     ensures crash { CommitsNothing (state S.Store conn.old) (state S.Store conn.new) }

@@ -10,7 +10,7 @@ ghost use Rattle.dh_catalog.specs.Layout.{our_schema};
 ghost use Rattle.dh_sql.specs.Shape.{Shape, IsKept, rows_in};
 ghost use Rattle.dh_sql.specs.Changes.{Becomes};
 ghost use Rattle.dh_tables.specs.Tables.{Adding, HasShape, IsAdding, Shelf};
-ghost use Rattle.dh_tables.specs.Calls.{CommitsNothing, IsUndone, IsWriting};
+ghost use Rattle.dh_tables.specs.Calls.{Adds, CommitsNothing, GoesOn, IsNew, IsUndone, IsWriting};
 
 use dh_books::Books;
 use dh_rows::Record;
@@ -55,13 +55,16 @@ pub fn insert<R: Tabled, S: Alter>(
 ) -> Result<(), Error>
     requires writing { HasCleanDisk (state S.Store tx.old.conn.now) → IsWriting (state S.Store tx.old.conn.now) }
     requires kept { HasCleanDisk (state S.Store tx.old.conn.now) → IsKept R.shape R.order (state S.Store tx.old.conn.now).now.trees }
-    requires fresh { HasCleanDisk (state S.Store tx.old.conn.now) → fin.get (rows_in R.shape {R = R.order} (state S.Store tx.old.conn.now).now.trees) (R.shape.key row.now) ≡ None }
+    requires fresh { HasCleanDisk (state S.Store tx.old.conn.now) → IsNew R.shape R.order row.now (state S.Store tx.old.conn.now) }
     requires keeps { R.Record.can_keep row.now }
     ensures same_reference { tx.new.conn.ghost_name ≡ tx.old.conn.ghost_name }
     ensures writing { HasCleanDisk (state S.Store tx.new.conn.now) → OnOk result (IsWriting (state S.Store tx.new.conn.now)) }
-    ensures added { HasCleanDisk (state S.Store tx.new.conn.now) → OnOk result (Becomes R.shape R.order our_schema (fin.insert (rows_in R.shape (state S.Store tx.old.conn.now).now.trees) (R.shape.key row.now) row.now) (state S.Store tx.old.conn.now) (state S.Store tx.new.conn.now)) }
-    ensures shown { HasCleanDisk (state S.Store tx.new.conn.now) → OnOk result (Shows (state S.Store tx.old.conn.now) (state S.Store tx.new.conn.now) (state S.Store tx.new.conn.now).now (state S.Store tx.old.conn.now).committed true) }
-    ensures undone { HasCleanDisk (state S.Store tx.new.conn.now) → OnErr result (IsUndone (state S.Store tx.old.conn.now) (state S.Store tx.new.conn.now)) }
+    ensures added { HasCleanDisk (state S.Store tx.new.conn.now)
+        → OnOk result (Adds R.shape R.order row.now (state S.Store tx.old.conn.now) (state S.Store tx.new.conn.now)) }
+    ensures shown { HasCleanDisk (state S.Store tx.new.conn.now)
+        → OnOk result (GoesOn (state S.Store tx.old.conn.now) (state S.Store tx.new.conn.now)) }
+    ensures undone { HasCleanDisk (state S.Store tx.new.conn.now)
+        → OnErr result (IsUndone (state S.Store tx.old.conn.now) (state S.Store tx.new.conn.now)) }
     ensures crash { CommitsNothing (state S.Store tx.old.conn.now) (state S.Store tx.new.conn.now) }
 {
     let day = row.day_bytes(alloc)?;

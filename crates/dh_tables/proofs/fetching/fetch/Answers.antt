@@ -13,4 +13,6 @@ returns-clause-fetched g c clean done =
     let old = c.args.books.now in
     let rows = c.in_ok-rows.rows.items in
     c.in_ok-gather.ensures.gathered done
-    ∙ ap (T.shelf.with old) (ap (λ rs. put_rows T.shape rs (T.shelf.held old)) c.deref.ensures.value ∙ ap (put_rows T.shape rows) (c.requires.none early) ∙ put_alone laws.total laws.ties T.shape rows (c.in_ok-rows.ensures.distinct clean) ∙ c.in_ok-rows.ensures.rows clean)
+    ∙ ap (T.shelf.with old) (ap (λ rs. put_rows T.shape rs (T.shelf.held old)) c.deref.ensures.value
+    ∙ ap (put_rows T.shape rows) (c.requires.none early)
+    ∙ put_alone laws.total laws.ties T.shape rows (c.in_ok-rows.ensures.distinct clean) ∙ c.in_ok-rows.ensures.rows clean)

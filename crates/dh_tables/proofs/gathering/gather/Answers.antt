@@ -47,8 +47,11 @@ loop-row-preserved g c =
     ap (λ rs. put_rows T.shape rs (T.shelf.held old)) more ∙ push T.shape rows row (T.shelf.held old) ∙ ap (λ y. insert m (T.shape.key y) y) record_is in
     let books = c.in_ok-put.ensures ∙ ap (λ n. T.shelf.with c.loop-row.books (insert n (T.shape.key x) x)) held
     ∙ ap (λ (s : State). T.shelf.with s added) c.loop-row.invariant.0 ∙ T.shelf.with_with old m added ∙ ap (T.shelf.with old) (sym step) in
-    let here : g.R.Record.is_row row ≡ true = good in
-    (books, subst (AllByRecursion (λ r. g.R.Record.is_row r ≡ true)) (sym more) (one_more (λ r. g.R.Record.is_row r ≡ true) rows row c.loop-row.invariant.1 here))
+    let here : g.R.Record.is_row row ≡ true = good in (
+      books,
+      subst (AllByRecursion (λ r. g.R.Record.is_row r ≡ true)) (sym more)
+          (one_more (λ r. g.R.Record.is_row r ≡ true) rows row c.loop-row.invariant.1 here),
+    )
 
 pub returns-in_default-clause-damaged : goal.returns-in_default-clause-damaged
 returns-in_default-clause-damaged g c is all =
@@ -56,7 +59,8 @@ returns-in_default-clause-damaged g c is all =
     let row = c.row-item.result in
     let rows = take c.loop-row.row-index c.args.rows.now in
     let more = rw (← c.row-item.is) at (take_more c.args.rows.now c.loop-row.row-index row low) in
-    let first = subst (AllByRecursion (λ r. g.R.Record.is_row r ≡ true)) more (all_taken (λ r. g.R.Record.is_row r ≡ true) c.args.rows.now (c.loop-row.row-index + 1) all) in
+    let first = subst (AllByRecursion (λ r. g.R.Record.is_row r ≡ true)) more
+    (all_taken (λ r. g.R.Record.is_row r ≡ true) c.args.rows.now (c.loop-row.row-index + 1) all) in
     let here = last_of (λ r. g.R.Record.is_row r ≡ true) rows row first in
     let some = (subst (λ o. IsSome o ↔ (g.R.Record.is_row row ≡ true)) c.in_default.is c.in_ok-record.ensures.exact).1 here in
     cc

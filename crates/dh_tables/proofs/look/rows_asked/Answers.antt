@@ -29,7 +29,8 @@ returns-clause-rows g c clean =
     let table = g.met.L.Record.Tabled in
     let law = g.met.L.Look.is_asking in
     asked table.total table.ties it how.text our_schema how.tests how.project how.names (g.L.Look.given q) (g.L.Look.asks q)
-    law.selects (law.shows_columns q) (λ r. law.passes q r c.in_ok-params.ensures.known) old new (c.requires.reading early).schema (c.requires.kept early) c.query_all.result (shown g c clean)
+    law.selects (law.shows_columns q) (λ r. law.passes q r c.in_ok-params.ensures.known)
+    old new (c.requires.reading early).schema (c.requires.kept early) c.query_all.result (shown g c clean)
 
 pub returns-clause-distinct : goal.returns-clause-distinct
 returns-clause-distinct g c clean =
@@ -42,7 +43,8 @@ returns-clause-distinct g c clean =
     let table = g.met.L.Record.Tabled in
     let law = g.met.L.Look.is_asking in
     asked_once table.total table.ties it how.text our_schema how.tests how.project how.names (g.L.Look.given q) (g.L.Look.asks q)
-    law.selects (law.shows_columns q) (λ r. law.passes q r c.in_ok-params.ensures.known) old new (c.requires.reading early).schema (c.requires.kept early) c.query_all.result (shown g c clean)
+    law.selects (law.shows_columns q) (λ r. law.passes q r c.in_ok-params.ensures.known)
+    old new (c.requires.reading early).schema (c.requires.kept early) c.query_all.result (shown g c clean)
 
 pub returns-clause-same : goal.returns-clause-same
 returns-clause-same g c clean =
