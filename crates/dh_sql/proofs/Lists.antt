@@ -1,0 +1,34 @@
+-- Facts of each element of a list.
+use Rattle.std.proofs.Common.{◌≡◌, inl, inr, refl, sym, subst, ℕ, zero, suc, List, [], ◌∷◌, map, Some}
+use Rattle.std.specs.List.{AllByRecursion, slice_get}
+use Rattle.sqlite_rules.specs.Lists.{Has}
+use Rattle.dh_model.proofs.Among.{Among}
+
+pub all_from_has : {X : Type 0} (P : X → Type 0) (xs : List X) → ((x : X) → Has xs x → P x) → AllByRecursion P xs
+all_from_has P [] h = tt
+all_from_has P (x ∷ xs) h = (h x (inl refl), all_from_has P xs (λ y there. h y (inr there)))
+
+pub has_all : {X : Type 0} (P : X → Type 0) (xs : List X) (x : X) → AllByRecursion P xs → Has xs x → P x
+has_all P [] x h there = absurd there
+has_all P (y ∷ xs) x h (inl e) = subst P (sym e) h.0
+has_all P (y ∷ xs) x h (inr there) = has_all P xs x h.1 there
+
+pub has_among : {X : Type 0} (xs : List X) (x : X) → Among xs x → Has xs x
+has_among [] x h = absurd h
+has_among (y ∷ xs) x (inl e) = inl e
+has_among (y ∷ xs) x (inr h) = inr (has_among xs x h)
+
+pub all_of : {X : Type 0} (P Q : X → Type 0) → ((x : X) → P x → Q x) → (xs : List X) → AllByRecursion P xs → AllByRecursion Q xs
+all_of P Q h [] a = tt
+all_of P Q h (x ∷ xs) a = (h x a.0, all_of P Q h xs a.1)
+
+pub map_same : {X Y : Type 0} (f g : X → Y) → ((x : X) → f x ≡ g x) → (xs : List X) → map f xs ≡ map g xs
+map_same f g same [] = refl
+map_same f g same (x ∷ xs) = λ i. same x i ∷ map_same f g same xs i
+
+-- the element at a place
+pub all_at : {X : Type 0} (P : X → Type 0) (xs : List X) (at : ℕ) (x : X) → AllByRecursion P xs → slice_get xs at ≡ Some x → P x
+all_at P [] zero x all h = cc
+all_at P [] (suc at) x all h = cc
+all_at P (y ∷ xs) zero x all h = subst P (let e : y ≡ x = cc in e) all.0
+all_at P (y ∷ xs) (suc at) x all h = all_at P xs at x all.1 h

@@ -1,0 +1,71 @@
+-- What a call on our tables needs, and what it leaves.
+use Rattle.std.specs.Prelude.{◌≡◌, ◌⊎◌, ◌||◌, Bool, true, IsTrue, List, Option, Some, None}
+use Rattle.std.specs.declared.cmp.Ordering.{Ordering}
+use Rattle.std.specs.FinMap.{FinMap, get, insert}
+use Rattle.sqlite_value.specs.Order.{Row}
+use Rattle.sqlite.specs.State.{IsRolledBack, IsUnchanged, Shows, State, Survives}
+use Rattle.dh_model.specs.Books as machine
+use Rattle.dh_model.specs.Whole.{rows_where}
+use Rattle.dh_catalog.specs.Layout.{our_schema}
+use Rattle.dh_sql.specs.Changes.{Becomes}
+use Rattle.dh_sql.specs.Shape.{Shape, rows_in, rows_of}
+use Rattle.dh_tables.specs.Questions.{AsksFor}
+use Rattle.dh_tables.specs.Tables.{Shelf}
+
+-- open, with our tables
+pub record IsReading (s : State) : Type 0 where
+  pub is_open : IsTrue s.is_open
+  pub schema : s.now.schema ≡ our_schema
+
+-- open, within a transaction, with our tables
+pub record IsWriting (s : State) : Type 0 where
+  pub is_open : IsTrue s.is_open
+  pub inside : IsTrue s.in_transaction
+  pub schema : s.now.schema ≡ our_schema
+
+-- a call that failed has changed nothing, or has ended the transaction
+abbrev pub IsUndone : State → State → Type 0
+IsUndone old new = IsUnchanged old new ⊎ IsRolledBack old new
+
+-- no call but a commit commits
+abbrev pub CommitsNothing : State → State → Type 0
+CommitsNothing old new = Survives old new (λ _. ⊥)
+
+-- the transaction goes on, and what was committed is as it was
+abbrev pub GoesOn : State → State → Type 0
+GoesOn old new = Shows old new new.now old.committed true
+
+module _ {K X : Type 0} (it : Shape K X) (R : K → K → Ordering) where
+  -- no record of the table has the key of this one
+  abbrev pub IsNew : X → State → Type 0
+  IsNew x s = get (rows_in it {R = R} s.now.trees) (it.key x) ≡ None
+
+  -- the table has this record too
+  abbrev pub Adds : X → State → State → Type 0
+  Adds x old new = Becomes it R our_schema (insert (rows_in it old.now.trees) (it.key x) x) old new
+
+  -- the record that has the key has become another
+  abbrev pub Amends : K → (X → X) → State → State → Type 0
+  Amends key amended old new =
+      (x : X) → get (rows_in it {R = R} old.now.trees) key ≡ Some x → Becomes it R our_schema (insert (rows_in it old.now.trees) key (amended x)) old new
+
+  -- the records that are asked for
+  abbrev pub asked_in : (X → Bool) → State → FinMap R X
+  asked_in asks s = rows_where asks (rows_in it s.now.trees)
+
+  -- the rows are those that are asked for
+  abbrev pub AreAsked : (X → Bool) → State → List Row → Type 0
+  AreAsked asks s rows = rows_of it {R = R} rows ≡ asked_in asks s
+
+  -- where exactly the record of a key is asked for, it is what the table has there
+  abbrev pub IsFound : (X → Bool) → State → Option X → Type 0
+  IsFound asks s found = (key : K) → AsksFor it asks key → found ≡ get (rows_in it {R = R} s.now.trees) key
+
+  module _ (shelf : Shelf K X R) where
+    -- the books have what is asked for
+    abbrev pub HasFetched : (X → Bool) → State → machine.State → machine.State → Type 0
+    HasFetched asks s old new = new ≡ shelf.with old (asked_in asks s)
+
+    -- and beside it what they had of the table
+    abbrev pub HasFetchedMore : (X → Bool) → State → machine.State → machine.State → Type 0
+    HasFetchedMore asks s old new = (test : X → Bool) → shelf.held old ≡ asked_in test s → new ≡ shelf.with old (asked_in (λ x. test x || asks x) s)

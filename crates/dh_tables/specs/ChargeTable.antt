@@ -1,0 +1,130 @@
+-- The table charge.
+use Rattle.std.specs.Prelude.{refl, ℕ, List, [], ◌∷◌, codes, true, pos, nat_eq}
+use Rattle.std.specs.Ordering.{nat_cmp}
+use Rattle.sqlite_value.specs.declared.value.Value.TheVariants.{Int, Null}
+use Rattle.sqlite_value.specs.declared.keys.Collation.TheVariants.{Binary}
+use Rattle.sqlite_value.specs.Order.{Row, column}
+use Rattle.sqlite_sql.specs.declared.ops.BinaryOp.TheVariants.{Compare}
+use Rattle.sqlite_sql.specs.declared.ops.CompareOp.TheVariants.{Eq}
+use Rattle.sqlite_sql.specs.Term.{Term, lit, col, op2}
+use Rattle.sqlite_tied.specs.Compute.{everything}
+use Rattle.sqlite.specs.Listing.{understood}
+use Rattle.dh_values.specs.declared.limits.TheConstants.{MOST_CHARGE_INDEX, MOST_NUMBER, MOST_RENT}
+use Rattle.dh_days.specs.declared.limits.TheConstants.{FIRST_MONTH, LAST_ENTRY_MONTH}
+use Rattle.dh_days.specs.Days.{due_day_of}
+use Rattle.dh_types.specs.declared.lease.Charge.{Charge}
+use Rattle.dh_model.specs.Books.{pair_cmp}
+use Rattle.dh_rows.specs.ChargeRows.{charge_in, charge_row, is_charge_row}
+use Rattle.dh_catalog.specs.Layout.{our_schema}
+use Rattle.dh_catalog.specs.ChargeTable.{charge}
+use Rattle.dh_sql.specs.Cells.{Cell}
+use Rattle.dh_sql.specs.Shape.{Shape}
+use Rattle.dh_sql.specs.Texts.{IsInsertText, IsSelectText}
+use Rattle.dh_sql.proofs.Casting.{cast_null, pass_each, row_stays}
+use Rattle.dh_tables.specs.declared.charge.ChargesOfLease.{ChargesOfLease}
+use Rattle.dh_tables.specs.declared.charge.ChargesOfMonth.{ChargesOfMonth}
+use Rattle.dh_tables.specs.Cells.{is_number, number_from, pass_one, read_as, same_number}
+use Rattle.dh_tables.specs.Questions.{Asking, IsAsking}
+use Rattle.dh_tables.specs.Tables.{Adding, IsAdding, Shelf, without_rowid}
+
+abbrev pub charge_columns : Row → Row
+charge_columns row = column row 1 ∷ column row 2 ∷ column row 3 ∷ column row 4 ∷ column row 5 ∷ []
+
+abbrev pub charge_cells : List Cell
+charge_cells =
+    number_from 1 MOST_NUMBER ∷ number_from 0 MOST_CHARGE_INDEX ∷ number_from FIRST_MONTH LAST_ENTRY_MONTH ∷ read_as due_day_of
+    ∷ number_from 1 MOST_RENT ∷ []
+
+abbrev pub charge_shape : Shape (ℕ × ℕ) Charge
+charge_shape = record { tree = 18; columns = charge_columns; is_row = is_charge_row; row_in = charge_in; key = λ c. (c.lease, c.index) }
+
+abbrev pub charge_shelf : Shelf (ℕ × ℕ) Charge (pair_cmp nat_cmp nat_cmp)
+charge_shelf = record {
+  held = λ s. s.books.charges;
+  with = λ s m. record s { books = record s.books { charges = m } };
+  held_with = λ s m. refl;
+  with_with = λ s m n. refl;
+  with_held = λ s. refl;
+}
+
+-- ---- adding a row
+
+abbrev pub charge_adding : Adding Charge
+charge_adding = record {
+  text = codes "INSERT INTO charge (lease_no, k, month, day, amount) VALUES (?1, ?2, ?3, ?4, ?5)";
+  place = 10;
+  table = charge;
+  terms = lit Null ∷ col 0 0 ∷ col 0 1 ∷ col 0 2 ∷ col 0 3 ∷ col 0 4 ∷ [];
+  width = 6;
+  source = without_rowid charge_row;
+}
+
+inserts : (x : Charge) → IsInsertText charge_adding.text our_schema 10 charge charge_adding.terms 6 (charge_row x) (charge_adding.source x)
+unfolding understood everything
+inserts x = record { command = refl; plain = (refl, refl); listed = refl; is_uncounted = refl; value = refl }
+
+pub charge_is_adding : IsAdding charge_shape charge_row is_charge_row charge_adding
+charge_is_adding = record {
+  tree_is = refl;
+  listed = refl;
+  inserts = inserts;
+  stays = λ x good. row_stays charge_cells charge Null (charge_row x) refl cast_null (pass_each charge_cells true (charge_row x) good).1;
+  columns = λ x rows. refl;
+  keyed = λ x rows. refl;
+}
+
+-- ---- what the texts show
+
+abbrev charge_project : List Term
+charge_project = col 1 1 ∷ col 1 2 ∷ col 1 3 ∷ col 1 4 ∷ col 1 5 ∷ []
+
+abbrev charge_names : List (List ℕ)
+charge_names = codes "lease_no" ∷ codes "k" ∷ codes "month" ∷ codes "day" ∷ codes "amount" ∷ []
+
+-- ---- the charges of a lease
+
+abbrev pub charges_of_lease : Asking
+charges_of_lease = record {
+  text = codes "SELECT lease_no, k, month, day, amount FROM charge WHERE lease_no = ?1";
+  tests = op2 (Compare Eq Binary) (col 1 1) (col 0 0) ∷ [];
+  project = charge_project;
+  names = charge_names;
+}
+
+charges_of_lease_selects : IsSelectText charges_of_lease.text our_schema 18 charges_of_lease.tests charge_project [] charge_names
+unfolding understood everything
+charges_of_lease_selects = record { command = refl; unlisted = refl; plain = (refl, refl); stored = λ db. refl }
+
+pub charges_of_lease_is : IsAsking charge_shape charges_of_lease
+    (λ (q : ChargesOfLease). Unit {0}) (λ q. Int (pos q.lease) ∷ []) (λ q c. nat_eq c.lease q.lease)
+charges_of_lease_is = record {
+  selects = charges_of_lease_selects;
+  shows_columns = λ q r. refl;
+  passes = λ q r known good.
+      let cells = (pass_each charge_cells true (charge_columns r) good).1 in
+      pass_one (same_number (column r 1) q.lease (is_number 1 MOST_NUMBER (column r 1) cells.0));
+}
+
+-- ---- the charges of a month
+
+abbrev pub charges_of_month : Asking
+charges_of_month = record {
+  text = codes "SELECT lease_no, k, month, day, amount FROM charge WHERE month = ?1";
+  tests = op2 (Compare Eq Binary) (col 1 3) (col 0 0) ∷ [];
+  project = charge_project;
+  names = charge_names;
+}
+
+charges_of_month_selects : IsSelectText charges_of_month.text our_schema 18 charges_of_month.tests charge_project [] charge_names
+unfolding understood everything
+charges_of_month_selects = record { command = refl; unlisted = refl; plain = (refl, refl); stored = λ db. refl }
+
+pub charges_of_month_is : IsAsking charge_shape charges_of_month
+    (λ (q : ChargesOfMonth). Unit {0}) (λ q. Int (pos q.month) ∷ []) (λ q c. nat_eq c.month q.month)
+charges_of_month_is = record {
+  selects = charges_of_month_selects;
+  shows_columns = λ q r. refl;
+  passes = λ q r known good.
+      let cells = (pass_each charge_cells true (charge_columns r) good).1 in
+      pass_one (same_number (column r 3) q.month (is_number FIRST_MONTH LAST_ENTRY_MONTH (column r 3) cells.1.1.0));
+}

@@ -1,0 +1,103 @@
+-- The table client.
+use Rattle.std.specs.Prelude.{refl, ℕ, List, [], ◌∷◌, codes, true}
+use Rattle.sqlite_value.specs.declared.value.Value.TheVariants.{Null, Text}
+use Rattle.sqlite_value.specs.declared.keys.Collation.TheVariants.{Binary}
+use Rattle.sqlite_value.specs.Order.{Row, column}
+use Rattle.sqlite_sql.specs.declared.ops.BinaryOp.TheVariants.{Compare}
+use Rattle.sqlite_sql.specs.declared.ops.CompareOp.TheVariants.{Eq}
+use Rattle.sqlite_sql.specs.Term.{Term, lit, col, op2}
+use Rattle.sqlite_tied.specs.Compute.{everything}
+use Rattle.sqlite.specs.Listing.{understood}
+use Rattle.dh_values.specs.Texts.{is_id, is_text}
+use Rattle.dh_values.specs.Kinds.{property_type_of}
+use Rattle.dh_values.specs.declared.limits.TheConstants.{MOST_RENT}
+use Rattle.dh_types.specs.declared.client.Client.{Client}
+use Rattle.dh_model.specs.Books.{text_cmp}
+use Rattle.dh_model.specs.Checks.{is_same_text}
+use Rattle.dh_rows.specs.ClientRows.{client_in, client_row, is_client_row}
+use Rattle.dh_catalog.specs.Layout.{our_schema}
+use Rattle.dh_catalog.specs.ClientTable.{client}
+use Rattle.dh_sql.specs.Cells.{Cell}
+use Rattle.dh_sql.specs.Shape.{Shape}
+use Rattle.dh_sql.specs.Texts.{IsInsertText, IsSelectText}
+use Rattle.dh_sql.proofs.Casting.{cast_null, pass_each, row_stays}
+use Rattle.dh_tables.specs.declared.client.ClientNumbered.{ClientNumbered}
+use Rattle.dh_tables.specs.Cells.{is_text as text_is, number_from, pass_one, read_as, same_text, text_that}
+use Rattle.dh_tables.specs.Questions.{Asking, IsAsking}
+use Rattle.dh_tables.specs.Tables.{Adding, IsAdding, Shelf, without_rowid}
+
+abbrev pub client_columns : Row → Row
+client_columns row = column row 1 ∷ column row 2 ∷ column row 3 ∷ column row 4 ∷ column row 5 ∷ []
+
+abbrev pub client_cells : List Cell
+client_cells = text_that is_id ∷ text_that (is_text 60) ∷ text_that (is_text 60) ∷ read_as property_type_of ∷ number_from 1 MOST_RENT ∷ []
+
+abbrev pub client_shape : Shape (List ℕ) Client
+client_shape = record { tree = 9; columns = client_columns; is_row = is_client_row; row_in = client_in; key = λ c. c.number }
+
+abbrev pub client_shelf : Shelf (List ℕ) Client text_cmp
+client_shelf = record {
+  held = λ s. s.books.clients;
+  with = λ s m. record s { books = record s.books { clients = m } };
+  held_with = λ s m. refl;
+  with_with = λ s m n. refl;
+  with_held = λ s. refl;
+}
+
+-- ---- adding a row
+
+abbrev pub client_adding : Adding Client
+client_adding = record {
+  text = codes "INSERT INTO client (client_no, name, telephone, pref_type, max_rent) VALUES (?1, ?2, ?3, ?4, ?5)";
+  place = 5;
+  table = client;
+  terms = lit Null ∷ col 0 0 ∷ col 0 1 ∷ col 0 2 ∷ col 0 3 ∷ col 0 4 ∷ [];
+  width = 6;
+  source = without_rowid client_row;
+}
+
+inserts : (x : Client) → IsInsertText client_adding.text our_schema 5 client client_adding.terms 6 (client_row x) (client_adding.source x)
+unfolding understood everything
+inserts x = record { command = refl; plain = (refl, refl); listed = refl; is_uncounted = refl; value = refl }
+
+pub client_is_adding : IsAdding client_shape client_row is_client_row client_adding
+client_is_adding = record {
+  tree_is = refl;
+  listed = refl;
+  inserts = inserts;
+  stays = λ x good. row_stays client_cells client Null (client_row x) refl cast_null (pass_each client_cells true (client_row x) good).1;
+  columns = λ x rows. refl;
+  keyed = λ x rows. refl;
+}
+
+-- ---- what the texts show
+
+abbrev client_project : List Term
+client_project = col 1 1 ∷ col 1 2 ∷ col 1 3 ∷ col 1 4 ∷ col 1 5 ∷ []
+
+abbrev client_names : List (List ℕ)
+client_names = codes "client_no" ∷ codes "name" ∷ codes "telephone" ∷ codes "pref_type" ∷ codes "max_rent" ∷ []
+
+-- ---- the client with a number
+
+abbrev pub client_numbered : Asking
+client_numbered = record {
+  text = codes "SELECT client_no, name, telephone, pref_type, max_rent FROM client WHERE client_no = ?1";
+  tests = op2 (Compare Eq Binary) (col 1 1) (col 0 0) ∷ [];
+  project = client_project;
+  names = client_names;
+}
+
+client_numbered_selects : IsSelectText client_numbered.text our_schema 9 client_numbered.tests client_project [] client_names
+unfolding understood everything
+client_numbered_selects = record { command = refl; unlisted = refl; plain = (refl, refl); stored = λ db. refl }
+
+pub client_numbered_is : IsAsking client_shape client_numbered
+    (λ (q : ClientNumbered). Unit {0}) (λ q. Text q.number ∷ []) (λ q c. is_same_text c.number q.number)
+client_numbered_is = record {
+  selects = client_numbered_selects;
+  shows_columns = λ q r. refl;
+  passes = λ q r known good.
+      let cells = (pass_each client_cells true (client_columns r) good).1 in
+      pass_one (same_text (column r 1) q.number (text_is is_id (column r 1) cells.0));
+}

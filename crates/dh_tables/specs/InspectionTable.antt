@@ -1,0 +1,132 @@
+-- The table inspection.
+use Rattle.std.specs.Prelude.{refl, ℕ, List, [], ◌∷◌, codes, true, nat_eq, ◌&&◌}
+use Rattle.std.specs.Ordering.{nat_cmp}
+use Rattle.sqlite_value.specs.declared.value.Value.TheVariants.{Null, Text}
+use Rattle.sqlite_value.specs.declared.keys.Collation.TheVariants.{Binary}
+use Rattle.sqlite_value.specs.Order.{Row, column}
+use Rattle.sqlite_sql.specs.declared.ops.BinaryOp.TheVariants.{Compare}
+use Rattle.sqlite_sql.specs.declared.ops.CompareOp.TheVariants.{Eq}
+use Rattle.sqlite_sql.specs.Term.{Term, lit, col, op2}
+use Rattle.sqlite_tied.specs.Compute.{everything}
+use Rattle.sqlite.specs.Listing.{understood}
+use Rattle.dh_values.specs.Texts.{is_id, is_text}
+use Rattle.dh_days.specs.Days.{IsEntryDay, day_of, day_text}
+use Rattle.dh_types.specs.declared.viewing.Inspection.{Inspection}
+use Rattle.dh_model.specs.Books.{pair_cmp, text_cmp}
+use Rattle.dh_model.specs.Checks.{is_same_text}
+use Rattle.dh_rows.specs.InspectionRows.{inspection_in, inspection_row, is_inspection_row}
+use Rattle.dh_catalog.specs.Layout.{our_schema}
+use Rattle.dh_catalog.specs.InspectionTable.{inspection}
+use Rattle.dh_sql.specs.Cells.{Cell}
+use Rattle.dh_sql.specs.Shape.{Shape}
+use Rattle.dh_sql.specs.Texts.{IsInsertText, IsSelectText}
+use Rattle.dh_sql.proofs.Casting.{cast_null, pass_each, row_stays}
+use Rattle.dh_tables.specs.declared.inspection.InspectionOf.{InspectionOf}
+use Rattle.dh_tables.specs.declared.inspection.InspectionsOf.{InspectionsOf}
+use Rattle.dh_tables.specs.Cells.{is_text as text_is, pass_both, pass_one, read_as, same_day, same_text, text_that}
+use Rattle.dh_tables.specs.Questions.{Asking, IsAsking}
+use Rattle.dh_tables.specs.Tables.{Adding, IsAdding, Shelf, without_rowid}
+
+abbrev pub inspection_columns : Row → Row
+inspection_columns row = column row 1 ∷ column row 2 ∷ column row 3 ∷ column row 4 ∷ []
+
+abbrev pub inspection_cells : List Cell
+inspection_cells = text_that is_id ∷ read_as day_of ∷ text_that is_id ∷ text_that (is_text 200) ∷ []
+
+abbrev pub inspection_shape : Shape (List ℕ × ℕ) Inspection
+inspection_shape = record { tree = 15; columns = inspection_columns; is_row = is_inspection_row; row_in = inspection_in; key = λ n. (n.property, n.day) }
+
+abbrev pub inspection_shelf : Shelf (List ℕ × ℕ) Inspection (pair_cmp text_cmp nat_cmp)
+inspection_shelf = record {
+  held = λ s. s.books.inspections;
+  with = λ s m. record s { books = record s.books { inspections = m } };
+  held_with = λ s m. refl;
+  with_with = λ s m n. refl;
+  with_held = λ s. refl;
+}
+
+-- ---- adding a row
+
+abbrev pub inspection_adding : Adding Inspection
+inspection_adding = record {
+  text = codes "INSERT INTO inspection (property_no, day, staff_no, comment) VALUES (?1, ?2, ?3, ?4)";
+  place = 8;
+  table = inspection;
+  terms = lit Null ∷ col 0 0 ∷ col 0 1 ∷ col 0 2 ∷ col 0 3 ∷ [];
+  width = 5;
+  source = without_rowid inspection_row;
+}
+
+inserts : (x : Inspection)
+    → IsInsertText inspection_adding.text our_schema 8 inspection inspection_adding.terms 5 (inspection_row x) (inspection_adding.source x)
+unfolding understood everything
+inserts x = record { command = refl; plain = (refl, refl); listed = refl; is_uncounted = refl; value = refl }
+
+pub inspection_is_adding : IsAdding inspection_shape inspection_row is_inspection_row inspection_adding
+inspection_is_adding = record {
+  tree_is = refl;
+  listed = refl;
+  inserts = inserts;
+  stays = λ x good.
+      row_stays inspection_cells inspection Null (inspection_row x) refl cast_null (pass_each inspection_cells true (inspection_row x) good).1;
+  columns = λ x rows. refl;
+  keyed = λ x rows. refl;
+}
+
+-- ---- what the texts show
+
+abbrev inspection_project : List Term
+inspection_project = col 1 1 ∷ col 1 2 ∷ col 1 3 ∷ col 1 4 ∷ []
+
+abbrev inspection_names : List (List ℕ)
+inspection_names = codes "property_no" ∷ codes "day" ∷ codes "staff_no" ∷ codes "comment" ∷ []
+
+-- ---- the inspection of a property on a day
+
+abbrev pub inspection_of : Asking
+inspection_of = record {
+  text = codes "SELECT property_no, day, staff_no, comment FROM inspection WHERE property_no = ?1 AND day = ?2";
+  tests = op2 (Compare Eq Binary) (col 1 1) (col 0 0) ∷ op2 (Compare Eq Binary) (col 1 2) (col 0 1) ∷ [];
+  project = inspection_project;
+  names = inspection_names;
+}
+
+inspection_of_selects : IsSelectText inspection_of.text our_schema 15 inspection_of.tests inspection_project [] inspection_names
+unfolding understood everything
+inspection_of_selects = record { command = refl; unlisted = refl; plain = (refl, refl); stored = λ db. refl }
+
+pub inspection_of_is : IsAsking inspection_shape inspection_of
+    (λ (q : InspectionOf). IsEntryDay q.day) (λ q. Text q.property ∷ Text (day_text q.day) ∷ [])
+    (λ q n. is_same_text n.property q.property && nat_eq n.day q.day)
+inspection_of_is = record {
+  selects = inspection_of_selects;
+  shows_columns = λ q r. refl;
+  passes = λ q r known good.
+      let cells = (pass_each inspection_cells true (inspection_columns r) good).1 in
+      pass_both (same_text (column r 1) q.property (text_is is_id (column r 1) cells.0))
+      (same_day (column r 2) q.day known cells.1.0);
+}
+
+-- ---- the inspections of a property
+
+abbrev pub inspections_of : Asking
+inspections_of = record {
+  text = codes "SELECT property_no, day, staff_no, comment FROM inspection WHERE property_no = ?1";
+  tests = op2 (Compare Eq Binary) (col 1 1) (col 0 0) ∷ [];
+  project = inspection_project;
+  names = inspection_names;
+}
+
+inspections_of_selects : IsSelectText inspections_of.text our_schema 15 inspections_of.tests inspection_project [] inspection_names
+unfolding understood everything
+inspections_of_selects = record { command = refl; unlisted = refl; plain = (refl, refl); stored = λ db. refl }
+
+pub inspections_of_is : IsAsking inspection_shape inspections_of
+    (λ (q : InspectionsOf). Unit {0}) (λ q. Text q.property ∷ []) (λ q n. is_same_text n.property q.property)
+inspections_of_is = record {
+  selects = inspections_of_selects;
+  shows_columns = λ q r. refl;
+  passes = λ q r known good.
+      let cells = (pass_each inspection_cells true (inspection_columns r) good).1 in
+      pass_one (same_text (column r 1) q.property (text_is is_id (column r 1) cells.0));
+}

@@ -1,0 +1,101 @@
+-- The table owner.
+use Rattle.std.specs.Prelude.{refl, ℕ, List, [], ◌∷◌, codes, true}
+use Rattle.sqlite_value.specs.declared.value.Value.TheVariants.{Null, Text}
+use Rattle.sqlite_value.specs.declared.keys.Collation.TheVariants.{Binary}
+use Rattle.sqlite_value.specs.Order.{Row, column}
+use Rattle.sqlite_sql.specs.declared.ops.BinaryOp.TheVariants.{Compare}
+use Rattle.sqlite_sql.specs.declared.ops.CompareOp.TheVariants.{Eq}
+use Rattle.sqlite_sql.specs.Term.{Term, lit, col, op2}
+use Rattle.sqlite_tied.specs.Compute.{everything}
+use Rattle.sqlite.specs.Listing.{understood}
+use Rattle.dh_values.specs.Texts.{is_id, is_text}
+use Rattle.dh_types.specs.declared.owner.Owner.{Owner}
+use Rattle.dh_model.specs.Books.{text_cmp}
+use Rattle.dh_model.specs.Checks.{is_same_text}
+use Rattle.dh_rows.specs.OwnerRows.{owner_in, owner_row, is_owner_row}
+use Rattle.dh_catalog.specs.Layout.{our_schema}
+use Rattle.dh_catalog.specs.OwnerTable.{owner}
+use Rattle.dh_sql.specs.Cells.{Cell}
+use Rattle.dh_sql.specs.Shape.{Shape}
+use Rattle.dh_sql.specs.Texts.{IsInsertText, IsSelectText}
+use Rattle.dh_sql.proofs.Casting.{cast_null, pass_each, row_stays}
+use Rattle.dh_tables.specs.declared.owner.OwnerNumbered.{OwnerNumbered}
+use Rattle.dh_tables.specs.Cells.{is_text as text_is, pass_one, same_text, text_that}
+use Rattle.dh_tables.specs.Questions.{Asking, IsAsking}
+use Rattle.dh_tables.specs.Tables.{Adding, IsAdding, Shelf, without_rowid}
+
+abbrev pub owner_columns : Row → Row
+owner_columns row = column row 1 ∷ column row 2 ∷ column row 3 ∷ column row 4 ∷ []
+
+abbrev pub owner_cells : List Cell
+owner_cells = text_that is_id ∷ text_that (is_text 60) ∷ text_that (is_text 60) ∷ text_that (is_text 60) ∷ []
+
+abbrev pub owner_shape : Shape (List ℕ) Owner
+owner_shape = record { tree = 5; columns = owner_columns; is_row = is_owner_row; row_in = owner_in; key = λ o. o.number }
+
+abbrev pub owner_shelf : Shelf (List ℕ) Owner text_cmp
+owner_shelf = record {
+  held = λ s. s.books.owners;
+  with = λ s m. record s { books = record s.books { owners = m } };
+  held_with = λ s m. refl;
+  with_with = λ s m n. refl;
+  with_held = λ s. refl;
+}
+
+-- ---- adding a row
+
+abbrev pub owner_adding : Adding Owner
+owner_adding = record {
+  text = codes "INSERT INTO owner (owner_no, name, address, telephone) VALUES (?1, ?2, ?3, ?4)";
+  place = 3;
+  table = owner;
+  terms = lit Null ∷ col 0 0 ∷ col 0 1 ∷ col 0 2 ∷ col 0 3 ∷ [];
+  width = 5;
+  source = without_rowid owner_row;
+}
+
+inserts : (x : Owner) → IsInsertText owner_adding.text our_schema 3 owner owner_adding.terms 5 (owner_row x) (owner_adding.source x)
+unfolding understood everything
+inserts x = record { command = refl; plain = (refl, refl); listed = refl; is_uncounted = refl; value = refl }
+
+pub owner_is_adding : IsAdding owner_shape owner_row is_owner_row owner_adding
+owner_is_adding = record {
+  tree_is = refl;
+  listed = refl;
+  inserts = inserts;
+  stays = λ x good. row_stays owner_cells owner Null (owner_row x) refl cast_null (pass_each owner_cells true (owner_row x) good).1;
+  columns = λ x rows. refl;
+  keyed = λ x rows. refl;
+}
+
+-- ---- what the texts show
+
+abbrev owner_project : List Term
+owner_project = col 1 1 ∷ col 1 2 ∷ col 1 3 ∷ col 1 4 ∷ []
+
+abbrev owner_names : List (List ℕ)
+owner_names = codes "owner_no" ∷ codes "name" ∷ codes "address" ∷ codes "telephone" ∷ []
+
+-- ---- the owner with a number
+
+abbrev pub owner_numbered : Asking
+owner_numbered = record {
+  text = codes "SELECT owner_no, name, address, telephone FROM owner WHERE owner_no = ?1";
+  tests = op2 (Compare Eq Binary) (col 1 1) (col 0 0) ∷ [];
+  project = owner_project;
+  names = owner_names;
+}
+
+owner_numbered_selects : IsSelectText owner_numbered.text our_schema 5 owner_numbered.tests owner_project [] owner_names
+unfolding understood everything
+owner_numbered_selects = record { command = refl; unlisted = refl; plain = (refl, refl); stored = λ db. refl }
+
+pub owner_numbered_is : IsAsking owner_shape owner_numbered
+    (λ (q : OwnerNumbered). Unit {0}) (λ q. Text q.number ∷ []) (λ q o. is_same_text o.number q.number)
+owner_numbered_is = record {
+  selects = owner_numbered_selects;
+  shows_columns = λ q r. refl;
+  passes = λ q r known good.
+      let cells = (pass_each owner_cells true (owner_columns r) good).1 in
+      pass_one (same_text (column r 1) q.number (text_is is_id (column r 1) cells.0));
+}

@@ -1,0 +1,135 @@
+-- The table property.
+use Rattle.std.specs.Prelude.{refl, ℕ, List, [], ◌∷◌, codes, true, Some}
+use Rattle.sqlite_value.specs.declared.value.Value.TheVariants.{Null, Text}
+use Rattle.sqlite_value.specs.declared.keys.Collation.TheVariants.{Binary}
+use Rattle.sqlite_value.specs.Order.{Row, column}
+use Rattle.sqlite_sql.specs.declared.ops.BinaryOp.TheVariants.{Compare}
+use Rattle.sqlite_sql.specs.declared.ops.CompareOp.TheVariants.{Eq}
+use Rattle.sqlite_sql.specs.Term.{Term, lit, col, op2}
+use Rattle.sqlite_tied.specs.Compute.{everything}
+use Rattle.sqlite.specs.Listing.{understood}
+use Rattle.dh_values.specs.Texts.{is_id, is_text}
+use Rattle.dh_values.specs.Kinds.{property_type_of}
+use Rattle.dh_values.specs.declared.limits.TheConstants.{MOST_RENT, MOST_ROOMS}
+use Rattle.dh_types.specs.declared.property.Property.{Property}
+use Rattle.dh_types.specs.Records.{is_same_optional}
+use Rattle.dh_model.specs.Books.{text_cmp}
+use Rattle.dh_model.specs.Checks.{is_same_text}
+use Rattle.dh_rows.specs.PropertyRows.{property_in, property_row, is_property_row}
+use Rattle.dh_catalog.specs.Layout.{our_schema}
+use Rattle.dh_catalog.specs.PropertyTable.{property}
+use Rattle.dh_sql.specs.Cells.{Cell}
+use Rattle.dh_sql.specs.Shape.{Shape}
+use Rattle.dh_sql.specs.Texts.{IsInsertText, IsSelectText}
+use Rattle.dh_sql.proofs.Casting.{cast_null, pass_each, row_stays}
+use Rattle.dh_tables.specs.declared.property.PropertyNumbered.{PropertyNumbered}
+use Rattle.dh_tables.specs.declared.property.PropertiesManaged.{PropertiesManaged}
+use Rattle.dh_tables.specs.Cells.{is_text as text_is, number_from, optional_text_that, pass_one, read_as, same_optional, same_text, text_that}
+use Rattle.dh_tables.specs.Questions.{Asking, IsAsking}
+use Rattle.dh_tables.specs.Tables.{Adding, IsAdding, Shelf, without_rowid}
+
+abbrev pub property_columns : Row → Row
+property_columns row =
+    column row 1 ∷ column row 2 ∷ column row 3 ∷ column row 4 ∷ column row 5 ∷ column row 6 ∷ column row 7 ∷ column row 8 ∷ column row 9
+    ∷ column row 10 ∷ []
+
+abbrev pub property_cells : List Cell
+property_cells =
+    text_that is_id ∷ text_that (is_text 60) ∷ text_that (is_text 60) ∷ text_that (is_text 60) ∷ read_as property_type_of
+    ∷ number_from 1 MOST_ROOMS ∷ number_from 1 MOST_RENT ∷ text_that is_id ∷ optional_text_that is_id ∷ text_that is_id ∷ []
+
+abbrev pub property_shape : Shape (List ℕ) Property
+property_shape = record { tree = 7; columns = property_columns; is_row = is_property_row; row_in = property_in; key = λ p. p.number }
+
+abbrev pub property_shelf : Shelf (List ℕ) Property text_cmp
+property_shelf = record {
+  held = λ s. s.books.properties;
+  with = λ s m. record s { books = record s.books { properties = m } };
+  held_with = λ s m. refl;
+  with_with = λ s m n. refl;
+  with_held = λ s. refl;
+}
+
+-- ---- adding a row
+
+abbrev pub property_adding : Adding Property
+property_adding = record {
+  text = codes "INSERT INTO property (property_no, street, city, postcode, type, rooms, rent, owner_no, staff_no, branch_no) VALUES (?1, ?2, ?3, ?4, ?5, ?6, ?7, ?8, ?9, ?10)";
+  place = 4;
+  table = property;
+  terms = lit Null ∷ col 0 0 ∷ col 0 1 ∷ col 0 2 ∷ col 0 3 ∷ col 0 4 ∷ col 0 5 ∷ col 0 6 ∷ col 0 7 ∷ col 0 8 ∷ col 0 9 ∷ [];
+  width = 11;
+  source = without_rowid property_row;
+}
+
+inserts : (x : Property) → IsInsertText property_adding.text our_schema 4 property property_adding.terms 11 (property_row x) (property_adding.source x)
+unfolding understood everything
+inserts x = record { command = refl; plain = (refl, refl); listed = refl; is_uncounted = refl; value = refl }
+
+pub property_is_adding : IsAdding property_shape property_row is_property_row property_adding
+property_is_adding = record {
+  tree_is = refl;
+  listed = refl;
+  inserts = inserts;
+  stays = λ x good. row_stays property_cells property Null (property_row x) refl cast_null (pass_each property_cells true (property_row x) good).1;
+  columns = λ x rows. refl;
+  keyed = λ x rows. refl;
+}
+
+-- ---- what the texts show
+
+abbrev property_project : List Term
+property_project = col 1 1 ∷ col 1 2 ∷ col 1 3 ∷ col 1 4 ∷ col 1 5 ∷ col 1 6 ∷ col 1 7 ∷ col 1 8 ∷ col 1 9 ∷ col 1 10 ∷ []
+
+abbrev property_names : List (List ℕ)
+property_names =
+    codes "property_no" ∷ codes "street" ∷ codes "city" ∷ codes "postcode" ∷ codes "type" ∷ codes "rooms" ∷ codes "rent" ∷ codes "owner_no"
+    ∷ codes "staff_no" ∷ codes "branch_no" ∷ []
+
+-- ---- the property with a number
+
+abbrev pub property_numbered : Asking
+property_numbered = record {
+  text = codes "SELECT property_no, street, city, postcode, type, rooms, rent, owner_no, staff_no, branch_no FROM property WHERE property_no = ?1";
+  tests = op2 (Compare Eq Binary) (col 1 1) (col 0 0) ∷ [];
+  project = property_project;
+  names = property_names;
+}
+
+property_numbered_selects : IsSelectText property_numbered.text our_schema 7 property_numbered.tests property_project [] property_names
+unfolding understood everything
+property_numbered_selects = record { command = refl; unlisted = refl; plain = (refl, refl); stored = λ db. refl }
+
+pub property_numbered_is : IsAsking property_shape property_numbered
+    (λ (q : PropertyNumbered). Unit {0}) (λ q. Text q.number ∷ []) (λ q p. is_same_text p.number q.number)
+property_numbered_is = record {
+  selects = property_numbered_selects;
+  shows_columns = λ q r. refl;
+  passes = λ q r known good.
+      let cells = (pass_each property_cells true (property_columns r) good).1 in
+      pass_one (same_text (column r 1) q.number (text_is is_id (column r 1) cells.0));
+}
+
+-- ---- the properties that a member of staff manages
+
+abbrev pub properties_managed : Asking
+properties_managed = record {
+  text = codes "SELECT property_no, street, city, postcode, type, rooms, rent, owner_no, staff_no, branch_no FROM property WHERE staff_no = ?1";
+  tests = op2 (Compare Eq Binary) (col 1 9) (col 0 0) ∷ [];
+  project = property_project;
+  names = property_names;
+}
+
+properties_managed_selects : IsSelectText properties_managed.text our_schema 7 properties_managed.tests property_project [] property_names
+unfolding understood everything
+properties_managed_selects = record { command = refl; unlisted = refl; plain = (refl, refl); stored = λ db. refl }
+
+pub properties_managed_is : IsAsking property_shape properties_managed
+    (λ (q : PropertiesManaged). Unit {0}) (λ q. Text q.staff ∷ []) (λ q p. is_same_optional is_same_text p.staff (Some q.staff))
+properties_managed_is = record {
+  selects = properties_managed_selects;
+  shows_columns = λ q r. refl;
+  passes = λ q r known good.
+      let cells = (pass_each property_cells true (property_columns r) good).1 in
+      pass_one (same_optional is_id (column r 9) q.staff cells.1.1.1.1.1.1.1.1.0);
+}

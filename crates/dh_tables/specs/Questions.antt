@@ -1,0 +1,33 @@
+-- A question about the rows of one table, answered by a fixed text.
+use Rattle.std.specs.Prelude.{◌≡◌, ℕ, Bool, true, List, [], Option, Some, None}
+use Rattle.std.specs.declared.cmp.Ordering.{Ordering}
+use Rattle.std.specs.FinMap.{FinMap, empty, insert}
+use Rattle.sqlite_value.specs.Order.{Row}
+use Rattle.sqlite_sql.specs.Term.{Term}
+use Rattle.dh_catalog.specs.Layout.{our_schema}
+use Rattle.dh_sql.specs.Queries.{passes_all, shows}
+use Rattle.dh_sql.specs.Shape.{IsStored, Shape, stored_in}
+use Rattle.dh_sql.specs.Texts.{IsSelectText}
+
+-- SELECT project FROM table WHERE tests
+pub record Asking : Type 0 where
+  pub text : List ℕ
+  pub tests : List Term
+  pub project : List Term
+  pub names : List (List ℕ)
+
+-- the text shows the columns of the rows that are asked for
+pub record IsAsking {K X Q : Type 0} (it : Shape K X) (asking : Asking) (can_ask : Q → Type 0) (given : Q → Row) (asks : Q → X → Bool) : Type 0 where
+  pub selects : IsSelectText asking.text our_schema it.tree asking.tests asking.project [] asking.names
+  pub shows_columns : (q : Q) (r : Row) → shows asking.project (given q) r ≡ it.columns r
+  pub passes : (q : Q) (r : Row) → can_ask q → IsStored it r → passes_all (given q) asking.tests r ≡ asks q (stored_in it r)
+
+-- the map of the one record that was found, and the empty map where none was
+abbrev pub only_record : {K X : Type 0} {R : K → K → Ordering} → Shape K X → Option X → FinMap R X
+only_record it None = empty
+only_record it (Some x) = insert empty (it.key x) x
+
+-- exactly the record of this key is asked for
+pub record AsksFor {K X : Type 0} (it : Shape K X) (asks : X → Bool) (key : K) : Type 0 where
+  pub its : (x : X) → it.key x ≡ key → asks x ≡ true
+  pub only : (x : X) → asks x ≡ true → it.key x ≡ key

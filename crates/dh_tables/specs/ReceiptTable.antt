@@ -1,0 +1,198 @@
+-- The table receipt, whose key is its rowid.
+use Rattle.std.proofs.Common.{◌∙◌, inl, inr, subst, sym, true≢false}
+use Rattle.std.proofs.lemmas.Bool.{cases_Bool}
+use Rattle.std.proofs.lemmas.Slice.Eq.{bytes_eq-Decides}
+use Rattle.std.specs.Prelude.{◌&&◌, bytes_eq, is_some, unwrap_or, ◌≡◌, refl, ℕ, List, [], ◌∷◌, codes, drop, true, pos, nat_eq}
+use Rattle.std.specs.Ordering.{nat_cmp}
+use Rattle.sqlite_value.specs.declared.value.Value.{Value}
+use Rattle.sqlite_value.specs.declared.value.Value.TheVariants.{Blob, Int, Null, Real, Text}
+use Rattle.sqlite_value.specs.declared.keys.Collation.TheVariants.{Binary}
+use Rattle.sqlite_value.specs.Order.{Row, column}
+use Rattle.sqlite_sql.specs.declared.ops.BinaryOp.TheVariants.{Compare}
+use Rattle.sqlite_sql.specs.declared.ops.CompareOp.TheVariants.{Eq}
+use Rattle.sqlite_sql.specs.Term.{Term, lit, col, op2}
+use Rattle.sqlite_schema.specs.Rules.{equal}
+use Rattle.sqlite_rules.specs.Cast.{cast_row}
+use Rattle.sqlite_tied.specs.Compute.{everything}
+use Rattle.sqlite.specs.Listing.{understood}
+use Rattle.dh_values.specs.Texts.{is_key}
+use Rattle.dh_values.specs.declared.receipt_kind.ReceiptKind.TheVariants.{Deposit, Rent}
+use Rattle.dh_values.specs.Kinds.{receipt_kind_of}
+use Rattle.dh_values.specs.declared.limits.TheConstants.{MOST_AMOUNT, MOST_NUMBER}
+use Rattle.dh_days.specs.Days.{day_of}
+use Rattle.dh_types.specs.declared.lease.Receipt.{Receipt}
+use Rattle.dh_types.specs.Records.{is_same_receipt_kind}
+use Rattle.dh_model.specs.Checks.{is_same_text}
+use Rattle.dh_rows.specs.ReceiptRows.{receipt_in, receipt_row, is_receipt_row}
+use Rattle.dh_rows.specs.Cells.{is_read_cell, read_in}
+use Rattle.dh_catalog.specs.Layout.{our_schema}
+use Rattle.dh_catalog.specs.ReceiptTable.{receipt}
+use Rattle.dh_sql.specs.Cells.{Cell}
+use Rattle.dh_sql.specs.Shape.{Shape}
+use Rattle.dh_sql.specs.Texts.{IsInsertText, IsSelectText}
+use Rattle.dh_sql.proofs.Casting.{cast_int, pass_each, row_stays}
+use Rattle.dh_sql.proofs.Comparing.{texts_same}
+use Rattle.dh_tables.specs.declared.receipt.DepositsOfLease.{DepositsOfLease}
+use Rattle.dh_tables.specs.declared.receipt.ReceiptKeyed.{ReceiptKeyed}
+use Rattle.dh_tables.specs.declared.receipt.ReceiptsOfLease.{ReceiptsOfLease}
+use Rattle.dh_tables.specs.Cells.{is_number, is_text as text_is, number_from, pass_both, pass_one, read_as, rowid_column, same_number, same_text, text_that}
+use Rattle.dh_tables.specs.Questions.{Asking, IsAsking}
+use Rattle.dh_tables.specs.Tables.{Adding, IsAdding, Shelf, own_rowid}
+
+-- the key is the rowid, and its own column holds NULL
+abbrev pub receipt_columns : Row → Row
+receipt_columns row = column row 0 ∷ column row 2 ∷ column row 3 ∷ column row 4 ∷ column row 5 ∷ column row 6 ∷ []
+
+abbrev pub receipt_cells : List Cell
+receipt_cells =
+    number_from 1 MOST_NUMBER ∷ text_that is_key ∷ number_from 1 MOST_NUMBER ∷ read_as receipt_kind_of ∷ number_from 1 MOST_AMOUNT ∷ read_as day_of
+    ∷ []
+
+abbrev pub receipt_shape : Shape ℕ Receipt
+receipt_shape = record { tree = 20; columns = receipt_columns; is_row = is_receipt_row; row_in = receipt_in; key = λ r. r.number }
+
+abbrev pub receipt_shelf : Shelf ℕ Receipt nat_cmp
+receipt_shelf = record {
+  held = λ s. s.books.receipts;
+  with = λ s m. record s { books = record s.books { receipts = m } };
+  held_with = λ s m. refl;
+  with_with = λ s m n. refl;
+  with_held = λ s. refl;
+}
+
+-- ---- adding a row
+
+abbrev pub receipt_adding : Adding Receipt
+receipt_adding = record {
+  text = codes "INSERT INTO receipt (receipt_no, req_key, lease_no, kind, amount, day) VALUES (?1, ?2, ?3, ?4, ?5, ?6)";
+  place = 11;
+  table = receipt;
+  terms = col 0 0 ∷ lit Null ∷ col 0 1 ∷ col 0 2 ∷ col 0 3 ∷ col 0 4 ∷ col 0 5 ∷ [];
+  width = 7;
+  source = own_rowid receipt_row;
+}
+
+inserts : (x : Receipt) → IsInsertText receipt_adding.text our_schema 11 receipt receipt_adding.terms 7 (receipt_row x) (receipt_adding.source x)
+unfolding understood everything
+inserts x = record { command = refl; plain = (refl, refl); listed = refl; is_uncounted = refl; value = refl }
+
+stays : (x : Receipt) → is_receipt_row (receipt_row x) ≡ true → cast_row receipt (receipt_adding.source x) ≡ receipt_adding.source x
+stays x good =
+    let cells = (pass_each receipt_cells true (receipt_row x) good).1 in
+    row_stays (rowid_column ∷ drop 1 receipt_cells) receipt (Int (pos x.number)) (drop 1 (receipt_adding.source x))
+    refl (cast_int (pos x.number)) (refl, cells.1)
+
+pub receipt_is_adding : IsAdding receipt_shape receipt_row is_receipt_row receipt_adding
+receipt_is_adding = record {
+  tree_is = refl;
+  listed = refl;
+  inserts = inserts;
+  stays = stays;
+  columns = λ x rows. refl;
+  keyed = λ x rows. refl;
+}
+
+-- ---- what the texts show
+
+abbrev receipt_project : List Term
+receipt_project = col 1 0 ∷ col 1 2 ∷ col 1 3 ∷ col 1 4 ∷ col 1 5 ∷ col 1 6 ∷ []
+
+abbrev receipt_names : List (List ℕ)
+receipt_names = codes "receipt_no" ∷ codes "req_key" ∷ codes "lease_no" ∷ codes "kind" ∷ codes "amount" ∷ codes "day" ∷ []
+
+-- ---- the receipt with a request key
+
+abbrev pub receipt_keyed : Asking
+receipt_keyed = record {
+  text = codes "SELECT receipt_no, req_key, lease_no, kind, amount, day FROM receipt WHERE req_key = ?1";
+  tests = op2 (Compare Eq Binary) (col 1 2) (col 0 0) ∷ [];
+  project = receipt_project;
+  names = receipt_names;
+}
+
+receipt_keyed_selects : IsSelectText receipt_keyed.text our_schema 20 receipt_keyed.tests receipt_project [] receipt_names
+unfolding understood everything
+receipt_keyed_selects = record { command = refl; unlisted = refl; plain = (refl, refl); stored = λ db. refl }
+
+pub receipt_keyed_is : IsAsking receipt_shape receipt_keyed (λ (q : ReceiptKeyed). Unit {0}) (λ q. Text q.key ∷ []) (λ q r. is_same_text r.key q.key)
+receipt_keyed_is = record {
+  selects = receipt_keyed_selects;
+  shows_columns = λ q r. refl;
+  passes = λ q r known good.
+      let cells = (pass_each receipt_cells true (receipt_columns r) good).1 in
+      pass_one (same_text (column r 2) q.key (text_is is_key (column r 2) cells.1.0));
+}
+
+-- ---- the receipts of a lease
+
+abbrev pub receipts_of_lease : Asking
+receipts_of_lease = record {
+  text = codes "SELECT receipt_no, req_key, lease_no, kind, amount, day FROM receipt WHERE lease_no = ?1";
+  tests = op2 (Compare Eq Binary) (col 1 3) (col 0 0) ∷ [];
+  project = receipt_project;
+  names = receipt_names;
+}
+
+receipts_of_lease_selects : IsSelectText receipts_of_lease.text our_schema 20 receipts_of_lease.tests receipt_project [] receipt_names
+unfolding understood everything
+receipts_of_lease_selects = record { command = refl; unlisted = refl; plain = (refl, refl); stored = λ db. refl }
+
+pub receipts_of_lease_is : IsAsking receipt_shape receipts_of_lease
+    (λ (q : ReceiptsOfLease). Unit {0}) (λ q. Int (pos q.lease) ∷ []) (λ q r. nat_eq r.payment.lease q.lease)
+receipts_of_lease_is = record {
+  selects = receipts_of_lease_selects;
+  shows_columns = λ q r. refl;
+  passes = λ q r known good.
+      let cells = (pass_each receipt_cells true (receipt_columns r) good).1 in
+      pass_one (same_number (column r 3) q.lease (is_number 1 MOST_NUMBER (column r 3) cells.1.1.0));
+}
+
+-- ---- the deposits of a lease
+
+abbrev pub deposits_of_lease : Asking
+deposits_of_lease = record {
+  text = codes "SELECT receipt_no, req_key, lease_no, kind, amount, day FROM receipt WHERE lease_no = ?1 AND kind = 'deposit'";
+  tests = op2 (Compare Eq Binary) (col 1 3) (col 0 0) ∷ op2 (Compare Eq Binary) (col 1 4) (lit (Text (codes "deposit"))) ∷ [];
+  project = receipt_project;
+  names = receipt_names;
+}
+
+deposits_of_lease_selects : IsSelectText deposits_of_lease.text our_schema 20 deposits_of_lease.tests receipt_project [] receipt_names
+unfolding understood everything
+deposits_of_lease_selects = record { command = refl; unlisted = refl; plain = (refl, refl); stored = λ db. refl }
+
+-- the name of a kind is that of the deposit where the kind is
+named_deposit : (t : List ℕ) → is_some (receipt_kind_of t) ≡ true
+    → is_same_text t (codes "deposit") ≡ is_same_receipt_kind (unwrap_or (receipt_kind_of t) Rent) Deposit
+named_deposit t good = elim (cases_Bool (bytes_eq t (codes "rent"))) [
+  | inl rent ↦ by_name (codes "rent") ((bytes_eq-Decides t (codes "rent")).0 rent) refl
+  | inr other ↦ elim (cases_Bool (bytes_eq t (codes "deposit"))) [
+    | inl deposit ↦ by_name (codes "deposit") ((bytes_eq-Decides t (codes "deposit")).0 deposit) refl
+    | inr none ↦ absurd (true≢false (sym good ∙ rw (other, none) refl))
+  ]
+]
+  where
+    by_name : (name : List ℕ) → t ≡ name
+        → is_same_text name (codes "deposit") ≡ is_same_receipt_kind (unwrap_or (receipt_kind_of name) Rent) Deposit
+        → is_same_text t (codes "deposit") ≡ is_same_receipt_kind (unwrap_or (receipt_kind_of t) Rent) Deposit
+    by_name name is h =
+        subst (λ s. is_same_text s (codes "deposit") ≡ is_same_receipt_kind (unwrap_or (receipt_kind_of s) Rent) Deposit) (sym is) h
+
+same_deposit : (v : Value) → is_read_cell receipt_kind_of v ≡ true
+    → equal Binary v (Text (codes "deposit")) ≡ is_same_receipt_kind (read_in receipt_kind_of Rent v) Deposit
+unfolding is_read_cell
+same_deposit (Text t) good = texts_same t (codes "deposit") ∙ named_deposit t good
+same_deposit Null good = cc
+same_deposit (Int n) good = cc
+same_deposit (Real x) good = cc
+same_deposit (Blob b) good = cc
+
+pub deposits_of_lease_is : IsAsking receipt_shape deposits_of_lease (λ (q : DepositsOfLease). Unit {0}) (λ q. Int (pos q.lease) ∷ [])
+    (λ q r. nat_eq r.payment.lease q.lease && is_same_receipt_kind r.payment.kind Deposit)
+deposits_of_lease_is = record {
+  selects = deposits_of_lease_selects;
+  shows_columns = λ q r. refl;
+  passes = λ q r known good.
+      let cells = (pass_each receipt_cells true (receipt_columns r) good).1 in
+      pass_both (same_number (column r 3) q.lease (is_number 1 MOST_NUMBER (column r 3) cells.1.1.0)) (same_deposit (column r 4) cells.1.1.1.0);
+}

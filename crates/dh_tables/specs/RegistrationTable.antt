@@ -1,0 +1,112 @@
+-- The table registration.
+use Rattle.std.specs.Prelude.{refl, ℕ, List, [], ◌∷◌, codes, true, ◌&&◌}
+use Rattle.sqlite_value.specs.declared.value.Value.TheVariants.{Null, Text}
+use Rattle.sqlite_value.specs.declared.keys.Collation.TheVariants.{Binary}
+use Rattle.sqlite_value.specs.Order.{Row, column}
+use Rattle.sqlite_sql.specs.declared.ops.BinaryOp.TheVariants.{Compare}
+use Rattle.sqlite_sql.specs.declared.ops.CompareOp.TheVariants.{Eq}
+use Rattle.sqlite_sql.specs.Term.{Term, lit, col, op2}
+use Rattle.sqlite_tied.specs.Compute.{everything}
+use Rattle.sqlite.specs.Listing.{understood}
+use Rattle.dh_values.specs.Texts.{is_id}
+use Rattle.dh_days.specs.Days.{day_of}
+use Rattle.dh_types.specs.declared.client.Registration.{Registration}
+use Rattle.dh_model.specs.Books.{pair_cmp, text_cmp}
+use Rattle.dh_model.specs.Checks.{is_same_text}
+use Rattle.dh_rows.specs.RegistrationRows.{registration_in, registration_row, is_registration_row}
+use Rattle.dh_catalog.specs.Layout.{our_schema}
+use Rattle.dh_catalog.specs.RegistrationTable.{registration}
+use Rattle.dh_sql.specs.Cells.{Cell}
+use Rattle.dh_sql.specs.Shape.{Shape}
+use Rattle.dh_sql.specs.Texts.{IsInsertText, IsSelectText}
+use Rattle.dh_sql.proofs.Casting.{cast_null, pass_each, row_stays}
+use Rattle.dh_tables.specs.declared.registration.RegistrationAt.{RegistrationAt}
+use Rattle.dh_tables.specs.Cells.{is_text as text_is, pass_both, read_as, same_text, text_that}
+use Rattle.dh_tables.specs.Questions.{Asking, IsAsking}
+use Rattle.dh_tables.specs.Tables.{Adding, IsAdding, Shelf, without_rowid}
+
+abbrev pub registration_columns : Row → Row
+registration_columns row = column row 1 ∷ column row 2 ∷ column row 3 ∷ column row 4 ∷ []
+
+abbrev pub registration_cells : List Cell
+registration_cells = text_that is_id ∷ text_that is_id ∷ text_that is_id ∷ read_as day_of ∷ []
+
+abbrev pub registration_shape : Shape (List ℕ × List ℕ) Registration
+registration_shape = record {
+  tree = 11;
+  columns = registration_columns;
+  is_row = is_registration_row;
+  row_in = registration_in;
+  key = λ r. (r.client, r.branch);
+}
+
+abbrev pub registration_shelf : Shelf (List ℕ × List ℕ) Registration (pair_cmp text_cmp text_cmp)
+registration_shelf = record {
+  held = λ s. s.books.registrations;
+  with = λ s m. record s { books = record s.books { registrations = m } };
+  held_with = λ s m. refl;
+  with_with = λ s m n. refl;
+  with_held = λ s. refl;
+}
+
+-- ---- adding a row
+
+abbrev pub registration_adding : Adding Registration
+registration_adding = record {
+  text = codes "INSERT INTO registration (client_no, branch_no, staff_no, day) VALUES (?1, ?2, ?3, ?4)";
+  place = 6;
+  table = registration;
+  terms = lit Null ∷ col 0 0 ∷ col 0 1 ∷ col 0 2 ∷ col 0 3 ∷ [];
+  width = 5;
+  source = without_rowid registration_row;
+}
+
+inserts : (x : Registration)
+    → IsInsertText registration_adding.text our_schema 6 registration registration_adding.terms 5 (registration_row x) (registration_adding.source x)
+unfolding understood everything
+inserts x = record { command = refl; plain = (refl, refl); listed = refl; is_uncounted = refl; value = refl }
+
+pub registration_is_adding : IsAdding registration_shape registration_row is_registration_row registration_adding
+registration_is_adding = record {
+  tree_is = refl;
+  listed = refl;
+  inserts = inserts;
+  stays = λ x good.
+      row_stays registration_cells registration Null (registration_row x) refl cast_null (pass_each registration_cells true (registration_row x) good).1;
+  columns = λ x rows. refl;
+  keyed = λ x rows. refl;
+}
+
+-- ---- what the texts show
+
+abbrev registration_project : List Term
+registration_project = col 1 1 ∷ col 1 2 ∷ col 1 3 ∷ col 1 4 ∷ []
+
+abbrev registration_names : List (List ℕ)
+registration_names = codes "client_no" ∷ codes "branch_no" ∷ codes "staff_no" ∷ codes "day" ∷ []
+
+-- ---- the registration of a client at a branch
+
+abbrev pub registration_at : Asking
+registration_at = record {
+  text = codes "SELECT client_no, branch_no, staff_no, day FROM registration WHERE client_no = ?1 AND branch_no = ?2";
+  tests = op2 (Compare Eq Binary) (col 1 1) (col 0 0) ∷ op2 (Compare Eq Binary) (col 1 2) (col 0 1) ∷ [];
+  project = registration_project;
+  names = registration_names;
+}
+
+registration_at_selects : IsSelectText registration_at.text our_schema 11 registration_at.tests registration_project [] registration_names
+unfolding understood everything
+registration_at_selects = record { command = refl; unlisted = refl; plain = (refl, refl); stored = λ db. refl }
+
+pub registration_at_is : IsAsking registration_shape registration_at
+    (λ (q : RegistrationAt). Unit {0}) (λ q. Text q.client ∷ Text q.branch ∷ [])
+    (λ q r. is_same_text r.client q.client && is_same_text r.branch q.branch)
+registration_at_is = record {
+  selects = registration_at_selects;
+  shows_columns = λ q r. refl;
+  passes = λ q r known good.
+      let cells = (pass_each registration_cells true (registration_columns r) good).1 in
+      pass_both (same_text (column r 1) q.client (text_is is_id (column r 1) cells.0))
+      (same_text (column r 2) q.branch (text_is is_id (column r 2) cells.1.0));
+}

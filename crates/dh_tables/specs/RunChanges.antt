@@ -1,0 +1,145 @@
+-- A run that is closed, and a part of a run that goes on.
+use Rattle.std.specs.Prelude.{◌≡◌, ◌≤◌, refl, ℕ, pos, true, [], ◌∷◌, Option, codes, drop}
+use Rattle.std.proofs.Common.{ap}
+use Rattle.sqlite_value.specs.declared.value.Value.TheVariants.{Int, Null, Text}
+use Rattle.sqlite_value.specs.Order.{Row, column}
+use Rattle.sqlite_sql.specs.Term.{col, lit}
+use Rattle.sqlite_tied.specs.Compute.{everything}
+use Rattle.sqlite_trees.specs.Tree.{rowid}
+use Rattle.sqlite_trees.specs.View.{is_int}
+use Rattle.sqlite.specs.Listing.{understood}
+use Rattle.dh_values.specs.Texts.{is_id}
+use Rattle.dh_values.specs.declared.limits.TheConstants.{MOST_PENCE}
+use Rattle.dh_days.specs.declared.limits.TheConstants.{FIRST_MONTH, LAST_ENTRY_MONTH}
+use Rattle.dh_types.specs.declared.run.Part.{Part}
+use Rattle.dh_types.specs.declared.run.RunSum.{RunSum}
+use Rattle.dh_rows.specs.declared.limits.TheConstants.{MOST_COUNT}
+use Rattle.dh_rows.specs.Cells.{is_through_cell, through_back, through_value}
+use Rattle.dh_catalog.specs.Layout.{our_schema}
+use Rattle.dh_catalog.specs.RunTable.{run}
+use Rattle.dh_catalog.specs.PartTable.{part}
+use Rattle.dh_sql.specs.Cells.{AreCells}
+use Rattle.dh_sql.specs.Changes.{IsTurnedInto}
+use Rattle.dh_sql.specs.Queries.{passes_all, shows}
+use Rattle.dh_sql.specs.Shape.{IsStored, stored_in}
+use Rattle.dh_sql.specs.Texts.{IsUpdateText}
+use Rattle.dh_sql.proofs.Casting.{cast_rowid, pass_all, pass_each, row_stays}
+use Rattle.dh_tables.specs.Amendments.{Amending, IsAmending}
+use Rattle.dh_tables.specs.Cells.{is_number, is_text as text_is, pass_both, pass_one, rowid_column}
+use Rattle.dh_tables.specs.Cells.{same_number, same_text, tells_both, tells_number, tells_text, to_limit}
+use Rattle.dh_tables.specs.RunTable.{run_cells, run_columns, run_of, run_shape}
+use Rattle.dh_tables.specs.PartTable.{part_cells, part_columns, part_of, part_shape}
+
+-- ---- UPDATE run SET due_count = ?2, due_total = ?3, closed = 1 WHERE month = ?1
+
+abbrev pub closing : Amending
+closing = record {
+  text = codes "UPDATE run SET due_count = ?2, due_total = ?3, closed = 1 WHERE month = ?1";
+  place = 12;
+  table = run;
+  tests = run_of.tests;
+  project = col 1 0 ∷ col 1 0 ∷ lit Null ∷ col 1 2 ∷ col 0 1 ∷ col 0 2 ∷ lit (Int (pos 1)) ∷ [];
+}
+
+abbrev pub closing_given : RunSum → Row
+closing_given q = Int (pos q.month) ∷ Int (pos q.count) ∷ Int (pos q.total) ∷ []
+
+-- the count and the total are such as the columns hold
+abbrev pub AreSums : ℕ → ℕ → Type 0
+AreSums count total = (count ≤ MOST_COUNT) × (total ≤ MOST_PENCE)
+
+closing_means : IsUpdateText closing.text our_schema 12 run run_of.tests closing.project
+unfolding understood everything
+closing_means = record { command = refl; plain = (refl, refl); listed = refl; stored = λ db. refl }
+
+closing_finds : (q : RunSum) (r : Row) → IsStored run_shape r
+    → (passes_all (closing_given q) run_of.tests r ≡ true → (stored_in run_shape r).month ≡ q.month)
+    × ((stored_in run_shape r).month ≡ q.month → passes_all (closing_given q) run_of.tests r ≡ true)
+closing_finds q r good =
+    let cells = (pass_each run_cells true (run_columns r) good).1 in
+    tells_number (stored_in run_shape r).month q.month
+    (pass_one (same_number (column r 0) q.month (is_number FIRST_MONTH LAST_ENTRY_MONTH (column r 0) cells.0)))
+
+closing_turns : (q : RunSum) (r : Row) → AreSums q.count q.total → IsStored run_shape r → is_int (rowid r) ≡ true
+    → IsTurnedInto run_shape run r (drop 1 (shows closing.project (closing_given q) r))
+    (record (stored_in run_shape r) { count = q.count; total = q.total; is_closed = true })
+closing_turns q r known good own =
+    let c = (pass_each run_cells true (run_columns r) good).1 in
+    let rest : Row = column r 2 ∷ Int (pos q.count) ∷ Int (pos q.total) ∷ Int (pos 1) ∷ [] in
+    let cells : AreCells (drop 1 run_cells) rest =
+    (c.1.0, (to_limit MOST_COUNT q.count known.0, (to_limit MOST_PENCE q.total known.1, (refl, tt)))) in
+    record {
+      stays = row_stays (rowid_column ∷ drop 1 run_cells) run (column r 0) (Null ∷ rest) refl (cast_rowid (column r 0) own) (refl, cells);
+      rowid_is = refl;
+      grammar = pass_all run_cells true (column r 0 ∷ rest) refl (c.0, cells);
+      record_is = refl;
+    }
+
+pub closing_is : IsAmending run_shape closing (λ q. AreSums q.count q.total) closing_given (λ q. q.month)
+    (λ q r. record r { count = q.count; total = q.total; is_closed = true })
+closing_is = record {
+  means = closing_means;
+  tree_is = refl;
+  finds = closing_finds;
+  keeps_rowid = λ q r. refl;
+  turns = closing_turns;
+  keeps_key = λ q x. refl;
+}
+
+-- ---- UPDATE part SET through_lease = ?3, due_count = ?4, due_total = ?5 WHERE month = ?1 AND branch_no = ?2
+
+abbrev pub part_amending : Amending
+part_amending = record {
+  text = codes "UPDATE part SET through_lease = ?3, due_count = ?4, due_total = ?5 WHERE month = ?1 AND branch_no = ?2";
+  place = 13;
+  table = part;
+  tests = part_of.tests;
+  project = col 1 0 ∷ col 1 0 ∷ col 1 1 ∷ col 1 2 ∷ col 0 2 ∷ col 0 3 ∷ col 0 4 ∷ [];
+}
+
+abbrev pub part_given : Part → Row
+part_given q = Int (pos q.month) ∷ Text q.branch ∷ through_value q.through ∷ Int (pos q.count) ∷ Int (pos q.total) ∷ []
+
+abbrev pub IsPart : Part → Type 0
+IsPart q = (is_through_cell (through_value q.through) ≡ true) × AreSums q.count q.total
+
+part_means : IsUpdateText part_amending.text our_schema 13 part part_of.tests part_amending.project
+unfolding understood everything
+part_means = record { command = refl; plain = (refl, refl); listed = refl; stored = λ db. refl }
+
+part_finds : (q : Part) (r : Row) → IsStored part_shape r
+    → (passes_all (part_given q) part_of.tests r ≡ true → part_shape.key (stored_in part_shape r) ≡ (q.month, q.branch))
+    × (part_shape.key (stored_in part_shape r) ≡ (q.month, q.branch) → passes_all (part_given q) part_of.tests r ≡ true)
+part_finds q r good =
+    let cells = (pass_each part_cells true (part_columns r) good).1 in
+    let p = stored_in part_shape r in
+    tells_both (tells_number p.month q.month refl) (tells_text p.branch q.branch refl)
+    (pass_both (same_number (column r 1) q.month (is_number FIRST_MONTH LAST_ENTRY_MONTH (column r 1) cells.0))
+    (same_text (column r 2) q.branch (text_is is_id (column r 2) cells.1.0)))
+
+part_turns : (q : Part) (r : Row) → IsPart q → IsStored part_shape r → is_int (rowid r) ≡ true
+    → IsTurnedInto part_shape part r (drop 1 (shows part_amending.project (part_given q) r))
+    (record (stored_in part_shape r) { through = q.through; count = q.count; total = q.total })
+part_turns q r known good own =
+    let c = (pass_each part_cells true (part_columns r) good).1 in
+    let new : Row = column r 1 ∷ column r 2 ∷ through_value q.through ∷ Int (pos q.count) ∷ Int (pos q.total) ∷ [] in
+    let cells : AreCells part_cells new =
+    (c.0, (c.1.0, (known.0, (to_limit MOST_COUNT q.count known.1.0, (to_limit MOST_PENCE q.total known.1.1, tt))))) in
+    let amended : Option ℕ → Part = λ through. record (stored_in part_shape r) { through = through; count = q.count; total = q.total } in
+    record {
+      stays = row_stays part_cells part (column r 0) new refl (cast_rowid (column r 0) own) cells;
+      rowid_is = refl;
+      grammar = pass_all part_cells true new refl cells;
+      record_is = ap amended (through_back q.through known.0);
+    }
+
+pub part_is : IsAmending part_shape part_amending IsPart part_given (λ q. (q.month, q.branch))
+    (λ q p. record p { through = q.through; count = q.count; total = q.total })
+part_is = record {
+  means = part_means;
+  tree_is = refl;
+  finds = part_finds;
+  keeps_rowid = λ q r. refl;
+  turns = part_turns;
+  keeps_key = λ q x. refl;
+}

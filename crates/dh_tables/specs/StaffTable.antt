@@ -1,0 +1,102 @@
+-- The table staff.
+use Rattle.std.specs.Prelude.{refl, ℕ, List, [], ◌∷◌, codes, true}
+use Rattle.sqlite_value.specs.declared.value.Value.TheVariants.{Null, Text}
+use Rattle.sqlite_value.specs.declared.keys.Collation.TheVariants.{Binary}
+use Rattle.sqlite_value.specs.Order.{Row, column}
+use Rattle.sqlite_sql.specs.declared.ops.BinaryOp.TheVariants.{Compare}
+use Rattle.sqlite_sql.specs.declared.ops.CompareOp.TheVariants.{Eq}
+use Rattle.sqlite_sql.specs.Term.{Term, lit, col, op2}
+use Rattle.sqlite_tied.specs.Compute.{everything}
+use Rattle.sqlite.specs.Listing.{understood}
+use Rattle.dh_values.specs.Texts.{is_id, is_text}
+use Rattle.dh_values.specs.Kinds.{position_of}
+use Rattle.dh_types.specs.declared.staff.Staff.{Staff}
+use Rattle.dh_model.specs.Books.{text_cmp}
+use Rattle.dh_model.specs.Checks.{is_same_text}
+use Rattle.dh_rows.specs.StaffRows.{staff_in, staff_row, is_staff_row}
+use Rattle.dh_catalog.specs.Layout.{our_schema}
+use Rattle.dh_catalog.specs.StaffTable.{staff}
+use Rattle.dh_sql.specs.Cells.{Cell}
+use Rattle.dh_sql.specs.Shape.{Shape}
+use Rattle.dh_sql.specs.Texts.{IsInsertText, IsSelectText}
+use Rattle.dh_sql.proofs.Casting.{cast_null, pass_each, row_stays}
+use Rattle.dh_tables.specs.declared.staff.MemberNumbered.{MemberNumbered}
+use Rattle.dh_tables.specs.Cells.{is_text as text_is, pass_one, read_as, same_text, text_that}
+use Rattle.dh_tables.specs.Questions.{Asking, IsAsking}
+use Rattle.dh_tables.specs.Tables.{Adding, IsAdding, Shelf, without_rowid}
+
+abbrev pub staff_columns : Row → Row
+staff_columns row = column row 1 ∷ column row 2 ∷ column row 3 ∷ column row 4 ∷ []
+
+abbrev pub staff_cells : List Cell
+staff_cells = text_that is_id ∷ text_that (is_text 60) ∷ read_as position_of ∷ text_that is_id ∷ []
+
+abbrev pub staff_shape : Shape (List ℕ) Staff
+staff_shape = record { tree = 3; columns = staff_columns; is_row = is_staff_row; row_in = staff_in; key = λ s. s.number }
+
+abbrev pub staff_shelf : Shelf (List ℕ) Staff text_cmp
+staff_shelf = record {
+  held = λ s. s.books.staff;
+  with = λ s m. record s { books = record s.books { staff = m } };
+  held_with = λ s m. refl;
+  with_with = λ s m n. refl;
+  with_held = λ s. refl;
+}
+
+-- ---- adding a row
+
+abbrev pub staff_adding : Adding Staff
+staff_adding = record {
+  text = codes "INSERT INTO staff (staff_no, name, position, branch_no) VALUES (?1, ?2, ?3, ?4)";
+  place = 2;
+  table = staff;
+  terms = lit Null ∷ col 0 0 ∷ col 0 1 ∷ col 0 2 ∷ col 0 3 ∷ [];
+  width = 5;
+  source = without_rowid staff_row;
+}
+
+inserts : (x : Staff) → IsInsertText staff_adding.text our_schema 2 staff staff_adding.terms 5 (staff_row x) (staff_adding.source x)
+unfolding understood everything
+inserts x = record { command = refl; plain = (refl, refl); listed = refl; is_uncounted = refl; value = refl }
+
+pub staff_is_adding : IsAdding staff_shape staff_row is_staff_row staff_adding
+staff_is_adding = record {
+  tree_is = refl;
+  listed = refl;
+  inserts = inserts;
+  stays = λ x good. row_stays staff_cells staff Null (staff_row x) refl cast_null (pass_each staff_cells true (staff_row x) good).1;
+  columns = λ x rows. refl;
+  keyed = λ x rows. refl;
+}
+
+-- ---- what the texts show
+
+abbrev staff_project : List Term
+staff_project = col 1 1 ∷ col 1 2 ∷ col 1 3 ∷ col 1 4 ∷ []
+
+abbrev staff_names : List (List ℕ)
+staff_names = codes "staff_no" ∷ codes "name" ∷ codes "position" ∷ codes "branch_no" ∷ []
+
+-- ---- the member of staff with a number
+
+abbrev pub member_numbered : Asking
+member_numbered = record {
+  text = codes "SELECT staff_no, name, position, branch_no FROM staff WHERE staff_no = ?1";
+  tests = op2 (Compare Eq Binary) (col 1 1) (col 0 0) ∷ [];
+  project = staff_project;
+  names = staff_names;
+}
+
+member_numbered_selects : IsSelectText member_numbered.text our_schema 3 member_numbered.tests staff_project [] staff_names
+unfolding understood everything
+member_numbered_selects = record { command = refl; unlisted = refl; plain = (refl, refl); stored = λ db. refl }
+
+pub member_numbered_is : IsAsking staff_shape member_numbered
+    (λ (q : MemberNumbered). Unit {0}) (λ q. Text q.number ∷ []) (λ q s. is_same_text s.number q.number)
+member_numbered_is = record {
+  selects = member_numbered_selects;
+  shows_columns = λ q r. refl;
+  passes = λ q r known good.
+      let cells = (pass_each staff_cells true (staff_columns r) good).1 in
+      pass_one (same_text (column r 1) q.number (text_is is_id (column r 1) cells.0));
+}

@@ -1,0 +1,77 @@
+//! Branches in their table.
+
+use crate::{Look, Tabled};
+use dh_books::Books;
+use dh_types::{Branch, Id};
+use sqlite::types::ValueRef;
+use std::alloc::{AllocError, Global};
+
+impl Tabled for Branch {
+    ghost use Rattle.std.specs.Prelude.{refl};
+    ghost use Rattle.dh_model.specs.Books.{text_cmp};
+    ghost use Rattle.dh_model.proofs.KeyOrders.{text_total, text_ties};
+    ghost use Rattle.dh_tables.specs.BranchTable.{branch_adding, branch_is_adding, branch_shape, branch_shelf};
+
+    ghost shape = { branch_shape };
+
+    ghost order = { text_cmp };
+
+    ghost adding = { branch_adding };
+
+    ghost shelf = { branch_shelf };
+
+    fn insert_text() -> &'static str {
+        "INSERT INTO branch (branch_no, street, city, postcode) VALUES (?1, ?2, ?3, ?4)"
+    }
+
+    fn put(self, books: &mut Books) -> Result<(), AllocError> {
+        books.put_branch(self)
+    }
+
+    ghost total = { text_total };
+
+    ghost ties = { text_ties };
+
+    ghost has_shape = { record { is_row_is = λ r. refl; row_in_is = λ r. refl; key_is = λ x. refl } };
+
+    ghost is_adding = { branch_is_adding };
+}
+
+/// The branch with this number.
+#[derive(Drop)]
+pub struct BranchNumbered {
+    pub number: Id,
+}
+
+impl Look for BranchNumbered {
+    ghost use Rattle.std.specs.Prelude.{◌∷◌, []};
+    ghost use Rattle.sqlite_value.specs.declared.value.Value.TheVariants.{Text};
+    ghost use Rattle.dh_model.specs.Checks.{is_same_text};
+    ghost use Rattle.dh_tables.specs.BranchTable.{branch_numbered, branch_is_numbered};
+
+    type Record = Branch;
+
+    ghost asks = { λ q b. is_same_text b.number q.number };
+
+    ghost asking = { branch_numbered };
+
+    ghost given = { λ q. Text q.number ∷ [] };
+
+    fn text() -> &'static str {
+        "SELECT branch_no, street, city, postcode FROM branch WHERE branch_no = ?1"
+    }
+
+    fn day_bytes(&self, alloc: Global) -> Result<Vec<u8>, AllocError> {
+        Ok(Vec::new(alloc))
+    }
+
+    fn params<'a>(
+        &'a self,
+        alloc: Global,
+        _day: &'a [u8],
+    ) -> Result<Vec<ValueRef<'a>>, AllocError> {
+        [ValueRef::Text(self.number.as_str().as_bytes())].to_vec(alloc)
+    }
+
+    ghost is_asking = { branch_is_numbered };
+}

@@ -1,0 +1,115 @@
+//! Charges in their table.
+
+use crate::{Look, Tabled};
+use dh_books::Books;
+use dh_types::{Charge, EntryMonth, LeaseNo};
+use sqlite::types::ValueRef;
+use std::alloc::{AllocError, Global};
+
+impl Tabled for Charge {
+    ghost use Rattle.std.specs.Prelude.{refl};
+    ghost use Rattle.std.specs.Ordering.{nat_cmp};
+    ghost use Rattle.dh_model.specs.Books.{pair_cmp};
+    ghost use Rattle.dh_model.proofs.KeyOrders.{nats_total, nats_tie};
+    ghost use Rattle.dh_tables.specs.ChargeTable.{charge_adding, charge_is_adding, charge_shape, charge_shelf};
+
+    ghost shape = { charge_shape };
+
+    ghost order = { pair_cmp nat_cmp nat_cmp };
+
+    ghost adding = { charge_adding };
+
+    ghost shelf = { charge_shelf };
+
+    fn insert_text() -> &'static str {
+        "INSERT INTO charge (lease_no, k, month, day, amount) VALUES (?1, ?2, ?3, ?4, ?5)"
+    }
+
+    fn put(self, books: &mut Books) -> Result<(), AllocError> {
+        books.put_charge(self)
+    }
+
+    ghost total = { nats_total };
+
+    ghost ties = { nats_tie };
+
+    ghost has_shape = { record { is_row_is = λ r. refl; row_in_is = λ r. refl; key_is = λ x. refl } };
+
+    ghost is_adding = { charge_is_adding };
+}
+
+/// The charges of this lease.
+#[derive(Drop)]
+pub struct ChargesOfLease {
+    pub lease: LeaseNo,
+}
+
+impl Look for ChargesOfLease {
+    ghost use Rattle.std.specs.Prelude.{◌∷◌, [], nat_eq, pos};
+    ghost use Rattle.sqlite_value.specs.declared.value.Value.TheVariants.{Int};
+    ghost use Rattle.dh_tables.specs.ChargeTable.{charges_of_lease, charges_of_lease_is};
+
+    type Record = Charge;
+
+    ghost asks = { λ q c. nat_eq c.lease q.lease };
+
+    ghost asking = { charges_of_lease };
+
+    ghost given = { λ q. Int (pos q.lease) ∷ [] };
+
+    fn text() -> &'static str {
+        "SELECT lease_no, k, month, day, amount FROM charge WHERE lease_no = ?1"
+    }
+
+    fn day_bytes(&self, alloc: Global) -> Result<Vec<u8>, AllocError> {
+        Ok(Vec::new(alloc))
+    }
+
+    fn params<'a>(
+        &'a self,
+        alloc: Global,
+        _day: &'a [u8],
+    ) -> Result<Vec<ValueRef<'a>>, AllocError> {
+        [ValueRef::Int(i64::from(self.lease.number()))].to_vec(alloc)
+    }
+
+    ghost is_asking = { charges_of_lease_is };
+}
+
+/// The charges of this month.
+#[derive(Drop)]
+pub struct ChargesOfMonth {
+    pub month: EntryMonth,
+}
+
+impl Look for ChargesOfMonth {
+    ghost use Rattle.std.specs.Prelude.{◌∷◌, [], nat_eq, pos};
+    ghost use Rattle.sqlite_value.specs.declared.value.Value.TheVariants.{Int};
+    ghost use Rattle.dh_tables.specs.ChargeTable.{charges_of_month, charges_of_month_is};
+
+    type Record = Charge;
+
+    ghost asks = { λ q c. nat_eq c.month q.month };
+
+    ghost asking = { charges_of_month };
+
+    ghost given = { λ q. Int (pos q.month) ∷ [] };
+
+    fn text() -> &'static str {
+        "SELECT lease_no, k, month, day, amount FROM charge WHERE month = ?1"
+    }
+
+    fn day_bytes(&self, alloc: Global) -> Result<Vec<u8>, AllocError> {
+        Ok(Vec::new(alloc))
+    }
+
+    fn params<'a>(
+        &'a self,
+        alloc: Global,
+        _day: &'a [u8],
+    ) -> Result<Vec<ValueRef<'a>>, AllocError> {
+        [ValueRef::Int(i64::from(self.month.number()))].to_vec(alloc)
+    }
+
+    ghost is_asking = { charges_of_month_is };
+}

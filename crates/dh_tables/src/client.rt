@@ -1,0 +1,77 @@
+//! Clients in their table.
+
+use crate::{Look, Tabled};
+use dh_books::Books;
+use dh_types::{Client, Id};
+use sqlite::types::ValueRef;
+use std::alloc::{AllocError, Global};
+
+impl Tabled for Client {
+    ghost use Rattle.std.specs.Prelude.{refl};
+    ghost use Rattle.dh_model.specs.Books.{text_cmp};
+    ghost use Rattle.dh_model.proofs.KeyOrders.{text_total, text_ties};
+    ghost use Rattle.dh_tables.specs.ClientTable.{client_adding, client_is_adding, client_shape, client_shelf};
+
+    ghost shape = { client_shape };
+
+    ghost order = { text_cmp };
+
+    ghost adding = { client_adding };
+
+    ghost shelf = { client_shelf };
+
+    fn insert_text() -> &'static str {
+        "INSERT INTO client (client_no, name, telephone, pref_type, max_rent) VALUES (?1, ?2, ?3, ?4, ?5)"
+    }
+
+    fn put(self, books: &mut Books) -> Result<(), AllocError> {
+        books.put_client(self)
+    }
+
+    ghost total = { text_total };
+
+    ghost ties = { text_ties };
+
+    ghost has_shape = { record { is_row_is = λ r. refl; row_in_is = λ r. refl; key_is = λ x. refl } };
+
+    ghost is_adding = { client_is_adding };
+}
+
+/// The client with this number.
+#[derive(Drop)]
+pub struct ClientNumbered {
+    pub number: Id,
+}
+
+impl Look for ClientNumbered {
+    ghost use Rattle.std.specs.Prelude.{◌∷◌, []};
+    ghost use Rattle.sqlite_value.specs.declared.value.Value.TheVariants.{Text};
+    ghost use Rattle.dh_model.specs.Checks.{is_same_text};
+    ghost use Rattle.dh_tables.specs.ClientTable.{client_numbered, client_numbered_is};
+
+    type Record = Client;
+
+    ghost asks = { λ q c. is_same_text c.number q.number };
+
+    ghost asking = { client_numbered };
+
+    ghost given = { λ q. Text q.number ∷ [] };
+
+    fn text() -> &'static str {
+        "SELECT client_no, name, telephone, pref_type, max_rent FROM client WHERE client_no = ?1"
+    }
+
+    fn day_bytes(&self, alloc: Global) -> Result<Vec<u8>, AllocError> {
+        Ok(Vec::new(alloc))
+    }
+
+    fn params<'a>(
+        &'a self,
+        alloc: Global,
+        _day: &'a [u8],
+    ) -> Result<Vec<ValueRef<'a>>, AllocError> {
+        [ValueRef::Text(self.number.as_str().as_bytes())].to_vec(alloc)
+    }
+
+    ghost is_asking = { client_numbered_is };
+}

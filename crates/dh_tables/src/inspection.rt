@@ -1,0 +1,126 @@
+//! Inspections in their table.
+
+use crate::{Look, Tabled};
+use dh_books::Books;
+use dh_types::{EntryDay, Id, Inspection};
+use sqlite::types::ValueRef;
+use std::alloc::{AllocError, Global};
+
+impl Tabled for Inspection {
+    ghost use Rattle.std.specs.Prelude.{refl};
+    ghost use Rattle.std.specs.Ordering.{nat_cmp};
+    ghost use Rattle.dh_model.specs.Books.{pair_cmp, text_cmp};
+    ghost use Rattle.dh_model.proofs.KeyOrders.{text_nat_total, text_nat_ties};
+    ghost use Rattle.dh_tables.specs.InspectionTable.{inspection_adding, inspection_is_adding, inspection_shape, inspection_shelf};
+
+    ghost shape = { inspection_shape };
+
+    ghost order = { pair_cmp text_cmp nat_cmp };
+
+    ghost adding = { inspection_adding };
+
+    ghost shelf = { inspection_shelf };
+
+    fn insert_text() -> &'static str {
+        "INSERT INTO inspection (property_no, day, staff_no, comment) VALUES (?1, ?2, ?3, ?4)"
+    }
+
+    fn put(self, books: &mut Books) -> Result<(), AllocError> {
+        books.put_inspection(self)
+    }
+
+    ghost total = { text_nat_total };
+
+    ghost ties = { text_nat_ties };
+
+    ghost has_shape = { record { is_row_is = λ r. refl; row_in_is = λ r. refl; key_is = λ x. refl } };
+
+    ghost is_adding = { inspection_is_adding };
+}
+
+/// The inspection of this property on this day.
+#[derive(Drop)]
+pub struct InspectionOf {
+    pub property: Id,
+    pub day: EntryDay,
+}
+
+impl Look for InspectionOf {
+    ghost use Rattle.std.specs.Prelude.{◌∷◌, [], nat_eq, ◌&&◌};
+    ghost use Rattle.sqlite_value.specs.declared.value.Value.TheVariants.{Text};
+    ghost use Rattle.dh_model.specs.Checks.{is_same_text};
+    ghost use Rattle.dh_days.specs.Days.{IsEntryDay, day_text};
+    ghost use Rattle.dh_tables.specs.InspectionTable.{inspection_of, inspection_of_is};
+
+    type Record = Inspection;
+
+    ghost asks = { λ q n. is_same_text n.property q.property && nat_eq n.day q.day };
+
+    ghost asking = { inspection_of };
+
+    ghost given = { λ q. Text q.property ∷ Text (day_text q.day) ∷ [] };
+
+    ghost day_column = { λ q. day_text q.day };
+
+    ghost can_ask = { λ q. IsEntryDay q.day };
+
+    fn text() -> &'static str {
+        "SELECT property_no, day, staff_no, comment FROM inspection WHERE property_no = ?1 AND day = ?2"
+    }
+
+    fn day_bytes(&self, alloc: Global) -> Result<Vec<u8>, AllocError> {
+        let text = format!(in alloc; "{}", self.day)?;
+        Ok(text.into_bytes())
+    }
+
+    fn params<'a>(&'a self, alloc: Global, day: &'a [u8]) -> Result<Vec<ValueRef<'a>>, AllocError> {
+        // The call tells that it is a day.
+        let _ = self.day.day();
+        [
+            ValueRef::Text(self.property.as_str().as_bytes()),
+            ValueRef::Text(day),
+        ]
+        .to_vec(alloc)
+    }
+
+    ghost is_asking = { inspection_of_is };
+}
+
+/// The inspections of this property.
+#[derive(Drop)]
+pub struct InspectionsOf {
+    pub property: Id,
+}
+
+impl Look for InspectionsOf {
+    ghost use Rattle.std.specs.Prelude.{◌∷◌, []};
+    ghost use Rattle.sqlite_value.specs.declared.value.Value.TheVariants.{Text};
+    ghost use Rattle.dh_model.specs.Checks.{is_same_text};
+    ghost use Rattle.dh_tables.specs.InspectionTable.{inspections_of, inspections_of_is};
+
+    type Record = Inspection;
+
+    ghost asks = { λ q n. is_same_text n.property q.property };
+
+    ghost asking = { inspections_of };
+
+    ghost given = { λ q. Text q.property ∷ [] };
+
+    fn text() -> &'static str {
+        "SELECT property_no, day, staff_no, comment FROM inspection WHERE property_no = ?1"
+    }
+
+    fn day_bytes(&self, alloc: Global) -> Result<Vec<u8>, AllocError> {
+        Ok(Vec::new(alloc))
+    }
+
+    fn params<'a>(
+        &'a self,
+        alloc: Global,
+        _day: &'a [u8],
+    ) -> Result<Vec<ValueRef<'a>>, AllocError> {
+        [ValueRef::Text(self.property.as_str().as_bytes())].to_vec(alloc)
+    }
+
+    ghost is_asking = { inspections_of_is };
+}

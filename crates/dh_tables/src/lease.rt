@@ -1,0 +1,202 @@
+//! Leases in their table.
+
+use crate::{Look, Tabled};
+use dh_books::Books;
+use dh_types::{EntryDay, Id, Lease, LeaseNo};
+use sqlite::types::ValueRef;
+use std::alloc::{AllocError, Global};
+
+impl Tabled for Lease {
+    ghost use Rattle.std.specs.Prelude.{refl};
+    ghost use Rattle.std.specs.Ordering.{nat_cmp};
+    ghost use Rattle.dh_model.proofs.KeyOrders.{nat_total, nat_ties};
+    ghost use Rattle.dh_tables.specs.LeaseTable.{lease_adding, lease_is_adding, lease_shape, lease_shelf};
+
+    ghost shape = { lease_shape };
+
+    ghost order = { nat_cmp };
+
+    ghost adding = { lease_adding };
+
+    ghost shelf = { lease_shelf };
+
+    fn insert_text() -> &'static str {
+        "INSERT INTO lease (lease_no, client_no, property_no, start_day, months, method, rent) VALUES (?1, ?2, ?3, ?4, ?5, ?6, ?7)"
+    }
+
+    fn put(self, books: &mut Books) -> Result<(), AllocError> {
+        books.put_lease(self)
+    }
+
+    ghost total = { nat_total };
+
+    ghost ties = { nat_ties };
+
+    ghost has_shape = { record { is_row_is = λ r. refl; row_in_is = λ r. refl; key_is = λ x. refl } };
+
+    ghost is_adding = { lease_is_adding };
+}
+
+/// The lease with this number.
+#[derive(Drop)]
+pub struct LeaseNumbered {
+    pub number: LeaseNo,
+}
+
+impl Look for LeaseNumbered {
+    ghost use Rattle.std.specs.Prelude.{◌∷◌, [], nat_eq, pos};
+    ghost use Rattle.sqlite_value.specs.declared.value.Value.TheVariants.{Int};
+    ghost use Rattle.dh_tables.specs.LeaseTable.{lease_numbered, lease_numbered_is};
+
+    type Record = Lease;
+
+    ghost asks = { λ q l. nat_eq l.terms.number q.number };
+
+    ghost asking = { lease_numbered };
+
+    ghost given = { λ q. Int (pos q.number) ∷ [] };
+
+    fn text() -> &'static str {
+        "SELECT lease_no, client_no, property_no, start_day, months, method, rent FROM lease WHERE lease_no = ?1"
+    }
+
+    fn day_bytes(&self, alloc: Global) -> Result<Vec<u8>, AllocError> {
+        Ok(Vec::new(alloc))
+    }
+
+    fn params<'a>(
+        &'a self,
+        alloc: Global,
+        _day: &'a [u8],
+    ) -> Result<Vec<ValueRef<'a>>, AllocError> {
+        [ValueRef::Int(i64::from(self.number.number()))].to_vec(alloc)
+    }
+
+    ghost is_asking = { lease_numbered_is };
+}
+
+/// The leases of this property.
+#[derive(Drop)]
+pub struct LeasesOfProperty {
+    pub property: Id,
+}
+
+impl Look for LeasesOfProperty {
+    ghost use Rattle.std.specs.Prelude.{◌∷◌, []};
+    ghost use Rattle.sqlite_value.specs.declared.value.Value.TheVariants.{Text};
+    ghost use Rattle.dh_model.specs.Checks.{is_same_text};
+    ghost use Rattle.dh_tables.specs.LeaseTable.{leases_of_property, leases_of_property_is};
+
+    type Record = Lease;
+
+    ghost asks = { λ q l. is_same_text l.terms.property q.property };
+
+    ghost asking = { leases_of_property };
+
+    ghost given = { λ q. Text q.property ∷ [] };
+
+    fn text() -> &'static str {
+        "SELECT lease_no, client_no, property_no, start_day, months, method, rent FROM lease WHERE property_no = ?1"
+    }
+
+    fn day_bytes(&self, alloc: Global) -> Result<Vec<u8>, AllocError> {
+        Ok(Vec::new(alloc))
+    }
+
+    fn params<'a>(
+        &'a self,
+        alloc: Global,
+        _day: &'a [u8],
+    ) -> Result<Vec<ValueRef<'a>>, AllocError> {
+        [ValueRef::Text(self.property.as_str().as_bytes())].to_vec(alloc)
+    }
+
+    ghost is_asking = { leases_of_property_is };
+}
+
+/// The leases of this client.
+#[derive(Drop)]
+pub struct LeasesOfClient {
+    pub client: Id,
+}
+
+impl Look for LeasesOfClient {
+    ghost use Rattle.std.specs.Prelude.{◌∷◌, []};
+    ghost use Rattle.sqlite_value.specs.declared.value.Value.TheVariants.{Text};
+    ghost use Rattle.dh_model.specs.Checks.{is_same_text};
+    ghost use Rattle.dh_tables.specs.LeaseTable.{leases_of_client, leases_of_client_is};
+
+    type Record = Lease;
+
+    ghost asks = { λ q l. is_same_text l.terms.client q.client };
+
+    ghost asking = { leases_of_client };
+
+    ghost given = { λ q. Text q.client ∷ [] };
+
+    fn text() -> &'static str {
+        "SELECT lease_no, client_no, property_no, start_day, months, method, rent FROM lease WHERE client_no = ?1"
+    }
+
+    fn day_bytes(&self, alloc: Global) -> Result<Vec<u8>, AllocError> {
+        Ok(Vec::new(alloc))
+    }
+
+    fn params<'a>(
+        &'a self,
+        alloc: Global,
+        _day: &'a [u8],
+    ) -> Result<Vec<ValueRef<'a>>, AllocError> {
+        [ValueRef::Text(self.client.as_str().as_bytes())].to_vec(alloc)
+    }
+
+    ghost is_asking = { leases_of_client_is };
+}
+
+/// The leases of this client that begin on this day.
+#[derive(Drop)]
+pub struct LeasesOfClientFrom {
+    pub client: Id,
+    pub start: EntryDay,
+}
+
+impl Look for LeasesOfClientFrom {
+    ghost use Rattle.std.specs.Prelude.{◌∷◌, [], nat_eq, ◌&&◌};
+    ghost use Rattle.sqlite_value.specs.declared.value.Value.TheVariants.{Text};
+    ghost use Rattle.dh_model.specs.Checks.{is_same_text};
+    ghost use Rattle.dh_days.specs.Days.{IsEntryDay, day_text};
+    ghost use Rattle.dh_tables.specs.LeaseTable.{leases_of_client_from, leases_of_client_from_is};
+
+    type Record = Lease;
+
+    ghost asks = { λ q l. is_same_text l.terms.client q.client && nat_eq l.terms.start q.start };
+
+    ghost asking = { leases_of_client_from };
+
+    ghost given = { λ q. Text q.client ∷ Text (day_text q.start) ∷ [] };
+
+    ghost day_column = { λ q. day_text q.start };
+
+    ghost can_ask = { λ q. IsEntryDay q.start };
+
+    fn text() -> &'static str {
+        "SELECT lease_no, client_no, property_no, start_day, months, method, rent FROM lease WHERE client_no = ?1 AND start_day = ?2"
+    }
+
+    fn day_bytes(&self, alloc: Global) -> Result<Vec<u8>, AllocError> {
+        let text = format!(in alloc; "{}", self.start)?;
+        Ok(text.into_bytes())
+    }
+
+    fn params<'a>(&'a self, alloc: Global, day: &'a [u8]) -> Result<Vec<ValueRef<'a>>, AllocError> {
+        // The call tells that it is a day.
+        let _ = self.start.day();
+        [
+            ValueRef::Text(self.client.as_str().as_bytes()),
+            ValueRef::Text(day),
+        ]
+        .to_vec(alloc)
+    }
+
+    ghost is_asking = { leases_of_client_from_is };
+}

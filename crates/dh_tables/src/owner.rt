@@ -1,0 +1,77 @@
+//! Owners in their table.
+
+use crate::{Look, Tabled};
+use dh_books::Books;
+use dh_types::{Id, Owner};
+use sqlite::types::ValueRef;
+use std::alloc::{AllocError, Global};
+
+impl Tabled for Owner {
+    ghost use Rattle.std.specs.Prelude.{refl};
+    ghost use Rattle.dh_model.specs.Books.{text_cmp};
+    ghost use Rattle.dh_model.proofs.KeyOrders.{text_total, text_ties};
+    ghost use Rattle.dh_tables.specs.OwnerTable.{owner_adding, owner_is_adding, owner_shape, owner_shelf};
+
+    ghost shape = { owner_shape };
+
+    ghost order = { text_cmp };
+
+    ghost adding = { owner_adding };
+
+    ghost shelf = { owner_shelf };
+
+    fn insert_text() -> &'static str {
+        "INSERT INTO owner (owner_no, name, address, telephone) VALUES (?1, ?2, ?3, ?4)"
+    }
+
+    fn put(self, books: &mut Books) -> Result<(), AllocError> {
+        books.put_owner(self)
+    }
+
+    ghost total = { text_total };
+
+    ghost ties = { text_ties };
+
+    ghost has_shape = { record { is_row_is = λ r. refl; row_in_is = λ r. refl; key_is = λ x. refl } };
+
+    ghost is_adding = { owner_is_adding };
+}
+
+/// The owner with this number.
+#[derive(Drop)]
+pub struct OwnerNumbered {
+    pub number: Id,
+}
+
+impl Look for OwnerNumbered {
+    ghost use Rattle.std.specs.Prelude.{◌∷◌, []};
+    ghost use Rattle.sqlite_value.specs.declared.value.Value.TheVariants.{Text};
+    ghost use Rattle.dh_model.specs.Checks.{is_same_text};
+    ghost use Rattle.dh_tables.specs.OwnerTable.{owner_numbered, owner_numbered_is};
+
+    type Record = Owner;
+
+    ghost asks = { λ q o. is_same_text o.number q.number };
+
+    ghost asking = { owner_numbered };
+
+    ghost given = { λ q. Text q.number ∷ [] };
+
+    fn text() -> &'static str {
+        "SELECT owner_no, name, address, telephone FROM owner WHERE owner_no = ?1"
+    }
+
+    fn day_bytes(&self, alloc: Global) -> Result<Vec<u8>, AllocError> {
+        Ok(Vec::new(alloc))
+    }
+
+    fn params<'a>(
+        &'a self,
+        alloc: Global,
+        _day: &'a [u8],
+    ) -> Result<Vec<ValueRef<'a>>, AllocError> {
+        [ValueRef::Text(self.number.as_str().as_bytes())].to_vec(alloc)
+    }
+
+    ghost is_asking = { owner_numbered_is };
+}

@@ -1,0 +1,121 @@
+//! Parts of runs in their table.
+
+use crate::{Look, Tabled};
+use dh_books::Books;
+use dh_types::{EntryMonth, Id, Part};
+use sqlite::types::ValueRef;
+use std::alloc::{AllocError, Global};
+
+impl Tabled for Part {
+    ghost use Rattle.std.specs.Prelude.{refl};
+    ghost use Rattle.std.specs.Ordering.{nat_cmp};
+    ghost use Rattle.dh_model.specs.Books.{pair_cmp, text_cmp};
+    ghost use Rattle.dh_model.proofs.KeyOrders.{nat_text_total, nat_text_ties};
+    ghost use Rattle.dh_tables.specs.PartTable.{part_adding, part_is_adding, part_shape, part_shelf};
+
+    ghost shape = { part_shape };
+
+    ghost order = { pair_cmp nat_cmp text_cmp };
+
+    ghost adding = { part_adding };
+
+    ghost shelf = { part_shelf };
+
+    fn insert_text() -> &'static str {
+        "INSERT INTO part (month, branch_no, through_lease, due_count, due_total) VALUES (?1, ?2, ?3, ?4, ?5)"
+    }
+
+    fn put(self, books: &mut Books) -> Result<(), AllocError> {
+        books.put_part(self)
+    }
+
+    ghost total = { nat_text_total };
+
+    ghost ties = { nat_text_ties };
+
+    ghost has_shape = { record { is_row_is = λ r. refl; row_in_is = λ r. refl; key_is = λ x. refl } };
+
+    ghost is_adding = { part_is_adding };
+}
+
+/// The part of the run of this month at this branch.
+#[derive(Drop)]
+pub struct PartOf {
+    pub month: EntryMonth,
+    pub branch: Id,
+}
+
+impl Look for PartOf {
+    ghost use Rattle.std.specs.Prelude.{◌∷◌, [], nat_eq, pos, ◌&&◌};
+    ghost use Rattle.sqlite_value.specs.declared.value.Value.TheVariants.{Int, Text};
+    ghost use Rattle.dh_model.specs.Checks.{is_same_text};
+    ghost use Rattle.dh_tables.specs.PartTable.{part_of, part_of_is};
+
+    type Record = Part;
+
+    ghost asks = { λ q p. nat_eq p.month q.month && is_same_text p.branch q.branch };
+
+    ghost asking = { part_of };
+
+    ghost given = { λ q. Int (pos q.month) ∷ Text q.branch ∷ [] };
+
+    fn text() -> &'static str {
+        "SELECT month, branch_no, through_lease, due_count, due_total FROM part WHERE month = ?1 AND branch_no = ?2"
+    }
+
+    fn day_bytes(&self, alloc: Global) -> Result<Vec<u8>, AllocError> {
+        Ok(Vec::new(alloc))
+    }
+
+    fn params<'a>(
+        &'a self,
+        alloc: Global,
+        _day: &'a [u8],
+    ) -> Result<Vec<ValueRef<'a>>, AllocError> {
+        [
+            ValueRef::Int(i64::from(self.month.number())),
+            ValueRef::Text(self.branch.as_str().as_bytes()),
+        ]
+        .to_vec(alloc)
+    }
+
+    ghost is_asking = { part_of_is };
+}
+
+/// The parts of the run of this month.
+#[derive(Drop)]
+pub struct PartsOfMonth {
+    pub month: EntryMonth,
+}
+
+impl Look for PartsOfMonth {
+    ghost use Rattle.std.specs.Prelude.{◌∷◌, [], nat_eq, pos};
+    ghost use Rattle.sqlite_value.specs.declared.value.Value.TheVariants.{Int};
+    ghost use Rattle.dh_tables.specs.PartTable.{parts_of_month, parts_of_month_is};
+
+    type Record = Part;
+
+    ghost asks = { λ q p. nat_eq p.month q.month };
+
+    ghost asking = { parts_of_month };
+
+    ghost given = { λ q. Int (pos q.month) ∷ [] };
+
+    fn text() -> &'static str {
+        "SELECT month, branch_no, through_lease, due_count, due_total FROM part WHERE month = ?1"
+    }
+
+    fn day_bytes(&self, alloc: Global) -> Result<Vec<u8>, AllocError> {
+        Ok(Vec::new(alloc))
+    }
+
+    fn params<'a>(
+        &'a self,
+        alloc: Global,
+        _day: &'a [u8],
+    ) -> Result<Vec<ValueRef<'a>>, AllocError> {
+        [ValueRef::Int(i64::from(self.month.number()))].to_vec(alloc)
+    }
+
+    ghost is_asking = { parts_of_month_is };
+}

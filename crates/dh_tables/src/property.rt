@@ -1,0 +1,117 @@
+//! Properties in their table.
+
+use crate::{Look, Tabled};
+use dh_books::Books;
+use dh_types::{Id, Property};
+use sqlite::types::ValueRef;
+use std::alloc::{AllocError, Global};
+
+impl Tabled for Property {
+    ghost use Rattle.std.specs.Prelude.{refl};
+    ghost use Rattle.dh_model.specs.Books.{text_cmp};
+    ghost use Rattle.dh_model.proofs.KeyOrders.{text_total, text_ties};
+    ghost use Rattle.dh_tables.specs.PropertyTable.{property_adding, property_is_adding, property_shape, property_shelf};
+
+    ghost shape = { property_shape };
+
+    ghost order = { text_cmp };
+
+    ghost adding = { property_adding };
+
+    ghost shelf = { property_shelf };
+
+    fn insert_text() -> &'static str {
+        "INSERT INTO property (property_no, street, city, postcode, type, rooms, rent, owner_no, staff_no, branch_no) VALUES (?1, ?2, ?3, ?4, ?5, ?6, ?7, ?8, ?9, ?10)"
+    }
+
+    fn put(self, books: &mut Books) -> Result<(), AllocError> {
+        books.put_property(self)
+    }
+
+    ghost total = { text_total };
+
+    ghost ties = { text_ties };
+
+    ghost has_shape = { record { is_row_is = λ r. refl; row_in_is = λ r. refl; key_is = λ x. refl } };
+
+    ghost is_adding = { property_is_adding };
+}
+
+/// The property with this number.
+#[derive(Drop)]
+pub struct PropertyNumbered {
+    pub number: Id,
+}
+
+impl Look for PropertyNumbered {
+    ghost use Rattle.std.specs.Prelude.{◌∷◌, []};
+    ghost use Rattle.sqlite_value.specs.declared.value.Value.TheVariants.{Text};
+    ghost use Rattle.dh_model.specs.Checks.{is_same_text};
+    ghost use Rattle.dh_tables.specs.PropertyTable.{property_numbered, property_numbered_is};
+
+    type Record = Property;
+
+    ghost asks = { λ q p. is_same_text p.number q.number };
+
+    ghost asking = { property_numbered };
+
+    ghost given = { λ q. Text q.number ∷ [] };
+
+    fn text() -> &'static str {
+        "SELECT property_no, street, city, postcode, type, rooms, rent, owner_no, staff_no, branch_no FROM property WHERE property_no = ?1"
+    }
+
+    fn day_bytes(&self, alloc: Global) -> Result<Vec<u8>, AllocError> {
+        Ok(Vec::new(alloc))
+    }
+
+    fn params<'a>(
+        &'a self,
+        alloc: Global,
+        _day: &'a [u8],
+    ) -> Result<Vec<ValueRef<'a>>, AllocError> {
+        [ValueRef::Text(self.number.as_str().as_bytes())].to_vec(alloc)
+    }
+
+    ghost is_asking = { property_numbered_is };
+}
+
+/// The properties that this member of staff manages.
+#[derive(Drop)]
+pub struct PropertiesManaged {
+    pub staff: Id,
+}
+
+impl Look for PropertiesManaged {
+    ghost use Rattle.std.specs.Prelude.{◌∷◌, [], Some};
+    ghost use Rattle.sqlite_value.specs.declared.value.Value.TheVariants.{Text};
+    ghost use Rattle.dh_types.specs.Records.{is_same_optional};
+    ghost use Rattle.dh_model.specs.Checks.{is_same_text};
+    ghost use Rattle.dh_tables.specs.PropertyTable.{properties_managed, properties_managed_is};
+
+    type Record = Property;
+
+    ghost asks = { λ q p. is_same_optional is_same_text p.staff (Some q.staff) };
+
+    ghost asking = { properties_managed };
+
+    ghost given = { λ q. Text q.staff ∷ [] };
+
+    fn text() -> &'static str {
+        "SELECT property_no, street, city, postcode, type, rooms, rent, owner_no, staff_no, branch_no FROM property WHERE staff_no = ?1"
+    }
+
+    fn day_bytes(&self, alloc: Global) -> Result<Vec<u8>, AllocError> {
+        Ok(Vec::new(alloc))
+    }
+
+    fn params<'a>(
+        &'a self,
+        alloc: Global,
+        _day: &'a [u8],
+    ) -> Result<Vec<ValueRef<'a>>, AllocError> {
+        [ValueRef::Text(self.staff.as_str().as_bytes())].to_vec(alloc)
+    }
+
+    ghost is_asking = { properties_managed_is };
+}

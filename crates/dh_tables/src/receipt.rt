@@ -1,0 +1,155 @@
+//! Receipts in their table.
+
+use crate::{Look, Tabled};
+use dh_books::Books;
+use dh_types::{Key, LeaseNo, Receipt};
+use sqlite::types::ValueRef;
+use std::alloc::{AllocError, Global};
+
+impl Tabled for Receipt {
+    ghost use Rattle.std.specs.Prelude.{refl};
+    ghost use Rattle.std.specs.Ordering.{nat_cmp};
+    ghost use Rattle.dh_model.proofs.KeyOrders.{nat_total, nat_ties};
+    ghost use Rattle.dh_tables.specs.ReceiptTable.{receipt_adding, receipt_is_adding, receipt_shape, receipt_shelf};
+
+    ghost shape = { receipt_shape };
+
+    ghost order = { nat_cmp };
+
+    ghost adding = { receipt_adding };
+
+    ghost shelf = { receipt_shelf };
+
+    fn insert_text() -> &'static str {
+        "INSERT INTO receipt (receipt_no, req_key, lease_no, kind, amount, day) VALUES (?1, ?2, ?3, ?4, ?5, ?6)"
+    }
+
+    fn put(self, books: &mut Books) -> Result<(), AllocError> {
+        books.put_receipt(self)
+    }
+
+    ghost total = { nat_total };
+
+    ghost ties = { nat_ties };
+
+    ghost has_shape = { record { is_row_is = λ r. refl; row_in_is = λ r. refl; key_is = λ x. refl } };
+
+    ghost is_adding = { receipt_is_adding };
+}
+
+/// The receipt with this request key.
+#[derive(Drop)]
+pub struct ReceiptKeyed {
+    pub key: Key,
+}
+
+impl Look for ReceiptKeyed {
+    ghost use Rattle.std.specs.Prelude.{◌∷◌, []};
+    ghost use Rattle.sqlite_value.specs.declared.value.Value.TheVariants.{Text};
+    ghost use Rattle.dh_model.specs.Checks.{is_same_text};
+    ghost use Rattle.dh_tables.specs.ReceiptTable.{receipt_keyed, receipt_keyed_is};
+
+    type Record = Receipt;
+
+    ghost asks = { λ q r. is_same_text r.key q.key };
+
+    ghost asking = { receipt_keyed };
+
+    ghost given = { λ q. Text q.key ∷ [] };
+
+    fn text() -> &'static str {
+        "SELECT receipt_no, req_key, lease_no, kind, amount, day FROM receipt WHERE req_key = ?1"
+    }
+
+    fn day_bytes(&self, alloc: Global) -> Result<Vec<u8>, AllocError> {
+        Ok(Vec::new(alloc))
+    }
+
+    fn params<'a>(
+        &'a self,
+        alloc: Global,
+        _day: &'a [u8],
+    ) -> Result<Vec<ValueRef<'a>>, AllocError> {
+        [ValueRef::Text(self.key.as_str().as_bytes())].to_vec(alloc)
+    }
+
+    ghost is_asking = { receipt_keyed_is };
+}
+
+/// The receipts of this lease.
+#[derive(Drop)]
+pub struct ReceiptsOfLease {
+    pub lease: LeaseNo,
+}
+
+impl Look for ReceiptsOfLease {
+    ghost use Rattle.std.specs.Prelude.{◌∷◌, [], nat_eq, pos};
+    ghost use Rattle.sqlite_value.specs.declared.value.Value.TheVariants.{Int};
+    ghost use Rattle.dh_tables.specs.ReceiptTable.{receipts_of_lease, receipts_of_lease_is};
+
+    type Record = Receipt;
+
+    ghost asks = { λ q r. nat_eq r.payment.lease q.lease };
+
+    ghost asking = { receipts_of_lease };
+
+    ghost given = { λ q. Int (pos q.lease) ∷ [] };
+
+    fn text() -> &'static str {
+        "SELECT receipt_no, req_key, lease_no, kind, amount, day FROM receipt WHERE lease_no = ?1"
+    }
+
+    fn day_bytes(&self, alloc: Global) -> Result<Vec<u8>, AllocError> {
+        Ok(Vec::new(alloc))
+    }
+
+    fn params<'a>(
+        &'a self,
+        alloc: Global,
+        _day: &'a [u8],
+    ) -> Result<Vec<ValueRef<'a>>, AllocError> {
+        [ValueRef::Int(i64::from(self.lease.number()))].to_vec(alloc)
+    }
+
+    ghost is_asking = { receipts_of_lease_is };
+}
+
+/// The deposits that were paid for this lease.
+#[derive(Drop)]
+pub struct DepositsOfLease {
+    pub lease: LeaseNo,
+}
+
+impl Look for DepositsOfLease {
+    ghost use Rattle.std.specs.Prelude.{◌∷◌, [], nat_eq, pos, ◌&&◌};
+    ghost use Rattle.sqlite_value.specs.declared.value.Value.TheVariants.{Int};
+    ghost use Rattle.dh_values.specs.declared.receipt_kind.ReceiptKind.TheVariants.{Deposit};
+    ghost use Rattle.dh_types.specs.Records.{is_same_receipt_kind};
+    ghost use Rattle.dh_tables.specs.ReceiptTable.{deposits_of_lease, deposits_of_lease_is};
+
+    type Record = Receipt;
+
+    ghost asks = { λ q r. nat_eq r.payment.lease q.lease && is_same_receipt_kind r.payment.kind Deposit };
+
+    ghost asking = { deposits_of_lease };
+
+    ghost given = { λ q. Int (pos q.lease) ∷ [] };
+
+    fn text() -> &'static str {
+        "SELECT receipt_no, req_key, lease_no, kind, amount, day FROM receipt WHERE lease_no = ?1 AND kind = 'deposit'"
+    }
+
+    fn day_bytes(&self, alloc: Global) -> Result<Vec<u8>, AllocError> {
+        Ok(Vec::new(alloc))
+    }
+
+    fn params<'a>(
+        &'a self,
+        alloc: Global,
+        _day: &'a [u8],
+    ) -> Result<Vec<ValueRef<'a>>, AllocError> {
+        [ValueRef::Int(i64::from(self.lease.number()))].to_vec(alloc)
+    }
+
+    ghost is_asking = { deposits_of_lease_is };
+}

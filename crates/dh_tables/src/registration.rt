@@ -1,0 +1,82 @@
+//! Registrations in their table.
+
+use crate::{Look, Tabled};
+use dh_books::Books;
+use dh_types::{Id, Registration};
+use sqlite::types::ValueRef;
+use std::alloc::{AllocError, Global};
+
+impl Tabled for Registration {
+    ghost use Rattle.std.specs.Prelude.{refl};
+    ghost use Rattle.dh_model.specs.Books.{pair_cmp, text_cmp};
+    ghost use Rattle.dh_model.proofs.KeyOrders.{texts_total, texts_tie};
+    ghost use Rattle.dh_tables.specs.RegistrationTable.{registration_adding, registration_is_adding, registration_shape, registration_shelf};
+
+    ghost shape = { registration_shape };
+
+    ghost order = { pair_cmp text_cmp text_cmp };
+
+    ghost adding = { registration_adding };
+
+    ghost shelf = { registration_shelf };
+
+    fn insert_text() -> &'static str {
+        "INSERT INTO registration (client_no, branch_no, staff_no, day) VALUES (?1, ?2, ?3, ?4)"
+    }
+
+    fn put(self, books: &mut Books) -> Result<(), AllocError> {
+        books.put_registration(self)
+    }
+
+    ghost total = { texts_total };
+
+    ghost ties = { texts_tie };
+
+    ghost has_shape = { record { is_row_is = λ r. refl; row_in_is = λ r. refl; key_is = λ x. refl } };
+
+    ghost is_adding = { registration_is_adding };
+}
+
+/// The registration of this client at this branch.
+#[derive(Drop)]
+pub struct RegistrationAt {
+    pub client: Id,
+    pub branch: Id,
+}
+
+impl Look for RegistrationAt {
+    ghost use Rattle.std.specs.Prelude.{◌∷◌, [], ◌&&◌};
+    ghost use Rattle.sqlite_value.specs.declared.value.Value.TheVariants.{Text};
+    ghost use Rattle.dh_model.specs.Checks.{is_same_text};
+    ghost use Rattle.dh_tables.specs.RegistrationTable.{registration_at, registration_at_is};
+
+    type Record = Registration;
+
+    ghost asks = { λ q r. is_same_text r.client q.client && is_same_text r.branch q.branch };
+
+    ghost asking = { registration_at };
+
+    ghost given = { λ q. Text q.client ∷ Text q.branch ∷ [] };
+
+    fn text() -> &'static str {
+        "SELECT client_no, branch_no, staff_no, day FROM registration WHERE client_no = ?1 AND branch_no = ?2"
+    }
+
+    fn day_bytes(&self, alloc: Global) -> Result<Vec<u8>, AllocError> {
+        Ok(Vec::new(alloc))
+    }
+
+    fn params<'a>(
+        &'a self,
+        alloc: Global,
+        _day: &'a [u8],
+    ) -> Result<Vec<ValueRef<'a>>, AllocError> {
+        [
+            ValueRef::Text(self.client.as_str().as_bytes()),
+            ValueRef::Text(self.branch.as_str().as_bytes()),
+        ]
+        .to_vec(alloc)
+    }
+
+    ghost is_asking = { registration_at_is };
+}

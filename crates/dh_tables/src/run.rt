@@ -1,0 +1,115 @@
+//! Runs in their table.
+
+use crate::{Look, Tabled};
+use dh_books::Books;
+use dh_types::{EntryMonth, Key, Run};
+use sqlite::types::ValueRef;
+use std::alloc::{AllocError, Global};
+
+impl Tabled for Run {
+    ghost use Rattle.std.specs.Prelude.{refl};
+    ghost use Rattle.std.specs.Ordering.{nat_cmp};
+    ghost use Rattle.dh_model.proofs.KeyOrders.{nat_total, nat_ties};
+    ghost use Rattle.dh_tables.specs.RunTable.{run_adding, run_is_adding, run_shape, run_shelf};
+
+    ghost shape = { run_shape };
+
+    ghost order = { nat_cmp };
+
+    ghost adding = { run_adding };
+
+    ghost shelf = { run_shelf };
+
+    fn insert_text() -> &'static str {
+        "INSERT INTO run (month, req_key, due_count, due_total, closed) VALUES (?1, ?2, ?3, ?4, ?5)"
+    }
+
+    fn put(self, books: &mut Books) -> Result<(), AllocError> {
+        books.put_run(self)
+    }
+
+    ghost total = { nat_total };
+
+    ghost ties = { nat_ties };
+
+    ghost has_shape = { record { is_row_is = λ r. refl; row_in_is = λ r. refl; key_is = λ x. refl } };
+
+    ghost is_adding = { run_is_adding };
+}
+
+/// The run of this month.
+#[derive(Drop)]
+pub struct RunOf {
+    pub month: EntryMonth,
+}
+
+impl Look for RunOf {
+    ghost use Rattle.std.specs.Prelude.{◌∷◌, [], nat_eq, pos};
+    ghost use Rattle.sqlite_value.specs.declared.value.Value.TheVariants.{Int};
+    ghost use Rattle.dh_tables.specs.RunTable.{run_of, run_of_is};
+
+    type Record = Run;
+
+    ghost asks = { λ q r. nat_eq r.month q.month };
+
+    ghost asking = { run_of };
+
+    ghost given = { λ q. Int (pos q.month) ∷ [] };
+
+    fn text() -> &'static str {
+        "SELECT month, req_key, due_count, due_total, closed FROM run WHERE month = ?1"
+    }
+
+    fn day_bytes(&self, alloc: Global) -> Result<Vec<u8>, AllocError> {
+        Ok(Vec::new(alloc))
+    }
+
+    fn params<'a>(
+        &'a self,
+        alloc: Global,
+        _day: &'a [u8],
+    ) -> Result<Vec<ValueRef<'a>>, AllocError> {
+        [ValueRef::Int(i64::from(self.month.number()))].to_vec(alloc)
+    }
+
+    ghost is_asking = { run_of_is };
+}
+
+/// The run with this request key.
+#[derive(Drop)]
+pub struct RunKeyed {
+    pub key: Key,
+}
+
+impl Look for RunKeyed {
+    ghost use Rattle.std.specs.Prelude.{◌∷◌, []};
+    ghost use Rattle.sqlite_value.specs.declared.value.Value.TheVariants.{Text};
+    ghost use Rattle.dh_model.specs.Checks.{is_same_text};
+    ghost use Rattle.dh_tables.specs.RunTable.{run_keyed, run_keyed_is};
+
+    type Record = Run;
+
+    ghost asks = { λ q r. is_same_text r.key q.key };
+
+    ghost asking = { run_keyed };
+
+    ghost given = { λ q. Text q.key ∷ [] };
+
+    fn text() -> &'static str {
+        "SELECT month, req_key, due_count, due_total, closed FROM run WHERE req_key = ?1"
+    }
+
+    fn day_bytes(&self, alloc: Global) -> Result<Vec<u8>, AllocError> {
+        Ok(Vec::new(alloc))
+    }
+
+    fn params<'a>(
+        &'a self,
+        alloc: Global,
+        _day: &'a [u8],
+    ) -> Result<Vec<ValueRef<'a>>, AllocError> {
+        [ValueRef::Text(self.key.as_str().as_bytes())].to_vec(alloc)
+    }
+
+    ghost is_asking = { run_keyed_is };
+}

@@ -1,0 +1,77 @@
+//! Members of staff in their table.
+
+use crate::{Look, Tabled};
+use dh_books::Books;
+use dh_types::{Id, Staff};
+use sqlite::types::ValueRef;
+use std::alloc::{AllocError, Global};
+
+impl Tabled for Staff {
+    ghost use Rattle.std.specs.Prelude.{refl};
+    ghost use Rattle.dh_model.specs.Books.{text_cmp};
+    ghost use Rattle.dh_model.proofs.KeyOrders.{text_total, text_ties};
+    ghost use Rattle.dh_tables.specs.StaffTable.{staff_adding, staff_is_adding, staff_shape, staff_shelf};
+
+    ghost shape = { staff_shape };
+
+    ghost order = { text_cmp };
+
+    ghost adding = { staff_adding };
+
+    ghost shelf = { staff_shelf };
+
+    fn insert_text() -> &'static str {
+        "INSERT INTO staff (staff_no, name, position, branch_no) VALUES (?1, ?2, ?3, ?4)"
+    }
+
+    fn put(self, books: &mut Books) -> Result<(), AllocError> {
+        books.put_member(self)
+    }
+
+    ghost total = { text_total };
+
+    ghost ties = { text_ties };
+
+    ghost has_shape = { record { is_row_is = λ r. refl; row_in_is = λ r. refl; key_is = λ x. refl } };
+
+    ghost is_adding = { staff_is_adding };
+}
+
+/// The member of staff with this number.
+#[derive(Drop)]
+pub struct MemberNumbered {
+    pub number: Id,
+}
+
+impl Look for MemberNumbered {
+    ghost use Rattle.std.specs.Prelude.{◌∷◌, []};
+    ghost use Rattle.sqlite_value.specs.declared.value.Value.TheVariants.{Text};
+    ghost use Rattle.dh_model.specs.Checks.{is_same_text};
+    ghost use Rattle.dh_tables.specs.StaffTable.{member_numbered, member_numbered_is};
+
+    type Record = Staff;
+
+    ghost asks = { λ q s. is_same_text s.number q.number };
+
+    ghost asking = { member_numbered };
+
+    ghost given = { λ q. Text q.number ∷ [] };
+
+    fn text() -> &'static str {
+        "SELECT staff_no, name, position, branch_no FROM staff WHERE staff_no = ?1"
+    }
+
+    fn day_bytes(&self, alloc: Global) -> Result<Vec<u8>, AllocError> {
+        Ok(Vec::new(alloc))
+    }
+
+    fn params<'a>(
+        &'a self,
+        alloc: Global,
+        _day: &'a [u8],
+    ) -> Result<Vec<ValueRef<'a>>, AllocError> {
+        [ValueRef::Text(self.number.as_str().as_bytes())].to_vec(alloc)
+    }
+
+    ghost is_asking = { member_numbered_is };
+}

@@ -1,0 +1,82 @@
+//! Viewings in their table.
+
+use crate::{Look, Tabled};
+use dh_books::Books;
+use dh_types::{Id, Viewing};
+use sqlite::types::ValueRef;
+use std::alloc::{AllocError, Global};
+
+impl Tabled for Viewing {
+    ghost use Rattle.std.specs.Prelude.{refl};
+    ghost use Rattle.dh_model.specs.Books.{pair_cmp, text_cmp};
+    ghost use Rattle.dh_model.proofs.KeyOrders.{texts_total, texts_tie};
+    ghost use Rattle.dh_tables.specs.ViewingTable.{viewing_adding, viewing_is_adding, viewing_shape, viewing_shelf};
+
+    ghost shape = { viewing_shape };
+
+    ghost order = { pair_cmp text_cmp text_cmp };
+
+    ghost adding = { viewing_adding };
+
+    ghost shelf = { viewing_shelf };
+
+    fn insert_text() -> &'static str {
+        "INSERT INTO viewing (client_no, property_no, day, comment) VALUES (?1, ?2, ?3, ?4)"
+    }
+
+    fn put(self, books: &mut Books) -> Result<(), AllocError> {
+        books.put_viewing(self)
+    }
+
+    ghost total = { texts_total };
+
+    ghost ties = { texts_tie };
+
+    ghost has_shape = { record { is_row_is = λ r. refl; row_in_is = λ r. refl; key_is = λ x. refl } };
+
+    ghost is_adding = { viewing_is_adding };
+}
+
+/// The viewing of this property by this client.
+#[derive(Drop)]
+pub struct ViewingOf {
+    pub client: Id,
+    pub property: Id,
+}
+
+impl Look for ViewingOf {
+    ghost use Rattle.std.specs.Prelude.{◌∷◌, [], ◌&&◌};
+    ghost use Rattle.sqlite_value.specs.declared.value.Value.TheVariants.{Text};
+    ghost use Rattle.dh_model.specs.Checks.{is_same_text};
+    ghost use Rattle.dh_tables.specs.ViewingTable.{viewing_of, viewing_of_is};
+
+    type Record = Viewing;
+
+    ghost asks = { λ q v. is_same_text v.client q.client && is_same_text v.property q.property };
+
+    ghost asking = { viewing_of };
+
+    ghost given = { λ q. Text q.client ∷ Text q.property ∷ [] };
+
+    fn text() -> &'static str {
+        "SELECT client_no, property_no, day, comment FROM viewing WHERE client_no = ?1 AND property_no = ?2"
+    }
+
+    fn day_bytes(&self, alloc: Global) -> Result<Vec<u8>, AllocError> {
+        Ok(Vec::new(alloc))
+    }
+
+    fn params<'a>(
+        &'a self,
+        alloc: Global,
+        _day: &'a [u8],
+    ) -> Result<Vec<ValueRef<'a>>, AllocError> {
+        [
+            ValueRef::Text(self.client.as_str().as_bytes()),
+            ValueRef::Text(self.property.as_str().as_bytes()),
+        ]
+        .to_vec(alloc)
+    }
+
+    ghost is_asking = { viewing_of_is };
+}
