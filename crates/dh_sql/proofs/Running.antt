@@ -1,5 +1,6 @@
 -- A statement that answered Ok went through each of its parts.
-use Rattle.std.proofs.Common.{◌≡◌, ◌⊎◌, inl, inr, ◌||◌, ◌&&◌, not, List, [], ◌∷◌, Bool, true, false, cond, Ok, Err, Result, MatchBool, refl, IsPermutation, Less, Equal, Greater}
+use Rattle.std.proofs.Common.{◌≡◌, ◌⊎◌, inl, inr, ◌||◌, ◌&&◌, not, List, [], ◌∷◌, Bool, true, false, cond, Ok, Err, Result, MatchBool, refl, IsPermutation}
+use Rattle.std.proofs.Common.{Less, Equal, Greater}
 use Rattle.std.specs.declared.cmp.Ordering.{Ordering}
 use Rattle.std.specs.Ordering.{is_eq, match_ordering}
 use Rattle.std.proofs.lemmas.List.Sorted.{IsPermutation-refl, IsPermutation-cons, IsPermutation-middle, IsPermutation-trans}

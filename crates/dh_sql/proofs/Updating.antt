@@ -1,5 +1,6 @@
 -- What an UPDATE of the row of one key leaves: the map with another record under that key.
-use Rattle.std.proofs.Common.{◌≡◌, ◌∙◌, inl, inr, refl, sym, ap, subst, Bool, true, false, not, cond, List, [], ◌∷◌, ◌++◌, map, drop, Option, Some, IsPermutation, true≢false, is_eq}
+use Rattle.std.proofs.Common.{◌≡◌, ◌∙◌, inl, inr, refl, sym, ap, subst, Bool, true, false, not, cond, List, [], ◌∷◌, ◌++◌, map, drop, Option, Some}
+use Rattle.std.proofs.Common.{IsPermutation, true≢false, is_eq}
 use Rattle.std.specs.declared.cmp.Ordering.{Ordering}
 use Rattle.std.specs.Ordering.{eq_by_cmp}
 use Rattle.std.specs.List.{AllByRecursion, IsDistinct, filter}
