@@ -10,5 +10,5 @@ returns-clause-added g c clean =
     let was = c.requires (omega (arith, c.execute.ensures.survives.clean)) in
     let ran = c.in_ok-execute.ensures.runs clean was.inside in
     let it = adds_branch old new c.args.branch.now c.in_ok-execute.field-0 (c.in_ok-values.ensures.grammar tt) was.schema was.sound
-        (rw (c.deref.ensures.value, c.in_ok-values.ensures.columns) at ran.0) in
+    (rw (c.deref.ensures.value, c.in_ok-values.ensures.columns) at ran.0) in
     (record { is_open = ran.1.is_open; inside = ran.1.mode; schema = it.0; sound = it.1 }, it.2)
