@@ -1,2 +1,4 @@
 pub mod Quiet
 pub mod OneRecord
+pub mod MetaTexts
+pub mod MetaChanges

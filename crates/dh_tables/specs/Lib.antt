@@ -2,6 +2,7 @@ pub mod Cells
 pub mod Tables
 pub mod Questions
 pub mod Calls
+pub mod MetaTable
 pub mod BranchTable
 pub mod StaffTable
 pub mod OwnerTable

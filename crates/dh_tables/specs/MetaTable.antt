@@ -1,0 +1,30 @@
+-- The table meta, which has one row: the version and the months.
+use Rattle.std.specs.Prelude.{◌≡◌, true, List, [], ◌∷◌, map}
+use Rattle.sqlite_value.specs.Order.{Row, column}
+use Rattle.sqlite_trees.specs.Tree.{Trees}
+use Rattle.sqlite.specs.State.{State}
+use Rattle.dh_rows.specs.Months.{Months}
+use Rattle.dh_rows.specs.MetaRows.{meta_row, is_meta_row}
+use Rattle.dh_catalog.specs.Layout.{our_schema}
+use Rattle.dh_sql.specs.Changes.{OthersStay}
+
+-- the key is the rowid, and its own column holds NULL
+abbrev pub meta_columns : Row → Row
+meta_columns row = column row 0 ∷ column row 2 ∷ column row 3 ∷ column row 4 ∷ []
+
+abbrev pub meta_rows : Trees → List Row
+meta_rows trees = map meta_columns (trees 0)
+
+-- the one row is that of these months
+pub record AreMonths (months : Months) (rows : List Row) : Type 0 where
+  pub rows_are : rows ≡ meta_row months ∷ []
+  pub grammar : is_meta_row (meta_row months) ≡ true
+
+abbrev pub HasMonths : Months → Trees → Type 0
+HasMonths months trees = AreMonths months (meta_rows trees)
+
+-- the table has these months now, and all else is as it was
+pub record SetsMonths (months : Months) (old new : State) : Type 0 where
+  pub schema_is : new.now.schema ≡ our_schema
+  pub months_are : HasMonths months new.now.trees
+  pub others : OthersStay our_schema 0 old.now.trees new.now.trees
