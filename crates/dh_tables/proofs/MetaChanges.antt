@@ -1,21 +1,29 @@
 -- What a statement on meta leaves.
-use Rattle.std.proofs.Common.{◌≡◌, ◌∙◌, ap, refl, true, ℕ, pos, [], map, Ok}
+use Rattle.std.proofs.Common.{◌≡◌, ◌∙◌, ap, subst, IfOk, IsPermutation, Err, Result, Option, Some, None, List, ◌∷◌, refl, true, ℕ, pos, [], map, Ok}
+use Rattle.std.specs.Prelude.{Vec}
+use Rattle.std.specs.List.{filter}
+use Rattle.std.specs.declared.alloc.Global.{Global}
+use Rattle.std.proofs.lemmas.List.Sorted.{IsPermutation-sym}
+use Rattle.sqlite.specs.declared.error.Error.{Error}
+use Rattle.sqlite.proofs.Callers.{one_permutation}
 use Rattle.sqlite_value.specs.Order.{Row}
 use Rattle.sqlite_rules.specs.Cast.{cast_row}
 use Rattle.sqlite_rules.specs.Edit.{with_rowid}
 use Rattle.sqlite_rules.specs.declared.error.Rowids.TheVariants.{Chosen}
 use Rattle.sqlite_trees.specs.Tree.{put_row}
-use Rattle.sqlite.specs.State.{Executes, State}
+use Rattle.sqlite.specs.State.{Executes, Shown, State}
 use Rattle.dh_rows.specs.Months.{Months}
 use Rattle.dh_rows.specs.MetaRows.{meta_row, is_meta_row}
 use Rattle.dh_catalog.specs.Layout.{our_schema}
 use Rattle.dh_catalog.specs.MetaTable.{meta}
 use Rattle.dh_sql.proofs.Casting.{cast_int, cast_null}
+use Rattle.dh_sql.specs.Queries.{passes_all}
+use Rattle.dh_sql.proofs.Selecting.{shows_rows}
 use Rattle.dh_sql.proofs.Inserting.{inserts}
 use Rattle.dh_sql.proofs.Staying.{others_stay}
 use Rattle.dh_tables.specs.Tables.{own_rowid}
-use Rattle.dh_tables.specs.MetaTable.{SetsMonths, meta_columns}
-use Rattle.dh_tables.proofs.MetaTexts.{meta_inserts, meta_inserts_is, meta_terms}
+use Rattle.dh_tables.specs.MetaTable.{AreFound, AreMonths, SetsMonths, meta_columns, meta_rows}
+use Rattle.dh_tables.proofs.MetaTexts.{meta_inserts, meta_inserts_is, meta_names, meta_project, meta_shown, meta_shown_is, meta_terms}
 use Rattle.dh_tables.proofs.Quiet.{quiet}
 
 -- as it is stored: the id is the rowid, and its own column holds NULL
@@ -36,3 +44,32 @@ adds_meta old new m count has empty good h =
       months_are = record { rows_are = ap (map meta_columns) rows; grammar = good };
       others = others_stay our_schema 0 old.now.trees new.now.trees it.1.others;
     }
+
+-- ---- the rows that are shown
+
+no_tests : (rows : List Row) → filter (passes_all [] []) rows ≡ rows
+no_tests [] = refl
+no_tests (r ∷ rows) = ap (λ rs. r ∷ rs) (no_tests rows)
+
+pub all_shown : (r : Result (Vec Row Global) Error) (old new : State) → old.now.schema ≡ our_schema
+    → IfOk r (λ rows. Shown meta_shown [] old new rows.items) → IfOk r (λ rows. IsPermutation (meta_rows old.now.trees) rows.items)
+all_shown (Err e) old new has h = tt
+all_shown (Ok rows) old new has h =
+    let some = shows_rows meta_shown our_schema 0 [] meta_project [] meta_names [] meta_shown_is old new rows.items has h in
+    subst (λ all. IsPermutation (map meta_columns all) rows.items) (no_tests (old.now.trees 0)) some
+
+-- rows in another order have the same months
+moved_months : (m : Months) (rows shown : List Row) → IsPermutation rows shown → AreMonths m rows → AreMonths m shown
+moved_months m rows shown moved has = record {
+  rows_are = one_permutation (meta_row m) shown (subst (λ all. IsPermutation all shown) has.rows_are moved);
+  grammar = has.grammar;
+}
+
+moved_found : (found : Option Months) (rows shown : List Row) → IsPermutation rows shown → AreFound shown found → AreFound rows found
+moved_found None rows shown moved h = λ m has. h m (moved_months m rows shown moved has)
+moved_found (Some m) rows shown moved h = moved_months m shown rows (IsPermutation-sym rows shown moved) h
+
+pub found_before : {E : Type 0} (r : Result (Option Months) E) (rows shown : List Row) → IsPermutation rows shown → IfOk r (AreFound shown)
+    → IfOk r (AreFound rows)
+found_before (Err e) rows shown moved h = tt
+found_before (Ok found) rows shown moved h = moved_found found rows shown moved h

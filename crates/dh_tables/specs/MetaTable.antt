@@ -1,5 +1,5 @@
 -- The table meta, which has one row: the version and the months.
-use Rattle.std.specs.Prelude.{◌≡◌, true, List, [], ◌∷◌, map}
+use Rattle.std.specs.Prelude.{Option, Some, None, ◌≡◌, true, List, [], ◌∷◌, map}
 use Rattle.sqlite_value.specs.Order.{Row, column}
 use Rattle.sqlite_trees.specs.Tree.{Trees}
 use Rattle.sqlite.specs.State.{State}
@@ -22,6 +22,11 @@ pub record AreMonths (months : Months) (rows : List Row) : Type 0 where
 
 abbrev pub HasMonths : Months → Trees → Type 0
 HasMonths months trees = AreMonths months (meta_rows trees)
+
+-- the months of the rows where they are such a row, and None where they are none
+abbrev pub AreFound : List Row → Option Months → Type 0
+AreFound rows None = (m : Months) → AreMonths m rows → ⊥
+AreFound rows (Some m) = AreMonths m rows
 
 -- the table has these months now, and all else is as it was
 pub record SetsMonths (months : Months) (old new : State) : Type 0 where

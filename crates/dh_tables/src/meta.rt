@@ -1,13 +1,13 @@
 //! The one row of meta in its table.
 
-ghost use Rattle.std.specs.Prelude.{◌≡◌, [], OnOk, OnErr};
-ghost use Rattle.sqlite.specs.State.{HasCleanDisk, Shows};
+ghost use Rattle.std.specs.Prelude.{◌≡◌, [], IfOk, OnOk, OnErr, IsPermutation};
+ghost use Rattle.sqlite.specs.State.{HasCleanDisk, IsUnchanged, Shows};
 ghost use Rattle.sqlite.specs.Held.{state};
-ghost use Rattle.dh_tables.specs.Calls.{CommitsNothing, GoesOn, IsUndone, IsWriting};
-ghost use Rattle.dh_tables.specs.MetaTable.{SetsMonths};
+ghost use Rattle.dh_tables.specs.Calls.{CommitsNothing, GoesOn, IsReading, IsUndone, IsWriting};
+ghost use Rattle.dh_tables.specs.MetaTable.{AreFound, SetsMonths, meta_rows};
 
 use dh_rows::{Meta, Record};
-use sqlite::{Alter, Error, Transaction};
+use sqlite::{Alter, Connection, Error, Row, Transaction};
 use std::alloc::Global;
 
 /// Writes the row into the table, which has none. An error leaves all as it was, or has ended the transaction.
@@ -34,4 +34,37 @@ pub fn insert_meta<S: Alter>(
         &values,
     )?;
     Ok(())
+}
+
+// The months of the row, where there is one such row alone.
+fn only_months(alloc: Global, rows: &[Row]) -> Result<Option<Meta>, Error>
+    ensures { IfOk result (AreFound rows.now) }
+{
+    match rows {
+        [row] => Ok(Meta::from_row(alloc, row)?),
+        _ => Ok(None),
+    }
+}
+
+// The rows of the table, in some order. It changes nothing.
+fn shown_rows<S: Alter>(conn: &mut Connection<S>) -> Result<Vec<Row>, Error>
+    requires reading { HasCleanDisk (state S.Store conn.old) → IsReading (state S.Store conn.old) }
+    ensures rows { HasCleanDisk (state S.Store conn.new) → IfOk result (λ rows. IsPermutation (meta_rows (state S.Store conn.old).now.trees) rows.items) }
+    ensures same { HasCleanDisk (state S.Store conn.new) → OnOk result (IsUnchanged (state S.Store conn.old) (state S.Store conn.new)) }
+    ensures undone { HasCleanDisk (state S.Store conn.new) → OnErr result (IsUndone (state S.Store conn.old) (state S.Store conn.new)) }
+    ensures crash { CommitsNothing (state S.Store conn.old) (state S.Store conn.new) }
+{
+    conn.query_all("SELECT id, version, first_month, next_month FROM meta", &[])
+}
+
+/// The months of the file; None where the table does not have one row, of this version. It changes no table.
+pub fn find_meta<S: Alter>(alloc: Global, conn: &mut Connection<S>) -> Result<Option<Meta>, Error>
+    requires reading { HasCleanDisk (state S.Store conn.old) → IsReading (state S.Store conn.old) }
+    ensures found { HasCleanDisk (state S.Store conn.new) → IfOk result (AreFound (meta_rows (state S.Store conn.old).now.trees)) }
+    ensures same { HasCleanDisk (state S.Store conn.new) → OnOk result (IsUnchanged (state S.Store conn.old) (state S.Store conn.new)) }
+    ensures undone { HasCleanDisk (state S.Store conn.new) → OnErr result (IsUndone (state S.Store conn.old) (state S.Store conn.new)) }
+    ensures crash { CommitsNothing (state S.Store conn.old) (state S.Store conn.new) }
+{
+    let rows = shown_rows(conn)?;
+    only_months(alloc, &rows)
 }
