@@ -2,3 +2,4 @@ pub mod Quiet
 pub mod OneRecord
 pub mod MetaTexts
 pub mod MetaChanges
+pub mod MetaNext

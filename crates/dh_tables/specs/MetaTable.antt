@@ -1,5 +1,5 @@
 -- The table meta, which has one row: the version and the months.
-use Rattle.std.specs.Prelude.{Option, Some, None, ◌≡◌, true, List, [], ◌∷◌, map}
+use Rattle.std.specs.Prelude.{ℕ, Option, Some, None, ◌≡◌, true, List, [], ◌∷◌, map}
 use Rattle.sqlite_value.specs.Order.{Row, column}
 use Rattle.sqlite_trees.specs.Tree.{Trees}
 use Rattle.sqlite.specs.State.{State}
@@ -33,3 +33,7 @@ pub record SetsMonths (months : Months) (old new : State) : Type 0 where
   pub schema_is : new.now.schema ≡ our_schema
   pub months_are : HasMonths months new.now.trees
   pub others : OthersStay our_schema 0 old.now.trees new.now.trees
+
+-- the month to be run next is this one, in a table that has its row
+abbrev pub SetsNext : ℕ → State → State → Type 0
+SetsNext next old new = (m : Months) → HasMonths m old.now.trees → SetsMonths (record m { next = next }) old new

@@ -35,7 +35,7 @@ pub use gathering::gather;
 pub use inspection::{InspectionOf, InspectionsOf};
 pub use lease::{LeaseNumbered, LeasesOfClient, LeasesOfClientFrom, LeasesOfProperty};
 pub use look::{Look, rows_asked};
-pub use meta::{find_meta, insert_meta};
+pub use meta::{find_meta, insert_meta, set_next_month};
 pub use owner::OwnerNumbered;
 pub use part::{PartOf, PartsOfMonth};
 pub use property::{PropertiesManaged, PropertyNumbered};

@@ -1,12 +1,18 @@
 //! The one row of meta in its table.
 
-ghost use Rattle.std.specs.Prelude.{◌≡◌, [], IfOk, OnOk, OnErr, IsPermutation};
+ghost use Rattle.std.specs.Prelude.{◌≡◌, ◌≤◌, pos, [], IfOk, OnOk, OnErr, IsPermutation};
+ghost use Rattle.sqlite_value.specs.Value.{owned};
+ghost use Rattle.sqlite_value.specs.declared.value.Value.TheVariants.{Int};
+ghost use Rattle.sqlite.specs.Values.{bound_value};
+ghost use Rattle.dh_days.specs.declared.limits.TheConstants.{FIRST_MONTH, LAST_NEXT_MONTH};
 ghost use Rattle.sqlite.specs.State.{HasCleanDisk, IsUnchanged, Shows};
 ghost use Rattle.sqlite.specs.Held.{state};
 ghost use Rattle.dh_tables.specs.Calls.{CommitsNothing, GoesOn, IsReading, IsUndone, IsWriting};
-ghost use Rattle.dh_tables.specs.MetaTable.{AreFound, SetsMonths, meta_rows};
+ghost use Rattle.dh_tables.specs.MetaTable.{AreFound, SetsMonths, SetsNext, meta_rows};
 
 use dh_rows::{Meta, Record};
+use dh_types::Month;
+use sqlite::types::ValueRef;
 use sqlite::{Alter, Connection, Error, Row, Transaction};
 use std::alloc::Global;
 
@@ -67,4 +73,33 @@ pub fn find_meta<S: Alter>(alloc: Global, conn: &mut Connection<S>) -> Result<Op
 {
     let rows = shown_rows(conn)?;
     only_months(alloc, &rows)
+}
+
+// The number of the month.
+fn number(month: Month) -> ValueRef<'static>
+    ensures value { bound_value (owned result) ≡ Int (pos month) }
+    ensures range { FIRST_MONTH ≤ month }
+{
+    ValueRef::Int(i64::from(month.number()))
+}
+
+/// Sets the month whose rent is to be run next, in a table that has its row. An error leaves all as it was, or has ended
+/// the transaction.
+pub fn set_next_month<S: Alter>(tx: &mut Transaction<'_, S>, next: Month) -> Result<(), Error>
+    requires writing { HasCleanDisk (state S.Store tx.old.conn.now) → IsWriting (state S.Store tx.old.conn.now) }
+    requires range { next ≤ LAST_NEXT_MONTH }
+    ensures same_reference { tx.new.conn.ghost_name ≡ tx.old.conn.ghost_name }
+    ensures set { HasCleanDisk (state S.Store tx.new.conn.now)
+        → OnOk result (SetsNext next (state S.Store tx.old.conn.now) (state S.Store tx.new.conn.now)) }
+    ensures shown { HasCleanDisk (state S.Store tx.new.conn.now)
+        → OnOk result (GoesOn (state S.Store tx.old.conn.now) (state S.Store tx.new.conn.now)) }
+    ensures undone { HasCleanDisk (state S.Store tx.new.conn.now)
+        → OnErr result (IsUndone (state S.Store tx.old.conn.now) (state S.Store tx.new.conn.now)) }
+    ensures crash { CommitsNothing (state S.Store tx.old.conn.now) (state S.Store tx.new.conn.now) }
+{
+    tx.execute(
+        "UPDATE meta SET next_month = ?1 WHERE id = 1",
+        &[number(next)],
+    )?;
+    Ok(())
 }
