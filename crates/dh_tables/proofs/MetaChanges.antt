@@ -1,5 +1,5 @@
--- What a statement on meta leaves.
-use Rattle.std.proofs.Common.{◌≡◌, ◌∙◌, ap, subst, IfOk, IsPermutation, Err, Result, Option, Some, None, List, ◌∷◌, refl, true, ℕ, pos, [], map, Ok}
+-- What an INSERT into meta leaves, and what a SELECT of its rows shows.
+use Rattle.std.proofs.Common.{◌≡◌, ◌∙◌, ap, subst, refl, true, ℕ, pos, List, [], ◌∷◌, map, IsPermutation, Option, Some, None, Result, Ok, Err, IfOk}
 use Rattle.std.specs.Prelude.{Vec}
 use Rattle.std.specs.List.{filter}
 use Rattle.std.specs.declared.alloc.Global.{Global}
@@ -16,10 +16,10 @@ use Rattle.dh_rows.specs.Months.{Months}
 use Rattle.dh_rows.specs.MetaRows.{meta_row, is_meta_row}
 use Rattle.dh_catalog.specs.Layout.{our_schema}
 use Rattle.dh_catalog.specs.MetaTable.{meta}
-use Rattle.dh_sql.proofs.Casting.{cast_int, cast_null}
 use Rattle.dh_sql.specs.Queries.{passes_all}
-use Rattle.dh_sql.proofs.Selecting.{shows_rows}
+use Rattle.dh_sql.proofs.Casting.{cast_int, cast_null}
 use Rattle.dh_sql.proofs.Inserting.{inserts}
+use Rattle.dh_sql.proofs.Selecting.{shows_rows}
 use Rattle.dh_sql.proofs.Staying.{others_stay}
 use Rattle.dh_tables.specs.Tables.{own_rowid}
 use Rattle.dh_tables.specs.MetaTable.{AreFound, AreMonths, SetsMonths, meta_columns, meta_rows}

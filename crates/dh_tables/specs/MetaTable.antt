@@ -1,5 +1,5 @@
 -- The table meta, which has one row: the version and the months.
-use Rattle.std.specs.Prelude.{ℕ, Option, Some, None, ◌≡◌, true, List, [], ◌∷◌, map}
+use Rattle.std.specs.Prelude.{◌≡◌, ℕ, true, List, [], ◌∷◌, map, Option, Some, None}
 use Rattle.sqlite_value.specs.Order.{Row, column}
 use Rattle.sqlite_trees.specs.Tree.{Trees}
 use Rattle.sqlite.specs.State.{State}

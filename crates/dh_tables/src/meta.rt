@@ -4,9 +4,9 @@ ghost use Rattle.std.specs.Prelude.{◌≡◌, ◌≤◌, pos, [], IfOk, OnOk, O
 ghost use Rattle.sqlite_value.specs.Value.{owned};
 ghost use Rattle.sqlite_value.specs.declared.value.Value.TheVariants.{Int};
 ghost use Rattle.sqlite.specs.Values.{bound_value};
-ghost use Rattle.dh_days.specs.declared.limits.TheConstants.{FIRST_MONTH, LAST_NEXT_MONTH};
 ghost use Rattle.sqlite.specs.State.{HasCleanDisk, IsUnchanged, Shows};
 ghost use Rattle.sqlite.specs.Held.{state};
+ghost use Rattle.dh_days.specs.declared.limits.TheConstants.{FIRST_MONTH, LAST_NEXT_MONTH};
 ghost use Rattle.dh_tables.specs.Calls.{CommitsNothing, GoesOn, IsReading, IsUndone, IsWriting};
 ghost use Rattle.dh_tables.specs.MetaTable.{AreFound, SetsMonths, SetsNext, meta_rows};
 
