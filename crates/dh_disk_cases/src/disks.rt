@@ -11,8 +11,6 @@ use std::io;
 
 type TrialDisk = Untrusted<Fuse<Memory>>;
 
-type Trial = Connection<FileStore<TrialDisk>>;
-
 // What an agency was told before it stopped.
 #[derive(Clone, Copy)]
 enum Told {
@@ -24,132 +22,93 @@ enum Told {
     Wrong,
 }
 
-// The replies that an agency gave so far.
-#[derive(Clone, Copy)]
-struct Replies {
-    acknowledged: u64,
-    is_stopped: bool,
-    is_wrong: bool,
-}
-
-impl Replies {
-    fn none() -> Replies {
-        Replies {
-            acknowledged: 0,
-            is_stopped: false,
-            is_wrong: false,
-        }
-    }
-
-    // Up to a fault each reply is `ok`, and after it fault 23.
-    fn note(&mut self, reply: &str) {
-        if self.is_stopped {
-            self.is_wrong |= reply != "fault 23";
-        } else if reply == "ok" {
-            self.acknowledged = self.acknowledged.saturating_add(1);
-        } else {
-            self.is_stopped = true;
-            self.is_wrong |= reply != "fault 22";
-        }
-    }
-
-    // In the end the branches are shown, unless the agency has stopped.
-    fn end(self, shown: &str) -> Told {
-        if self.is_wrong || (shown == "fault 23") != self.is_stopped {
-            return Told::Wrong;
-        }
-        Told::Acknowledged(self.acknowledged)
-    }
-}
-
 // How many of the lines are acknowledged, where each of them is, up to a fault.
 fn acknowledged<S: Alter>(
     alloc: Global,
     agency: &mut Agency<S>,
     lines: &str,
 ) -> Result<Told, AllocError> {
-    let mut replies = Replies::none();
+    let mut count = 0u64;
+    let mut is_stopped = false;
     for line in lines.lines() {
-        replies.note(told(alloc, agency, line)?.as_str());
-    }
-    Ok(replies.end(told(alloc, agency, "show")?.as_str()))
-}
-
-// A disk in memory that stops after so many calls.
-fn stopping(alloc: Global, calls: u64) -> TrialDisk {
-    Untrusted {
-        inner: Fuse::new(Memory::new(alloc), calls),
-        missed: 0,
-    }
-}
-
-// New disks of which one stops after so many calls.
-fn disks(alloc: Global, log_calls: u64, file_calls: u64) -> Files<TrialDisk> {
-    Files {
-        log: stopping(alloc, log_calls),
-        db: stopping(alloc, file_calls),
-    }
-}
-
-// Stores that are closed and opened anew, and whose tables are read in whatever state they are. What is generic over them is
-// cheap to prove.
-trait Doubted: Alter + Sized {
-    type Left;
-
-    fn closed(conn: Connection<Self>) -> Self::Left;
-
-    fn version_text(alloc: Global, conn: &mut Connection<Self>) -> Result<String, AllocError>;
-
-    fn load_text(alloc: Global, conn: &mut Connection<Self>) -> Result<String, AllocError>;
-}
-
-impl Doubted for FileStore<TrialDisk> {
-    type Left = Files<TrialDisk>;
-
-    fn closed(conn: Trial) -> Files<TrialDisk> {
-        conn.into_store().close()
-    }
-
-    fn version_text(alloc: Global, conn: &mut Trial) -> Result<String, AllocError> {
-        match version(conn) {
-            Ok(number) => format!(in alloc; "version {number}"),
-            Err(LoadFault::Damaged) => "damaged".to_string(alloc),
-            Err(LoadFault::Fault(fault)) => format!(in alloc; "{fault}"),
+        let reply = told(alloc, agency, line)?;
+        match reply.as_str() {
+            "ok" if !is_stopped => count = count.saturating_add(1),
+            "fault 22" if !is_stopped => is_stopped = true,
+            "fault 23" if is_stopped => {}
+            _ => return Ok(Told::Wrong),
         }
     }
-
-    fn load_text(alloc: Global, conn: &mut Trial) -> Result<String, AllocError> {
-        match load(alloc, conn) {
-            Ok(books) => format!(in alloc; "{} branches", books.branches().count()),
-            Err(LoadFault::Damaged) => "damaged".to_string(alloc),
-            Err(LoadFault::Fault(fault)) => format!(in alloc; "{fault}"),
-        }
+    let shown = told(alloc, agency, "show")?;
+    if (shown.as_str() == "fault 23") == is_stopped {
+        return Ok(Told::Acknowledged(count));
     }
+    Ok(Told::Wrong)
 }
 
-// Tells the lines to a new agency over the connection, which is closed in the end.
-fn told_over<S: Doubted>(alloc: Global, conn: Connection<S>, lines: &str) -> (Told, S::Left) {
+fn told_on_disks(
+    alloc: Global,
+    conn: Connection<FileStore<TrialDisk>>,
+    lines: &str,
+) -> (Told, Files<TrialDisk>) {
     match create(alloc, conn, january()) {
         Ok(mut agency) => {
             let told = acknowledged(alloc, &mut agency, lines).unwrap_or(Told::Wrong);
-            (told, S::closed(agency.into_store()))
+            (told, agency.into_store().into_store().close())
         }
-        Err(NotOpened { conn, cause: _ }) => (Told::NotMade, S::closed(conn)),
+        Err(NotOpened { conn, cause: _ }) => (Told::NotMade, conn.into_store().close()),
     }
 }
 
-// Tells the lines to a new agency on these disks, which are given back.
-fn told_on(alloc: Global, files: Files<TrialDisk>, lines: &str) -> (Told, Files<TrialDisk>) {
+// Tells the lines to a new agency on disks of which one stops after so many calls.
+fn stopped(
+    alloc: Global,
+    log_calls: u64,
+    file_calls: u64,
+    lines: &str,
+) -> (Told, Files<TrialDisk>) {
+    let files = Files {
+        log: Untrusted {
+            inner: Fuse::new(Memory::new(alloc), log_calls),
+            missed: 0,
+        },
+        db: Untrusted {
+            inner: Fuse::new(Memory::new(alloc), file_calls),
+            missed: 0,
+        },
+    };
     match Connection::open_files(alloc, files, Options::new(7)) {
-        Ok(conn) => told_over(alloc, conn, lines),
+        Ok(conn) => told_on_disks(alloc, conn, lines),
         Err((_, left)) => (Told::NotMade, left.into_files()),
     }
 }
 
-// The statements run on the tables, and how these then are read; with no statement, the rows of the branches.
-fn read_after<S: Doubted>(
+fn load_text(
     alloc: Global,
-    conn: &mut Connection<S>,
+    conn: &mut Connection<FileStore<TrialDisk>>,
+) -> Result<String, AllocError> {
+    match load(alloc, conn) {
+        Ok(books) => format!(in alloc; "{} branches", books.branches().count()),
+        Err(LoadFault::Damaged) => "damaged".to_string(alloc),
+        Err(LoadFault::Fault(fault)) => format!(in alloc; "{fault}"),
+    }
+}
+
+fn version_text(
+    alloc: Global,
+    conn: &mut Connection<FileStore<TrialDisk>>,
+) -> Result<String, AllocError> {
+    match version(conn) {
+        Ok(number) => format!(in alloc; "version {number}"),
+        Err(LoadFault::Damaged) => "damaged".to_string(alloc),
+        Err(LoadFault::Fault(fault)) => format!(in alloc; "{fault}"),
+    }
+}
+
+// The statements run on the tables, and how these then are read; with no statement, the rows of the branches.
+fn read_after(
+    alloc: Global,
+    conn: &mut Connection<FileStore<TrialDisk>>,
     statements: &str,
 ) -> Result<String, AllocError> {
     if statements.is_empty() {
@@ -158,18 +117,9 @@ fn read_after<S: Doubted>(
     if conn.execute_batch(statements).is_err() {
         return "not done".to_string(alloc);
     }
-    let number = S::version_text(alloc, conn)?;
-    let books = S::load_text(alloc, conn)?;
+    let number = version_text(alloc, conn)?;
+    let books = load_text(alloc, conn)?;
     format!(in alloc; "{number}, {books}")
-}
-
-// The same, and the connection is given up.
-fn read_over<S: Doubted + Drop>(
-    alloc: Global,
-    mut conn: Connection<S>,
-    statements: &str,
-) -> Result<String, AllocError> {
-    read_after(alloc, &mut conn, statements)
 }
 
 // What is in the file after a power cut, opened anew, and after these statements.
@@ -181,7 +131,7 @@ fn found(
     left.log.crash();
     left.db.crash();
     match Connection::open_files(alloc, left, Options::new(7)) {
-        Ok(conn) => read_over(alloc, conn, statements),
+        Ok(mut conn) => read_after(alloc, &mut conn, statements),
         Err((_, left)) => {
             drop(left.into_files());
             "not opened".to_string(alloc)
@@ -203,17 +153,6 @@ fn is_kept(told: Told, found: &str, all: &str) -> bool {
     }
 }
 
-// How the lines end on disks of which one stops, and what is found there after a power cut and these statements.
-fn told_and_found(
-    alloc: Global,
-    files: Files<TrialDisk>,
-    lines: &str,
-    statements: &str,
-) -> Result<(Told, String), AllocError> {
-    let (told, left) = told_on(alloc, files, lines);
-    Ok((told, found(alloc, left, statements)?))
-}
-
 fn play_stop(
     rt: &HostRuntime,
     report: &mut Report,
@@ -221,8 +160,8 @@ fn play_stop(
     lines: &str,
     all: &str,
 ) -> io::Result<()> {
-    let files = disks(rt.alloc(), log_calls, file_calls);
-    let (told, found) = told_and_found(rt.alloc(), files, lines, "")?;
+    let (told, left) = stopped(rt.alloc(), log_calls, file_calls, lines);
+    let found = found(rt.alloc(), left, "")?;
     let case = format!(in rt.alloc();
         "stops after {log_calls} calls of the log, {file_calls} of the file"
     )?;
@@ -245,14 +184,13 @@ pub fn play(rt: &HostRuntime, report: &mut Report, lines: &str) -> io::Result<()
         play_stop(rt, report, (calls, u64::MAX), lines, all)?;
         play_stop(rt, report, (u64::MAX, calls), lines, all)?;
     }
-    let files = disks(rt.alloc(), CALLS, CALLS);
-    let (_, found) = told_and_found(rt.alloc(), files, lines, "")?;
+    let (_, left) = stopped(rt.alloc(), CALLS, CALLS, lines);
+    let found = found(rt.alloc(), left, "")?;
     report.compare(rt, "disks that do not stop", found.as_str(), all)
 }
 
 /// How tables of one branch are read after these statements.
 pub fn damaged(alloc: Global, statements: &str) -> io::Result<String> {
-    let files = disks(alloc, u64::MAX, u64::MAX);
-    let (_, found) = told_and_found(alloc, files, "branch,B1,a,b,c", statements)?;
-    Ok(found)
+    let (_, left) = stopped(alloc, u64::MAX, u64::MAX, "branch,B1,a,b,c");
+    Ok(found(alloc, left, statements)?)
 }

@@ -1,6 +1,6 @@
 use Rattle.sqlite_pool.specs.Pool.{state}
 use Rattle.sqlite_trees.proofs.Doubt.{never_clean}
-use Rattle.dh_disk_cases.proofs.disks.FileStoreTrialDiskDoubted.version_text.Goals as goal
+use Rattle.dh_disk_cases.proofs.disks.version_text.Goals as goal
 
 -- an untrusted disk is never clean
 pub version-requires : goal.version-requires
