@@ -1,10 +1,10 @@
 //! Agencies in memory.
 
-use crate::report::Report;
+use crate::comparing::compare;
 use crate::rows::branches_in;
-use crate::words::january;
 use dh_agency::{Agency, NotOpened, create};
-use dh_examples::{ToLine, command};
+use dh_examples::{ToLine, command, january};
+use dh_tally::Tally;
 use dh_types::{Answer, Branch, Command, Question};
 use sqlite::{Alter, Connection, MemStore};
 use std::alloc::{AllocError, Global};
@@ -72,28 +72,28 @@ pub fn told<S: Alter>(
 
 fn tell<S: Alter>(
     rt: &HostRuntime,
-    report: &mut Report,
+    tally: &mut Tally,
     agency: &mut Agency<S>,
     lines: &str,
 ) -> io::Result<()> {
     for line in lines.lines() {
         let (line, want) = line.split_once(" -> ").unwrap_or((line, ""));
         let got = told(rt.alloc(), agency, line)?;
-        report.compare(rt, line, got.as_str(), want)?;
+        compare(rt, tally, line, got.as_str(), want)?;
     }
     Ok(())
 }
 
 /// The lines told to an agency in memory, and in the end the rows of its tables.
-pub fn play_in_memory(rt: &HostRuntime, report: &mut Report, lines: &str) -> io::Result<()> {
+pub fn play_in_memory(rt: &HostRuntime, tally: &mut Tally, lines: &str) -> io::Result<()> {
     let (lines, want) = lines.split_once("\nrows -> ").unwrap_or((lines, ""));
     let Some(mut agency) = in_memory(rt.alloc())? else {
-        return report.compare(rt, "an agency in memory", "none", "one");
+        return compare(rt, tally, "an agency in memory", "none", "one");
     };
-    let ended = tell(rt, report, &mut agency, lines);
+    let ended = tell(rt, tally, &mut agency, lines);
     let mut conn = agency.into_store();
     let rows = branches_in(rt.alloc(), &mut conn);
     drop(conn);
     ended?;
-    report.compare(rt, "rows", rows?.as_str(), want)
+    compare(rt, tally, "rows", rows?.as_str(), want)
 }

@@ -1,13 +1,13 @@
-//! Agencies that are told the lines of scripts, their rows as text, and the report of what differs: what the programs of cases over
+//! Agencies that are told the lines of scripts, their rows as text, and what differs of their answers: what the programs of cases over
 //! stores share. Read `told` first.
 #![tactic(auto)]
 
 mod agencies;
-mod report;
+mod comparing;
 mod rows;
 mod words;
 
 pub use agencies::{in_memory, play_in_memory, told};
-pub use report::Report;
+pub use comparing::compare;
 pub use rows::{branches_in, found};
-pub use words::{branch, january};
+pub use words::branch;

@@ -3,19 +3,13 @@
 ghost use Rattle.std.specs.Prelude.{◌≡◌};
 
 use dh_books::Books;
-use dh_examples::{Row, Unreadable};
+use dh_examples::{Row, Unreadable, january};
 use dh_leases::{whole, with_posted, with_run};
 use dh_player::{Reach, cut_done, cut_undone, mended, said, torn};
 use dh_rules::step;
-use dh_types::{Command, EntryMonth, Key, Month};
+use dh_types::{Command, EntryMonth, Key};
 use std::alloc::{AllocError, Global};
 use std::mem;
-
-fn january() -> Month
-    ensures { result ≡ 24300 }
-{
-    Month::of_number(24300)
-}
 
 /// Books that begin with 2025-01.
 pub(crate) fn empty(alloc: Global) -> Books {

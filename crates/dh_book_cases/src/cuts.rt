@@ -3,7 +3,7 @@
 use crate::calls::{cut_after, cut_before, empty, mend, say, tear, tell};
 use crate::lines::is_command;
 use crate::playing::parted;
-use crate::tally::Tally;
+use dh_tally::Tally;
 use dh_books::Books;
 use dh_examples::{Block, Unreadable, command};
 use dh_player::Reach;

@@ -3,7 +3,7 @@
 use crate::calls::{empty, put_back};
 use crate::lines::{Teller, answered, is_command};
 use crate::playing::{compare, parted, told};
-use crate::tally::Tally;
+use dh_tally::Tally;
 use dh_books::Books;
 use dh_examples::{Block, Unreadable, command};
 use dh_player::{Happening, Reach, play};

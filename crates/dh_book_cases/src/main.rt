@@ -15,13 +15,12 @@ mod lists;
 mod playing;
 mod rules;
 mod runs;
-mod tally;
 mod terms;
 
 use dh_examples::script;
 use playing::play;
 use std::io;
-use tally::Tally;
+use dh_tally::Tally;
 
 fn main(rt: HostRuntime) -> io::Result<()> {
     let text = io::read_to_string(rt.alloc(), rt.reader())?;

@@ -4,7 +4,7 @@ use crate::calls::empty;
 use crate::cuts::play_with_cuts;
 use crate::happenings::play_list;
 use crate::lines::{Teller, answered};
-use crate::tally::Tally;
+use dh_tally::Tally;
 use dh_books::Books;
 use dh_examples::{Block, Manner, Unreadable};
 use std::alloc::{AllocError, Global};
@@ -35,8 +35,7 @@ pub(crate) fn compare(
     got: &str,
 ) -> io::Result<()> {
     let (words, want) = parted(line);
-    tally.add(got == want);
-    if got == want {
+    if tally.compare(got, want) {
         return Ok(());
     }
     println!(rt; "{}: {words}: wanted {want}, got {got}", block.name)

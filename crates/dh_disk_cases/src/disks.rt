@@ -2,8 +2,10 @@
 
 use crate::untrusted::Untrusted;
 use dh_agency::{Agency, NotOpened, create};
-use dh_agency_scripts::{Report, branches_in, january, told};
+use dh_agency_scripts::{branches_in, compare, told};
+use dh_examples::january;
 use dh_schema::{LoadFault, load, version};
+use dh_tally::Tally;
 use sqlite::{Alter, Connection, FileStore, Files, Options};
 use sqlite_disk::{Crash, Fuse, Memory};
 use std::alloc::{AllocError, Global};
@@ -155,7 +157,7 @@ fn is_kept(told: Told, found: &str, all: &str) -> bool {
 
 fn play_stop(
     rt: &HostRuntime,
-    report: &mut Report,
+    tally: &mut Tally,
     (log_calls, file_calls): (u64, u64),
     lines: &str,
     all: &str,
@@ -170,7 +172,7 @@ fn play_stop(
     } else {
         found.as_str()
     };
-    report.compare(rt, case.as_str(), got, "kept")
+    compare(rt, tally, case.as_str(), got, "kept")
 }
 
 // More calls than the lines take of either disk.
@@ -178,15 +180,15 @@ const CALLS: u64 = 60;
 
 /// The lines told to an agency on disks of which one stops at each of its calls in turn, and to one whose disks do not stop:
 /// what a power cut then leaves.
-pub fn play(rt: &HostRuntime, report: &mut Report, lines: &str) -> io::Result<()> {
+pub fn play(rt: &HostRuntime, tally: &mut Tally, lines: &str) -> io::Result<()> {
     let (lines, all) = lines.split_once("\nrows -> ").unwrap_or((lines, ""));
     for calls in 0..CALLS {
-        play_stop(rt, report, (calls, u64::MAX), lines, all)?;
-        play_stop(rt, report, (u64::MAX, calls), lines, all)?;
+        play_stop(rt, tally, (calls, u64::MAX), lines, all)?;
+        play_stop(rt, tally, (u64::MAX, calls), lines, all)?;
     }
     let (_, left) = stopped(rt.alloc(), CALLS, CALLS, lines);
     let found = found(rt.alloc(), left, "")?;
-    report.compare(rt, "disks that do not stop", found.as_str(), all)
+    compare(rt, tally, "disks that do not stop", found.as_str(), all)
 }
 
 /// How tables of one branch are read after these statements.

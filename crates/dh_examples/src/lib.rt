@@ -7,6 +7,7 @@
 //! under headings. Read `Block` first.
 #![tactic(auto)]
 
+mod beginning;
 mod commands;
 mod fields;
 mod people;
@@ -17,6 +18,7 @@ mod rows;
 mod scripts;
 mod terms;
 
+pub use beginning::january;
 pub use commands::command;
 pub use fields::{Fields, Unreadable};
 pub use questions::question;

@@ -4,9 +4,10 @@ ghost use Rattle.std.specs.Prelude.{◌≤◌, length};
 
 use crate::escapes::{bytes_of, text_of};
 use dh_agency::Agency;
-use dh_agency_scripts::{Report, in_memory};
+use dh_agency_scripts::{compare, in_memory};
 use dh_lines::ends::{FailingReader, FailingWriter};
 use dh_lines::{BatchFault, Summary, batch};
+use dh_tally::Tally;
 use sqlite::Alter;
 use std::alloc::{AllocError, Global};
 use std::io;
@@ -88,7 +89,7 @@ fn records_answered(written: usize) -> u64 {
     }
 }
 
-fn play_reads(rt: &HostRuntime, report: &mut Report, reads: u64) -> io::Result<()> {
+fn play_reads(rt: &HostRuntime, tally: &mut Tally, reads: u64) -> io::Result<()> {
     let alloc = rt.alloc();
     let mut reader = FailingReader {
         inner: THREE.as_bytes(),
@@ -108,14 +109,14 @@ fn play_reads(rt: &HostRuntime, report: &mut Report, reads: u64) -> io::Result<(
         text_of(alloc, answers.as_bytes())?.as_str()
     )?;
     let case = format!(in alloc; "after {reads} reads")?;
-    report.compare(rt, case.as_str(), got.as_str(), want.as_str())
+    compare(rt, tally, case.as_str(), got.as_str(), want.as_str())
 }
 
 /// A reader that gives a byte a read and fails at each read in turn, and at none: the answers are whole lines, and the tables
 /// are those of the records that were answered.
-pub fn play_reader(rt: &HostRuntime, report: &mut Report) -> io::Result<()> {
+pub fn play_reader(rt: &HostRuntime, tally: &mut Tally) -> io::Result<()> {
     for reads in 0..=THREE.len() as u64 + 1 {
-        play_reads(rt, report, reads)?;
+        play_reads(rt, tally, reads)?;
     }
     Ok(())
 }
@@ -151,7 +152,7 @@ impl Read for Lines<'_> {
     }
 }
 
-fn play_writes(rt: &HostRuntime, report: &mut Report, writes: usize) -> io::Result<()> {
+fn play_writes(rt: &HostRuntime, tally: &mut Tally, writes: usize) -> io::Result<()> {
     let alloc = rt.alloc();
     let mut reader = Lines {
         rest: THREE.as_bytes(),
@@ -175,14 +176,14 @@ fn play_writes(rt: &HostRuntime, report: &mut Report, writes: usize) -> io::Resu
         text_of(alloc, answers.as_bytes())?.as_str()
     )?;
     let case = format!(in alloc; "after {writes} writes")?;
-    report.compare(rt, case.as_str(), got.as_str(), want.as_str())
+    compare(rt, tally, case.as_str(), got.as_str(), want.as_str())
 }
 
 /// A writer that takes a byte a write and fails at each write in turn: it has got what it took, the command whose answer
 /// failed was carried out, and no later record was read.
-pub fn play_writer(rt: &HostRuntime, report: &mut Report) -> io::Result<()> {
+pub fn play_writer(rt: &HostRuntime, tally: &mut Tally) -> io::Result<()> {
     for writes in 0..ANSWERS.len() {
-        play_writes(rt, report, writes)?;
+        play_writes(rt, tally, writes)?;
     }
     Ok(())
 }

@@ -1,14 +1,14 @@
-//! Plays the cases of standard input over the crates of the store, from rows up to batches of lines, and prints each that is
+//! Plays the cases of standard input over the crates of the store, from tables up to batches of lines, and prints each that is
 //! answered otherwise, and then `N cases, M differ`. A block of cases has its kind in the first line: `play` has the kinds.
 #![tactic(auto)]
 
 mod batches;
 mod escapes;
 mod requests;
-mod rows;
 mod tables;
 
-use dh_agency_scripts::{Report, play_in_memory};
+use dh_agency_scripts::{compare, play_in_memory};
+use dh_tally::Tally;
 use sqlite::{Alter, Connection};
 use std::alloc::{AllocError, Global};
 use std::io;
@@ -20,10 +20,6 @@ fn answer_over<S: Alter>(
     input: &str,
 ) -> Result<String, AllocError> {
     match kind {
-        "a row as a branch" => rows::branch_in(alloc, conn, input),
-        "a branch as a row" => rows::branch_back(alloc, conn, input),
-        "a row as months" => rows::months_in(alloc, conn, input),
-        "months as a row" => rows::months_back(alloc, conn),
         "tables made" => tables::made(alloc, conn, input),
         "two branches put" => tables::both_put(alloc, conn, input),
         _ => "no kind".to_string(alloc),
@@ -49,30 +45,30 @@ fn answer(alloc: Global, kind: &str, input: &str) -> io::Result<String> {
     }
 }
 
-fn play_lines(rt: &HostRuntime, report: &mut Report, kind: &str, lines: &str) -> io::Result<()> {
+fn play_lines(rt: &HostRuntime, tally: &mut Tally, kind: &str, lines: &str) -> io::Result<()> {
     for line in lines.lines() {
         let (input, want) = line.split_once(" -> ").unwrap_or((line, ""));
         let got = answer(rt.alloc(), kind, input)?;
-        report.compare(rt, input, got.as_str(), want)?;
+        compare(rt, tally, input, got.as_str(), want)?;
     }
     Ok(())
 }
 
-fn play(rt: &HostRuntime, report: &mut Report, kind: &str, lines: &str) -> io::Result<()> {
+fn play(rt: &HostRuntime, tally: &mut Tally, kind: &str, lines: &str) -> io::Result<()> {
     match kind {
-        "an agency in memory" => play_in_memory(rt, report, lines),
-        "a reader that fails" => batches::play_reader(rt, report),
-        "a writer that fails" => batches::play_writer(rt, report),
-        _ => play_lines(rt, report, kind, lines),
+        "an agency in memory" => play_in_memory(rt, tally, lines),
+        "a reader that fails" => batches::play_reader(rt, tally),
+        "a writer that fails" => batches::play_writer(rt, tally),
+        _ => play_lines(rt, tally, kind, lines),
     }
 }
 
 fn main(rt: HostRuntime) -> io::Result<()> {
     let text = io::read_to_string(rt.alloc(), rt.reader())?;
-    let mut report = Report::new();
+    let mut tally = Tally::new();
     for block in text.as_str().split("\n\n") {
         let (kind, lines) = block.split_once('\n').unwrap_or((block, ""));
-        play(&rt, &mut report, kind, lines)?;
+        play(&rt, &mut tally, kind, lines)?;
     }
-    report.end(&rt)
+    println!(rt; "{tally}")
 }

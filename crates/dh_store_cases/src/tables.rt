@@ -5,7 +5,8 @@ ghost use Rattle.sqlite.specs.State.{HasCleanDisk};
 ghost use Rattle.sqlite.specs.Held.{state};
 ghost use Rattle.dh_schema.specs.Store.{IsReady};
 
-use dh_agency_scripts::{branch, branches_in, found, january};
+use dh_agency_scripts::{branch, branches_in, found};
+use dh_examples::january;
 use dh_model::Change;
 use dh_schema::{install, version};
 use dh_store::apply;

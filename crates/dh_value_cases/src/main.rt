@@ -12,6 +12,7 @@ mod replies;
 mod values;
 mod writers;
 
+use dh_tally::Tally;
 use std::alloc::{AllocError, Global};
 use std::io;
 use std::io::BufRead;
@@ -55,29 +56,27 @@ fn spelled(alloc: Global, text: &str) -> Result<String, AllocError> {
     Ok(all)
 }
 
-// Writes what the case is answered. Whether it is what the line wants.
-fn is_as_wanted(out: &mut String, alloc: Global, line: &str) -> Said {
+// Writes what the case is answered, and counts it. Whether it is what the line wants.
+fn is_as_wanted(tally: &mut Tally, out: &mut String, alloc: Global, line: &str) -> Said {
     let (case, want) = line.split_once(" ↦ ").unwrap_or((line, ""));
     let (kind, text) = case.split_once(' ').unwrap_or((case, ""));
     let text = spelled(alloc, text)?;
     let want = spelled(alloc, want)?;
     answer(out, alloc, kind, text.as_str())?;
-    Ok(out.as_str() == want.as_str())
+    Ok(tally.compare(out.as_str(), want.as_str()))
 }
 
 fn main(rt: HostRuntime) -> io::Result<()> {
-    let (mut cases, mut differ) = (0u64, 0u64);
+    let mut tally = Tally::new();
     for line in io::BufReader::new(rt.alloc(), rt.reader())?.lines(rt.alloc()) {
         let line = line?;
         if line.is_empty() || line.as_str().starts_with('#') {
             continue;
         }
-        cases = cases.saturating_add(1);
         let mut said = String::new(rt.alloc());
-        if !is_as_wanted(&mut said, rt.alloc(), line.as_str())? {
-            differ = differ.saturating_add(1);
+        if !is_as_wanted(&mut tally, &mut said, rt.alloc(), line.as_str())? {
             println!(rt; "{line}, but got {said}")?;
         }
     }
-    println!(rt; "{cases} cases, {differ} differ")
+    println!(rt; "{tally}")
 }
