@@ -1,17 +1,15 @@
-//! Agencies on disks in memory: what stands there after a stop at any call, and how damaged tables are read.
+//! Agencies on disks in memory: what stands there after a stop at any call.
 
-use crate::untrusted::Untrusted;
 use dh_agency::{Agency, NotOpened, create};
 use dh_agency_scripts::{branches_in, compare, told};
 use dh_examples::january;
-use dh_schema::{LoadFault, load, version};
 use dh_tally::Tally;
 use sqlite::{Alter, Connection, FileStore, Files, Options};
 use sqlite_disk::{Crash, Fuse, Memory};
 use std::alloc::{AllocError, Global};
 use std::io;
 
-type TrialDisk = Untrusted<Fuse<Memory>>;
+type TrialDisk = Fuse<Memory>;
 
 // What an agency was told before it stopped.
 #[derive(Clone, Copy)]
@@ -48,17 +46,14 @@ fn acknowledged<S: Alter>(
     Ok(Told::Wrong)
 }
 
-fn told_on_disks(
-    alloc: Global,
-    conn: Connection<FileStore<TrialDisk>>,
-    lines: &str,
-) -> (Told, Files<TrialDisk>) {
+// Tells the lines to a new agency over the store.
+fn told_over<S: Alter>(alloc: Global, conn: Connection<S>, lines: &str) -> (Told, Connection<S>) {
     match create(alloc, conn, january()) {
         Ok(mut agency) => {
             let told = acknowledged(alloc, &mut agency, lines).unwrap_or(Told::Wrong);
-            (told, agency.into_store().into_store().close())
+            (told, agency.into_store())
         }
-        Err(NotOpened { conn, cause: _ }) => (Told::NotMade, conn.into_store().close()),
+        Err(NotOpened { conn, cause: _ }) => (Told::NotMade, conn),
     }
 }
 
@@ -70,70 +65,24 @@ fn stopped(
     lines: &str,
 ) -> (Told, Files<TrialDisk>) {
     let files = Files {
-        log: Untrusted {
-            inner: Fuse::new(Memory::new(alloc), log_calls),
-            missed: 0,
-        },
-        db: Untrusted {
-            inner: Fuse::new(Memory::new(alloc), file_calls),
-            missed: 0,
-        },
+        log: Fuse::new(Memory::new(alloc), log_calls),
+        db: Fuse::new(Memory::new(alloc), file_calls),
     };
     match Connection::open_files(alloc, files, Options::new(7)) {
-        Ok(conn) => told_on_disks(alloc, conn, lines),
+        Ok(conn) => {
+            let (told, conn) = told_over(alloc, conn, lines);
+            (told, conn.into_store().close())
+        }
         Err((_, left)) => (Told::NotMade, left.into_files()),
     }
 }
 
-fn load_text(
-    alloc: Global,
-    conn: &mut Connection<FileStore<TrialDisk>>,
-) -> Result<String, AllocError> {
-    match load(alloc, conn) {
-        Ok(books) => format!(in alloc; "{} branches", books.branches().count()),
-        Err(LoadFault::Damaged) => "damaged".to_string(alloc),
-        Err(LoadFault::Fault(fault)) => format!(in alloc; "{fault}"),
-    }
-}
-
-fn version_text(
-    alloc: Global,
-    conn: &mut Connection<FileStore<TrialDisk>>,
-) -> Result<String, AllocError> {
-    match version(conn) {
-        Ok(number) => format!(in alloc; "version {number}"),
-        Err(LoadFault::Damaged) => "damaged".to_string(alloc),
-        Err(LoadFault::Fault(fault)) => format!(in alloc; "{fault}"),
-    }
-}
-
-// The statements run on the tables, and how these then are read; with no statement, the rows of the branches.
-fn read_after(
-    alloc: Global,
-    conn: &mut Connection<FileStore<TrialDisk>>,
-    statements: &str,
-) -> Result<String, AllocError> {
-    if statements.is_empty() {
-        return branches_in(alloc, conn);
-    }
-    if conn.execute_batch(statements).is_err() {
-        return "not done".to_string(alloc);
-    }
-    let number = version_text(alloc, conn)?;
-    let books = load_text(alloc, conn)?;
-    format!(in alloc; "{number}, {books}")
-}
-
-// What is in the file after a power cut, opened anew, and after these statements.
-fn found(
-    alloc: Global,
-    mut left: Files<TrialDisk>,
-    statements: &str,
-) -> Result<String, AllocError> {
+// What is in the file after a power cut, opened anew.
+fn found(alloc: Global, mut left: Files<TrialDisk>) -> Result<String, AllocError> {
     left.log.crash();
     left.db.crash();
     match Connection::open_files(alloc, left, Options::new(7)) {
-        Ok(mut conn) => read_after(alloc, &mut conn, statements),
+        Ok(mut conn) => branches_in(alloc, &mut conn),
         Err((_, left)) => {
             drop(left.into_files());
             "not opened".to_string(alloc)
@@ -163,7 +112,7 @@ fn play_stop(
     all: &str,
 ) -> io::Result<()> {
     let (told, left) = stopped(rt.alloc(), log_calls, file_calls, lines);
-    let found = found(rt.alloc(), left, "")?;
+    let found = found(rt.alloc(), left)?;
     let case = format!(in rt.alloc();
         "stops after {log_calls} calls of the log, {file_calls} of the file"
     )?;
@@ -187,12 +136,6 @@ pub fn play(rt: &HostRuntime, tally: &mut Tally, lines: &str) -> io::Result<()> 
         play_stop(rt, tally, (u64::MAX, calls), lines, all)?;
     }
     let (_, left) = stopped(rt.alloc(), CALLS, CALLS, lines);
-    let found = found(rt.alloc(), left, "")?;
+    let found = found(rt.alloc(), left)?;
     compare(rt, tally, "disks that do not stop", found.as_str(), all)
-}
-
-/// How tables of one branch are read after these statements.
-pub fn damaged(alloc: Global, statements: &str) -> io::Result<String> {
-    let (_, left) = stopped(alloc, u64::MAX, u64::MAX, "branch,B1,a,b,c");
-    Ok(found(alloc, left, statements)?)
 }

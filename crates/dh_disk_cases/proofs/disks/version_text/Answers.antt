@@ -1,8 +1,0 @@
-use Rattle.sqlite_pool.specs.Pool.{state}
-use Rattle.sqlite_trees.proofs.Doubt.{never_clean}
-use Rattle.dh_disk_cases.proofs.disks.version_text.Goals as goal
-
--- an untrusted disk is never clean
-pub version-requires : goal.version-requires
-unfolding state
-version-requires c clean = absurd (never_clean clean)
