@@ -90,8 +90,8 @@ impl<'a> Fields<'a> {
         Ok(Month::read(self.text()?)?)
     }
 
-    pub fn any_day(&mut self) -> Result<Day, Unreadable> {
-        Ok(Day::read(self.text()?)?)
+    pub fn due_day(&mut self) -> Result<Day, Unreadable> {
+        Ok(Day::read_due(self.text()?)?)
     }
 
     pub fn pence(&mut self) -> Result<Pence, Unreadable> {

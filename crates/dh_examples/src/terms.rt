@@ -29,7 +29,7 @@ pub(crate) fn charge(fields: &mut Fields) -> Result<Charge, Unreadable> {
         lease: fields.lease_no()?,
         index: fields.charge_index()?,
         month: fields.month()?,
-        day: fields.any_day()?,
+        day: fields.due_day()?,
         amount: fields.rent()?,
     })
 }

@@ -11,7 +11,7 @@ use sqlite::{Alter, Connection, Row};
 use std::alloc::{AllocError, Global};
 
 // The fields of the record that the row is.
-fn read<R: Record + ToLine>(alloc: Global, row: &Row) -> Result<String, AllocError> {
+fn read<R: Record + ToLine + Drop>(alloc: Global, row: &Row) -> Result<String, AllocError> {
     match R::from_row(alloc, row)? {
         Some(record) => record.to_line(alloc),
         None => "none".to_string(alloc),
@@ -80,7 +80,7 @@ fn selecting(alloc: Global, count: usize) -> Result<String, AllocError> {
     Ok(sql)
 }
 
-fn back<R: Record + ToLine, S: Alter>(
+fn back<R: Record + ToLine + Drop, S: Alter>(
     alloc: Global,
     conn: &mut Connection<S>,
     record: &R,
