@@ -48,6 +48,7 @@ pub mod LiveBooks
 pub mod LiveCommands
 pub mod LiveParts
 pub mod LiveTables
+pub mod ShownBatches
 mod ShownRun
 mod AskAnswers
 mod AskRefusals

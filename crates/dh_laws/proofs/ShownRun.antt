@@ -1,24 +1,25 @@
--- Keyed books that meet the rules show exactly one open run, or none.
-use Rattle.std.proofs.Common.{◌≡◌, ◌∙◌, refl, sym, ap, subst, inl, inr, ℕ, ◌+◌, ◌<◌, ◌≤◌, false, List, Option, Some, None, is_some, arith}
-use Rattle.std.specs.List.{IsAmong}
+-- Keyed books that meet the rules show exactly one open run, or none: the one that is reckoned from their part rows.
+use Rattle.std.proofs.Common.{◌≡◌, ◌∙◌, refl, sym, ap, subst, inl, inr, ℕ, ◌+◌, ◌≤◌, false, Option, Some, None, is_some, arith}
 use Rattle.std.specs.FinMap.{get, values}
+use Rattle.std.specs.Option.{option_map}
 use Rattle.std.proofs.lemmas.Bool.{cases_lt}
 use Rattle.dh_types.specs.declared.run.Run.{Run}
 use Rattle.dh_model.specs.declared.open_run.OpenRun.{OpenRun}
 use Rattle.dh_model.specs.Books.{Books}
 use Rattle.dh_model.specs.Rules.{ArePosted, MeetsRules, MonthIsOpen, MonthsInOrder, RunsInOrder}
 use Rattle.dh_model.specs.Rules.Rule.{Months, Runs}
-use Rattle.dh_model.specs.Whole.{IsOpenAt, open_row}
+use Rattle.dh_model.specs.Whole.{IsOpenAt, batches_shown, open_row}
 use Rattle.dh_model.proofs.Among.{Among, among, is_among}
 use Rattle.dh_model.proofs.KeyOrders.{nat_ties, nat_total}
 use Rattle.dh_model.proofs.MapRows.{inside}
 use Rattle.dh_model.proofs.RunLemmas.{one_number_of_batches}
 use Rattle.dh_laws.specs.InOrder.{AreKeyed}
-use Rattle.dh_laws.specs.Shown.{OneRunIsShown, OpenRowIsFound, SoundBooksAreLawfulWhole}
+use Rattle.dh_laws.specs.Shown.{OneRunIsShown, OpenRowIsFound, RunShownIsReckoned, SoundBooksAreLawfulWhole, SoundBooksShow}
 use Rattle.dh_laws.proofs.MapMerges.{own_row}
 use Rattle.dh_laws.proofs.MonthOpen.{run_within}
 use Rattle.dh_laws.proofs.MonthShown.{all_closed, shown_row}
 use Rattle.dh_laws.proofs.MonthWhole.{whole_of}
+use Rattle.dh_laws.proofs.ShownBatches.{shown_are_done}
 
 module _ (size : ℕ) (books : Books) (pos : 1 ≤ size) (keyed : AreKeyed books) (rules : MeetsRules books size) where
   abbrev at : ℕ → ℕ → OpenRun
@@ -101,3 +102,22 @@ open_row_is_found size books row pos keyed rules a is_open =
 
 pub sound_books_are_lawful_whole : (size : ℕ) → SoundBooksAreLawfulWhole size
 sound_books_are_lawful_whole size books pos keyed rules = whole_of size books pos keyed rules (open_row books) refl
+
+-- the run as it is reckoned from the part rows of its row's month
+abbrev reckoned_at : ℕ → Books → Run → OpenRun
+reckoned_at size books row = record { month = row.month; done = batches_shown size books row.month }
+
+pub run_shown_is_reckoned : (size : ℕ) → RunShownIsReckoned size
+run_shown_is_reckoned size books None pos keyed none = ap (option_map (reckoned_at size books)) none
+run_shown_is_reckoned size books (Some at) pos keyed is =
+    let row : Run = is.0 in
+    let all = shown_are_done size books at.month at.done pos keyed is.3 in
+    let month_is : row.month ≡ at.month = is.2 in
+    let done_is : batches_shown size books row.month ≡ at.done = ap (batches_shown size books) month_is ∙ all in
+    let own : Some (reckoned_at size books row) ≡ Some at = λ i. Some (record { month = month_is i; done = done_is i }) in
+    ap (option_map (reckoned_at size books)) is.1 ∙ own
+
+pub sound_books_show : (size : ℕ) → SoundBooksShow size
+sound_books_show size books pos keyed rules =
+    let one = one_run_is_shown size books pos keyed rules in
+    subst (λ run. IsOpenAt size books run) (sym (run_shown_is_reckoned size books one.0 pos keyed one.1)) one.1

@@ -6,7 +6,7 @@ use Rattle.dh_types.specs.declared.run.Run.{Run}
 use Rattle.dh_model.specs.declared.open_run.OpenRun.{OpenRun}
 use Rattle.dh_model.specs.Books.{Books}
 use Rattle.dh_model.specs.Rules.{IsLawful, MeetsRules}
-use Rattle.dh_model.specs.Whole.{IsOpenAt, open_row, whole}
+use Rattle.dh_model.specs.Whole.{IsOpenAt, open_row, run_shown, whole}
 use Rattle.dh_laws.specs.InOrder.{AreKeyed}
 
 module _ (size : ℕ) where
@@ -21,6 +21,14 @@ module _ (size : ℕ) where
   OneRunIsShown = (books : Books) → 1 ≤ size → AreKeyed books → MeetsRules books size
       → (run : Option OpenRun) × IsOpenAt size books run × (is_some run ≡ is_some (open_row books))
       × ((other : Option OpenRun) → IsOpenAt size books other → other ≡ run)
+
+  -- a run that the books show as open is the one that is reckoned from their part rows
+  abbrev pub RunShownIsReckoned : Type 0
+  RunShownIsReckoned = (books : Books) (run : Option OpenRun) → 1 ≤ size → AreKeyed books → IsOpenAt size books run → run_shown size books ≡ run
+
+  -- and books that meet the rules show it
+  abbrev pub SoundBooksShow : Type 0
+  SoundBooksShow = (books : Books) → 1 ≤ size → AreKeyed books → MeetsRules books size → IsOpenAt size books (run_shown size books)
 
   -- whatever run they show, the whole of them is lawful
   abbrev pub SoundBooksAreLawfulWhole : Type 0

@@ -1,6 +1,6 @@
 -- Sums over keys in their order.
-use Rattle.std.proofs.Common.{◌≡◌, ◌∙◌, refl, ap, inl, inr, ℕ, ◌+◌, ◌-◌, ◌<◌, ◌≤◌, Bool, true, false, cond, List, [], ◌∷◌, Ordering, Less, Equal, Greater}
-use Rattle.std.proofs.Common.{is_lt, arith}
+use Rattle.std.proofs.Common.{◌≡◌, ◌∙◌, refl, sym, ap, inl, inr, ℕ, ◌+◌, ◌-◌, ◌<◌, ◌≤◌, min, Bool, true, false, cond, nat_lt, List, [], ◌∷◌, Ordering, Less}
+use Rattle.std.proofs.Common.{Equal, Greater, is_lt, le-ltb, lt-ltb, arith}
 use Rattle.std.specs.List.{filter, sum_by}
 use Rattle.std.specs.Ordering.{ordering_reverse}
 use Rattle.std.specs.Cmp.{IsTotalOrder}
@@ -43,6 +43,15 @@ module _ {K : Type 0} (f : K → ℕ) where
         let rest = sum_of_none xs (λ y h. none y (inr h)) in
         let out = sum_left_out x xs (none x (inl refl)) in
         omega (arith, rest, out)
+
+  -- before each key of the list are a and what the keys in front of it have
+  abbrev pub Follows : (K → ℕ) → ℕ → List K → Type 0
+  Follows before a [] = Unit {0}
+  Follows before a (k ∷ ks) = (before k ≡ a) × Follows before (a + f k) ks
+
+  follows_alike : (g h : K → ℕ) (a : ℕ) (ks : List K) → ((k : K) → Among ks k → g k ≡ h k) → Follows g a ks → Follows h a ks
+  follows_alike g h a [] same is = tt
+  follows_alike g h a (k ∷ ks) same is = (sym (same k (inl refl)) ∙ is.0, follows_alike g h (a + f k) ks (λ x i. same x (inr i)) is.1)
 
   module _ (R : K → K → Ordering) (o : IsTotalOrder R) where
     -- the sum over the lesser keys
@@ -96,3 +105,35 @@ module _ {K : Type 0} (f : K → ℕ) where
       | inl first ↦ held_by_first k ks j r first
       | inr later ↦ let all = sum_by-cons f k ks in held_later k ks j r later (holder ks (j - f k) r.1 (omega (arith, h, all, later)))
     ]
+
+    follows_from : (a : ℕ) (ks : List K) → Rises (IsBefore R) ks → Follows (λ k. a + sum_before ks k) a ks
+    follows_from a [] r = tt
+    follows_from a (k ∷ ks) r =
+        let out = sum_left_out (λ other. is_lt (R other k)) k ks (not_before_itself k) in
+        let none = sum_of_none (λ other. is_lt (R other k)) ks (λ y h. not_back k y (r.0 y h)) in (
+          omega (arith, out, none),
+          follows_alike (λ x. (a + f k) + sum_before ks x) (λ x. a + sum_before (k ∷ ks) x) (a + f k) ks
+              (λ x h. let kept = sum_kept (λ other. is_lt (R other x)) k ks (r.0 x h) in omega (arith, kept))
+              (follows_from (a + f k) ks r.1),
+        )
+
+    -- over keys that rise these are the sums over the lesser keys
+    pub sums_follow : (ks : List K) → Rises (IsBefore R) ks → Follows (sum_before ks) 0 ks
+    sums_follow ks r = follows_alike (λ k. 0 + sum_before ks k) (sum_before ks) 0 ks (λ k h. omega arith) (follows_from 0 ks r)
+
+-- where each key takes its own, or what those before it leave of n, all together take n
+module _ {K : Type 0} (f before taken : K → ℕ) (n : ℕ) (each : (k : K) → before k < n → taken k ≡ min (f k) (n - before k)) where
+  pub taken_in_all : (a : ℕ) (ks : List K) → Follows f before a ks → n ≤ a + sum_by f ks → sum_by taken (filter (λ k. nat_lt (before k) n) ks) ≡ n - a
+  taken_in_all a [] is h = omega (arith, h)
+  taken_in_all a (k ∷ ks) is h =
+      let all = sum_by-cons f k ks in
+      let rest = taken_in_all (a + f k) ks is.1 (omega (arith, h, all)) in
+      elim (cases_lt (before k) n) [
+        | inl begun ↦
+            let kept = sum_kept taken (λ k. nat_lt (before k) n) k ks (lt-ltb (before k) n begun) in
+            let own = each k begun in
+            omega (arith, rest, kept, own, is.0)
+        | inr later ↦
+            let out = sum_left_out taken (λ k. nat_lt (before k) n) k ks (le-ltb (before k) n later) in
+            omega (arith, rest, out, later, is.0)
+      ]

@@ -1,10 +1,11 @@
 -- Lists whose elements rise, and the numbers of their places.
-use Rattle.std.proofs.Common.{◌≡◌, ◌∙◌, refl, ap, inl, inr, ℕ, zero, suc, ◌+◌, ◌-◌, ◌<◌, ◌≤◌, Bool, true, false, cond, nat_lt, List, [], ◌∷◌, ◌++◌, length}
+use Rattle.std.proofs.Common.{◌≡◌, ◌∙◌, refl, sym, ap, subst, inl, inr, ℕ, zero, suc, ◌+◌, ◌-◌, ◌<◌, ◌≤◌, min, Bool, true, false, cond, nat_lt, List, []}
+use Rattle.std.proofs.Common.{◌∷◌, ◌++◌, map, length}
 use Rattle.std.proofs.Common.{Ordering, is_lt, le-ltb, lt-ltb, arith}
 use Rattle.std.specs.List.{count_by, filter}
 use Rattle.std.proofs.lemmas.Bool.{cases_Bool, cases_lt}
 use Rattle.std.proofs.lemmas.List.Sums.{sum_by-cons}
-use Rattle.dh_model.proofs.Among.{Among, in_append, in_filter}
+use Rattle.dh_model.proofs.Among.{Among, in_append, in_filter, in_map}
 
 -- in the order R
 abbrev pub IsBefore : {X : Type 0} → (X → X → Ordering) → X → X → Type 0
@@ -44,6 +45,15 @@ module _ {X : Type 0} (Before : X → X → Type 0) where
 pub rises_by : {X : Type 0} (P Q : X → X → Type 0) → ((x y : X) → P x y → Q x y) → (xs : List X) → Rises P xs → Rises Q xs
 rises_by P Q by [] r = tt
 rises_by P Q by (x ∷ xs) r = (λ y a. by x y (r.0 y a), rises_by P Q by xs r.1)
+
+-- and what a map that keeps the order makes of it rises
+pub map_rises : {X Y : Type 0} (P : X → X → Type 0) (Q : Y → Y → Type 0) (f : X → Y) → ((x y : X) → P x y → Q (f x) (f y)) → (xs : List X) → Rises P xs
+    → Rises Q (map f xs)
+map_rises P Q f by [] r = tt
+map_rises P Q f by (x ∷ xs) r = (
+  λ y a. let of = in_map f xs y a in subst (Q (f x)) (sym of.2) (by x of.0 (r.0 of.0 of.1)),
+  map_rises P Q f by xs r.1,
+)
 
 module _ {X : Type 0} (test : X → Bool) (x : X) (xs : List X) where
   count_yes : test x ≡ true → count_by test (x ∷ xs) ≡ 1 + count_by test xs
@@ -105,6 +115,17 @@ module _ {X : Type 0} (number : X → ℕ) where
   numbered_at a [] i is h = absurd (omega (arith, h))
   numbered_at a (x ∷ xs) zero is h = (x, inl refl, omega (arith, is.0))
   numbered_at a (x ∷ xs) (suc i) is h = let rest = numbered_at (a + 1) xs i is.1 (omega (arith, h)) in (rest.0, inr rest.1, omega (arith, rest.2))
+
+  module _ (test : X → Bool) (most : ℕ) (passes : (x : X) → number x < most → test x ≡ true) (fails : (x : X) → most ≤ number x → test x ≡ false) where
+    -- those of lesser number are all, or as many as there are numbers
+    pub count_below : (a : ℕ) (xs : List X) → Numbered number a xs → count_by test xs ≡ min (length xs) (most - a)
+    count_below a [] is = omega arith
+    count_below a (x ∷ xs) is =
+        let rest = count_below (a + 1) xs is.1 in
+        elim (cases_lt (number x) most) [
+          | inl below ↦ let counted = count_yes test x xs (passes x below) in omega (arith, counted, rest, below, is.0)
+          | inr above ↦ let counted = count_no test x xs (fails x above) in omega (arith, counted, rest, above, is.0)
+        ]
 
   module _ (test : X → Bool) (low size : ℕ) (ranges : (x : X) → test x ≡ true → (low ≤ number x) × (number x < low + size)) where
     left : (a : ℕ) (xs : List X) → Numbered number a xs → count_by test xs ≤ (low + size) - a

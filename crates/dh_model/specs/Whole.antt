@@ -1,13 +1,13 @@
 -- Books with an open run, and the books that it leads to.
-use Rattle.std.specs.Prelude.{◌≡◌, ℕ, Bool, not, nat_eq, Option, Some, None}
+use Rattle.std.specs.Prelude.{◌≡◌, ℕ, Bool, not, nat_eq, Option, Some, None, option_map}
 use Rattle.std.specs.declared.cmp.Ordering.{Ordering}
-use Rattle.std.specs.List.{filter, find}
+use Rattle.std.specs.List.{filter, find, sum_by}
 use Rattle.std.specs.FinMap.{FinMap, entries, from_entries, insert, values}
 use Rattle.dh_types.specs.declared.run.Run.{Run}
 use Rattle.dh_model.specs.declared.open_run.OpenRun.{OpenRun}
 use Rattle.dh_model.specs.Books.{Books, with_rows}
-use Rattle.dh_model.specs.Runs.{batches, charge_key, closed_run, part_key, posted_charges, posted_parts}
-use Rattle.dh_model.specs.Rules.{ArePosted, MeetsRules}
+use Rattle.dh_model.specs.Runs.{batches, batches_for, charge_key, closed_run, part_key, posted_charges, posted_parts}
+use Rattle.dh_model.specs.Rules.{ArePosted, MeetsRules, parts_in}
 
 -- the rows of which the test holds
 abbrev pub rows_where : {K X : Type 0} {R : K → K → Ordering} → (X → Bool) → FinMap R X → FinMap R X
@@ -22,6 +22,14 @@ module _ (size : ℕ) where
   abbrev pub IsOpenAt : Books → Option OpenRun → Type 0
   IsOpenAt books None = open_row books ≡ None
   IsOpenAt books (Some at) = (row : Run) × (open_row books ≡ Some row) × (row.month ≡ at.month) × ArePosted books size at.month at.done
+
+  -- the batches that a month's part rows stand for: each those that its charges take
+  abbrev pub batches_shown : Books → ℕ → ℕ
+  batches_shown books month = sum_by (λ part. batches_for size part.count) (parts_in books month)
+
+  -- the open run as the run row and the part rows show it
+  abbrev pub run_shown : Books → Option OpenRun
+  run_shown books = option_map (λ row. record { month = row.month; done = batches_shown books row.month }) (open_row books)
 
   -- the books with so many batches of the month in the place of what they have of it
   abbrev pub with_posted : Books → ℕ → ℕ → Books

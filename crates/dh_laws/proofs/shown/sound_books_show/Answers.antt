@@ -1,0 +1,5 @@
+use Rattle.dh_laws.proofs.ShownRun.{sound_books_show}
+use Rattle.dh_laws.proofs.shown.sound_books_show.Goals as goal
+
+pub returns : goal.returns
+returns c = sound_books_show
