@@ -3,6 +3,7 @@
 ghost use Rattle.std.specs.Prelude.{◌≡◌, ◌≤◌, ◌⊎◌, false, IsTrue, IfOk, IfErr};
 ghost use Rattle.sqlite.specs.State.{HasCleanDisk};
 ghost use Rattle.sqlite.specs.Held.{state};
+ghost use Rattle.dh_days.specs.declared.limits.TheConstants.{LAST_ENTRY_MONTH};
 ghost use Rattle.dh_types.specs.declared.reply.Fault.TheVariants as fault;
 ghost use Rattle.dh_model.specs.Books.{start};
 ghost use Rattle.dh_schema.specs.Faults.{IsFirstFault};
@@ -28,7 +29,7 @@ pub fn create<S: Alter>(
     conn: Connection<S>,
     first: Month,
 ) -> Result<Agency<S>, NotOpened<Fault, S>>
-    requires { first ≤ 26411 }
+    requires { first ≤ LAST_ENTRY_MONTH }
     ensures begun { IfOk result (λ a. (a.is_stopped ≡ false) × (IsClean S.Store a → machine S.Store a ≡ start first)) }
     ensures left { IfOk result (λ a. IsClean S.Store a → LeavesItsTables S.Store a) }
     ensures cause { IfErr result (λ e. IsFirstFault e.cause) }

@@ -31,9 +31,9 @@ ready_leaves s settled stays ready =
     record {
       only = λ left may. settled left ready.is_open may ∙ same;
       some = subst s.may_leave same (stays ready.is_open);
-      sound = ready.sound;
+      in_order = ready.in_order;
     }
 
 -- tables that are left alone are tables of which this holds
 pub leaves_these : (s : State) (P : machine.State → Type 0) → LeavesItsTables s → P (tables s) → Leaves s P
-leaves_these s P alone holds left may = subst (AreTables P) (sym (alone.only left may)) (alone.sound, holds)
+leaves_these s P alone holds left may = subst (AreTables P) (sym (alone.only left may)) (alone.in_order, holds)

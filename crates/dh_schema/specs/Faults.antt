@@ -1,5 +1,5 @@
 -- The faults that the store is the cause of.
-use Rattle.std.specs.Prelude.{⊤}
+use Rattle.std.specs.Prelude.{⊤, Result, Ok, Err}
 use Rattle.sqlite.specs.declared.error.Error.{Error}
 use Rattle.sqlite.specs.declared.error.Error.TheVariants.{SqliteFailure}
 use Rattle.sqlite.specs.declared.error.ErrorCode.TheVariants.{OutOfMemory}
@@ -23,3 +23,13 @@ IsFirstFault Stopped = ⊥
 abbrev pub IsLoadFault : LoadFault → Type 0
 IsLoadFault load.Damaged = ⊤
 IsLoadFault (load.Fault fault) = IsFirstFault fault
+
+-- memory ran out or the store failed, and nothing is known of damage
+abbrev pub IsOfStore : LoadFault → Type 0
+IsOfStore load.Damaged = ⊥
+IsOfStore (load.Fault fault) = IsFirstFault fault
+
+-- so tables are answered that are not ours, and not read
+abbrev pub IsTurnedAway : {X : Type 0} → Result X LoadFault → Type 0
+IsTurnedAway (Ok it) = ⊥
+IsTurnedAway (Err fault) = IsOfStore fault

@@ -1,6 +1,7 @@
 -- The machine on what has a table, which is the branches so far. What has none is answered as a line of an unknown word:
 -- a command is refused for its first field, a question for its second.
-use Rattle.std.specs.Prelude.{Bool, true, false, Option}
+use Rattle.std.specs.Prelude.{◌≡◌, Bool, true, false, Option, None}
+use Rattle.std.specs.FinMap.{get}
 use Rattle.dh_types.specs.declared.command.Command.{Command}
 use Rattle.dh_types.specs.declared.command.Command.TheVariants as command
 use Rattle.dh_types.specs.declared.question.Question.{Question}
@@ -32,6 +33,11 @@ known_verdict books run _ = verdict.Refused (BadLine 1)
 -- the state with the rows of the change
 abbrev pub with_change : Change → State → State
 with_change rows s = record s { books = changed rows s.books }
+
+-- the key of the row that the change adds is new
+abbrev pub IsNewRow : Change → State → Type 0
+IsNewRow (change.Branch it) s = get s.books.branches it.number ≡ None
+IsNewRow _ s = Unit {0}
 
 abbrev pub known_settled : State → Verdict → State × Reply
 known_settled s (verdict.Change rows) = (with_change rows s, accepted rows)

@@ -1,9 +1,8 @@
-pub mod Columns
-pub mod MetaTable
-pub mod BranchTable
-pub mod Layout
+pub mod Kinds
 pub mod Tables
-pub mod Gathered
+pub mod Version
+pub mod Loaded
 pub mod Store
 pub mod Known
 pub mod Faults
+pub mod TableLaws

@@ -1,49 +1,89 @@
--- What the tables mean: the rows that the loading texts give, as books.
-use Rattle.std.specs.Prelude.{◌≡◌, ℕ, true, None, List, [], ◌∷◌, map}
-use Rattle.std.specs.List.{AllByRecursion, IsDistinct}
-use Rattle.std.specs.Ordering.{eq_by_cmp}
-use Rattle.std.specs.FinMap as map
+-- What the tables mean: the books that their rows are, the open run that they show, and when they are in order.
+use Rattle.std.specs.Prelude.{◌≡◌, List, [], ◌∷◌, None}
+use Rattle.std.specs.List.{AllByRecursion}
 use Rattle.std.specs.FinMap.{FinMap}
 use Rattle.sqlite_value.specs.Order.{Row}
-use Rattle.sqlite_trees.specs.Tree.{Trees, rowid}
-use Rattle.sqlite_trees.specs.View.{is_int}
-use Rattle.dh_types.specs.declared.branch.Branch.{Branch}
-use Rattle.dh_model.specs.Books.{State, empty_books, text_cmp}
+use Rattle.sqlite_trees.specs.Tree.{Trees}
+use Rattle.dh_model.specs.Books.{Books, empty_books}
+use Rattle.dh_model.specs.Books as machine
+use Rattle.dh_model.specs.Rules.{MeetsRules}
+use Rattle.dh_model.specs.Runs.{batch_size}
+use Rattle.dh_model.specs.Whole.{run_shown}
+use Rattle.dh_laws.specs.Events.{Tables}
 use Rattle.dh_rows.specs.Months.{Months}
-use Rattle.dh_rows.specs.BranchRows.{branch_in, is_branch_row}
-use Rattle.dh_rows.specs.MetaRows.{meta_row, months_in, is_meta_row}
-use Rattle.dh_schema.specs.MetaTable.{meta_rows}
-use Rattle.dh_schema.specs.BranchTable.{branch_rows}
+use Rattle.dh_rows.specs.MetaRows.{months_in}
+use Rattle.dh_sql.specs.Shape.{AreApart, IsKept, IsStored, rows_in}
+use Rattle.dh_tables.specs.MetaTable.{HasMonths, meta_rows}
+use Rattle.dh_schema.specs.Kinds.{Kind, key_of, order_of, record_of, shape_of}
+use Rattle.dh_schema.specs.Kinds.{Branches, Staff, Owners, Properties, Clients, Registrations, Viewings, Inspections, Leases, Charges, Receipts, Runs, Parts}
 
--- a branch under its number
-abbrev pub by_number : Branch → List ℕ × Branch
-by_number b = (b.number, b)
+-- the records of a kind
+abbrev pub records_in : (kind : Kind) → Trees → FinMap (order_of kind) (record_of kind)
+records_in kind trees = rows_in (shape_of kind) trees
 
-abbrev pub only_months : List Row → Months
-only_months [] = record { first = 0; next = 0 }
-only_months (row ∷ rows) = months_in row
+-- the months of meta's only row
+abbrev pub months_of : List Row → Months
+months_of [] = record { first = 0; next = 0 }
+months_of (row ∷ rows) = months_in row
 
--- Books of these months with these branches: what has no table yet has no rows, and no run is open.
-abbrev pub books_over : Months → FinMap text_cmp Branch → State
-books_over months branches = record { books = record (empty_books months.first) { branches = branches; next = months.next }; open_run = None }
+-- the books as the rows give them
+abbrev pub books_in : Trees → Books
+books_in trees = record {
+  branches = records_in Branches trees;
+  staff = records_in Staff trees;
+  owners = records_in Owners trees;
+  properties = records_in Properties trees;
+  clients = records_in Clients trees;
+  registrations = records_in Registrations trees;
+  viewings = records_in Viewings trees;
+  inspections = records_in Inspections trees;
+  leases = records_in Leases trees;
+  charges = records_in Charges trees;
+  receipts = records_in Receipts trees;
+  runs = records_in Runs trees;
+  parts = records_in Parts trees;
+  first = (months_of (meta_rows trees)).first;
+  next = (months_of (meta_rows trees)).next;
+}
 
--- the tables T, as the machine's state
-abbrev pub tables_in : Trees → State
-tables_in trees = books_over (only_months (meta_rows trees)) (map.from_entries (map (λ row. by_number (branch_in row)) (branch_rows trees)))
+-- they, and the open run that they show
+abbrev pub tables_in : Trees → Tables
+tables_in trees = record { books = books_in trees; run = run_shown batch_size (books_in trees) }
+
+-- the same as a state of the machine
+abbrev pub state_in : Trees → machine.State
+state_in trees = record { books = (tables_in trees).books; open_run = (tables_in trees).run }
+
+-- the books alone, as they are loaded: which run they show, they do not say
+abbrev pub loaded_from : Trees → machine.State
+loaded_from trees = record { books = books_in trees; open_run = None }
 
 -- empty books of these months
-abbrev pub empty_over : Months → State
-empty_over months = books_over months map.empty
+abbrev pub empty_over : Months → machine.State
+empty_over months = record { books = record (empty_books months.first) { next = months.next }; open_run = None }
+
+-- each row of the kind is a record
+abbrev pub AreRecords : Kind → Trees → Type 0
+AreRecords kind trees = AllByRecursion (IsStored (shape_of kind)) (trees (shape_of kind).tree)
 
 -- The version is ours and each column holds a value of its kind: rule 0 of the audit.
 pub record HasValues (trees : Trees) : Type 0 where
   pub months : Months
-  pub meta : meta_rows trees ≡ meta_row months ∷ []
-  pub meta_grammar : is_meta_row (meta_row months) ≡ true
-  pub branches : AllByRecursion (λ row. is_branch_row row ≡ true) (branch_rows trees)
+  pub meta : HasMonths months trees
+  pub rows : (kind : Kind) → AreRecords kind trees
 
--- So it is, rows have rowids, and each key is there once, as the schema asks.
+-- So it is in one table, each rowid tells one row, and each key is there once.
+pub record IsTableInOrder (kind : Kind) (trees : Trees) : Type 0 where
+  pub kept : IsKept (shape_of kind) (order_of kind) trees
+  pub apart : AreApart (trees (shape_of kind).tree)
+
+-- and in all tables
+pub record AreInOrder (trees : Trees) : Type 0 where
+  pub months : Months
+  pub meta : HasMonths months trees
+  pub tables : (kind : Kind) → IsTableInOrder kind trees
+
+-- Tables in order whose books meet the rules of the audit.
 pub record IsSound (trees : Trees) : Type 0 where
-  pub values : HasValues trees
-  pub branch_rowids : AllByRecursion (λ row. is_int (rowid row) ≡ true) (trees 1)
-  pub branch_keys : IsDistinct (eq_by_cmp text_cmp) (map (λ row. (branch_in row).number) (branch_rows trees))
+  pub in_order : AreInOrder trees
+  pub rules : MeetsRules (books_in trees) batch_size

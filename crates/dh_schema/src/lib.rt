@@ -1,14 +1,13 @@
-//! The agency's tables: how they are made, what their rows mean, and reading them.
+//! The agency's tables: how they are made, what their rows mean, and reading them. Read [`install`] and [`load`] first.
 #![tactic(auto)]
 
-mod branch;
 mod fault;
-mod gather;
+mod laws;
+mod loading;
 mod making;
-mod meta;
 mod reading;
 
-pub use branch::insert_branch;
 pub use fault::{LoadFault, fault_of};
+pub use laws::{books_are_keyed, order_has_values};
 pub use making::install;
-pub use reading::{load, version};
+pub use reading::{load, load_tables, version};

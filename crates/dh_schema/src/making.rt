@@ -3,15 +3,16 @@
 ghost use Rattle.std.specs.Prelude.{◌≡◌, ◌≤◌, false, IsTrue, Err, IfErr, OnOk, OnErr};
 ghost use Rattle.sqlite.specs.State.{HasCleanDisk};
 ghost use Rattle.sqlite.specs.Held.{state};
+ghost use Rattle.dh_days.specs.declared.limits.TheConstants.{LAST_ENTRY_MONTH};
 ghost use Rattle.dh_model.specs.Books.{start};
 ghost use Rattle.dh_schema.specs.Tables.{empty_over};
 ghost use Rattle.dh_schema.specs.Faults.{IsFirstFault};
 ghost use Rattle.dh_schema.specs.Store.{IsReady, IsBlank, LeavesItsTables, Commits, tables};
 
-use crate::branch::create_branch;
 use crate::fault::fault_of;
-use crate::meta::{create_meta, insert_meta};
+use dh_catalog::create_all;
 use dh_rows::Meta;
+use dh_tables::insert_meta;
 use dh_types::{Fault, Month};
 use sqlite::{Alter, Connection, Error};
 use std::alloc::Global;
@@ -32,8 +33,7 @@ fn make_tables<S: Alter>(
     ensures survives { Commits (state S.Store conn.old) (state S.Store conn.new) (λ t. t ≡ empty_over months.now) }
 {
     let mut tx = conn.transaction();
-    create_meta(&mut tx)?;
-    create_branch(&mut tx)?;
+    create_all(&mut tx)?;
     insert_meta(alloc, &mut tx, months)?;
     tx.commit()?;
     Ok(())
@@ -42,7 +42,7 @@ fn make_tables<S: Alter>(
 /// Makes the tables of empty books that begin with this month, in one transaction.
 /// A file that has an object already is refused as a fault of the store, and nothing changes.
 pub fn install<S: Alter>(alloc: Global, conn: &mut Connection<S>, first: Month) -> Result<(), Fault>
-    requires { first ≤ 26411 }
+    requires { first ≤ LAST_ENTRY_MONTH }
     ensures done { HasCleanDisk (state S.Store conn.new) → OnOk result (IsReady (state S.Store conn.new) × (tables (state S.Store conn.new) ≡ start first)) }
     ensures left { HasCleanDisk (state S.Store conn.new) → OnOk result (LeavesItsTables (state S.Store conn.new)) }
     ensures undone { HasCleanDisk (state S.Store conn.new) → IsTrue (state S.Store conn.new).is_open

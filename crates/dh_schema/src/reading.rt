@@ -1,24 +1,39 @@
 //! Reading the tables.
 
-ghost use Rattle.std.specs.Prelude.{◌≡◌, IsTrue, Some, None, Err, IfOk, IfErr, OnOk};
-ghost use Rattle.sqlite.specs.State.{HasCleanDisk, IsUnchanged, Survives};
+ghost use Rattle.std.specs.Prelude.{◌≡◌, IsTrue, Some, None, Err, IfOk, IfErr, OnOk, OnErr};
+ghost use Rattle.sqlite.specs.State.{HasCleanDisk, IsUnchanged};
 ghost use Rattle.sqlite.specs.Held.{state};
-ghost use Rattle.dh_schema.specs.MetaTable.{meta_rows, only_version};
-ghost use Rattle.dh_schema.specs.Tables.{HasValues};
-ghost use Rattle.dh_schema.specs.Faults.{IsLoadFault};
-ghost use Rattle.dh_schema.specs.Store.{HasTables, tables};
+ghost use Rattle.dh_tables.specs.Calls.{CommitsNothing, HasOurTables, IsUndone};
+ghost use Rattle.dh_tables.specs.MetaTable.{meta_rows};
+ghost use Rattle.dh_schema.specs.Faults.{IsLoadFault, IsOfStore, IsTurnedAway};
+ghost use Rattle.dh_schema.specs.Store.{Keeps};
+ghost use Rattle.dh_schema.specs.Tables.{AreInOrder, HasValues, loaded_from};
+ghost use Rattle.dh_schema.specs.Version.{only_version};
 
-use crate::branch::select_branches;
 use crate::fault::LoadFault;
-use crate::gather::{gather_branches, only_meta};
-use crate::meta::select_meta;
+use crate::loading::load_records;
 use dh_books::Books;
+use dh_catalog::has_our_tables;
+use dh_tables::{find_meta, meta_rows_shown};
+use dh_types::Fault;
 use sqlite::types::ValueRef;
 use sqlite::{Alter, Connection, Row};
 use std::alloc::Global;
 
+// Turns tables away that are not ours. It does not touch them.
+fn check_tables<S: Alter>(alloc: Global, conn: &Connection<S>) -> Result<(), LoadFault>
+    ensures ours { OnOk result (HasOurTables (state S.Store conn.now)) }
+    ensures cause { IfErr result IsOfStore }
+{
+    if has_our_tables(alloc, conn)? {
+        Ok(())
+    } else {
+        Err(LoadFault::Fault(Fault::Store))
+    }
+}
+
 // The version of meta's rows, where it has just one.
-pub(crate) fn version_of(rows: &[Row]) -> Result<i64, LoadFault>
+fn version_of(rows: &[Row]) -> Result<i64, LoadFault>
     ensures found { IfOk result (λ n. only_version rows.now ≡ Some n) }
     ensures cause { IfErr result IsLoadFault }
     ensures damaged { result ≡ Err LoadFault.Damaged → only_version rows.now ≡ None }
@@ -32,41 +47,58 @@ pub(crate) fn version_of(rows: &[Row]) -> Result<i64, LoadFault>
     }
 }
 
-/// The version that meta gives; `Damaged` where it has not exactly one row. It changes nothing.
-pub fn version<S: Alter>(conn: &mut Connection<S>) -> Result<i64, LoadFault>
-    requires { HasCleanDisk (state S.Store conn.old) → HasTables (state S.Store conn.old) }
+/// The version that meta gives; `Damaged` where it has not exactly one row. Tables that are not ours are a fault of the
+/// store. It changes nothing.
+pub fn version<S: Alter>(alloc: Global, conn: &mut Connection<S>) -> Result<i64, LoadFault>
+    ensures ours { OnOk result (HasOurTables (state S.Store conn.old)) }
     ensures found { HasCleanDisk (state S.Store conn.new) → IfOk result (λ n. only_version (meta_rows (state S.Store conn.old).now.trees) ≡ Some n) }
     ensures cause { IfErr result IsLoadFault }
     ensures damaged { HasCleanDisk (state S.Store conn.new) → result ≡ Err LoadFault.Damaged
-        → only_version (meta_rows (state S.Store conn.old).now.trees) ≡ None }
+        → HasOurTables (state S.Store conn.old) × (only_version (meta_rows (state S.Store conn.old).now.trees) ≡ None) }
+    ensures others { ¬ HasOurTables (state S.Store conn.old) → IsTurnedAway result × (conn.new ≡ conn.old) }
     ensures same { HasCleanDisk (state S.Store conn.new) → OnOk result (IsUnchanged (state S.Store conn.old) (state S.Store conn.new)) }
-    ensures kept { HasCleanDisk (state S.Store conn.new) → IsTrue (state S.Store conn.new).is_open
-        → (state S.Store conn.old).now ≡ (state S.Store conn.old).committed → ((state S.Store conn.new).now ≡ (state S.Store conn.old).now)
-        × ((state S.Store conn.new).committed ≡ (state S.Store conn.old).committed) }
-    ensures crash { Survives (state S.Store conn.old) (state S.Store conn.new) (λ _. ⊥) }
+    ensures kept { HasCleanDisk (state S.Store conn.new) → Keeps (state S.Store conn.old) (state S.Store conn.new) }
+    ensures crash { CommitsNothing (state S.Store conn.old) (state S.Store conn.new) }
 {
-    let rows = select_meta(conn)?;
+    check_tables(alloc, conn)?;
+    let rows = meta_rows_shown(conn)?;
     version_of(&rows)
 }
 
-/// The tables as books. `Damaged` comes exactly where a column does not hold a value of its kind, or meta has not
-/// exactly one row of this version. It changes nothing.
-pub fn load<S: Alter>(alloc: Global, conn: &mut Connection<S>) -> Result<Books, LoadFault>
-    requires { HasCleanDisk (state S.Store conn.old) → HasTables (state S.Store conn.old) }
-    ensures books { HasCleanDisk (state S.Store conn.new) → IfOk result (λ books. books ≡ tables (state S.Store conn.old)) }
-    ensures values { HasCleanDisk (state S.Store conn.new) → OnOk result (HasValues (state S.Store conn.old).now.trees) }
+/// Our tables as books. `Damaged` comes exactly where a column does not hold a value of its kind, or meta has not exactly
+/// one row of this version. It changes nothing.
+pub fn load_tables<S: Alter>(alloc: Global, conn: &mut Connection<S>) -> Result<Books, LoadFault>
+    requires reading { HasCleanDisk (state S.Store conn.old) → HasOurTables (state S.Store conn.old) }
+    ensures books { HasCleanDisk (state S.Store conn.new) → IfOk result (λ books. books ≡ loaded_from (state S.Store conn.old).now.trees) }
+    ensures in_order { HasCleanDisk (state S.Store conn.new) → OnOk result (AreInOrder (state S.Store conn.old).now.trees) }
     ensures cause { IfErr result IsLoadFault }
     ensures damaged { HasCleanDisk (state S.Store conn.new) → result ≡ Err LoadFault.Damaged → ¬ HasValues (state S.Store conn.old).now.trees }
     ensures same { HasCleanDisk (state S.Store conn.new) → OnOk result (IsUnchanged (state S.Store conn.old) (state S.Store conn.new)) }
-    ensures kept { HasCleanDisk (state S.Store conn.new) → IsTrue (state S.Store conn.new).is_open
-        → (state S.Store conn.old).now ≡ (state S.Store conn.old).committed → ((state S.Store conn.new).now ≡ (state S.Store conn.old).now)
-        × ((state S.Store conn.new).committed ≡ (state S.Store conn.old).committed) }
-    ensures crash { Survives (state S.Store conn.old) (state S.Store conn.new) (λ _. ⊥) }
+    ensures undone { HasCleanDisk (state S.Store conn.new) → OnErr result (IsUndone (state S.Store conn.old) (state S.Store conn.new)) }
+    ensures crash { CommitsNothing (state S.Store conn.old) (state S.Store conn.new) }
 {
-    let rows = select_meta(conn)?;
-    let months = only_meta(alloc, &rows)?;
-    let rows = select_branches(conn)?;
+    let Some(months) = find_meta(alloc, conn)? else {
+        return Err(LoadFault::Damaged);
+    };
     let mut books = Books::new(alloc, months.first(), months.next());
-    gather_branches(alloc, &rows, &mut books)?;
+    load_records(alloc, conn, &mut books)?;
     Ok(books)
+}
+
+/// The tables as books, where they are ours; others are a fault of the store. `Damaged` comes exactly where a column does
+/// not hold a value of its kind, or meta has not exactly one row of this version. It changes nothing.
+pub fn load<S: Alter>(alloc: Global, conn: &mut Connection<S>) -> Result<Books, LoadFault>
+    ensures ours { OnOk result (HasOurTables (state S.Store conn.old)) }
+    ensures books { HasCleanDisk (state S.Store conn.new) → IfOk result (λ books. books ≡ loaded_from (state S.Store conn.old).now.trees) }
+    ensures in_order { HasCleanDisk (state S.Store conn.new) → OnOk result (AreInOrder (state S.Store conn.old).now.trees) }
+    ensures cause { IfErr result IsLoadFault }
+    ensures damaged { HasCleanDisk (state S.Store conn.new) → result ≡ Err LoadFault.Damaged
+        → HasOurTables (state S.Store conn.old) × (¬ HasValues (state S.Store conn.old).now.trees) }
+    ensures others { ¬ HasOurTables (state S.Store conn.old) → IsTurnedAway result × (conn.new ≡ conn.old) }
+    ensures same { HasCleanDisk (state S.Store conn.new) → OnOk result (IsUnchanged (state S.Store conn.old) (state S.Store conn.new)) }
+    ensures kept { HasCleanDisk (state S.Store conn.new) → Keeps (state S.Store conn.old) (state S.Store conn.new) }
+    ensures crash { CommitsNothing (state S.Store conn.old) (state S.Store conn.new) }
+{
+    check_tables(alloc, conn)?;
+    load_tables(alloc, conn)
 }

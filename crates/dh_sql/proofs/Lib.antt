@@ -17,3 +17,4 @@ pub mod Writing
 pub mod Updating
 pub mod Changing
 pub mod OwnKey
+pub mod Listing

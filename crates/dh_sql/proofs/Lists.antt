@@ -1,6 +1,6 @@
 -- Facts of each element of a list.
-use Rattle.std.proofs.Common.{◌≡◌, inl, inr, refl, sym, subst, ℕ, zero, suc, List, [], ◌∷◌, map, Some}
-use Rattle.std.specs.List.{AllByRecursion, slice_get}
+use Rattle.std.proofs.Common.{◌≡◌, ◌∙◌, inl, inr, refl, sym, ap, subst, ℕ, zero, suc, Bool, true, false, true≢false, List, [], ◌∷◌, map, Some}
+use Rattle.std.specs.List.{AllByRecursion, IsDistinct, slice_get}
 use Rattle.sqlite_rules.specs.Lists.{Has}
 use Rattle.dh_model.proofs.Among.{Among}
 
@@ -32,3 +32,23 @@ all_at P [] zero x all h = cc
 all_at P [] (suc at) x all h = cc
 all_at P (y ∷ xs) zero x all h = subst P (let e : y ≡ x = cc in e) all.0
 all_at P (y ∷ xs) (suc at) x all h = all_at P xs at x all.1 h
+
+-- ---- keys of which none is there twice
+
+module _ {X K : Type 0} (e : K → K → Bool) (itself : (k : K) → e k k ≡ true) (key : X → K) where
+  none_with : (k : K) (xs : List X) (y : X) → AllByRecursion (λ j. e k j ≡ false) (map key xs) → Has xs y → e k (key y) ≡ false
+  none_with k [] y all there = absurd there
+  none_with k (x ∷ xs) y all (inl is) = ap (λ z. e k (key z)) is ∙ all.0
+  none_with k (x ∷ xs) y all (inr there) = none_with k xs y all.1 there
+
+  apart : (k : K) (xs : List X) (y : X) → AllByRecursion (λ j. e k j ≡ false) (map key xs) → Has xs y → k ≡ key y → ⊥
+  apart k xs y all there same = true≢false (sym (sym (ap (e k) same) ∙ itself k) ∙ none_with k xs y all there)
+
+  -- each is of one element
+  pub one_of_key : (xs : List X) → IsDistinct e (map key xs) → (x y : X) → Has xs x → Has xs y → key x ≡ key y → x ≡ y
+  unfolding IsDistinct
+  one_of_key [] d x y hx hy same = absurd hx
+  one_of_key (z ∷ xs) d x y (inl p) (inl q) same = p ∙ sym q
+  one_of_key (z ∷ xs) d x y (inl p) (inr hy) same = absurd (apart (key z) xs y d.0 hy (sym (ap key p) ∙ same))
+  one_of_key (z ∷ xs) d x y (inr hx) (inl q) same = absurd (apart (key z) xs x d.0 hx (sym (ap key q) ∙ sym same))
+  one_of_key (z ∷ xs) d x y (inr hx) (inr hy) same = one_of_key xs d.1 x y hx hy same

@@ -1,0 +1,2 @@
+pub mod OpenRow
+pub mod Putting

@@ -1,64 +1,70 @@
 //! What the tables say of a command or a question.
 
 ghost use Rattle.std.specs.Prelude.{◌≡◌, IsTrue, IfOk, IfErr, OnOk};
-ghost use Rattle.sqlite.specs.State.{HasCleanDisk, Survives};
+ghost use Rattle.sqlite.specs.State.{HasCleanDisk};
 ghost use Rattle.sqlite.specs.Held.{state};
 ghost use Rattle.dh_types.specs.Reports.{report_of};
+ghost use Rattle.dh_types.specs.declared.command.Command.TheVariants as command;
+ghost use Rattle.dh_types.specs.declared.question.Question.TheVariants as asked;
+ghost use Rattle.dh_tables.specs.Calls.{CommitsNothing};
 ghost use Rattle.dh_schema.specs.Faults.{IsFirstFault};
 ghost use Rattle.dh_schema.specs.Known.{known_report, known_verdict};
 ghost use Rattle.dh_schema.specs.Store.{IsReady, tables};
 
-use dh_books::Books;
+use crate::reading::{all_branches, branch_numbered, open_run};
 use dh_lists::branches;
 use dh_model::Verdict;
-use dh_schema::{LoadFault, load};
-use dh_types::{Answer, Command, Fault, Question, Refusal};
+use dh_types::{Answer, Branch, Command, Fault, Question, Refusal};
 use dh_verdicts::decide_branch;
 use sqlite::{Alter, Connection};
-use std::alloc::{AllocError, Global};
+use std::alloc::Global;
 
-// The books that the tables are. Rows that are no record come only from a store that is not clean.
-fn books_of<S: Alter>(alloc: Global, conn: &mut Connection<S>) -> Result<Books, Fault>
+// The verdict on a new branch.
+fn ask_branch<S: Alter>(
+    alloc: Global,
+    conn: &mut Connection<S>,
+    branch: &Branch,
+) -> Result<Verdict, Fault>
     requires { HasCleanDisk (state S.Store conn.old) → IsReady (state S.Store conn.old) }
-    ensures books { HasCleanDisk (state S.Store conn.new) → IfOk result (λ books. books ≡ tables (state S.Store conn.old)) }
+    ensures verdict { HasCleanDisk (state S.Store conn.new)
+        → IfOk result (λ v. v ≡ known_verdict (tables (state S.Store conn.old)).books (tables (state S.Store conn.old)).open_run (command.Branch branch.now)) }
     ensures done { HasCleanDisk (state S.Store conn.new)
         → OnOk result (IsReady (state S.Store conn.new) × (tables (state S.Store conn.new) ≡ tables (state S.Store conn.old))) }
     ensures kept { HasCleanDisk (state S.Store conn.new) → IsTrue (state S.Store conn.new).is_open
         → tables (state S.Store conn.new) ≡ tables (state S.Store conn.old) }
     ensures cause { IfErr result IsFirstFault }
-    ensures crash { Survives (state S.Store conn.old) (state S.Store conn.new) (λ _. ⊥) }
+    ensures crash { CommitsNothing (state S.Store conn.old) (state S.Store conn.new) }
 {
-    match load(alloc, conn) {
-        Ok(books) => Ok(books),
-        Err(LoadFault::Fault(fault)) => Err(fault),
-        Err(LoadFault::Damaged) => Err(Fault::Store),
+    if let Some(run) = open_run(alloc, conn)? {
+        return Ok(Verdict::Refused(Refusal::RunOpen(run.month.month())));
+    }
+    let books = branch_numbered(alloc, conn, branch.number)?;
+    match decide_branch(alloc, &books, branch) {
+        Ok(verdict) => Ok(verdict),
+        Err(_) => Err(Fault::Memory),
     }
 }
 
-// What the books say of a command; one on what has no table is a line of an unknown word.
-fn decide(alloc: Global, books: &Books, command: &Command) -> Result<Verdict, AllocError>
-    ensures { IfOk result (λ v. v ≡ known_verdict books.now.books books.now.open_run command.now) }
+// The answer with all branches.
+fn list_branches<S: Alter>(alloc: Global, conn: &mut Connection<S>) -> Result<Answer, Fault>
+    requires { HasCleanDisk (state S.Store conn.old) → IsReady (state S.Store conn.old) }
+    ensures answer { HasCleanDisk (state S.Store conn.new)
+        → IfOk result (λ a. report_of a ≡ known_report (tables (state S.Store conn.old)) asked.Branches) }
+    ensures done { HasCleanDisk (state S.Store conn.new)
+        → OnOk result (IsReady (state S.Store conn.new) × (tables (state S.Store conn.new) ≡ tables (state S.Store conn.old))) }
+    ensures kept { HasCleanDisk (state S.Store conn.new) → IsTrue (state S.Store conn.new).is_open
+        → tables (state S.Store conn.new) ≡ tables (state S.Store conn.old) }
+    ensures cause { IfErr result IsFirstFault }
+    ensures crash { CommitsNothing (state S.Store conn.old) (state S.Store conn.new) }
 {
-    match command {
-        Command::Branch(_) if let Some(run) = books.open_run() => Ok(Verdict::Refused(
-            Refusal::RunOpen(run.month.month()),
-        )),
-        Command::Branch(branch) => decide_branch(alloc, books, branch),
-        _ => Ok(Verdict::Refused(Refusal::BadLine(1))),
+    let books = all_branches(alloc, conn)?;
+    match branches(alloc, &books) {
+        Ok(rows) => Ok(Answer::Branches(rows)),
+        Err(_) => Err(Fault::Memory),
     }
 }
 
-// The answer that the books give; a question about what has no table is a line of an unknown question.
-fn answer(alloc: Global, books: &Books, question: &Question) -> Result<Answer, AllocError>
-    ensures { IfOk result (λ a. report_of a ≡ known_report books.now question.now) }
-{
-    match question {
-        Question::Branches => Ok(Answer::Branches(branches(alloc, books)?)),
-        _ => Ok(Answer::Refused(Refusal::BadLine(2))),
-    }
-}
-
-/// The verdict on the command; it changes nothing, at a fault too.
+/// The verdict on the command; it changes nothing, at a fault too. One on what has no table is a line of an unknown word.
 pub fn ask<S: Alter>(
     alloc: Global,
     conn: &mut Connection<S>,
@@ -72,16 +78,16 @@ pub fn ask<S: Alter>(
     ensures kept { HasCleanDisk (state S.Store conn.new) → IsTrue (state S.Store conn.new).is_open
         → tables (state S.Store conn.new) ≡ tables (state S.Store conn.old) }
     ensures cause { IfErr result IsFirstFault }
-    ensures crash { Survives (state S.Store conn.old) (state S.Store conn.new) (λ _. ⊥) }
+    ensures crash { CommitsNothing (state S.Store conn.old) (state S.Store conn.new) }
 {
-    let books = books_of(alloc, conn)?;
-    match decide(alloc, &books, command) {
-        Ok(verdict) => Ok(verdict),
-        Err(_) => Err(Fault::Memory),
+    match command {
+        Command::Branch(branch) => ask_branch(alloc, conn, branch),
+        _ => Ok(Verdict::Refused(Refusal::BadLine(1))),
     }
 }
 
-/// The answer to the question; it changes nothing, at a fault too.
+/// The answer to the question; it changes nothing, at a fault too. One about what has no table is a line of an unknown
+/// question.
 pub fn look_up<S: Alter>(
     alloc: Global,
     conn: &mut Connection<S>,
@@ -94,11 +100,10 @@ pub fn look_up<S: Alter>(
     ensures kept { HasCleanDisk (state S.Store conn.new) → IsTrue (state S.Store conn.new).is_open
         → tables (state S.Store conn.new) ≡ tables (state S.Store conn.old) }
     ensures cause { IfErr result IsFirstFault }
-    ensures crash { Survives (state S.Store conn.old) (state S.Store conn.new) (λ _. ⊥) }
+    ensures crash { CommitsNothing (state S.Store conn.old) (state S.Store conn.new) }
 {
-    let books = books_of(alloc, conn)?;
-    match answer(alloc, &books, question) {
-        Ok(answer) => Ok(answer),
-        Err(_) => Err(Fault::Memory),
+    match question {
+        Question::Branches => list_branches(alloc, conn),
+        _ => Ok(Answer::Refused(Refusal::BadLine(2))),
     }
 }

@@ -3,6 +3,7 @@
 
 mod applying;
 mod asking;
+mod reading;
 
 pub use applying::apply;
 pub use asking::{ask, look_up};

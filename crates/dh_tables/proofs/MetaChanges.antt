@@ -1,7 +1,6 @@
 -- What an INSERT into meta leaves, and what a SELECT of its rows shows.
-use Rattle.std.proofs.Common.{◌≡◌, ◌∙◌, ap, subst, refl, true, ℕ, pos, List, [], ◌∷◌, map, IsPermutation, Option, Some, None, Result, Ok, Err, IfOk}
+use Rattle.std.proofs.Common.{◌≡◌, ◌∙◌, ap, subst, refl, true, ℕ, pos, List, [], map, IsPermutation, Option, Some, None, Result, Ok, Err, IfOk}
 use Rattle.std.specs.Prelude.{Vec}
-use Rattle.std.specs.List.{filter}
 use Rattle.std.specs.declared.alloc.Global.{Global}
 use Rattle.std.proofs.lemmas.List.Sorted.{IsPermutation-sym}
 use Rattle.sqlite.specs.declared.error.Error.{Error}
@@ -16,10 +15,9 @@ use Rattle.dh_rows.specs.Months.{Months}
 use Rattle.dh_rows.specs.MetaRows.{meta_row, is_meta_row}
 use Rattle.dh_catalog.specs.Layout.{our_schema}
 use Rattle.dh_catalog.specs.MetaTable.{meta}
-use Rattle.dh_sql.specs.Queries.{passes_all}
 use Rattle.dh_sql.proofs.Casting.{cast_int, cast_null}
 use Rattle.dh_sql.proofs.Inserting.{inserts}
-use Rattle.dh_sql.proofs.Selecting.{shows_rows}
+use Rattle.dh_sql.proofs.Listing.{shows_all}
 use Rattle.dh_sql.proofs.Staying.{others_stay}
 use Rattle.dh_tables.specs.Tables.{own_rowid}
 use Rattle.dh_tables.specs.MetaTable.{AreFound, AreMonths, SetsMonths, meta_columns, meta_rows}
@@ -47,16 +45,9 @@ adds_meta old new m count has empty good h =
 
 -- ---- the rows that are shown
 
-no_tests : (rows : List Row) → filter (passes_all [] []) rows ≡ rows
-no_tests [] = refl
-no_tests (r ∷ rows) = ap (λ rs. r ∷ rs) (no_tests rows)
-
 pub all_shown : (r : Result (Vec Row Global) Error) (old new : State) → old.now.schema ≡ our_schema
     → IfOk r (λ rows. Shown meta_shown [] old new rows.items) → IfOk r (λ rows. IsPermutation (meta_rows old.now.trees) rows.items)
-all_shown (Err e) old new has h = tt
-all_shown (Ok rows) old new has h =
-    let some = shows_rows meta_shown our_schema 0 [] meta_project [] meta_names [] meta_shown_is old new rows.items has h in
-    subst (λ all. IsPermutation (map meta_columns all) rows.items) (no_tests (old.now.trees 0)) some
+all_shown r old new has = shows_all meta_shown our_schema 0 meta_project meta_names meta_shown_is meta_columns (λ row. refl) old new has r
 
 -- rows in another order have the same months
 moved_months : (m : Months) (rows shown : List Row) → IsPermutation rows shown → AreMonths m rows → AreMonths m shown

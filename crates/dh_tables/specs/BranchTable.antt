@@ -5,7 +5,7 @@ use Rattle.sqlite_value.specs.declared.keys.Collation.TheVariants.{Binary}
 use Rattle.sqlite_value.specs.Order.{Row, column}
 use Rattle.sqlite_sql.specs.declared.ops.BinaryOp.TheVariants.{Compare}
 use Rattle.sqlite_sql.specs.declared.ops.CompareOp.TheVariants.{Eq}
-use Rattle.sqlite_sql.specs.Term.{lit, col, op2}
+use Rattle.sqlite_sql.specs.Term.{Term, lit, col, op2}
 use Rattle.sqlite_tied.specs.Compute.{everything}
 use Rattle.sqlite.specs.Listing.{understood}
 use Rattle.dh_values.specs.Texts.{is_id, is_text}
@@ -21,6 +21,7 @@ use Rattle.dh_sql.specs.Texts.{IsInsertText, IsSelectText}
 use Rattle.dh_sql.proofs.Casting.{cast_null, pass_each, row_stays}
 use Rattle.dh_tables.specs.declared.branch.BranchNumbered.{BranchNumbered}
 use Rattle.dh_tables.specs.Cells.{is_text as text_is, pass_one, same_text, text_that}
+use Rattle.dh_tables.specs.Listing.{IsListing, Listing}
 use Rattle.dh_tables.specs.Questions.{Asking, IsAsking}
 use Rattle.dh_tables.specs.Tables.{Adding, IsAdding, Shelf, without_rowid}
 
@@ -69,14 +70,41 @@ branch_is_adding = record {
   keyed = λ x rows. refl;
 }
 
+-- ---- what the texts show
+
+abbrev branch_project : List Term
+branch_project = col 1 1 ∷ col 1 2 ∷ col 1 3 ∷ col 1 4 ∷ []
+
+abbrev branch_names : List (List ℕ)
+branch_names = codes "branch_no" ∷ codes "street" ∷ codes "city" ∷ codes "postcode" ∷ []
+
+-- ---- the whole table
+
+abbrev pub branch_listing : Listing
+branch_listing = record {
+  text = codes "SELECT branch_no, street, city, postcode FROM branch";
+  project = branch_project;
+  names = branch_names;
+  rowid_text = codes "SELECT rowid FROM branch";
+  rowid_name = codes "rowid";
+}
+
+pub branch_is_listing : IsListing 1 branch_columns branch_listing
+unfolding understood everything
+branch_is_listing = record {
+  selects = record { command = refl; unlisted = refl; plain = (refl, refl); stored = λ db. refl };
+  shows_columns = λ r. refl;
+  selects_rowid = record { command = refl; unlisted = refl; plain = (refl, refl); stored = λ db. refl };
+}
+
 -- ---- the branch with a number
 
 abbrev pub branch_numbered : Asking
 branch_numbered = record {
   text = codes "SELECT branch_no, street, city, postcode FROM branch WHERE branch_no = ?1";
   tests = op2 (Compare Eq Binary) (col 1 1) (col 0 0) ∷ [];
-  project = col 1 1 ∷ col 1 2 ∷ col 1 3 ∷ col 1 4 ∷ [];
-  names = codes "branch_no" ∷ codes "street" ∷ codes "city" ∷ codes "postcode" ∷ [];
+  project = branch_project;
+  names = branch_names;
 }
 
 selects : IsSelectText branch_numbered.text our_schema 1 branch_numbered.tests branch_numbered.project [] branch_numbered.names

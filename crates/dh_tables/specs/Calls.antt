@@ -12,10 +12,9 @@ use Rattle.dh_sql.specs.Shape.{Shape, rows_in, rows_of}
 use Rattle.dh_tables.specs.Questions.{AsksFor}
 use Rattle.dh_tables.specs.Tables.{Shelf}
 
--- open, with our tables
-pub record IsReading (s : State) : Type 0 where
-  pub is_open : IsTrue s.is_open
-  pub schema : s.now.schema ≡ our_schema
+-- the tables are ours; of their rows nothing is known
+abbrev pub HasOurTables : State → Type 0
+HasOurTables s = s.now.schema ≡ our_schema
 
 -- open, within a transaction, with our tables
 pub record IsWriting (s : State) : Type 0 where
@@ -23,9 +22,9 @@ pub record IsWriting (s : State) : Type 0 where
   pub inside : IsTrue s.in_transaction
   pub schema : s.now.schema ≡ our_schema
 
--- a call that failed has changed nothing, or has ended the transaction
+-- a call that failed and left the store open has changed nothing, or has ended the transaction
 abbrev pub IsUndone : State → State → Type 0
-IsUndone old new = IsUnchanged old new ⊎ IsRolledBack old new
+IsUndone old new = IsTrue new.is_open → IsUnchanged old new ⊎ IsRolledBack old new
 
 -- no call but a commit commits
 abbrev pub CommitsNothing : State → State → Type 0

@@ -24,6 +24,7 @@ use Rattle.dh_sql.proofs.Casting.{cast_null, pass_each, row_stays}
 use Rattle.dh_tables.specs.declared.charge.ChargesOfLease.{ChargesOfLease}
 use Rattle.dh_tables.specs.declared.charge.ChargesOfMonth.{ChargesOfMonth}
 use Rattle.dh_tables.specs.Cells.{is_number, number_from, pass_one, read_as, same_number}
+use Rattle.dh_tables.specs.Listing.{IsListing, Listing}
 use Rattle.dh_tables.specs.Questions.{Asking, IsAsking}
 use Rattle.dh_tables.specs.Tables.{Adding, IsAdding, Shelf, without_rowid}
 
@@ -80,6 +81,25 @@ charge_project = col 1 1 ∷ col 1 2 ∷ col 1 3 ∷ col 1 4 ∷ col 1 5 ∷ []
 
 abbrev charge_names : List (List ℕ)
 charge_names = codes "lease_no" ∷ codes "k" ∷ codes "month" ∷ codes "day" ∷ codes "amount" ∷ []
+
+-- ---- the whole table
+
+abbrev pub charge_listing : Listing
+charge_listing = record {
+  text = codes "SELECT lease_no, k, month, day, amount FROM charge";
+  project = charge_project;
+  names = charge_names;
+  rowid_text = codes "SELECT rowid FROM charge";
+  rowid_name = codes "rowid";
+}
+
+pub charge_is_listing : IsListing 18 charge_columns charge_listing
+unfolding understood everything
+charge_is_listing = record {
+  selects = record { command = refl; unlisted = refl; plain = (refl, refl); stored = λ db. refl };
+  shows_columns = λ r. refl;
+  selects_rowid = record { command = refl; unlisted = refl; plain = (refl, refl); stored = λ db. refl };
+}
 
 -- ---- the charges of a lease
 

@@ -23,6 +23,7 @@ use Rattle.dh_sql.specs.Texts.{IsInsertText, IsSelectText}
 use Rattle.dh_sql.proofs.Casting.{cast_null, pass_each, row_stays}
 use Rattle.dh_tables.specs.declared.client.ClientNumbered.{ClientNumbered}
 use Rattle.dh_tables.specs.Cells.{is_text as text_is, number_from, pass_one, read_as, same_text, text_that}
+use Rattle.dh_tables.specs.Listing.{IsListing, Listing}
 use Rattle.dh_tables.specs.Questions.{Asking, IsAsking}
 use Rattle.dh_tables.specs.Tables.{Adding, IsAdding, Shelf, without_rowid}
 
@@ -77,6 +78,25 @@ client_project = col 1 1 ∷ col 1 2 ∷ col 1 3 ∷ col 1 4 ∷ col 1 5 ∷ []
 
 abbrev client_names : List (List ℕ)
 client_names = codes "client_no" ∷ codes "name" ∷ codes "telephone" ∷ codes "pref_type" ∷ codes "max_rent" ∷ []
+
+-- ---- the whole table
+
+abbrev pub client_listing : Listing
+client_listing = record {
+  text = codes "SELECT client_no, name, telephone, pref_type, max_rent FROM client";
+  project = client_project;
+  names = client_names;
+  rowid_text = codes "SELECT rowid FROM client";
+  rowid_name = codes "rowid";
+}
+
+pub client_is_listing : IsListing 9 client_columns client_listing
+unfolding understood everything
+client_is_listing = record {
+  selects = record { command = refl; unlisted = refl; plain = (refl, refl); stored = λ db. refl };
+  shows_columns = λ r. refl;
+  selects_rowid = record { command = refl; unlisted = refl; plain = (refl, refl); stored = λ db. refl };
+}
 
 -- ---- the client with a number
 

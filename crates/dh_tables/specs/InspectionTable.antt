@@ -24,6 +24,7 @@ use Rattle.dh_sql.proofs.Casting.{cast_null, pass_each, row_stays}
 use Rattle.dh_tables.specs.declared.inspection.InspectionOf.{InspectionOf}
 use Rattle.dh_tables.specs.declared.inspection.InspectionsOf.{InspectionsOf}
 use Rattle.dh_tables.specs.Cells.{is_text as text_is, pass_both, pass_one, read_as, same_day, same_text, text_that}
+use Rattle.dh_tables.specs.Listing.{IsListing, Listing}
 use Rattle.dh_tables.specs.Questions.{Asking, IsAsking}
 use Rattle.dh_tables.specs.Tables.{Adding, IsAdding, Shelf, without_rowid}
 
@@ -80,6 +81,25 @@ inspection_project = col 1 1 ∷ col 1 2 ∷ col 1 3 ∷ col 1 4 ∷ []
 
 abbrev inspection_names : List (List ℕ)
 inspection_names = codes "property_no" ∷ codes "day" ∷ codes "staff_no" ∷ codes "comment" ∷ []
+
+-- ---- the whole table
+
+abbrev pub inspection_listing : Listing
+inspection_listing = record {
+  text = codes "SELECT property_no, day, staff_no, comment FROM inspection";
+  project = inspection_project;
+  names = inspection_names;
+  rowid_text = codes "SELECT rowid FROM inspection";
+  rowid_name = codes "rowid";
+}
+
+pub inspection_is_listing : IsListing 15 inspection_columns inspection_listing
+unfolding understood everything
+inspection_is_listing = record {
+  selects = record { command = refl; unlisted = refl; plain = (refl, refl); stored = λ db. refl };
+  shows_columns = λ r. refl;
+  selects_rowid = record { command = refl; unlisted = refl; plain = (refl, refl); stored = λ db. refl };
+}
 
 -- ---- the inspection of a property on a day
 

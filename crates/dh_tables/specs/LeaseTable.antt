@@ -29,6 +29,7 @@ use Rattle.dh_tables.specs.declared.lease.LeasesOfClient.{LeasesOfClient}
 use Rattle.dh_tables.specs.declared.lease.LeasesOfClientFrom.{LeasesOfClientFrom}
 use Rattle.dh_tables.specs.Cells.{is_number, is_text as text_is, number_from, pass_both, pass_one}
 use Rattle.dh_tables.specs.Cells.{read_as, rowid_column, same_day, same_number, same_text, text_that}
+use Rattle.dh_tables.specs.Listing.{IsListing, Listing}
 use Rattle.dh_tables.specs.Questions.{Asking, IsAsking}
 use Rattle.dh_tables.specs.Tables.{Adding, IsAdding, Shelf, own_rowid}
 
@@ -92,6 +93,25 @@ lease_project = col 1 0 ∷ col 1 2 ∷ col 1 3 ∷ col 1 4 ∷ col 1 5 ∷ col 
 
 abbrev lease_names : List (List ℕ)
 lease_names = codes "lease_no" ∷ codes "client_no" ∷ codes "property_no" ∷ codes "start_day" ∷ codes "months" ∷ codes "method" ∷ codes "rent" ∷ []
+
+-- ---- the whole table
+
+abbrev pub lease_listing : Listing
+lease_listing = record {
+  text = codes "SELECT lease_no, client_no, property_no, start_day, months, method, rent FROM lease";
+  project = lease_project;
+  names = lease_names;
+  rowid_text = codes "SELECT rowid FROM lease";
+  rowid_name = codes "lease_no";
+}
+
+pub lease_is_listing : IsListing 17 lease_columns lease_listing
+unfolding understood everything
+lease_is_listing = record {
+  selects = record { command = refl; unlisted = refl; plain = (refl, refl); stored = λ db. refl };
+  shows_columns = λ r. refl;
+  selects_rowid = record { command = refl; unlisted = refl; plain = (refl, refl); stored = λ db. refl };
+}
 
 -- ---- the lease with a number
 

@@ -15,8 +15,10 @@ pub mod LeaseTable
 pub mod ChargeTable
 pub mod ReceiptTable
 pub mod RunTable
+pub mod OpenRuns
 pub mod PartTable
 pub mod Amendments
 pub mod PropertyChanges
 pub mod ViewingChanges
 pub mod RunChanges
+pub mod Listing

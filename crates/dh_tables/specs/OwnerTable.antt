@@ -21,6 +21,7 @@ use Rattle.dh_sql.specs.Texts.{IsInsertText, IsSelectText}
 use Rattle.dh_sql.proofs.Casting.{cast_null, pass_each, row_stays}
 use Rattle.dh_tables.specs.declared.owner.OwnerNumbered.{OwnerNumbered}
 use Rattle.dh_tables.specs.Cells.{is_text as text_is, pass_one, same_text, text_that}
+use Rattle.dh_tables.specs.Listing.{IsListing, Listing}
 use Rattle.dh_tables.specs.Questions.{Asking, IsAsking}
 use Rattle.dh_tables.specs.Tables.{Adding, IsAdding, Shelf, without_rowid}
 
@@ -75,6 +76,25 @@ owner_project = col 1 1 ∷ col 1 2 ∷ col 1 3 ∷ col 1 4 ∷ []
 
 abbrev owner_names : List (List ℕ)
 owner_names = codes "owner_no" ∷ codes "name" ∷ codes "address" ∷ codes "telephone" ∷ []
+
+-- ---- the whole table
+
+abbrev pub owner_listing : Listing
+owner_listing = record {
+  text = codes "SELECT owner_no, name, address, telephone FROM owner";
+  project = owner_project;
+  names = owner_names;
+  rowid_text = codes "SELECT rowid FROM owner";
+  rowid_name = codes "rowid";
+}
+
+pub owner_is_listing : IsListing 5 owner_columns owner_listing
+unfolding understood everything
+owner_is_listing = record {
+  selects = record { command = refl; unlisted = refl; plain = (refl, refl); stored = λ db. refl };
+  shows_columns = λ r. refl;
+  selects_rowid = record { command = refl; unlisted = refl; plain = (refl, refl); stored = λ db. refl };
+}
 
 -- ---- the owner with a number
 

@@ -26,6 +26,7 @@ use Rattle.dh_sql.proofs.Casting.{cast_null, pass_each, row_stays}
 use Rattle.dh_tables.specs.declared.part.PartOf.{PartOf}
 use Rattle.dh_tables.specs.declared.part.PartsOfMonth.{PartsOfMonth}
 use Rattle.dh_tables.specs.Cells.{is_number, is_text as text_is, number_from, pass_both, pass_one, same_number, same_text, text_that}
+use Rattle.dh_tables.specs.Listing.{IsListing, Listing}
 use Rattle.dh_tables.specs.Questions.{Asking, IsAsking}
 use Rattle.dh_tables.specs.Tables.{Adding, IsAdding, Shelf, without_rowid}
 
@@ -81,6 +82,25 @@ part_project = col 1 1 ∷ col 1 2 ∷ col 1 3 ∷ col 1 4 ∷ col 1 5 ∷ []
 
 abbrev part_names : List (List ℕ)
 part_names = codes "month" ∷ codes "branch_no" ∷ codes "through_lease" ∷ codes "due_count" ∷ codes "due_total" ∷ []
+
+-- ---- the whole table
+
+abbrev pub part_listing : Listing
+part_listing = record {
+  text = codes "SELECT month, branch_no, through_lease, due_count, due_total FROM part";
+  project = part_project;
+  names = part_names;
+  rowid_text = codes "SELECT rowid FROM part";
+  rowid_name = codes "rowid";
+}
+
+pub part_is_listing : IsListing 24 part_columns part_listing
+unfolding understood everything
+part_is_listing = record {
+  selects = record { command = refl; unlisted = refl; plain = (refl, refl); stored = λ db. refl };
+  shows_columns = λ r. refl;
+  selects_rowid = record { command = refl; unlisted = refl; plain = (refl, refl); stored = λ db. refl };
+}
 
 -- ---- the part of a run at a branch
 

@@ -25,6 +25,7 @@ use Rattle.dh_sql.proofs.Casting.{cast_null, pass_each, row_stays}
 use Rattle.dh_tables.specs.declared.property.PropertyNumbered.{PropertyNumbered}
 use Rattle.dh_tables.specs.declared.property.PropertiesManaged.{PropertiesManaged}
 use Rattle.dh_tables.specs.Cells.{is_text as text_is, number_from, optional_text_that, pass_one, read_as, same_optional, same_text, text_that}
+use Rattle.dh_tables.specs.Listing.{IsListing, Listing}
 use Rattle.dh_tables.specs.Questions.{Asking, IsAsking}
 use Rattle.dh_tables.specs.Tables.{Adding, IsAdding, Shelf, without_rowid}
 
@@ -52,9 +53,13 @@ property_shelf = record {
 
 -- ---- adding a row
 
+abbrev pub property_insert : List ℕ
+property_insert =
+    codes "INSERT INTO property (property_no, street, city, postcode, type, rooms, rent, owner_no, staff_no, branch_no) VALUES (?1,?2,?3,?4,?5,?6,?7,?8,?9,?10)"
+
 abbrev pub property_adding : Adding Property
 property_adding = record {
-  text = codes "INSERT INTO property (property_no, street, city, postcode, type, rooms, rent, owner_no, staff_no, branch_no) VALUES (?1, ?2, ?3, ?4, ?5, ?6, ?7, ?8, ?9, ?10)";
+  text = property_insert;
   place = 4;
   table = property;
   terms = lit Null ∷ col 0 0 ∷ col 0 1 ∷ col 0 2 ∷ col 0 3 ∷ col 0 4 ∷ col 0 5 ∷ col 0 6 ∷ col 0 7 ∷ col 0 8 ∷ col 0 9 ∷ [];
@@ -85,6 +90,25 @@ abbrev property_names : List (List ℕ)
 property_names =
     codes "property_no" ∷ codes "street" ∷ codes "city" ∷ codes "postcode" ∷ codes "type" ∷ codes "rooms" ∷ codes "rent" ∷ codes "owner_no"
     ∷ codes "staff_no" ∷ codes "branch_no" ∷ []
+
+-- ---- the whole table
+
+abbrev pub property_listing : Listing
+property_listing = record {
+  text = codes "SELECT property_no, street, city, postcode, type, rooms, rent, owner_no, staff_no, branch_no FROM property";
+  project = property_project;
+  names = property_names;
+  rowid_text = codes "SELECT rowid FROM property";
+  rowid_name = codes "rowid";
+}
+
+pub property_is_listing : IsListing 7 property_columns property_listing
+unfolding understood everything
+property_is_listing = record {
+  selects = record { command = refl; unlisted = refl; plain = (refl, refl); stored = λ db. refl };
+  shows_columns = λ r. refl;
+  selects_rowid = record { command = refl; unlisted = refl; plain = (refl, refl); stored = λ db. refl };
+}
 
 -- ---- the property with a number
 

@@ -36,6 +36,7 @@ use Rattle.dh_tables.specs.declared.receipt.DepositsOfLease.{DepositsOfLease}
 use Rattle.dh_tables.specs.declared.receipt.ReceiptKeyed.{ReceiptKeyed}
 use Rattle.dh_tables.specs.declared.receipt.ReceiptsOfLease.{ReceiptsOfLease}
 use Rattle.dh_tables.specs.Cells.{is_number, is_text as text_is, number_from, pass_both, pass_one, read_as, rowid_column, same_number, same_text, text_that}
+use Rattle.dh_tables.specs.Listing.{IsListing, Listing}
 use Rattle.dh_tables.specs.Questions.{Asking, IsAsking}
 use Rattle.dh_tables.specs.Tables.{Adding, IsAdding, Shelf, own_rowid}
 
@@ -99,6 +100,25 @@ receipt_project = col 1 0 ∷ col 1 2 ∷ col 1 3 ∷ col 1 4 ∷ col 1 5 ∷ co
 
 abbrev receipt_names : List (List ℕ)
 receipt_names = codes "receipt_no" ∷ codes "req_key" ∷ codes "lease_no" ∷ codes "kind" ∷ codes "amount" ∷ codes "day" ∷ []
+
+-- ---- the whole table
+
+abbrev pub receipt_listing : Listing
+receipt_listing = record {
+  text = codes "SELECT receipt_no, req_key, lease_no, kind, amount, day FROM receipt";
+  project = receipt_project;
+  names = receipt_names;
+  rowid_text = codes "SELECT rowid FROM receipt";
+  rowid_name = codes "receipt_no";
+}
+
+pub receipt_is_listing : IsListing 20 receipt_columns receipt_listing
+unfolding understood everything
+receipt_is_listing = record {
+  selects = record { command = refl; unlisted = refl; plain = (refl, refl); stored = λ db. refl };
+  shows_columns = λ r. refl;
+  selects_rowid = record { command = refl; unlisted = refl; plain = (refl, refl); stored = λ db. refl };
+}
 
 -- ---- the receipt with a request key
 

@@ -22,6 +22,7 @@ use Rattle.dh_sql.specs.Texts.{IsInsertText, IsSelectText}
 use Rattle.dh_sql.proofs.Casting.{cast_null, pass_each, row_stays}
 use Rattle.dh_tables.specs.declared.registration.RegistrationAt.{RegistrationAt}
 use Rattle.dh_tables.specs.Cells.{is_text as text_is, pass_both, read_as, same_text, text_that}
+use Rattle.dh_tables.specs.Listing.{IsListing, Listing}
 use Rattle.dh_tables.specs.Questions.{Asking, IsAsking}
 use Rattle.dh_tables.specs.Tables.{Adding, IsAdding, Shelf, without_rowid}
 
@@ -84,6 +85,25 @@ registration_project = col 1 1 ∷ col 1 2 ∷ col 1 3 ∷ col 1 4 ∷ []
 
 abbrev registration_names : List (List ℕ)
 registration_names = codes "client_no" ∷ codes "branch_no" ∷ codes "staff_no" ∷ codes "day" ∷ []
+
+-- ---- the whole table
+
+abbrev pub registration_listing : Listing
+registration_listing = record {
+  text = codes "SELECT client_no, branch_no, staff_no, day FROM registration";
+  project = registration_project;
+  names = registration_names;
+  rowid_text = codes "SELECT rowid FROM registration";
+  rowid_name = codes "rowid";
+}
+
+pub registration_is_listing : IsListing 11 registration_columns registration_listing
+unfolding understood everything
+registration_is_listing = record {
+  selects = record { command = refl; unlisted = refl; plain = (refl, refl); stored = λ db. refl };
+  shows_columns = λ r. refl;
+  selects_rowid = record { command = refl; unlisted = refl; plain = (refl, refl); stored = λ db. refl };
+}
 
 -- ---- the registration of a client at a branch
 

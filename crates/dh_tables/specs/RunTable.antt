@@ -26,6 +26,7 @@ use Rattle.dh_sql.proofs.Casting.{cast_int, pass_each, row_stays}
 use Rattle.dh_tables.specs.declared.run.RunOf.{RunOf}
 use Rattle.dh_tables.specs.declared.run.RunKeyed.{RunKeyed}
 use Rattle.dh_tables.specs.Cells.{is_number, is_text as text_is, number_from, pass_one, rowid_column, same_number, same_text, text_that}
+use Rattle.dh_tables.specs.Listing.{IsListing, Listing}
 use Rattle.dh_tables.specs.Questions.{Asking, IsAsking}
 use Rattle.dh_tables.specs.Tables.{Adding, IsAdding, Shelf, own_rowid}
 
@@ -81,11 +82,30 @@ run_is_adding = record {
 
 -- ---- what the texts show
 
-abbrev run_project : List Term
+abbrev pub run_project : List Term
 run_project = col 1 0 ∷ col 1 2 ∷ col 1 3 ∷ col 1 4 ∷ col 1 5 ∷ []
 
-abbrev run_names : List (List ℕ)
+abbrev pub run_names : List (List ℕ)
 run_names = codes "month" ∷ codes "req_key" ∷ codes "due_count" ∷ codes "due_total" ∷ codes "closed" ∷ []
+
+-- ---- the whole table
+
+abbrev pub run_listing : Listing
+run_listing = record {
+  text = codes "SELECT month, req_key, due_count, due_total, closed FROM run";
+  project = run_project;
+  names = run_names;
+  rowid_text = codes "SELECT rowid FROM run";
+  rowid_name = codes "month";
+}
+
+pub run_is_listing : IsListing 22 run_columns run_listing
+unfolding understood everything
+run_is_listing = record {
+  selects = record { command = refl; unlisted = refl; plain = (refl, refl); stored = λ db. refl };
+  shows_columns = λ r. refl;
+  selects_rowid = record { command = refl; unlisted = refl; plain = (refl, refl); stored = λ db. refl };
+}
 
 -- ---- the run of a month
 

@@ -22,6 +22,7 @@ use Rattle.dh_sql.specs.Texts.{IsInsertText, IsSelectText}
 use Rattle.dh_sql.proofs.Casting.{cast_null, pass_each, row_stays}
 use Rattle.dh_tables.specs.declared.staff.MemberNumbered.{MemberNumbered}
 use Rattle.dh_tables.specs.Cells.{is_text as text_is, pass_one, read_as, same_text, text_that}
+use Rattle.dh_tables.specs.Listing.{IsListing, Listing}
 use Rattle.dh_tables.specs.Questions.{Asking, IsAsking}
 use Rattle.dh_tables.specs.Tables.{Adding, IsAdding, Shelf, without_rowid}
 
@@ -76,6 +77,25 @@ staff_project = col 1 1 ∷ col 1 2 ∷ col 1 3 ∷ col 1 4 ∷ []
 
 abbrev staff_names : List (List ℕ)
 staff_names = codes "staff_no" ∷ codes "name" ∷ codes "position" ∷ codes "branch_no" ∷ []
+
+-- ---- the whole table
+
+abbrev pub staff_listing : Listing
+staff_listing = record {
+  text = codes "SELECT staff_no, name, position, branch_no FROM staff";
+  project = staff_project;
+  names = staff_names;
+  rowid_text = codes "SELECT rowid FROM staff";
+  rowid_name = codes "rowid";
+}
+
+pub staff_is_listing : IsListing 3 staff_columns staff_listing
+unfolding understood everything
+staff_is_listing = record {
+  selects = record { command = refl; unlisted = refl; plain = (refl, refl); stored = λ db. refl };
+  shows_columns = λ r. refl;
+  selects_rowid = record { command = refl; unlisted = refl; plain = (refl, refl); stored = λ db. refl };
+}
 
 -- ---- the member of staff with a number
 

@@ -22,6 +22,7 @@ use Rattle.dh_sql.specs.Texts.{IsInsertText, IsSelectText}
 use Rattle.dh_sql.proofs.Casting.{cast_null, pass_each, row_stays}
 use Rattle.dh_tables.specs.declared.viewing.ViewingOf.{ViewingOf}
 use Rattle.dh_tables.specs.Cells.{is_text as text_is, optional_text_that, pass_both, read_as, same_text, text_that}
+use Rattle.dh_tables.specs.Listing.{IsListing, Listing}
 use Rattle.dh_tables.specs.Questions.{Asking, IsAsking}
 use Rattle.dh_tables.specs.Tables.{Adding, IsAdding, Shelf, without_rowid}
 
@@ -76,6 +77,25 @@ viewing_project = col 1 1 ∷ col 1 2 ∷ col 1 3 ∷ col 1 4 ∷ []
 
 abbrev viewing_names : List (List ℕ)
 viewing_names = codes "client_no" ∷ codes "property_no" ∷ codes "day" ∷ codes "comment" ∷ []
+
+-- ---- the whole table
+
+abbrev pub viewing_listing : Listing
+viewing_listing = record {
+  text = codes "SELECT client_no, property_no, day, comment FROM viewing";
+  project = viewing_project;
+  names = viewing_names;
+  rowid_text = codes "SELECT rowid FROM viewing";
+  rowid_name = codes "rowid";
+}
+
+pub viewing_is_listing : IsListing 13 viewing_columns viewing_listing
+unfolding understood everything
+viewing_is_listing = record {
+  selects = record { command = refl; unlisted = refl; plain = (refl, refl); stored = λ db. refl };
+  shows_columns = λ r. refl;
+  selects_rowid = record { command = refl; unlisted = refl; plain = (refl, refl); stored = λ db. refl };
+}
 
 -- ---- the viewing of a property by a client
 

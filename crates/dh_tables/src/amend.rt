@@ -7,10 +7,11 @@ ghost use Rattle.sqlite.specs.Values.{bound};
 ghost use Rattle.sqlite.specs.State.{HasCleanDisk, Shows};
 ghost use Rattle.sqlite.specs.Held.{state};
 ghost use Rattle.dh_catalog.specs.Layout.{our_schema};
+ghost use Rattle.dh_catalog.specs.Making.{IsWritingOn};
 ghost use Rattle.dh_sql.specs.Shape.{AreApart, IsKept, rows_in};
 ghost use Rattle.dh_sql.specs.Changes.{Becomes};
 ghost use Rattle.dh_tables.specs.Amendments.{Amending, IsAmending};
-ghost use Rattle.dh_tables.specs.Calls.{Amends, CommitsNothing, GoesOn, IsUndone, IsWriting};
+ghost use Rattle.dh_tables.specs.Calls.{Amends, CommitsNothing, GoesOn, IsUndone};
 
 use crate::Tabled;
 use sqlite::types::ValueRef;
@@ -53,7 +54,7 @@ pub fn update<A: Amend, S: Alter>(
     tx: &mut Transaction<'_, S>,
     change: &A,
 ) -> Result<(), Error>
-    requires writing { HasCleanDisk (state S.Store tx.old.conn.now) → IsWriting (state S.Store tx.old.conn.now) }
+    requires writing { HasCleanDisk (state S.Store tx.old.conn.now) → IsWritingOn our_schema (state S.Store tx.old.conn.now) }
     requires kept { HasCleanDisk (state S.Store tx.old.conn.now) → IsKept A.Record.shape A.Record.order (state S.Store tx.old.conn.now).now.trees }
     requires apart { HasCleanDisk (state S.Store tx.old.conn.now) → AreApart ((state S.Store tx.old.conn.now).now.trees A.Record.shape.tree) }
     ensures same_reference { tx.new.conn.ghost_name ≡ tx.old.conn.ghost_name }

@@ -1,6 +1,6 @@
 //! Branches in their table.
 
-use crate::{Look, Tabled};
+use crate::{Listed, Look, Tabled};
 use dh_books::Books;
 use dh_types::{Branch, Id};
 use sqlite::types::ValueRef;
@@ -35,6 +35,26 @@ impl Tabled for Branch {
     ghost has_shape = { record { is_row_is = λ r. refl; row_in_is = λ r. refl; key_is = λ x. refl } };
 
     ghost is_adding = { branch_is_adding };
+}
+
+impl Listed for Branch {
+    ghost use Rattle.dh_tables.specs.BranchTable.{branch_listing, branch_is_listing};
+
+    ghost listing = { branch_listing };
+
+    fn list_text() -> &'static str {
+        "SELECT branch_no, street, city, postcode FROM branch"
+    }
+
+    fn rowid_text() -> &'static str {
+        "SELECT rowid FROM branch"
+    }
+
+    fn held_count(books: &Books) -> usize {
+        books.branches().len()
+    }
+
+    ghost is_listing = { branch_is_listing };
 }
 
 /// The branch with this number.

@@ -1,6 +1,6 @@
 //! Charges in their table.
 
-use crate::{Look, Tabled};
+use crate::{Listed, Look, Tabled};
 use dh_books::Books;
 use dh_types::{Charge, EntryMonth, LeaseNo};
 use sqlite::types::ValueRef;
@@ -36,6 +36,26 @@ impl Tabled for Charge {
     ghost has_shape = { record { is_row_is = λ r. refl; row_in_is = λ r. refl; key_is = λ x. refl } };
 
     ghost is_adding = { charge_is_adding };
+}
+
+impl Listed for Charge {
+    ghost use Rattle.dh_tables.specs.ChargeTable.{charge_listing, charge_is_listing};
+
+    ghost listing = { charge_listing };
+
+    fn list_text() -> &'static str {
+        "SELECT lease_no, k, month, day, amount FROM charge"
+    }
+
+    fn rowid_text() -> &'static str {
+        "SELECT rowid FROM charge"
+    }
+
+    fn held_count(books: &Books) -> usize {
+        books.charges().len()
+    }
+
+    ghost is_listing = { charge_is_listing };
 }
 
 /// The charges of this lease.

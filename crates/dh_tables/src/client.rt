@@ -1,6 +1,6 @@
 //! Clients in their table.
 
-use crate::{Look, Tabled};
+use crate::{Listed, Look, Tabled};
 use dh_books::Books;
 use dh_types::{Client, Id};
 use sqlite::types::ValueRef;
@@ -35,6 +35,26 @@ impl Tabled for Client {
     ghost has_shape = { record { is_row_is = λ r. refl; row_in_is = λ r. refl; key_is = λ x. refl } };
 
     ghost is_adding = { client_is_adding };
+}
+
+impl Listed for Client {
+    ghost use Rattle.dh_tables.specs.ClientTable.{client_listing, client_is_listing};
+
+    ghost listing = { client_listing };
+
+    fn list_text() -> &'static str {
+        "SELECT client_no, name, telephone, pref_type, max_rent FROM client"
+    }
+
+    fn rowid_text() -> &'static str {
+        "SELECT rowid FROM client"
+    }
+
+    fn held_count(books: &Books) -> usize {
+        books.clients().len()
+    }
+
+    ghost is_listing = { client_is_listing };
 }
 
 /// The client with this number.

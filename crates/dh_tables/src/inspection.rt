@@ -1,6 +1,6 @@
 //! Inspections in their table.
 
-use crate::{Look, Tabled};
+use crate::{Listed, Look, Tabled};
 use dh_books::Books;
 use dh_types::{EntryDay, Id, Inspection};
 use sqlite::types::ValueRef;
@@ -36,6 +36,26 @@ impl Tabled for Inspection {
     ghost has_shape = { record { is_row_is = λ r. refl; row_in_is = λ r. refl; key_is = λ x. refl } };
 
     ghost is_adding = { inspection_is_adding };
+}
+
+impl Listed for Inspection {
+    ghost use Rattle.dh_tables.specs.InspectionTable.{inspection_listing, inspection_is_listing};
+
+    ghost listing = { inspection_listing };
+
+    fn list_text() -> &'static str {
+        "SELECT property_no, day, staff_no, comment FROM inspection"
+    }
+
+    fn rowid_text() -> &'static str {
+        "SELECT rowid FROM inspection"
+    }
+
+    fn held_count(books: &Books) -> usize {
+        books.inspections().len()
+    }
+
+    ghost is_listing = { inspection_is_listing };
 }
 
 /// The inspection of this property on this day.

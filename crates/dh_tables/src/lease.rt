@@ -1,6 +1,6 @@
 //! Leases in their table.
 
-use crate::{Look, Tabled};
+use crate::{Listed, Look, Tabled};
 use dh_books::Books;
 use dh_types::{EntryDay, Id, Lease, LeaseNo};
 use sqlite::types::ValueRef;
@@ -35,6 +35,26 @@ impl Tabled for Lease {
     ghost has_shape = { record { is_row_is = λ r. refl; row_in_is = λ r. refl; key_is = λ x. refl } };
 
     ghost is_adding = { lease_is_adding };
+}
+
+impl Listed for Lease {
+    ghost use Rattle.dh_tables.specs.LeaseTable.{lease_listing, lease_is_listing};
+
+    ghost listing = { lease_listing };
+
+    fn list_text() -> &'static str {
+        "SELECT lease_no, client_no, property_no, start_day, months, method, rent FROM lease"
+    }
+
+    fn rowid_text() -> &'static str {
+        "SELECT rowid FROM lease"
+    }
+
+    fn held_count(books: &Books) -> usize {
+        books.leases().len()
+    }
+
+    ghost is_listing = { lease_is_listing };
 }
 
 /// The lease with this number.

@@ -1,4 +1,4 @@
-//! The tables of records: adding a row, and looking at rows. Read [`Tabled`] and [`Look`] first.
+//! The tables of records: adding a row, looking at rows, and reading a whole table. Read [`Tabled`], [`Look`] and [`Listed`] first.
 #![tactic(auto)]
 
 mod amend;
@@ -10,14 +10,18 @@ mod finding;
 mod gathering;
 mod inspection;
 mod lease;
+mod listing;
+mod loading;
 mod look;
 mod meta;
+mod open_runs;
 mod owner;
 mod part;
 mod property;
 mod property_changes;
 mod receipt;
 mod registration;
+mod rowids;
 mod run;
 mod run_changes;
 mod staff;
@@ -34,13 +38,17 @@ pub use finding::find;
 pub use gathering::gather;
 pub use inspection::{InspectionOf, InspectionsOf};
 pub use lease::{LeaseNumbered, LeasesOfClient, LeasesOfClientFrom, LeasesOfProperty};
+pub use listing::{Listed, rowids_listed, rows_listed};
+pub use loading::load_all;
 pub use look::{Look, rows_asked};
-pub use meta::{find_meta, insert_meta, set_next_month};
+pub use meta::{find_meta, insert_meta, meta_rows_shown, set_next_month};
+pub use open_runs::OpenRuns;
 pub use owner::OwnerNumbered;
 pub use part::{PartOf, PartsOfMonth};
 pub use property::{PropertiesManaged, PropertyNumbered};
 pub use receipt::{DepositsOfLease, ReceiptKeyed, ReceiptsOfLease};
 pub use registration::RegistrationAt;
+pub use rowids::are_numbered;
 pub use run::{RunKeyed, RunOf};
 pub use staff::MemberNumbered;
 pub use table::{Tabled, insert};

@@ -7,7 +7,9 @@ ghost use Rattle.sqlite.specs.Values.{bound_value};
 ghost use Rattle.sqlite.specs.State.{HasCleanDisk, IsUnchanged, Shows};
 ghost use Rattle.sqlite.specs.Held.{state};
 ghost use Rattle.dh_days.specs.declared.limits.TheConstants.{FIRST_MONTH, LAST_NEXT_MONTH};
-ghost use Rattle.dh_tables.specs.Calls.{CommitsNothing, GoesOn, IsReading, IsUndone, IsWriting};
+ghost use Rattle.dh_catalog.specs.Layout.{our_schema};
+ghost use Rattle.dh_catalog.specs.Making.{IsWritingOn};
+ghost use Rattle.dh_tables.specs.Calls.{CommitsNothing, GoesOn, HasOurTables, IsUndone, IsWriting};
 ghost use Rattle.dh_tables.specs.MetaTable.{AreFound, SetsMonths, SetsNext, meta_rows};
 
 use dh_rows::{Meta, Record};
@@ -22,7 +24,7 @@ pub fn insert_meta<S: Alter>(
     tx: &mut Transaction<'_, S>,
     months: &Meta,
 ) -> Result<(), Error>
-    requires writing { HasCleanDisk (state S.Store tx.old.conn.now) → IsWriting (state S.Store tx.old.conn.now) }
+    requires writing { HasCleanDisk (state S.Store tx.old.conn.now) → IsWritingOn our_schema (state S.Store tx.old.conn.now) }
     requires empty { HasCleanDisk (state S.Store tx.old.conn.now) → (state S.Store tx.old.conn.now).now.trees 0 ≡ [] }
     ensures same_reference { tx.new.conn.ghost_name ≡ tx.old.conn.ghost_name }
     ensures writing { HasCleanDisk (state S.Store tx.new.conn.now) → OnOk result (IsWriting (state S.Store tx.new.conn.now)) }
@@ -52,9 +54,9 @@ fn only_months(alloc: Global, rows: &[Row]) -> Result<Option<Meta>, Error>
     }
 }
 
-// The rows of the table, in some order. It changes nothing.
-fn shown_rows<S: Alter>(conn: &mut Connection<S>) -> Result<Vec<Row>, Error>
-    requires reading { HasCleanDisk (state S.Store conn.old) → IsReading (state S.Store conn.old) }
+/// The rows of the table, in some order. It changes nothing.
+pub fn meta_rows_shown<S: Alter>(conn: &mut Connection<S>) -> Result<Vec<Row>, Error>
+    requires reading { HasCleanDisk (state S.Store conn.old) → HasOurTables (state S.Store conn.old) }
     ensures rows { HasCleanDisk (state S.Store conn.new) → IfOk result (λ rows. IsPermutation (meta_rows (state S.Store conn.old).now.trees) rows.items) }
     ensures same { HasCleanDisk (state S.Store conn.new) → OnOk result (IsUnchanged (state S.Store conn.old) (state S.Store conn.new)) }
     ensures undone { HasCleanDisk (state S.Store conn.new) → OnErr result (IsUndone (state S.Store conn.old) (state S.Store conn.new)) }
@@ -65,13 +67,13 @@ fn shown_rows<S: Alter>(conn: &mut Connection<S>) -> Result<Vec<Row>, Error>
 
 /// The months of the file; None where the table does not have one row, of this version. It changes no table.
 pub fn find_meta<S: Alter>(alloc: Global, conn: &mut Connection<S>) -> Result<Option<Meta>, Error>
-    requires reading { HasCleanDisk (state S.Store conn.old) → IsReading (state S.Store conn.old) }
+    requires reading { HasCleanDisk (state S.Store conn.old) → HasOurTables (state S.Store conn.old) }
     ensures found { HasCleanDisk (state S.Store conn.new) → IfOk result (AreFound (meta_rows (state S.Store conn.old).now.trees)) }
     ensures same { HasCleanDisk (state S.Store conn.new) → OnOk result (IsUnchanged (state S.Store conn.old) (state S.Store conn.new)) }
     ensures undone { HasCleanDisk (state S.Store conn.new) → OnErr result (IsUndone (state S.Store conn.old) (state S.Store conn.new)) }
     ensures crash { CommitsNothing (state S.Store conn.old) (state S.Store conn.new) }
 {
-    let rows = shown_rows(conn)?;
+    let rows = meta_rows_shown(conn)?;
     only_months(alloc, &rows)
 }
 
@@ -86,7 +88,7 @@ fn number(month: Month) -> ValueRef<'static>
 /// Sets the month whose rent is to be run next, in a table that has its row. An error leaves all as it was, or has ended
 /// the transaction.
 pub fn set_next_month<S: Alter>(tx: &mut Transaction<'_, S>, next: Month) -> Result<(), Error>
-    requires writing { HasCleanDisk (state S.Store tx.old.conn.now) → IsWriting (state S.Store tx.old.conn.now) }
+    requires writing { HasCleanDisk (state S.Store tx.old.conn.now) → IsWritingOn our_schema (state S.Store tx.old.conn.now) }
     requires range { next ≤ LAST_NEXT_MONTH }
     ensures same_reference { tx.new.conn.ghost_name ≡ tx.old.conn.ghost_name }
     ensures set { HasCleanDisk (state S.Store tx.new.conn.now)

@@ -1,6 +1,6 @@
 //! Owners in their table.
 
-use crate::{Look, Tabled};
+use crate::{Listed, Look, Tabled};
 use dh_books::Books;
 use dh_types::{Id, Owner};
 use sqlite::types::ValueRef;
@@ -35,6 +35,26 @@ impl Tabled for Owner {
     ghost has_shape = { record { is_row_is = λ r. refl; row_in_is = λ r. refl; key_is = λ x. refl } };
 
     ghost is_adding = { owner_is_adding };
+}
+
+impl Listed for Owner {
+    ghost use Rattle.dh_tables.specs.OwnerTable.{owner_listing, owner_is_listing};
+
+    ghost listing = { owner_listing };
+
+    fn list_text() -> &'static str {
+        "SELECT owner_no, name, address, telephone FROM owner"
+    }
+
+    fn rowid_text() -> &'static str {
+        "SELECT rowid FROM owner"
+    }
+
+    fn held_count(books: &Books) -> usize {
+        books.owners().len()
+    }
+
+    ghost is_listing = { owner_is_listing };
 }
 
 /// The owner with this number.

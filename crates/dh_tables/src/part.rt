@@ -1,6 +1,6 @@
 //! Parts of runs in their table.
 
-use crate::{Look, Tabled};
+use crate::{Listed, Look, Tabled};
 use dh_books::Books;
 use dh_types::{EntryMonth, Id, Part};
 use sqlite::types::ValueRef;
@@ -36,6 +36,26 @@ impl Tabled for Part {
     ghost has_shape = { record { is_row_is = λ r. refl; row_in_is = λ r. refl; key_is = λ x. refl } };
 
     ghost is_adding = { part_is_adding };
+}
+
+impl Listed for Part {
+    ghost use Rattle.dh_tables.specs.PartTable.{part_listing, part_is_listing};
+
+    ghost listing = { part_listing };
+
+    fn list_text() -> &'static str {
+        "SELECT month, branch_no, through_lease, due_count, due_total FROM part"
+    }
+
+    fn rowid_text() -> &'static str {
+        "SELECT rowid FROM part"
+    }
+
+    fn held_count(books: &Books) -> usize {
+        books.parts().len()
+    }
+
+    ghost is_listing = { part_is_listing };
 }
 
 /// The part of the run of this month at this branch.

@@ -1,6 +1,6 @@
 //! Properties in their table.
 
-use crate::{Look, Tabled};
+use crate::{Listed, Look, Tabled};
 use dh_books::Books;
 use dh_types::{Id, Property};
 use sqlite::types::ValueRef;
@@ -21,7 +21,7 @@ impl Tabled for Property {
     ghost shelf = { property_shelf };
 
     fn insert_text() -> &'static str {
-        "INSERT INTO property (property_no, street, city, postcode, type, rooms, rent, owner_no, staff_no, branch_no) VALUES (?1, ?2, ?3, ?4, ?5, ?6, ?7, ?8, ?9, ?10)"
+        "INSERT INTO property (property_no, street, city, postcode, type, rooms, rent, owner_no, staff_no, branch_no) VALUES (?1,?2,?3,?4,?5,?6,?7,?8,?9,?10)"
     }
 
     fn put(self, books: &mut Books) -> Result<(), AllocError> {
@@ -35,6 +35,26 @@ impl Tabled for Property {
     ghost has_shape = { record { is_row_is = λ r. refl; row_in_is = λ r. refl; key_is = λ x. refl } };
 
     ghost is_adding = { property_is_adding };
+}
+
+impl Listed for Property {
+    ghost use Rattle.dh_tables.specs.PropertyTable.{property_listing, property_is_listing};
+
+    ghost listing = { property_listing };
+
+    fn list_text() -> &'static str {
+        "SELECT property_no, street, city, postcode, type, rooms, rent, owner_no, staff_no, branch_no FROM property"
+    }
+
+    fn rowid_text() -> &'static str {
+        "SELECT rowid FROM property"
+    }
+
+    fn held_count(books: &Books) -> usize {
+        books.properties().len()
+    }
+
+    ghost is_listing = { property_is_listing };
 }
 
 /// The property with this number.

@@ -1,6 +1,6 @@
 //! Receipts in their table.
 
-use crate::{Look, Tabled};
+use crate::{Listed, Look, Tabled};
 use dh_books::Books;
 use dh_types::{Key, LeaseNo, Receipt};
 use sqlite::types::ValueRef;
@@ -35,6 +35,26 @@ impl Tabled for Receipt {
     ghost has_shape = { record { is_row_is = λ r. refl; row_in_is = λ r. refl; key_is = λ x. refl } };
 
     ghost is_adding = { receipt_is_adding };
+}
+
+impl Listed for Receipt {
+    ghost use Rattle.dh_tables.specs.ReceiptTable.{receipt_listing, receipt_is_listing};
+
+    ghost listing = { receipt_listing };
+
+    fn list_text() -> &'static str {
+        "SELECT receipt_no, req_key, lease_no, kind, amount, day FROM receipt"
+    }
+
+    fn rowid_text() -> &'static str {
+        "SELECT rowid FROM receipt"
+    }
+
+    fn held_count(books: &Books) -> usize {
+        books.receipts().len()
+    }
+
+    ghost is_listing = { receipt_is_listing };
 }
 
 /// The receipt with this request key.

@@ -1,6 +1,6 @@
 //! Registrations in their table.
 
-use crate::{Look, Tabled};
+use crate::{Listed, Look, Tabled};
 use dh_books::Books;
 use dh_types::{Id, Registration};
 use sqlite::types::ValueRef;
@@ -35,6 +35,26 @@ impl Tabled for Registration {
     ghost has_shape = { record { is_row_is = λ r. refl; row_in_is = λ r. refl; key_is = λ x. refl } };
 
     ghost is_adding = { registration_is_adding };
+}
+
+impl Listed for Registration {
+    ghost use Rattle.dh_tables.specs.RegistrationTable.{registration_listing, registration_is_listing};
+
+    ghost listing = { registration_listing };
+
+    fn list_text() -> &'static str {
+        "SELECT client_no, branch_no, staff_no, day FROM registration"
+    }
+
+    fn rowid_text() -> &'static str {
+        "SELECT rowid FROM registration"
+    }
+
+    fn held_count(books: &Books) -> usize {
+        books.registrations().len()
+    }
+
+    ghost is_listing = { registration_is_listing };
 }
 
 /// The registration of this client at this branch.

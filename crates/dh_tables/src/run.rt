@@ -1,6 +1,6 @@
 //! Runs in their table.
 
-use crate::{Look, Tabled};
+use crate::{Listed, Look, Tabled};
 use dh_books::Books;
 use dh_types::{EntryMonth, Key, Run};
 use sqlite::types::ValueRef;
@@ -35,6 +35,26 @@ impl Tabled for Run {
     ghost has_shape = { record { is_row_is = λ r. refl; row_in_is = λ r. refl; key_is = λ x. refl } };
 
     ghost is_adding = { run_is_adding };
+}
+
+impl Listed for Run {
+    ghost use Rattle.dh_tables.specs.RunTable.{run_listing, run_is_listing};
+
+    ghost listing = { run_listing };
+
+    fn list_text() -> &'static str {
+        "SELECT month, req_key, due_count, due_total, closed FROM run"
+    }
+
+    fn rowid_text() -> &'static str {
+        "SELECT rowid FROM run"
+    }
+
+    fn held_count(books: &Books) -> usize {
+        books.runs().len()
+    }
+
+    ghost is_listing = { run_is_listing };
 }
 
 /// The run of this month.

@@ -1,6 +1,6 @@
 //! Members of staff in their table.
 
-use crate::{Look, Tabled};
+use crate::{Listed, Look, Tabled};
 use dh_books::Books;
 use dh_types::{Id, Staff};
 use sqlite::types::ValueRef;
@@ -35,6 +35,26 @@ impl Tabled for Staff {
     ghost has_shape = { record { is_row_is = λ r. refl; row_in_is = λ r. refl; key_is = λ x. refl } };
 
     ghost is_adding = { staff_is_adding };
+}
+
+impl Listed for Staff {
+    ghost use Rattle.dh_tables.specs.StaffTable.{staff_listing, staff_is_listing};
+
+    ghost listing = { staff_listing };
+
+    fn list_text() -> &'static str {
+        "SELECT staff_no, name, position, branch_no FROM staff"
+    }
+
+    fn rowid_text() -> &'static str {
+        "SELECT rowid FROM staff"
+    }
+
+    fn held_count(books: &Books) -> usize {
+        books.staff().len()
+    }
+
+    ghost is_listing = { staff_is_listing };
 }
 
 /// The member of staff with this number.

@@ -7,6 +7,7 @@ ghost use Rattle.std.specs.FinMap as fin;
 ghost use Rattle.sqlite.specs.State.{HasCleanDisk, Shows};
 ghost use Rattle.sqlite.specs.Held.{state};
 ghost use Rattle.dh_catalog.specs.Layout.{our_schema};
+ghost use Rattle.dh_catalog.specs.Making.{IsWritingOn};
 ghost use Rattle.dh_sql.specs.Shape.{Shape, IsKept, rows_in};
 ghost use Rattle.dh_sql.specs.Changes.{Becomes};
 ghost use Rattle.dh_tables.specs.Tables.{Adding, HasShape, IsAdding, Shelf};
@@ -53,7 +54,7 @@ pub fn insert<R: Tabled, S: Alter>(
     tx: &mut Transaction<'_, S>,
     row: &R,
 ) -> Result<(), Error>
-    requires writing { HasCleanDisk (state S.Store tx.old.conn.now) → IsWriting (state S.Store tx.old.conn.now) }
+    requires writing { HasCleanDisk (state S.Store tx.old.conn.now) → IsWritingOn our_schema (state S.Store tx.old.conn.now) }
     requires kept { HasCleanDisk (state S.Store tx.old.conn.now) → IsKept R.shape R.order (state S.Store tx.old.conn.now).now.trees }
     requires fresh { HasCleanDisk (state S.Store tx.old.conn.now) → IsNew R.shape R.order row.now (state S.Store tx.old.conn.now) }
     requires keeps { R.Record.can_keep row.now }

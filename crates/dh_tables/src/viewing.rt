@@ -1,6 +1,6 @@
 //! Viewings in their table.
 
-use crate::{Look, Tabled};
+use crate::{Listed, Look, Tabled};
 use dh_books::Books;
 use dh_types::{Id, Viewing};
 use sqlite::types::ValueRef;
@@ -35,6 +35,26 @@ impl Tabled for Viewing {
     ghost has_shape = { record { is_row_is = λ r. refl; row_in_is = λ r. refl; key_is = λ x. refl } };
 
     ghost is_adding = { viewing_is_adding };
+}
+
+impl Listed for Viewing {
+    ghost use Rattle.dh_tables.specs.ViewingTable.{viewing_listing, viewing_is_listing};
+
+    ghost listing = { viewing_listing };
+
+    fn list_text() -> &'static str {
+        "SELECT client_no, property_no, day, comment FROM viewing"
+    }
+
+    fn rowid_text() -> &'static str {
+        "SELECT rowid FROM viewing"
+    }
+
+    fn held_count(books: &Books) -> usize {
+        books.viewings().len()
+    }
+
+    ghost is_listing = { viewing_is_listing };
 }
 
 /// The viewing of this property by this client.

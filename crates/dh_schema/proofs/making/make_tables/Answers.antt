@@ -1,4 +1,4 @@
-use Rattle.std.proofs.Common.{◌≡◌, ◌∙◌, rules, sym, subst, arith}
+use Rattle.std.proofs.Common.{◌≡◌, rules, sym, subst, arith}
 use Rattle.sqlite.specs.State.{HasCleanDisk, Survives}
 use Rattle.sqlite.specs.Held.{state}
 use Rattle.dh_schema.specs.Tables.{empty_over}
@@ -9,16 +9,17 @@ use Rattle.dh_schema.proofs.making.make_tables.Goals as goal
 
 pub returns-clause-done : goal.returns-clause-done
 returns-clause-done g c clean =
+    let first = c.create_all.new.tx.conn.now in
     let last = c.insert_meta.new.tx.conn.now in
     let same : c.commit.new.self.0 ≡ c.conn-2-1.given.0 = search rules in
     let done : HasCleanDisk (state g.S.Store c.commit.new.self.0) = subst (λ h. HasCleanDisk (state g.S.Store h)) (sym same) clean in
     let early : HasCleanDisk (state g.S.Store last) = omega (arith, c.commit.ensures.survives.clean, done) in
-    let put = c.in_ok-insert_meta.ensures.made early in
-    let two = c.in_ok-create_branch.ensures.made (omega (arith, c.insert_meta.ensures.crash.clean, early)) in
-    let made = new_tables (state g.S.Store last).now.trees c.args.months.now put.1 put.2 (put.3 ∙ two.1) in
+    let bare = c.in_ok-create_all.ensures.made (omega (arith, c.insert_meta.ensures.crash.clean, early)) in
+    let set = c.in_ok-insert_meta.ensures.written early in
+    let made = new_tables c.args.months.now (state g.S.Store first) (state g.S.Store last) bare.1 set in
     let shown = c.in_ok-commit.ensures.ok done in
     subst (λ h. IsReady (state g.S.Store h) × (tables (state g.S.Store h) ≡ empty_over c.args.months.now)) same
-    (ready_after (λ t. t ≡ empty_over c.args.months.now) (state g.S.Store last) (state g.S.Store c.commit.new.self.0) put.0.schema_is shown.1 made)
+    (ready_after (λ t. t ≡ empty_over c.args.months.now) (state g.S.Store last) (state g.S.Store c.commit.new.self.0) set.schema_is shown.1 made)
 
 pub returns-clause-left : goal.returns-clause-left
 returns-clause-left g c clean =
@@ -28,13 +29,13 @@ returns-clause-left g c clean =
 pub returns-clause-survives : goal.returns-clause-survives
 returns-clause-survives g c =
     let old = c.args.conn.now in
+    let first = c.create_all.new.tx.conn.now in
     let last = c.insert_meta.new.tx.conn.now in
     let P = AreTables (λ t. t ≡ empty_over c.args.months.now) in
-    let inside = survives_both _ _ _ (survives_both _ _ _ c.create_meta.ensures.crash c.create_branch.ensures.crash) c.insert_meta.ensures.crash in
+    let inside = survives_both _ _ _ c.create_all.ensures.crash c.insert_meta.ensures.crash in
     let made = λ (clean : HasCleanDisk (state g.S.Store last)).
-    let put = c.in_ok-insert_meta.ensures.made clean in
-    let two = c.in_ok-create_branch.ensures.made (omega (arith, c.insert_meta.ensures.crash.clean, clean)) in
-    new_tables (state g.S.Store last).now.trees c.args.months.now put.1 put.2 (put.3 ∙ two.1) in
+    let bare = c.in_ok-create_all.ensures.made (omega (arith, c.insert_meta.ensures.crash.clean, clean)) in
+    new_tables c.args.months.now (state g.S.Store first) (state g.S.Store last) bare.1 (c.in_ok-insert_meta.ensures.written clean) in
     let whole = survives_committed g.S.Store old c.transaction-tx.result.conn.now last c.commit.new.self.0 P c.transaction-tx.ensures.begun inside made
     c.commit.ensures.survives in
     let same : c.commit.new.self.0 ≡ c.conn-2-1.given.0 = search rules in
@@ -43,13 +44,13 @@ returns-clause-survives g c =
 pub returns-in_err-commit-clause-survives : goal.returns-in_err-commit-clause-survives
 returns-in_err-commit-clause-survives g c =
     let old = c.args.conn.now in
+    let first = c.create_all.new.tx.conn.now in
     let last = c.insert_meta.new.tx.conn.now in
     let P = AreTables (λ t. t ≡ empty_over c.args.months.now) in
-    let inside = survives_both _ _ _ (survives_both _ _ _ c.create_meta.ensures.crash c.create_branch.ensures.crash) c.insert_meta.ensures.crash in
+    let inside = survives_both _ _ _ c.create_all.ensures.crash c.insert_meta.ensures.crash in
     let made = λ (clean : HasCleanDisk (state g.S.Store last)).
-    let put = c.in_ok-insert_meta.ensures.made clean in
-    let two = c.in_ok-create_branch.ensures.made (omega (arith, c.insert_meta.ensures.crash.clean, clean)) in
-    new_tables (state g.S.Store last).now.trees c.args.months.now put.1 put.2 (put.3 ∙ two.1) in
+    let bare = c.in_ok-create_all.ensures.made (omega (arith, c.insert_meta.ensures.crash.clean, clean)) in
+    new_tables c.args.months.now (state g.S.Store first) (state g.S.Store last) bare.1 (c.in_ok-insert_meta.ensures.written clean) in
     let whole = survives_committed g.S.Store old c.transaction-tx.result.conn.now last c.commit.new.self.0 P c.transaction-tx.ensures.begun inside made
     c.commit.ensures.survives in
     let same : c.commit.new.self.0 ≡ c.conn-2-1.given.0 = search rules in

@@ -29,7 +29,7 @@ returns-clause-amended g c clean x there =
     let becomes : Row → Row = λ r. drop 1 (shows how.project given r) in
     let key = keyed_rows table.total table.ties it old.now.trees (g.A.Amend.key q) x there in
     amends table.total table.ties it how.text our_schema quiet how.place how.table how.tests how.project law.means law.tree_is old new given
-    c.in_ok-execute.field-0 (g.A.Amend.key q) x (g.A.Amend.amended q x) was.schema (c.requires.kept early) (c.requires.apart early) (law.finds q)
+    c.in_ok-execute.field-0 (g.A.Amend.key q) x (g.A.Amend.amended q x) was.schema_is (c.requires.kept early) (c.requires.apart early) (law.finds q)
     (law.keeps_rowid q)
     (λ r stored own is.
     subst (λ y. IsTurnedInto it how.table r (becomes r) (g.A.Amend.amended q y)) is (law.turns q r known stored own))

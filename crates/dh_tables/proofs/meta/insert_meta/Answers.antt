@@ -15,7 +15,7 @@ did g c clean =
     let was = c.requires.writing early in
     let ran = c.in_ok-execute.ensures.runs clean was.inside in
     let one = rw (c.deref.ensures.value, c.in_ok-values.ensures.columns) at ran.0 in
-    adds_meta old new c.args.months.now c.in_ok-execute.field-0 was.schema (c.requires.empty early) (c.in_ok-values.ensures.grammar tt) one
+    adds_meta old new c.args.months.now c.in_ok-execute.field-0 was.schema_is (c.requires.empty early) (c.in_ok-values.ensures.grammar tt) one
 
 pub returns-clause-written : goal.returns-clause-written
 returns-clause-written g c clean = did g c clean

@@ -34,7 +34,7 @@ did g c clean =
       keyed = laws.is_adding.keyed x (old.now.trees how.table.tree);
       record_is = laws.has_shape.row_in_is (g.R.Record.row x) ∙ g.met.R.Record.decodes x good;
       grammar = laws.has_shape.is_row_is (g.R.Record.row x) ∙ good;
-    }) was.schema (c.requires.kept early) (c.requires.fresh early) told
+    }) was.schema_is (c.requires.kept early) (c.requires.fresh early) told
 
 pub returns-clause-added : goal.returns-clause-added
 returns-clause-added g c clean = did g c clean

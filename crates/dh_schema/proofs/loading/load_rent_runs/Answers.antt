@@ -1,0 +1,33 @@
+use Rattle.std.proofs.Common.{[], ◌∷◌}
+use Rattle.std.proofs.lemmas.Result.{err_from_is_err_and}
+use Rattle.dh_schema.specs.Kinds.{Runs, Parts}
+use Rattle.dh_schema.proofs.ReadTables.{and_table, one_table, still_none, still_ours, stopped}
+use Rattle.dh_schema.proofs.loading.load_rent_runs.Goals as goal
+
+pub load_table-requires-2-clause-reading : goal.load_table-requires-2-clause-reading
+load_table-requires-2-clause-reading g c =
+    let t1 = one_table Runs c.in_ok-load_table.ensures in
+    still_ours t1 c.requires.reading
+
+pub load_table-requires-2-clause-none : goal.load_table-requires-2-clause-none
+load_table-requires-2-clause-none g c clean =
+    let t1 = one_table Runs c.in_ok-load_table.ensures in
+    (still_none t1 (Parts ∷ []) (λ early. ((c.requires.none early).1.0, tt)) clean).0
+
+pub returns-in_err-load_table : goal.returns-in_err-load_table
+returns-in_err-load_table g c =
+    let t1 = one_table Runs c.in_err-load_table.ensures in
+    let is = err_from_is_err_and c.from_residual.result c.from_residual.ensures.1 in
+    stopped (Parts ∷ []) is t1
+
+pub returns-in_err-load_table-2 : goal.returns-in_err-load_table-2
+returns-in_err-load_table-2 g c =
+    let t1 = one_table Runs c.in_ok-load_table.ensures in
+    let t2 = and_table t1 Parts c.in_err-load_table-2.ensures in
+    let is = err_from_is_err_and c.from_residual-in_err-load_table-2.result c.from_residual-in_err-load_table-2.ensures.1 in
+    stopped [] is t2
+
+pub returns : goal.returns
+returns g c =
+    let t1 = one_table Runs c.in_ok-load_table.ensures in
+    and_table t1 Parts c.in_ok-load_table-2.ensures

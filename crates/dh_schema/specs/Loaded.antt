@@ -1,0 +1,64 @@
+-- Tables that are read into books, one after the other.
+use Rattle.std.specs.Prelude.{◌≡◌, ◌++◌, List, [], ◌∷◌, Result, Err, IfErr, OnErr, OnOk}
+use Rattle.std.specs.List.{AllByRecursion}
+use Rattle.std.specs.FinMap.{empty}
+use Rattle.sqlite_trees.specs.Tree.{Trees}
+use Rattle.sqlite.specs.State.{HasCleanDisk, IsUnchanged, State}
+use Rattle.dh_model.specs.Books as machine
+use Rattle.dh_tables.specs.Calls.{CommitsNothing, IsUndone}
+use Rattle.dh_schema.specs.declared.fault.LoadFault.{LoadFault}
+use Rattle.dh_schema.specs.declared.fault.LoadFault.TheVariants.{Damaged}
+use Rattle.dh_schema.specs.Faults.{IsLoadFault}
+use Rattle.dh_schema.specs.Kinds.{Kind, shelf_of}
+use Rattle.dh_schema.specs.Kinds.{Branches, Staff, Owners, Properties, Clients, Registrations, Viewings, Inspections, Leases, Charges, Receipts, Runs, Parts}
+use Rattle.dh_schema.specs.Tables.{AreRecords, IsTableInOrder, records_in}
+
+-- ---- the kinds in the order in which they are read
+
+abbrev pub people : List Kind
+people = Branches ∷ Staff ∷ Owners ∷ Clients ∷ []
+
+abbrev pub lettings : List Kind
+lettings = Properties ∷ Registrations ∷ Viewings ∷ Inspections ∷ []
+
+abbrev pub accounts : List Kind
+accounts = Leases ∷ Charges ∷ Receipts ∷ []
+
+abbrev pub rent_runs : List Kind
+rent_runs = Runs ∷ Parts ∷ []
+
+abbrev pub all_kinds : List Kind
+all_kinds = people ++ lettings ++ accounts ++ rent_runs
+
+-- ---- what was read
+
+-- the books have no record of these kinds
+abbrev pub HasNone : List Kind → machine.State → Type 0
+HasNone kinds books = AllByRecursion (λ kind. (shelf_of kind).held books ≡ empty) kinds
+
+-- the books with the records that the tables of these kinds have
+abbrev pub with_records : List Kind → Trees → machine.State → machine.State
+with_records [] trees books = books
+with_records (kind ∷ kinds) trees books = with_records kinds trees ((shelf_of kind).with books (records_in kind trees))
+
+-- each row of these kinds is a record
+abbrev pub AllAreRecords : List Kind → Trees → Type 0
+AllAreRecords kinds trees = AllByRecursion (λ kind. AreRecords kind trees) kinds
+
+-- the tables of these kinds are in order, and were put into the books
+pub record AreLoaded (kinds : List Kind) (trees : Trees) (before after : machine.State) : Type 0 where
+  pub in_order : AllByRecursion (λ kind. IsTableInOrder kind trees) kinds
+  pub books : after ≡ with_records kinds trees before
+
+-- A call that only reads: what holds where it went well, and what where it tells damage. It changes no table.
+pub record Reads (Done Damage : Type 0) (result : Result (Unit {0}) LoadFault) (old new : State) : Type 0 where
+  pub done : HasCleanDisk new → OnOk result Done
+  pub damaged : HasCleanDisk new → result ≡ Err Damaged → Damage
+  pub cause : IfErr result IsLoadFault
+  pub same : HasCleanDisk new → OnOk result (IsUnchanged old new)
+  pub undone : HasCleanDisk new → OnErr result (IsUndone old new)
+  pub crash : CommitsNothing old new
+
+-- one that reads the tables of these kinds into the books
+pub record Loads (kinds : List Kind) (result : Result (Unit {0}) LoadFault) (old new : State) (before after : machine.State) : Type 0 where
+  pub reads : Reads (AreLoaded kinds old.now.trees before after) (¬ AllAreRecords kinds old.now.trees) result old new

@@ -1,0 +1,13 @@
+//! Laws of tables.
+
+ghost use Rattle.dh_schema.specs.TableLaws.{BooksAreKeyed, OrderHasValues};
+
+/// The records of any tables stand under their keys.
+pub fn books_are_keyed()
+    ensures { BooksAreKeyed }
+{}
+
+/// Tables in order hold values of their kinds.
+pub fn order_has_values()
+    ensures { OrderHasValues }
+{}

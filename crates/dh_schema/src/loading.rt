@@ -1,0 +1,122 @@
+//! Reading the tables of all kinds into books, a group at a time.
+
+ghost use Rattle.std.specs.Prelude.{◌≡◌};
+ghost use Rattle.std.specs.List.{AllByRecursion};
+ghost use Rattle.std.specs.FinMap as fin;
+ghost use Rattle.sqlite.specs.State.{HasCleanDisk};
+ghost use Rattle.sqlite.specs.Held.{state};
+ghost use Rattle.dh_sql.specs.Shape.{IsStored};
+ghost use Rattle.dh_tables.specs.Calls.{HasOurTables};
+ghost use Rattle.dh_tables.specs.Listing.{IsLoaded};
+ghost use Rattle.dh_schema.specs.Loaded.{HasNone, Loads, Reads, accounts, all_kinds, lettings, people, rent_runs};
+
+use crate::fault::LoadFault;
+use dh_books::Books;
+use dh_tables::{Listed, load_all};
+use dh_types::{
+    Branch, Charge, Client, Inspection, Lease, Owner, Part, Property, Receipt, Registration, Run,
+    Staff, Viewing,
+};
+use sqlite::{Alter, Connection};
+use std::alloc::Global;
+
+// Loads a table into books that have none of it; damage where a row is no record.
+fn load_table<R: Listed, S: Alter>(
+    alloc: Global,
+    conn: &mut Connection<S>,
+    books: &mut Books,
+) -> Result<(), LoadFault>
+    requires reading { HasCleanDisk (state S.Store conn.old) → HasOurTables (state S.Store conn.old) }
+    requires none { HasCleanDisk (state S.Store conn.old) → R.shelf.held books.old ≡ fin.empty }
+    ensures { Reads (IsLoaded R.shape R.order R.shelf (state S.Store conn.old).now.trees books.old books.new)
+        (¬ AllByRecursion (IsStored R.shape) ((state S.Store conn.old).now.trees R.shape.tree)) result
+        (state S.Store conn.old) (state S.Store conn.new) }
+{
+    if load_all::<R, S>(alloc, conn, books)? {
+        Ok(())
+    } else {
+        Err(LoadFault::Damaged)
+    }
+}
+
+// Branches, staff, owners and clients.
+fn load_people<S: Alter>(
+    alloc: Global,
+    conn: &mut Connection<S>,
+    books: &mut Books,
+) -> Result<(), LoadFault>
+    requires reading { HasCleanDisk (state S.Store conn.old) → HasOurTables (state S.Store conn.old) }
+    requires none { HasCleanDisk (state S.Store conn.old) → HasNone people books.old }
+    ensures { Loads people result (state S.Store conn.old) (state S.Store conn.new) books.old books.new }
+{
+    load_table::<Branch, S>(alloc, conn, books)?;
+    load_table::<Staff, S>(alloc, conn, books)?;
+    load_table::<Owner, S>(alloc, conn, books)?;
+    load_table::<Client, S>(alloc, conn, books)?;
+    Ok(())
+}
+
+// Properties, and who is interested in them.
+fn load_lettings<S: Alter>(
+    alloc: Global,
+    conn: &mut Connection<S>,
+    books: &mut Books,
+) -> Result<(), LoadFault>
+    requires reading { HasCleanDisk (state S.Store conn.old) → HasOurTables (state S.Store conn.old) }
+    requires none { HasCleanDisk (state S.Store conn.old) → HasNone lettings books.old }
+    ensures { Loads lettings result (state S.Store conn.old) (state S.Store conn.new) books.old books.new }
+{
+    load_table::<Property, S>(alloc, conn, books)?;
+    load_table::<Registration, S>(alloc, conn, books)?;
+    load_table::<Viewing, S>(alloc, conn, books)?;
+    load_table::<Inspection, S>(alloc, conn, books)?;
+    Ok(())
+}
+
+// Leases, and what is charged and paid on them.
+fn load_accounts<S: Alter>(
+    alloc: Global,
+    conn: &mut Connection<S>,
+    books: &mut Books,
+) -> Result<(), LoadFault>
+    requires reading { HasCleanDisk (state S.Store conn.old) → HasOurTables (state S.Store conn.old) }
+    requires none { HasCleanDisk (state S.Store conn.old) → HasNone accounts books.old }
+    ensures { Loads accounts result (state S.Store conn.old) (state S.Store conn.new) books.old books.new }
+{
+    load_table::<Lease, S>(alloc, conn, books)?;
+    load_table::<Charge, S>(alloc, conn, books)?;
+    load_table::<Receipt, S>(alloc, conn, books)?;
+    Ok(())
+}
+
+// Rent runs and their parts.
+fn load_rent_runs<S: Alter>(
+    alloc: Global,
+    conn: &mut Connection<S>,
+    books: &mut Books,
+) -> Result<(), LoadFault>
+    requires reading { HasCleanDisk (state S.Store conn.old) → HasOurTables (state S.Store conn.old) }
+    requires none { HasCleanDisk (state S.Store conn.old) → HasNone rent_runs books.old }
+    ensures { Loads rent_runs result (state S.Store conn.old) (state S.Store conn.new) books.old books.new }
+{
+    load_table::<Run, S>(alloc, conn, books)?;
+    load_table::<Part, S>(alloc, conn, books)?;
+    Ok(())
+}
+
+/// Loads the tables of all kinds into books that have no record.
+pub(crate) fn load_records<S: Alter>(
+    alloc: Global,
+    conn: &mut Connection<S>,
+    books: &mut Books,
+) -> Result<(), LoadFault>
+    requires reading { HasCleanDisk (state S.Store conn.old) → HasOurTables (state S.Store conn.old) }
+    requires none { HasCleanDisk (state S.Store conn.old) → HasNone all_kinds books.old }
+    ensures { Loads all_kinds result (state S.Store conn.old) (state S.Store conn.new) books.old books.new }
+{
+    load_people(alloc, conn, books)?;
+    load_lettings(alloc, conn, books)?;
+    load_accounts(alloc, conn, books)?;
+    load_rent_runs(alloc, conn, books)?;
+    Ok(())
+}

@@ -1,0 +1,49 @@
+use Rattle.std.proofs.Common.{[], List, ℕ, IfErr, IfOk, arith, subst}
+use Rattle.sqlite.specs.State.{CommitsShowing, FailsToQuery, HasCleanDisk, Shown, Survives}
+use Rattle.sqlite.specs.Held.{state}
+use Rattle.dh_catalog.specs.Layout.{our_schema}
+use Rattle.dh_sql.proofs.Listing.{shows_all}
+use Rattle.dh_sql.proofs.Selecting.{commits_nothing, same_ok, undone_err}
+use Rattle.dh_tables.proofs.Undone.{undone_from}
+use Rattle.dh_tables.proofs.listing.rows_listed.Goals as goal
+
+pub returns-clause-rows : goal.returns-clause-rows
+returns-clause-rows g c clean =
+    let old = state g.S.Store c.args.conn.now in
+    let new = state g.S.Store c.query_all.new.self in
+    let early : HasCleanDisk old = omega (arith, c.query_all.ensures.survives.clean, clean) in
+    let it = g.R.Tabled.shape in
+    let how = g.R.Listed.listing in
+    let law = g.met.R.Listed.is_listing in
+    let told = subst (λ (t : List ℕ). IfOk c.query_all.result (λ rows. Shown t [] old new rows.items)) c.list_text.ensures (c.query_all.ensures.ok clean) in
+    shows_all how.text our_schema it.tree how.project how.names law.selects it.columns law.shows_columns old new (c.requires.reading early) c.query_all.result told
+
+pub returns-clause-same : goal.returns-clause-same
+returns-clause-same g c clean =
+    let old = state g.S.Store c.args.conn.now in
+    let new = state g.S.Store c.query_all.new.self in
+    let early : HasCleanDisk old = omega (arith, c.query_all.ensures.survives.clean, clean) in
+    let how = g.R.Listed.listing in
+    let law = g.met.R.Listed.is_listing in
+    let told = subst (λ (t : List ℕ). IfOk c.query_all.result (λ rows. Shown t [] old new rows.items)) c.list_text.ensures (c.query_all.ensures.ok clean) in
+    same_ok how.text our_schema g.R.Tabled.shape.tree [] how.project [] how.names [] law.selects c.query_all.result old new (c.requires.reading early) told
+
+pub returns-clause-undone : goal.returns-clause-undone
+returns-clause-undone g c clean =
+    let old = state g.S.Store c.args.conn.now in
+    let new = state g.S.Store c.query_all.new.self in
+    let early : HasCleanDisk old = omega (arith, c.query_all.ensures.survives.clean, clean) in
+    let how = g.R.Listed.listing in
+    let law = g.met.R.Listed.is_listing in
+    let told = subst (λ (t : List ℕ). IfErr c.query_all.result (FailsToQuery t [] old new)) c.list_text.ensures (c.query_all.ensures.err clean) in
+    undone_from c.query_all.result old new
+    (undone_err how.text our_schema g.R.Tabled.shape.tree [] how.project [] how.names [] law.selects c.query_all.result old new (c.requires.reading early) told)
+
+pub returns-clause-crash : goal.returns-clause-crash
+returns-clause-crash g c =
+    let old = state g.S.Store c.args.conn.now in
+    let new = state g.S.Store c.query_all.new.self in
+    let how = g.R.Listed.listing in
+    let law = g.met.R.Listed.is_listing in
+    let told = subst (λ (t : List ℕ). Survives old new (CommitsShowing t [] old)) c.list_text.ensures c.query_all.ensures.survives in
+    commits_nothing how.text our_schema g.R.Tabled.shape.tree [] how.project [] how.names [] law.selects old new c.requires.reading told

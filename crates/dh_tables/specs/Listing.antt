@@ -1,0 +1,57 @@
+-- Reading a whole table, of which no more is known than its schema.
+use Rattle.std.specs.Prelude.{◌≡◌, ℕ, true, List, [], ◌∷◌, map}
+use Rattle.std.specs.declared.cmp.Ordering.{Ordering}
+use Rattle.std.specs.Ordering.{eq_by_cmp, int_cmp}
+use Rattle.std.specs.List.{AllByRecursion, IsDistinct}
+use Rattle.sqlite_value.specs.Order.{Row}
+use Rattle.sqlite_sql.specs.Term.{Term, col}
+use Rattle.sqlite_trees.specs.Tree.{Trees, rowid}
+use Rattle.sqlite_trees.specs.View.{is_int}
+use Rattle.sqlite_rules.specs.Edit.{id_in}
+use Rattle.dh_model.specs.Books as machine
+use Rattle.dh_catalog.specs.Layout.{our_schema}
+use Rattle.dh_sql.specs.Queries.{shows}
+use Rattle.dh_sql.specs.Shape.{AreApart, IsKept, IsStored, Shape, rows_in, stored_in}
+use Rattle.dh_sql.specs.Texts.{IsSelectText}
+use Rattle.dh_tables.specs.Tables.{Shelf}
+
+-- SELECT project FROM table, and SELECT rowid FROM table
+pub record Listing : Type 0 where
+  pub text : List ℕ
+  pub project : List Term
+  pub names : List (List ℕ)
+  pub rowid_text : List ℕ
+  pub rowid_name : List ℕ
+
+-- the texts show the columns of each row, and the rowid of each
+pub record IsListing (tree : ℕ) (columns : Row → Row) (listing : Listing) : Type 0 where
+  pub selects : IsSelectText listing.text our_schema tree [] listing.project [] listing.names
+  pub shows_columns : (r : Row) → shows listing.project [] r ≡ columns r
+  pub selects_rowid : IsSelectText listing.rowid_text our_schema tree [] (col 1 0 ∷ []) [] (listing.rowid_name ∷ [])
+
+-- the row of a rowid alone
+abbrev pub rowid_alone : Row → Row
+rowid_alone r = rowid r ∷ []
+
+-- each row has a whole number as its rowid, and none has that of another
+pub record AreNumbered (rows : List Row) : Type 0 where
+  pub whole : AllByRecursion (λ row. is_int (rowid row) ≡ true) rows
+  pub once : IsDistinct (eq_by_cmp int_cmp) (map (λ row. id_in (rowid row)) rows)
+
+-- rowids are whole numbers, and each is of one row
+pub record HasRowids (rows : List Row) : Type 0 where
+  pub whole : AllByRecursion (λ r. is_int (rowid r) ≡ true) rows
+  pub apart : AreApart rows
+
+module _ {K X : Type 0} (it : Shape K X) (R : K → K → Ordering) (shelf : Shelf K X R) (trees : Trees) (old new : machine.State) where
+  -- each row is a record, each key is there once, and the books have the records
+  pub record IsGathered : Type 0 where
+    pub values : AllByRecursion (IsStored it) (trees it.tree)
+    pub keys : IsDistinct (eq_by_cmp R) (map (λ r. it.key (stored_in it r)) (trees it.tree))
+    pub books : new ≡ shelf.with old (rows_in it trees)
+
+  -- the table is in order, and the books have its records
+  pub record IsLoaded : Type 0 where
+    pub kept : IsKept it R trees
+    pub apart : AreApart (trees it.tree)
+    pub books : new ≡ shelf.with old (rows_in it trees)

@@ -1,0 +1,56 @@
+//! All rows of a table of a store of which no more is known than that it has our tables.
+
+ghost use Rattle.std.specs.Prelude.{◌≡◌, length, map, IfOk, OnOk, OnErr, IsPermutation};
+ghost use Rattle.std.specs.FinMap as fin;
+ghost use Rattle.sqlite.specs.State.{HasCleanDisk, IsUnchanged};
+ghost use Rattle.sqlite.specs.Held.{state};
+ghost use Rattle.dh_tables.specs.Calls.{CommitsNothing, HasOurTables, IsUndone};
+ghost use Rattle.dh_tables.specs.Listing.{IsListing, Listing, rowid_alone};
+
+use crate::Tabled;
+use dh_books::Books;
+use sqlite::{Alter, Connection, Error, Row};
+
+/// A record whose whole table can be read.
+pub trait Listed: Tabled {
+    /// The texts that show each row and each rowid.
+    ghost listing: { Listing };
+
+    /// The text that shows each row.
+    fn list_text() -> &'static str
+        ensures { result.now ≡ listing.text };
+
+    /// The text that shows each rowid.
+    fn rowid_text() -> &'static str
+        ensures { result.now ≡ listing.rowid_text };
+
+    /// How many records of this kind the books have.
+    fn held_count(books: &Books) -> usize
+        ensures { result ≡ length (fin.values (Self.shelf.held books.now)) };
+
+    ghost is_listing: { IsListing Self.shape.tree Self.shape.columns listing };
+}
+
+/// The columns of each row of the table, in some order. It changes nothing.
+pub fn rows_listed<R: Listed, S: Alter>(conn: &mut Connection<S>) -> Result<Vec<Row>, Error>
+    requires reading { HasCleanDisk (state S.Store conn.old) → HasOurTables (state S.Store conn.old) }
+    ensures rows { HasCleanDisk (state S.Store conn.new)
+        → IfOk result (λ rows. IsPermutation (map R.shape.columns ((state S.Store conn.old).now.trees R.shape.tree)) rows.items) }
+    ensures same { HasCleanDisk (state S.Store conn.new) → OnOk result (IsUnchanged (state S.Store conn.old) (state S.Store conn.new)) }
+    ensures undone { HasCleanDisk (state S.Store conn.new) → OnErr result (IsUndone (state S.Store conn.old) (state S.Store conn.new)) }
+    ensures crash { CommitsNothing (state S.Store conn.old) (state S.Store conn.new) }
+{
+    conn.query_all(R::list_text(), &[])
+}
+
+/// The rowid of each row of the table, as a row of its own, in some order. It changes nothing.
+pub fn rowids_listed<R: Listed, S: Alter>(conn: &mut Connection<S>) -> Result<Vec<Row>, Error>
+    requires reading { HasCleanDisk (state S.Store conn.old) → HasOurTables (state S.Store conn.old) }
+    ensures rows { HasCleanDisk (state S.Store conn.new)
+        → IfOk result (λ rows. IsPermutation (map rowid_alone ((state S.Store conn.old).now.trees R.shape.tree)) rows.items) }
+    ensures same { HasCleanDisk (state S.Store conn.new) → OnOk result (IsUnchanged (state S.Store conn.old) (state S.Store conn.new)) }
+    ensures undone { HasCleanDisk (state S.Store conn.new) → OnErr result (IsUndone (state S.Store conn.old) (state S.Store conn.new)) }
+    ensures crash { CommitsNothing (state S.Store conn.old) (state S.Store conn.new) }
+{
+    conn.query_all(R::rowid_text(), &[])
+}
