@@ -21,7 +21,6 @@ fn answer_over<S: Alter>(
 ) -> Result<String, AllocError> {
     match kind {
         "tables made" => tables::made(alloc, conn, input),
-        "two branches put" => tables::both_put(alloc, conn, input),
         _ => "no kind".to_string(alloc),
     }
 }

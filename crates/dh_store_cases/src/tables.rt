@@ -1,15 +1,8 @@
-//! The tables made, and branches put into them.
+//! The tables made.
 
-ghost use Rattle.std.specs.Prelude.{◌≡◌, OnOk};
-ghost use Rattle.sqlite.specs.State.{HasCleanDisk};
-ghost use Rattle.sqlite.specs.Held.{state};
-ghost use Rattle.dh_schema.specs.Store.{IsReady};
-
-use dh_agency_scripts::{branch, branches_in, found};
+use dh_agency_scripts::found;
 use dh_examples::january;
-use dh_model::Change;
 use dh_schema::{install, version};
-use dh_store::apply;
 use dh_types::{Fault, Month};
 use sqlite::{Alter, Connection};
 use std::alloc::{AllocError, Global};
@@ -26,7 +19,7 @@ fn version_made<S: Alter>(alloc: Global, conn: &mut Connection<S>) -> Result<Str
     if let Err(fault) = install(alloc, conn, january()) {
         return format!(in alloc; "{fault}");
     }
-    match version(conn) {
+    match version(alloc, conn) {
         Ok(number) => format!(in alloc; "version {number}"),
         Err(_) => "no version".to_string(alloc),
     }
@@ -60,51 +53,4 @@ pub fn made<S: Alter>(
         "SELECT id, version, first_month, next_month FROM meta",
     )?;
     format!(in alloc; "{first}, {again}: {objects} {rows}")
-}
-
-// Puts the branch of the line into the tables; where there is none, want of memory is told.
-fn put<S: Alter>(alloc: Global, conn: &mut Connection<S>, line: &str) -> Result<(), Fault>
-    requires { HasCleanDisk (state S.Store conn.old) → IsReady (state S.Store conn.old) }
-    ensures { HasCleanDisk (state S.Store conn.new) → OnOk result (IsReady (state S.Store conn.new)) }
-{
-    match branch(alloc, line) {
-        Some(branch) => {
-            let change = Change::Branch(branch);
-            let applied = apply(alloc, conn, &change);
-            drop(change);
-            applied
-        }
-        None => Err(Fault::Memory),
-    }
-}
-
-// Puts both branches into new tables: how the second ends.
-fn put_in_turn<S: Alter>(
-    alloc: Global,
-    conn: &mut Connection<S>,
-    first: &str,
-    second: &str,
-) -> Result<(), Fault> {
-    install(alloc, conn, january())?;
-    put(alloc, conn, first)?;
-    put(alloc, conn, second)
-}
-
-/// Two branches put into new tables by themselves, with no verdict: how the second ends, whether a transaction is open, and
-/// the rows.
-pub fn both_put<S: Alter>(
-    alloc: Global,
-    conn: &mut Connection<S>,
-    lines: &str,
-) -> Result<String, AllocError> {
-    let (first, second) = lines.split_once(';').unwrap_or((lines, ""));
-    let ended = put_in_turn(alloc, conn, first, second);
-    let ended = outcome(alloc, ended)?;
-    let mode = if conn.is_autocommit() {
-        "closed"
-    } else {
-        "open"
-    };
-    let rows = branches_in(alloc, conn)?;
-    format!(in alloc; "{ended}, {mode}: {rows}")
 }
