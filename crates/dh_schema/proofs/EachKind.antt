@@ -1,6 +1,5 @@
 -- Each kind at its place among the tables and in the books, apart from the others.
-use Rattle.std.proofs.Common.{◌≡◌, refl, ℕ, nat_eq, true, false, List, [], ◌∷◌, Some, slice_get}
-use Rattle.std.specs.List.{AllByRecursion}
+use Rattle.std.proofs.Common.{◌≡◌, refl, ℕ, nat_eq, true, false, Some, slice_get}
 use Rattle.std.specs.Cmp.{IsTotalOrder}
 use Rattle.std.specs.FinMap.{FinMap, IsAntisymmetric, empty}
 use Rattle.sqlite_schema.specs.declared.schema.Table.{Table}

@@ -1,5 +1,5 @@
 -- Tables that were just made.
-use Rattle.std.proofs.Common.{◌≡◌, ◌∙◌, refl, sym, ap, subst, nat_eq, false, List, [], map, Option, None, option_map}
+use Rattle.std.proofs.Common.{◌≡◌, ◌∙◌, refl, sym, ap, subst, nat_eq, false, List, [], map, None, option_map}
 use Rattle.std.specs.declared.cmp.Ordering.{Ordering}
 use Rattle.std.specs.List.{IsDistinct}
 use Rattle.std.specs.FinMap.{empty, from_entries}
@@ -21,7 +21,7 @@ use Rattle.dh_sql.specs.Shape.{AreApart, IsKept, Shape, entry_in, rows_in}
 use Rattle.dh_sql.proofs.Lists.{all_at}
 use Rattle.dh_tables.specs.MetaTable.{SetsMonths}
 use Rattle.dh_schema.specs.Kinds.{Kind, order_of, shape_of}
-use Rattle.dh_schema.specs.Tables.{AreInOrder, empty_over, loaded_from, months_of}
+use Rattle.dh_schema.specs.Tables.{empty_over, loaded_from, months_of}
 use Rattle.dh_schema.specs.Store.{AreTables, IsReady, tables}
 use Rattle.dh_schema.proofs.Changing.{showing}
 use Rattle.dh_schema.proofs.EachKind.{beside_meta, held_in, listed, none_held, place_of, same_books, table_of, tree_is}

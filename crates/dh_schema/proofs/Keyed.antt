@@ -1,12 +1,14 @@
--- What holds of tables: their books are keyed, and in order they hold values of their kinds.
-use Rattle.std.proofs.Common.{◌≡◌}
+-- What holds of tables: their books are keyed, in order they hold values of their kinds, and sound they show their run.
+use Rattle.std.proofs.Common.{arith}
 use Rattle.sqlite_trees.specs.Tree.{Trees}
+use Rattle.dh_model.specs.Runs.{batch_size}
 use Rattle.dh_laws.specs.InOrder.{StandUnder}
+use Rattle.dh_laws.proofs.ShownRun.{sound_books_show}
 use Rattle.dh_sql.proofs.Found.{keyed_rows}
 use Rattle.dh_schema.specs.Kinds.{Kind, shape_of}
 use Rattle.dh_schema.specs.Kinds.{Branches, Staff, Owners, Properties, Clients, Registrations, Viewings, Inspections, Leases, Charges, Receipts, Runs, Parts}
-use Rattle.dh_schema.specs.Tables.{records_in}
-use Rattle.dh_schema.specs.TableLaws.{BooksAreKeyed, OrderHasValues}
+use Rattle.dh_schema.specs.Tables.{books_in, records_in}
+use Rattle.dh_schema.specs.TableLaws.{BooksAreKeyed, OrderHasValues, SoundTablesShowTheirRun}
 use Rattle.dh_schema.proofs.EachKind.{ties_of, total_of}
 
 -- the records of a kind stand under their keys
@@ -32,3 +34,6 @@ books_are_keyed trees = record {
 
 pub order_has_values : OrderHasValues
 order_has_values trees order = record { months = order.months; meta = order.meta; rows = λ kind. (order.tables kind).kept.values }
+
+pub sound_tables_show_their_run : SoundTablesShowTheirRun
+sound_tables_show_their_run trees sound = sound_books_show batch_size (books_in trees) (omega arith) (books_are_keyed trees) sound.rules

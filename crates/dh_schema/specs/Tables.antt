@@ -1,5 +1,5 @@
 -- What the tables mean: the books that their rows are, the open run that they show, and when they are in order.
-use Rattle.std.specs.Prelude.{◌≡◌, List, [], ◌∷◌, None}
+use Rattle.std.specs.Prelude.{List, [], ◌∷◌, None}
 use Rattle.std.specs.List.{AllByRecursion}
 use Rattle.std.specs.FinMap.{FinMap}
 use Rattle.sqlite_value.specs.Order.{Row}
@@ -14,7 +14,7 @@ use Rattle.dh_rows.specs.Months.{Months}
 use Rattle.dh_rows.specs.MetaRows.{months_in}
 use Rattle.dh_sql.specs.Shape.{AreApart, IsKept, IsStored, rows_in}
 use Rattle.dh_tables.specs.MetaTable.{HasMonths, meta_rows}
-use Rattle.dh_schema.specs.Kinds.{Kind, key_of, order_of, record_of, shape_of}
+use Rattle.dh_schema.specs.Kinds.{Kind, order_of, record_of, shape_of}
 use Rattle.dh_schema.specs.Kinds.{Branches, Staff, Owners, Properties, Clients, Registrations, Viewings, Inspections, Leases, Charges, Receipts, Runs, Parts}
 
 -- the records of a kind

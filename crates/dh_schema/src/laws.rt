@@ -1,6 +1,6 @@
 //! Laws of tables.
 
-ghost use Rattle.dh_schema.specs.TableLaws.{BooksAreKeyed, OrderHasValues};
+ghost use Rattle.dh_schema.specs.TableLaws.{BooksAreKeyed, OrderHasValues, SoundTablesShowTheirRun};
 
 /// The records of any tables stand under their keys.
 pub fn books_are_keyed()
@@ -10,4 +10,9 @@ pub fn books_are_keyed()
 /// Tables in order hold values of their kinds.
 pub fn order_has_values()
     ensures { OrderHasValues }
+{}
+
+/// The open run that sound tables give is the one that they show.
+pub fn sound_tables_show_their_run()
+    ensures { SoundTablesShowTheirRun }
 {}

@@ -1,6 +1,6 @@
 use Rattle.std.proofs.Common.{◌++◌, []}
 use Rattle.std.proofs.lemmas.Result.{err_from_is_err_and}
-use Rattle.dh_schema.specs.Loaded.{accounts, lettings, people, rent_runs}
+use Rattle.dh_schema.specs.Loaded.{accounts, lettings, rent_runs}
 use Rattle.dh_schema.proofs.ReadTables.{and_more, still_none, still_ours, stopped}
 use Rattle.dh_schema.proofs.loading.load_records.Goals as goal
 
