@@ -18,7 +18,7 @@ fn play(rt: &HostRuntime, tally: &mut Tally, kind: &str, lines: &str) -> io::Res
 fn main(rt: HostRuntime) -> io::Result<()> {
     let text = io::read_to_string(rt.alloc(), rt.reader())?;
     let mut tally = Tally::new();
-    for block in text.as_str().split("\n\n") {
+    for block in text.as_str().trim_end().split("\n\n") {
         let (kind, lines) = block.split_once('\n').unwrap_or((block, ""));
         play(&rt, &mut tally, kind, lines)?;
     }

@@ -49,7 +49,7 @@ pub mod LiveCommands
 pub mod LiveParts
 pub mod LiveTables
 pub mod ShownBatches
-mod ShownRun
+pub mod ShownRun
 mod AskAnswers
 mod AskRefusals
 mod FindKeys
