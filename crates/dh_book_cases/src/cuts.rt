@@ -3,10 +3,10 @@
 use crate::calls::{cut_after, cut_before, empty, mend, say, tear, tell};
 use crate::lines::is_command;
 use crate::playing::parted;
-use dh_tally::Tally;
 use dh_books::Books;
 use dh_examples::{Block, Unreadable, command};
 use dh_player::Reach;
+use dh_tally::Tally;
 use dh_types::Command;
 use std::alloc::{AllocError, Global};
 use std::io;

@@ -3,10 +3,10 @@
 use crate::calls::{empty, put_back};
 use crate::lines::{Teller, answered, is_command};
 use crate::playing::{compare, parted, told};
-use dh_tally::Tally;
 use dh_books::Books;
 use dh_examples::{Block, Unreadable, command};
 use dh_player::{Happening, Reach, play};
+use dh_tally::Tally;
 use dh_types::Reply;
 use std::alloc::{AllocError, Global};
 use std::io;

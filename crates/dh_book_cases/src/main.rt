@@ -18,9 +18,9 @@ mod runs;
 mod terms;
 
 use dh_examples::script;
+use dh_tally::Tally;
 use playing::play;
 use std::io;
-use dh_tally::Tally;
 
 fn main(rt: HostRuntime) -> io::Result<()> {
     let text = io::read_to_string(rt.alloc(), rt.reader())?;

@@ -4,9 +4,9 @@ use crate::calls::empty;
 use crate::cuts::play_with_cuts;
 use crate::happenings::play_list;
 use crate::lines::{Teller, answered};
-use dh_tally::Tally;
 use dh_books::Books;
 use dh_examples::{Block, Manner, Unreadable};
+use dh_tally::Tally;
 use std::alloc::{AllocError, Global};
 use std::io;
 
