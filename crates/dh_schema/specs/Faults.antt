@@ -1,5 +1,5 @@
 -- The faults that the store is the cause of.
-use Rattle.std.specs.Prelude.{⊤, Result, Ok, Err}
+use Rattle.std.specs.Prelude.{Bool, true, false, ⊤, Result, Ok, Err}
 use Rattle.sqlite.specs.declared.error.Error.{Error}
 use Rattle.sqlite.specs.declared.error.Error.TheVariants.{SqliteFailure}
 use Rattle.sqlite.specs.declared.error.ErrorCode.TheVariants.{OutOfMemory}
@@ -33,3 +33,9 @@ IsOfStore (load.Fault fault) = IsFirstFault fault
 abbrev pub IsTurnedAway : {X : Type 0} → Result X LoadFault → Type 0
 IsTurnedAway (Ok it) = ⊥
 IsTurnedAway (Err fault) = IsOfStore fault
+
+-- what the reading of a table comes to, where false says that a row is no record
+abbrev pub told_as : Result Bool Error → Result (Unit {0}) LoadFault
+told_as (Ok true) = Ok tt
+told_as (Ok false) = Err load.Damaged
+told_as (Err error) = Err (load.Fault (fault_of error))

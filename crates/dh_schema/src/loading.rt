@@ -8,17 +8,29 @@ ghost use Rattle.sqlite.specs.Held.{state};
 ghost use Rattle.dh_sql.specs.Shape.{IsStored};
 ghost use Rattle.dh_tables.specs.Calls.{HasOurTables};
 ghost use Rattle.dh_tables.specs.Listing.{IsLoaded};
+ghost use Rattle.dh_schema.specs.Faults.{told_as};
 ghost use Rattle.dh_schema.specs.Loaded.{HasNone, Loads, Reads, accounts, all_kinds, lettings, people, rent_runs};
 
-use crate::fault::LoadFault;
+use crate::fault::{LoadFault, fault_of};
 use dh_books::Books;
 use dh_tables::{Listed, load_all};
 use dh_types::{
     Branch, Charge, Client, Inspection, Lease, Owner, Part, Property, Receipt, Registration, Run,
     Staff, Viewing,
 };
-use sqlite::{Alter, Connection};
+use sqlite::{Alter, Connection, Error};
 use std::alloc::Global;
+
+// What the reading of a table comes to: damage is told as damage, and a fault as what it is.
+fn told(read: Result<bool, Error>) -> Result<(), LoadFault>
+    ensures { result ≡ told_as read }
+{
+    match read {
+        Ok(true) => Ok(()),
+        Ok(false) => Err(LoadFault::Damaged),
+        Err(error) => Err(LoadFault::Fault(fault_of(error))),
+    }
+}
 
 // Loads a table into books that have none of it; damage where a row is no record.
 fn load_table<R: Listed, S: Alter>(
@@ -32,11 +44,7 @@ fn load_table<R: Listed, S: Alter>(
         (¬ AllByRecursion (IsStored R.shape) ((state S.Store conn.old).now.trees R.shape.tree)) result
         (state S.Store conn.old) (state S.Store conn.new) }
 {
-    if load_all::<R, S>(alloc, conn, books)? {
-        Ok(())
-    } else {
-        Err(LoadFault::Damaged)
-    }
+    told(load_all::<R, S>(alloc, conn, books))
 }
 
 // Branches, staff, owners and clients.
