@@ -4,4 +4,4 @@
 set -eu
 cd "$(dirname "$0")"
 printf '%9s %9s %9s %10s %10s\n' leases charges receipts seconds "us/lease"
-./large_books.sh audit ${*:-1000 3000 10000}
+./program.sh large_books audit ${*:-1000 3000 10000}

@@ -4,4 +4,4 @@
 set -eu
 cd "$(dirname "$0")"
 printf '%9s %-9s %10s %10s\n' leases call seconds "us/lease"
-./large_books.sh rules ${*:-1000 3000 10000}
+./program.sh large_books rules ${*:-1000 3000 10000}
