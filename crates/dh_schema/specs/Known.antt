@@ -1,4 +1,4 @@
--- The machine on what has a table, which is the branches so far. What has none is answered as a line of an unknown word:
+-- The machine on what is served, which is the branches so far. What is not served is answered as a line of an unknown word:
 -- a command is refused for its first field, a question for its second.
 use Rattle.std.specs.Prelude.{◌≡◌, Bool, true, false, Option, None}
 use Rattle.std.specs.FinMap.{get}

@@ -48,7 +48,8 @@ pub trait Amend {
     ghost is_amending: { IsAmending Self.Record.shape amending can_amend given key amended };
 }
 
-/// Changes the record that has the key. An error leaves all as it was, or has ended the transaction.
+/// Changes the record that has the key. An error has changed nothing or ended the
+/// transaction, where the store is still open.
 pub fn update<A: Amend, S: Alter>(
     alloc: Global,
     tx: &mut Transaction<'_, S>,

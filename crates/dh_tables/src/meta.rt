@@ -18,7 +18,8 @@ use sqlite::types::ValueRef;
 use sqlite::{Alter, Connection, Error, Row, Transaction};
 use std::alloc::Global;
 
-/// Writes the row into the table, which has none. An error leaves all as it was, or has ended the transaction.
+/// Writes the row into the table, which has none. An error has changed nothing or ended the transaction, where the store
+/// is still open.
 pub fn insert_meta<S: Alter>(
     alloc: Global,
     tx: &mut Transaction<'_, S>,
@@ -85,8 +86,8 @@ fn number(month: Month) -> ValueRef<'static>
     ValueRef::Int(i64::from(month.number()))
 }
 
-/// Sets the month whose rent is to be run next, in a table that has its row. An error leaves all as it was, or has ended
-/// the transaction.
+/// Sets the month whose rent is to be run next, in a table that has its row. An error has changed nothing or ended
+/// the transaction, where the store is still open.
 pub fn set_next_month<S: Alter>(tx: &mut Transaction<'_, S>, next: Month) -> Result<(), Error>
     requires writing { HasCleanDisk (state S.Store tx.old.conn.now) → IsWritingOn our_schema (state S.Store tx.old.conn.now) }
     requires range { next ≤ LAST_NEXT_MONTH }

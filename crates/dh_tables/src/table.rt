@@ -48,7 +48,8 @@ pub trait Tabled: Record {
     ghost is_adding: { IsAdding shape Self.Record.row Self.Record.is_row adding };
 }
 
-/// Adds the record, whose key is new. An error leaves all as it was, or has ended the transaction.
+/// Adds the record, whose key is new. An error has changed nothing or ended the transaction,
+/// where the store is still open.
 pub fn insert<R: Tabled, S: Alter>(
     alloc: Global,
     tx: &mut Transaction<'_, S>,
