@@ -19,5 +19,6 @@ pub mod LeasePropertyText
 pub mod LeaseClientText
 pub mod ChargeMonthText
 pub mod ReceiptLeaseText
+pub mod ViewingPropertyText
 pub mod Building
 pub mod Telling

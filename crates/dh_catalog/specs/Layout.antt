@@ -17,7 +17,7 @@ use Rattle.dh_catalog.specs.ChargeTable.{charge, charge_key}
 use Rattle.dh_catalog.specs.ReceiptTable.{receipt, receipt_key}
 use Rattle.dh_catalog.specs.RunTable.{run, run_key}
 use Rattle.dh_catalog.specs.PartTable.{part, part_key}
-use Rattle.dh_catalog.specs.LookIndexes.{property_staff, lease_property, lease_client, charge_month, receipt_lease}
+use Rattle.dh_catalog.specs.LookIndexes.{property_staff, lease_property, lease_client, charge_month, receipt_lease, viewing_property}
 
 abbrev pub our_tables : List Table
 our_tables =
@@ -28,7 +28,7 @@ abbrev pub our_indexes : List Index
 our_indexes =
     branch_key ∷ staff_key ∷ owner_key ∷ property_key ∷ client_key ∷ registration_key ∷ viewing_key ∷ inspection_key
     ∷ charge_key ∷ receipt_key ∷ run_key ∷ part_key
-    ∷ property_staff ∷ lease_property ∷ lease_client ∷ charge_month ∷ receipt_lease ∷ []
+    ∷ property_staff ∷ lease_property ∷ lease_client ∷ charge_month ∷ receipt_lease ∷ viewing_property ∷ []
 
 -- the first so many tables and so many indexes
 abbrev pub first : ℕ → ℕ → Schema
@@ -91,6 +91,9 @@ lease_client_schema = first 14 15
 
 abbrev pub charge_month_schema : Schema
 charge_month_schema = first 14 16
+
+abbrev pub receipt_lease_schema : Schema
+receipt_lease_schema = first 14 17
 
 -- all of them
 abbrev pub our_schema : Schema

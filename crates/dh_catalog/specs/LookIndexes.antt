@@ -22,3 +22,7 @@ charge_month = look_index (codes "charge_month") 29 18 (3 ∷ [])
 -- the receipts of a lease, and those of a kind
 abbrev pub receipt_lease : Index
 receipt_lease = look_index (codes "receipt_lease") 30 20 (3 ∷ 4 ∷ [])
+
+-- the viewings of a property
+abbrev pub viewing_property : Index
+viewing_property = look_index (codes "viewing_property") 31 13 (2 ∷ [])

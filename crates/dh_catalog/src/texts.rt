@@ -133,8 +133,11 @@ pub const CHARGE_MONTH: &str = "CREATE INDEX charge_month ON charge (month)";
 /// The index of the receipts of a lease, and those of a kind.
 pub const RECEIPT_LEASE: &str = "CREATE INDEX receipt_lease ON receipt (lease_no, kind)";
 
-/// The texts in the order in which they are run.
-pub(crate) static TEXTS: [&str; 19] = [
+/// The index of the viewings of a property: who manages it can't change without a look at the rows that refer to it.
+pub const VIEWING_PROPERTY: &str = "CREATE INDEX viewing_property ON viewing (property_no)";
+
+/// The texts in the order in which they are run: the tables, then the indexes.
+pub static TEXTS: [&str; 20] = [
     META,
     BRANCH,
     STAFF,
@@ -154,4 +157,5 @@ pub(crate) static TEXTS: [&str; 19] = [
     LEASE_CLIENT,
     CHARGE_MONTH,
     RECEIPT_LEASE,
+    VIEWING_PROPERTY,
 ];

@@ -1,33 +1,11 @@
 //! Tables made, changed and read.
 
 use dh_books::Books;
-use dh_catalog::texts;
+use dh_catalog::texts::TEXTS;
 use dh_schema::{LoadFault, load, version};
 use sqlite::{Alter, Connection};
 use std::alloc::{AllocError, Global};
 use std::io;
-
-static TEXTS: [&str; 19] = [
-    texts::META,
-    texts::BRANCH,
-    texts::STAFF,
-    texts::OWNER,
-    texts::PROPERTY,
-    texts::CLIENT,
-    texts::REGISTRATION,
-    texts::VIEWING,
-    texts::INSPECTION,
-    texts::LEASE,
-    texts::CHARGE,
-    texts::RECEIPT,
-    texts::RUN,
-    texts::PART,
-    texts::PROPERTY_STAFF,
-    texts::LEASE_PROPERTY,
-    texts::LEASE_CLIENT,
-    texts::CHARGE_MONTH,
-    texts::RECEIPT_LEASE,
-];
 
 // Makes our tables, with some words of the texts replaced.
 fn make<S: Alter>(
