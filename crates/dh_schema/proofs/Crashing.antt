@@ -1,5 +1,5 @@
 -- What a crash leaves, from what calls may commit.
-use Rattle.std.proofs.Common.{◌≡◌, true, IsTrue, ap, sym, subst, ◌∙◌, arith}
+use Rattle.std.proofs.Common.{◌≡◌, true, IsTrue, ap, refl, sym, subst, ◌∙◌, inl, inr, arith}
 use Rattle.sqlite.specs.Tree.{Trees}
 use Rattle.sqlite.specs.Effect.{Database}
 use Rattle.sqlite.specs.State.{State, HasCleanDisk, Survives}
@@ -31,9 +31,19 @@ ready_leaves s settled stays ready =
     record {
       only = λ left may. settled left ready.is_open may ∙ same;
       some = subst s.may_leave same (stays ready.is_open);
-      in_order = ready.in_order;
+      sound = ready.sound;
     }
 
 -- tables that are left alone are tables of which this holds
 pub leaves_these : (s : State) (P : machine.State → Type 0) → LeavesItsTables s → P (tables s) → Leaves s P
-leaves_these s P alone holds left may = subst (AreTables P) (sym (alone.only left may)) (alone.in_order, holds)
+leaves_these s P alone holds left may = subst (AreTables P) (sym (alone.only left may)) (alone.sound, holds)
+
+-- where nothing was committed since the tables were ready, a crash leaves these
+pub unchanged_leaves : (old new : State) → ((left : Trees) → IsTrue old.is_open → old.may_leave left → left ≡ old.committed.trees)
+    → IsReady old → HasCleanDisk new → Survives old new (λ _. ⊥) → Leaves new (λ t. t ≡ tables old)
+unchanged_leaves old new settled ready clean survives left may = elim (survives.crash clean left may) [
+  | inl was ↦
+      let same = settled left ready.is_open was ∙ ap (λ (d : Database). d.trees) (sym ready.settled) in
+      subst (AreTables (λ t. t ≡ tables old)) (sym same) (ready.sound, refl)
+  | inr none ↦ absurd none
+]

@@ -1,5 +1,5 @@
 -- Tables that were just made.
-use Rattle.std.proofs.Common.{◌≡◌, ◌∙◌, refl, sym, ap, subst, nat_eq, false, List, [], map, None, option_map}
+use Rattle.std.proofs.Common.{◌≡◌, ◌∙◌, refl, sym, ap, subst, ℕ, nat_eq, false, List, [], map, None, option_map}
 use Rattle.std.specs.declared.cmp.Ordering.{Ordering}
 use Rattle.std.specs.List.{IsDistinct}
 use Rattle.std.specs.FinMap.{empty, from_entries}
@@ -12,6 +12,7 @@ use Rattle.dh_types.specs.declared.run.Run.{Run}
 use Rattle.dh_model.specs.declared.open_run.OpenRun.{OpenRun}
 use Rattle.dh_model.specs.Books as machine
 use Rattle.dh_model.specs.Runs.{batch_size}
+use Rattle.dh_model.specs.Rules.{MeetsRules}
 use Rattle.dh_model.specs.Whole.{batches_shown, run_shown}
 use Rattle.dh_laws.proofs.EmptyBooks.{empty_books_are_in_order}
 use Rattle.dh_rows.specs.Months.{Months}
@@ -21,7 +22,7 @@ use Rattle.dh_sql.specs.Shape.{AreApart, IsKept, Shape, entry_in, rows_in}
 use Rattle.dh_sql.proofs.Lists.{all_at}
 use Rattle.dh_tables.specs.MetaTable.{SetsMonths}
 use Rattle.dh_schema.specs.Kinds.{Kind, order_of, shape_of}
-use Rattle.dh_schema.specs.Tables.{empty_over, loaded_from, months_of}
+use Rattle.dh_schema.specs.Tables.{AreInOrder, empty_over, loaded_from, months_of, state_in}
 use Rattle.dh_schema.specs.Store.{AreTables, IsReady, tables}
 use Rattle.dh_schema.proofs.Changing.{showing}
 use Rattle.dh_schema.proofs.EachKind.{beside_meta, held_in, listed, none_held, place_of, same_books, table_of, tree_is}
@@ -54,8 +55,8 @@ module _ (months : Months) (before after : State) (bare : AreEmpty our_tables be
       let beside : nat_eq (table_of kind).tree 0 ≡ false = ap (λ n. nat_eq n 0) is ∙ (beside_meta kind).1 in
       subst (λ n. after.now.trees n ≡ []) is (set.others (place_of kind) (table_of kind) (listed kind) beside ∙ was)
 
-  pub new_tables : AreTables (λ t. t ≡ empty_over months) after.now.trees
-  new_tables = (
+  new_in_order : AreInOrder after.now.trees × (state_in after.now.trees ≡ empty_over months)
+  new_in_order = (
     record {
       months = months;
       meta = set.months_are;
@@ -78,6 +79,14 @@ module _ (months : Months) (before after : State) (bare : AreEmpty our_tables be
       shows_none : showing (empty_over months) ≡ empty_over months
       shows_none = λ i. record { books = (empty_over months).books; open_run = no_run months i }
 
+-- with one month they are sound: they have no row
+pub new_tables : (first : ℕ) (before after : State) → AreEmpty our_tables before.now.trees
+    → SetsMonths (record { first = first; next = first }) before after → AreTables (λ t. t ≡ machine.start first) after.now.trees
+new_tables first before after bare set =
+    let made = new_in_order (record { first = first; next = first }) before after bare set in
+    let rules = (empty_books_are_in_order batch_size first).rules in
+    (record { in_order = made.0; rules = subst (λ (t : machine.State). MeetsRules t.books batch_size) (sym made.1) rules }, made.1)
+
 -- what was committed over our tables is ready
 pub ready_after : (P : machine.State → Type 0) (last new : State) → last.now.schema ≡ our_schema → Shows last new last.now last.now false
     → AreTables P last.now.trees → IsReady new × P (tables new)
@@ -89,7 +98,7 @@ ready_after P last new has shown made =
         autocommit = shown.mode;
         schema = ap (λ (d : Database). d.schema) shown.now_is ∙ has;
         settled = shown.now_is ∙ sym shown.committed_is;
-        in_order = moved.0;
+        sound = moved.0;
       },
       moved.1,
     )

@@ -5,7 +5,6 @@ ghost use Rattle.sqlite.specs.State.{HasCleanDisk};
 ghost use Rattle.sqlite.specs.Held.{state};
 ghost use Rattle.dh_days.specs.declared.limits.TheConstants.{LAST_ENTRY_MONTH};
 ghost use Rattle.dh_model.specs.Books.{start};
-ghost use Rattle.dh_schema.specs.Tables.{empty_over};
 ghost use Rattle.dh_schema.specs.Faults.{IsFirstFault};
 ghost use Rattle.dh_schema.specs.Store.{IsReady, IsBlank, LeavesItsTables, Commits, tables};
 
@@ -17,24 +16,25 @@ use dh_types::{Fault, Month};
 use sqlite::{Alter, Connection, Error};
 use std::alloc::Global;
 
-// Makes the tables with this row in meta, in one transaction.
+// Makes the tables of empty books that begin with this month, in one transaction.
 fn make_tables<S: Alter>(
     alloc: Global,
     conn: &mut Connection<S>,
-    months: &Meta,
+    first: Month,
 ) -> Result<(), Error>
+    requires range { first ≤ LAST_ENTRY_MONTH }
     requires autocommit { (state S.Store conn.old).in_transaction ≡ false }
     requires blank { IsBlank (state S.Store conn.old) }
     ensures done { HasCleanDisk (state S.Store conn.new)
-        → OnOk result (IsReady (state S.Store conn.new) × (tables (state S.Store conn.new) ≡ empty_over months.now)) }
+        → OnOk result (IsReady (state S.Store conn.new) × (tables (state S.Store conn.new) ≡ start first)) }
     ensures left { HasCleanDisk (state S.Store conn.new) → OnOk result (LeavesItsTables (state S.Store conn.new)) }
     ensures undone { HasCleanDisk (state S.Store conn.new) → IsTrue (state S.Store conn.new).is_open
         → OnErr result ((state S.Store conn.new).committed ≡ (state S.Store conn.old).committed) }
-    ensures survives { Commits (state S.Store conn.old) (state S.Store conn.new) (λ t. t ≡ empty_over months.now) }
+    ensures survives { Commits (state S.Store conn.old) (state S.Store conn.new) (λ t. t ≡ start first) }
 {
     let mut tx = conn.transaction();
     create_all(&mut tx)?;
-    insert_meta(alloc, &mut tx, months)?;
+    insert_meta(alloc, &mut tx, &Meta::new(first, first))?;
     tx.commit()?;
     Ok(())
 }
@@ -56,5 +56,5 @@ pub fn install<S: Alter>(alloc: Global, conn: &mut Connection<S>, first: Month) 
     if !is_blank || !conn.is_autocommit() {
         return Err(Fault::Store);
     }
-    make_tables(alloc, conn, &Meta::new(first, first)).map_err(fault_of)
+    make_tables(alloc, conn, first).map_err(fault_of)
 }
