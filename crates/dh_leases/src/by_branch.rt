@@ -3,6 +3,7 @@
 ghost use Rattle.std.specs.Prelude.{◌≡◌, ◌≤◌, ℕ, ◌++◌, ◌∷◌, [], if◌then◌else◌, length, List, IfOk, OnOk};
 ghost use Rattle.std.specs.BTreeMap.{is_at};
 ghost use Rattle.std.specs.FinMap.{values};
+ghost use Rattle.dh_values.specs.declared.limits.TheConstants.{MOST_NUMBER};
 ghost use Rattle.dh_model.specs.BatchLaws.{AreNumbered};
 ghost use Rattle.dh_model.specs.Books.{text_cmp};
 ghost use Rattle.dh_model.specs.Runs.{dues_of_branch};
@@ -38,7 +39,7 @@ pub(crate) fn dues_by_branch(
 ) -> Result<BTreeMap<Id, Vec<Charge>>, AllocError>
     ensures value { IfOk result (λ dues. (branch : List ℕ) → charges_at dues branch ≡ dues_of_branch books.now.books month branch) }
     ensures numbered { IfOk result (λ _. AreNumbered books.now.books) }
-    ensures few { IfOk result (λ _. length (values books.now.books.leases) ≤ 99999999) }
+    ensures few { IfOk result (λ _. length (values books.now.books.leases) ≤ MOST_NUMBER) }
 {
     let mut dues = BTreeMap::new(alloc);
     for lease in books.leases() {

@@ -2,6 +2,7 @@
 
 ghost use Rattle.std.specs.Prelude.{◌≡◌, ◌≤◌, IfOk, length, map};
 ghost use Rattle.std.specs.FinMap.{keys, values};
+ghost use Rattle.dh_values.specs.declared.limits.TheConstants.{MOST_NUMBER};
 ghost use Rattle.dh_model.specs.BatchLaws.{AreNumbered};
 ghost use Rattle.dh_model.specs.Runs.{dues_of_branch, part_of};
 
@@ -20,7 +21,7 @@ pub fn branch_parts(
     ensures value { IfOk result (λ parts.
         parts.items ≡ map (λ branch. part_of month branch (dues_of_branch books.now.books month branch)) (keys books.now.books.branches)) }
     ensures numbered { IfOk result (λ _. AreNumbered books.now.books) }
-    ensures few { IfOk result (λ _. length (values books.now.books.leases) ≤ 99999999) }
+    ensures few { IfOk result (λ _. length (values books.now.books.leases) ≤ MOST_NUMBER) }
 {
     let dues = dues_by_branch(alloc, books, month)?;
     let mut parts = Vec::new(alloc);

@@ -1,6 +1,7 @@
 //! The books with so many batches of a month's run.
 
-ghost use Rattle.std.specs.Prelude.{◌≡◌, ◌*◌, ◌≤◌, IfOk, OnOk, Some, length, option_copied, take};
+ghost use Rattle.std.specs.Prelude.{◌≡◌, ◌+◌, ◌*◌, ◌≤◌, IfOk, OnOk, Some, length, option_copied, take};
+ghost use Rattle.dh_values.specs.declared.limits.TheConstants.{MOST_NUMBER};
 ghost use Rattle.dh_model.specs.Runs.{batch_size, posted_charges, posted_parts};
 ghost use Rattle.dh_model.specs.Whole.{completed, open_row, whole, with_posted};
 ghost use Rattle.dh_leases.specs.Posted.{with_month};
@@ -32,7 +33,7 @@ fn posted(
 ) -> Result<(Vec<Charge>, Vec<Part>), AllocError>
     ensures charges { IfOk result (λ rows. rows.0.items ≡ posted_charges batch_size books.now.books month done) }
     ensures parts { IfOk result (λ rows. rows.1.items ≡ posted_parts batch_size books.now.books month done) }
-    ensures few { IfOk result (λ rows. length rows.0.items ≤ 100000000) }
+    ensures few { IfOk result (λ rows. length rows.0.items ≤ MOST_NUMBER + 1) }
 {
     let dues = dues_by_branch(alloc, books, month)?;
     let mut charges = Vec::new(alloc);
@@ -58,7 +59,7 @@ fn charges_after(
     done: u128,
 ) -> Result<Vec<Charge>, AllocError>
     ensures value { IfOk result (λ charges. charges.items ≡ posted_charges batch_size books.now.books month done) }
-    ensures few { IfOk result (λ charges. length charges.items ≤ 100000000) }
+    ensures few { IfOk result (λ charges. length charges.items ≤ MOST_NUMBER + 1) }
 {
     let (charges, _parts) = posted(alloc, books, month, done)?;
     Ok(charges)

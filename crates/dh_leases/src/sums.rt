@@ -1,6 +1,7 @@
 //! What charges come to.
 
 ghost use Rattle.std.specs.Prelude.{◌≡◌, ◌+◌, ◌*◌, ◌<◌, ◌≤◌, [], Some, length};
+ghost use Rattle.dh_values.specs.declared.limits.TheConstants.{MOST_NUMBER, MOST_RENT};
 ghost use Rattle.dh_model.specs.Runs.{at_least, closed_run, part_of};
 ghost use Rattle.dh_leases.specs.Sums.{sum_of};
 
@@ -37,14 +38,14 @@ fn greater(through: Option<LeaseNo>, lease: LeaseNo) -> LeaseNo
 
 // The sum with one charge more.
 fn with_charge(sum: Sum, charge: &Charge) -> Sum
-    requires few { sum.count < 100000000 }
-    requires small { sum.total ≤ 999999 * sum.count }
+    requires few { sum.count ≤ MOST_NUMBER }
+    requires small { sum.total ≤ MOST_RENT * sum.count }
     ensures value { result ≡ record {
       through = Some (at_least sum.through charge.now.lease);
       count = sum.count + 1;
       total = sum.total + charge.now.amount;
     } }
-    ensures bound { charge.now.amount ≤ 999999 }
+    ensures bound { charge.now.amount ≤ MOST_RENT }
 {
     let amount = u64::from(charge.amount.pence());
     Sum {
@@ -56,7 +57,7 @@ fn with_charge(sum: Sum, charge: &Charge) -> Sum
 
 // What the charges come to.
 fn sum_of(charges: &[Charge]) -> Sum
-    requires { length charges.now ≤ 100000000 }
+    requires { length charges.now ≤ MOST_NUMBER + 1 }
     ensures { result ≡ sum_of charges.now }
 {
     let mut sum = nothing();
@@ -68,7 +69,7 @@ fn sum_of(charges: &[Charge]) -> Sum
 
 /// What the branch has of the month's run where these are its charges.
 pub(crate) fn part_with(month: EntryMonth, branch: Id, charges: &[Charge]) -> Part
-    requires { length charges.now ≤ 100000000 }
+    requires { length charges.now ≤ MOST_NUMBER + 1 }
     ensures { result ≡ part_of month branch charges.now }
 {
     let sum = sum_of(charges);
@@ -83,7 +84,7 @@ pub(crate) fn part_with(month: EntryMonth, branch: Id, charges: &[Charge]) -> Pa
 
 /// The run closed with these charges.
 pub(crate) fn closed(run: Run, charges: &[Charge]) -> Run
-    requires { length charges.now ≤ 100000000 }
+    requires { length charges.now ≤ MOST_NUMBER + 1 }
     ensures { result ≡ closed_run run.month run.key charges.now }
 {
     let sum = sum_of(charges);

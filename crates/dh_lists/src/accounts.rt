@@ -1,6 +1,7 @@
 //! What was charged and paid, lease by lease.
 
 ghost use Rattle.std.specs.Prelude.{◌≡◌, ℕ, ◌+◌, ◌*◌, ◌^◌, ◌<◌, ◌≤◌, pos, ◌-ℤ◌, ◌≤ℤ◌, if◌then◌else◌, nat_eq, IfOk, OnOk};
+ghost use Rattle.dh_values.specs.declared.limits.TheConstants.{MOST_AMOUNT, MOST_RENT};
 ghost use Rattle.dh_model.specs.Answers.{balance, charges_of, rent_paid};
 ghost use Rattle.dh_model.specs.Runs.{total_of};
 ghost use Rattle.dh_lists.specs.Sums.{sum_at};
@@ -30,7 +31,7 @@ fn add(sums: &mut BTreeMap<LeaseNo, u128>, lease: LeaseNo, pence: u32) -> Result
 // The pence that were charged on each lease.
 fn charged(alloc: Global, books: &Books) -> Result<BTreeMap<LeaseNo, u128>, AllocError>
     ensures value { IfOk result (λ sums. (lease : ℕ) → sum_at sums lease ≡ total_of (charges_of books.now.books lease)) }
-    ensures range { IfOk result (λ sums. (lease : ℕ) → sum_at sums lease ≤ 999999 * 2 ^ 64) }
+    ensures range { IfOk result (λ sums. (lease : ℕ) → sum_at sums lease ≤ MOST_RENT * 2 ^ 64) }
 {
     let charges = books.charges();
     // No more than this many, so that their sum fits.
@@ -45,7 +46,7 @@ fn charged(alloc: Global, books: &Books) -> Result<BTreeMap<LeaseNo, u128>, Allo
 // The pence of rent that were paid on each lease.
 fn rent_paid(alloc: Global, books: &Books) -> Result<BTreeMap<LeaseNo, u128>, AllocError>
     ensures value { IfOk result (λ sums. (lease : ℕ) → sum_at sums lease ≡ rent_paid books.now.books lease) }
-    ensures range { IfOk result (λ sums. (lease : ℕ) → sum_at sums lease ≤ 99999999 * 2 ^ 64) }
+    ensures range { IfOk result (λ sums. (lease : ℕ) → sum_at sums lease ≤ MOST_AMOUNT * 2 ^ 64) }
 {
     let receipts = books.receipts();
     // No more than this many, so that their sum fits.
@@ -65,8 +66,8 @@ fn rent_paid(alloc: Global, books: &Books) -> Result<BTreeMap<LeaseNo, u128>, Al
 pub(crate) struct Accounts {
     charged: BTreeMap<LeaseNo, u128>,
     paid: BTreeMap<LeaseNo, u128>,
-    ghost charged_fit: { (lease : ℕ) → sum_at charged lease ≤ 999999 * 2 ^ 64 },
-    ghost paid_fit: { (lease : ℕ) → sum_at paid lease ≤ 99999999 * 2 ^ 64 },
+    ghost charged_fit: { (lease : ℕ) → sum_at charged lease ≤ MOST_RENT * 2 ^ 64 },
+    ghost paid_fit: { (lease : ℕ) → sum_at paid lease ≤ MOST_AMOUNT * 2 ^ 64 },
 }
 
 impl Accounts {
@@ -83,7 +84,7 @@ impl Accounts {
     /// What was charged on the lease, less the rent that was paid.
     pub(crate) fn balance(&self, lease: LeaseNo) -> Balance
         ensures value { result ≡ pos (sum_at self.now.charged lease) -ℤ pos (sum_at self.now.paid lease) }
-        ensures range { result ≤ℤ pos (999999 * 2 ^ 64) }
+        ensures range { result ≤ℤ pos (MOST_RENT * 2 ^ 64) }
     {
         let charged = sum_at(&self.charged, lease) as i128;
         let paid = sum_at(&self.paid, lease) as i128;

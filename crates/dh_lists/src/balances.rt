@@ -1,6 +1,7 @@
 //! What is owed on a lease.
 
 ghost use Rattle.std.specs.Prelude.{◌≡◌, ◌*◌, ◌^◌, ◌≤◌};
+ghost use Rattle.dh_values.specs.declared.limits.TheConstants.{MOST_AMOUNT, MOST_RENT};
 ghost use Rattle.dh_model.specs.Answers.{balance, charges_of, rent_paid};
 ghost use Rattle.dh_model.specs.Runs.{total_of};
 
@@ -10,7 +11,7 @@ use dh_types::{LeaseNo, ReceiptKind};
 // The pence that were charged on the lease.
 fn charged(books: &Books, lease: LeaseNo) -> u128
     ensures value { result ≡ total_of (charges_of books.now.books lease) }
-    ensures range { result ≤ 999999 * 2 ^ 64 }
+    ensures range { result ≤ MOST_RENT * 2 ^ 64 }
 {
     let charges = books.charges();
     // No more than this many, so that their sum fits.
@@ -27,7 +28,7 @@ fn charged(books: &Books, lease: LeaseNo) -> u128
 // The pence of rent that were paid on the lease.
 fn rent_paid(books: &Books, lease: LeaseNo) -> u128
     ensures value { result ≡ rent_paid books.now.books lease }
-    ensures range { result ≤ 99999999 * 2 ^ 64 }
+    ensures range { result ≤ MOST_AMOUNT * 2 ^ 64 }
 {
     let receipts = books.receipts();
     // No more than this many, so that their sum fits.

@@ -2,6 +2,7 @@
 
 ghost use Rattle.std.specs.Prelude.{◌≡◌, ℕ, ◌+◌, ◌*◌, ◌<◌, ◌≤◌, ◌^◌, List, [], Some, IfOk, OnOk};
 ghost use Rattle.std.specs.Ordering.{nat_cmp};
+ghost use Rattle.dh_values.specs.declared.limits.TheConstants.{MOST_RENT};
 ghost use Rattle.dh_model.specs.Books.{pair_cmp, text_cmp};
 ghost use Rattle.dh_month_audit.specs.ClosedMonths.{HasOneMore, charges_of_branch, charges_of_month, sum_at, sum_of, sum_of_part, with_charge};
 
@@ -44,9 +45,9 @@ impl Sum {
     // The sum with one charge more.
     fn with_charge(self, charge: &Charge) -> Sum
         requires few { self.count + 1 < 2 ^ 64 }
-        requires small { self.total ≤ 999999 * self.count }
+        requires small { self.total ≤ MOST_RENT * self.count }
         ensures value { result ≡ with_charge self charge.now }
-        ensures bound { charge.now.amount ≤ 999999 }
+        ensures bound { charge.now.amount ≤ MOST_RENT }
     {
         let through = match self.through {
             Some(most) if charge.lease < most => most,
@@ -74,9 +75,9 @@ fn add<K: Ord + Drop>(
     charge: &Charge,
 ) -> Result<(), AllocError>
     requires few { (sum_at K.cmp sums.old key).count + 1 < 2 ^ 64 }
-    requires small { (sum_at K.cmp sums.old key).total ≤ 999999 * (sum_at K.cmp sums.old key).count }
+    requires small { (sum_at K.cmp sums.old key).total ≤ MOST_RENT * (sum_at K.cmp sums.old key).count }
     ensures value { OnOk result (HasOneMore K.cmp sums.old sums.new key charge.now) }
-    ensures bound { charge.now.amount ≤ 999999 }
+    ensures bound { charge.now.amount ≤ MOST_RENT }
 {
     let sum = sum_at(sums, &key).with_charge(charge);
     let _before = sums.insert(key, sum)?;

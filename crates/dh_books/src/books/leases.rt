@@ -2,6 +2,7 @@
 
 ghost use Rattle.std.specs.Prelude.{◌≡◌, ◌≤◌, length, OnOk, OnErr, option_copied};
 ghost use Rattle.std.specs.FinMap as fin;
+ghost use Rattle.dh_values.specs.declared.limits.TheConstants.{MOST_NUMBER};
 ghost use Rattle.dh_model.specs.BatchLaws.{AreNumbered};
 
 use super::Books;
@@ -34,7 +35,7 @@ impl Books {
     pub fn leases(&self) -> Values<'_, LeaseNo, Lease>
         ensures rows { result ≡ fin.values self.now.books.leases }
         ensures numbered { AreNumbered self.now.books }
-        ensures few { length (fin.values self.now.books.leases) ≤ 99999999 }
+        ensures few { length (fin.values self.now.books.leases) ≤ MOST_NUMBER }
     {
         self.leases.values()
     }
