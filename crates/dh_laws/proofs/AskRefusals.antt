@@ -190,7 +190,7 @@ module _ (month : ℕ) where
           (twice_other (get books.leases payment.lease) payment.amount, tt),
         )
 
-    receipt_other : (order : ReceiptOrder) → AllOther (receipt_checks books order)
+    receipt_other : (order : ReceiptOrder) → AllOther (receipt_checks books (len books.receipts) order)
     receipt_other order =
         both_other (names books.leases order.payment.lease 3
         ∷ deposit_checks books order.payment) (unless (nat_lt (len books.receipts) MOST_NUMBER) refusal.Full
@@ -230,11 +230,11 @@ module _ (month : ℕ) where
     unpaid_unlike None otherwise unlike = unlike
     unpaid_unlike (Some receipt) otherwise unlike = λ e. cc
 
-    receipt_unlike : (order : ReceiptOrder) → Unlike (receipt_verdict books order)
+    receipt_unlike : (order : ReceiptOrder) → Unlike (receipt_verdict books (len books.receipts) order)
     receipt_unlike order =
         let made : Receipt = record { number = len books.receipts + 1; key = order.key; payment = order.payment } in
         paid_unlike order (receipt_of_key books order.key) _
-        (run_unlike (run_of_key books order.key) _ (judged_unlike (receipt_checks books order) (change.Receipt made) (receipt_other order)))
+        (run_unlike (run_of_key books order.key) _ (judged_unlike (receipt_checks books (len books.receipts) order) (change.Receipt made) (receipt_other order)))
 
     run_order_unlike : (order : RunOrder) → Unlike (run_verdict books order)
     run_order_unlike order =
@@ -284,7 +284,7 @@ module _ (month : ℕ) where
     refused_for run (command.Lease terms) e =
         was_open run (lease_verdict books terms) (there_unlike (λ lease. is_same_lease_terms terms lease.terms) (get books.leases terms.number) _
         (judged_unlike (lease_checks books terms) (change.Lease (signed books terms (get books.properties terms.property))) (lease_other terms))) e
-    refused_for run (command.Receipt order) e = was_open run (receipt_verdict books order) (receipt_unlike order) e
+    refused_for run (command.Receipt order) e = was_open run (receipt_verdict books (len books.receipts) order) (receipt_unlike order) e
     refused_for run (command.Run order) e = was_open run (run_verdict books order) (run_order_unlike order) e
     refused_for run (command.Open order) e = was_open run (run_verdict books order) (run_order_unlike order) e
     refused_for None (command.Post count) e = cc

@@ -65,3 +65,7 @@ pub mod TellingRuns
 pub mod TellingCuts
 pub mod Standing
 pub mod Carrying
+pub mod RowsNarrowed
+pub mod LooksFit
+pub mod LooksJudged
+pub mod LooksLast

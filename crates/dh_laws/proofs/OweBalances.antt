@@ -67,14 +67,14 @@ module _ (size : ℕ) (s : State) (lease : ℕ) (keyed : AreKeyed s.books) (lawf
   unless_run_before told None v h = h
   unless_run_before told (Some run) v h = own size s lease
 
-  on_receipt : (order : ReceiptOrder) → Moves size s lease (command.Receipt order) (receipt_verdict s.books order)
+  on_receipt : (order : ReceiptOrder) → Moves size s lease (command.Receipt order) (receipt_verdict s.books (len s.books.receipts) order)
   on_receipt order =
       let told = command.Receipt order in
       let row = change.Receipt (record { number = len s.books.receipts + 1; key = order.key; payment = order.payment }) in
-      let checked = judged (receipt_checks s.books order) row in
+      let checked = judged (receipt_checks s.books (len s.books.receipts) order) row in
       let run = run_of_key s.books order.key in
       unless_paid_before order (receipt_of_key s.books order.key) (unless_run s.books run checked)
-      (unless_run_before told run checked (on_checks size s lease told (receipt_checks s.books order) row (paid order)))
+      (unless_run_before told run checked (on_checks size s lease told (receipt_checks s.books (len s.books.receipts) order) row (paid order)))
 
   ran_moves : (order : RunOrder) → order.month ≡ s.books.next
       → balance (ran size s.books order.key) lease ≡ balance s.books lease +ℤ pos (total_of (due_on s.books order.month lease))
@@ -137,7 +137,7 @@ module _ (size : ℕ) (s : State) (lease : ℕ) (keyed : AreKeyed s.books) (lawf
       on_open size s lease (command.Lease it) s.open_run (lease_verdict s.books it)
       (on_row size s lease (command.Lease it) (λ other. is_same_lease_terms it other.terms) (get s.books.leases it.number) (lease_checks s.books it)
       (change.Lease (signed s.books it (get s.books.properties it.property))) (own size s lease))
-  moves (command.Receipt order) = on_open size s lease (command.Receipt order) s.open_run (receipt_verdict s.books order) (on_receipt order)
+  moves (command.Receipt order) = on_open size s lease (command.Receipt order) s.open_run (receipt_verdict s.books (len s.books.receipts) order) (on_receipt order)
   moves (command.Run order) =
       on_open size s lease (command.Run order) s.open_run (run_verdict s.books order) (on_run (command.Run order) order (ran_moves order))
   moves (command.Open order) =

@@ -78,11 +78,11 @@ module _ (size : ℕ) (s : State) (order : ReceiptOrder) (number : ℕ) where
 
   pub told : IsToldOf (step size s (command.Receipt order))
   told =
-      let checked = judged (receipt_checks s.books order) (change.Receipt (receipt next)) in
+      let checked = judged (receipt_checks s.books (len s.books.receipts) order) (change.Receipt (receipt next)) in
       let no_run = unless_run s.books (run_of_key s.books order.key) checked in
-      told_open s.open_run (receipt_verdict s.books order)
+      told_open s.open_run (receipt_verdict s.books (len s.books.receipts) order)
       (told_paid (receipt_of_key s.books order.key) no_run
-      (told_run (run_of_key s.books order.key) checked (told_checked (first_failing (receipt_checks s.books order)))))
+      (told_run (run_of_key s.books order.key) checked (told_checked (first_failing (receipt_checks s.books (len s.books.receipts) order)))))
 
 -- ---- what is kept from then on
 

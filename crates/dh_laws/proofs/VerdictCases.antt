@@ -236,12 +236,12 @@ module _ (books : Books) (run : Option OpenRun) (rows : Change) where
       → (rows ≡ change.Receipt (record { number = len books.receipts + 1; key = order.key; payment = order.payment }))
       × AddsReceipt books run (record { number = len books.receipts + 1; key = order.key; payment = order.payment })
   receipt_case order h =
-      let free = was_closed run (receipt_verdict books order) rows h in
+      let free = was_closed run (receipt_verdict books (len books.receipts) order) rows h in
       let given = change.Receipt (receipt_for order) in
-      let accepted = judged (receipt_checks books order) given in
+      let accepted = judged (receipt_checks books (len books.receipts) order) given in
       let no_receipt = was_unpaid books order (receipt_of_key books order.key) (unless_run books (run_of_key books order.key) accepted) rows free.1 in
       let no_run = was_no_run books (run_of_key books order.key) accepted rows no_receipt.1 in
-      let all = passed (receipt_checks books order) rows given no_run.1 in
+      let all = passed (receipt_checks books (len books.receipts) order) rows given no_run.1 in
       let lease = first_passes (names books.leases order.payment.lease 3) (deposit_checks books order.payment
       ++ unless (nat_lt (len books.receipts) MOST_NUMBER) refusal.Full ∷ []) all.1 in
       let deposit = all_pass (deposit_checks books order.payment) (unless (nat_lt (len books.receipts) MOST_NUMBER) refusal.Full ∷ []) lease.1 in (

@@ -14,6 +14,7 @@ pub mod EachLife
 pub mod StateTables
 pub mod Telling
 pub mod Batches
+pub mod Looks
 pub use Rattle.dh_types.specs.Records
 pub use Rattle.dh_types.specs.Reports
 pub use Rattle.dh_types.specs.Replies

@@ -8,6 +8,7 @@ pub mod balances;
 pub mod entering;
 pub mod keeping;
 pub mod lives;
+pub mod looking;
 pub mod passing;
 pub mod posting;
 pub mod repeating;

@@ -168,16 +168,16 @@ module _ (books : Books) where
   unless_run None otherwise = otherwise
   unless_run (Some run) otherwise = verdict.Refused refusal.KeyUsed
 
-  abbrev pub receipt_checks : ReceiptOrder → List Check
-  receipt_checks order =
-      (names books.leases order.payment.lease RECEIPT_LEASE ∷ deposit_checks books order.payment)
-      ++ unless (nat_lt (len books.receipts) MOST_NUMBER) refusal.Full ∷ []
+  -- of a receipt, where there are so many
+  abbrev pub receipt_checks : ℕ → ReceiptOrder → List Check
+  receipt_checks count order =
+      (names books.leases order.payment.lease RECEIPT_LEASE ∷ deposit_checks books order.payment) ++ unless (nat_lt count MOST_NUMBER) refusal.Full ∷ []
 
-  abbrev pub receipt_verdict : ReceiptOrder → Verdict
-  receipt_verdict order =
+  abbrev pub receipt_verdict : ℕ → ReceiptOrder → Verdict
+  receipt_verdict count order =
       unless_paid order (receipt_of_key books order.key)
       (unless_run (run_of_key books order.key)
-      (judged (receipt_checks order) (change.Receipt (record { number = len books.receipts + 1; key = order.key; payment = order.payment }))))
+      (judged (receipt_checks count order) (change.Receipt (record { number = count + 1; key = order.key; payment = order.payment }))))
 
   abbrev pub unless_posted : RunOrder → Option Run → Verdict → Verdict
   unless_posted order None otherwise = otherwise
@@ -204,21 +204,25 @@ abbrev pub post_verdict : Option OpenRun → Verdict
 post_verdict None = verdict.Refused refusal.NoRun
 post_verdict (Some run) = verdict.Change change.Post
 
--- what the books say of a command, with an open run or none
+-- what the books say of a command, with an open run or none; how many receipts there are is told besides
+abbrev pub verdict_among : Books → ℕ → Option OpenRun → Command → Verdict
+verdict_among books count run (command.Branch it) = unless_open run (branch_verdict books it)
+verdict_among books count run (command.Staff it) = staff_verdict books it
+verdict_among books count run (command.Owner it) = owner_verdict books it
+verdict_among books count run (command.Property it) = property_verdict books it
+verdict_among books count run (command.Assign it) = assign_verdict books it
+verdict_among books count run (command.Rent it) = rent_verdict books it
+verdict_among books count run (command.Client it) = client_verdict books it
+verdict_among books count run (command.Register it) = register_verdict books it
+verdict_among books count run (command.Viewing it) = viewing_verdict books it
+verdict_among books count run (command.Comment it) = comment_verdict books it
+verdict_among books count run (command.Inspection it) = inspection_verdict books it
+verdict_among books count run (command.Lease it) = unless_open run (lease_verdict books it)
+verdict_among books count run (command.Receipt it) = unless_open run (receipt_verdict books count it)
+verdict_among books count run (command.Run it) = unless_open run (run_verdict books it)
+verdict_among books count run (command.Open it) = unless_open run (run_verdict books it)
+verdict_among books count run (command.Post most) = post_verdict run
+
+-- where the books have all of them
 abbrev pub verdict_on : Books → Option OpenRun → Command → Verdict
-verdict_on books run (command.Branch it) = unless_open run (branch_verdict books it)
-verdict_on books run (command.Staff it) = staff_verdict books it
-verdict_on books run (command.Owner it) = owner_verdict books it
-verdict_on books run (command.Property it) = property_verdict books it
-verdict_on books run (command.Assign it) = assign_verdict books it
-verdict_on books run (command.Rent it) = rent_verdict books it
-verdict_on books run (command.Client it) = client_verdict books it
-verdict_on books run (command.Register it) = register_verdict books it
-verdict_on books run (command.Viewing it) = viewing_verdict books it
-verdict_on books run (command.Comment it) = comment_verdict books it
-verdict_on books run (command.Inspection it) = inspection_verdict books it
-verdict_on books run (command.Lease it) = unless_open run (lease_verdict books it)
-verdict_on books run (command.Receipt it) = unless_open run (receipt_verdict books it)
-verdict_on books run (command.Run it) = unless_open run (run_verdict books it)
-verdict_on books run (command.Open it) = unless_open run (run_verdict books it)
-verdict_on books run (command.Post count) = post_verdict run
+verdict_on books run told = verdict_among books (len books.receipts) run told

@@ -1,9 +1,14 @@
 //! Any command.
 
-ghost use Rattle.std.specs.Prelude.{◌≡◌, IfOk};
+ghost use Rattle.std.specs.Prelude.{◌≡◌, IfOk, Option};
 ghost use Rattle.dh_types.specs.declared.reply.Refusal.TheVariants as refusal;
 ghost use Rattle.dh_model.specs.declared.rows.Verdict.TheVariants as verdict;
-ghost use Rattle.dh_model.specs.Verdicts.{verdict_on};
+ghost use Rattle.dh_model.specs.Books.{Books as Rows};
+ghost use Rattle.dh_model.specs.declared.open_run.OpenRun.{OpenRun as Run};
+ghost use Rattle.dh_model.specs.Verdicts.{verdict_among, verdict_on};
+ghost use Rattle.dh_laws.specs.InOrder.{AreKeyed};
+ghost use Rattle.dh_laws.specs.Looks.{IsCutOf};
+ghost use Rattle.dh_verdicts.specs.Seen.{facts_of};
 
 use crate::{
     decide_assign, decide_branch, decide_client, decide_comment, decide_inspection, decide_lease,
@@ -15,6 +20,13 @@ use dh_model::{Change, OpenRun, Verdict};
 use dh_types::{Command, Refusal};
 use std::alloc::{AllocError, Global};
 
+/// Some rows, the open run, and how many receipts there are in all.
+#[derive(Drop)]
+pub struct Facts {
+    pub books: Books,
+    pub receipts: usize,
+}
+
 // What an open run says of what is frozen.
 fn frozen(run: &OpenRun) -> Verdict
     ensures { result ≡ verdict.Refused (refusal.RunOpen run.now.month) }
@@ -22,10 +34,14 @@ fn frozen(run: &OpenRun) -> Verdict
     Verdict::Refused(Refusal::RunOpen(run.month.month()))
 }
 
-/// What the books say of the command: the first check that fails, what it was answered before, or the rows that it adds
-/// or replaces. While a run is open, branches, leases, receipts and runs are refused.
-pub fn decide(alloc: Global, books: &Books, command: &Command) -> Result<Verdict, AllocError>
-    ensures { IfOk result (λ v. v ≡ verdict_on books.now.books books.now.open_run command.now) }
+// What the books say of the command, where there are so many receipts.
+fn decide_among(
+    alloc: Global,
+    books: &Books,
+    receipts: usize,
+    command: &Command,
+) -> Result<Verdict, AllocError>
+    ensures { IfOk result (λ v. v ≡ verdict_among books.now.books receipts books.now.open_run command.now) }
 {
     match (command, books.open_run()) {
         (
@@ -40,7 +56,7 @@ pub fn decide(alloc: Global, books: &Books, command: &Command) -> Result<Verdict
         (Command::Post(_), None) => Ok(Verdict::Refused(Refusal::NoRun)),
         (Command::Branch(branch), None) => decide_branch(alloc, books, branch),
         (Command::Lease(terms), None) => Ok(decide_lease(books, terms)),
-        (Command::Receipt(order), None) => Ok(decide_receipt(books, order)),
+        (Command::Receipt(order), None) => Ok(decide_receipt(books, receipts, order)),
         (Command::Run(order) | Command::Open(order), None) => Ok(decide_run(books, order)),
         (Command::Staff(member), _) => decide_staff(alloc, books, member),
         (Command::Owner(owner), _) => decide_owner(alloc, books, owner),
@@ -53,4 +69,20 @@ pub fn decide(alloc: Global, books: &Books, command: &Command) -> Result<Verdict
         (Command::Comment(comment), _) => decide_comment(alloc, books, comment),
         (Command::Inspection(inspection), _) => decide_inspection(alloc, books, inspection),
     }
+}
+
+/// What the books say of the command: the first check that fails, what it was answered before, or the rows that it adds
+/// or replaces. While a run is open, branches, leases, receipts and runs are refused.
+pub fn decide(alloc: Global, books: &Books, command: &Command) -> Result<Verdict, AllocError>
+    ensures { IfOk result (λ v. v ≡ verdict_on books.now.books books.now.open_run command.now) }
+{
+    decide_among(alloc, books, books.receipt_count(), command)
+}
+
+/// What books say of the command of which the facts are what it looks at. Of the open run the facts have the month alone.
+pub fn decide_on(alloc: Global, facts: &Facts, command: &Command) -> Result<Verdict, AllocError>
+    ensures { (books : Rows) (run : Option Run) → AreKeyed books → IsCutOf (facts_of facts.now) books run command.now
+        → IfOk result (λ v. v ≡ verdict_on books run command.now) }
+{
+    decide_among(alloc, &facts.books, facts.receipts, command)
 }

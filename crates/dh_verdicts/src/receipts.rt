@@ -69,9 +69,10 @@ fn payment_refusal(books: &Books, payment: &Payment) -> Option<Refusal>
     }
 }
 
-/// What the books say of a payment under a key that no other receipt or run has: its receipt, with the next number.
-pub fn decide_receipt(books: &Books, order: &ReceiptOrder) -> Verdict
-    ensures { result ≡ receipt_verdict books.now.books order.now }
+/// What the books say of a payment under a key that no other receipt or run has, where there are so many receipts: its
+/// receipt, with the next number.
+pub fn decide_receipt(books: &Books, receipts: usize, order: &ReceiptOrder) -> Verdict
+    ensures { result ≡ receipt_verdict books.now.books receipts order.now }
 {
     if let Some(receipt) = receipt_of_key(books, &order.key) {
         return if order.payment == receipt.payment {
@@ -86,12 +87,11 @@ pub fn decide_receipt(books: &Books, order: &ReceiptOrder) -> Verdict
     if let Some(refusal) = payment_refusal(books, &order.payment) {
         return Verdict::Refused(refusal);
     }
-    let count = books.receipt_count();
-    if count >= MOST_NUMBER as usize {
+    if receipts >= MOST_NUMBER as usize {
         return Verdict::Refused(Refusal::Full);
     }
     Verdict::Change(Change::Receipt(Receipt {
-        number: ReceiptNo::of_number(count as u32 + 1),
+        number: ReceiptNo::of_number(receipts as u32 + 1),
         key: order.key,
         payment: order.payment,
     }))

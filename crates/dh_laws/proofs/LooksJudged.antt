@@ -1,0 +1,367 @@
+-- What a command looks at decides its verdict: each look-up finds in it what it finds in the books.
+use Rattle.std.proofs.Common.{◌≡◌, ◌∙◌, refl, sym, ap, ap₂, ℕ, ◌+◌, Bool, true, false, List, [], ◌∷◌, ◌++◌, map, Option, Some, None, is_some, option_map}
+use Rattle.std.proofs.Common.{nat_eq, nat_lt, not, ◌&&◌, ◌||◌, if◌then◌else◌}
+use Rattle.std.specs.List.{count_by}
+use Rattle.std.specs.List as list
+use Rattle.std.specs.FinMap.{get, values}
+use Rattle.std.proofs.lemmas.Bool.{and_parts, or_left, or_right}
+use Rattle.dh_values.specs.declared.receipt_kind.ReceiptKind.TheVariants.{Deposit}
+use Rattle.dh_values.specs.declared.limits.TheConstants.{MOST_NUMBER}
+use Rattle.dh_types.specs.declared.field.TheConstants.{PROPERTY_OWNER, PROPERTY_STAFF, PROPERTY_BRANCH, ASSIGNED_STAFF, STAFF_BRANCH, REGISTERED_CLIENT}
+use Rattle.dh_types.specs.declared.field.TheConstants.{REGISTERED_BRANCH, REGISTERED_STAFF, VIEWING_CLIENT, VIEWING_PROPERTY, INSPECTED_PROPERTY}
+use Rattle.dh_types.specs.declared.field.TheConstants.{INSPECTION_STAFF, LEASE_CLIENT, LEASE_PROPERTY, RECEIPT_LEASE}
+use Rattle.dh_types.specs.declared.branch.Branch.{Branch}
+use Rattle.dh_types.specs.declared.staff.Staff.{Staff}
+use Rattle.dh_types.specs.declared.owner.Owner.{Owner}
+use Rattle.dh_types.specs.declared.property.Property.{Property}
+use Rattle.dh_types.specs.declared.client.Client.{Client}
+use Rattle.dh_types.specs.declared.client.Registration.{Registration}
+use Rattle.dh_types.specs.declared.viewing.Viewing.{Viewing}
+use Rattle.dh_types.specs.declared.viewing.Inspection.{Inspection}
+use Rattle.dh_types.specs.declared.lease.LeaseTerms.{LeaseTerms}
+use Rattle.dh_types.specs.declared.lease.Lease.{Lease}
+use Rattle.dh_types.specs.declared.lease.Receipt.{Receipt}
+use Rattle.dh_types.specs.declared.run.Run.{Run}
+use Rattle.dh_types.specs.declared.command.Command.{Command}
+use Rattle.dh_types.specs.declared.command.Command.TheVariants as command
+use Rattle.dh_types.specs.declared.command.Assignment.{Assignment}
+use Rattle.dh_types.specs.declared.command.ReceiptOrder.{ReceiptOrder}
+use Rattle.dh_types.specs.declared.command.RunOrder.{RunOrder}
+use Rattle.dh_types.specs.declared.reply.Refusal.TheVariants as refusal
+use Rattle.dh_types.specs.declared.reply.Reply.TheVariants as reply
+use Rattle.dh_types.specs.Records.{is_same_branch, is_same_client, is_same_inspection, is_same_lease_terms, is_same_optional, is_same_owner}
+use Rattle.dh_types.specs.Records.{is_same_property, is_same_receipt_kind, is_same_registration, is_same_staff, is_same_viewing}
+use Rattle.dh_types.proofs.SameValues.{numbers, texts}
+use Rattle.dh_model.specs.declared.limits.TheConstants.{MANAGED_AT_MOST}
+use Rattle.dh_model.specs.declared.open_run.OpenRun.{OpenRun}
+use Rattle.dh_model.specs.declared.rows.Change.TheVariants as change
+use Rattle.dh_model.specs.declared.rows.Verdict.{Verdict}
+use Rattle.dh_model.specs.declared.rows.Verdict.TheVariants as verdict
+use Rattle.dh_model.specs.Books.{Books}
+use Rattle.dh_model.specs.Leases.{overlap}
+use Rattle.dh_model.specs.Checks.{Check, first_that_day, free_of_others, has_room, in_time, is_registered, is_same_text, is_twice, least, managed_besides}
+use Rattle.dh_model.specs.Checks.{names, no_deposit_yet, of_branch, receipt_of_key, run_of_key, unless, where_given, works_at}
+use Rattle.dh_model.specs.Verdicts.{assigned, commented, inspection_verdict, judged, lease_verdict, opened_run, post_verdict}
+use Rattle.dh_model.specs.Verdicts.{receipt_verdict, register_verdict, rent_changed, run_verdict, signed, unless_open, unless_paid, unless_posted}
+use Rattle.dh_model.specs.Verdicts.{unless_receipt, unless_run, unless_there, verdict_among, verdict_on, viewing_verdict}
+use Rattle.dh_model.specs.Whole.{rows_where}
+use Rattle.dh_model.proofs.KeyOrders.{nat_ties, nat_total, text_nat_ties, text_nat_total, text_ties, text_total, texts_tie, texts_total}
+use Rattle.dh_laws.specs.InOrder.{AreKeyed}
+use Rattle.dh_laws.specs.Looks.{Counts, JudgedByItsFacts, is_before, is_beside, looked_at, manager_in, month_open, properties_beside}
+use Rattle.dh_laws.specs.Looks.{registration_for}
+use Rattle.dh_laws.proofs.RowsNarrowed.{any_where, count_where, filter_where, find_where, get_where}
+
+same_text : (s t : List ℕ) → s ≡ t → is_same_text s t ≡ true
+same_text s t e = (texts s t).1 e
+
+and_true : (a b : Bool) → a ≡ true → b ≡ true → (a && b) ≡ true
+and_true a b p q = rw (p, q) refl
+
+where_alike : (given : Option (List ℕ)) (f g : List ℕ → Check) → ((m : List ℕ) → given ≡ Some m → f m ≡ g m) → where_given given f ≡ where_given given g
+where_alike None f g h = refl
+where_alike (Some m) f g h = h m refl
+
+module _ (books : Books) (keyed : AreKeyed books) where
+  -- ---- a row by its key
+
+  branch_there : (n : List ℕ) → get (rows_where (λ b. is_same_text b.number n) books.branches) n ≡ get books.branches n
+  branch_there n =
+      get_where text_total text_ties (λ (b : Branch). is_same_text b.number n) (λ b. b.number) books.branches n keyed.branches
+      (λ b e. same_text b.number n e)
+
+  member_there : (n : List ℕ) → get (rows_where (λ s. is_same_text s.number n) books.staff) n ≡ get books.staff n
+  member_there n =
+      get_where text_total text_ties (λ (s : Staff). is_same_text s.number n) (λ s. s.number) books.staff n keyed.staff (λ s e. same_text s.number n e)
+
+  owner_there : (n : List ℕ) → get (rows_where (λ o. is_same_text o.number n) books.owners) n ≡ get books.owners n
+  owner_there n =
+      get_where text_total text_ties (λ (o : Owner). is_same_text o.number n) (λ o. o.number) books.owners n keyed.owners (λ o e. same_text o.number n e)
+
+  client_there : (n : List ℕ) → get (rows_where (λ c. is_same_text c.number n) books.clients) n ≡ get books.clients n
+  client_there n =
+      get_where text_total text_ties (λ (c : Client). is_same_text c.number n) (λ c. c.number) books.clients n keyed.clients (λ c e. same_text c.number n e)
+
+  property_there : (n : List ℕ) → get (rows_where (λ p. is_same_text p.number n) books.properties) n ≡ get books.properties n
+  property_there n =
+      get_where text_total text_ties (λ (p : Property). is_same_text p.number n) (λ p. p.number) books.properties n keyed.properties
+      (λ p e. same_text p.number n e)
+
+  viewing_there : (c p : List ℕ)
+      → get (rows_where (λ v. is_same_text v.client c && is_same_text v.property p) books.viewings) (c, p) ≡ get books.viewings (c, p)
+  viewing_there c p =
+      get_where texts_total texts_tie (λ (v : Viewing). is_same_text v.client c && is_same_text v.property p) (λ v. (v.client, v.property)) books.viewings
+      (c, p) keyed.viewings
+      (λ v e. and_true _ _ (same_text v.client c (ap (λ k. k.0) e)) (same_text v.property p (ap (λ k. k.1) e)))
+
+  registration_there : (c b : List ℕ)
+      → get (rows_where (λ r. is_same_text r.client c && is_same_text r.branch b) books.registrations) (c, b) ≡ get books.registrations (c, b)
+  registration_there c b =
+      get_where texts_total texts_tie (λ (r : Registration). is_same_text r.client c && is_same_text r.branch b) (λ r. (r.client, r.branch))
+      books.registrations (c, b) keyed.registrations
+      (λ r e. and_true _ _ (same_text r.client c (ap (λ k. k.0) e)) (same_text r.branch b (ap (λ k. k.1) e)))
+
+  inspection_there : (p : List ℕ) (d : ℕ)
+      → get (rows_where (λ v. is_same_text v.property p && nat_eq v.day d) books.inspections) (p, d) ≡ get books.inspections (p, d)
+  inspection_there p d =
+      get_where text_nat_total text_nat_ties (λ (v : Inspection). is_same_text v.property p && nat_eq v.day d) (λ v. (v.property, v.day))
+      books.inspections (p, d) keyed.inspections
+      (λ v e. and_true _ _ (same_text v.property p (ap (λ k. k.0) e)) ((numbers v.day d).1 (ap (λ k. k.1) e)))
+
+  lease_there : (n : ℕ) → get (rows_where (λ l. nat_eq l.terms.number n) books.leases) n ≡ get books.leases n
+  lease_there n =
+      get_where nat_total nat_ties (λ (l : Lease). nat_eq l.terms.number n) (λ l. l.terms.number) books.leases n keyed.leases
+      (λ l e. (numbers l.terms.number n).1 e)
+
+  -- ---- a manager, where one is given
+
+  manager_there : (staff : Option (List ℕ)) (m : List ℕ) → staff ≡ Some m → get (manager_in books.staff staff) m ≡ get books.staff m
+  manager_there staff m is = ap (λ o. get (manager_in books.staff o) m) is ∙ member_there m
+
+  module _ (n : List ℕ) where
+    abbrev near : List ℕ → Property → Bool
+    near m p = is_same_text p.number n || is_same_optional is_same_text p.staff (Some m)
+
+    this_there : (staff : Option (List ℕ)) → get (properties_beside books.properties n staff) n ≡ get books.properties n
+    this_there None = property_there n
+    this_there (Some m) =
+        get_where text_total text_ties (near m) (λ p. p.number) books.properties n keyed.properties (λ p e. or_left _ _ (same_text p.number n e))
+
+    others_counted : (staff : Option (List ℕ)) (m k : List ℕ) → staff ≡ Some m
+        → count_by (λ (other : Property). is_same_optional is_same_text other.staff (Some m) && not (is_same_text other.number k))
+        (values (properties_beside books.properties n staff)) ≡ managed_besides books m k
+    others_counted staff m k is =
+        ap (λ o. count_by (λ (other : Property). is_same_optional is_same_text other.staff (Some m) && not (is_same_text other.number k))
+        (values (properties_beside books.properties n o))) is
+        ∙ count_where text_total text_ties (near m)
+        (λ (other : Property). is_same_optional is_same_text other.staff (Some m) && not (is_same_text other.number k))
+        (λ p h. or_right (is_same_text p.number n) _ (and_parts _ _ h).0) books.properties
+
+  -- the manager is there, of the branch, and has room, as in the books
+  module _ (staff : Option (List ℕ)) where
+    named_alike : (field : ℕ) → where_given staff (λ m. names (manager_in books.staff staff) m field) ≡ where_given staff (λ m. names books.staff m field)
+    named_alike field =
+        where_alike staff (λ m. names (manager_in books.staff staff) m field) (λ m. names books.staff m field)
+        (λ m is. ap (λ (s : Option Staff). unless (is_some s) (refusal.Unknown field)) (manager_there staff m is))
+
+    branch_alike : (branch : List ℕ)
+        → where_given staff (λ m. unless (works_at branch (get (manager_in books.staff staff) m)) refusal.WrongBranch)
+        ≡ where_given staff (λ m. of_branch books m branch)
+    branch_alike branch =
+        where_alike staff (λ m. unless (works_at branch (get (manager_in books.staff staff) m)) refusal.WrongBranch) (λ m. of_branch books m branch)
+        (λ m is. ap (λ (s : Option Staff). unless (works_at branch s) refusal.WrongBranch) (manager_there staff m is))
+
+    room_alike : (few : Books) (n k : List ℕ) → few.properties ≡ properties_beside books.properties n staff
+        → where_given staff (λ m. has_room few m k) ≡ where_given staff (λ m. has_room books m k)
+    room_alike few n k cut =
+        where_alike staff (λ m. has_room few m k) (λ m. has_room books m k)
+        (λ m is. ap (λ c. unless (nat_lt c MANAGED_AT_MOST) refusal.TooMany)
+        (ap (λ ps. count_by (λ (other : Property). is_same_optional is_same_text other.staff (Some m) && not (is_same_text other.number k)) (values ps)) cut
+        ∙ others_counted n staff m k is))
+
+  property_alike : (run : Option OpenRun) (it : Property)
+      → verdict_on (looked_at books (command.Property it)) run (command.Property it) ≡ verdict_on books run (command.Property it)
+  property_alike run it = λ i. unless_there (is_same_property it) (this_there it.number it.staff i)
+      (judged
+      (unless (is_some (owner_there it.owner i)) (refusal.Unknown PROPERTY_OWNER)
+      ∷ named_alike it.staff PROPERTY_STAFF i
+      ∷ unless (is_some (branch_there it.branch i)) (refusal.Unknown PROPERTY_BRANCH)
+      ∷ branch_alike it.staff it.branch i
+      ∷ room_alike it.staff (looked_at books (command.Property it)) it.number it.number refl i
+      ∷ [])
+      (change.Property it))
+
+  assigned_alike : (it : Assignment) (found : Option Property) → assigned (looked_at books (command.Assign it)) it found ≡ assigned books it found
+  assigned_alike it None = refl
+  assigned_alike it (Some property) = λ i.
+      if is_same_optional is_same_text it.staff property.staff then verdict.Already reply.Already
+      else judged
+      (named_alike it.staff ASSIGNED_STAFF i
+      ∷ branch_alike it.staff property.branch i
+      ∷ room_alike it.staff (looked_at books (command.Assign it)) it.property property.number refl i
+      ∷ [])
+      (change.Assign it)
+
+  -- ---- a receipt, and a run
+
+  run_there : (key : List ℕ)
+      → list.find (λ (r : Run). is_same_text r.key key) (values (rows_where (λ r. is_same_text r.key key) books.runs)) ≡ run_of_key books key
+  run_there key = find_where nat_total nat_ties (λ (r : Run). is_same_text r.key key) (λ r. is_same_text r.key key) (λ r h. h) books.runs
+
+  receipt_there : (key : List ℕ)
+      → list.find (λ (r : Receipt). is_same_text r.key key) (values (rows_where (λ r. is_same_text r.key key) books.receipts)) ≡ receipt_of_key books key
+  receipt_there key =
+      find_where nat_total nat_ties (λ (r : Receipt). is_same_text r.key key) (λ r. is_same_text r.key key) (λ r h. h) books.receipts
+
+  run_alike : (it : RunOrder) → run_verdict (looked_at books (command.Run it)) it ≡ run_verdict books it
+  run_alike it = λ i. unless_posted books it (run_there it.key i)
+      (unless_receipt books (receipt_there it.key i)
+      (judged (unless (nat_eq it.month books.next) (refusal.NotNextMonth books.next) ∷ []) (change.Open (opened_run books it))))
+
+  module _ (order : ReceiptOrder) where
+    abbrev few : Books
+    few = looked_at books (command.Receipt order)
+
+    paid_there : list.find (λ (r : Receipt). is_same_text r.key order.key) (values (rows_where (is_before order) books.receipts))
+        ≡ receipt_of_key books order.key
+    paid_there = find_where nat_total nat_ties (is_before order) (λ r. is_same_text r.key order.key) (λ r h. or_left _ _ h) books.receipts
+
+    deposit_alike : no_deposit_yet few order.payment.lease ≡ no_deposit_yet books order.payment.lease
+    deposit_alike =
+        ap (λ b. unless (not b) refusal.DepositPaid)
+        (any_where nat_total nat_ties (is_before order) (λ r. nat_eq r.payment.lease order.payment.lease && is_same_receipt_kind r.payment.kind Deposit)
+        (λ r h. or_right (is_same_text r.key order.key) _ h) books.receipts)
+
+    checks_alike : (b : Bool)
+        → (if b then no_deposit_yet few order.payment.lease ∷ is_twice (get few.leases order.payment.lease) order.payment.amount ∷ [] else [])
+        ≡ (if b then no_deposit_yet books order.payment.lease ∷ is_twice (get books.leases order.payment.lease) order.payment.amount ∷ [] else [])
+    checks_alike true = λ i. deposit_alike i ∷ is_twice (lease_there order.payment.lease i) order.payment.amount ∷ []
+    checks_alike false = refl
+
+    receipt_alike : (count : ℕ) → receipt_verdict few count order ≡ receipt_verdict books count order
+    receipt_alike count = λ i. unless_paid books order (paid_there i)
+        (unless_run books (run_there order.key i)
+        (judged
+        ((unless (is_some (lease_there order.payment.lease i)) (refusal.Unknown RECEIPT_LEASE)
+        ∷ checks_alike (is_same_receipt_kind order.payment.kind Deposit) i)
+        ++ unless (nat_lt count MOST_NUMBER) refusal.Full ∷ [])
+        (change.Receipt (record { number = count + 1; key = order.key; payment = order.payment }))))
+
+  -- ---- a client's registration or viewing, and an inspection
+
+  register_alike : (it : Registration) → register_verdict (looked_at books (command.Register it)) it ≡ register_verdict books it
+  register_alike it = λ i. unless_there (is_same_registration it) (registration_there it.client it.branch i)
+      (judged
+      (unless (is_some (client_there it.client i)) (refusal.Unknown REGISTERED_CLIENT)
+      ∷ unless (is_some (branch_there it.branch i)) (refusal.Unknown REGISTERED_BRANCH)
+      ∷ unless (is_some (member_there it.staff i)) (refusal.Unknown REGISTERED_STAFF)
+      ∷ unless (works_at it.branch (member_there it.staff i)) refusal.WrongBranch
+      ∷ [])
+      (change.Register it))
+
+  viewing_alike : (it : Viewing) → viewing_verdict (looked_at books (command.Viewing it)) it ≡ viewing_verdict books it
+  viewing_alike it = λ i. unless_there (is_same_viewing it) (viewing_there it.client it.property i)
+      (judged
+      (unless (is_some (client_there it.client i)) (refusal.Unknown VIEWING_CLIENT)
+      ∷ unless (is_some (property_there it.property i)) (refusal.Unknown VIEWING_PROPERTY)
+      ∷ [])
+      (change.Viewing it))
+
+  inspection_alike : (it : Inspection) → inspection_verdict (looked_at books (command.Inspection it)) it ≡ inspection_verdict books it
+  inspection_alike it = λ i. unless_there (is_same_inspection it) (inspection_there it.property it.day i)
+      (judged
+      (unless (is_some (property_there it.property i)) (refusal.Unknown INSPECTED_PROPERTY)
+      ∷ unless (is_some (member_there it.staff i)) (refusal.Unknown INSPECTION_STAFF)
+      ∷ [])
+      (change.Inspection it))
+
+  -- ---- a lease
+
+  module _ (terms : LeaseTerms) where
+    abbrev near_terms : Books
+    near_terms = looked_at books (command.Lease terms)
+
+    numbered_there : get (rows_where (is_beside terms) books.leases) terms.number ≡ get books.leases terms.number
+    numbered_there =
+        get_where nat_total nat_ties (is_beside terms) (λ l. l.terms.number) books.leases terms.number keyed.leases
+        (λ l e. or_left _ _ (or_left _ (is_same_text l.terms.property terms.property) ((numbers l.terms.number terms.number).1 e)))
+
+    registered_with : (found : Option Property)
+        → is_registered (record near_terms { registrations = registration_for books.registrations terms.client found }) terms.client found
+        ≡ is_registered books terms.client found
+    registered_with None = refl
+    registered_with (Some property) = ap is_some (registration_there terms.client property.branch)
+
+    registered_alike : is_registered near_terms terms.client (get near_terms.properties terms.property)
+        ≡ is_registered books terms.client (get books.properties terms.property)
+    registered_alike = ap (is_registered near_terms terms.client) (property_there terms.property) ∙ registered_with (get books.properties terms.property)
+
+    that_day_alike : first_that_day near_terms terms.client terms.start ≡ first_that_day books terms.client terms.start
+    that_day_alike =
+        ap (λ ls. option_map refusal.ClientStart (least (map (λ (l : Lease). l.terms.number) ls)))
+        (filter_where nat_total nat_ties (is_beside terms) (λ l. is_same_text l.terms.client terms.client && nat_eq l.terms.start terms.start)
+        (λ l h. or_right _ _ h) books.leases)
+
+    others_alike : free_of_others near_terms terms ≡ free_of_others books terms
+    others_alike =
+        ap (λ ls. option_map refusal.Overlap (least (map (λ (l : Lease). l.terms.number) ls)))
+        (filter_where nat_total nat_ties (is_beside terms) (λ l. overlap terms l.terms)
+        (λ l h. or_left _ _ (or_right (nat_eq l.terms.number terms.number) _
+        (same_text l.terms.property terms.property (sym ((texts terms.property l.terms.property).0 (and_parts _ _ h).0))))) books.leases)
+
+    lease_alike : lease_verdict near_terms terms ≡ lease_verdict books terms
+    lease_alike = λ i. unless_there (λ (l : Lease). is_same_lease_terms terms l.terms) (numbered_there i)
+        (judged
+        (unless (is_some (client_there terms.client i)) (refusal.Unknown LEASE_CLIENT)
+        ∷ unless (is_some (property_there terms.property i)) (refusal.Unknown LEASE_PROPERTY)
+        ∷ unless (registered_alike i) refusal.NotRegistered
+        ∷ in_time books terms.start
+        ∷ that_day_alike i
+        ∷ others_alike i
+        ∷ [])
+        (change.Lease (signed books terms (property_there terms.property i))))
+
+  -- ---- any command
+
+  cut_judged : (run : Option OpenRun) (told : Command) (count : ℕ) → Counts told books.receipts count
+      → verdict_among (looked_at books told) count run told ≡ verdict_on books run told
+  cut_judged run (command.Branch it) count is =
+      ap (λ (there : Option Branch). unless_open run (unless_there (is_same_branch it) there (judged [] (change.Branch it)))) (branch_there it.number)
+  cut_judged run (command.Staff it) count is =
+      ap₂ (λ (there : Option Staff) (branch : Option Branch). unless_there (is_same_staff it) there
+      (judged (unless (is_some branch) (refusal.Unknown STAFF_BRANCH) ∷ []) (change.Staff it))) (member_there it.number) (branch_there it.branch)
+  cut_judged run (command.Owner it) count is =
+      ap (λ (there : Option Owner). unless_there (is_same_owner it) there (judged [] (change.Owner it))) (owner_there it.number)
+  cut_judged run (command.Property it) count is = property_alike run it
+  cut_judged run (command.Assign it) count is =
+      ap (assigned (looked_at books (command.Assign it)) it) (this_there it.property it.staff) ∙ assigned_alike it (get books.properties it.property)
+  cut_judged run (command.Rent it) count is = ap (rent_changed books it) (property_there it.property)
+  cut_judged run (command.Client it) count is =
+      ap (λ (there : Option Client). unless_there (is_same_client it) there (judged [] (change.Client it))) (client_there it.number)
+  cut_judged run (command.Register it) count is = register_alike it
+  cut_judged run (command.Viewing it) count is = viewing_alike it
+  cut_judged run (command.Comment it) count is = ap (commented books it) (viewing_there it.client it.property)
+  cut_judged run (command.Inspection it) count is = inspection_alike it
+  cut_judged run (command.Lease it) count is = ap (unless_open run) (lease_alike it)
+  cut_judged run (command.Receipt it) count is = ap (unless_open run) (receipt_alike it count ∙ ap (λ n. receipt_verdict books n it) is)
+  cut_judged run (command.Run it) count is = ap (unless_open run) (run_alike it)
+  cut_judged run (command.Open it) count is = ap (unless_open run) (run_alike it)
+  cut_judged run (command.Post count_of) count is = refl
+
+-- ---- of an open run the month alone
+
+frozen_alike : (run other : Option OpenRun) (v : Verdict) → month_open run ≡ month_open other → unless_open run v ≡ unless_open other v
+frozen_alike None None v e = refl
+frozen_alike None (Some b) v e = cc
+frozen_alike (Some a) None v e = cc
+frozen_alike (Some a) (Some b) v e = let same : a.month ≡ b.month = cc in ap (λ m. verdict.Refused (refusal.RunOpen m)) same
+
+posted_alike : (run other : Option OpenRun) → month_open run ≡ month_open other → post_verdict run ≡ post_verdict other
+posted_alike None None e = refl
+posted_alike None (Some b) e = cc
+posted_alike (Some a) None e = cc
+posted_alike (Some a) (Some b) e = refl
+
+month_alike : (books : Books) (count : ℕ) (run other : Option OpenRun) (told : Command) → month_open run ≡ month_open other
+    → verdict_among books count run told ≡ verdict_among books count other told
+month_alike books count run other (command.Branch it) e = frozen_alike run other _ e
+month_alike books count run other (command.Lease it) e = frozen_alike run other _ e
+month_alike books count run other (command.Receipt it) e = frozen_alike run other _ e
+month_alike books count run other (command.Run it) e = frozen_alike run other _ e
+month_alike books count run other (command.Open it) e = frozen_alike run other _ e
+month_alike books count run other (command.Post it) e = posted_alike run other e
+month_alike books count run other (command.Staff it) e = refl
+month_alike books count run other (command.Owner it) e = refl
+month_alike books count run other (command.Property it) e = refl
+month_alike books count run other (command.Assign it) e = refl
+month_alike books count run other (command.Rent it) e = refl
+month_alike books count run other (command.Client it) e = refl
+month_alike books count run other (command.Register it) e = refl
+month_alike books count run other (command.Viewing it) e = refl
+month_alike books count run other (command.Comment it) e = refl
+month_alike books count run other (command.Inspection it) e = refl
+
+pub judged_by_its_facts : JudgedByItsFacts
+judged_by_its_facts books run told facts keyed cut =
+    ap (λ few. verdict_among few facts.receipts facts.open_run told) cut.rows
+    ∙ month_alike (looked_at books told) facts.receipts facts.open_run run told cut.month
+    ∙ cut_judged books keyed run told facts.receipts cut.counted
