@@ -10,7 +10,7 @@ use std::io::Write;
 #[derive(Clone, Copy, Debug, PartialEq, Eq)]
 pub struct Output;
 
-/// Writes all the bytes; at an `Output` a beginning of them was written.
+/// Writes all the bytes; at an `Output` a beginning of them was written, and not all.
 pub fn put<W: Write>(writer: &mut W, bytes: &[u8]) -> Result<(), Output>
     ensures { Puts (W.contents writer.old) (W.contents writer.new) result bytes.now }
 {
@@ -25,7 +25,7 @@ pub fn put<W: Write>(writer: &mut W, bytes: &[u8]) -> Result<(), Output>
     Ok(())
 }
 
-/// Writes the parts, one after the other; at an `Output` a beginning of them all was written.
+/// Writes the parts, one after the other; at an `Output` a beginning of them was written, and not all.
 pub fn put_parts<W: Write>(writer: &mut W, parts: &[&[u8]]) -> Result<(), Output>
     ensures { Puts (W.contents writer.old) (W.contents writer.new) result (concat (map (λ p. p.now) parts.now)) }
 {

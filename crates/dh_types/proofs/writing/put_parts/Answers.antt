@@ -12,4 +12,4 @@ pub returns-in_err-put : goal.returns-in_err-put
 returns-in_err-put g c =
     let here : c.loop-part.part-index < length c.args.parts.now = omega arith in
     let p = err_from_is_err_and c.from_residual.result c.from_residual.ensures.1 in
-    rw p.1 (parts-front _ _ _ _ _ _ _ here c.loop-part.invariant _ c.in_err-put.ensures.1)
+    rw p.1 (parts-front _ _ _ _ _ _ _ here c.loop-part.invariant c.in_err-put.ensures)
