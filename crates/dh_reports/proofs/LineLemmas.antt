@@ -1,7 +1,8 @@
 -- The lines of a report, one after the other.
-use Rattle.std.proofs.Common.{◌≡◌, ℕ, ◌+◌, ◌<◌, Option, List, ◌++◌, length, take, drop, get_or, drop-cons, add-one, refl}
+use Rattle.std.proofs.Common.{◌≡◌, ℕ, ◌+◌, ◌<◌, Option, List, ◌++◌, length, drop, get_or, drop-cons, add-one, refl}
 use Rattle.std.specs.List.{flat_map}
 use Rattle.std.specs.Io.KnownBytes.{Appends}
+use Rattle.dh_types.specs.Output.{BreaksOff}
 use Rattle.dh_types.proofs.WritingLemmas.{Written, written-part, written-part_front}
 
 -- what is left of the report of a list is the line of the next element, and those after it
@@ -14,6 +15,6 @@ module _ {X : Type 0} (line : X → List ℕ) (a b c : Option (List ℕ)) (xs : 
       → Written a c (flat_map line xs) (flat_map line (drop (i + 1) xs))
   lines-more w h = written-part a b c (flat_map line xs) (line x) _ (rw (rest-next line xs i x here, ← is) at w) h
 
-  pub lines-front : Written a b (flat_map line xs) (flat_map line (drop i xs)) → (n : ℕ) → Appends b c (take n (line x))
-      → (m : ℕ) × Appends a c (take m (flat_map line xs))
-  lines-front w n h = written-part_front a b c (flat_map line xs) (line x) _ n (rw (rest-next line xs i x here, ← is) at w) h
+  pub lines-front : Written a b (flat_map line xs) (flat_map line (drop i xs)) → BreaksOff b c (line x)
+      → BreaksOff a c (flat_map line xs)
+  lines-front w h = written-part_front a b c (flat_map line xs) (line x) _ (rw (rest-next line xs i x here, ← is) at w) h

@@ -13,4 +13,4 @@ pub returns-in_err-write_line : goal.returns-in_err-write_line
 returns-in_err-write_line g c =
     let here : c.loop-branch.branch-index < length c.args.branches.now = omega arith in
     let p = err_from_is_err_and c.from_residual.result c.from_residual.ensures.1 in
-    rw p.1 (lines-front branch_line _ _ _ _ _ _ here c.branch-item.is c.loop-branch.invariant _ c.in_err-write_line.ensures.1)
+    rw p.1 (lines-front branch_line _ _ _ _ _ _ here c.branch-item.is c.loop-branch.invariant c.in_err-write_line.ensures)
