@@ -1,13 +1,11 @@
 -- An agency between calls.
-use Rattle.std.specs.Prelude.{◌≡◌, ◌⊎◌, ◌≤◌, false, IsTrue}
+use Rattle.std.specs.Prelude.{◌≡◌, ◌≤◌, false, IsTrue}
 use Rattle.sqlite.specs.Store.{Ghosts}
 use Rattle.sqlite.specs.State as conn
 use Rattle.sqlite.specs.State.{HasCleanDisk}
 use Rattle.sqlite.specs.Held.{state}
 use Rattle.sqlite_trees.specs.View.{doubt}
-use Rattle.dh_types.specs.declared.command.Command.{Command}
 use Rattle.dh_model.specs.Books.{State}
-use Rattle.dh_schema.specs.Known.{known_step}
 use Rattle.dh_schema.specs.Store as store
 use Rattle.dh_schema.specs.Store.{IsReady, tables}
 use Rattle.dh_agency.specs.Seat.{Seat}
@@ -39,9 +37,9 @@ LeavesItsTables g a = store.LeavesItsTables (shown_by g a)
 abbrev pub Leaves : {S : Type 0} → Ghosts S → Seat S → (State → Type 0) → Type 0
 Leaves g a P = store.Leaves (shown_by g a) P
 
--- The state before the command, or the one after it.
-abbrev pub IsBeforeOrAfter : State → Command → State → Type 0
-IsBeforeOrAfter before command left = (left ≡ before) ⊎ (left ≡ (known_step before command).0)
+-- The tables that it reads are sound, no transaction is open, and this holds of them.
+abbrev pub ReadsAs : {S : Type 0} → Ghosts S → Seat S → (State → Type 0) → Type 0
+ReadsAs g a P = store.IsReadyWith (shown_by g a) P
 
 -- Between calls an agency that has not stopped has sound tables, which are the last commit.
 abbrev pub IsInOrder : {S : Type 0} → Ghosts S → Seat S → Type 0

@@ -1,7 +1,10 @@
 pub mod Seat
 pub mod Agency
+pub mod Served
+pub mod Told
 pub use Rattle.dh_schema.specs.Store
-pub use Rattle.dh_schema.specs.Known
+pub use Rattle.dh_laws.specs.Events
+pub use Rattle.dh_laws.specs.StateTables
 pub use Rattle.dh_model.specs.Books
 pub use Rattle.dh_types.specs.Reports
 pub use Rattle.dh_types.specs.Replies

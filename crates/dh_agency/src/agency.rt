@@ -4,10 +4,11 @@ ghost use Rattle.std.specs.Prelude.{◌≡◌, true, false, IfOk, IfErr, OnOk, O
 ghost use Rattle.sqlite.specs.State.{HasCleanDisk};
 ghost use Rattle.sqlite.specs.Held.{state};
 ghost use Rattle.dh_types.specs.Reports.{report_of};
+ghost use Rattle.dh_model.specs.Answers.{report};
 ghost use Rattle.dh_schema.specs.Faults.{IsFirstFault};
-ghost use Rattle.dh_schema.specs.Known.{known_report, known_step};
 ghost use Rattle.dh_schema.specs.Store.{IsReady};
-ghost use Rattle.dh_agency.specs.Agency.{IsClean, IsOpen, WasClean, LeavesItsTables, Leaves, IsBeforeOrAfter, machine};
+ghost use Rattle.dh_agency.specs.Agency.{IsClean, IsOpen, WasClean, LeavesItsTables, Leaves, ReadsAs, machine};
+ghost use Rattle.dh_agency.specs.Told.{IsCut, IsSaid};
 
 use crate::carrying::carry_out;
 use dh_store::look_up;
@@ -51,13 +52,14 @@ impl<S: Alter> Agency<S> {
     }
 
     /// Carries out the command and gives its reply; a refusal is a reply and changes nothing. At fault 21 or 22 the
-    /// command happened or not, and the agency has stopped; where it had stopped, fault 23.
+    /// command happened or not, and the agency has stopped: while the store is open its tables are sound, and no transaction
+    /// is. Where the agency had stopped, fault 23.
     pub fn step(&mut self, alloc: Global, command: &Command) -> Result<Reply, Fault>
-        ensures said { IsClean S.Store self.new → IfOk result (λ reply. known_step (machine S.Store self.old) command.now ≡ (machine S.Store self.new, reply)) }
+        ensures said { IsClean S.Store self.new → IfOk result (λ reply. IsSaid command.now reply (machine S.Store self.old) (machine S.Store self.new)) }
         ensures left { IsClean S.Store self.new → OnOk result (LeavesItsTables S.Store self.new) }
-        ensures crash { IsClean S.Store self.new → self.old.is_stopped ≡ false
-            → Leaves S.Store self.new (IsBeforeOrAfter (machine S.Store self.old) command.now) }
-        ensures undone { IsClean S.Store self.new → IsOpen S.Store self.new → OnErr result (machine S.Store self.new ≡ machine S.Store self.old) }
+        ensures crash { IsClean S.Store self.new → self.old.is_stopped ≡ false → Leaves S.Store self.new (IsCut command.now (machine S.Store self.old)) }
+        ensures halted { IsClean S.Store self.new → self.old.is_stopped ≡ false → IsOpen S.Store self.new
+            → OnErr result (ReadsAs S.Store self.new (IsCut command.now (machine S.Store self.old))) }
         ensures goes_on { OnOk result ((self.old.is_stopped ≡ false) × (self.new.is_stopped ≡ false)) }
         ensures stops { OnErr result (self.new.is_stopped ≡ true) }
         ensures cause { self.old.is_stopped ≡ false → IfErr result IsFirstFault }
@@ -78,11 +80,12 @@ impl<S: Alter> Agency<S> {
 
     /// Answers the question and changes nothing. At fault 21 or 22 the agency has stopped; where it had stopped, fault 23.
     pub fn show(&mut self, alloc: Global, question: &Question) -> Result<Answer, Fault>
-        ensures said { IsClean S.Store self.new → IfOk result (λ answer. report_of answer ≡ known_report (machine S.Store self.old) question.now) }
+        ensures said { IsClean S.Store self.new → IfOk result (λ answer. report_of answer ≡ report (machine S.Store self.old) question.now) }
         ensures same { IsClean S.Store self.new → OnOk result (machine S.Store self.new ≡ machine S.Store self.old) }
         ensures left { IsClean S.Store self.new → OnOk result (LeavesItsTables S.Store self.new) }
         ensures crash { IsClean S.Store self.new → self.old.is_stopped ≡ false → Leaves S.Store self.new (λ left. left ≡ machine S.Store self.old) }
-        ensures undone { IsClean S.Store self.new → IsOpen S.Store self.new → OnErr result (machine S.Store self.new ≡ machine S.Store self.old) }
+        ensures halted { IsClean S.Store self.new → self.old.is_stopped ≡ false → IsOpen S.Store self.new
+            → OnErr result (ReadsAs S.Store self.new (λ now. now ≡ machine S.Store self.old)) }
         ensures goes_on { OnOk result ((self.old.is_stopped ≡ false) × (self.new.is_stopped ≡ false)) }
         ensures stops { OnErr result (self.new.is_stopped ≡ true) }
         ensures cause { self.old.is_stopped ≡ false → IfErr result IsFirstFault }

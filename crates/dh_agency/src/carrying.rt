@@ -1,18 +1,22 @@
 //! A command carried out on the tables.
 
-ghost use Rattle.std.specs.Prelude.{◌≡◌, ◌≤◌, IsTrue, IfOk, IfErr, OnOk, OnErr};
+ghost use Rattle.std.specs.Prelude.{◌≡◌, ◌≤◌, true, IsTrue, IfOk, IfErr, OnOk, OnErr};
 ghost use Rattle.sqlite.specs.State.{HasCleanDisk};
 ghost use Rattle.sqlite.specs.Held.{state};
 ghost use Rattle.sqlite_trees.specs.View.{doubt};
+ghost use Rattle.dh_model.specs.declared.rows.Verdict.TheVariants as verdict;
 ghost use Rattle.dh_model.specs.Machine.{accepted};
+ghost use Rattle.dh_model.specs.Verdicts.{verdict_on};
 ghost use Rattle.dh_schema.specs.Faults.{IsFirstFault};
-ghost use Rattle.dh_schema.specs.Known.{known_step};
-ghost use Rattle.dh_schema.specs.Store.{IsReady, LeavesItsTables, Leaves, tables};
-ghost use Rattle.dh_agency.specs.Agency.{IsBeforeOrAfter};
+ghost use Rattle.dh_schema.specs.Store.{IsReady, IsReadyWith, Leaves, tables};
+ghost use Rattle.dh_agency.specs.Served.{is_served};
+ghost use Rattle.dh_agency.specs.Told.{IsCut, IsSaid};
 
+use dh_laws::entering::commands_are_entered;
+use dh_laws::looking::accepted_changes_fit;
 use dh_model::{Change, Verdict};
 use dh_store::{apply, ask};
-use dh_types::{Command, Fault, Reply};
+use dh_types::{Command, Fault, Refusal, Reply};
 use sqlite::{Alter, Connection};
 use std::alloc::Global;
 
@@ -26,7 +30,44 @@ fn accepted(change: &Change) -> Reply
     }
 }
 
-/// Asks for the verdict on the command, and puts its rows into the tables where it has some.
+// Whether the command is carried out so far.
+fn is_served(command: &Command) -> bool
+    ensures { result ≡ is_served command.now }
+{
+    !matches!(
+        command,
+        Command::Run(_) | Command::Open(_) | Command::Post(_)
+    )
+}
+
+// Puts the rows of an accepted command into the tables.
+fn put_rows<S: Alter>(
+    alloc: Global,
+    conn: &mut Connection<S>,
+    command: &Command,
+    change: &Change,
+) -> Result<Reply, Fault>
+    requires ready { HasCleanDisk (state S.Store conn.old) → IsReady (state S.Store conn.old) }
+    requires served { is_served command.now ≡ true }
+    requires verdict { HasCleanDisk (state S.Store conn.old)
+        → verdict_on (tables (state S.Store conn.old)).books (tables (state S.Store conn.old)).open_run command.now ≡ verdict.Change change.now }
+    ensures ready { HasCleanDisk (state S.Store conn.new) → OnOk result (IsReady (state S.Store conn.new)) }
+    ensures said { HasCleanDisk (state S.Store conn.new)
+        → IfOk result (λ reply. IsSaid command.now reply (tables (state S.Store conn.old)) (tables (state S.Store conn.new))) }
+    ensures crash { HasCleanDisk (state S.Store conn.new) → Leaves (state S.Store conn.new) (IsCut command.now (tables (state S.Store conn.old))) }
+    ensures halted { HasCleanDisk (state S.Store conn.new) → IsTrue (state S.Store conn.new).is_open
+        → OnErr result (IsReadyWith (state S.Store conn.new) (IsCut command.now (tables (state S.Store conn.old)))) }
+    ensures cause { IfErr result IsFirstFault }
+    ensures was_clean { doubt (state S.Store conn.old).is_clean ≤ doubt (state S.Store conn.new).is_clean }
+{
+    commands_are_entered(command);
+    accepted_changes_fit();
+    apply(alloc, conn, change)?;
+    Ok(accepted(change))
+}
+
+/// Asks for the verdict on the command, and puts its rows into the tables where it has some. A refusal is a reply and changes
+/// nothing.
 pub(crate) fn carry_out<S: Alter>(
     alloc: Global,
     conn: &mut Connection<S>,
@@ -35,21 +76,21 @@ pub(crate) fn carry_out<S: Alter>(
     requires { HasCleanDisk (state S.Store conn.old) → IsReady (state S.Store conn.old) }
     ensures ready { HasCleanDisk (state S.Store conn.new) → OnOk result (IsReady (state S.Store conn.new)) }
     ensures said { HasCleanDisk (state S.Store conn.new)
-        → IfOk result (λ reply. known_step (tables (state S.Store conn.old)) command.now ≡ (tables (state S.Store conn.new), reply)) }
-    ensures left { HasCleanDisk (state S.Store conn.new) → OnOk result (LeavesItsTables (state S.Store conn.new)) }
+        → IfOk result (λ reply. IsSaid command.now reply (tables (state S.Store conn.old)) (tables (state S.Store conn.new))) }
+    ensures crash { HasCleanDisk (state S.Store conn.new) → Leaves (state S.Store conn.new) (IsCut command.now (tables (state S.Store conn.old))) }
+    ensures halted { HasCleanDisk (state S.Store conn.new) → IsTrue (state S.Store conn.new).is_open
+        → OnErr result (IsReadyWith (state S.Store conn.new) (IsCut command.now (tables (state S.Store conn.old)))) }
     ensures cause { IfErr result IsFirstFault }
-    ensures crash { HasCleanDisk (state S.Store conn.new) → Leaves (state S.Store conn.new) (IsBeforeOrAfter (tables (state S.Store conn.old)) command.now) }
-    ensures undone { HasCleanDisk (state S.Store conn.new) → IsTrue (state S.Store conn.new).is_open
-        → OnErr result (tables (state S.Store conn.new) ≡ tables (state S.Store conn.old)) }
     ensures was_clean { doubt (state S.Store conn.old).is_clean ≤ doubt (state S.Store conn.new).is_clean }
 {
+    if !is_served(command) {
+        return Ok(Reply::Refused(Refusal::BadLine(1)));
+    }
     match ask(alloc, conn, command)? {
         Verdict::Change(change) => {
-            let reply = accepted(&change);
-            let applied = apply(alloc, conn, &change);
+            let reply = put_rows(alloc, conn, command, &change);
             drop(change);
-            applied?;
-            Ok(reply)
+            reply
         }
         Verdict::Already(reply) => Ok(reply),
         Verdict::Refused(refusal) => Ok(Reply::Refused(refusal)),

@@ -1,6 +1,6 @@
 //! Making an agency.
 
-ghost use Rattle.std.specs.Prelude.{◌≡◌, ◌≤◌, ◌⊎◌, false, IsTrue, IfOk, IfErr};
+ghost use Rattle.std.specs.Prelude.{◌≡◌, ◌≤◌, false, IsTrue, Err, IfOk, IfErr};
 ghost use Rattle.sqlite.specs.State.{HasCleanDisk};
 ghost use Rattle.sqlite.specs.Held.{state};
 ghost use Rattle.dh_days.specs.declared.limits.TheConstants.{LAST_ENTRY_MONTH};
@@ -33,7 +33,7 @@ pub fn create<S: Alter>(
     ensures begun { IfOk result (λ a. (a.is_stopped ≡ false) × (IsClean S.Store a → machine S.Store a ≡ start first)) }
     ensures left { IfOk result (λ a. IsClean S.Store a → LeavesItsTables S.Store a) }
     ensures cause { IfErr result (λ e. IsFirstFault e.cause) }
-    ensures occupied { ¬ IsBlank (state S.Store conn) → IfErr result (λ e. (e.cause ≡ fault.Store) × (e.conn ≡ conn)) }
+    ensures occupied { ¬ IsBlank (state S.Store conn) → result ≡ Err (record { cause = fault.Store; conn = conn }) }
     ensures undone { IfErr result (λ e. HasCleanDisk (state S.Store e.conn) → IsTrue (state S.Store e.conn).is_open
         → (state S.Store e.conn).committed ≡ (state S.Store conn).committed) }
     ensures made { IfOk result (λ a. Commits (state S.Store conn) (shown_by S.Store a) (λ t. t ≡ start first)) }
