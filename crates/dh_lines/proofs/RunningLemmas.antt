@@ -1,22 +1,29 @@
 -- From what one record does to what a batch does.
-use Rattle.std.proofs.Common.{◌≡◌, ◌∙◌, ◌⊎◌, inl, inr, ℕ, zero, suc, ◌+◌, ◌≤◌, Bool, true, false, Option, List, [], ◌∷◌, ◌++◌, length, take, Result, Ok, Err}
-use Rattle.std.proofs.Common.{refl, sym, ap, subst, arith, add-one, append-nil}
-use Rattle.std.specs.Prelude.{IsErrAnd, if◌then◌else◌}
+use Rattle.std.proofs.Common.{◌≡◌, ◌∙◌, ◌⊎◌, inl, inr, ℕ, zero, suc, ◌+◌, ◌≤◌, Bool, true, false, Option, Some, List, [], ◌∷◌, ◌++◌, length, take, slice_get, Result, Ok, Err}
+use Rattle.std.proofs.Common.{refl, sym, ap, subst, arith, add-one}
+use Rattle.std.specs.Prelude.{IsErrAnd, IfErr, if◌then◌else◌}
 use Rattle.std.specs.Io.KnownBytes.{Appends}
 use Rattle.std.proofs.KnownBytes.{Appends-trans}
+use Rattle.csv.specs.declared.error.ErrorKind.{ErrorKind}
+use Rattle.csv.specs.declared.error.ErrorKind.TheVariants as kind
 use Rattle.csv.specs.declared.reader.Reader.{Reader}
 use Rattle.sqlite.specs.Store.{Ghosts}
+use Rattle.dh_types.specs.Output.{BreaksOff, Puts}
 use Rattle.dh_types.specs.declared.reply.Fault.{Fault}
-use Rattle.dh_types.specs.declared.reply.Fault.TheVariants.{Memory}
+use Rattle.dh_types.specs.declared.reply.Fault.TheVariants as faults
+use Rattle.dh_types.specs.declared.writing.Output as writing
+use Rattle.dh_model.specs.Books.{State}
 use Rattle.dh_agency.specs.Seat.{Seat}
-use Rattle.dh_agency.specs.Agency.{LeavesItsTables, machine}
+use Rattle.dh_agency.specs.Agency.{Leaves, LeavesItsTables, machine}
 use Rattle.dh_lines.specs.Lines.{Fields}
 use Rattle.dh_lines.specs.Session.{answered, fault_line, line, lines_from, records_of, state_after}
-use Rattle.dh_lines.specs.Batch.{AgreesWithLines, AnsweredAll, AnsweredFirst, EndsEarly, EndsSo, Faulted, IsAgencyFault, LeavesEither}
+use Rattle.dh_lines.specs.Batch.{Answers, AnsweredAll, AnsweredFirst, EndsSo, Faulted, HaltsByFault, HaltsSo, IsAgencyFault, IsAtRest, IsFirst, IsWithin}
+use Rattle.dh_lines.specs.Batch.{PutsBehind, TellsFault, TellsReading, batch_fault, stand}
 use Rattle.dh_lines.specs.declared.outcome.Summary.{Summary}
 use Rattle.dh_lines.specs.declared.outcome.BatchFault.{BatchFault}
-use Rattle.dh_lines.specs.declared.outcome.BatchFault.TheVariants.{Agency, Input, Output}
-use Rattle.dh_lines.proofs.CrashLemmas.{leaves_what_holds}
+use Rattle.dh_lines.specs.declared.outcome.Halt.{Halt}
+use Rattle.dh_lines.specs.declared.outcome.Halt.TheVariants as halt
+use Rattle.dh_lines.proofs.CrashLemmas.{leaves_more, leaves_what_holds}
 use Rattle.dh_lines.proofs.Following.{Ended, Follows, Found, state-more}
 
 few : {X : Type 0} (xs : List X) (n : ℕ) → length (take n xs) ≡ n → n ≤ length xs
@@ -25,123 +32,145 @@ few [] (suc n) h = absurd (omega arith)
 few (x ∷ xs) zero h = omega arith
 few (x ∷ xs) (suc n) h = let more : n ≤ length xs = few xs n (omega arith) in omega arith
 
-nothing_more : (a b : Option (List ℕ)) (text : List ℕ) → Appends a b text → Appends a b (text ++ [])
-nothing_more a b text h = subst (Appends a b) (sym (append-nil text)) h
+puts_behind : {T E : Type 0} (a b c : Option (List ℕ)) (first second : List ℕ) (outcome : Result T E) → Appends a b first → Puts b c outcome second
+    → PutsBehind a c first outcome second
+puts_behind a b c first second (Ok it) h put = Appends-trans a b c first second h put
+puts_behind a b c first second (Err e) h broken = (broken.0, broken.1, Appends-trans a b c first (take broken.0 second) h broken.2)
 
 module _ {S : Type 0} (g : Ghosts S) (old new : Seat S) (a b : Option (List ℕ)) where
-  pub all_answered : (n r : ℕ) (input : List ℕ) → Ended a b (machine g old) (machine g new) n r input
+  pub all_answered : (n r : ℕ) (input : List ℕ) → Ended a b (stand g old) (stand g new) n r input
       → AnsweredAll g old new a b (record { records = n; refused = r }) input
   all_answered n r input w = record { written = w.written; state = w.state; records = w.count; refused = w.refused }
 
 module _ {S R : Type 0} (g : Ghosts S) (old new : Seat S) (a b : Option (List ℕ)) (rem : R → Option (List ℕ)) (records : Reader R) (n r : ℕ) (input : List ℕ)
-    (w : Follows rem records a b (machine g old) (machine g new) n r input) where
+    (w : Follows rem records a b (stand g old) (stand g new) n r input) where
   pub first_answered : AnsweredFirst g old new a b input
   first_answered = record { count = n; few = few (records_of input) n w.count; written = w.written; state = w.state }
 
-  pub faulted_between : (c : Option (List ℕ)) (fault : Fault) → (m : ℕ) × Appends b c (take m (fault_line (n + 1) fault)) → Faulted g old new a c fault input
-  faulted_between c fault h = record {
+  faulted : (c : Option (List ℕ)) (fault : Fault) (outcome : Result (Unit {0}) writing.Output) → Puts b c outcome (fault_line (n + 1) fault)
+      → (IsAtRest g old → LeavesItsTables g new) → Faulted g old new a c fault outcome input
+  faulted c fault outcome put left = record {
     count = n;
-    cut = h.0;
     few = few (records_of input) n w.count;
-    written = Appends-trans a b c _ _ w.written h.1;
-    state = λ open_still. w.state;
+    written = puts_behind a b c _ _ outcome w.written put;
+    state = λ is_open. inl w.state;
+    left = λ rests. leaves_what_holds g new (IsWithin (state_after (stand g old) (take n (records_of input))) (slice_get (records_of input) n))
+        (left rests) (inl w.state);
   }
 
-  -- between records a crash leaves the tables, and of a fault's line a beginning may be written
-  pub agrees_between : (c : Option (List ℕ)) (fault : Fault) → (m : ℕ) × Appends b c (take m (fault_line (n + 1) fault)) → LeavesItsTables g new
-      → AgreesWithLines g old new a c input
-  agrees_between c fault h left = record {
-    count = n;
-    text = take h.0 (fault_line (n + 1) fault);
-    few = few (records_of input) n w.count;
-    written = Appends-trans a b c _ _ w.written h.1;
-    part = inr (fault, h.0, refl);
-    left = leaves_what_holds g new (λ left. (left ≡ state_after (machine g old) (take n (records_of input)))
-        ⊎ (left ≡ state_after (machine g old) (take (n + 1) (records_of input)))) left (inl w.state);
-  }
+  ends_by_fault : (c : Option (List ℕ)) (fault : Fault) (h : Halt) → TellsFault b c (n + 1) fault h → (IsAtRest g old → LeavesItsTables g new)
+      → HaltsSo g old new a c (Err h) input
+  ends_by_fault c fault (halt.Fault found outcome) told left =
+      faulted c found outcome (subst (λ f. Puts b c outcome (fault_line (n + 1) f)) (sym told.0) told.1) left
+  ends_by_fault c fault halt.Input told left = absurd told
+  ends_by_fault c fault halt.Output told left = absurd told
 
-  pub agrees_now : LeavesItsTables g new → AgreesWithLines g old new a b input
-  agrees_now left = record {
-    count = n;
-    text = [];
-    few = few (records_of input) n w.count;
-    written = nothing_more a b (lines_from 1 (machine g old) (take n (records_of input))) w.written;
-    part = inr (Memory, 0, refl);
-    left = leaves_what_holds g new (λ left. (left ≡ state_after (machine g old) (take n (records_of input)))
-        ⊎ (left ≡ state_after (machine g old) (take (n + 1) (records_of input)))) left (inl w.state);
-  }
+  -- the next record was not read
+  pub ends_unread : {W : Type 0} (held : W → Option (List ℕ)) (one two : W) (k : ErrorKind) (h : Halt) → b ≡ held one → TellsReading held one two (n + 1) k h
+      → (IsAtRest g old → LeavesItsTables g new) → HaltsSo g old new a (held two) (Err h) input
+  ends_unread {W} held one two k h is told left = by k told
+    where
+      other : TellsFault (held one) (held two) (n + 1) faults.Memory h → HaltsSo g old new a (held two) (Err h) input
+      other told = ends_by_fault (held two) faults.Memory h (subst (λ o. TellsFault o (held two) (n + 1) faults.Memory h) (sym is) told) left
+
+      by : (k : ErrorKind) → TellsReading held one two (n + 1) k h → HaltsSo g old new a (held two) (Err h) input
+      by (kind.Io e) told =
+          let same : b ≡ held two = is ∙ ap held (sym told.1) in
+          subst (λ z. HaltsSo g old new a (held two) (Err z) input) (sym told.0) (subst (λ o. AnsweredFirst g old new a o input) same first_answered)
+      by (kind.Utf8 pos e) told = other told
+      by (kind.UnequalLengths pos expected len) told = other told
+      by (kind.Serialize text) told = other told
+      by (kind.Deserialize pos e) told = other told
+      by kind.OutOfMemory told = other told
+
+-- such an end comes first
+pub first_unread : {W : Type 0} (held : W → Option (List ℕ)) (one two : W) (n : ℕ) (k : ErrorKind) (h : Halt) → TellsReading held one two n k h
+    → IsFirst (batch_fault h)
+first_unread {W} held one two n k h told = by k told
+  where
+    memory : (h : Halt) → TellsFault (held one) (held two) n faults.Memory h → IsFirst (batch_fault h)
+    memory (halt.Fault found outcome) told = subst (λ f. IsFirst (batch_fault (halt.Fault f outcome))) (sym told.0) tt
+    memory halt.Input told = absurd told
+    memory halt.Output told = absurd told
+
+    by : (k : ErrorKind) → TellsReading held one two n k h → IsFirst (batch_fault h)
+    by (kind.Io e) told = subst (λ z. IsFirst (batch_fault z)) (sym told.0) tt
+    by (kind.Utf8 pos e) told = memory h told
+    by (kind.UnequalLengths pos expected len) told = memory h told
+    by (kind.Serialize text) told = memory h told
+    by (kind.Deserialize pos e) told = memory h told
+    by kind.OutOfMemory told = memory h told
 
 module _ {S R : Type 0} (g : Ghosts S) (old mid new : Seat S) (a b c : Option (List ℕ)) (rem : R → Option (List ℕ)) (records : Reader R) (n r : ℕ) (f : Fields)
     (input : List ℕ)
-    (w : Found rem records a b (machine g old) (machine g mid) n r f input) where
-  next_state : (answered (machine g mid) f).state ≡ state_after (machine g old) (take (n + 1) (records_of input))
+    (w : Found rem records a b (stand g old) (stand g mid) n r f input) where
+  next_state : (answered (stand g mid) f).state ≡ state_after (stand g old) (take (n + 1) (records_of input))
   next_state =
-      ap (λ s. (answered s f).state) w.state ∙ sym (state-more (machine g old) (take n (records_of input)) f)
-      ∙ ap (state_after (machine g old)) (sym w.next.taken)
-      ∙ ap (λ k. state_after (machine g old) (take k (records_of input))) (sym (add-one n))
+      ap (λ s. (answered s f).state) w.state ∙ sym (state-more (stand g old) (take n (records_of input)) f)
+      ∙ ap (state_after (stand g old)) (sym w.next.taken)
+      ∙ ap (λ k. state_after (stand g old) (take k (records_of input))) (sym (add-one n))
 
-  same_line : line (n + 1) (machine g mid) f ≡ line (n + 1) (state_after (machine g old) (take n (records_of input))) f
+  same_line : line (n + 1) (stand g mid) f ≡ line (n + 1) (state_after (stand g old) (take n (records_of input))) f
   same_line = ap (λ s. line (n + 1) s f) w.state
 
+  moved : (t : State) → IsWithin (stand g mid) (Some f) t → IsWithin (state_after (stand g old) (take n (records_of input))) (slice_get (records_of input) n) t
+  moved t h = subst (λ next. IsWithin (state_after (stand g old) (take n (records_of input))) next t) (sym w.next.here)
+      (subst (λ s. IsWithin s (Some f) t) w.state h)
+
   -- the next record ended the batch
-  pub ends_early : (e : BatchFault) → EndsEarly g mid new b c (n + 1) (answered (machine g mid) f) e → EndsSo g old new a c (Err e) input
-  ends_early (Agency fault) h = record {
+  pub ends_early : (e : Halt) → Answers g mid new b c (n + 1) (answered (stand g mid) f) (IsWithin (stand g mid) (Some f)) (Err e)
+      → (IsAtRest g old → Leaves g new (IsWithin (stand g mid) (Some f))) → HaltsSo g old new a c (Err e) input
+  ends_early (halt.Fault fault outcome) h left = record {
     count = n;
-    cut = h.0.0;
     few = few (records_of input) n w.next.count;
-    written = Appends-trans a b c _ _ w.written h.0.1;
-    state = λ open_still. h.1 open_still ∙ w.state;
+    written = puts_behind a b c _ _ outcome w.written h.0;
+    state = λ is_open. moved (machine g new) (h.1 is_open);
+    left = λ rests. leaves_more g new (IsWithin (stand g mid) (Some f)) _ moved (left rests);
   }
-  ends_early Input h = absurd h
-  ends_early Output h = record {
-    count = n;
-    fields = f;
-    cut = h.0.0;
-    here = w.next.here;
-    written = Appends-trans a b c _ _ w.written (subst (λ t. Appends b c (take h.0.0 t)) same_line h.0.1);
-    state = h.1 ∙ next_state;
-  }
-
-  -- what a crash leaves agrees with the lines as far as they were written
-  pub agrees_early : (e : BatchFault) → EndsEarly g mid new b c (n + 1) (answered (machine g mid) f) e
-      → LeavesEither g new (machine g mid) (answered (machine g mid) f).state
-      → AgreesWithLines g old new a c input
-  agrees_early e h left = agree e h
-    where
-      either : LeavesEither g new (state_after (machine g old) (take n (records_of input))) (state_after (machine g old) (take (n + 1) (records_of input)))
-      either = subst (λ s. LeavesEither g new s (state_after (machine g old) (take (n + 1) (records_of input)))) w.state
-          (subst (λ s. LeavesEither g new (machine g mid) s) next_state left)
-
-      agree : (e : BatchFault) → EndsEarly g mid new b c (n + 1) (answered (machine g mid) f) e → AgreesWithLines g old new a c input
-      agree (Agency fault) h = record {
+  ends_early halt.Input h left = absurd h
+  ends_early halt.Output h left =
+      let broken = subst (BreaksOff b c) same_line h.0 in
+      record {
         count = n;
-        text = take h.0.0 (fault_line (n + 1) fault);
-        few = few (records_of input) n w.next.count;
-        written = Appends-trans a b c _ _ w.written h.0.1;
-        part = inr (fault, h.0.0, refl);
-        left = either;
-      }
-      agree Input h = absurd h
-      agree Output h = record {
-        count = n;
-        text = take h.0.0 (line (n + 1) (state_after (machine g old) (take n (records_of input))) f);
-        few = few (records_of input) n w.next.count;
-        written = Appends-trans a b c _ _ w.written (subst (λ t. Appends b c (take h.0.0 t)) same_line h.0.1);
-        part = inl (f, h.0.0, w.next.here, refl);
-        left = either;
+        fields = f;
+        cut = broken.0;
+        here = w.next.here;
+        part = broken.1;
+        written = Appends-trans a b c _ _ w.written broken.2;
+        state = h.1 ∙ next_state;
       }
 
 -- an error that a `?` hands on
-pub ends_handed : {S : Type 0} (g : Ghosts S) (old new : Seat S) (a b : Option (List ℕ)) (r : Result Summary BatchFault) (e : BatchFault) (input : List ℕ)
-    → IsErrAnd r (λ y. y ≡ e) → EndsSo g old new a b (Err e) input → EndsSo g old new a b r input
+pub ends_handed : {S : Type 0} (g : Ghosts S) (old new : Seat S) (a b : Option (List ℕ)) (r : Result Summary Halt) (e : Halt) (input : List ℕ)
+    → IsErrAnd r (λ y. y ≡ e) → HaltsSo g old new a b (Err e) input → HaltsSo g old new a b r input
 ends_handed g old new a b (Ok s) e input is h = absurd is
-ends_handed g old new a b (Err y) e input is h = subst (λ z. EndsSo g old new a b (Err z) input) (sym is) h
+ends_handed g old new a b (Err y) e input is h = subst (λ z. HaltsSo g old new a b (Err z) input) (sym is) h
+
+-- the same, told to the caller
+pub ends_told : {S : Type 0} (g : Ghosts S) (old new : Seat S) (a b : Option (List ℕ)) (r : Result Summary BatchFault) (e : Halt) (input : List ℕ)
+    → IsErrAnd r (λ y. y ≡ batch_fault e) → HaltsSo g old new a b (Err e) input → EndsSo g old new a b r input
+ends_told g old new a b (Ok s) e input is h = absurd is
+ends_told g old new a b (Err y) e input is h = subst (λ z. EndsSo g old new a b (Err z) input) (sym is) (by e h)
+  where
+    by : (e : Halt) → HaltsSo g old new a b (Err e) input → EndsSo g old new a b (Err (batch_fault e)) input
+    by (halt.Fault fault outcome) h = (outcome, h)
+    by halt.Input h = h
+    by halt.Output h = h
+
+pub stops_told : {T : Type 0} (r : Result T BatchFault) (e : Halt) → IsErrAnd r (λ y. y ≡ batch_fault e) → HaltsByFault {T = T} (Err e) → IsAgencyFault r
+stops_told {T} (Ok s) e is h = absurd is
+stops_told {T} (Err y) e is h = subst (λ z. IsAgencyFault {T = T} (Err z)) (sym is) (by e h)
+  where
+    by : (e : Halt) → HaltsByFault {T = T} (Err e) → IsAgencyFault {T = T} (Err (batch_fault e))
+    by (halt.Fault fault outcome) h = tt
+    by halt.Input h = absurd h
+    by halt.Output h = absurd h
 
 pub one_at_most : (is_refused : Bool) (k : ℕ) → k ≡ (if is_refused then 1 else 0) → k ≤ 1
 one_at_most true k h = omega arith
 one_at_most false k h = omega arith
 
 -- an agency that has not stopped after the record had not stopped before it
-pub still_on : (e : BatchFault) {before after : Bool} → (after ≡ before) ⊎ (IsAgencyFault {T = Bool} (Err e) × (after ≡ true)) → after ≡ false → before ≡ false
+pub still_on : (e : Halt) {before after : Bool} → (after ≡ before) ⊎ (HaltsByFault {T = Bool} (Err e) × (after ≡ true)) → after ≡ false → before ≡ false
 still_on e (inl same) h = sym same ∙ h
 still_on e (inr stopped) h = cc (stopped.1, h)

@@ -1,95 +1,177 @@
 -- What a batch does to the tables, and what of its lines was written.
-use Rattle.std.specs.Prelude.{◌≡◌, ◌⊎◌, ◌≤◌, ℕ, ◌+◌, Bool, List, ◌++◌, length, take, slice_get, Option, Some, Result, Ok, Err, ⊤}
+use Rattle.std.specs.Prelude.{◌≡◌, ◌⊎◌, ◌≤◌, ◌<◌, ℕ, ◌+◌, Bool, false, List, [], ◌∷◌, ◌++◌, length, take, slice_get, Option, None, Some, MatchResult, Result}
+use Rattle.std.specs.Prelude.{Ok, Err, ⊤}
 use Rattle.std.specs.Io.KnownBytes.{Appends}
+use Rattle.csv.specs.declared.error.ErrorKind.{ErrorKind}
+use Rattle.csv.specs.declared.error.ErrorKind.TheVariants as kind
 use Rattle.sqlite.specs.Store.{Ghosts}
+use Rattle.dh_types.specs.Output.{BreaksOff, Puts}
+use Rattle.dh_types.specs.declared.command.Command as told
 use Rattle.dh_types.specs.declared.reply.Fault.{Fault}
+use Rattle.dh_types.specs.declared.reply.Fault.TheVariants as faults
+use Rattle.dh_types.specs.declared.writing.Output as writing
 use Rattle.dh_model.specs.Books.{State}
+use Rattle.dh_model.specs.Runs.{batch_size}
+use Rattle.dh_model.specs.Verdicts.{verdict_on}
+use Rattle.dh_model.specs.Whole.{whole}
+use Rattle.dh_laws.specs.Events.{RunIfDone, RunIfUndone, state_of}
+use Rattle.dh_laws.specs.StateTables.{tables}
 use Rattle.dh_schema.specs.Faults.{IsFirstFault}
 use Rattle.dh_agency.specs.Seat.{Seat}
-use Rattle.dh_agency.specs.Agency.{IsOpen, Leaves, machine}
-use Rattle.dh_lines.specs.Lines.{Fields}
-use Rattle.dh_lines.specs.Session.{Answered, fault_line, line, lines_from, numbered, records_of, refused_in, state_after}
+use Rattle.dh_agency.specs.Agency.{IsOpen, Leaves, LeavesItsTables, machine}
 use Rattle.dh_lines.specs.declared.outcome.Summary.{Summary}
 use Rattle.dh_lines.specs.declared.outcome.BatchFault.{BatchFault}
-use Rattle.dh_lines.specs.declared.outcome.BatchFault.TheVariants.{Agency, Input, Output}
+use Rattle.dh_lines.specs.declared.outcome.BatchFault.TheVariants as ended
+use Rattle.dh_lines.specs.declared.outcome.Halt.{Halt}
+use Rattle.dh_lines.specs.declared.outcome.Halt.TheVariants as halt
+use Rattle.dh_lines.specs.declared.request.Request.TheVariants as request
+use Rattle.dh_lines.specs.Lines.{Fields, request_of}
+use Rattle.dh_lines.specs.Session.{Answered, answered, fault_line, line, lines_from, numbered, records_of, refused_in, state_after}
+
+-- ---- how a batch ends early
+
+-- the same, as it is told to the caller
+abbrev pub batch_fault : Halt → BatchFault
+batch_fault (halt.Fault it outcome) = ended.Agency it
+batch_fault halt.Input = ended.Input
+batch_fault halt.Output = ended.Output
+
+abbrev pub IsFaultHalt : Halt → Type 0
+IsFaultHalt (halt.Fault it outcome) = ⊤
+IsFaultHalt halt.Input = ⊥
+IsFaultHalt halt.Output = ⊥
+
+abbrev pub HaltsByFault : {T : Type 0} → Result T Halt → Type 0
+HaltsByFault (Ok value) = ⊥
+HaltsByFault (Err it) = IsFaultHalt it
 
 abbrev pub IsAgencyFault : {T : Type 0} → Result T BatchFault → Type 0
 IsAgencyFault (Ok value) = ⊥
-IsAgencyFault (Err (Agency fault)) = ⊤
-IsAgencyFault (Err Input) = ⊥
-IsAgencyFault (Err Output) = ⊥
+IsAgencyFault (Err (ended.Agency it)) = ⊤
+IsAgencyFault (Err ended.Input) = ⊥
+IsAgencyFault (Err ended.Output) = ⊥
 
 -- a fault that ends the batch of an agency that had not stopped before
 abbrev pub IsFirst : BatchFault → Type 0
-IsFirst (Agency fault) = IsFirstFault fault
-IsFirst Input = ⊤
-IsFirst Output = ⊤
+IsFirst (ended.Agency it) = IsFirstFault it
+IsFirst ended.Input = ⊤
+IsFirst ended.Output = ⊤
 
--- whatever a crash now leaves is one of two states
-abbrev pub LeavesEither : {S : Type 0} → Ghosts S → Seat S → State → State → Type 0
-LeavesEither g a before after = Leaves g a (λ left. (left ≡ before) ⊎ (left ≡ after))
+-- this fault, whose line was written as the outcome of that says: the whole, or some of it
+abbrev pub TellsFault : Option (List ℕ) → Option (List ℕ) → ℕ → Fault → Halt → Type 0
+TellsFault a b n it (halt.Fault found outcome) = (found ≡ it) × Puts a b outcome (fault_line n it)
+TellsFault a b n it halt.Input = ⊥
+TellsFault a b n it halt.Output = ⊥
 
--- how answering record n so ended early: at a fault a beginning of its line was written and the books stay as they were,
--- at a writer's failure a beginning of the answer was written, which stands
-abbrev pub EndsEarly : {S : Type 0} → Ghosts S → Seat S → Seat S → Option (List ℕ) → Option (List ℕ) → ℕ → Answered → BatchFault → Type 0
-EndsEarly g old new a b n it (Agency fault) = ((m : ℕ) × Appends a b (take m (fault_line n fault))) × (IsOpen g new → machine g new ≡ machine g old)
-EndsEarly g old new a b n it Input = ⊥
-EndsEarly g old new a b n it Output = ((m : ℕ) × Appends a b (take m (numbered n it.text))) × (machine g new ≡ it.state)
+-- a failing reader is told as that, and nothing is written; else memory ran out, which is the agency's fault of that
+abbrev pub TellsReading : {W : Type 0} → (W → Option (List ℕ)) → W → W → ℕ → ErrorKind → Halt → Type 0
+TellsReading held old new n (kind.Io error) it = (it ≡ halt.Input) × (new ≡ old)
+TellsReading held old new n _ it = TellsFault (held old) (held new) n faults.Memory it
 
--- record n was answered so, as far as the result says
-abbrev pub Answers : {S : Type 0} → Ghosts S → Seat S → Seat S → Option (List ℕ) → Option (List ℕ) → ℕ → Answered → Result Bool BatchFault → Type 0
-Answers g old new a b n it (Ok is_refused) = Appends a b (numbered n it.text) × (machine g new ≡ it.state) × (is_refused ≡ it.is_refused)
-Answers g old new a b n it (Err fault) = EndsEarly g old new a b n it fault
+-- ---- where the machine stands
 
-module _ {S : Type 0} (g : Ghosts S) (old new : Seat S) (a b : Option (List ℕ)) where
-  -- every record was answered
-  pub record AnsweredAll (summary : Summary) (input : List ℕ) : Type 0 where
-    pub written : Appends a b (lines_from 1 (machine g old) (records_of input))
-    pub state : machine g new ≡ state_after (machine g old) (records_of input)
-    pub records : summary.records ≡ length (records_of input)
-    pub refused : summary.refused ≡ refused_in (machine g old) (records_of input)
+-- where it stands with the agency's tables: the whole books, and the open run
+abbrev pub stand : {S : Type 0} → Ghosts S → Seat S → State
+stand g a = state_of batch_size (tables (machine g a))
 
-  -- the first records were answered, and of the fault's line a beginning was written
-  pub record Faulted (fault : Fault) (input : List ℕ) : Type 0 where
-    pub count : ℕ
-    pub cut : ℕ
-    pub few : count ≤ length (records_of input)
-    pub written : Appends a b (lines_from 1 (machine g old) (take count (records_of input)) ++ take cut (fault_line (count + 1) fault))
-    pub state : IsOpen g new → machine g new ≡ state_after (machine g old) (take count (records_of input))
+-- the whole of these books is the machine's after the records
+abbrev pub AreAfter : State → List Fields → State → Type 0
+AreAfter start rows left = whole batch_size left.books ≡ (state_after start rows).books
 
-  -- the first records were answered
-  pub record AnsweredFirst (input : List ℕ) : Type 0 where
-    pub count : ℕ
-    pub few : count ≤ length (records_of input)
-    pub written : Appends a b (lines_from 1 (machine g old) (take count (records_of input)))
-    pub state : machine g new ≡ state_after (machine g old) (take count (records_of input))
+-- A command was cut that the fields are: nothing of it is done, but that batches may be posted, or it is carried out, but
+-- that an accepted run may stand at any batch.
+abbrev pub IsCutAt : State → Fields → told.Command → State → Type 0
+IsCutAt s fields it left =
+    ((whole batch_size left.books ≡ s.books) × RunIfUndone batch_size s.books it s.open_run left.open_run)
+    ⊎ ((whole batch_size left.books ≡ (answered s fields).state.books) × RunIfDone batch_size s it (verdict_on s.books s.open_run it) left.open_run)
 
-  -- the first records were answered; the next one was carried out, and of its line a beginning was written
-  pub record BrokeOff (input : List ℕ) : Type 0 where
-    pub count : ℕ
-    pub fields : Fields
-    pub cut : ℕ
-    pub here : slice_get (records_of input) count ≡ Some fields
-    pub written : Appends a b (lines_from 1 (machine g old) (take count (records_of input))
-        ++ take cut (line (count + 1) (state_after (machine g old) (take count (records_of input))) fields))
-    pub state : machine g new ≡ state_after (machine g old) (take (count + 1) (records_of input))
+-- Tables with which the machine still stands there, or those of a cut command, which the next record is.
+abbrev pub IsWithin : State → Option Fields → State → Type 0
+IsWithin s next left = (state_of batch_size (tables left) ≡ s)
+    ⊎ ((fields : Fields) × (it : told.Command) × (next ≡ Some fields) × (request_of fields ≡ Ok (request.Command it)) × IsCutAt s fields it left)
 
-  -- what the result of a batch says
-  abbrev pub EndsSo : Result Summary BatchFault → List ℕ → Type 0
-  EndsSo (Ok summary) input = AnsweredAll summary input
-  EndsSo (Err (Agency fault)) input = Faulted fault input
-  EndsSo (Err Input) input = AnsweredFirst input
-  EndsSo (Err Output) input = BrokeOff input
+-- ---- one record
 
-  -- What a crash leaves agrees with the lines: all that were written whole stand, and of the record after them
-  -- the tables may hold the change, whether its line, a fault's line or a beginning of one was written or not.
-  pub record AgreesWithLines (input : List ℕ) : Type 0 where
-    pub count : ℕ
-    pub text : List ℕ
-    pub few : count ≤ length (records_of input)
-    pub written : Appends a b (lines_from 1 (machine g old) (take count (records_of input)) ++ text)
-    pub part : ((fields : Fields) × (m : ℕ) × (slice_get (records_of input) count ≡ Some fields)
-        × (text ≡ take m (line (count + 1) (state_after (machine g old) (take count (records_of input))) fields)))
-        ⊎ ((fault : Fault) × (m : ℕ) × (text ≡ take m (fault_line (count + 1) fault)))
-    pub left : LeavesEither g new (state_after (machine g old) (take count (records_of input)))
-        (state_after (machine g old) (take (count + 1) (records_of input)))
+-- Record n was answered so, as far as the result says. At a fault that was told, this holds of the tables that can be read;
+-- where the writer failed in the answer, what was asked for was done.
+abbrev pub Answers : {S : Type 0} → Ghosts S → Seat S → Seat S → Option (List ℕ) → Option (List ℕ) → ℕ → Answered → (State → Type 0) → Result Bool Halt
+    → Type 0
+Answers g old new a b n it P (Ok is_refused) = Appends a b (numbered n it.text) × (stand g new ≡ it.state) × (is_refused ≡ it.is_refused)
+Answers g old new a b n it P (Err (halt.Fault fault outcome)) = Puts a b outcome (fault_line n fault) × (IsOpen g new → P (machine g new))
+Answers g old new a b n it P (Err halt.Input) = ⊥
+Answers g old new a b n it P (Err halt.Output) = BreaksOff a b (numbered n it.text) × (stand g new ≡ it.state)
+
+-- ---- all records
+
+-- an agency that goes on, of which a crash leaves its tables alone
+abbrev pub IsAtRest : {S : Type 0} → Ghosts S → Seat S → Type 0
+IsAtRest g a = (a.is_stopped ≡ false) × LeavesItsTables g a
+
+-- the first text whole, and the second as the outcome says
+abbrev pub PutsBehind : {T E : Type 0} → Option (List ℕ) → Option (List ℕ) → List ℕ → Result T E → List ℕ → Type 0
+PutsBehind a b first outcome second =
+    MatchResult outcome (λ _. Appends a b (first ++ second)) (λ _. (n : ℕ) × (n < length second) × Appends a b (first ++ take n second))
+
+module _ {S : Type 0} (g : Ghosts S) (old new : Seat S) where
+  -- some records were answered, whatever they were
+  pub record WasAnswered : Type 0 where
+    pub rows : List Fields
+    pub stands : stand g new ≡ state_after (stand g old) rows
+
+  -- Some records were answered, and one more at most was being answered: a crash leaves tables whose whole is the machine's
+  -- books after those, or after that one too.
+  pub record LeavesAnswered : Type 0 where
+    pub rows : List Fields
+    pub within : List Fields
+    pub one : length within ≤ 1
+    pub left : Leaves g new (λ left. AreAfter (stand g old) rows left ⊎ AreAfter (stand g old) (rows ++ within) left)
+
+  module _ (a b : Option (List ℕ)) where
+    -- every record was answered
+    pub record AnsweredAll (summary : Summary) (input : List ℕ) : Type 0 where
+      pub written : Appends a b (lines_from 1 (stand g old) (records_of input))
+      pub state : stand g new ≡ state_after (stand g old) (records_of input)
+      pub records : summary.records ≡ length (records_of input)
+      pub refused : summary.refused ≡ refused_in (stand g old) (records_of input)
+
+    -- The first records were answered, and the fault's line was written behind their lines as the outcome says. The tables that can
+    -- be read, and those that a crash leaves, are those behind these records, or the next one was cut.
+    pub record Faulted (fault : Fault) (outcome : Result (Unit {0}) writing.Output) (input : List ℕ) : Type 0 where
+      pub count : ℕ
+      pub few : count ≤ length (records_of input)
+      pub written : PutsBehind a b (lines_from 1 (stand g old) (take count (records_of input))) outcome (fault_line (count + 1) fault)
+      pub state : IsOpen g new → IsWithin (state_after (stand g old) (take count (records_of input))) (slice_get (records_of input) count) (machine g new)
+      pub left : IsAtRest g old
+          → Leaves g new (IsWithin (state_after (stand g old) (take count (records_of input))) (slice_get (records_of input) count))
+
+    -- the first records were answered
+    pub record AnsweredFirst (input : List ℕ) : Type 0 where
+      pub count : ℕ
+      pub few : count ≤ length (records_of input)
+      pub written : Appends a b (lines_from 1 (stand g old) (take count (records_of input)))
+      pub state : stand g new ≡ state_after (stand g old) (take count (records_of input))
+
+    -- the first records were answered; the next one was carried out, and its line broke off
+    pub record BrokeOff (input : List ℕ) : Type 0 where
+      pub count : ℕ
+      pub fields : Fields
+      pub cut : ℕ
+      pub here : slice_get (records_of input) count ≡ Some fields
+      pub part : cut < length (line (count + 1) (state_after (stand g old) (take count (records_of input))) fields)
+      pub written : Appends a b (lines_from 1 (stand g old) (take count (records_of input))
+          ++ take cut (line (count + 1) (state_after (stand g old) (take count (records_of input))) fields))
+      pub state : stand g new ≡ state_after (stand g old) (take (count + 1) (records_of input))
+
+    -- what the result says
+    abbrev pub HaltsSo : Result Summary Halt → List ℕ → Type 0
+    HaltsSo (Ok summary) input = AnsweredAll summary input
+    HaltsSo (Err (halt.Fault fault outcome)) input = Faulted fault outcome input
+    HaltsSo (Err halt.Input) input = AnsweredFirst input
+    HaltsSo (Err halt.Output) input = BrokeOff input
+
+    -- what the result of a batch says, which does not tell whether the fault's line was written whole
+    abbrev pub EndsSo : Result Summary BatchFault → List ℕ → Type 0
+    EndsSo (Ok summary) input = AnsweredAll summary input
+    EndsSo (Err (ended.Agency fault)) input = (outcome : Result (Unit {0}) writing.Output) × Faulted fault outcome input
+    EndsSo (Err ended.Input) input = AnsweredFirst input
+    EndsSo (Err ended.Output) input = BrokeOff input

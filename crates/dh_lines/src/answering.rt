@@ -1,31 +1,44 @@
 //! Answering one record: the command is carried out or the question is asked, and then its line is written.
 
-ghost use Rattle.std.specs.Prelude.{◌≡◌, ◌⊎◌, ℕ, take, true, false, IfErr};
-ghost use Rattle.std.specs.Io.KnownBytes.{Appends};
+ghost use Rattle.std.specs.Prelude.{◌≡◌, ◌⊎◌, Some, true, false, IfErr};
+ghost use Rattle.csv.specs.Reading.{error_kind};
 ghost use Rattle.csv.specs.Records.{fields_of};
-ghost use Rattle.dh_schema.specs.Known.{known_report, known_step};
-ghost use Rattle.dh_agency.specs.Agency.{IsClean, LeavesItsTables, WasClean, machine};
-ghost use Rattle.dh_lines.specs.Session.{answered, fault_line, replied, reported};
-ghost use Rattle.dh_lines.specs.Batch.{Answers, IsAgencyFault, IsFirst, LeavesEither};
+ghost use Rattle.dh_types.specs.Reports.{report_of};
+ghost use Rattle.dh_model.specs.Answers.{report};
+ghost use Rattle.dh_agency.specs.Agency.{IsClean, Leaves, LeavesItsTables, WasClean, machine};
+ghost use Rattle.dh_agency.specs.Served.{served_step};
+ghost use Rattle.dh_agency.specs.Told.{IsCut};
+ghost use Rattle.dh_lines.specs.Session.{answered, is_no_report, replied, reported};
+ghost use Rattle.dh_lines.specs.Batch.{Answers, HaltsByFault, IsFirst, IsWithin, TellsFault, TellsReading, batch_fault, stand};
 
 use crate::Request;
-use crate::outcome::BatchFault;
+use crate::outcome::Halt;
 use crate::reading::read_line;
 use crate::replies::{put_answer_line, put_fault_line, put_refused_line, put_reply_line};
-use csv::ByteRecord;
+use csv::{ByteRecord, Error};
 use dh_agency::Agency;
+use dh_laws::asking::{answers_pass_the_run, open_runs_refuse_put_off};
 use dh_types::{Answer, Command, Fault, Question};
 use sqlite::Alter;
 use std::alloc::Global;
 use std::io::Write;
 
-/// Writes the fault's line, as far as the writer takes it.
-pub fn end_by_fault<W: Write>(writer: &mut W, number: u64, fault: Fault) -> BatchFault
-    ensures fault { result ≡ BatchFault.Agency fault }
-    ensures written { (m : ℕ) × Appends (W.contents writer.old) (W.contents writer.new) (take m (fault_line number fault)) }
+// Writes the fault's line, and keeps what came of that.
+fn end_by_fault<W: Write>(writer: &mut W, number: u64, fault: Fault) -> Halt
+    ensures { TellsFault (W.contents writer.old) (W.contents writer.new) number fault result }
 {
-    let _ = put_fault_line(writer, number, fault);
-    BatchFault::Agency(fault)
+    let outcome = put_fault_line(writer, number, fault);
+    Halt::Fault(fault, outcome)
+}
+
+/// What this error of the reading of a record is: the reader failed, or memory ran out, which is told as a fault of the agency.
+pub fn end_by_reading<W: Write>(writer: &mut W, number: u64, error: &Error) -> Halt
+    ensures { TellsReading W.contents writer.old writer.new number (error_kind error.now) result }
+{
+    if error.is_io_error() {
+        return Halt::Input;
+    }
+    end_by_fault(writer, number, Fault::Memory)
 }
 
 fn answer_command<S: Alter, W: Write>(
@@ -34,15 +47,15 @@ fn answer_command<S: Alter, W: Write>(
     number: u64,
     command: &Command,
     writer: &mut W,
-) -> Result<bool, BatchFault>
+) -> Result<bool, Halt>
     ensures answers { IsClean S.Store agency.new
         → Answers S.Store agency.old agency.new (W.contents writer.old) (W.contents writer.new) number
-        (replied (known_step (machine S.Store agency.old) command.now)) result }
+        (replied (served_step (stand S.Store agency.old) command.now)) (IsCut command.now (machine S.Store agency.old)) result }
     ensures crash { IsClean S.Store agency.new → agency.old.is_stopped ≡ false
-        → LeavesEither S.Store agency.new (machine S.Store agency.old) (known_step (machine S.Store agency.old) command.now).0 }
+        → Leaves S.Store agency.new (IsCut command.now (machine S.Store agency.old)) }
     ensures left { IsClean S.Store agency.new → agency.new.is_stopped ≡ false → LeavesItsTables S.Store agency.new }
-    ensures cause { agency.old.is_stopped ≡ false → IfErr result IsFirst }
-    ensures stops { (agency.new.is_stopped ≡ agency.old.is_stopped) ⊎ (IsAgencyFault result × (agency.new.is_stopped ≡ true)) }
+    ensures cause { agency.old.is_stopped ≡ false → IfErr result (λ it. IsFirst (batch_fault it)) }
+    ensures stops { (agency.new.is_stopped ≡ agency.old.is_stopped) ⊎ (HaltsByFault result × (agency.new.is_stopped ≡ true)) }
     ensures was_clean { WasClean S.Store agency.old agency.new }
 {
     match agency.step(alloc, command) {
@@ -55,27 +68,37 @@ fn answer_command<S: Alter, W: Write>(
     }
 }
 
+// Whether the question was refused.
+fn is_refusal(answer: &Answer) -> bool
+    ensures { result ≡ is_no_report (report_of answer.now) }
+{
+    matches!(answer, Answer::Refused(_))
+}
+
 fn answer_question<S: Alter, W: Write>(
     alloc: Global,
     agency: &mut Agency<S>,
     number: u64,
     question: Question,
     writer: &mut W,
-) -> Result<bool, BatchFault>
+) -> Result<bool, Halt>
     ensures answers { IsClean S.Store agency.new
         → Answers S.Store agency.old agency.new (W.contents writer.old) (W.contents writer.new) number
-        (reported (machine S.Store agency.old) (known_report (machine S.Store agency.old) question)) result }
-    ensures crash { IsClean S.Store agency.new → agency.old.is_stopped ≡ false
-        → LeavesEither S.Store agency.new (machine S.Store agency.old) (machine S.Store agency.old) }
+        (reported (stand S.Store agency.old) (report (stand S.Store agency.old) question)) (λ now. now ≡ machine S.Store agency.old) result }
+    ensures crash { IsClean S.Store agency.new → agency.old.is_stopped ≡ false → Leaves S.Store agency.new (λ left. left ≡ machine S.Store agency.old) }
     ensures left { IsClean S.Store agency.new → agency.new.is_stopped ≡ false → LeavesItsTables S.Store agency.new }
-    ensures cause { agency.old.is_stopped ≡ false → IfErr result IsFirst }
-    ensures stops { (agency.new.is_stopped ≡ agency.old.is_stopped) ⊎ (IsAgencyFault result × (agency.new.is_stopped ≡ true)) }
+    ensures cause { agency.old.is_stopped ≡ false → IfErr result (λ it. IsFirst (batch_fault it)) }
+    ensures stops { (agency.new.is_stopped ≡ agency.old.is_stopped) ⊎ (HaltsByFault result × (agency.new.is_stopped ≡ true)) }
     ensures was_clean { WasClean S.Store agency.old agency.new }
 {
+    // A question is answered alike by the tables and by their whole.
+    answers_pass_the_run();
+    open_runs_refuse_put_off();
     match agency.show(alloc, &question) {
         Ok(answer) => {
+            let is_refused = is_refusal(&answer);
             put_answer_line(writer, number, &answer)?;
-            Ok(matches!(&answer, Answer::Refused(_)))
+            Ok(is_refused)
         }
         Err(fault) => Err(end_by_fault(writer, number, fault)),
     }
@@ -88,15 +111,15 @@ pub fn answer<S: Alter, W: Write>(
     number: u64,
     row: &ByteRecord,
     writer: &mut W,
-) -> Result<bool, BatchFault>
+) -> Result<bool, Halt>
     ensures answers { IsClean S.Store agency.new
         → Answers S.Store agency.old agency.new (W.contents writer.old) (W.contents writer.new) number
-        (answered (machine S.Store agency.old) (fields_of row.now)) result }
+        (answered (stand S.Store agency.old) (fields_of row.now)) (IsWithin (stand S.Store agency.old) (Some (fields_of row.now))) result }
     ensures crash { IsClean S.Store agency.new → agency.old.is_stopped ≡ false → LeavesItsTables S.Store agency.old
-        → LeavesEither S.Store agency.new (machine S.Store agency.old) (answered (machine S.Store agency.old) (fields_of row.now)).state }
+        → Leaves S.Store agency.new (IsWithin (stand S.Store agency.old) (Some (fields_of row.now))) }
     ensures left { IsClean S.Store agency.new → LeavesItsTables S.Store agency.old → agency.new.is_stopped ≡ false → LeavesItsTables S.Store agency.new }
-    ensures cause { agency.old.is_stopped ≡ false → IfErr result IsFirst }
-    ensures stops { (agency.new.is_stopped ≡ agency.old.is_stopped) ⊎ (IsAgencyFault result × (agency.new.is_stopped ≡ true)) }
+    ensures cause { agency.old.is_stopped ≡ false → IfErr result (λ it. IsFirst (batch_fault it)) }
+    ensures stops { (agency.new.is_stopped ≡ agency.old.is_stopped) ⊎ (HaltsByFault result × (agency.new.is_stopped ≡ true)) }
     ensures was_clean { WasClean S.Store agency.old agency.new }
 {
     match read_line(alloc, row) {

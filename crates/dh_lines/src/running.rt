@@ -2,13 +2,12 @@
 
 ghost use Rattle.std.specs.Prelude.{◌≡◌, ◌⊎◌, true, false, IfSome, IfErr, if◌then◌else◌};
 ghost use Rattle.dh_agency.specs.Agency.{IsClean, LeavesItsTables, WasClean};
-ghost use Rattle.dh_lines.specs.Batch.{AgreesWithLines, EndsSo, IsAgencyFault, IsFirst};
+ghost use Rattle.dh_lines.specs.Batch.{EndsSo, HaltsByFault, HaltsSo, IsAgencyFault, IsFirst, LeavesAnswered, batch_fault};
 
-use crate::answering::{answer, end_by_fault};
-use crate::outcome::{BatchFault, Summary};
+use crate::answering::{answer, end_by_reading};
+use crate::outcome::{BatchFault, Halt, Summary};
 use csv::{ByteRecord, ReaderBuilder};
 use dh_agency::Agency;
-use dh_types::Fault;
 use sqlite::Alter;
 use std::alloc::Global;
 use std::io::{Read, Write};
@@ -18,6 +17,43 @@ fn count_of(is_refused: bool) -> u64
     ensures { result ≡ (if is_refused then 1 else 0) }
 {
     is_refused as u64
+}
+
+// Answers each record of the input, and tells what came of writing a fault's line.
+fn answer_records<S: Alter, R: Read, W: Write>(
+    alloc: Global,
+    agency: &mut Agency<S>,
+    reader: &mut R,
+    writer: &mut W,
+) -> Result<Summary, Halt>
+    ensures ends { IsClean S.Store agency.new → IfSome (R.remaining reader.old)
+        (HaltsSo S.Store agency.old agency.new (W.contents writer.old) (W.contents writer.new) result) }
+    ensures crash { IsClean S.Store agency.new → agency.old.is_stopped ≡ false → LeavesItsTables S.Store agency.old
+        → LeavesAnswered S.Store agency.old agency.new }
+    ensures left { IsClean S.Store agency.new → LeavesItsTables S.Store agency.old → agency.new.is_stopped ≡ false → LeavesItsTables S.Store agency.new }
+    ensures cause { agency.old.is_stopped ≡ false → IfErr result (λ it. IsFirst (batch_fault it)) }
+    ensures stops { (agency.new.is_stopped ≡ agency.old.is_stopped) ⊎ (HaltsByFault result × (agency.new.is_stopped ≡ true)) }
+    ensures was_clean { WasClean S.Store agency.old agency.new }
+{
+    let mut records = ReaderBuilder::new()
+        .has_headers(false)
+        .flexible(true)
+        .from_reader(alloc, reader);
+    let mut row = ByteRecord::new(alloc);
+    let mut refused = 0;
+    for n in 0..u64::MAX {
+        match records.read_byte_record(&mut row) {
+            Ok(true) => {}
+            Ok(false) => return Ok(Summary {
+                records: n,
+                refused,
+            }),
+            Err(error) => return Err(end_by_reading(writer, n + 1, &error)),
+        }
+        let is_refused = answer(alloc, agency, n + 1, &row, writer)?;
+        refused += count_of(is_refused);
+    }
+    Err(Halt::Input)
 }
 
 /// Answers each record of the input by its line, which is written before the next record is read, and gives the counts
@@ -34,35 +70,12 @@ pub fn batch<S: Alter, R: Read, W: Write>(
 ) -> Result<Summary, BatchFault>
     ensures ends { IsClean S.Store agency.new → IfSome (R.remaining reader.old)
         (EndsSo S.Store agency.old agency.new (W.contents writer.old) (W.contents writer.new) result) }
-    ensures crash { IsClean S.Store agency.new → agency.old.is_stopped ≡ false → LeavesItsTables S.Store agency.old → IfSome (R.remaining reader.old)
-        (AgreesWithLines S.Store agency.old agency.new (W.contents writer.old) (W.contents writer.new)) }
+    ensures crash { IsClean S.Store agency.new → agency.old.is_stopped ≡ false → LeavesItsTables S.Store agency.old
+        → LeavesAnswered S.Store agency.old agency.new }
     ensures left { IsClean S.Store agency.new → LeavesItsTables S.Store agency.old → agency.new.is_stopped ≡ false → LeavesItsTables S.Store agency.new }
     ensures cause { agency.old.is_stopped ≡ false → IfErr result IsFirst }
     ensures stops { (agency.new.is_stopped ≡ agency.old.is_stopped) ⊎ (IsAgencyFault result × (agency.new.is_stopped ≡ true)) }
     ensures was_clean { WasClean S.Store agency.old agency.new }
 {
-    let mut records = ReaderBuilder::new()
-        .has_headers(false)
-        .flexible(true)
-        .from_reader(alloc, reader);
-    let mut row = ByteRecord::new(alloc);
-    let mut refused = 0;
-    for n in 0..u64::MAX {
-        match records.read_byte_record(&mut row) {
-            Ok(true) => {}
-            Ok(false) => return Ok(Summary {
-                records: n,
-                refused,
-            }),
-            Err(e) => {
-                if e.is_io_error() {
-                    return Err(BatchFault::Input);
-                }
-                return Err(end_by_fault(writer, n + 1, Fault::Memory));
-            }
-        }
-        let is_refused = answer(alloc, agency, n + 1, &row, writer)?;
-        refused += count_of(is_refused);
-    }
-    Err(BatchFault::Input)
+    Ok(answer_records(alloc, agency, reader, writer)?)
 }

@@ -1,11 +1,77 @@
-use Rattle.dh_lines.proofs.CrashLemmas.{leaves_the_first}
+use Rattle.std.proofs.Common.{◌≡◌, Ok, Some, ap, sym, refl, rules}
+use Rattle.csv.specs.Records.{fields_of}
+use Rattle.dh_agency.specs.Agency.{machine}
+use Rattle.dh_agency.specs.Told.{IsCut}
+use Rattle.dh_lines.specs.declared.request.Request.TheVariants as request
+use Rattle.dh_lines.specs.Lines.{request_of}
+use Rattle.dh_lines.specs.Session.{answered, answered_request}
+use Rattle.dh_lines.specs.Batch.{IsWithin, stand}
+use Rattle.dh_lines.proofs.OneRecord.{answers_fault, fault_first}
+use Rattle.dh_lines.proofs.CrashLemmas.{answers_so, cut_within, leaves_more, leaves_what_holds, same_within}
 use Rattle.dh_lines.proofs.answering.answer.Goals as goal
 
+pub returns-in-Ok-Ok-Command-clause-answers : goal.returns-in-Ok-Ok-Command-clause-answers
+returns-in-Ok-Ok-Command-clause-answers g c clean =
+    let old = c.args.agency.now in
+    let before = machine g.S.Store old in
+    let fields = fields_of c.args.row.now in
+    let command = c.in-Ok-Ok-Command.command in
+    let asked : request_of fields ≡ Ok (request.Command command) = search rules in
+    answers_so g.S.Store old c.answer_command-answered.new.agency _ _ c.args.number _ (answered (stand g.S.Store old) fields)
+    (IsCut command before) (IsWithin (stand g.S.Store old) (Some fields)) c.answer_command-answered.result
+    (ap (answered_request (stand g.S.Store old)) (sym asked)) (λ t cut. cut_within fields command before t asked cut)
+    (c.answer_command-answered.ensures.answers clean)
+
+pub returns-in-Ok-Ok-Command-clause-crash : goal.returns-in-Ok-Ok-Command-clause-crash
+returns-in-Ok-Ok-Command-clause-crash g c clean live h =
+    let old = c.args.agency.now in
+    let before = machine g.S.Store old in
+    let fields = fields_of c.args.row.now in
+    let command = c.in-Ok-Ok-Command.command in
+    let asked : request_of fields ≡ Ok (request.Command command) = search rules in
+    leaves_more g.S.Store c.answer_command-answered.new.agency (IsCut command before) (IsWithin (stand g.S.Store old) (Some fields))
+    (λ t cut. cut_within fields command before t asked cut) (c.answer_command-answered.ensures.crash clean live)
+
+pub returns-in-Ok-Ok-Question-clause-answers : goal.returns-in-Ok-Ok-Question-clause-answers
+returns-in-Ok-Ok-Question-clause-answers g c clean =
+    let old = c.args.agency.now in
+    let before = machine g.S.Store old in
+    let fields = fields_of c.args.row.now in
+    let question = c.in-Ok-Ok-Question.question in
+    let asked : request_of fields ≡ Ok (request.Question question) = search rules in
+    answers_so g.S.Store old c.answer_question.new.agency _ _ c.args.number _ (answered (stand g.S.Store old) fields)
+    (λ now. now ≡ before) (IsWithin (stand g.S.Store old) (Some fields)) c.answer_question.result
+    (ap (answered_request (stand g.S.Store old)) (sym asked)) (λ t same. same_within fields before t same)
+    (c.answer_question.ensures.answers clean)
+
+pub returns-in-Ok-Ok-Question-clause-crash : goal.returns-in-Ok-Ok-Question-clause-crash
+returns-in-Ok-Ok-Question-clause-crash g c clean live h =
+    let old = c.args.agency.now in
+    let before = machine g.S.Store old in
+    leaves_more g.S.Store c.answer_question.new.agency (λ now. now ≡ before) (IsWithin (stand g.S.Store old) (Some (fields_of c.args.row.now)))
+    (λ t same. same_within (fields_of c.args.row.now) before t same) (c.answer_question.ensures.crash clean live)
+
 pub returns-in_err-put_refused_line-in-Ok-Err-clause-crash : goal.returns-in_err-put_refused_line-in-Ok-Err-clause-crash
-returns-in_err-put_refused_line-in-Ok-Err-clause-crash g c clean live h = leaves_the_first g.S.Store c.args.agency.now _ h
+returns-in_err-put_refused_line-in-Ok-Err-clause-crash g c clean live h =
+    leaves_what_holds g.S.Store c.args.agency.now (IsWithin (stand g.S.Store c.args.agency.now) (Some (fields_of c.args.row.now))) h
+    (same_within (fields_of c.args.row.now) (machine g.S.Store c.args.agency.now) (machine g.S.Store c.args.agency.now) refl)
 
 pub returns-in_ok-put_refused_line-in-Ok-Err-clause-crash : goal.returns-in_ok-put_refused_line-in-Ok-Err-clause-crash
-returns-in_ok-put_refused_line-in-Ok-Err-clause-crash g c clean live h = leaves_the_first g.S.Store c.args.agency.now _ h
+returns-in_ok-put_refused_line-in-Ok-Err-clause-crash g c clean live h =
+    leaves_what_holds g.S.Store c.args.agency.now (IsWithin (stand g.S.Store c.args.agency.now) (Some (fields_of c.args.row.now))) h
+    (same_within (fields_of c.args.row.now) (machine g.S.Store c.args.agency.now) (machine g.S.Store c.args.agency.now) refl)
 
 pub returns-in-Err-clause-crash : goal.returns-in-Err-clause-crash
-returns-in-Err-clause-crash g c clean live h = leaves_the_first g.S.Store c.args.agency.now _ h
+returns-in-Err-clause-crash g c clean live h =
+    leaves_what_holds g.S.Store c.args.agency.now (IsWithin (stand g.S.Store c.args.agency.now) (Some (fields_of c.args.row.now))) h
+    (same_within (fields_of c.args.row.now) (machine g.S.Store c.args.agency.now) (machine g.S.Store c.args.agency.now) refl)
+
+pub returns-in-Err-clause-answers : goal.returns-in-Err-clause-answers
+returns-in-Err-clause-answers g c clean =
+    let old = c.args.agency.now in
+    answers_fault g.S.Store old old _ _ c.args.number (answered (stand g.S.Store old) (fields_of c.args.row.now))
+    (IsWithin (stand g.S.Store old) (Some (fields_of c.args.row.now))) _ c.end_by_fault.result c.end_by_fault.ensures
+    (λ is_open. same_within (fields_of c.args.row.now) (machine g.S.Store old) (machine g.S.Store old) refl)
+
+pub returns-in-Err-clause-cause : goal.returns-in-Err-clause-cause
+returns-in-Err-clause-cause g c live = fault_first _ _ _ _ c.end_by_fault.result c.end_by_fault.ensures tt

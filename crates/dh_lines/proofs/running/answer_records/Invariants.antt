@@ -1,9 +1,10 @@
 use Rattle.std.proofs.Common.{◌≡◌, ◌≤◌, IfSome, false}
 use Rattle.csv.specs.Reading.{Ready, default_config, reader_config, reader_trim}
 use Rattle.csv.specs.declared.reader.Trim.TheVariants as trim
-use Rattle.dh_agency.specs.Agency.{IsClean, LeavesItsTables, WasClean, machine}
+use Rattle.dh_agency.specs.Agency.{IsClean, LeavesItsTables, WasClean}
+use Rattle.dh_lines.specs.Batch.{WasAnswered, stand}
 use Rattle.dh_lines.proofs.Following.{Follows}
-use Rattle.dh_lines.proofs.running.batch.Given as goal
+use Rattle.dh_lines.proofs.running.answer_records.Given as goal
 
 abbrev pub invariant-loop-n : goal.invariant-loop-n
 invariant-loop-n g l = record {
@@ -14,7 +15,8 @@ invariant-loop-n g l = record {
   was_clean : WasClean g.S.Store l.initial.agency l.agency;
   stopped : l.agency.is_stopped ≡ l.initial.agency.is_stopped;
   left : IsClean g.S.Store l.agency → LeavesItsTables g.S.Store l.initial.agency → l.agency.is_stopped ≡ false → LeavesItsTables g.S.Store l.agency;
+  answered : IsClean g.S.Store l.agency → WasAnswered g.S.Store l.initial.agency l.agency;
   follows : IsClean g.S.Store l.agency → IfSome (g.R.Read.remaining l.fn.reader)
       (Follows (λ r. g.R.Read.remaining r.now) l.records (g.W.Write.contents l.initial.writer) (g.W.Write.contents l.writer)
-      (machine g.S.Store l.initial.agency) (machine g.S.Store l.agency) l.n l.refused);
+      (stand g.S.Store l.initial.agency) (stand g.S.Store l.agency) l.n l.refused);
 }

@@ -1,0 +1,81 @@
+-- What one record is answered, from what the agency's call and the writing of its line give.
+use Rattle.std.proofs.Common.{◌≡◌, ◌∙◌, ℕ, Bool, Option, List, ◌++◌, Result, Ok, Err, refl, sym, ap, subst}
+use Rattle.std.specs.Prelude.{IsErrAnd}
+use Rattle.std.specs.Io.KnownBytes.{Appends}
+use Rattle.sqlite.specs.Store.{Ghosts}
+use Rattle.dh_types.specs.Output.{BreaksOff, Puts}
+use Rattle.dh_types.specs.Replies.{is_refusal, reply_text}
+use Rattle.dh_types.specs.Reports.{Report}
+use Rattle.dh_types.specs.declared.question.Question.{Question}
+use Rattle.dh_types.specs.declared.reply.Fault.{Fault}
+use Rattle.dh_types.specs.declared.reply.Reply.{Reply}
+use Rattle.dh_model.specs.Answers.{report}
+use Rattle.dh_model.specs.Books.{State}
+use Rattle.dh_model.specs.Runs.{batch_size}
+use Rattle.dh_laws.specs.Asking.{AnswersPassTheRun, OpenRunsRefusePutOff}
+use Rattle.dh_laws.specs.StateTables.{AreInOrder}
+use Rattle.dh_schema.specs.Faults.{IsFirstFault}
+use Rattle.dh_agency.specs.Seat.{Seat}
+use Rattle.dh_agency.specs.Agency.{IsOpen, LeavesItsTables, machine}
+use Rattle.dh_lines.specs.declared.outcome.Halt.{Halt}
+use Rattle.dh_lines.specs.declared.outcome.Halt.TheVariants as halt
+use Rattle.dh_lines.specs.Session.{Answered, fault_line, is_no_report, newline, numbered, replied, reported, reported_text}
+use Rattle.dh_lines.specs.Batch.{Answers, HaltsByFault, IsFirst, TellsFault, batch_fault, stand}
+use Rattle.dh_lines.proofs.CrashLemmas.{place, reads_in_order, report_stands}
+
+-- a fault that was told
+pub fault_first : (a b : Option (List ℕ)) (n : ℕ) (fault : Fault) (h : Halt) → TellsFault a b n fault h → IsFirstFault fault → IsFirst (batch_fault h)
+fault_first a b n fault (halt.Fault found outcome) told first = subst IsFirstFault (sym told.0) first
+fault_first a b n fault halt.Input told first = absurd told
+fault_first a b n fault halt.Output told first = absurd told
+
+pub fault_halts : (a b : Option (List ℕ)) (n : ℕ) (fault : Fault) (h : Halt) → TellsFault a b n fault h → HaltsByFault {T = Bool} (Err h)
+fault_halts a b n fault (halt.Fault found outcome) told = tt
+fault_halts a b n fault halt.Input told = absurd told
+fault_halts a b n fault halt.Output told = absurd told
+
+module _ {S : Type 0} (g : Ghosts S) (old new : Seat S) (a b : Option (List ℕ)) (n : ℕ) where
+  pub answers_fault : (it : Answered) (P : State → Type 0) (fault : Fault) (h : Halt) → TellsFault a b n fault h → (IsOpen g new → P (machine g new))
+      → Answers g old new a b n it P (Err h)
+  answers_fault it P fault (halt.Fault found outcome) told reads = (subst (λ f. Puts a b outcome (fault_line n f)) (sym told.0) told.1, reads)
+  answers_fault it P fault halt.Input told reads = absurd told
+  answers_fault it P fault halt.Output told reads = absurd told
+
+  -- the writer failed in the line
+  pub answers_part : (it : Answered) (P : State → Type 0) (r : Result Bool Halt) → IsErrAnd r (λ y. y ≡ halt.Output) → BreaksOff a b (numbered n it.text)
+      → stand g new ≡ it.state → Answers g old new a b n it P r
+  answers_part it P (Ok value) is broken state = absurd is
+  answers_part it P (Err e) is broken state = subst (λ z. Answers g old new a b n it P (Err z)) (sym is) (broken, state)
+
+  -- ---- a command
+
+  module _ (P : State → Type 0) (after : State × Reply) (answer : Reply) (is : after ≡ (stand g new, answer)) where
+    pub replied_whole : Appends a b (numbered n (reply_text answer ++ newline)) → (is_refused : Bool) → is_refused ≡ is_refusal answer
+        → Answers g old new a b n (replied after) P (Ok is_refused)
+    replied_whole put is_refused same = subst (λ z. Answers g old new a b n (replied z) P (Ok is_refused)) (sym is) (put, refl, same)
+
+    pub replied_part : (r : Result Bool Halt) → IsErrAnd r (λ y. y ≡ halt.Output) → BreaksOff a b (numbered n (reply_text answer ++ newline))
+        → Answers g old new a b n (replied after) P r
+    replied_part r broke put = subst (λ z. Answers g old new a b n (replied z) P r) (sym is) (answers_part (replied (stand g new, answer)) P r broke put refl)
+
+  -- ---- a question
+
+  module _ (P : State → Type 0) (question : Question) (shown : Report) (same : machine g new ≡ machine g old) (left : LeavesItsTables g new)
+      (said : shown ≡ report (machine g old) question) (passes : AnswersPassTheRun batch_size) (refuses : OpenRunsRefusePutOff) where
+    at : stand g new ≡ stand g old
+    at = ap place same
+
+    in_order : AreInOrder (machine g old)
+    in_order = subst (λ (s : State). AreInOrder s) same (reads_in_order g new left)
+
+    is : reported (stand g new) shown ≡ reported (stand g old) (report (stand g old) question)
+    is = ap (λ s. reported s shown) at ∙ ap (λ (it : Report). reported (stand g old) it) (said ∙ report_stands passes refuses (machine g old) question in_order)
+
+    pub reported_whole : Appends a b (numbered n (reported_text shown)) → (is_refused : Bool) → is_refused ≡ is_no_report shown
+        → Answers g old new a b n (reported (stand g old) (report (stand g old) question)) P (Ok is_refused)
+    reported_whole put is_refused same_answer = subst (λ z. Answers g old new a b n z P (Ok is_refused)) is (put, refl, same_answer)
+
+    pub reported_part : (r : Result Bool Halt) → IsErrAnd r (λ y. y ≡ halt.Output) → BreaksOff a b (numbered n (reported_text shown))
+        → Answers g old new a b n (reported (stand g old) (report (stand g old) question)) P r
+    reported_part r broke put =
+        subst (λ z. Answers g old new a b n z P r) is (answers_part (reported (stand g new) shown) P r broke put refl)
