@@ -5,7 +5,8 @@ ghost use Rattle.std.specs.Io.KnownBytes.{Appends};
 ghost use Rattle.dh_types.specs.Output.{Puts};
 ghost use Rattle.dh_types.specs.Replies.{fault_text};
 ghost use Rattle.dh_model.specs.Books.{start};
-ghost use Rattle.dh_agency.specs.Agency.{IsClean, machine};
+ghost use Rattle.dh_agency.specs.Agency.{IsClean};
+ghost use Rattle.dh_lines.specs.Batch.{stand};
 ghost use Rattle.dh_lines.specs.Session.{lines_from, newline, records_of, refused_in};
 ghost use Rattle.dh_desk.specs.Statuses.{status_code};
 
@@ -74,11 +75,11 @@ fn answer_all<S: Alter, R: Read, W: Write>(
     ensures known { result ≢ Status.BadWords }
     ensures answered { IsClean S.Store agency.new → (result ≡ Status.Done) ⊎ (result ≡ Status.SomeRefused)
         → IfSome (R.remaining reader.old)
-        (λ input. Appends (W.contents writer.old) (W.contents writer.new) (lines_from 1 (machine S.Store agency.old) (records_of input))) }
+        (λ input. Appends (W.contents writer.old) (W.contents writer.new) (lines_from 1 (stand S.Store agency.old) (records_of input))) }
     ensures done { IsClean S.Store agency.new → result ≡ Status.Done
-        → IfSome (R.remaining reader.old) (λ input. refused_in (machine S.Store agency.old) (records_of input) ≡ 0) }
+        → IfSome (R.remaining reader.old) (λ input. refused_in (stand S.Store agency.old) (records_of input) ≡ 0) }
     ensures some_refused { IsClean S.Store agency.new → result ≡ Status.SomeRefused
-        → IfSome (R.remaining reader.old) (λ input. 0 < refused_in (machine S.Store agency.old) (records_of input)) }
+        → IfSome (R.remaining reader.old) (λ input. 0 < refused_in (stand S.Store agency.old) (records_of input)) }
 {
     match batch(alloc, agency, reader, writer) {
         Ok(summary) => {
