@@ -1,5 +1,5 @@
 -- What a record makes of an agency's tables, in the words of a batch.
-use Rattle.std.proofs.Common.{◌≡◌, ◌∙◌, ◌⊎◌, inl, inr, refl, sym, ap, subst, Bool, true, false, Option, Some, None, Result, Ok, Err, IsTrue, ℕ, List, [], ◌∷◌, ◌++◌, arith}
+use Rattle.std.proofs.Common.{◌≡◌, ◌∙◌, ◌⊎◌, inl, inr, refl, sym, ap, subst, Bool, true, false, Option, Some, None, Result, Ok, Err, ℕ, List, [], ◌∷◌, ◌++◌, arith}
 use Rattle.std.specs.Prelude.{if◌then◌else◌}
 use Rattle.sqlite.specs.Store.{Ghosts}
 use Rattle.dh_types.specs.declared.command.Command as told
@@ -20,7 +20,6 @@ use Rattle.dh_laws.specs.InOrder.{IsInOrder}
 use Rattle.dh_laws.specs.StateTables.{AreInOrder, tables}
 use Rattle.dh_laws.specs.Asking.{AnswersPassTheRun, OpenRunsRefusePutOff}
 use Rattle.dh_laws.proofs.TellingWhole.{own_state, shows_none}
-use Rattle.dh_schema.specs.Tables.{state_in}
 use Rattle.dh_schema.proofs.Crashing.{leaves_these}
 use Rattle.dh_agency.specs.Seat.{Seat}
 use Rattle.dh_agency.specs.Agency.{IsOpen, Leaves, LeavesItsTables, ReadsAs, machine, shown_by}
@@ -32,7 +31,7 @@ use Rattle.dh_lines.specs.declared.outcome.Halt.TheVariants as halt
 use Rattle.dh_lines.specs.declared.request.Request.{Request}
 use Rattle.dh_lines.specs.declared.request.Request.TheVariants as request
 use Rattle.dh_lines.specs.Lines.{Fields, request_of}
-use Rattle.dh_lines.specs.Session.{Answered, answered, answered_request, reported, state_after}
+use Rattle.dh_lines.specs.Session.{Answered, answered, answered_request}
 use Rattle.dh_lines.specs.Batch.{Answers, AreAfter, IsWithin, LeavesAnswered, WasAnswered, stand}
 use Rattle.dh_lines.proofs.Following.{state-more}
 

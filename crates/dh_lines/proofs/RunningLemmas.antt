@@ -1,7 +1,7 @@
 -- From what one record does to what a batch does.
-use Rattle.std.proofs.Common.{◌≡◌, ◌∙◌, ◌⊎◌, inl, inr, ℕ, zero, suc, ◌+◌, ◌≤◌, Bool, true, false, Option, Some, List, [], ◌∷◌, ◌++◌, length, take, slice_get, Result, Ok, Err}
-use Rattle.std.proofs.Common.{refl, sym, ap, subst, arith, add-one}
-use Rattle.std.specs.Prelude.{IsErrAnd, IfErr, if◌then◌else◌}
+use Rattle.std.proofs.Common.{◌≡◌, ◌∙◌, ◌⊎◌, inl, inr, ℕ, zero, suc, ◌+◌, ◌≤◌, Bool, true, false, Option, Some, List, [], ◌∷◌, length, take, slice_get, Result, Ok, Err}
+use Rattle.std.proofs.Common.{sym, ap, subst, arith, add-one}
+use Rattle.std.specs.Prelude.{IsErrAnd, if◌then◌else◌}
 use Rattle.std.specs.Io.KnownBytes.{Appends}
 use Rattle.std.proofs.KnownBytes.{Appends-trans}
 use Rattle.csv.specs.declared.error.ErrorKind.{ErrorKind}
@@ -16,7 +16,7 @@ use Rattle.dh_model.specs.Books.{State}
 use Rattle.dh_agency.specs.Seat.{Seat}
 use Rattle.dh_agency.specs.Agency.{Leaves, LeavesItsTables, machine}
 use Rattle.dh_lines.specs.Lines.{Fields}
-use Rattle.dh_lines.specs.Session.{answered, fault_line, line, lines_from, records_of, state_after}
+use Rattle.dh_lines.specs.Session.{answered, fault_line, line, records_of, state_after}
 use Rattle.dh_lines.specs.Batch.{Answers, AnsweredAll, AnsweredFirst, EndsSo, Faulted, HaltsByFault, HaltsSo, IsAgencyFault, IsAtRest, IsFirst, IsWithin}
 use Rattle.dh_lines.specs.Batch.{PutsBehind, TellsFault, TellsReading, batch_fault, stand}
 use Rattle.dh_lines.specs.declared.outcome.Summary.{Summary}
