@@ -17,11 +17,7 @@ use sqlite::{Alter, Connection, Error};
 use std::alloc::Global;
 
 // Makes the tables of empty books that begin with this month, in one transaction.
-fn make_tables<S: Alter>(
-    alloc: Global,
-    conn: &mut Connection<S>,
-    first: Month,
-) -> Result<(), Error>
+fn make_tables<S: Alter>(alloc: Global, conn: &mut Connection<S>, first: Month) -> Result<(), Error>
     requires range { first ≤ LAST_ENTRY_MONTH }
     requires autocommit { (state S.Store conn.old).in_transaction ≡ false }
     requires blank { IsBlank (state S.Store conn.old) }
