@@ -1,26 +1,198 @@
--- Rows that were put into their table, as a change of the tables.
-use Rattle.std.proofs.Common.{◌≡◌, Ok, Err, OnOk, Result}
-use Rattle.std.specs.FinMap.{FinMap}
-use Rattle.sqlite.specs.State.{State}
+-- Rows that were put into their tables, as a change of the books.
+use Rattle.std.proofs.Common.{◌≡◌, ◌∙◌, ◌+◌, inl, inr, refl, sym, ap, subst, ℕ, Some, Result, Ok, Err, OnErr, OnOk, arith}
+use Rattle.std.specs.Ordering.{nat_cmp}
+use Rattle.std.specs.FinMap.{FinMap, get, insert}
+use Rattle.sqlite.specs.declared.error.Error.{Error}
+use Rattle.sqlite.specs.State.{HasCleanDisk, IsUnchanged, KeepsCommit, State}
+use Rattle.dh_types.specs.declared.command.Assignment.{Assignment}
+use Rattle.dh_types.specs.declared.command.RentChange.{RentChange}
+use Rattle.dh_types.specs.declared.command.ViewingComment.{ViewingComment}
+use Rattle.dh_types.specs.declared.run.Run.{Run}
 use Rattle.dh_model.specs.declared.rows.Change.{Change}
+use Rattle.dh_model.specs.declared.rows.Change.TheVariants as change
+use Rattle.dh_model.specs.Books.{Books}
+use Rattle.dh_model.specs.Books as machine
+use Rattle.dh_model.specs.Machine.{at_rent, changed, managed, with_comment}
+use Rattle.dh_laws.specs.Looks.{FitsIn}
 use Rattle.dh_catalog.specs.Layout.{our_schema}
 use Rattle.dh_sql.specs.Changes.{Becomes}
 use Rattle.dh_tables.specs.Calls as calls
-use Rattle.dh_schema.specs.Kinds.{Kind, order_of, record_of, shape_of}
-use Rattle.dh_schema.specs.Known.{with_change}
+use Rattle.dh_tables.specs.Calls.{Adds, Amends, CommitsNothing, GoesOn, IsUndone}
+use Rattle.dh_tables.specs.MetaTable.{SetsNext}
+use Rattle.dh_tables.specs.RunTable.{run_shape}
+use Rattle.dh_schema.specs.Kinds.{Kind, key_of, order_of, record_of, shape_of, shelf_of}
+use Rattle.dh_schema.specs.Kinds.{Properties, Runs, Viewings}
 use Rattle.dh_schema.specs.Store.{IsWriting, tables}
-use Rattle.dh_schema.specs.Tables.{AreInOrder}
-use Rattle.dh_schema.proofs.Changing.{in_order_after}
+use Rattle.dh_schema.specs.Tables.{AreInOrder, loaded_from, records_in}
+use Rattle.dh_schema.proofs.Changing.{books_after, books_with_next, in_order_after, in_order_with_next}
+use Rattle.dh_schema.proofs.Crashing.{survives_both}
+use Rattle.dh_store.specs.Putting.{Puts}
 
-module _ (kind : Kind) (records : FinMap (order_of kind) (record_of kind)) (rows : Change) (old new : State) where
-  abbrev Changes : Type 0
-  Changes = Becomes (shape_of kind) (order_of kind) our_schema records old new
+-- ---- what was committed
 
-  -- records of one kind are others now, and that is what the rows of the change make of the tables
-  pub put : {X E : Type 0} (r : Result X E) → AreInOrder old.now.trees → (Changes → tables new ≡ with_change rows (tables old))
-      → OnOk r (calls.IsWriting new) → OnOk r Changes → OnOk r (IsWriting new × (tables new ≡ with_change rows (tables old)))
-  put (Err e) order means writing done = tt
-  put (Ok x) order means writing done = (
-    record { is_open = writing.is_open; inside = writing.inside; schema = writing.schema; in_order = in_order_after kind records old new done order },
-    means done,
+-- a call that goes on, or is undone, commits nothing
+pub keeps_commit : {X E : Type 0} (r : Result X E) (old new : State) → OnOk r (GoesOn old new) → OnErr r (IsUndone old new) → KeepsCommit old new
+keeps_commit (Ok x) old new on undone = record { was_open = λ _. on.was_open; committed = λ _. on.committed_is }
+keeps_commit (Err e) old new on undone = record {
+  was_open = λ still. elim (undone still) [ inl same ↦ same.0.was_open | inr back ↦ back.was_open still ];
+  committed = λ still. elim (undone still) [ inl same ↦ same.0.committed_is | inr back ↦ (back.undone still).1 ];
+}
+
+pub keeps_both : (a b c : State) → KeepsCommit a b → KeepsCommit b c → KeepsCommit a c
+keeps_both a b c one two = record {
+  was_open = λ still. one.was_open (two.was_open still);
+  committed = λ still. two.committed still ∙ one.committed (two.was_open still);
+}
+
+-- ---- one table
+
+module _ (kind : Kind) (records : FinMap (order_of kind) (record_of kind)) (old new : State) where
+  abbrev Turns : Type 0
+  Turns = Becomes (shape_of kind) (order_of kind) our_schema records old new
+
+  -- the books with these records are those with the rows of the change
+  abbrev pub Means : Change → Type 0
+  Means rows = ((shelf_of kind).with (loaded_from old.now.trees) records).books ≡ changed rows (tables old).books
+
+  pub put_in : AreInOrder old.now.trees → GoesOn old new → Turns → IsWriting new
+      × ((tables new).books ≡ ((shelf_of kind).with (loaded_from old.now.trees) records).books)
+  put_in order on done = (
+    record { is_open = on.is_open; inside = on.mode; schema = done.schema_is; in_order = in_order_after kind records old new done order },
+    ap (λ (s : machine.State). s.books) (books_after kind records old new done),
   )
+
+  on_ok : {X E : Type 0} (rows : Change) (r : Result X E) → AreInOrder old.now.trees → Means rows → OnOk r (GoesOn old new) → OnOk r Turns
+      → OnOk r (IsWriting new × ((tables new).books ≡ changed rows (tables old).books))
+  on_ok rows (Ok x) order means on done = let here = put_in order on done in (here.0, here.1 ∙ means)
+  on_ok rows (Err e) order means on done = tt
+
+  -- a record was added
+  pub added : (rows : Change) (r : Result (Unit {0}) Error) → (HasCleanDisk old → IsWriting old) → Means rows → (HasCleanDisk new → OnOk r (GoesOn old new))
+      → (HasCleanDisk new → OnOk r Turns) → (HasCleanDisk new → OnErr r (IsUndone old new)) → CommitsNothing old new → Puts rows r old new
+  added rows r writing means on done undone crash = record {
+    put = λ clean. on_ok rows r (writing (omega (arith, crash.clean, clean))).in_order means (on clean) (done clean);
+    kept = λ clean. keeps_commit r old new (on clean) (undone clean);
+    crash = crash;
+  }
+
+module _ (kind : Kind) (key : key_of kind) (turned : record_of kind → record_of kind) (old new : State) where
+  abbrev Record : Type 0
+  Record = record_of kind
+
+  abbrev held : FinMap (order_of kind) (record_of kind)
+  held = records_in kind old.now.trees
+
+  -- the record is there, and what it becomes is what the change makes of it
+  abbrev pub IsThere : Change → Type 0
+  IsThere rows = (there : Record) × (get held key ≡ Some there) × Means kind (insert held key (turned there)) old new rows
+
+  on_ok_there : {X E : Type 0} (rows : Change) (r : Result X E) → AreInOrder old.now.trees → IsThere rows → OnOk r (GoesOn old new)
+      → OnOk r (Amends (shape_of kind) (order_of kind) key turned old new)
+      → OnOk r (IsWriting new × ((tables new).books ≡ changed rows (tables old).books))
+  on_ok_there rows (Ok x) order it on done =
+      let here = put_in kind (insert held key (turned it.0)) old new order on (done it.0 it.1) in (here.0, here.1 ∙ it.2)
+  on_ok_there rows (Err e) order it on done = tt
+
+  -- a record was changed
+  pub amended : (rows : Change) (r : Result (Unit {0}) Error) → (HasCleanDisk old → IsWriting old) → (HasCleanDisk old → IsThere rows)
+      → (HasCleanDisk new → OnOk r (GoesOn old new)) → (HasCleanDisk new → OnOk r (Amends (shape_of kind) (order_of kind) key turned old new))
+      → (HasCleanDisk new → OnErr r (IsUndone old new)) → CommitsNothing old new → Puts rows r old new
+  amended rows r writing is_there on done undone crash = record {
+    put = λ clean.
+        let early : HasCleanDisk old = omega (arith, crash.clean, clean) in
+        on_ok_there rows r (writing early).in_order (is_there early) (on clean) (done clean);
+    kept = λ clean. keeps_commit r old new (on clean) (undone clean);
+    crash = crash;
+  }
+
+-- ---- the record that is changed
+
+module _ (rows : Change) (old new : State) (fits : FitsIn rows (tables old).books) where
+  pub managed_there : (it : Assignment) → rows ≡ change.Assign it
+      → IsThere Properties it.property (λ p. record p { staff = it.staff }) old new rows
+  managed_there it is =
+      let books = (tables old).books in
+      let found = subst (λ (said : Change). FitsIn said books) is fits in
+      (found.0, found.1, sym (ap (managed books it) found.1) ∙ ap (λ (said : Change). changed said books) (sym is))
+
+  pub at_rent_there : (it : RentChange) → rows ≡ change.Rent it → IsThere Properties it.property (λ p. record p { rent = it.rent }) old new rows
+  at_rent_there it is =
+      let books = (tables old).books in
+      let found = subst (λ (said : Change). FitsIn said books) is fits in
+      (found.0, found.1, sym (ap (at_rent books it) found.1) ∙ ap (λ (said : Change). changed said books) (sym is))
+
+  pub comment_there : (it : ViewingComment) → rows ≡ change.Comment it
+      → IsThere Viewings (it.client, it.property) (λ v. record v { comment = Some it.comment }) old new rows
+  comment_there it is =
+      let books = (tables old).books in
+      let found = subst (λ (said : Change). FitsIn said books) is fits in
+      (found.0, found.1, sym (ap (with_comment books it) found.1) ∙ ap (λ (said : Change). changed said books) (sym is))
+
+-- ---- an opening
+
+module _ (run : Run) (old mid new : State) where
+  abbrev Opened : Type 0
+  Opened = IsWriting new × ((tables new).books ≡ changed (change.Open run) (tables old).books)
+
+  after_both : AreInOrder old.now.trees → GoesOn old mid → Adds run_shape nat_cmp run old mid → GoesOn mid new → SetsNext (run.month + 1) mid new → Opened
+  after_both order on added on_next set =
+      let records = insert (records_in Runs old.now.trees) run.month run in
+      let first = put_in Runs records old mid order on added in
+      let in_order = first.0.in_order in
+      let moved = set in_order.months in_order.meta in (
+        record {
+          is_open = on_next.is_open;
+          inside = on_next.mode;
+          schema = moved.schema_is;
+          in_order = in_order_with_next (run.month + 1) mid new in_order set;
+        },
+        books_with_next (run.month + 1) mid new in_order set ∙ ap (λ (books : Books). let it : Books = record books { next = run.month + 1 } in it) first.1,
+      )
+
+  on_ok_next : {X E : Type 0} (r : Result X E) → AreInOrder old.now.trees → GoesOn old mid → Adds run_shape nat_cmp run old mid → OnOk r (GoesOn mid new)
+      → OnOk r (SetsNext (run.month + 1) mid new) → OnOk r Opened
+  on_ok_next (Ok x) order on added on_next set = after_both order on added on_next set
+  on_ok_next (Err e) order on added on_next set = tt
+
+  -- the row of the run was put, and then the next month set
+  pub opened : (r : Result (Unit {0}) Error) → (HasCleanDisk old → IsWriting old) → (HasCleanDisk mid → GoesOn old mid)
+      → (HasCleanDisk mid → Adds run_shape nat_cmp run old mid) → CommitsNothing old mid → (HasCleanDisk new → OnOk r (GoesOn mid new))
+      → (HasCleanDisk new → OnOk r (SetsNext (run.month + 1) mid new)) → (HasCleanDisk new → OnErr r (IsUndone mid new)) → CommitsNothing mid new
+      → Puts (change.Open run) r old new
+  opened r writing on added before on_next set undone after =
+      let both = survives_both old mid new before after in
+      record {
+        put = λ clean.
+            let half : HasCleanDisk mid = omega (arith, after.clean, clean) in
+            let early : HasCleanDisk old = omega (arith, both.clean, clean) in
+            on_ok_next r (writing early).in_order (on half) (added half) (on_next clean) (set clean);
+        kept = λ clean.
+            let half : HasCleanDisk mid = omega (arith, after.clean, clean) in
+            let first : KeepsCommit old mid = record { was_open = λ _. (on half).was_open; committed = λ _. (on half).committed_is } in
+            keeps_both old mid new first (keeps_commit r mid new (on_next clean) (undone clean));
+        crash = both;
+      }
+
+-- nothing is put where a call failed
+pub failed : (rows : Change) (r : Result (Unit {0}) Error) (e : Error) (old new : State) → r ≡ Err e → (HasCleanDisk new → IsUndone old new)
+    → CommitsNothing old new → Puts rows r old new
+failed rows r e old new is undone crash = record {
+  put = λ clean. subst (λ (it : Result (Unit {0}) Error). OnOk it (IsWriting new × ((tables new).books ≡ changed rows (tables old).books))) (sym is) tt;
+  kept = λ clean. keeps_commit {X = Unit {0}} (Err e) old new tt (undone clean);
+  crash = crash;
+}
+
+-- and nothing where there are no rows
+pub nothing_put : (rows : Change) (s : State) → rows ≡ change.Post → (HasCleanDisk s → IsWriting s) → Puts rows (Ok tt) s s
+nothing_put rows s is writing = record {
+  put = λ clean. (writing clean, ap (λ (said : Change). changed said (tables s).books) (sym is));
+  kept = λ clean. record { was_open = λ still. still; committed = λ _. refl };
+  crash = record {
+    clean = omega arith;
+    shield = λ shielded. shielded;
+    counts = omega arith;
+    limit = refl;
+    closes = λ _ still. inl still;
+    crash = λ _ left may. inl may;
+  };
+}

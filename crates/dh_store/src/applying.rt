@@ -1,66 +1,88 @@
 //! One change in one transaction.
 
-ghost use Rattle.std.specs.Prelude.{◌≡◌, ◌⊎◌, true, false, IsTrue, Err, IfErr, OnOk, OnErr};
+ghost use Rattle.std.specs.Prelude.{◌≡◌, ◌⊎◌, ◌≤◌, ◌+◌, false, IsTrue, None, IfErr, OnOk, OnErr};
+ghost use Rattle.std.specs.FinMap.{get};
+ghost use Rattle.sqlite_trees.specs.View.{doubt};
 ghost use Rattle.sqlite.specs.State.{HasCleanDisk};
 ghost use Rattle.sqlite.specs.Held.{state};
-ghost use Rattle.dh_tables.specs.Calls.{CommitsNothing, GoesOn, IsUndone};
+ghost use Rattle.dh_days.specs.declared.limits.TheConstants.{LAST_NEXT_MONTH};
+ghost use Rattle.dh_model.specs.declared.rows.Change.TheVariants as change;
+ghost use Rattle.dh_laws.specs.Looks.{FitsIn};
+ghost use Rattle.dh_laws.specs.StateTables.{AreInOrder};
 ghost use Rattle.dh_schema.specs.Faults.{IsFirstFault};
-ghost use Rattle.dh_schema.specs.Known.{IsNewRow, has_table, with_change};
-ghost use Rattle.dh_schema.specs.Store.{IsReady, IsWriting, LeavesItsTables, Leaves, Commits, tables};
+ghost use Rattle.dh_schema.specs.Store.{IsReady, IsWriting, LeavesItsTables, Leaves, Commits, StaysReady, tables, with_change};
+ghost use Rattle.dh_store.specs.Putting.{Puts};
 
 use dh_model::Change;
 use dh_schema::fault_of;
-use dh_tables::insert;
-use dh_types::Fault;
+use dh_tables::{insert, set_next_month, update};
+use dh_types::{Fault, Month, Run};
 use sqlite::{Alter, Connection, Error, Transaction};
 use std::alloc::Global;
 
-fn has_table(change: &Change) -> bool
-    ensures { result ≡ has_table change.now }
+// The month after that of the run.
+fn month_after(run: &Run) -> Month
+    ensures value { result ≡ run.now.month + 1 }
+    ensures range { result ≤ LAST_NEXT_MONTH }
 {
-    matches!(change, Change::Branch(_))
+    run.month.month().next().unwrap()
 }
 
-// Puts the rows of the change into their table, where their keys are new.
+// Puts the row of a month's run, and moves the next month on.
+fn put_run<S: Alter>(alloc: Global, tx: &mut Transaction<'_, S>, run: &Run) -> Result<(), Error>
+    requires writing { HasCleanDisk (state S.Store tx.old.conn.now) → IsWriting (state S.Store tx.old.conn.now) }
+    requires fresh { HasCleanDisk (state S.Store tx.old.conn.now) → get (tables (state S.Store tx.old.conn.now)).books.runs run.now.month ≡ None }
+    ensures same_reference { tx.new.conn.ghost_name ≡ tx.old.conn.ghost_name }
+    ensures puts { Puts (change.Open run.now) result (state S.Store tx.old.conn.now) (state S.Store tx.new.conn.now) }
+{
+    insert(alloc, tx, run)?;
+    set_next_month(tx, month_after(run))
+}
+
+// Puts the rows of the change into their tables.
 fn put_rows<S: Alter>(
     alloc: Global,
     tx: &mut Transaction<'_, S>,
     change: &Change,
 ) -> Result<(), Error>
-    requires table { has_table change.now ≡ true }
     requires writing { HasCleanDisk (state S.Store tx.old.conn.now) → IsWriting (state S.Store tx.old.conn.now) }
-    requires fresh { HasCleanDisk (state S.Store tx.old.conn.now) → IsNewRow change.now (tables (state S.Store tx.old.conn.now)) }
+    requires fits { HasCleanDisk (state S.Store tx.old.conn.now) → FitsIn change.now (tables (state S.Store tx.old.conn.now)).books }
     ensures same_reference { tx.new.conn.ghost_name ≡ tx.old.conn.ghost_name }
-    ensures put { HasCleanDisk (state S.Store tx.new.conn.now) → OnOk result (IsWriting (state S.Store tx.new.conn.now)
-        × (tables (state S.Store tx.new.conn.now) ≡ with_change change.now (tables (state S.Store tx.old.conn.now)))) }
-    ensures shown { HasCleanDisk (state S.Store tx.new.conn.now)
-        → OnOk result (GoesOn (state S.Store tx.old.conn.now) (state S.Store tx.new.conn.now)) }
-    ensures undone { HasCleanDisk (state S.Store tx.new.conn.now)
-        → OnErr result (IsUndone (state S.Store tx.old.conn.now) (state S.Store tx.new.conn.now)) }
-    ensures crash { CommitsNothing (state S.Store tx.old.conn.now) (state S.Store tx.new.conn.now) }
+    ensures puts { Puts change.now result (state S.Store tx.old.conn.now) (state S.Store tx.new.conn.now) }
 {
     match change {
-        Change::Branch(branch) => insert(alloc, tx, branch),
-        // No other row has a table.
-        _ => unreachable!(),
+        Change::Branch(it) => insert(alloc, tx, it),
+        Change::Staff(it) => insert(alloc, tx, it),
+        Change::Owner(it) => insert(alloc, tx, it),
+        Change::Property(it) => insert(alloc, tx, it),
+        Change::Assign(it) => update(alloc, tx, it),
+        Change::Rent(it) => update(alloc, tx, it),
+        Change::Client(it) => insert(alloc, tx, it),
+        Change::Register(it) => insert(alloc, tx, it),
+        Change::Viewing(it) => insert(alloc, tx, it),
+        Change::Comment(it) => update(alloc, tx, it),
+        Change::Inspection(it) => insert(alloc, tx, it),
+        Change::Lease(it) => insert(alloc, tx, it),
+        Change::Receipt(it) => insert(alloc, tx, it),
+        Change::Open(it) => put_run(alloc, tx, it),
+        Change::Post => Ok(()),
     }
 }
 
-// Puts the rows of the change into their table and commits them.
+// Puts the rows of the change into their tables and commits them.
 fn commit_change<S: Alter>(
     alloc: Global,
     conn: &mut Connection<S>,
     change: &Change,
 ) -> Result<(), Error>
-    requires table { has_table change.now ≡ true }
     requires autocommit { (state S.Store conn.old).in_transaction ≡ false }
     requires ready { HasCleanDisk (state S.Store conn.old) → IsReady (state S.Store conn.old) }
-    requires fresh { HasCleanDisk (state S.Store conn.old) → IsNewRow change.now (tables (state S.Store conn.old)) }
+    requires order { HasCleanDisk (state S.Store conn.old) → AreInOrder (with_change change.now (tables (state S.Store conn.old))) }
+    requires fits { HasCleanDisk (state S.Store conn.old) → FitsIn change.now (tables (state S.Store conn.old)).books }
     ensures done { HasCleanDisk (state S.Store conn.new)
         → OnOk result (IsReady (state S.Store conn.new) × (tables (state S.Store conn.new) ≡ with_change change.now (tables (state S.Store conn.old)))) }
-    ensures left { HasCleanDisk (state S.Store conn.new) → OnOk result (LeavesItsTables (state S.Store conn.new)) }
     ensures undone { HasCleanDisk (state S.Store conn.new) → IsTrue (state S.Store conn.new).is_open
-        → OnErr result (tables (state S.Store conn.new) ≡ tables (state S.Store conn.old)) }
+        → OnErr result (StaysReady (state S.Store conn.old) (state S.Store conn.new)) }
     ensures survives { Commits (state S.Store conn.old) (state S.Store conn.new) (λ t. t ≡ with_change change.now (tables (state S.Store conn.old))) }
 {
     let mut tx = conn.transaction();
@@ -69,28 +91,27 @@ fn commit_change<S: Alter>(
     Ok(())
 }
 
-/// Puts exactly the rows of the change, whose keys are new, into the tables, in one transaction; at a fault the tables are
-/// these or those before, and while the store is open those before. Rows of a kind that has no table are a fault of the
-/// store, and nothing is touched.
+/// Puts exactly the rows of the change into the tables, in one transaction: those of an accepted command, which fit in and
+/// leave books in order. At a fault the tables are these or those before, and while the store is open those before.
 pub fn apply<S: Alter>(
     alloc: Global,
     conn: &mut Connection<S>,
     change: &Change,
 ) -> Result<(), Fault>
     requires ready { HasCleanDisk (state S.Store conn.old) → IsReady (state S.Store conn.old) }
-    requires fresh { HasCleanDisk (state S.Store conn.old) → IsNewRow change.now (tables (state S.Store conn.old)) }
+    requires order { HasCleanDisk (state S.Store conn.old) → AreInOrder (with_change change.now (tables (state S.Store conn.old))) }
+    requires fits { HasCleanDisk (state S.Store conn.old) → FitsIn change.now (tables (state S.Store conn.old)).books }
     ensures done { HasCleanDisk (state S.Store conn.new)
         → OnOk result (IsReady (state S.Store conn.new) × (tables (state S.Store conn.new) ≡ with_change change.now (tables (state S.Store conn.old)))) }
     ensures left { HasCleanDisk (state S.Store conn.new) → OnOk result (LeavesItsTables (state S.Store conn.new)) }
     ensures undone { HasCleanDisk (state S.Store conn.new) → IsTrue (state S.Store conn.new).is_open
-        → OnErr result (tables (state S.Store conn.new) ≡ tables (state S.Store conn.old)) }
+        → OnErr result (StaysReady (state S.Store conn.old) (state S.Store conn.new)) }
     ensures cause { IfErr result IsFirstFault }
-    ensures unknown { has_table change.now ≡ false → (result ≡ Err Fault.Store) × (conn.new ≡ conn.old) }
     ensures crash { HasCleanDisk (state S.Store conn.new)
         → Leaves (state S.Store conn.new) (λ t. (t ≡ tables (state S.Store conn.old)) ⊎ (t ≡ with_change change.now (tables (state S.Store conn.old)))) }
-    ensures survives { Commits (state S.Store conn.old) (state S.Store conn.new) (λ t. t ≡ with_change change.now (tables (state S.Store conn.old))) }
+    ensures was_clean { doubt (state S.Store conn.old).is_clean ≤ doubt (state S.Store conn.new).is_clean }
 {
-    if !has_table(change) || !conn.is_autocommit() {
+    if !conn.is_autocommit() {
         return Err(Fault::Store);
     }
     match commit_change(alloc, conn, change) {

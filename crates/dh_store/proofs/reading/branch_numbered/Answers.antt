@@ -13,7 +13,7 @@ use Rattle.dh_schema.proofs.Keyed.{keyed}
 use Rattle.dh_store.proofs.reading.branch_numbered.Goals as goal
 
 pub fetch-requires-clause-kept : goal.fetch-requires-clause-kept
-fetch-requires-clause-kept g c clean = ((c.requires clean).in_order.tables Branches).kept
+fetch-requires-clause-kept g c clean = ((c.requires clean).sound.in_order.tables Branches).kept
 
 pub returns-in-Ok-true-clause-found : goal.returns-in-Ok-true-clause-found
 returns-in-Ok-true-clause-found g c clean =

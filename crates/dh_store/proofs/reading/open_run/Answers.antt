@@ -5,7 +5,7 @@ use Rattle.dh_store.proofs.OpenRow.{open_of}
 use Rattle.dh_store.proofs.reading.open_run.Goals as goal
 
 pub find-requires-clause-kept : goal.find-requires-clause-kept
-find-requires-clause-kept g c clean = ((c.requires clean).in_order.tables Runs).kept
+find-requires-clause-kept g c clean = ((c.requires clean).sound.in_order.tables Runs).kept
 
 pub returns-in-Ok-clause-found : goal.returns-in-Ok-clause-found
 returns-in-Ok-clause-found g c clean =
