@@ -1,9 +1,9 @@
 -- Rows that were put into their tables, as a change of the books.
-use Rattle.std.proofs.Common.{◌≡◌, ◌∙◌, ◌+◌, inl, inr, refl, sym, ap, subst, ℕ, Some, Result, Ok, Err, OnErr, OnOk, arith}
+use Rattle.std.proofs.Common.{◌≡◌, ◌∙◌, ◌+◌, inl, inr, refl, sym, ap, subst, Some, Result, Ok, Err, OnErr, OnOk, arith}
 use Rattle.std.specs.Ordering.{nat_cmp}
 use Rattle.std.specs.FinMap.{FinMap, get, insert}
 use Rattle.sqlite.specs.declared.error.Error.{Error}
-use Rattle.sqlite.specs.State.{HasCleanDisk, IsUnchanged, KeepsCommit, State}
+use Rattle.sqlite.specs.State.{HasCleanDisk, KeepsCommit, State}
 use Rattle.dh_types.specs.declared.command.Assignment.{Assignment}
 use Rattle.dh_types.specs.declared.command.RentChange.{RentChange}
 use Rattle.dh_types.specs.declared.command.ViewingComment.{ViewingComment}
@@ -16,7 +16,6 @@ use Rattle.dh_model.specs.Machine.{at_rent, changed, managed, with_comment}
 use Rattle.dh_laws.specs.Looks.{FitsIn}
 use Rattle.dh_catalog.specs.Layout.{our_schema}
 use Rattle.dh_sql.specs.Changes.{Becomes}
-use Rattle.dh_tables.specs.Calls as calls
 use Rattle.dh_tables.specs.Calls.{Adds, Amends, CommitsNothing, GoesOn, IsUndone}
 use Rattle.dh_tables.specs.MetaTable.{SetsNext}
 use Rattle.dh_tables.specs.RunTable.{run_shape}
