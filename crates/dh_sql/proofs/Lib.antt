@@ -18,3 +18,4 @@ pub mod Updating
 pub mod Changing
 pub mod OwnKey
 pub mod Listing
+pub mod Last

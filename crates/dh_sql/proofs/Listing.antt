@@ -34,7 +34,7 @@ use Rattle.dh_sql.proofs.Maps.{from_permutation}
 use Rattle.dh_sql.proofs.Selecting.{shows_rows}
 use Rattle.dh_sql.proofs.Slices.{put_alone}
 
-no_tests : (rows : List Row) → filter (passes_all [] []) rows ≡ rows
+pub no_tests : (rows : List Row) → filter (passes_all [] []) rows ≡ rows
 no_tests [] = refl
 no_tests (r ∷ rows) = ap (λ rs. r ∷ rs) (no_tests rows)
 

@@ -10,10 +10,10 @@ use Rattle.sqlite.specs.Query.{Query, IsAnswerAs, Output, output, output_cmp}
 use Rattle.sqlite.specs.Tree.{Trees}
 use Rattle.dh_sql.specs.Queries.{passes_all, plain_query, shows}
 
-abbrev found : Row → List Term → List Row → List Env
+abbrev pub found : Row → List Term → List Row → List Env
 found params tests rows = map (λ r. params ∷ r ∷ []) (filter (passes_all params tests) rows)
 
-matched : (params : Row) (tests : List Term) (rows : List Row)
+pub matched : (params : Row) (tests : List Term) (rows : List Row)
     → flat_map (λ r. if passes_all params tests r then (params ∷ r ∷ []) ∷ [] else []) rows ≡ found params tests rows
 matched params tests [] = refl
 matched params tests (r ∷ rows) = one (passes_all params tests r) (matched params tests rows)

@@ -36,11 +36,33 @@ same sql params old new rows plain h =
     let none = (subst IsPlain h.1.is plain).0 in
     (subst (ShowsRows old new sql h.0 _ rows) none h.2).3
 
+-- what holds of any query with no RETURNING
+module _ (text : List ℕ) (schema : Schema) (params : Row) (plain : IsPlain (understood schema text)) where
+  plain_at : (old : State) → old.now.schema ≡ schema → IsPlain (understood old.now.schema text)
+  plain_at old has = rw has plain
+
+  module _ (r : Result (Vec Row Global) Error) (old new : State) where
+    pub plain_same : old.now.schema ≡ schema → IfOk r (λ rows. Shown text params old new rows.items) → OnOk r (IsUnchanged old new)
+    plain_same has h = by r h
+      where
+        by : (r : Result (Vec Row Global) Error) → IfOk r (λ rows. Shown text params old new rows.items) → OnOk r (IsUnchanged old new)
+        by (Err e) h = tt
+        by (Ok rows) h = same text params old new rows.items (plain_at old has) h
+
+    pub plain_undone : old.now.schema ≡ schema → IfErr r (FailsToQuery text params old new) → OnErr r (IsUnchanged old new ⊎ IsRolledBack old new)
+    plain_undone has h = by r h
+      where
+        by : (r : Result (Vec Row Global) Error) → IfErr r (FailsToQuery text params old new) → OnErr r (IsUnchanged old new ⊎ IsRolledBack old new)
+        by (Ok rows) h = tt
+        by (Err e) h = fails_whole text params old new e (plain_at old has) h
+
+  pub plain_commits : (old new : State) → (HasCleanDisk old → old.now.schema ≡ schema) → Survives old new (CommitsShowing text params old)
+      → Survives old new (λ _. ⊥)
+  plain_commits old new has s =
+      survives_weaker old new _ _ (λ clean db. never_commits text params old db (plain_at old (has (omega (arith, s.clean, clean))))) s
+
 module _ (text : List ℕ) (schema : Schema) (tree : ℕ) (tests project : List Term) (order : List (Term × Key)) (names : List (List ℕ)) (params : Row)
     (is : IsSelectText text schema tree tests project order names) where
-  plain_at : (old : State) → old.now.schema ≡ schema → IsPlain (understood old.now.schema text)
-  plain_at old has = rw has is.plain
-
   -- the rows that pass, in some order
   pub shows_rows : (old new : State) (rows : List Row) → old.now.schema ≡ schema → Shown text params old new rows
       → IsPermutation (map (shows project params) (filter (passes_all params tests) (old.now.trees tree))) rows
@@ -51,20 +73,11 @@ module _ (text : List ℕ) (schema : Schema) (tree : ℕ) (tests project : List 
 
   module _ (r : Result (Vec Row Global) Error) (old new : State) where
     pub same_ok : old.now.schema ≡ schema → IfOk r (λ rows. Shown text params old new rows.items) → OnOk r (IsUnchanged old new)
-    same_ok has h = by r h
-      where
-        by : (r : Result (Vec Row Global) Error) → IfOk r (λ rows. Shown text params old new rows.items) → OnOk r (IsUnchanged old new)
-        by (Err e) h = tt
-        by (Ok rows) h = same text params old new rows.items (plain_at old has) h
+    same_ok = plain_same text schema params is.plain r old new
 
     pub undone_err : old.now.schema ≡ schema → IfErr r (FailsToQuery text params old new) → OnErr r (IsUnchanged old new ⊎ IsRolledBack old new)
-    undone_err has h = by r h
-      where
-        by : (r : Result (Vec Row Global) Error) → IfErr r (FailsToQuery text params old new) → OnErr r (IsUnchanged old new ⊎ IsRolledBack old new)
-        by (Ok rows) h = tt
-        by (Err e) h = fails_whole text params old new e (plain_at old has) h
+    undone_err = plain_undone text schema params is.plain r old new
 
   pub commits_nothing : (old new : State) → (HasCleanDisk old → old.now.schema ≡ schema) → Survives old new (CommitsShowing text params old)
       → Survives old new (λ _. ⊥)
-  commits_nothing old new has s =
-      survives_weaker old new _ _ (λ clean db. never_commits text params old db (plain_at old (has (omega (arith, s.clean, clean))))) s
+  commits_nothing = plain_commits text schema params is.plain

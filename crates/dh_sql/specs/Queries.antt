@@ -1,7 +1,8 @@
--- A query over one table, with no grouping and no limit.
-use Rattle.std.specs.Prelude.{ℕ, pos, negsuc, List, [], ◌∷◌, Bool, false, None}
+-- A query over one table, with no grouping.
+use Rattle.std.specs.Prelude.{ℕ, pos, negsuc, List, [], ◌∷◌, Bool, true, false, None}
 use Rattle.std.specs.List.{list_all}
 use Rattle.sqlite_value.specs.declared.value.Value.TheVariants.{Int}
+use Rattle.sqlite_value.specs.declared.keys.Collation.TheVariants.{Binary}
 use Rattle.sqlite_value.specs.declared.keys.Key.{Key}
 use Rattle.sqlite_value.specs.Order.{Row}
 use Rattle.sqlite.specs.Term.{Term, eval_all, holds, lit}
@@ -20,6 +21,13 @@ plain_query tree tests project order = record {
   limit = lit (Int (negsuc 0));
   offset = lit (Int (pos 0));
 }
+
+abbrev pub downwards : Key
+downwards = record { collation = Binary; descending = true }
+
+-- SELECT project FROM tree ORDER BY key DESC LIMIT 1
+abbrev pub last_query : ℕ → List Term → Term → Query
+last_query tree project key = record (plain_query tree [] project ((key, downwards) ∷ [])) { limit = lit (Int (pos 1)) }
 
 -- the parameters and the row pass each test
 abbrev pub passes_all : Row → List Term → Row → Bool

@@ -1,4 +1,4 @@
--- What a text means under a schema, for the three kinds of statement on one table.
+-- What a text means under a schema, for each kind of statement on one table.
 use Rattle.std.specs.Prelude.{◌≡◌, ◌/◌, ℕ, List, [], ◌∷◌, length, slice_get, false, Some}
 use Rattle.sqlite_value.specs.declared.keys.Key.{Key}
 use Rattle.sqlite_value.specs.Order.{Row}
@@ -15,7 +15,7 @@ use Rattle.sqlite.specs.Rows.{stamped}
 use Rattle.sqlite.specs.Term.{Term}
 use Rattle.sqlite.specs.Tree.{Trees}
 use Rattle.sqlite.proofs.Callers.{IsPlain, command_of}
-use Rattle.dh_sql.specs.Queries.{plain_query}
+use Rattle.dh_sql.specs.Queries.{last_query, plain_query}
 
 -- no AUTOINCREMENT, and no default that reads the time
 abbrev pub uncounted : Table → Table
@@ -37,6 +37,13 @@ pub record IsInsertText (text : List ℕ) (schema : Schema) (at : ℕ) (table : 
 pub record IsSelectText
     (text : List ℕ) (schema : Schema) (tree : ℕ) (tests project : List Term) (order : List (Term × Key)) (names : List (List ℕ)) : Type 0 where
   pub command : command_of (understood schema text) ≡ Select (record { lets = []; body = plain_query tree tests project order }) names
+  pub unlisted : reads_listing schema text ≡ false
+  pub plain : IsPlain (understood schema text)
+  pub stored : (db : Trees) → overlay db [] tree ≡ db tree
+
+-- SELECT project FROM tree ORDER BY key DESC LIMIT 1
+pub record IsLastText (text : List ℕ) (schema : Schema) (tree : ℕ) (project : List Term) (key : Term) (names : List (List ℕ)) : Type 0 where
+  pub command : command_of (understood schema text) ≡ Select (record { lets = []; body = last_query tree project key }) names
   pub unlisted : reads_listing schema text ≡ false
   pub plain : IsPlain (understood schema text)
   pub stored : (db : Trees) → overlay db [] tree ≡ db tree
