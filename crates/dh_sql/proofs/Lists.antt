@@ -36,7 +36,7 @@ all_at P (y ∷ xs) (suc at) x all h = all_at P xs at x all.1 h
 -- ---- keys of which none is there twice
 
 module _ {X K : Type 0} (e : K → K → Bool) (itself : (k : K) → e k k ≡ true) (key : X → K) where
-  none_with : (k : K) (xs : List X) (y : X) → AllByRecursion (λ j. e k j ≡ false) (map key xs) → Has xs y → e k (key y) ≡ false
+  pub none_with : (k : K) (xs : List X) (y : X) → AllByRecursion (λ j. e k j ≡ false) (map key xs) → Has xs y → e k (key y) ≡ false
   none_with k [] y all there = absurd there
   none_with k (x ∷ xs) y all (inl is) = ap (λ z. e k (key z)) is ∙ all.0
   none_with k (x ∷ xs) y all (inr there) = none_with k xs y all.1 there

@@ -1,5 +1,5 @@
 -- How records of one kind stand in a tree, and the finite map that they are.
-use Rattle.std.specs.Prelude.{◌≡◌, ℕ, Bool, true, List, map}
+use Rattle.std.specs.Prelude.{◌≡◌, ◌≤◌, ℕ, Bool, true, List, [], ◌∷◌, map}
 use Rattle.std.specs.declared.cmp.Ordering.{Ordering}
 use Rattle.std.specs.Ordering.{eq_by_cmp}
 use Rattle.std.specs.List.{AllByRecursion, IsDistinct}
@@ -58,3 +58,16 @@ module _ {K X : Type 0} (it : Shape K X) where
       pub values : AllByRecursion IsStored (trees it.tree)
       pub rowids : AllByRecursion (λ r. is_int (rowid r) ≡ true) (trees it.tree)
       pub keys : IsDistinct (eq_by_cmp R) (map (λ r. it.key (stored_in r)) (trees it.tree))
+
+-- ---- keys that are numbers
+
+module _ {X : Type 0} (it : Shape ℕ X) where
+  -- the number of a stored row
+  abbrev pub number_at : Row → ℕ
+  number_at r = it.key (stored_in it r)
+
+  -- of all rows that of the greatest number is shown, where there is any
+  abbrev pub IsGreatest : List Row → List Row → Type 0
+  IsGreatest all [] = all ≡ []
+  IsGreatest all (row ∷ []) = (top : Row) × Has all top × (row ≡ it.columns top) × AllByRecursion (λ r. number_at r ≤ number_at top) all
+  IsGreatest all (row ∷ more ∷ rows) = ⊥

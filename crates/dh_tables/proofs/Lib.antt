@@ -3,6 +3,7 @@ pub mod Undone
 pub mod Numbers
 pub mod Whole
 pub mod OneRecord
+pub mod LastReceipt
 pub mod MetaTexts
 pub mod MetaChanges
 pub mod MetaNext

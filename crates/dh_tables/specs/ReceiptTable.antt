@@ -95,10 +95,10 @@ receipt_is_adding = record {
 
 -- ---- what the texts show
 
-abbrev receipt_project : List Term
+abbrev pub receipt_project : List Term
 receipt_project = col 1 0 ∷ col 1 2 ∷ col 1 3 ∷ col 1 4 ∷ col 1 5 ∷ col 1 6 ∷ []
 
-abbrev receipt_names : List (List ℕ)
+abbrev pub receipt_names : List (List ℕ)
 receipt_names = codes "receipt_no" ∷ codes "req_key" ∷ codes "lease_no" ∷ codes "kind" ∷ codes "amount" ∷ codes "day" ∷ []
 
 -- ---- the whole table

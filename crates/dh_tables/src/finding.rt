@@ -14,7 +14,7 @@ use sqlite::{Alter, Connection, Error, ErrorCode, Row};
 use std::alloc::Global;
 
 // The record that the rows are, of which there is at most one.
-fn only<R: Tabled>(alloc: Global, rows: &[Row]) -> Result<Option<R>, Error>
+pub(crate) fn only<R: Tabled>(alloc: Global, rows: &[Row]) -> Result<Option<R>, Error>
     ensures { IfOk result (λ found. rows_of R.shape {R = R.order} rows.now ≡ only_record R.shape found) }
 {
     match rows {

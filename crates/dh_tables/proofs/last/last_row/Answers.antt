@@ -1,0 +1,38 @@
+use Rattle.std.proofs.Common.{[], arith, refl}
+use Rattle.sqlite_sql.specs.Term.{col}
+use Rattle.sqlite.specs.State.{HasCleanDisk}
+use Rattle.sqlite.specs.Held.{state}
+use Rattle.dh_catalog.specs.Layout.{our_schema}
+use Rattle.dh_sql.proofs.Last.{greatest_shown}
+use Rattle.dh_sql.proofs.Selecting.{plain_commits, plain_same, plain_undone}
+use Rattle.dh_tables.specs.ReceiptTable.{receipt_names, receipt_project, receipt_shape}
+use Rattle.dh_tables.proofs.LastReceipt.{last_is, last_text, numbered}
+use Rattle.dh_tables.proofs.Undone.{undone_from}
+use Rattle.dh_tables.proofs.last.last_row.Goals as goal
+
+pub returns-clause-greatest : goal.returns-clause-greatest
+returns-clause-greatest g c clean =
+    let old = state g.S.Store c.args.conn.now in
+    let early : HasCleanDisk old = omega (arith, c.query_all.ensures.survives.clean, clean) in
+    greatest_shown receipt_shape last_text our_schema receipt_project (col 1 0) receipt_names last_is (λ r. refl) numbered old
+    (state g.S.Store c.query_all.new.self) (c.requires.reading early) (c.requires.kept early).values c.query_all.result (c.query_all.ensures.ok clean)
+
+pub returns-clause-same : goal.returns-clause-same
+returns-clause-same g c clean =
+    let old = state g.S.Store c.args.conn.now in
+    let early : HasCleanDisk old = omega (arith, c.query_all.ensures.survives.clean, clean) in
+    plain_same last_text our_schema [] last_is.plain c.query_all.result old (state g.S.Store c.query_all.new.self) (c.requires.reading early)
+    (c.query_all.ensures.ok clean)
+
+pub returns-clause-undone : goal.returns-clause-undone
+returns-clause-undone g c clean =
+    let old = state g.S.Store c.args.conn.now in
+    let new = state g.S.Store c.query_all.new.self in
+    let early : HasCleanDisk old = omega (arith, c.query_all.ensures.survives.clean, clean) in
+    undone_from c.query_all.result old new
+    (plain_undone last_text our_schema [] last_is.plain c.query_all.result old new (c.requires.reading early) (c.query_all.ensures.err clean))
+
+pub returns-clause-crash : goal.returns-clause-crash
+returns-clause-crash g c =
+    plain_commits last_text our_schema [] last_is.plain (state g.S.Store c.args.conn.now) (state g.S.Store c.query_all.new.self) c.requires.reading
+    c.query_all.ensures.survives
