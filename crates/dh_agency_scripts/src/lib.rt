@@ -5,9 +5,11 @@
 mod agencies;
 mod comparing;
 mod rows;
+mod scripts;
 mod words;
 
-pub use agencies::{in_memory, play_in_memory, told};
+pub use agencies::{in_memory, told};
 pub use comparing::compare;
-pub use rows::{branches_in, found};
+pub use rows::{all_rows, found, rows_of};
+pub use scripts::{compare_tables, parted, play_in_memory, table_of};
 pub use words::branch;

@@ -1,42 +1,13 @@
 //! All rows of a kind.
 
 use dh_books::Books;
-use dh_examples::{ToLine, Unreadable};
-use std::alloc::{AllocError, Global};
+use dh_examples::{ToLine, Unreadable, add_part, all_lines, or_none};
+use std::alloc::Global;
 use std::collections::btree_map::{Keys, Values};
 use std::fmt::Display;
 
-/// Adds a part to a text of several, which stand between ` / `.
-pub(crate) fn add(text: &mut String, part: &str) -> Result<(), AllocError> {
-    if !text.is_empty() {
-        text.push_str(" / ")?;
-    }
-    text.push_str(part)
-}
-
-/// The parts together, or `none`.
-pub(crate) fn or_none(alloc: Global, text: String) -> Result<String, AllocError> {
-    if text.is_empty() {
-        return "none".to_string(alloc);
-    }
-    Ok(text)
-}
-
-/// The rows' lines.
-pub(crate) fn lines_of<T: ToLine>(alloc: Global, rows: &[T]) -> Result<String, AllocError> {
-    let mut text = String::new(alloc);
-    for row in rows {
-        add(&mut text, row.to_line(alloc)?.as_str())?;
-    }
-    or_none(alloc, text)
-}
-
 fn all<K: Ord, T: ToLine>(alloc: Global, rows: Values<'_, K, T>) -> Result<String, Unreadable> {
-    let mut text = String::new(alloc);
-    for row in rows {
-        add(&mut text, row.to_line(alloc)?.as_str())?;
-    }
-    Ok(or_none(alloc, text)?)
+    Ok(all_lines(alloc, rows)?)
 }
 
 fn all_keys<K: Ord + Display, T>(
@@ -45,7 +16,7 @@ fn all_keys<K: Ord + Display, T>(
 ) -> Result<String, Unreadable> {
     let mut text = String::new(alloc);
     for key in keys {
-        add(&mut text, key.to_string(alloc)?.as_str())?;
+        add_part(&mut text, key.to_string(alloc)?.as_str())?;
     }
     Ok(or_none(alloc, text)?)
 }

@@ -1,8 +1,7 @@
 //! Rent runs and their batches.
 
-use crate::lists::{add, lines_of};
 use dh_books::Books;
-use dh_examples::{Fields, Unreadable};
+use dh_examples::{Fields, Unreadable, add_part, lines_of};
 use dh_leases::{branch_parts, posted_charges, posted_parts};
 use dh_model::OpenRun;
 use dh_rules::batches;
@@ -29,7 +28,7 @@ pub(crate) fn posted(
     let charges = posted_charges(alloc, books, month, done)?.len();
     let parts = posted_parts(alloc, books, month, done)?;
     let mut text = charges.to_string(alloc)?;
-    add(&mut text, lines_of(alloc, &parts)?.as_str())?;
+    add_part(&mut text, lines_of(alloc, &parts)?.as_str())?;
     Ok(text)
 }
 

@@ -1,4 +1,4 @@
-//! Plays the cases of standard input over agencies on disks in memory that stop, and prints each that is answered
+//! Plays the cases of standard input over agencies on disks in memory, and prints each that is answered
 //! otherwise, and then `N cases, M differ`. A block of cases has its kind in the first line: `play` has the kinds.
 #![tactic(auto)]
 
@@ -10,7 +10,8 @@ use std::io;
 
 fn play(rt: &HostRuntime, tally: &mut Tally, kind: &str, lines: &str) -> io::Result<()> {
     match kind {
-        "an agency on disks that stop" => disks::play(rt, tally, lines),
+        "agencies on disks" => disks::play(rt, tally, lines, false),
+        "agencies on disks that stop" => disks::play(rt, tally, lines, true),
         _ => compare(rt, tally, kind, "no kind", ""),
     }
 }

@@ -55,7 +55,7 @@ fn play_lines(rt: &HostRuntime, tally: &mut Tally, kind: &str, lines: &str) -> i
 
 fn play(rt: &HostRuntime, tally: &mut Tally, kind: &str, lines: &str) -> io::Result<()> {
     match kind {
-        "an agency in memory" => play_in_memory(rt, tally, lines),
+        "agencies in memory" => play_in_memory(rt, tally, lines),
         "a reader that fails" => batches::play_reader(rt, tally),
         "a writer that fails" => batches::play_writer(rt, tally),
         _ => play_lines(rt, tally, kind, lines),
