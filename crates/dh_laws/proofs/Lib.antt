@@ -69,3 +69,4 @@ pub mod RowsNarrowed
 pub mod LooksFit
 pub mod LooksJudged
 pub mod LooksLast
+pub mod AskedRows

@@ -9,6 +9,7 @@ pub mod Kept
 pub mod Lives
 pub mod Shown
 pub mod Asking
+pub mod AskedAbout
 pub mod Repeating
 pub mod EachLife
 pub mod StateTables

@@ -3,6 +3,7 @@
 //! clause is the law. Read `keeping` first, for what books in order are, and then `lives::lives`, the law of all lives.
 #![tactic(auto)]
 
+pub mod answering;
 pub mod asking;
 pub mod balances;
 pub mod entering;
