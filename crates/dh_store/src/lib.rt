@@ -1,9 +1,11 @@
-//! One command on the tables: its verdict, and its rows in one transaction.
+//! One command on the tables: its verdict, and its rows in one transaction; and the answer to a question.
 #![tactic(auto)]
 
 mod applying;
 mod asking;
+mod questions;
 mod reading;
 
 pub use applying::apply;
-pub use asking::{ask, look_up};
+pub use asking::ask;
+pub use questions::look_up;

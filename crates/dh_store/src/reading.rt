@@ -1,6 +1,6 @@
 //! The rows that a command or a question looks at.
 
-ghost use Rattle.std.specs.Prelude.{◌≡◌, IsTrue, IfOk, IfErr, OnOk};
+ghost use Rattle.std.specs.Prelude.{◌≡◌, IsTrue, IfOk, IfErr, OnOk, OnErr};
 ghost use Rattle.std.specs.FinMap.{get};
 ghost use Rattle.sqlite.specs.State.{HasCleanDisk};
 ghost use Rattle.sqlite.specs.Held.{state};
@@ -9,18 +9,18 @@ ghost use Rattle.dh_model.specs.Books.{start};
 ghost use Rattle.dh_model.specs.Whole.{open_row};
 ghost use Rattle.dh_tables.specs.Calls.{CommitsNothing};
 ghost use Rattle.dh_schema.specs.Faults.{IsFirstFault};
-ghost use Rattle.dh_schema.specs.Store.{IsReady, tables};
+ghost use Rattle.dh_schema.specs.Store.{IsReady, StaysReady, tables};
 
 use dh_books::Books;
 use dh_days::limits::FIRST_MONTH;
 use dh_schema::fault_of;
-use dh_tables::{BranchNumbered, OpenRuns, fetch, find, load_all};
-use dh_types::{Branch, Fault, Id, Month, Run};
+use dh_tables::{BranchNumbered, OpenRuns, fetch, find};
+use dh_types::{Fault, Id, Month, Run};
 use sqlite::{Alter, Connection};
 use std::alloc::Global;
 
-// Books without a row, for those that are looked at. Their months stand for nothing.
-fn no_rows(alloc: Global) -> Books
+/// Books without a row, for those that are looked at. Their months stand for nothing.
+pub(crate) fn no_rows(alloc: Global) -> Books
     ensures { result ≡ start FIRST_MONTH }
 {
     let month = Month::of_number(FIRST_MONTH);
@@ -34,8 +34,9 @@ pub(crate) fn open_run<S: Alter>(
 ) -> Result<Option<Run>, Fault>
     requires { HasCleanDisk (state S.Store conn.old) → IsReady (state S.Store conn.old) }
     ensures found { HasCleanDisk (state S.Store conn.new) → IfOk result (λ run. run ≡ open_row (tables (state S.Store conn.old)).books) }
-    ensures done { HasCleanDisk (state S.Store conn.new)
-        → OnOk result (IsReady (state S.Store conn.new) × (tables (state S.Store conn.new) ≡ tables (state S.Store conn.old))) }
+    ensures done { HasCleanDisk (state S.Store conn.new) → OnOk result (StaysReady (state S.Store conn.old) (state S.Store conn.new)) }
+    ensures undone { HasCleanDisk (state S.Store conn.new) → IsTrue (state S.Store conn.new).is_open
+        → OnErr result (StaysReady (state S.Store conn.old) (state S.Store conn.new)) }
     ensures kept { HasCleanDisk (state S.Store conn.new) → IsTrue (state S.Store conn.new).is_open
         → tables (state S.Store conn.new) ≡ tables (state S.Store conn.old) }
     ensures cause { IfErr result IsFirstFault }
@@ -65,29 +66,6 @@ pub(crate) fn branch_numbered<S: Alter>(
 {
     let mut books = no_rows(alloc);
     match fetch(alloc, conn, &BranchNumbered { number }, &mut books) {
-        Ok(true) => Ok(books),
-        Ok(false) => Err(Fault::Store),
-        Err(error) => Err(fault_of(error)),
-    }
-}
-
-/// Books with all branches. Rows that are no record come only from a store that is not clean.
-pub(crate) fn all_branches<S: Alter>(
-    alloc: Global,
-    conn: &mut Connection<S>,
-) -> Result<Books, Fault>
-    requires { HasCleanDisk (state S.Store conn.old) → IsReady (state S.Store conn.old) }
-    ensures found { HasCleanDisk (state S.Store conn.new)
-        → IfOk result (λ books. books.books.branches ≡ (tables (state S.Store conn.old)).books.branches) }
-    ensures done { HasCleanDisk (state S.Store conn.new)
-        → OnOk result (IsReady (state S.Store conn.new) × (tables (state S.Store conn.new) ≡ tables (state S.Store conn.old))) }
-    ensures kept { HasCleanDisk (state S.Store conn.new) → IsTrue (state S.Store conn.new).is_open
-        → tables (state S.Store conn.new) ≡ tables (state S.Store conn.old) }
-    ensures cause { IfErr result IsFirstFault }
-    ensures crash { CommitsNothing (state S.Store conn.old) (state S.Store conn.new) }
-{
-    let mut books = no_rows(alloc);
-    match load_all::<Branch, S>(alloc, conn, &mut books) {
         Ok(true) => Ok(books),
         Ok(false) => Err(Fault::Store),
         Err(error) => Err(fault_of(error)),
