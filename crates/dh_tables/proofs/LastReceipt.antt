@@ -87,8 +87,7 @@ last_of trees kept (row ∷ []) top (Some x) is =
     ∙ get_new nat_total nat_ties empty x.number x in
     let its : stored_in receipt_shape top.0 ≡ x = ap receipt_shape.row_in (sym top.2) ∙ same_record (eq_by_cmp nat_cmp x.number r.number) true x r got in
     let there : get (rows_in receipt_shape {R = nat_cmp} trees) (number top.0) ≡ Some (stored_in receipt_shape top.0) =
-    get-from_entries nat_total (map (entry_in receipt_shape) all) (number top.0) ∙ found_row all top.0 kept.keys top.1 in
-    (
+    get-from_entries nat_total (map (entry_in receipt_shape) all) (number top.0) ∙ found_row all top.0 kept.keys top.1 in (
       subst (λ (y : Receipt). get (rows_in receipt_shape {R = nat_cmp} trees) y.number ≡ Some y) its there,
       λ n y at.
           let among = found_entry nat_total nat_ties (map (entry_in receipt_shape) all) n y (sym (get-from_entries nat_total (map (entry_in receipt_shape) all) n) ∙ at) in
