@@ -1,5 +1,5 @@
 pub mod Committing
-pub mod OpenRow
+pub mod LastRun
 pub mod Putting
 pub mod AskedBooks
 pub mod PutOff
