@@ -1,5 +1,7 @@
-use Rattle.std.proofs.Common.{◌∙◌, None, sym, ap}
+use Rattle.std.proofs.Common.{◌∙◌, ℕ, None, sym, ap}
 use Rattle.sqlite.specs.Held.{state}
+use Rattle.dh_types.specs.declared.reply.Refusal.TheVariants.{RunOpen}
+use Rattle.dh_types.specs.Reports.{NoReport}
 use Rattle.dh_model.specs.Books.{State}
 use Rattle.dh_store.proofs.PutOff.{refused_for, run_there}
 use Rattle.dh_store.proofs.questions.answer_put_off.Goals as goal
@@ -12,4 +14,5 @@ answer_now-requires-clause-free g c clean off =
 pub returns-in-Some-clause-answer : goal.returns-in-Some-clause-answer
 returns-in-Some-clause-answer g c clean =
     let old = state g.S.Store c.args.conn.now in
-    refused_for old c.in-Some.run' c.args.question.now (sym c.in-Some.is ∙ c.in_ok-found.ensures.found clean) c.requires.off
+    ap (λ (month : ℕ). NoReport (RunOpen month)) c.month.ensures.value
+    ∙ refused_for old c.in-Some.run' c.args.question.now (sym c.in-Some.is ∙ c.in_ok-found.ensures.found clean) c.requires.off
