@@ -1,48 +1,21 @@
 //! What the tables say of a command.
 
-ghost use Rattle.std.specs.Prelude.{◌≡◌, IsTrue, IfOk, IfErr, OnOk};
+ghost use Rattle.std.specs.Prelude.{◌≡◌, ◌≤◌, IsTrue, IfOk, IfErr, OnOk, OnErr};
+ghost use Rattle.sqlite_trees.specs.View.{doubt};
 ghost use Rattle.sqlite.specs.State.{HasCleanDisk};
 ghost use Rattle.sqlite.specs.Held.{state};
-ghost use Rattle.dh_types.specs.declared.command.Command.TheVariants as command;
-ghost use Rattle.dh_tables.specs.Calls.{CommitsNothing};
+ghost use Rattle.dh_model.specs.Verdicts.{verdict_on};
 ghost use Rattle.dh_schema.specs.Faults.{IsFirstFault};
-ghost use Rattle.dh_schema.specs.Known.{known_verdict};
-ghost use Rattle.dh_schema.specs.Store.{IsReady, tables};
+ghost use Rattle.dh_schema.specs.Store.{IsReady, Leaves, StaysReady, tables};
 
-use crate::reading::{branch_numbered, open_run};
+use crate::gathering::gather;
 use dh_model::Verdict;
-use dh_types::{Branch, Command, Fault, Refusal};
-use dh_verdicts::decide_branch;
+use dh_types::{Command, Fault};
+use dh_verdicts::decide_on;
 use sqlite::{Alter, Connection};
 use std::alloc::Global;
 
-// The verdict on a new branch.
-fn ask_branch<S: Alter>(
-    alloc: Global,
-    conn: &mut Connection<S>,
-    branch: &Branch,
-) -> Result<Verdict, Fault>
-    requires { HasCleanDisk (state S.Store conn.old) → IsReady (state S.Store conn.old) }
-    ensures verdict { HasCleanDisk (state S.Store conn.new)
-        → IfOk result (λ v. v ≡ known_verdict (tables (state S.Store conn.old)).books (tables (state S.Store conn.old)).open_run (command.Branch branch.now)) }
-    ensures done { HasCleanDisk (state S.Store conn.new)
-        → OnOk result (IsReady (state S.Store conn.new) × (tables (state S.Store conn.new) ≡ tables (state S.Store conn.old))) }
-    ensures kept { HasCleanDisk (state S.Store conn.new) → IsTrue (state S.Store conn.new).is_open
-        → tables (state S.Store conn.new) ≡ tables (state S.Store conn.old) }
-    ensures cause { IfErr result IsFirstFault }
-    ensures crash { CommitsNothing (state S.Store conn.old) (state S.Store conn.new) }
-{
-    if let Some(run) = open_run(alloc, conn)? {
-        return Ok(Verdict::Refused(Refusal::RunOpen(run.month.month())));
-    }
-    let books = branch_numbered(alloc, conn, branch.number)?;
-    match decide_branch(alloc, &books, branch) {
-        Ok(verdict) => Ok(verdict),
-        Err(_) => Err(Fault::Memory),
-    }
-}
-
-/// The verdict on the command; it changes nothing, at a fault too. One on what has no table is a line of an unknown word.
+/// The verdict on the command, of which only the rows that it looks at are read. It changes nothing, at a fault too.
 pub fn ask<S: Alter>(
     alloc: Global,
     conn: &mut Connection<S>,
@@ -50,16 +23,17 @@ pub fn ask<S: Alter>(
 ) -> Result<Verdict, Fault>
     requires { HasCleanDisk (state S.Store conn.old) → IsReady (state S.Store conn.old) }
     ensures verdict { HasCleanDisk (state S.Store conn.new)
-        → IfOk result (λ v. v ≡ known_verdict (tables (state S.Store conn.old)).books (tables (state S.Store conn.old)).open_run command.now) }
-    ensures done { HasCleanDisk (state S.Store conn.new)
-        → OnOk result (IsReady (state S.Store conn.new) × (tables (state S.Store conn.new) ≡ tables (state S.Store conn.old))) }
-    ensures kept { HasCleanDisk (state S.Store conn.new) → IsTrue (state S.Store conn.new).is_open
-        → tables (state S.Store conn.new) ≡ tables (state S.Store conn.old) }
+        → IfOk result (λ v. v ≡ verdict_on (tables (state S.Store conn.old)).books (tables (state S.Store conn.old)).open_run command.now) }
+    ensures done { HasCleanDisk (state S.Store conn.new) → OnOk result (StaysReady (state S.Store conn.old) (state S.Store conn.new)) }
+    ensures undone { HasCleanDisk (state S.Store conn.new) → IsTrue (state S.Store conn.new).is_open
+        → OnErr result (StaysReady (state S.Store conn.old) (state S.Store conn.new)) }
     ensures cause { IfErr result IsFirstFault }
-    ensures crash { CommitsNothing (state S.Store conn.old) (state S.Store conn.new) }
+    ensures crash { HasCleanDisk (state S.Store conn.new) → Leaves (state S.Store conn.new) (λ t. t ≡ tables (state S.Store conn.old)) }
+    ensures was_clean { doubt (state S.Store conn.old).is_clean ≤ doubt (state S.Store conn.new).is_clean }
 {
-    match command {
-        Command::Branch(branch) => ask_branch(alloc, conn, branch),
-        _ => Ok(Verdict::Refused(Refusal::BadLine(1))),
+    let facts = gather(alloc, conn, command)?;
+    match decide_on(alloc, &facts, command) {
+        Ok(verdict) => Ok(verdict),
+        Err(_) => Err(Fault::Memory),
     }
 }

@@ -1,8 +1,13 @@
-//! One command on the tables: its verdict, and its rows in one transaction; and the answer to a question.
+//! One command on the tables: its verdict, and its rows in one transaction; and the answer to a question. Read `ask` first.
 #![tactic(auto)]
 
+mod accounts;
 mod applying;
 mod asking;
+mod gathering;
+mod lettings;
+mod looking;
+mod people;
 mod questions;
 mod reading;
 

@@ -17,8 +17,8 @@ use dh_books::Books;
 use dh_days::limits::FIRST_MONTH;
 use dh_rows::Meta;
 use dh_schema::fault_of;
-use dh_tables::{BranchNumbered, RunOf, fetch, find, find_meta};
-use dh_types::{EntryMonth, Fault, Id, Month, Run};
+use dh_tables::{RunOf, find, find_meta};
+use dh_types::{EntryMonth, Fault, Month, Run};
 use sqlite::{Alter, Connection};
 use std::alloc::Global;
 
@@ -101,28 +101,4 @@ pub(crate) fn open_run<S: Alter>(
     let months = months_now(alloc, conn)?;
     let run = last_run(alloc, conn, months)?;
     Ok(unless_closed(run))
-}
-
-/// Books with the branch of this number alone. Rows that are no record come only from a store that is not clean.
-pub(crate) fn branch_numbered<S: Alter>(
-    alloc: Global,
-    conn: &mut Connection<S>,
-    number: Id,
-) -> Result<Books, Fault>
-    requires { HasCleanDisk (state S.Store conn.old) → IsReady (state S.Store conn.old) }
-    ensures found { HasCleanDisk (state S.Store conn.new)
-        → IfOk result (λ books. get books.books.branches number ≡ get (tables (state S.Store conn.old)).books.branches number) }
-    ensures done { HasCleanDisk (state S.Store conn.new)
-        → OnOk result (IsReady (state S.Store conn.new) × (tables (state S.Store conn.new) ≡ tables (state S.Store conn.old))) }
-    ensures kept { HasCleanDisk (state S.Store conn.new) → IsTrue (state S.Store conn.new).is_open
-        → tables (state S.Store conn.new) ≡ tables (state S.Store conn.old) }
-    ensures cause { IfErr result IsFirstFault }
-    ensures crash { CommitsNothing (state S.Store conn.old) (state S.Store conn.new) }
-{
-    let mut books = no_rows(alloc);
-    match fetch(alloc, conn, &BranchNumbered { number }, &mut books) {
-        Ok(true) => Ok(books),
-        Ok(false) => Err(Fault::Store),
-        Err(error) => Err(fault_of(error)),
-    }
 }

@@ -1,0 +1,159 @@
+//! A look at rows of one table.
+
+ghost use Rattle.std.specs.Prelude.{◌≡◌, ◌||◌, Bool, IsTrue, IfErr, OnOk};
+ghost use Rattle.std.specs.FinMap as fin;
+ghost use Rattle.sqlite_trees.specs.Tree.{Trees};
+ghost use Rattle.sqlite.specs.State.{HasCleanDisk};
+ghost use Rattle.sqlite.specs.Held.{state};
+ghost use Rattle.dh_model.specs.Books.{State};
+ghost use Rattle.dh_model.specs.Whole.{rows_where};
+ghost use Rattle.dh_sql.specs.Shape.{IsKept, rows_in};
+ghost use Rattle.dh_tables.specs.Calls.{CommitsNothing};
+ghost use Rattle.dh_schema.specs.Faults.{IsFirstFault};
+ghost use Rattle.dh_schema.specs.Store.{IsReady, StaysReady};
+ghost use Rattle.dh_schema.specs.Tables.{AreInOrder, state_in};
+ghost use Rattle.dh_store.specs.Gathered.{AreBoth};
+
+use dh_books::Books;
+use dh_schema::fault_of;
+use dh_tables::{Look, Tabled, fetch_more};
+use dh_types::{
+    Branch, Client, Fault, Inspection, Lease, Owner, Property, Receipt, Registration, Run, Staff,
+    Viewing,
+};
+use sqlite::{Alter, Connection};
+use std::alloc::Global;
+
+/// A kind of record of which the agency has a table.
+pub(crate) trait Kept: Tabled {
+    ghost is_kept: { (trees : Trees) → AreInOrder trees → IsKept Self.Tabled.shape Self.Tabled.order trees };
+
+    ghost holds: { (trees : Trees) → Self.Tabled.shelf.held (state_in trees) ≡ rows_in Self.Tabled.shape trees };
+}
+
+impl Kept for Branch {
+    ghost use Rattle.std.specs.Prelude.{refl};
+    ghost use Rattle.dh_schema.specs.Kinds.{Branches};
+
+    ghost is_kept = { λ trees order. (order.tables Branches).kept };
+
+    ghost holds = { λ trees. refl };
+}
+
+impl Kept for Staff {
+    ghost use Rattle.std.specs.Prelude.{refl};
+    ghost use Rattle.dh_schema.specs.Kinds.{Staff};
+
+    ghost is_kept = { λ trees order. (order.tables Staff).kept };
+
+    ghost holds = { λ trees. refl };
+}
+
+impl Kept for Owner {
+    ghost use Rattle.std.specs.Prelude.{refl};
+    ghost use Rattle.dh_schema.specs.Kinds.{Owners};
+
+    ghost is_kept = { λ trees order. (order.tables Owners).kept };
+
+    ghost holds = { λ trees. refl };
+}
+
+impl Kept for Property {
+    ghost use Rattle.std.specs.Prelude.{refl};
+    ghost use Rattle.dh_schema.specs.Kinds.{Properties};
+
+    ghost is_kept = { λ trees order. (order.tables Properties).kept };
+
+    ghost holds = { λ trees. refl };
+}
+
+impl Kept for Client {
+    ghost use Rattle.std.specs.Prelude.{refl};
+    ghost use Rattle.dh_schema.specs.Kinds.{Clients};
+
+    ghost is_kept = { λ trees order. (order.tables Clients).kept };
+
+    ghost holds = { λ trees. refl };
+}
+
+impl Kept for Registration {
+    ghost use Rattle.std.specs.Prelude.{refl};
+    ghost use Rattle.dh_schema.specs.Kinds.{Registrations};
+
+    ghost is_kept = { λ trees order. (order.tables Registrations).kept };
+
+    ghost holds = { λ trees. refl };
+}
+
+impl Kept for Viewing {
+    ghost use Rattle.std.specs.Prelude.{refl};
+    ghost use Rattle.dh_schema.specs.Kinds.{Viewings};
+
+    ghost is_kept = { λ trees order. (order.tables Viewings).kept };
+
+    ghost holds = { λ trees. refl };
+}
+
+impl Kept for Inspection {
+    ghost use Rattle.std.specs.Prelude.{refl};
+    ghost use Rattle.dh_schema.specs.Kinds.{Inspections};
+
+    ghost is_kept = { λ trees order. (order.tables Inspections).kept };
+
+    ghost holds = { λ trees. refl };
+}
+
+impl Kept for Lease {
+    ghost use Rattle.std.specs.Prelude.{refl};
+    ghost use Rattle.dh_schema.specs.Kinds.{Leases};
+
+    ghost is_kept = { λ trees order. (order.tables Leases).kept };
+
+    ghost holds = { λ trees. refl };
+}
+
+impl Kept for Receipt {
+    ghost use Rattle.std.specs.Prelude.{refl};
+    ghost use Rattle.dh_schema.specs.Kinds.{Receipts};
+
+    ghost is_kept = { λ trees order. (order.tables Receipts).kept };
+
+    ghost holds = { λ trees. refl };
+}
+
+impl Kept for Run {
+    ghost use Rattle.std.specs.Prelude.{refl};
+    ghost use Rattle.dh_schema.specs.Kinds.{Runs};
+
+    ghost is_kept = { λ trees order. (order.tables Runs).kept };
+
+    ghost holds = { λ trees. refl };
+}
+
+/// Puts the rows that are asked for beside those that the books have. Rows that are no record come only from a store that
+/// is not clean.
+pub(crate) fn look<L: Look, S: Alter>(
+    alloc: Global,
+    conn: &mut Connection<S>,
+    question: &L,
+    books: &mut Books,
+) -> Result<(), Fault>
+where
+    L::Record: Kept,
+    requires { HasCleanDisk (state S.Store conn.old) → IsReady (state S.Store conn.old) }
+    ensures first { (t b : State) → AreBoth t b (state S.Store conn.old) books.old → L.Record.shelf.held b ≡ fin.empty
+        → OnOk result (AreBoth t (L.Record.shelf.with b (rows_where (L.asks question.now) (L.Record.shelf.held t))) (state S.Store conn.new) books.new) }
+    ensures more { (t b : State) (test : L.Record → Bool) → AreBoth t b (state S.Store conn.old) books.old
+        → L.Record.shelf.held b ≡ rows_where test (L.Record.shelf.held t)
+        → OnOk result (AreBoth t (L.Record.shelf.with b (rows_where (λ x. test x || L.asks question.now x) (L.Record.shelf.held t))) (state S.Store conn.new) books.new) }
+    ensures done { HasCleanDisk (state S.Store conn.new) → OnOk result (StaysReady (state S.Store conn.old) (state S.Store conn.new)) }
+    ensures kept { HasCleanDisk (state S.Store conn.new) → IsTrue (state S.Store conn.new).is_open → StaysReady (state S.Store conn.old) (state S.Store conn.new) }
+    ensures cause { IfErr result IsFirstFault }
+    ensures crash { CommitsNothing (state S.Store conn.old) (state S.Store conn.new) }
+{
+    match fetch_more(alloc, conn, question, books) {
+        Ok(true) => Ok(()),
+        Ok(false) => Err(Fault::Store),
+        Err(error) => Err(fault_of(error)),
+    }
+}
