@@ -17,7 +17,7 @@ use std::io;
 const SESSIONS: u32 = 500;
 
 // With how many lines each goes on.
-const FURTHER_LINES: u32 = 14;
+const FURTHER_LINES: u32 = 12;
 
 // The lines of a block below its heading.
 fn below(block: Option<&str>) -> &str {
