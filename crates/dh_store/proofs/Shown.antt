@@ -1,28 +1,23 @@
 -- What a command looks at, from what single looks bring.
-use Rattle.std.proofs.Common.{◌≡◌, ◌∙◌, refl, ap, subst, List, ℕ, Option, Some, None, option_map, Result, Ok, Err, OnOk}
+use Rattle.std.proofs.Common.{◌≡◌, ◌∙◌, ap, subst, List, ℕ, Option, Result, Ok, Err, OnOk}
 use Rattle.std.specs.FinMap.{get, len}
-use Rattle.sqlite_value.specs.Order.{Row}
 use Rattle.sqlite_trees.specs.Tree.{Trees}
 use Rattle.dh_types.proofs.SameValues.{texts}
 use Rattle.dh_types.specs.declared.property.Property.{Property}
 use Rattle.dh_types.specs.declared.command.Command.{Command}
 use Rattle.dh_types.specs.declared.lease.Receipt.{Receipt}
-use Rattle.dh_types.specs.declared.run.Run.{Run}
 use Rattle.dh_model.specs.declared.open_run.OpenRun.{OpenRun}
 use Rattle.dh_model.specs.Books.{State}
 use Rattle.dh_model.specs.Checks.{is_same_text}
 use Rattle.dh_model.specs.Rules.{Keys}
-use Rattle.dh_model.specs.Runs.{batch_size}
-use Rattle.dh_model.specs.Whole.{batches_shown, open_row, rows_where}
+use Rattle.dh_model.specs.Whole.{rows_where}
 use Rattle.dh_model.proofs.KeyOrders.{text_ties, text_total}
 use Rattle.dh_laws.specs.InOrder.{StandUnder}
 use Rattle.dh_laws.specs.Looks.{Counts, IsCutOf, IsLast, month_open, number_of}
 use Rattle.dh_laws.proofs.LooksLast.{last_number_is_count}
-use Rattle.dh_rows.specs.Months.{Months}
 use Rattle.dh_sql.proofs.Found.{get_where}
-use Rattle.dh_tables.specs.MetaTable.{AreMonths}
 use Rattle.dh_schema.specs.Kinds.{Properties}
-use Rattle.dh_schema.specs.Tables.{IsSound, books_in, months_of, state_in}
+use Rattle.dh_schema.specs.Tables.{IsSound, books_in, state_in}
 use Rattle.dh_schema.proofs.Keyed.{books_are_keyed, keyed}
 use Rattle.dh_store.specs.Gathered.{seen}
 
@@ -31,23 +26,9 @@ pub on_ok : {X E A B : Type 0} (r : Result X E) → (A → B) → OnOk r A → O
 on_ok (Ok x) f a = f a
 on_ok (Err e) f a = tt
 
--- the months of the only row
-pub months_shown : (m : Months) (rows : List Row) → AreMonths m rows → months_of rows ≡ m
-months_shown m rows is = ap months_of is.rows_are
-
--- the month of the run that the tables show
-pub month_shown : (trees : Trees) (found : Option Run) → found ≡ open_row (books_in trees)
-    → option_map (λ (row : Run). row.month) found ≡ month_open (state_in trees).open_run
-month_shown trees found is =
-    by_run found ∙ ap (λ (r : Option Run). month_open (option_map (λ (row : Run). record { month = row.month; done = batches_shown batch_size (books_in trees) row.month }) r)) is
-  where
-    by_run : (found : Option Run) → option_map (λ (row : Run). row.month) found
-        ≡ month_open (option_map (λ (row : Run). record { month = row.month; done = batches_shown batch_size (books_in trees) row.month }) found)
-    by_run None = refl
-    by_run (Some row) = refl
-
 -- sound tables have as many receipts as the last one's number
-pub count_shown : (trees : Trees) (last : Option Receipt) → IsSound trees → IsLast (books_in trees).receipts last → len (books_in trees).receipts ≡ number_of last
+pub count_shown : (trees : Trees) (last : Option Receipt) → IsSound trees → IsLast (books_in trees).receipts last
+    → len (books_in trees).receipts ≡ number_of last
 count_shown trees last sound is = last_number_is_count (books_in trees) last (books_are_keyed trees) (sound.rules Keys) is
 
 -- the property is found among those of its number

@@ -35,7 +35,8 @@ fn registration<S: Alter>(
         → b.books.properties ≡ rows_where (λ property. is_same_text property.number terms.now.property) t.books.properties
         → OnOk result (AreBoth t (with_registration terms.now t b) (state S.Store conn.new) books.new) }
     ensures done { HasCleanDisk (state S.Store conn.new) → OnOk result (StaysReady (state S.Store conn.old) (state S.Store conn.new)) }
-    ensures kept { HasCleanDisk (state S.Store conn.new) → IsTrue (state S.Store conn.new).is_open → StaysReady (state S.Store conn.old) (state S.Store conn.new) }
+    ensures kept { HasCleanDisk (state S.Store conn.new) → IsTrue (state S.Store conn.new).is_open
+        → StaysReady (state S.Store conn.old) (state S.Store conn.new) }
     ensures cause { IfErr result IsFirstFault }
     ensures crash { CommitsNothing (state S.Store conn.old) (state S.Store conn.new) }
 {
@@ -62,7 +63,8 @@ fn leases<S: Alter>(
     ensures gathered { (t b : State) → AreBoth t b (state S.Store conn.old) books.old → b.books.leases ≡ fin.empty
         → OnOk result (AreBoth t (with_leases terms.now t b) (state S.Store conn.new) books.new) }
     ensures done { HasCleanDisk (state S.Store conn.new) → OnOk result (StaysReady (state S.Store conn.old) (state S.Store conn.new)) }
-    ensures kept { HasCleanDisk (state S.Store conn.new) → IsTrue (state S.Store conn.new).is_open → StaysReady (state S.Store conn.old) (state S.Store conn.new) }
+    ensures kept { HasCleanDisk (state S.Store conn.new) → IsTrue (state S.Store conn.new).is_open
+        → StaysReady (state S.Store conn.old) (state S.Store conn.new) }
     ensures cause { IfErr result IsFirstFault }
     ensures crash { CommitsNothing (state S.Store conn.old) (state S.Store conn.new) }
 {
@@ -99,7 +101,8 @@ pub(crate) fn at_lease<S: Alter>(
     requires { HasCleanDisk (state S.Store conn.old) → IsReady (state S.Store conn.old) }
     ensures gathered { Gathers (command.Lease terms.now) result (state S.Store conn.old) books.old (state S.Store conn.new) books.new }
     ensures done { HasCleanDisk (state S.Store conn.new) → OnOk result (StaysReady (state S.Store conn.old) (state S.Store conn.new)) }
-    ensures kept { HasCleanDisk (state S.Store conn.new) → IsTrue (state S.Store conn.new).is_open → StaysReady (state S.Store conn.old) (state S.Store conn.new) }
+    ensures kept { HasCleanDisk (state S.Store conn.new) → IsTrue (state S.Store conn.new).is_open
+        → StaysReady (state S.Store conn.old) (state S.Store conn.new) }
     ensures cause { IfErr result IsFirstFault }
     ensures crash { CommitsNothing (state S.Store conn.old) (state S.Store conn.new) }
 {
@@ -133,7 +136,8 @@ pub(crate) fn at_receipt<S: Alter>(
     requires { HasCleanDisk (state S.Store conn.old) → IsReady (state S.Store conn.old) }
     ensures gathered { Gathers (command.Receipt order.now) result (state S.Store conn.old) books.old (state S.Store conn.new) books.new }
     ensures done { HasCleanDisk (state S.Store conn.new) → OnOk result (StaysReady (state S.Store conn.old) (state S.Store conn.new)) }
-    ensures kept { HasCleanDisk (state S.Store conn.new) → IsTrue (state S.Store conn.new).is_open → StaysReady (state S.Store conn.old) (state S.Store conn.new) }
+    ensures kept { HasCleanDisk (state S.Store conn.new) → IsTrue (state S.Store conn.new).is_open
+        → StaysReady (state S.Store conn.old) (state S.Store conn.new) }
     ensures cause { IfErr result IsFirstFault }
     ensures crash { CommitsNothing (state S.Store conn.old) (state S.Store conn.new) }
 {
@@ -167,7 +171,8 @@ pub(crate) fn at_run<S: Alter>(
     requires { HasCleanDisk (state S.Store conn.old) → IsReady (state S.Store conn.old) }
     ensures gathered { Gathers (command.Run order.now) result (state S.Store conn.old) books.old (state S.Store conn.new) books.new }
     ensures done { HasCleanDisk (state S.Store conn.new) → OnOk result (StaysReady (state S.Store conn.old) (state S.Store conn.new)) }
-    ensures kept { HasCleanDisk (state S.Store conn.new) → IsTrue (state S.Store conn.new).is_open → StaysReady (state S.Store conn.old) (state S.Store conn.new) }
+    ensures kept { HasCleanDisk (state S.Store conn.new) → IsTrue (state S.Store conn.new).is_open
+        → StaysReady (state S.Store conn.old) (state S.Store conn.new) }
     ensures cause { IfErr result IsFirstFault }
     ensures crash { CommitsNothing (state S.Store conn.old) (state S.Store conn.new) }
 {

@@ -29,7 +29,8 @@ fn bare_books<S: Alter>(alloc: Global, conn: &mut Connection<S>) -> Result<Books
     requires { HasCleanDisk (state S.Store conn.old) → IsReady (state S.Store conn.old) }
     ensures bare { HasCleanDisk (state S.Store conn.new) → IfOk result (λ books. books ≡ bare (tables (state S.Store conn.old))) }
     ensures done { HasCleanDisk (state S.Store conn.new) → OnOk result (StaysReady (state S.Store conn.old) (state S.Store conn.new)) }
-    ensures kept { HasCleanDisk (state S.Store conn.new) → IsTrue (state S.Store conn.new).is_open → StaysReady (state S.Store conn.old) (state S.Store conn.new) }
+    ensures kept { HasCleanDisk (state S.Store conn.new) → IsTrue (state S.Store conn.new).is_open
+        → StaysReady (state S.Store conn.old) (state S.Store conn.new) }
     ensures cause { IfErr result IsFirstFault }
     ensures crash { CommitsNothing (state S.Store conn.old) (state S.Store conn.new) }
 {
@@ -42,7 +43,8 @@ fn open_month<S: Alter>(alloc: Global, conn: &mut Connection<S>) -> Result<Optio
     requires { HasCleanDisk (state S.Store conn.old) → IsReady (state S.Store conn.old) }
     ensures month { HasCleanDisk (state S.Store conn.new) → IfOk result (λ run. month_open run ≡ month_open (tables (state S.Store conn.old)).open_run) }
     ensures done { HasCleanDisk (state S.Store conn.new) → OnOk result (StaysReady (state S.Store conn.old) (state S.Store conn.new)) }
-    ensures kept { HasCleanDisk (state S.Store conn.new) → IsTrue (state S.Store conn.new).is_open → StaysReady (state S.Store conn.old) (state S.Store conn.new) }
+    ensures kept { HasCleanDisk (state S.Store conn.new) → IsTrue (state S.Store conn.new).is_open
+        → StaysReady (state S.Store conn.old) (state S.Store conn.new) }
     ensures cause { IfErr result IsFirstFault }
     ensures crash { CommitsNothing (state S.Store conn.old) (state S.Store conn.new) }
 {
@@ -60,7 +62,8 @@ fn receipt_count<S: Alter>(alloc: Global, conn: &mut Connection<S>) -> Result<us
     requires { HasCleanDisk (state S.Store conn.old) → IsReady (state S.Store conn.old) }
     ensures counted { HasCleanDisk (state S.Store conn.new) → IfOk result (λ count. count ≡ fin.len (tables (state S.Store conn.old)).books.receipts) }
     ensures done { HasCleanDisk (state S.Store conn.new) → OnOk result (StaysReady (state S.Store conn.old) (state S.Store conn.new)) }
-    ensures kept { HasCleanDisk (state S.Store conn.new) → IsTrue (state S.Store conn.new).is_open → StaysReady (state S.Store conn.old) (state S.Store conn.new) }
+    ensures kept { HasCleanDisk (state S.Store conn.new) → IsTrue (state S.Store conn.new).is_open
+        → StaysReady (state S.Store conn.old) (state S.Store conn.new) }
     ensures cause { IfErr result IsFirstFault }
     ensures crash { CommitsNothing (state S.Store conn.old) (state S.Store conn.new) }
 {
@@ -80,7 +83,8 @@ fn count_for<S: Alter>(
     requires { HasCleanDisk (state S.Store conn.old) → IsReady (state S.Store conn.old) }
     ensures counted { HasCleanDisk (state S.Store conn.new) → IfOk result (λ count. Counts command.now (tables (state S.Store conn.old)).books.receipts count) }
     ensures done { HasCleanDisk (state S.Store conn.new) → OnOk result (StaysReady (state S.Store conn.old) (state S.Store conn.new)) }
-    ensures kept { HasCleanDisk (state S.Store conn.new) → IsTrue (state S.Store conn.new).is_open → StaysReady (state S.Store conn.old) (state S.Store conn.new) }
+    ensures kept { HasCleanDisk (state S.Store conn.new) → IsTrue (state S.Store conn.new).is_open
+        → StaysReady (state S.Store conn.old) (state S.Store conn.new) }
     ensures cause { IfErr result IsFirstFault }
     ensures crash { CommitsNothing (state S.Store conn.old) (state S.Store conn.new) }
 {
@@ -100,7 +104,8 @@ fn gather_rows<S: Alter>(
     requires { HasCleanDisk (state S.Store conn.old) → IsReady (state S.Store conn.old) }
     ensures gathered { Gathers command.now result (state S.Store conn.old) books.old (state S.Store conn.new) books.new }
     ensures done { HasCleanDisk (state S.Store conn.new) → OnOk result (StaysReady (state S.Store conn.old) (state S.Store conn.new)) }
-    ensures kept { HasCleanDisk (state S.Store conn.new) → IsTrue (state S.Store conn.new).is_open → StaysReady (state S.Store conn.old) (state S.Store conn.new) }
+    ensures kept { HasCleanDisk (state S.Store conn.new) → IsTrue (state S.Store conn.new).is_open
+        → StaysReady (state S.Store conn.old) (state S.Store conn.new) }
     ensures cause { IfErr result IsFirstFault }
     ensures crash { CommitsNothing (state S.Store conn.old) (state S.Store conn.new) }
 {
@@ -134,7 +139,8 @@ fn gather_into<S: Alter>(
     ensures cut { HasCleanDisk (state S.Store conn.new) → facts.old.books ≡ bare (tables (state S.Store conn.old))
         → OnOk result (IsCutOf (facts_of facts.new) (tables (state S.Store conn.old)).books (tables (state S.Store conn.old)).open_run command.now) }
     ensures done { HasCleanDisk (state S.Store conn.new) → OnOk result (StaysReady (state S.Store conn.old) (state S.Store conn.new)) }
-    ensures kept { HasCleanDisk (state S.Store conn.new) → IsTrue (state S.Store conn.new).is_open → StaysReady (state S.Store conn.old) (state S.Store conn.new) }
+    ensures kept { HasCleanDisk (state S.Store conn.new) → IsTrue (state S.Store conn.new).is_open
+        → StaysReady (state S.Store conn.old) (state S.Store conn.new) }
     ensures cause { IfErr result IsFirstFault }
     ensures crash { CommitsNothing (state S.Store conn.old) (state S.Store conn.new) }
 {
@@ -155,7 +161,8 @@ pub(crate) fn gather<S: Alter>(
     ensures cut { HasCleanDisk (state S.Store conn.new)
         → IfOk result (λ facts. IsCutOf (facts_of facts) (tables (state S.Store conn.old)).books (tables (state S.Store conn.old)).open_run command.now) }
     ensures done { HasCleanDisk (state S.Store conn.new) → OnOk result (StaysReady (state S.Store conn.old) (state S.Store conn.new)) }
-    ensures kept { HasCleanDisk (state S.Store conn.new) → IsTrue (state S.Store conn.new).is_open → StaysReady (state S.Store conn.old) (state S.Store conn.new) }
+    ensures kept { HasCleanDisk (state S.Store conn.new) → IsTrue (state S.Store conn.new).is_open
+        → StaysReady (state S.Store conn.old) (state S.Store conn.new) }
     ensures cause { IfErr result IsFirstFault }
     ensures crash { CommitsNothing (state S.Store conn.old) (state S.Store conn.new) }
 {

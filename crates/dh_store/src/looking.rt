@@ -145,9 +145,11 @@ where
         → OnOk result (AreBoth t (L.Record.shelf.with b (rows_where (L.asks question.now) (L.Record.shelf.held t))) (state S.Store conn.new) books.new) }
     ensures more { (t b : State) (test : L.Record → Bool) → AreBoth t b (state S.Store conn.old) books.old
         → L.Record.shelf.held b ≡ rows_where test (L.Record.shelf.held t)
-        → OnOk result (AreBoth t (L.Record.shelf.with b (rows_where (λ x. test x || L.asks question.now x) (L.Record.shelf.held t))) (state S.Store conn.new) books.new) }
+        → OnOk result (AreBoth t (L.Record.shelf.with b (rows_where (λ x. test x || L.asks question.now x) (L.Record.shelf.held t)))
+        (state S.Store conn.new) books.new) }
     ensures done { HasCleanDisk (state S.Store conn.new) → OnOk result (StaysReady (state S.Store conn.old) (state S.Store conn.new)) }
-    ensures kept { HasCleanDisk (state S.Store conn.new) → IsTrue (state S.Store conn.new).is_open → StaysReady (state S.Store conn.old) (state S.Store conn.new) }
+    ensures kept { HasCleanDisk (state S.Store conn.new) → IsTrue (state S.Store conn.new).is_open
+        → StaysReady (state S.Store conn.old) (state S.Store conn.new) }
     ensures cause { IfErr result IsFirstFault }
     ensures crash { CommitsNothing (state S.Store conn.old) (state S.Store conn.new) }
 {

@@ -1,4 +1,4 @@
-use Rattle.std.proofs.Common.{◌≡◌, ◌∙◌, sym, ap, arith, option_copied}
+use Rattle.std.proofs.Common.{◌∙◌, sym, ap, arith, option_copied}
 use Rattle.std.specs.FinMap.{FinMap, get}
 use Rattle.sqlite.specs.State.{HasCleanDisk}
 use Rattle.sqlite.specs.Held.{state}
@@ -15,17 +15,19 @@ returns-in-Some-clause-gathered g c t b both none among =
     (λ after clean.
     let early : HasCleanDisk (state g.S.Store c.args.conn.now) = omega (arith, c.look.ensures.crash.clean, clean) in
     let there = ap option_copied (sym c.in-Some.is) ∙ property_found (state g.S.Store c.args.conn.now).now.trees t b terms.property _ (both early).0 among
-    (c.property.ensures ∙ ap (λ (s : State). get s.books.properties terms.property) (both early).1) in
-    ((after clean).0,
-    (after clean).1 ∙ ap (λ (m : FinMap (pair_cmp text_cmp text_cmp) Registration). record b { books = record b.books { registrations = m } })
-    (ap (registration_for t.books.registrations terms.client) there)))
+    (c.property.ensures ∙ ap (λ (s : State). get s.books.properties terms.property) (both early).1) in (
+      (after clean).0,
+      (after clean).1 ∙ ap (λ (m : FinMap (pair_cmp text_cmp text_cmp) Registration). record b { books = record b.books { registrations = m } })
+          (ap (registration_for t.books.registrations terms.client) there),
+    ))
     (c.look.ensures.first t b both none)
 
 pub returns-in-None-clause-gathered : goal.returns-in-None-clause-gathered
 returns-in-None-clause-gathered g c t b both none among clean =
     let terms = c.args.terms.now in
     let there = ap option_copied (sym c.in-None.is) ∙ property_found (state g.S.Store c.args.conn.now).now.trees t b terms.property _ (both clean).0 among
-    (c.property.ensures ∙ ap (λ (s : State). get s.books.properties terms.property) (both clean).1) in
-    ((both clean).0,
-    (both clean).1 ∙ ap (λ (m : FinMap (pair_cmp text_cmp text_cmp) Registration). record b { books = record b.books { registrations = m } })
-    (none ∙ ap (registration_for t.books.registrations terms.client) there))
+    (c.property.ensures ∙ ap (λ (s : State). get s.books.properties terms.property) (both clean).1) in (
+      (both clean).0,
+      (both clean).1 ∙ ap (λ (m : FinMap (pair_cmp text_cmp text_cmp) Registration). record b { books = record b.books { registrations = m } })
+          (none ∙ ap (registration_for t.books.registrations terms.client) there),
+    )
