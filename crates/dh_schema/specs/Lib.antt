@@ -3,6 +3,5 @@ pub mod Tables
 pub mod Version
 pub mod Loaded
 pub mod Store
-pub mod Known
 pub mod Faults
 pub mod TableLaws
