@@ -31,9 +31,27 @@ abbrev all_texts : List (List ℕ)
 all_texts = map (λ text. text.now) TEXTS
 
 from_looks : Build (drop 14 all_texts) part_schema our_schema
-from_looks =
-    (_, inr property_staff_is, (_, inr lease_property_is, (_, inr lease_client_is, (_, inr charge_month_is, (_, inr receipt_lease_is,
-    (_, inr viewing_property_is, refl))))))
+from_looks = (
+  _,
+  inr property_staff_is,
+  (
+    _,
+    inr lease_property_is,
+    (
+      _,
+      inr lease_client_is,
+      (
+        _,
+        inr charge_month_is,
+        (
+          _,
+          inr receipt_lease_is,
+          (_, inr viewing_property_is, refl),
+        ),
+      ),
+    ),
+  ),
+)
 
 from_lease : Build (drop 9 all_texts) inspection_schema our_schema
 from_lease = (_, inl lease_is, (_, inl charge_is, (_, inl receipt_is, (_, inl run_is, (_, inl part_is, from_looks)))))

@@ -14,5 +14,5 @@ returns-then-next-number-clause-found g c clean =
     let months = c.requires.months clean in
     let books = (tables (state g.S.Store c.args.conn.now)).books in
     let few : books.next ≤ books.first =
-        omega (arith, c.if-next-number.true, c.number.ensures.value, c.first.ensures, c.number-next.ensures.value, c.next.ensures, months.0, months.1) in
+    omega (arith, c.if-next-number.true, c.number.ensures.value, c.first.ensures, c.number-next.ensures.value, c.next.ensures, months.0, months.1) in
     sym (none_before books ((c.requires.ready clean).sound.rules rule.Runs) few)
