@@ -8,11 +8,7 @@ use Rattle.dh_types.specs.declared.lease.LeaseTerms.{LeaseTerms}
 use Rattle.dh_model.specs.Books.{State}
 use Rattle.dh_model.specs.Whole.{rows_where}
 use Rattle.dh_laws.specs.Looks.{is_beside, looked_at, manager_in, no_rows, properties_beside, registration_for}
-use Rattle.dh_schema.specs.Store.{tables}
-
--- these are the tables that the store shows, and these the books
-abbrev pub AreBoth : State → State → sqlite.State → State → Type 0
-AreBoth t b s books = sqlite.HasCleanDisk s → (tables s ≡ t) × (books ≡ b)
+use Rattle.dh_looks.specs.Looked.{AreBoth}
 
 -- the months of the tables, and no rows
 abbrev pub bare : State → State

@@ -8,12 +8,13 @@ ghost use Rattle.dh_model.specs.Books.{State};
 ghost use Rattle.dh_tables.specs.Calls.{CommitsNothing};
 ghost use Rattle.dh_schema.specs.Faults.{IsFirstFault};
 ghost use Rattle.dh_schema.specs.Store.{IsReady, StaysReady};
-ghost use Rattle.dh_store.specs.Gathered.{AreBoth, Gathers, with_leases, with_registration};
+ghost use Rattle.dh_looks.specs.Looked.{AreBoth};
+ghost use Rattle.dh_store.specs.Gathered.{Gathers, with_leases, with_registration};
 ghost use Rattle.std.specs.FinMap as fin;
 ghost use Rattle.dh_model.specs.Whole.{rows_where};
 ghost use Rattle.dh_model.specs.Checks.{is_same_text};
 
-use crate::looking::look;
+use dh_looks::look;
 use dh_books::Books;
 use dh_tables::{
     ClientNumbered, DepositsOfLease, LeaseNumbered, LeasesOfClientFrom, LeasesOfProperty,

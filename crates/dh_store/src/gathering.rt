@@ -14,7 +14,7 @@ ghost use Rattle.dh_store.specs.Gathered.{Gathers, bare};
 use crate::accounts::{at_lease, at_receipt, at_run};
 use crate::lettings::{at_assign, at_comment, at_inspection, at_property, at_rent, at_viewing};
 use crate::people::{at_branch, at_client, at_owner, at_register, at_staff};
-use crate::reading::{months_now, open_run};
+use dh_looks::{months_now, open_run};
 use dh_books::Books;
 use dh_model::OpenRun;
 use dh_schema::fault_of;

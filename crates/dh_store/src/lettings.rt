@@ -8,10 +8,11 @@ ghost use Rattle.dh_model.specs.Books.{State};
 ghost use Rattle.dh_tables.specs.Calls.{CommitsNothing};
 ghost use Rattle.dh_schema.specs.Faults.{IsFirstFault};
 ghost use Rattle.dh_schema.specs.Store.{IsReady, StaysReady};
-ghost use Rattle.dh_store.specs.Gathered.{AreBoth, Gathers, with_managed};
+ghost use Rattle.dh_looks.specs.Looked.{AreBoth};
+ghost use Rattle.dh_store.specs.Gathered.{Gathers, with_managed};
 ghost use Rattle.std.specs.FinMap as fin;
 
-use crate::looking::look;
+use dh_looks::look;
 use dh_books::Books;
 use dh_tables::{
     BranchNumbered, ClientNumbered, InspectionOf, MemberNumbered, OwnerNumbered, PropertiesManaged,

@@ -1,0 +1,2 @@
+pub mod LastRun
+pub mod Taken

@@ -1,0 +1,8 @@
+//! Looks at the tables: rows of one table put into books, and the run that is open. Read [`look`] first.
+#![tactic(auto)]
+
+mod looking;
+mod reading;
+
+pub use looking::{Kept, look, look_at_all};
+pub use reading::{months_now, no_rows, open_run};

@@ -1,0 +1,104 @@
+//! The rows that a command or a question looks at.
+
+ghost use Rattle.std.specs.Prelude.{◌≡◌, ◌-◌, IsTrue, IfOk, IfErr, OnOk, OnErr};
+ghost use Rattle.std.specs.FinMap.{get};
+ghost use Rattle.sqlite.specs.State.{HasCleanDisk};
+ghost use Rattle.sqlite.specs.Held.{state};
+ghost use Rattle.dh_days.specs.declared.limits.TheConstants.{FIRST_MONTH};
+ghost use Rattle.dh_model.specs.Books.{start};
+ghost use Rattle.dh_model.specs.Whole.{open_row};
+ghost use Rattle.dh_laws.specs.Looks.{unless_closed};
+ghost use Rattle.dh_tables.specs.Calls.{CommitsNothing};
+ghost use Rattle.dh_schema.specs.Faults.{IsFirstFault};
+ghost use Rattle.dh_schema.specs.Store.{IsReady, StaysReady, tables};
+ghost use Rattle.dh_looks.specs.Months.{AreMonthsOf};
+
+use dh_books::Books;
+use dh_days::limits::FIRST_MONTH;
+use dh_rows::Meta;
+use dh_schema::fault_of;
+use dh_tables::{RunOf, find, find_meta};
+use dh_types::{EntryMonth, Fault, Month, Run};
+use sqlite::{Alter, Connection};
+use std::alloc::Global;
+
+/// Books without a row, for those that are looked at. Their months stand for nothing.
+pub fn no_rows(alloc: Global) -> Books
+    ensures { result ≡ start FIRST_MONTH }
+{
+    let month = Month::of_number(FIRST_MONTH);
+    Books::new(alloc, month, month)
+}
+
+/// The months of the tables. That they have none comes only from a store that is not clean.
+pub fn months_now<S: Alter>(alloc: Global, conn: &mut Connection<S>) -> Result<Meta, Fault>
+    requires { HasCleanDisk (state S.Store conn.old) → IsReady (state S.Store conn.old) }
+    ensures found { HasCleanDisk (state S.Store conn.new) → IfOk result (λ months. AreMonthsOf months (tables (state S.Store conn.old)).books) }
+    ensures done { HasCleanDisk (state S.Store conn.new) → OnOk result (StaysReady (state S.Store conn.old) (state S.Store conn.new)) }
+    ensures undone { HasCleanDisk (state S.Store conn.new) → IsTrue (state S.Store conn.new).is_open
+        → OnErr result (StaysReady (state S.Store conn.old) (state S.Store conn.new)) }
+    ensures cause { IfErr result IsFirstFault }
+    ensures crash { CommitsNothing (state S.Store conn.old) (state S.Store conn.new) }
+{
+    match find_meta(alloc, conn) {
+        Ok(Some(months)) => Ok(months),
+        Ok(None) => Err(Fault::Store),
+        Err(error) => Err(fault_of(error)),
+    }
+}
+
+// The run of the month before the next. A month past those of lines comes only from a store that is not clean.
+fn last_run<S: Alter>(
+    alloc: Global,
+    conn: &mut Connection<S>,
+    months: Meta,
+) -> Result<Option<Run>, Fault>
+    requires ready { HasCleanDisk (state S.Store conn.old) → IsReady (state S.Store conn.old) }
+    requires months { HasCleanDisk (state S.Store conn.old) → AreMonthsOf months (tables (state S.Store conn.old)).books }
+    ensures found { HasCleanDisk (state S.Store conn.new)
+        → IfOk result (λ run. run ≡ get (tables (state S.Store conn.old)).books.runs ((tables (state S.Store conn.old)).books.next - 1)) }
+    ensures done { HasCleanDisk (state S.Store conn.new) → OnOk result (StaysReady (state S.Store conn.old) (state S.Store conn.new)) }
+    ensures undone { HasCleanDisk (state S.Store conn.new) → IsTrue (state S.Store conn.new).is_open
+        → OnErr result (StaysReady (state S.Store conn.old) (state S.Store conn.new)) }
+    ensures cause { IfErr result IsFirstFault }
+    ensures crash { CommitsNothing (state S.Store conn.old) (state S.Store conn.new) }
+{
+    let next = months.next().number();
+    if next <= months.first().number() {
+        return Ok(None);
+    }
+    let Some(month) = EntryMonth::try_of_number(i64::from(next) - 1) else {
+        return Err(Fault::Store);
+    };
+    match find(alloc, conn, &RunOf { month }) {
+        Ok(run) => Ok(run),
+        Err(error) => Err(fault_of(error)),
+    }
+}
+
+fn unless_closed(run: Option<Run>) -> Option<Run>
+    ensures { result ≡ unless_closed run }
+{
+    match run {
+        Some(run) if !run.is_closed => Some(run),
+        _ => None,
+    }
+}
+
+/// The run that is open: that of the month before the next, where it is not closed.
+pub fn open_run<S: Alter>(
+    alloc: Global,
+    conn: &mut Connection<S>,
+) -> Result<Option<Run>, Fault>
+    requires { HasCleanDisk (state S.Store conn.old) → IsReady (state S.Store conn.old) }
+    ensures found { HasCleanDisk (state S.Store conn.new) → IfOk result (λ run. run ≡ open_row (tables (state S.Store conn.old)).books) }
+    ensures done { HasCleanDisk (state S.Store conn.new) → OnOk result (StaysReady (state S.Store conn.old) (state S.Store conn.new)) }
+    ensures undone { HasCleanDisk (state S.Store conn.new) → IsTrue (state S.Store conn.new).is_open
+        → OnErr result (StaysReady (state S.Store conn.old) (state S.Store conn.new)) }
+    ensures cause { IfErr result IsFirstFault }
+    ensures crash { CommitsNothing (state S.Store conn.old) (state S.Store conn.new) }
+{
+    let months = months_now(alloc, conn)?;
+    let run = last_run(alloc, conn, months)?;
+    Ok(unless_closed(run))
+}

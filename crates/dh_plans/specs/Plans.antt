@@ -1,0 +1,62 @@
+-- The rows of a run's batches, and the tables that they lead to.
+use Rattle.std.specs.Prelude.{◌≡◌, ◌<◌, ℕ, ◌+◌, List, [], ◌∷◌, length, slice_index_or, Option, Some, None}
+use Rattle.std.specs.Cmp.Lexicographic.{pointwise}
+use Rattle.std.specs.FinMap.{FinMap, get}
+use Rattle.std.specs.Ordering.{nat_cmp}
+use Rattle.dh_types.specs.declared.lease.Charge.{Charge}
+use Rattle.dh_model.specs.declared.open_run.OpenRun.{OpenRun}
+use Rattle.dh_model.specs.Books.{Books, State, pair_cmp, with_rows}
+use Rattle.dh_model.specs.Runs.{batch_size, batches, charge_key, part_key}
+use Rattle.dh_model.specs.Whole.{with_posted}
+use Rattle.dh_plans.specs.declared.planning.BatchRows.{BatchRows}
+use Rattle.dh_plans.specs.declared.planning.Plan.{Plan}
+
+abbrev pub one_more : Option OpenRun → Option OpenRun
+one_more None = None
+one_more (Some run) = Some (record { month = run.month; done = run.done + 1 })
+
+-- the tables with the rows of a batch, which is then done
+abbrev pub with_batch_rows : BatchRows → State → State
+with_batch_rows rows s = record {
+  books = record s.books {
+    charges = with_rows charge_key rows.charges.items s.books.charges;
+    parts = with_rows part_key (rows.part ∷ []) s.books.parts;
+  };
+  open_run = one_more s.open_run;
+}
+
+-- none of the charges is there, and no two have one key
+abbrev pub AreNew : List Charge → FinMap (pair_cmp nat_cmp nat_cmp) Charge → Type 0
+AreNew [] held = Unit {0}
+AreNew (charge ∷ charges) held = (get (with_rows charge_key charges held) (charge_key charge) ≡ None) × AreNew charges held
+
+abbrev pub begins_at : Plan → OpenRun
+begins_at plan = record { month = plan.month; done = plan.done }
+
+-- the tables with so many batches more
+abbrev pub stage : Books → OpenRun → ℕ → State
+stage books run n = record {
+  books = with_posted batch_size books run.month (run.done + n);
+  open_run = Some (record { month = run.month; done = run.done + n });
+}
+
+-- The plan has the batches that the open run lacks: the rows of each are new to the tables with those before, and lead from them
+-- to the tables with it.
+pub record IsPlanOf (plan : Plan) (s : State) : Type 0 where
+  pub shown : s.open_run ≡ Some (begins_at plan)
+  pub counted : plan.done + length plan.batches.items ≡ batches batch_size s.books plan.month
+  pub goes : (n : ℕ) (rows : BatchRows) → n < length plan.batches.items → rows ≡ slice_index_or plan.batches.items n rows
+      → with_batch_rows rows (stage s.books (begins_at plan) n) ≡ stage s.books (begins_at plan) (n + 1)
+  pub new : (n : ℕ) (rows : BatchRows) → n < length plan.batches.items → rows ≡ slice_index_or plan.batches.items n rows
+      → AreNew rows.charges.items (stage s.books (begins_at plan) n).books.charges
+
+-- no run is open, or this is the plan of it
+abbrev pub IsPlanned : State → Option Plan → Type 0
+IsPlanned s None = s.open_run ≡ None
+IsPlanned s (Some plan) = IsPlanOf plan s
+
+-- the books have the branches, the properties and the leases of others
+pub record HaveTheLeases (books others : Books) : Type 0 where
+  pub branches : books.branches ≡ others.branches
+  pub properties : books.properties ≡ others.properties
+  pub leases : books.leases ≡ others.leases

@@ -1,0 +1,14 @@
+-- What posting a batch is answered.
+use Rattle.std.specs.Prelude.{◌+◌, nat_lt, if◌then◌else◌, Option, Some, None}
+use Rattle.dh_model.specs.declared.open_run.OpenRun.{OpenRun}
+use Rattle.dh_model.specs.Books.{Books}
+use Rattle.dh_model.specs.Runs.{batch_size, batches}
+use Rattle.dh_posting.specs.declared.posting.Batch.{Batch}
+use Rattle.dh_posting.specs.declared.posting.Batch.TheVariants.{Posted, NoneLeft}
+
+-- that one more is done, where one was left
+abbrev pub batch_told : Books → Option OpenRun → Batch
+batch_told books None = NoneLeft
+batch_told books (Some run) =
+    let all = batches batch_size books run.month in
+    if nat_lt run.done all then Posted (run.done + 1) all else NoneLeft

@@ -1,0 +1,4 @@
+pub mod Batches
+pub use Rattle.dh_types.specs.Records
+pub use Rattle.dh_types.specs.Reports
+pub use Rattle.dh_types.specs.Replies

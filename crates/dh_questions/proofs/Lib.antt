@@ -1,0 +1,2 @@
+pub mod AskedBooks
+pub mod PutOff

@@ -1,0 +1,5 @@
+pub mod Told
+pub mod Taking
+pub use Rattle.dh_types.specs.Records
+pub use Rattle.dh_types.specs.Reports
+pub use Rattle.dh_types.specs.Replies

@@ -1,0 +1,33 @@
+-- What a call told, and what it leaves where it is cut.
+use Rattle.dh_types.specs.declared.command.Command.{Command}
+use Rattle.dh_types.specs.declared.reply.Reply.{Reply}
+use Rattle.dh_types.specs.declared.reply.Reply.TheVariants as reply
+use Rattle.dh_types.specs.declared.reply.Refusal.TheVariants as refusal
+use Rattle.dh_model.specs.Books.{State}
+use Rattle.dh_model.specs.Runs.{batch_size}
+use Rattle.dh_laws.specs.Events.{Cut, Happens, Mended, Said, Torn}
+use Rattle.dh_laws.specs.StateTables.{tables}
+use Rattle.dh_runs.specs.declared.running.RunState.{RunState}
+use Rattle.dh_runs.specs.declared.running.RunState.TheVariants as run
+
+-- what posting batches comes to, in a reply's words
+abbrev pub reply_of : RunState → Reply
+reply_of run.NoRun = reply.Refused refusal.NoRun
+reply_of (run.Part progress) = reply.Part progress
+reply_of (run.Posted sum) = reply.Posted sum
+
+-- the command was answered so
+abbrev pub IsSaid : Command → Reply → State → State → Type 0
+IsSaid told reply before after = Happens batch_size (Said told reply) (tables before) (tables after)
+
+-- a fault or a stop came within the command
+abbrev pub IsCut : Command → State → State → Type 0
+IsCut told before after = Happens batch_size (Cut told) (tables before) (tables after)
+
+-- a recovery was stopped, or answered a fault
+abbrev pub IsTorn : State → State → Type 0
+IsTorn before after = Happens batch_size Torn (tables before) (tables after)
+
+-- a recovery came to its end
+abbrev pub IsMended : State → State → Type 0
+IsMended before after = Happens batch_size Mended (tables before) (tables after)

