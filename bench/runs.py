@@ -1,0 +1,129 @@
+#!/usr/bin/env python3
+"""Lines for bench/runs.sh, and what Python's own sqlite3 takes for the same rent run.
+
+runs.py lines LEASES RUNS       lines that give so many leases of ten branches and the rent runs of so many months, and then, behind
+                                `time run`, the run of the month after
+runs.py half LEASES             the same leases, and a run that is opened and half posted
+runs.py python LEASES [FILE]    makes the same tables, in memory or in FILE, and prints the microseconds of the run of the first
+                                month: its opening, its batches of fifty and its end, a transaction each
+"""
+
+import sqlite3
+import sys
+import time
+
+from tables import creating_texts
+
+BRANCHES = 10
+BATCH = 50
+FIRST_MONTH = 12 * 2025
+
+
+def month(n):
+    return f"{2025 + n // 12}-{n % 12 + 1:02}"
+
+
+def put_leases(leases):
+    for n in range(BRANCHES):
+        print(f"branch,B{n},1 Main St,Leeds,LS1 1AA")
+        print(f"staff,S{n},Ann Lee,Assistant,B{n}")
+    print("owner,O1,Tom Ray,2 Low Rd Leeds,0113 1")
+    for n in range(leases):
+        branch = n % BRANCHES
+        print(f"property,P{n},{n} Hill Rd,Leeds,LS2 2BB,Flat,3,{n % 900 + 100}.00,O1,,B{branch}")
+        print(f"client,C{n},Mia Fox,0113 2,Flat,700.00")
+        print(f"register,C{n},B{branch},S{branch},2025-01-01")
+        print(f"lease,{n + 1},C{n},P{n},2025-01-{n % 28 + 1:02},12,Cash")
+
+
+def batches(leases):
+    return sum(max(1, (len(range(n, leases, BRANCHES)) + BATCH - 1) // BATCH) for n in range(BRANCHES))
+
+
+def put_lines(leases, runs):
+    put_leases(leases)
+    for n in range(runs):
+        print(f"run,R-{n},{month(n)}")
+    print("time run")
+    print(f"run,R-{runs},{month(runs)}")
+
+
+def put_half(leases):
+    put_leases(leases)
+    print(f"open,R-0,{month(0)}")
+    if batches(leases) > 1:
+        print(f"post,{batches(leases) // 2}")
+    print("time nothing")
+
+
+def fill(conn, leases):
+    conn.execute("BEGIN")
+    conn.execute(f"INSERT INTO meta VALUES (1, 1, {FIRST_MONTH}, {FIRST_MONTH})")
+    for n in range(BRANCHES):
+        conn.execute("INSERT INTO branch VALUES (?, '1 Main St', 'Leeds', 'LS1 1AA')", (f"B{n}",))
+        conn.execute("INSERT INTO staff VALUES (?, 'Ann Lee', 'Assistant', ?)", (f"S{n}", f"B{n}"))
+    conn.execute("INSERT INTO owner VALUES ('O1', 'Tom Ray', '2 Low Rd Leeds', '0113 1')")
+    for n in range(leases):
+        branch = n % BRANCHES
+        rent = (n % 900 + 100) * 100
+        conn.execute("INSERT INTO property VALUES (?, ?, 'Leeds', 'LS2 2BB', 'Flat', 3, ?, 'O1', NULL, ?)",
+                     (f"P{n}", f"{n} Hill Rd", rent, f"B{branch}"))
+        conn.execute("INSERT INTO client VALUES (?, 'Mia Fox', '0113 2', 'Flat', 70000)", (f"C{n}",))
+        conn.execute("INSERT INTO registration VALUES (?, ?, ?, '2025-01-01')", (f"C{n}", f"B{branch}", f"S{branch}"))
+        conn.execute("INSERT INTO lease VALUES (?, ?, ?, ?, 12, 'Cash', ?)",
+                     (n + 1, f"C{n}", f"P{n}", f"2025-01-{n % 28 + 1:02}", rent))
+    conn.execute("COMMIT")
+
+
+def run(conn):
+    conn.execute("BEGIN")
+    conn.execute("INSERT INTO run VALUES (?, 'R-0', 0, 0, 0)", (FIRST_MONTH,))
+    conn.execute("UPDATE meta SET next_month = ?", (FIRST_MONTH + 1,))
+    conn.execute("COMMIT")
+    count = total = 0
+    for (branch,) in conn.execute("SELECT branch_no FROM branch ORDER BY branch_no").fetchall():
+        due = conn.execute("SELECT lease_no, start_day, lease.rent FROM lease JOIN property USING (property_no) "
+                           "WHERE branch_no = ? ORDER BY lease_no", (branch,)).fetchall()
+        of_branch = sum_of_branch = 0
+        for start in range(0, max(1, len(due)), BATCH):
+            batch = due[start:start + BATCH]
+            of_branch += len(batch)
+            sum_of_branch += sum(rent for _, _, rent in batch)
+            conn.execute("BEGIN")
+            conn.executemany("INSERT INTO charge VALUES (?, 0, ?, ?, ?)",
+                             [(lease, FIRST_MONTH, day, rent) for lease, day, rent in batch])
+            through = batch[-1][0] if batch else 0
+            if start == 0:
+                conn.execute("INSERT INTO part VALUES (?, ?, ?, ?, ?)", (FIRST_MONTH, branch, through, of_branch, sum_of_branch))
+            else:
+                conn.execute("UPDATE part SET through_lease = ?, due_count = ?, due_total = ? WHERE month = ? AND branch_no = ?",
+                             (through, of_branch, sum_of_branch, FIRST_MONTH, branch))
+            conn.execute("COMMIT")
+        count += of_branch
+        total += sum_of_branch
+    conn.execute("BEGIN")
+    conn.execute("UPDATE run SET due_count = ?, due_total = ?, closed = 1 WHERE month = ?", (count, total, FIRST_MONTH))
+    conn.execute("COMMIT")
+
+
+def time_run(leases, path):
+    conn = sqlite3.connect(path, isolation_level=None)
+    conn.execute("PRAGMA foreign_keys = ON")
+    for text in creating_texts():
+        conn.execute(text)
+    fill(conn, leases)
+    start = time.perf_counter()
+    run(conn)
+    print(f"{(time.perf_counter() - start) * 1e6:.1f}")
+    conn.close()
+
+
+match sys.argv[1:]:
+    case ["lines", leases, runs]:
+        put_lines(int(leases), int(runs))
+    case ["half", leases]:
+        put_half(int(leases))
+    case ["python", leases, *path]:
+        time_run(int(leases), path[0] if path else ":memory:")
+    case _:
+        sys.exit(__doc__)
