@@ -86,10 +86,7 @@ fn unless_closed(run: Option<Run>) -> Option<Run>
 }
 
 /// The run that is open: that of the month before the next, where it is not closed.
-pub fn open_run<S: Alter>(
-    alloc: Global,
-    conn: &mut Connection<S>,
-) -> Result<Option<Run>, Fault>
+pub fn open_run<S: Alter>(alloc: Global, conn: &mut Connection<S>) -> Result<Option<Run>, Fault>
     requires { HasCleanDisk (state S.Store conn.old) → IsReady (state S.Store conn.old) }
     ensures found { HasCleanDisk (state S.Store conn.new) → IfOk result (λ run. run ≡ open_row (tables (state S.Store conn.old)).books) }
     ensures done { HasCleanDisk (state S.Store conn.new) → OnOk result (StaysReady (state S.Store conn.old) (state S.Store conn.new)) }
