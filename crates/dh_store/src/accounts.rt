@@ -1,21 +1,21 @@
 //! What commands about leases, receipts and runs look at.
 
 ghost use Rattle.std.specs.Prelude.{◌≡◌, IsTrue, IfErr, OnOk};
+ghost use Rattle.std.specs.FinMap as fin;
 ghost use Rattle.sqlite.specs.State.{HasCleanDisk};
 ghost use Rattle.sqlite.specs.Held.{state};
 ghost use Rattle.dh_types.specs.declared.command.Command.TheVariants as command;
 ghost use Rattle.dh_model.specs.Books.{State};
+ghost use Rattle.dh_model.specs.Checks.{is_same_text};
+ghost use Rattle.dh_model.specs.Whole.{rows_where};
 ghost use Rattle.dh_tables.specs.Calls.{CommitsNothing};
 ghost use Rattle.dh_schema.specs.Faults.{IsFirstFault};
 ghost use Rattle.dh_schema.specs.Store.{IsReady, StaysReady};
 ghost use Rattle.dh_looks.specs.Looked.{AreBoth};
 ghost use Rattle.dh_store.specs.Gathered.{Gathers, with_leases, with_registration};
-ghost use Rattle.std.specs.FinMap as fin;
-ghost use Rattle.dh_model.specs.Whole.{rows_where};
-ghost use Rattle.dh_model.specs.Checks.{is_same_text};
 
-use dh_looks::look;
 use dh_books::Books;
+use dh_looks::look;
 use dh_tables::{
     ClientNumbered, DepositsOfLease, LeaseNumbered, LeasesOfClientFrom, LeasesOfProperty,
     PropertyNumbered, ReceiptKeyed, RegistrationAt, RunKeyed,

@@ -1,6 +1,7 @@
 //! What commands about properties look at.
 
 ghost use Rattle.std.specs.Prelude.{◌≡◌, IsTrue, IfErr, OnOk};
+ghost use Rattle.std.specs.FinMap as fin;
 ghost use Rattle.sqlite.specs.State.{HasCleanDisk};
 ghost use Rattle.sqlite.specs.Held.{state};
 ghost use Rattle.dh_types.specs.declared.command.Command.TheVariants as command;
@@ -10,10 +11,9 @@ ghost use Rattle.dh_schema.specs.Faults.{IsFirstFault};
 ghost use Rattle.dh_schema.specs.Store.{IsReady, StaysReady};
 ghost use Rattle.dh_looks.specs.Looked.{AreBoth};
 ghost use Rattle.dh_store.specs.Gathered.{Gathers, with_managed};
-ghost use Rattle.std.specs.FinMap as fin;
 
-use dh_looks::look;
 use dh_books::Books;
+use dh_looks::look;
 use dh_tables::{
     BranchNumbered, ClientNumbered, InspectionOf, MemberNumbered, OwnerNumbered, PropertiesManaged,
     PropertyNumbered, ViewingOf,

@@ -9,8 +9,8 @@ ghost use Rattle.dh_schema.specs.Faults.{IsFirstFault};
 ghost use Rattle.dh_schema.specs.Store.{IsReady, StaysReady};
 ghost use Rattle.dh_store.specs.Gathered.{Gathers};
 
-use dh_looks::look;
 use dh_books::Books;
+use dh_looks::look;
 use dh_tables::{BranchNumbered, ClientNumbered, MemberNumbered, OwnerNumbered, RegistrationAt};
 use dh_types::{Branch, Client, Fault, Owner, Registration, Staff};
 use sqlite::{Alter, Connection};
