@@ -1,51 +1,35 @@
 -- What a command makes of the tables, from what its transactions make of them.
-use Rattle.std.proofs.Common.{◌≡◌, ◌⊎◌, inl, inr, refl, sym, subst, true, false, Bool, Result, Ok, Err, OnErr}
-use Rattle.std.proofs.lemmas.Bool.{false≢true}
+use Rattle.std.proofs.Common.{◌≡◌, ◌⊎◌, inl, inr, true, None, Result, Ok, Err, OnErr}
 use Rattle.sqlite.specs.State.{State}
 use Rattle.sqlite_trees.specs.Tree.{Trees}
 use Rattle.dh_types.specs.declared.command.Command.{Command}
 use Rattle.dh_types.specs.declared.command.Command.TheVariants as command
+use Rattle.dh_types.specs.declared.command.RunOrder.{RunOrder}
 use Rattle.dh_types.specs.declared.reply.Reply.{Reply}
 use Rattle.dh_types.specs.declared.reply.Reply.TheVariants as reply
 use Rattle.dh_types.specs.declared.reply.Refusal.{Refusal}
-use Rattle.dh_types.specs.declared.reply.Refusal.TheVariants as refusal
 use Rattle.dh_model.specs.Books as machine
 use Rattle.dh_model.specs.declared.rows.Change.{Change}
+use Rattle.dh_model.specs.declared.rows.Change.TheVariants as change
 use Rattle.dh_model.specs.declared.rows.Verdict.TheVariants as verdict
 use Rattle.dh_model.specs.Machine.{accepted}
 use Rattle.dh_model.specs.Runs.{batch_size}
-use Rattle.dh_model.specs.Verdicts.{verdict_on}
+use Rattle.dh_model.specs.Verdicts.{opened_run, run_verdict, verdict_on}
 use Rattle.dh_laws.specs.Batches.{is_plain}
-use Rattle.dh_laws.specs.Events.{Cut, Happens, Said}
 use Rattle.dh_laws.specs.InOrder.{IsEntered}
 use Rattle.dh_laws.specs.Looks.{AcceptedChangesFit, FitsIn}
-use Rattle.dh_laws.specs.StateTables.{AreInOrder, tables}
-use Rattle.dh_laws.proofs.Carrying.{is_of_run, plain_rows, refused_said, rows_cut, rows_in_order, rows_said, same_cut}
+use Rattle.dh_laws.specs.StateTables.{AreInOrder}
+use Rattle.dh_laws.specs.Telling.{begun}
+use Rattle.dh_laws.proofs.Carrying.{opening_cut, opening_said, refused_said, rows_cut, rows_in_order, rows_said, same_cut}
 use Rattle.dh_schema.specs.Store as store
 use Rattle.dh_schema.specs.Store.{IsReady, Leaves, with_change}
 use Rattle.dh_schema.specs.Tables.{IsSound, state_in}
 use Rattle.dh_schema.proofs.Keyed.{books_are_keyed, sound_tables_show_their_run}
-use Rattle.dh_agency.specs.Served.{is_served}
-use Rattle.dh_agency.specs.Told.{CutIf, IsCut, IsSaid, SaidIf}
+use Rattle.dh_runs.specs.Told.{IsCut, IsSaid}
 
 pub on_err : {A E P : Type 0} (r : Result A E) → P → OnErr r P
 on_err (Ok a) p = tt
 on_err (Err e) p = p
-
--- ---- what is served
-
-not_of_run : (told : Command) → is_served told ≡ true → is_of_run told ≡ false
-not_of_run (command.Run order) h = absurd (false≢true h)
-not_of_run (command.Open order) h = absurd (false≢true h)
-not_of_run (command.Post most) h = absurd (false≢true h)
-not_of_run _ h = refl
-
-served_said : (told : Command) (it : Reply) (s t : machine.State) → is_served told ≡ true → Happens batch_size (Said told it) (tables s) (tables t)
-    → IsSaid told it s t
-served_said told it s t served h = subst (λ (b : Bool). SaidIf b told it s t) (sym served) h
-
-pub turned_away : (told : Command) (s t : machine.State) → is_served told ≡ false → t ≡ s → IsSaid told (reply.Refused (refusal.BadLine 1)) s t
-turned_away told s t other is = subst (λ (b : Bool). SaidIf b told (reply.Refused (refusal.BadLine 1)) s t) (sym other) (refl, is)
 
 -- sound tables are those that an office works on
 pub sound_in_order : (trees : Trees) → IsSound trees → AreInOrder (state_in trees)
@@ -54,21 +38,10 @@ sound_in_order trees sound = record { keyed = books_are_keyed trees; rules = sou
 in_order : (s : State) → IsReady s → AreInOrder (store.tables s)
 in_order s ready = sound_in_order s.now.trees ready.sound
 
-pub refused : (told : Command) (why : Refusal) (old : State) (t : machine.State) → is_served told ≡ true → IsReady old
+pub refused : (told : Command) (why : Refusal) (old : State) (t : machine.State) → IsReady old
     → verdict_on (store.tables old).books (store.tables old).open_run told ≡ verdict.Refused why → t ≡ store.tables old
     → IsSaid told (reply.Refused why) (store.tables old) t
-refused told why old t served ready h is =
-    served_said told (reply.Refused why) (store.tables old) t served (refused_said (store.tables old) t told why (in_order old ready) h is)
-
-served_cut : (told : Command) (s t : machine.State) → is_served told ≡ true → Happens batch_size (Cut told) (tables s) (tables t) → IsCut told s t
-served_cut told s t served h = subst (λ (b : Bool). CutIf b told s t) (sym served) h
-
-pub same_is_cut : (told : Command) (s t : machine.State) → t ≡ s → IsCut told s t
-same_is_cut told s t is = by (is_served told)
-  where
-    by : (b : Bool) → CutIf b told s t
-    by true = same_cut told s t is
-    by false = is
+refused told why old t ready h is = refused_said (store.tables old) t told why (in_order old ready) h is
 
 -- ---- what a crash leaves
 
@@ -76,11 +49,36 @@ pub leaves_weaker : (s : State) (P Q : machine.State → Type 0) → ((t : machi
 leaves_weaker s P Q f h left may = let it = h left may in (it.0, f (state_in left) it.1)
 
 pub same_crash : (told : Command) (s : machine.State) (new : State) → Leaves new (λ t. t ≡ s) → Leaves new (IsCut told s)
-same_crash told s new left = leaves_weaker new (λ t. t ≡ s) (IsCut told s) (λ t is. same_is_cut told s t is) left
+same_crash told s new left = leaves_weaker new (λ t. t ≡ s) (IsCut told s) (λ t is. same_cut told s t is) left
+
+-- nothing or all of a transaction
+either_cut : (told : Command) (s b : machine.State) (new : State) → ((t : machine.State) → t ≡ b → IsCut told s t)
+    → Leaves new (λ t. (t ≡ s) ⊎ (t ≡ b)) → Leaves new (IsCut told s)
+either_cut told s b new done left = leaves_weaker new (λ t. (t ≡ s) ⊎ (t ≡ b)) (IsCut told s) by left
+  where
+    by : (t : machine.State) → (t ≡ s) ⊎ (t ≡ b) → IsCut told s t
+    by t (inl same) = same_cut told s t same
+    by t (inr is) = done t is
+
+-- ---- an opening
+
+module _ (order : RunOrder) (old : State) (ready : IsReady old) (none : (store.tables old).open_run ≡ None)
+    (h : run_verdict (store.tables old).books order ≡ verdict.Change (change.Open (opened_run (store.tables old).books order))) where
+  abbrev before : machine.State
+  before = store.tables old
+
+  abbrev opened : machine.State
+  opened = begun order (change.Open (opened_run before.books order)) before
+
+  pub open_said : (t : machine.State) → t ≡ opened → IsSaid (command.Open order) (reply.Opened order.month) before t
+  open_said t is = opening_said before order none (in_order old ready) h t is
+
+  pub open_crash : (new : State) → Leaves new (λ t. (t ≡ before) ⊎ (t ≡ opened)) → Leaves new (IsCut (command.Open order) before)
+  open_crash new left = either_cut (command.Open order) before opened new (opening_cut before order none (in_order old ready) h) left
 
 -- ---- rows of an accepted command
 
-module _ (told : Command) (rows : Change) (old : State) (ready : IsReady old) (served : is_served told ≡ true)
+module _ (told : Command) (rows : Change) (old : State) (ready : IsReady old)
     (h : verdict_on (store.tables old).books (store.tables old).open_run told ≡ verdict.Change rows) where
   abbrev s : machine.State
   s = store.tables old
@@ -89,18 +87,12 @@ module _ (told : Command) (rows : Change) (old : State) (ready : IsReady old) (s
   put_fits law = law s.books s.open_run told rows (in_order old ready) h
 
   module _ (entered : IsEntered told) where
-    plain : is_plain rows ≡ true
-    plain = plain_rows s.books s.open_run told rows (not_of_run told served) h
-
     pub put_in_order : AreInOrder (with_change rows s)
     put_in_order = rows_in_order s told rows (in_order old ready) entered h
 
-    pub put_said : (it : Reply) (t : machine.State) → it ≡ accepted rows → t ≡ with_change rows s → IsSaid told it s t
-    put_said it t answered is = served_said told it s t served (rows_said s told rows (in_order old ready) entered h plain it t answered is)
+    module _ (plain : is_plain rows ≡ true) where
+      pub put_said : (it : Reply) (t : machine.State) → it ≡ accepted rows → t ≡ with_change rows s → IsSaid told it s t
+      put_said it t answered is = rows_said s told rows (in_order old ready) entered h plain it t answered is
 
-    pub put_crash : (new : State) → Leaves new (λ t. (t ≡ s) ⊎ (t ≡ with_change rows s)) → Leaves new (IsCut told s)
-    put_crash new left = leaves_weaker new (λ t. (t ≡ s) ⊎ (t ≡ with_change rows s)) (IsCut told s) either left
-      where
-        either : (t : machine.State) → (t ≡ s) ⊎ (t ≡ with_change rows s) → IsCut told s t
-        either t (inl same) = same_is_cut told s t same
-        either t (inr done) = served_cut told s t served (rows_cut s told rows (in_order old ready) entered h plain t done)
+      pub put_crash : (new : State) → Leaves new (λ t. (t ≡ s) ⊎ (t ≡ with_change rows s)) → Leaves new (IsCut told s)
+      put_crash new left = either_cut told s (with_change rows s) new (rows_cut s told rows (in_order old ready) entered h plain) left

@@ -3,15 +3,18 @@
 ghost use Rattle.std.specs.Prelude.{◌≡◌, true, false, IfOk, IfErr, OnOk, OnErr, Err};
 ghost use Rattle.sqlite.specs.State.{HasCleanDisk};
 ghost use Rattle.sqlite.specs.Held.{state};
+ghost use Rattle.dh_types.specs.declared.command.Command.TheVariants as command;
 ghost use Rattle.dh_types.specs.Reports.{report_of};
 ghost use Rattle.dh_model.specs.Answers.{report};
+ghost use Rattle.dh_laws.specs.Batches.{IsPostedInPart};
 ghost use Rattle.dh_schema.specs.Faults.{IsFirstFault};
 ghost use Rattle.dh_schema.specs.Store.{IsReady};
 ghost use Rattle.dh_agency.specs.Agency.{IsClean, IsOpen, WasClean, LeavesItsTables, Leaves, ReadsAs, machine};
-ghost use Rattle.dh_agency.specs.Told.{IsCut, IsSaid};
+ghost use Rattle.dh_agency.specs.Told.{IsCut, IsSaid, reply_of};
 
 use crate::carrying::carry_out;
 use dh_questions::look_up;
+use dh_runs::{RunState, post_some};
 use dh_types::{Answer, Command, Fault, Question, Reply};
 use sqlite::{Alter, Connection};
 use std::alloc::Global;
@@ -71,6 +74,34 @@ impl<S: Alter> Agency<S> {
         }
         match carry_out(alloc, &mut self.conn, command) {
             Ok(reply) => Ok(reply),
+            Err(fault) => {
+                self.is_stopped = true;
+                Err(fault)
+            }
+        }
+    }
+
+    /// Carries out at most so many batches of the open run, and closes it where none is left; it tells how far the run is. At
+    /// fault 21 or 22 some of these batches are posted, and the agency has stopped: while the store is open its tables are sound,
+    /// and no transaction is. Where the agency had stopped, fault 23.
+    pub fn resume(&mut self, alloc: Global, most: u32) -> Result<RunState, Fault>
+        ensures said { IsClean S.Store self.new
+            → IfOk result (λ it. IsSaid (command.Post most) (reply_of it) (machine S.Store self.old) (machine S.Store self.new)) }
+        ensures left { IsClean S.Store self.new → OnOk result (LeavesItsTables S.Store self.new) }
+        ensures crash { IsClean S.Store self.new → self.old.is_stopped ≡ false → Leaves S.Store self.new (IsPostedInPart most (machine S.Store self.old)) }
+        ensures halted { IsClean S.Store self.new → self.old.is_stopped ≡ false → IsOpen S.Store self.new
+            → OnErr result (ReadsAs S.Store self.new (IsPostedInPart most (machine S.Store self.old))) }
+        ensures goes_on { OnOk result ((self.old.is_stopped ≡ false) × (self.new.is_stopped ≡ false)) }
+        ensures stops { OnErr result (self.new.is_stopped ≡ true) }
+        ensures cause { self.old.is_stopped ≡ false → IfErr result IsFirstFault }
+        ensures stopped { self.old.is_stopped ≡ true → (result ≡ Err Fault.Stopped) × (self.new ≡ self.old) }
+        ensures was_clean { WasClean S.Store self.old self.new }
+    {
+        if self.is_stopped {
+            return Err(Fault::Stopped);
+        }
+        match post_some(alloc, &mut self.conn, u128::from(most)) {
+            Ok(state) => Ok(state),
             Err(fault) => {
                 self.is_stopped = true;
                 Err(fault)

@@ -7,4 +7,5 @@ mod opening;
 
 pub use agency::Agency;
 pub use dh_laws::{lives as laws, passing};
-pub use opening::{NotOpened, create};
+pub use dh_runs::{Problem, RunState};
+pub use opening::{NotOpened, attach, create, recover};

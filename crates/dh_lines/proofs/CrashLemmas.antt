@@ -1,13 +1,9 @@
 -- What a record makes of an agency's tables, in the words of a batch.
 use Rattle.std.proofs.Common.{◌≡◌, ◌∙◌, ◌⊎◌, inl, inr, refl, sym, ap, subst, Bool, true, false, Option, Some, None, Result, Ok, Err, ℕ, List, [], ◌∷◌, ◌++◌, arith}
-use Rattle.std.specs.Prelude.{if◌then◌else◌}
 use Rattle.sqlite.specs.Store.{Ghosts}
 use Rattle.dh_types.specs.declared.command.Command as told
 use Rattle.dh_types.specs.declared.question.Question.{Question}
-use Rattle.dh_types.specs.declared.reply.Reply.{Reply}
-use Rattle.dh_types.specs.declared.reply.Reply.TheVariants as reply
 use Rattle.dh_types.specs.declared.reply.Refusal.{Refusal}
-use Rattle.dh_types.specs.declared.reply.Refusal.TheVariants as refusal
 use Rattle.dh_model.specs.declared.open_run.OpenRun.{OpenRun}
 use Rattle.dh_model.specs.Answers.{report}
 use Rattle.dh_model.specs.Books.{State, start}
@@ -23,8 +19,7 @@ use Rattle.dh_laws.proofs.TellingWhole.{own_state, shows_none}
 use Rattle.dh_schema.proofs.Crashing.{leaves_these}
 use Rattle.dh_agency.specs.Seat.{Seat}
 use Rattle.dh_agency.specs.Agency.{IsOpen, Leaves, LeavesItsTables, ReadsAs, machine, shown_by}
-use Rattle.dh_agency.specs.Served.{is_served, served_step}
-use Rattle.dh_agency.specs.Told.{CutIf, IsCut, IsSaid, SaidIf}
+use Rattle.dh_agency.specs.Told.{IsCut}
 use Rattle.dh_agency.proofs.Carried.{leaves_weaker, sound_in_order}
 use Rattle.dh_lines.specs.declared.outcome.Halt.{Halt}
 use Rattle.dh_lines.specs.declared.outcome.Halt.TheVariants as halt
@@ -43,15 +38,7 @@ place s = state_of batch_size (tables s)
 pub stands_there : (s : State) → AreInOrder s → s.open_run ≡ None → place s ≡ s
 stands_there s in_order none = own_state batch_size s (shows_none batch_size s none in_order)
 
--- ---- one command, and one question
-
-pub said_stepped : (it : told.Command) (answer : Reply) (s t : State) → IsSaid it answer s t → served_step (place s) it ≡ (place t, answer)
-said_stepped it answer s t h = by (is_served it) h
-  where
-    by : (b : Bool) → SaidIf b it answer s t
-        → (if b then step batch_size (place s) it else (place s, reply.Refused (refusal.BadLine 1))) ≡ (place t, answer)
-    by true h = h
-    by false h = ap (λ r. (place s, r)) (sym h.0) ∙ ap (λ (u : State). (place u, answer)) (sym h.1)
+-- ---- one question, and one command
 
 -- tables are asked as the whole books are
 pub report_stands : AnswersPassTheRun batch_size → OpenRunsRefusePutOff → (s : State) (question : Question) → AreInOrder s
@@ -74,16 +61,11 @@ report_stands passes refuses s question in_order = by s.open_run refl
 -- a command that was cut is cut within its record
 pub cut_within : (fields : Fields) (it : told.Command) (s left : State) → request_of fields ≡ Ok (request.Command it) → IsCut it s left
     → IsWithin (place s) (Some fields) left
-cut_within fields it s left asked h = by (is_served it) refl h
-  where
-    by : (b : Bool) → is_served it ≡ b → CutIf b it s left → IsWithin (place s) (Some fields) left
-    by false other same = inl (ap place same)
-    by true served (inl undone) = inr (fields, it, refl, asked, inl (undone.books, undone.run))
-    by true served (inr done) =
-        let stepped : (answered (place s) fields).state.books ≡ (step batch_size (place s) it).0.books =
-        ap (λ (r : Result Request Refusal). (answered_request (place s) r).state.books) asked
-        ∙ ap (λ (b : Bool). (if b then step batch_size (place s) it else (place s, reply.Refused (refusal.BadLine 1))).0.books) served in
-        inr (fields, it, refl, asked, inr (done.books ∙ sym stepped, done.run))
+cut_within fields it s left asked (inl undone) = inr (fields, it, refl, asked, inl (undone.books, undone.run))
+cut_within fields it s left asked (inr done) =
+    let stepped : (answered (place s) fields).state.books ≡ (step batch_size (place s) it).0.books =
+    ap (λ (r : Result Request Refusal). (answered_request (place s) r).state.books) asked in
+    inr (fields, it, refl, asked, inr (done.books ∙ sym stepped, done.run))
 
 pub same_within : (fields : Fields) (s left : State) → left ≡ s → IsWithin (place s) (Some fields) left
 same_within fields s left is = inl (ap place is)

@@ -9,7 +9,8 @@ use Rattle.dh_types.specs.Replies.{reply_text, refusal_text, fault_text, is_refu
 use Rattle.dh_types.specs.Reports.{Report, NoReport}
 use Rattle.dh_model.specs.Books.{State}
 use Rattle.dh_model.specs.Answers.{report}
-use Rattle.dh_agency.specs.Served.{served_step}
+use Rattle.dh_model.specs.Machine.{step}
+use Rattle.dh_model.specs.Runs.{batch_size}
 use Rattle.dh_reports.specs.ReportTexts.{report_text, line_count}
 use Rattle.dh_lines.specs.declared.request.Request.{Request}
 use Rattle.dh_lines.specs.declared.request.Request.TheVariants.{Command, Question}
@@ -51,7 +52,7 @@ abbrev pub reported : State → Report → Answered
 reported s it = record { state = s; text = reported_text it; is_refused = is_no_report it }
 
 abbrev pub answered_request : State → Result Request Refusal → Answered
-answered_request s (Ok (Command command)) = replied (served_step s command)
+answered_request s (Ok (Command command)) = replied (step batch_size s command)
 answered_request s (Ok (Question question)) = reported s (report s question)
 answered_request s (Err refusal) = refused s refusal
 

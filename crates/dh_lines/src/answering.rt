@@ -5,8 +5,9 @@ ghost use Rattle.csv.specs.Reading.{error_kind};
 ghost use Rattle.csv.specs.Records.{fields_of};
 ghost use Rattle.dh_types.specs.Reports.{report_of};
 ghost use Rattle.dh_model.specs.Answers.{report};
+ghost use Rattle.dh_model.specs.Machine.{step};
+ghost use Rattle.dh_model.specs.Runs.{batch_size};
 ghost use Rattle.dh_agency.specs.Agency.{IsClean, Leaves, LeavesItsTables, WasClean, machine};
-ghost use Rattle.dh_agency.specs.Served.{served_step};
 ghost use Rattle.dh_agency.specs.Told.{IsCut};
 ghost use Rattle.dh_lines.specs.Session.{answered, is_no_report, replied, reported};
 ghost use Rattle.dh_lines.specs.Batch.{Answers, HaltsByFault, IsFirst, IsWithin, TellsFault, TellsReading, batch_fault, stand};
@@ -50,7 +51,7 @@ fn answer_command<S: Alter, W: Write>(
 ) -> Result<bool, Halt>
     ensures answers { IsClean S.Store agency.new
         → Answers S.Store agency.old agency.new (W.contents writer.old) (W.contents writer.new) number
-        (replied (served_step (stand S.Store agency.old) command.now)) (IsCut command.now (machine S.Store agency.old)) result }
+        (replied (step batch_size (stand S.Store agency.old) command.now)) (IsCut command.now (machine S.Store agency.old)) result }
     ensures crash { IsClean S.Store agency.new → agency.old.is_stopped ≡ false
         → Leaves S.Store agency.new (IsCut command.now (machine S.Store agency.old)) }
     ensures left { IsClean S.Store agency.new → agency.new.is_stopped ≡ false → LeavesItsTables S.Store agency.new }

@@ -1,12 +1,13 @@
 use Rattle.std.proofs.Common.{inr, refl}
+use Rattle.dh_model.specs.Machine.{step}
+use Rattle.dh_model.specs.Runs.{batch_size}
+use Rattle.dh_laws.proofs.Carrying.{same_cut}
 use Rattle.dh_agency.specs.Agency.{machine}
-use Rattle.dh_agency.specs.Served.{served_step}
 use Rattle.dh_agency.specs.Told.{IsCut}
-use Rattle.dh_agency.proofs.Carried.{same_is_cut}
 use Rattle.dh_lines.specs.Session.{replied}
 use Rattle.dh_lines.specs.Batch.{stand}
 use Rattle.dh_lines.proofs.OneRecord.{answers_fault, fault_first, fault_halts, replied_part, replied_whole}
-use Rattle.dh_lines.proofs.CrashLemmas.{cut_or_stopped, said_stepped}
+use Rattle.dh_lines.proofs.CrashLemmas.{cut_or_stopped}
 use Rattle.dh_lines.proofs.answering.answer_command.Goals as goal
 
 pub returns-in_ok-put_reply_line-in-Ok-clause-answers : goal.returns-in_ok-put_reply_line-in-Ok-clause-answers
@@ -14,8 +15,8 @@ returns-in_ok-put_reply_line-in-Ok-clause-answers g c clean =
     let old = c.args.agency.now in
     let new = c.step.new.self in
     let told = c.args.command.now in
-    replied_whole g.S.Store old new _ _ c.args.number (IsCut told (machine g.S.Store old)) (served_step (stand g.S.Store old) told) c.in-Ok.reply
-    (said_stepped told c.in-Ok.reply (machine g.S.Store old) (machine g.S.Store new) (c.in-Ok.ensures.said clean)) c.in_ok-put_reply_line-in-Ok.ensures
+    replied_whole g.S.Store old new _ _ c.args.number (IsCut told (machine g.S.Store old)) (step batch_size (stand g.S.Store old) told) c.in-Ok.reply
+    (c.in-Ok.ensures.said clean) c.in_ok-put_reply_line-in-Ok.ensures
     c.is_refusal-is_refused.result c.is_refusal-is_refused.ensures
 
 pub returns-in_err-put_reply_line-in-Ok-clause-answers : goal.returns-in_err-put_reply_line-in-Ok-clause-answers
@@ -23,8 +24,8 @@ returns-in_err-put_reply_line-in-Ok-clause-answers g c clean =
     let old = c.args.agency.now in
     let new = c.step.new.self in
     let told = c.args.command.now in
-    replied_part g.S.Store old new _ _ c.args.number (IsCut told (machine g.S.Store old)) (served_step (stand g.S.Store old) told) c.in-Ok.reply
-    (said_stepped told c.in-Ok.reply (machine g.S.Store old) (machine g.S.Store new) (c.in-Ok.ensures.said clean))
+    replied_part g.S.Store old new _ _ c.args.number (IsCut told (machine g.S.Store old)) (step batch_size (stand g.S.Store old) told) c.in-Ok.reply
+    (c.in-Ok.ensures.said clean)
     c.from_residual.result c.from_residual.ensures.1 c.in_err-put_reply_line-in-Ok.ensures
 
 pub returns-in-Err-clause-answers : goal.returns-in-Err-clause-answers
@@ -33,9 +34,9 @@ returns-in-Err-clause-answers g c clean =
     let new = c.step.new.self in
     let told = c.args.command.now in
     let before = machine g.S.Store old in
-    answers_fault g.S.Store old new _ _ c.args.number (replied (served_step (stand g.S.Store old) told)) (IsCut told before) c.in-Err.fault
+    answers_fault g.S.Store old new _ _ c.args.number (replied (step batch_size (stand g.S.Store old) told)) (IsCut told before) c.in-Err.fault
     c.end_by_fault.result c.end_by_fault.ensures
-    (cut_or_stopped g.S.Store old new (IsCut told before) _ (c.in-Err.ensures.halted clean) c.in-Err.ensures.stopped (same_is_cut told before before refl))
+    (cut_or_stopped g.S.Store old new (IsCut told before) _ (c.in-Err.ensures.halted clean) c.in-Err.ensures.stopped (same_cut told before before refl))
 
 pub returns-in-Err-clause-cause : goal.returns-in-Err-clause-cause
 returns-in-Err-clause-cause g c live =

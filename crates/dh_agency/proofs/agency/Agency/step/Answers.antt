@@ -3,7 +3,7 @@ use Rattle.sqlite.specs.Held.{state}
 use Rattle.dh_schema.specs.Store as store
 use Rattle.dh_agency.specs.Seat.{Seat}
 use Rattle.dh_agency.specs.Agency.{machine}
-use Rattle.dh_agency.specs.Told.{IsCut}
+use Rattle.dh_runs.specs.Told.{IsCut}
 use Rattle.dh_agency.proofs.agency.Agency.step.Goals as goal
 
 pub returns-in-Ok-clause-crash : goal.returns-in-Ok-clause-crash
