@@ -98,7 +98,7 @@ module _ (size : ℕ) (books : Books) (month done : ℕ) (pos : 1 ≤ size) (are
   rise : Rises (IsBefore text_cmp) (keys books.branches)
   rise = keys_rise text_cmp (entries books.branches) (holds (is_sorted text_cmp (entries books.branches)) (entries_sorted books.branches))
 
-  first_posted : (branch : List ℕ)
+  pub first_posted : (branch : List ℕ)
       → posted_of_branch size books month done branch ≡ take ((done - batches_before size books month branch) * size) (dues_of_branch books month branch)
   first_posted branch =
       let before = batches_before size books month branch in
@@ -115,7 +115,7 @@ module _ (size : ℕ) (books : Books) (month done : ℕ) (pos : 1 ≤ size) (are
         ap (λ ks. sum_by (batches_of_branch size books month) (filter (λ other. is_lt (text_cmp other branch)) ks)) all
         ∙ ap (sum_by (batches_of_branch size books month)) (lesser_are text_cmp nat_list_cmp_total xs ys branch (subst (Rises (IsBefore text_cmp)) all rise))
 
-    left_before : left ≡ done - batches_before size books month branch
+    pub left_before : left ≡ done - batches_before size books month branch
     left_before = is ∙ ap (λ n. done - n) (sym before_are)
 
     module _ (charges : List Charge) (dues : charges ≡ dues_of_branch books month branch) where

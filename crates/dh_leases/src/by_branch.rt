@@ -31,8 +31,8 @@ fn put_behind(
     Ok(())
 }
 
-/// The month's dues by branch, each branch's rising by lease.
-pub(crate) fn dues_by_branch(
+/// The month's dues by branch, each branch's rising by lease. It fails where memory runs out.
+pub fn dues_by_branch(
     alloc: Global,
     books: &Books,
     month: EntryMonth,
@@ -55,7 +55,7 @@ pub(crate) fn dues_by_branch(
 }
 
 /// The branch's charges, none where there are none.
-pub(crate) fn of_branch<'a>(charges: &'a BTreeMap<Id, Vec<Charge>>, branch: &Id) -> &'a [Charge]
+pub fn of_branch<'a>(charges: &'a BTreeMap<Id, Vec<Charge>>, branch: &Id) -> &'a [Charge]
     ensures { result.now ≡ charges_at charges.now branch.now }
 {
     match charges.get(branch) {

@@ -12,8 +12,10 @@ mod sums;
 mod terms;
 
 pub use batching::{batches, batches_for};
+pub use by_branch::{dues_by_branch, of_branch};
 pub use charges::{due_in, dues};
 pub use parts::branch_parts;
-pub use posted::{open_row, posted_charges, posted_parts, whole, with_posted};
+pub use posted::{first_batches, open_row, posted_charges, posted_parts, whole, with_posted};
 pub use posting::with_run;
+pub use sums::{Sum, part_of_sum, sum_of, sum_with};
 pub use terms::{covers, end_of, overlap};

@@ -15,8 +15,8 @@ use dh_model::BATCH_SIZE;
 use dh_types::{Charge, EntryMonth, Part, Run};
 use std::alloc::{AllocError, Global};
 
-// The first of the charges, as many as so many batches have.
-fn first_batches(charges: &[Charge], count: u128) -> &[Charge]
+/// The first of the charges, as many as so many batches have.
+pub fn first_batches(charges: &[Charge], count: u128) -> &[Charge]
     ensures { result.now ≡ take (count * batch_size) charges.now }
 {
     let most = count.saturating_mul(u128::from(BATCH_SIZE));

@@ -1,7 +1,8 @@
 //! What charges come to.
 
-ghost use Rattle.std.specs.Prelude.{◌≡◌, ◌+◌, ◌*◌, ◌<◌, ◌≤◌, [], Some, length};
+ghost use Rattle.std.specs.Prelude.{◌≡◌, ◌+◌, ◌*◌, ◌<◌, ◌≤◌, List, [], ◌++◌, Some, length};
 ghost use Rattle.dh_values.specs.declared.limits.TheConstants.{MOST_NUMBER, MOST_RENT};
+ghost use Rattle.dh_types.specs.declared.lease.Charge.{Charge};
 ghost use Rattle.dh_model.specs.Runs.{at_least, closed_run, part_of};
 ghost use Rattle.dh_leases.specs.Sums.{sum_of};
 
@@ -9,10 +10,10 @@ use dh_types::{Charge, EntryMonth, Id, LeaseNo, Part, Pence, Run};
 
 /// The greatest lease among charges, how many they are, and the pence that they come to.
 #[derive(Clone, Copy)]
-pub(crate) struct Sum {
-    pub(crate) through: Option<LeaseNo>,
-    pub(crate) count: u32,
-    pub(crate) total: Pence,
+pub struct Sum {
+    pub through: Option<LeaseNo>,
+    pub count: u32,
+    pub total: Pence,
 }
 
 // What no charges come to.
@@ -55,24 +56,32 @@ fn with_charge(sum: Sum, charge: &Charge) -> Sum
     }
 }
 
-// What the charges come to.
-fn sum_of(charges: &[Charge]) -> Sum
-    requires { length charges.now ≤ MOST_NUMBER + 1 }
-    ensures { result ≡ sum_of charges.now }
+/// What charges that come to the sum come to with these behind them.
+pub fn sum_with(mut sum: Sum, charges: &[Charge]) -> Sum
+    requires few { sum.count + length charges.now ≤ MOST_NUMBER + 1 }
+    requires small { sum.total ≤ MOST_RENT * sum.count }
+    ensures value { (before : List Charge) → sum ≡ sum_of before → result ≡ sum_of (before ++ charges.now) }
+    ensures small { result.total ≤ MOST_RENT * result.count }
 {
-    let mut sum = nothing();
     for charge in charges {
         sum = with_charge(sum, charge);
     }
     sum
 }
 
-/// What the branch has of the month's run where these are its charges.
-pub(crate) fn part_with(month: EntryMonth, branch: Id, charges: &[Charge]) -> Part
+/// What the charges come to.
+pub fn sum_of(charges: &[Charge]) -> Sum
     requires { length charges.now ≤ MOST_NUMBER + 1 }
-    ensures { result ≡ part_of month branch charges.now }
+    ensures value { result ≡ sum_of charges.now }
+    ensures small { result.total ≤ MOST_RENT * result.count }
 {
-    let sum = sum_of(charges);
+    sum_with(nothing(), charges)
+}
+
+/// What the branch has of the month's run where its charges come to the sum.
+pub fn part_of_sum(month: EntryMonth, branch: Id, sum: Sum) -> Part
+    ensures { (charges : List Charge) → sum ≡ sum_of charges → result ≡ part_of month branch charges }
+{
     Part {
         month,
         branch,
@@ -80,6 +89,14 @@ pub(crate) fn part_with(month: EntryMonth, branch: Id, charges: &[Charge]) -> Pa
         count: sum.count,
         total: sum.total,
     }
+}
+
+/// What the branch has of the month's run where these are its charges.
+pub(crate) fn part_with(month: EntryMonth, branch: Id, charges: &[Charge]) -> Part
+    requires { length charges.now ≤ MOST_NUMBER + 1 }
+    ensures { result ≡ part_of month branch charges.now }
+{
+    part_of_sum(month, branch, sum_of(charges))
 }
 
 /// The run closed with these charges.

@@ -1,0 +1,7 @@
+pub mod Places
+pub mod MonthRows
+pub mod BatchBranch
+pub mod BatchCharges
+pub mod BatchParts
+pub mod Counted
+pub mod Planned

@@ -1,13 +1,19 @@
 //! What the batches of a rent run are.
 
-ghost use Rattle.std.specs.Prelude.{◌≡◌, Some, IfOk};
+ghost use Rattle.std.specs.Prelude.{◌≡◌, ◌<◌, ◌≤◌, ◌+◌, ◌++◌, Some, IfOk, OnOk, length, map};
+ghost use Rattle.dh_values.specs.declared.limits.TheConstants.{MOST_NUMBER};
 ghost use Rattle.dh_model.specs.Books.{State};
+ghost use Rattle.dh_model.specs.Runs.{batch_size};
 ghost use Rattle.dh_laws.specs.StateTables.{AreInOrder};
 ghost use Rattle.dh_plans.specs.Plans.{HaveTheLeases, IsPlanOf};
+ghost use Rattle.dh_plans.specs.Rows.{charges_at, rows_after, rows_of};
 
 use dh_books::Books;
+use dh_leases::{
+    batches_for, dues_by_branch, first_batches, of_branch, part_of_sum, sum_of, sum_with,
+};
 use dh_model::OpenRun;
-use dh_types::{Charge, EntryMonth, Part};
+use dh_types::{Charge, EntryMonth, Id, Part};
 use std::alloc::{AllocError, Global};
 
 /// The rows of a batch: its charges, and what its branch then has of the run.
@@ -26,12 +32,66 @@ pub struct Plan {
     pub batches: Vec<BatchRows>,
 }
 
+// The charges of the branch's batch of this number, from 0.
+fn charges_at(dues: &[Charge], number: u128) -> &[Charge]
+    requires { number < u128.MAX }
+    ensures { result.now ≡ charges_at batch_size dues.now number }
+{
+    let so_far = first_batches(dues, number + 1);
+    let before = first_batches(dues, number);
+    &so_far[before.len()..]
+}
+
+// The rows of these charges, after which the branch has this part.
+fn rows_with(alloc: Global, charges: &[Charge], part: Part) -> Result<BatchRows, AllocError>
+    ensures { IfOk result (λ rows. rows_of rows ≡ (charges.now, part)) }
+{
+    let mut owned = Vec::new(alloc);
+    owned.extend_from_slice(charges)?;
+    Ok(BatchRows {
+        charges: owned,
+        part,
+    })
+}
+
+// Puts the branch's batches behind the others, without so many that are done.
+fn put_batches(
+    alloc: Global,
+    batches: &mut Vec<BatchRows>,
+    month: EntryMonth,
+    branch: Id,
+    dues: &[Charge],
+    done: u128,
+) -> Result<(), AllocError>
+    requires { length dues.now ≤ MOST_NUMBER + 1 }
+    ensures { OnOk result
+        (map rows_of batches.new.items ≡ map rows_of batches.old.items ++ rows_after batch_size month branch dues.now done) }
+{
+    let mut sum = sum_of(first_batches(dues, done));
+    for number in done..batches_for(dues.len() as u64) {
+        let batch = charges_at(dues, number);
+        sum = sum_with(sum, batch);
+        let part = part_of_sum(month, branch, sum);
+        batches.push(rows_with(alloc, batch, part)?)?;
+    }
+    Ok(())
+}
+
 /// The batches that the open run lacks, over the branches, the properties and the leases of books. It fails where memory runs out.
 pub fn plan_of(alloc: Global, books: &Books, run: OpenRun) -> Result<Plan, AllocError>
     ensures { IfOk result (λ plan. (t : State) → AreInOrder t → t.open_run ≡ Some run → HaveTheLeases books.now.books t.books → IsPlanOf plan t) }
 {
-    let _books = &*books;
-    let _run = run;
-    let _alloc = alloc;
-    Err(AllocError)
+    let dues = dues_by_branch(alloc, books, run.month)?;
+    let mut batches = Vec::new(alloc);
+    let mut left = run.done;
+    for branch in books.branch_numbers() {
+        let all = of_branch(&dues, branch);
+        put_batches(alloc, &mut batches, run.month, *branch, all, left)?;
+        left = left.saturating_sub(batches_for(all.len() as u64));
+    }
+    Ok(Plan {
+        month: run.month,
+        done: run.done,
+        batches,
+    })
 }

@@ -1,4 +1,4 @@
-use Rattle.std.proofs.Common.{◌≡◌, ◌-◌, map}
+use Rattle.std.proofs.Common.{◌≡◌, map}
 use Rattle.std.specs.List.{filter, flat_map}
 use Rattle.std.specs.Map.Iter.{deref}
 use Rattle.dh_model.specs.Runs.{batch_size, posted_of_branch}
