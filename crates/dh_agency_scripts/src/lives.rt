@@ -1,0 +1,163 @@
+//! Scripts of one store whose power is cut before each line: it is opened anew, and an agency takes its tables as they are, or
+//! recovers them. A line `sql,STATEMENT` is what another program does to the store.
+
+ghost use Rattle.std.specs.Prelude.{IfSome};
+ghost use Rattle.sqlite.specs.State.{HasCleanDisk};
+ghost use Rattle.sqlite.specs.Held.{state};
+ghost use Rattle.dh_runs.specs.Taking.{IsResting};
+
+use crate::agencies::{in_memory, told};
+use crate::comparing::compare;
+use crate::rows::all_rows;
+use crate::scripts::{compare_tables, parted, table_of};
+use dh_agency::{Agency, NotOpened, Problem, attach, recover};
+use dh_examples::{Block, script};
+use dh_tally::Tally;
+use sqlite::{Alter, Connection};
+use sqlite_trees::store::Reopen;
+use std::alloc::{AllocError, Global};
+use std::io;
+
+/// The store after a power cut, opened anew, where it can be.
+pub fn reopened<S: Alter + Reopen + Drop>(
+    alloc: Global,
+    conn: Connection<S>,
+) -> Option<Connection<S>>
+    ensures { IfSome result (λ again. HasCleanDisk (state S.Store again) → IsResting (state S.Store again)) }
+{
+    let mut store = conn.into_store();
+    if store.crash_and_reopen().is_err() {
+        return None;
+    }
+    match Connection::over(alloc, store) {
+        Ok(again) => Some(again),
+        Err(_) => None,
+    }
+}
+
+fn problem_text(alloc: Global, problem: Problem) -> Result<String, AllocError> {
+    match problem {
+        Problem::Refused(refusal) => format!(in alloc; "{refusal}"),
+        Problem::Fault(fault) => format!(in alloc; "{fault}"),
+    }
+}
+
+type Lived<S> = (Result<String, AllocError>, Connection<S>);
+
+// What came of taking the tables, and the store.
+fn given_up<S: Alter>(
+    alloc: Global,
+    opened: Result<Agency<S>, NotOpened<Problem, S>>,
+    done: &str,
+) -> Lived<S> {
+    match opened {
+        Ok(agency) => (done.to_string(alloc), agency.into_store()),
+        Err(NotOpened { cause, conn }) => (problem_text(alloc, cause), conn),
+    }
+}
+
+// What an agency answers to the line that takes the tables for it alone.
+fn told_once<S: Alter>(
+    alloc: Global,
+    opened: Result<Agency<S>, NotOpened<Problem, S>>,
+    line: &str,
+) -> Lived<S> {
+    match opened {
+        Ok(mut agency) => {
+            let answer = told(alloc, &mut agency, line);
+            (answer, agency.into_store())
+        }
+        Err(NotOpened { cause, conn }) => (problem_text(alloc, cause), conn),
+    }
+}
+
+// What the statement of another program comes to.
+fn edited<S: Alter>(alloc: Global, mut conn: Connection<S>, statement: &str) -> Lived<S> {
+    let done = if conn.execute(statement, &[]).is_ok() {
+        "done"
+    } else {
+        "not done"
+    };
+    (done.to_string(alloc), conn)
+}
+
+// One line, before which the power was cut.
+fn live<S: Alter + Reopen + Drop>(
+    alloc: Global,
+    conn: Connection<S>,
+    line: &str,
+) -> Option<Lived<S>> {
+    let conn = reopened(alloc, conn)?;
+    Some(match (line, line.strip_prefix("sql,")) {
+        (_, Some(statement)) => edited(alloc, conn, statement),
+        ("recover", None) => given_up(alloc, recover(alloc, conn), "recovered"),
+        ("attach", None) => given_up(alloc, attach(alloc, conn), "attached"),
+        _ => told_once(alloc, attach(alloc, conn), line),
+    })
+}
+
+// The lines before those of the block, without a look at the replies.
+fn live_before<S: Alter + Reopen + Drop>(
+    alloc: Global,
+    mut conn: Connection<S>,
+    lines: &[String],
+) -> Option<Connection<S>> {
+    for line in lines {
+        let (words, _) = parted(line.as_str());
+        if table_of(words).is_none() {
+            let (_answer, next) = live(alloc, conn, words)?;
+            conn = next;
+        }
+    }
+    Some(conn)
+}
+
+fn live_each<S: Alter + Reopen + Drop>(
+    rt: &HostRuntime,
+    tally: &mut Tally,
+    mut conn: Connection<S>,
+    lines: &[String],
+) -> io::Result<Option<Connection<S>>> {
+    for line in lines {
+        let (words, want) = parted(line.as_str());
+        if table_of(words).is_none() {
+            let Some((answer, next)) = live(rt.alloc(), conn, words) else {
+                return Ok(None);
+            };
+            conn = next;
+            compare(rt, tally, words, answer?.as_str(), want)?;
+        }
+    }
+    Ok(Some(conn))
+}
+
+fn play_over<S: Alter + Reopen + Drop>(
+    rt: &HostRuntime,
+    tally: &mut Tally,
+    block: &Block,
+    conn: Connection<S>,
+) -> io::Result<()> {
+    let Some(begun) = live_before(rt.alloc(), conn, &block.before) else {
+        return compare(rt, tally, block.name.as_str(), "not opened", "opened");
+    };
+    let Some(mut ended) = live_each(rt, tally, begun, &block.lines)? else {
+        return compare(rt, tally, block.name.as_str(), "not opened", "opened");
+    };
+    let tables = all_rows(rt.alloc(), &mut ended);
+    drop(ended);
+    compare_tables(rt, tally, block, tables?.as_str())
+}
+
+/// The blocks of the script, each told to the tables of an agency in memory that are taken anew before each line.
+pub fn play_lives(rt: &HostRuntime, tally: &mut Tally, text: &str) -> io::Result<()> {
+    let Ok(blocks) = script(rt.alloc(), text) else {
+        return compare(rt, tally, "a script", "not read", "read");
+    };
+    for block in &blocks {
+        match in_memory(rt.alloc())? {
+            Some(agency) => play_over(rt, tally, block, agency.into_store())?,
+            None => compare(rt, tally, block.name.as_str(), "no agency", "an agency")?,
+        }
+    }
+    Ok(())
+}
