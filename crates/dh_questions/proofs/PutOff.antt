@@ -1,5 +1,5 @@
 -- A question that an open run puts off.
-use Rattle.std.proofs.Common.{◌≡◌, ◌∙◌, sym, ap, true, Option, Some, None, option_map}
+use Rattle.std.proofs.Common.{◌≡◌, sym, ap, true, Option, Some, option_map}
 use Rattle.std.specs.FinMap.{get}
 use Rattle.sqlite.specs.State.{State}
 use Rattle.dh_types.specs.declared.question.Question.{Question}

@@ -24,8 +24,8 @@ use dh_books::Books;
 use dh_lists::answer;
 use dh_looks::{look, look_at_all, no_rows, open_run};
 use dh_tables::{
-    BranchNumbered, ChargesOfLease, ClientNumbered, LeaseNumbered, LeasesOfProperty,
-    PartsOfMonth, ReceiptsOfLease, RunOf,
+    BranchNumbered, ChargesOfLease, ClientNumbered, LeaseNumbered, LeasesOfProperty, PartsOfMonth,
+    ReceiptsOfLease, RunOf,
 };
 use dh_types::{
     Answer, Branch, EntryMonth, Fault, Id, Lease, LeaseNo, Property, Question, Refusal,
