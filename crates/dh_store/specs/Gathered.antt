@@ -1,5 +1,5 @@
 -- Books that take rows of the tables, as a command looks at them.
-use Rattle.std.specs.Prelude.{◌≡◌, List, ℕ, Option, None, Result, OnOk}
+use Rattle.std.specs.Prelude.{List, ℕ, Option, None, Result, OnOk}
 use Rattle.std.specs.FinMap.{get}
 use Rattle.sqlite.specs.State as sqlite
 use Rattle.dh_types.specs.declared.reply.Fault.{Fault}

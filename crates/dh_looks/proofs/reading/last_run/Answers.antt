@@ -1,4 +1,4 @@
-use Rattle.std.proofs.Common.{◌≡◌, ◌≤◌, sym, arith}
+use Rattle.std.proofs.Common.{◌≤◌, sym, arith}
 use Rattle.sqlite.specs.Held.{state}
 use Rattle.dh_model.specs.Rules as rule
 use Rattle.dh_schema.specs.Kinds.{Runs}
