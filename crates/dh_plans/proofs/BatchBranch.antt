@@ -1,8 +1,7 @@
 -- The branch of a batch.
-use Rattle.std.proofs.Common.{◌≡◌, ◌∙◌, refl, sym, ap, ℕ, ◌+◌, ◌-◌, ◌*◌, ◌/◌, ◌<◌, ◌≤◌, List, ◌++◌, take, drop, Ordering, Less, Equal, Greater, is_lt, le-add_right, arith}
+use Rattle.std.proofs.Common.{◌≡◌, ◌∙◌, refl, sym, ap, ℕ, ◌+◌, ◌-◌, ◌*◌, ◌/◌, ◌≤◌, List, ◌++◌, take, Ordering, Less, Equal, Greater, is_lt, le-add_right, arith}
 use Rattle.std.specs.Ordering.{ordering_reverse}
 use Rattle.std.specs.FinMap.{keys}
-use Rattle.std.proofs.lemmas.List.{take-append-drop, take-take}
 use Rattle.dh_types.specs.declared.lease.Charge.{Charge}
 use Rattle.dh_types.specs.declared.run.Part.{Part}
 use Rattle.dh_model.specs.Books.{Books, text_cmp}
@@ -15,6 +14,7 @@ use Rattle.dh_model.proofs.KeyOrders.{text_ties, text_total}
 use Rattle.dh_leases.proofs.PostedLemmas.{first_posted}
 use Rattle.dh_laws.proofs.PostSmall.{own_is_before}
 use Rattle.dh_plans.specs.Rows.{charges_at, rows_at}
+use Rattle.dh_plans.proofs.Cuts.{cut_once}
 
 -- the branch that has the batch of this number
 abbrev pub IsHeld : ℕ → Books → ℕ → ℕ → Type 0
@@ -75,8 +75,4 @@ module _ (size : ℕ) (books : Books) (month number : ℕ) where
       pub posted_in_two : posted_of_branch size books month (number + 1) held.key
           ≡ posted_of_branch size books month number held.key ++ charges_at size own_dues own_number
       posted_in_two =
-          let so_far = take ((own_number + 1) * size) own_dues in
-          let fewer : own_number * size ≤ (own_number + 1) * size = omega arith in
-          posted_with ∙ sym (take-append-drop (own_number * size) so_far)
-          ∙ ap (λ cs. cs ++ charges_at size own_dues own_number)
-          (take-take (own_number * size) ((own_number + 1) * size) own_dues fewer ∙ sym posted_before)
+          posted_with ∙ sym (cut_once size own_dues own_number) ∙ ap (λ cs. cs ++ charges_at size own_dues own_number) (sym posted_before)

@@ -1,6 +1,6 @@
 -- The charges of a batch lead from those before it to those with it, and are new to them.
 use Rattle.std.proofs.Common.{◌≡◌, ◌⊎◌, ◌∙◌, refl, sym, ap, subst, inl, inr, ℕ, ◌+◌, ◌<◌, ◌≤◌, nat_lt, List, [], ◌∷◌, ◌++◌, None, ltb-true, lt-ltb, arith}
-use Rattle.std.specs.FinMap.{FinMap, get, keys}
+use Rattle.std.specs.FinMap.{FinMap, get}
 use Rattle.std.specs.Ordering.{nat_cmp}
 use Rattle.std.proofs.lemmas.Bool.{cases_lt}
 use Rattle.dh_types.specs.declared.lease.Charge.{Charge}

@@ -1,4 +1,5 @@
 pub mod Places
+pub mod Cuts
 pub mod MonthRows
 pub mod BatchBranch
 pub mod BatchCharges

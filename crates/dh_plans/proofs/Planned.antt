@@ -1,17 +1,16 @@
 -- The rows that are left of a run are a plan of it.
-use Rattle.std.proofs.Common.{◌≡◌, ◌∙◌, sym, ap, subst, ℕ, ◌+◌, ◌<◌, ◌≤◌, List, [], ◌∷◌, map, length, slice_index_or, Some, arith}
+use Rattle.std.proofs.Common.{◌≡◌, ◌∙◌, sym, ap, subst, ℕ, ◌+◌, ◌<◌, List, [], ◌∷◌, map, length, slice_index_or, Some, arith}
 use Rattle.std.proofs.lemmas.List.{length-map}
 use Rattle.dh_types.specs.declared.lease.Charge.{Charge}
 use Rattle.dh_types.specs.declared.run.Part.{Part}
-use Rattle.dh_model.specs.declared.open_run.OpenRun.{OpenRun}
 use Rattle.dh_model.specs.Books.{Books, State, with_rows}
-use Rattle.dh_model.specs.Runs.{batch_size, batches, charge_key, part_key}
+use Rattle.dh_model.specs.Runs.{batch_size, charge_key, part_key}
 use Rattle.dh_model.specs.Whole.{with_posted}
 use Rattle.dh_laws.specs.InOrder.{IsInOrder}
 use Rattle.dh_laws.specs.StateTables.{AreInOrder}
 use Rattle.dh_plans.specs.declared.planning.BatchRows.{BatchRows}
 use Rattle.dh_plans.specs.declared.planning.Plan.{Plan}
-use Rattle.dh_plans.specs.Plans.{AreNew, HaveTheLeases, IsPlanOf, begins_at, stage, with_batch_rows}
+use Rattle.dh_plans.specs.Plans.{AreNew, HaveTheLeases, IsPlanOf, begins_at, with_batch_rows}
 use Rattle.dh_plans.specs.Rows.{all_rows_left, rows_of}
 use Rattle.dh_plans.proofs.BatchBranch.{IsBatch}
 use Rattle.dh_plans.proofs.BatchCharges.{charges_led, charges_new}

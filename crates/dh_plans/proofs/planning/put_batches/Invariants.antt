@@ -1,0 +1,15 @@
+use Rattle.std.proofs.Common.{◌≡◌, ◌-◌, ◌*◌, ◌≤◌, ◌++◌, map, max, take}
+use Rattle.std.specs.List.{range_with_len}
+use Rattle.dh_model.specs.Runs.{batch_size}
+use Rattle.dh_leases.specs.Sums.{sum_of}
+use Rattle.dh_plans.specs.Rows.{rows_at, rows_of}
+use Rattle.dh_plans.proofs.planning.put_batches.Given as goal
+
+abbrev pub invariant-loop-number : goal.invariant-loop-number
+invariant-loop-number l = record {
+  rows : map rows_of l.batches.items
+      ≡ map rows_of l.fn.batches.items ++ map (rows_at batch_size l.month l.branch l.dues) (range_with_len l.done (l.number - l.done));
+  sum : l.sum ≡ sum_of (take (l.number * batch_size) l.dues);
+  small : l.sum.total ≤ 999999 * l.sum.count;
+  until : l.number ≤ max l.done l.number-end;
+}
