@@ -1,5 +1,6 @@
 -- The branch of a batch.
-use Rattle.std.proofs.Common.{◌≡◌, ◌∙◌, refl, sym, ap, ℕ, ◌+◌, ◌-◌, ◌*◌, ◌/◌, ◌≤◌, List, ◌++◌, take, Ordering, Less, Equal, Greater, is_lt, le-add_right, arith}
+use Rattle.std.proofs.Common.{◌≡◌, ◌∙◌, refl, sym, ap, ℕ, ◌+◌, ◌-◌, ◌*◌, ◌/◌, ◌≤◌, List, ◌++◌, take, Ordering, Less, Equal, Greater, is_lt}
+use Rattle.std.proofs.Common.{le-add_right, arith}
 use Rattle.std.specs.Ordering.{ordering_reverse}
 use Rattle.std.specs.FinMap.{keys}
 use Rattle.dh_types.specs.declared.lease.Charge.{Charge}

@@ -25,7 +25,8 @@ module _ {X : Type 0} (P : ℕ → X → Type 0) where
     from_range f (a + 1) n (j + 1) (λ i at from until is. each i at (omega (arith, from)) (omega (arith, until)) (omega (arith, is))),
   )
 
-  pub at_place : {Y : Type 0} (f : Y → X) (j : ℕ) (ys : List Y) (i : ℕ) (y : Y) → AreFrom P j (map f ys) → i < length ys → y ≡ slice_index_or ys i y → P (j + i) (f y)
+  pub at_place : {Y : Type 0} (f : Y → X) (j : ℕ) (ys : List Y) (i : ℕ) (y : Y) → AreFrom P j (map f ys) → i < length ys → y ≡ slice_index_or ys i y
+      → P (j + i) (f y)
   at_place f j [] i y are h e = absurd (omega (arith, h))
   at_place f j (z ∷ ys) zero y are h e =
       let same : j ≡ j + 0 = omega arith in
