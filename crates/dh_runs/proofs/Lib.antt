@@ -1,0 +1,4 @@
+pub mod Along
+pub mod Stages
+pub mod Carried
+pub mod Taken

@@ -1,5 +1,5 @@
 -- Which tables are taken, and why others are not.
-use Rattle.std.specs.Prelude.{◌≡◌, ◌⊎◌, false, IsTrue, pos, Some, None, ⊤, ℕ, 0}
+use Rattle.std.specs.Prelude.{◌≡◌, ◌⊎◌, false, IsTrue, pos, Some, None, ⊤, ℕ}
 use Rattle.sqlite.specs.State.{State}
 use Rattle.sqlite_trees.specs.Tree.{Trees}
 use Rattle.dh_types.specs.declared.reply.Refusal.{Refusal}

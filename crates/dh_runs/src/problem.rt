@@ -1,6 +1,8 @@
 //! Why tables are not taken.
 
+use dh_schema::LoadFault;
 use dh_types::{Fault, Refusal};
+use std::alloc::AllocError;
 
 /// Why tables are not taken.
 #[derive(Clone, Copy, Debug, PartialEq, Eq)]
@@ -9,4 +11,41 @@ pub enum Problem {
     Refused(Refusal),
     /// Fault 21 or 22.
     Fault(Fault),
+}
+
+impl From<Fault> for Problem {
+    ghost use Rattle.std.specs.Prelude.{◌≡◌};
+    ghost use Rattle.dh_runs.specs.declared.problem.Problem.TheVariants as problem;
+
+    ghost from_gives = { λ fault told. told ≡ problem.Fault fault };
+
+    fn from(fault: Fault) -> Problem {
+        Problem::Fault(fault)
+    }
+}
+
+impl From<AllocError> for Problem {
+    ghost use Rattle.std.specs.Prelude.{◌≡◌};
+    ghost use Rattle.dh_types.specs.declared.reply.Fault.TheVariants.{Memory};
+    ghost use Rattle.dh_runs.specs.declared.problem.Problem.TheVariants as problem;
+
+    ghost from_gives = { λ _ told. told ≡ problem.Fault Memory };
+
+    fn from(_error: AllocError) -> Problem {
+        Problem::Fault(Fault::Memory)
+    }
+}
+
+impl From<LoadFault> for Problem {
+    ghost use Rattle.std.specs.Prelude.{◌≡◌};
+    ghost use Rattle.dh_runs.specs.Problems.{problem_of};
+
+    ghost from_gives = { λ fault told. told ≡ problem_of fault };
+
+    fn from(fault: LoadFault) -> Problem {
+        match fault {
+            LoadFault::Damaged => Problem::Refused(Refusal::Damaged(0)),
+            LoadFault::Fault(fault) => Problem::Fault(fault),
+        }
+    }
 }

@@ -5,17 +5,40 @@ ghost use Rattle.sqlite.specs.State.{HasCleanDisk};
 ghost use Rattle.sqlite.specs.Held.{state};
 ghost use Rattle.sqlite_trees.specs.View.{doubt};
 ghost use Rattle.sqlite_trees.specs.Tree.{Trees};
-ghost use Rattle.dh_schema.specs.Store.{IsReadyWith, Leaves, tables};
+ghost use Rattle.dh_tables.specs.Calls.{HasOurTables};
+ghost use Rattle.dh_schema.specs.Faults.{IsFirstFault};
+ghost use Rattle.dh_schema.specs.Store.{IsReady, IsReadyWith, Leaves, tables};
 ghost use Rattle.dh_schema.specs.Tables.{IsSound};
+ghost use Rattle.dh_runs.specs.Problems.{IsTurnedAway};
 ghost use Rattle.dh_runs.specs.Taking.{IsFirstProblem, IsProblemOf, IsResting};
 ghost use Rattle.dh_runs.specs.Told.{IsMended, IsTorn};
 
 use crate::problem::Problem;
+use crate::running::{RunState, post_some};
+use crate::taking::check;
 use dh_types::Fault;
 use sqlite::{Alter, Connection};
 use std::alloc::Global;
 
-/// Takes the tables where they are sound, and makes the open run to its end. A refusal changes nothing. Whatever cuts it, sound
+// Makes the open run to its end, where one is open.
+fn finish<S: Alter>(alloc: Global, conn: &mut Connection<S>) -> Result<(), Fault>
+    requires { HasCleanDisk (state S.Store conn.old) → IsReady (state S.Store conn.old) }
+    ensures mended { HasCleanDisk (state S.Store conn.new)
+        → OnOk result (IsReadyWith (state S.Store conn.new) (IsMended (tables (state S.Store conn.old)))) }
+    ensures crash { HasCleanDisk (state S.Store conn.new) → Leaves (state S.Store conn.new) (IsTorn (tables (state S.Store conn.old))) }
+    ensures halted { HasCleanDisk (state S.Store conn.new) → IsTrue (state S.Store conn.new).is_open
+        → OnErr result (IsReadyWith (state S.Store conn.new) (IsTorn (tables (state S.Store conn.old)))) }
+    ensures cause { IfErr result IsFirstFault }
+    ensures was_clean { doubt (state S.Store conn.old).is_clean ≤ doubt (state S.Store conn.new).is_clean }
+{
+    match post_some(alloc, conn, u128::MAX)? {
+        RunState::NoRun | RunState::Posted(_) => Ok(()),
+        RunState::Part(_) => Err(Fault::Store),
+    }
+}
+
+/// Takes the tables where they are sound, and makes the open run to its end. Refusals 16 and 17 come as [`check`] tells them, and
+/// change nothing; fault 21 or 22 comes where memory ran out or the store failed, or the tables are not ours. Whatever cuts it, sound
 /// tables stay sound with the same whole books, and the open run is moved on.
 pub fn recover_in<S: Alter>(alloc: Global, conn: &mut Connection<S>) -> Result<(), Problem>
     requires { HasCleanDisk (state S.Store conn.old) → IsResting (state S.Store conn.old) }
@@ -25,15 +48,17 @@ pub fn recover_in<S: Alter>(alloc: Global, conn: &mut Connection<S>) -> Result<(
     ensures cause { IfErr result IsFirstProblem }
     ensures crash { HasCleanDisk (state S.Store conn.new) → IsSound (state S.Store conn.old).now.trees
         → Leaves (state S.Store conn.new) (IsTorn (tables (state S.Store conn.old))) }
-    ensures halted { HasCleanDisk (state S.Store conn.new) → IsTrue (state S.Store conn.new).is_open → IsSound (state S.Store conn.old).now.trees
+    ensures halted { HasCleanDisk (state S.Store conn.new) → IsTrue (state S.Store conn.new).is_open
+        → HasOurTables (state S.Store conn.old) → IsSound (state S.Store conn.old).now.trees
         → OnErr result (IsReadyWith (state S.Store conn.new) (IsTorn (tables (state S.Store conn.old)))) }
     ensures untouched { HasCleanDisk (state S.Store conn.new) → ¬ IsSound (state S.Store conn.old).now.trees
         → (left : Trees) → (state S.Store conn.new).may_leave left → left ≡ (state S.Store conn.old).now.trees }
     ensures unchanged { HasCleanDisk (state S.Store conn.new) → IsTrue (state S.Store conn.new).is_open
         → ¬ IsSound (state S.Store conn.old).now.trees → IsResting (state S.Store conn.new) × ((state S.Store conn.new).now ≡ (state S.Store conn.old).now) }
+    ensures others { ¬ HasOurTables (state S.Store conn.old) → IsTurnedAway result × (conn.new ≡ conn.old) }
     ensures was_clean { doubt (state S.Store conn.old).is_clean ≤ doubt (state S.Store conn.new).is_clean }
 {
-    let _alloc = alloc;
-    let _held = &*conn;
-    Err(Problem::Fault(Fault::Store))
+    check(alloc, conn)?;
+    finish(alloc, conn)?;
+    Ok(())
 }

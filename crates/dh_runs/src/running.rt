@@ -10,10 +10,13 @@ ghost use Rattle.dh_model.specs.declared.rows.Change.TheVariants as change;
 ghost use Rattle.dh_model.specs.declared.rows.Verdict.TheVariants as verdict;
 ghost use Rattle.dh_model.specs.Verdicts.{opened_run, run_verdict};
 ghost use Rattle.dh_laws.specs.Batches.{IsPostedInPart};
+ghost use Rattle.dh_plans.specs.Plans.{IsPlanOf};
 ghost use Rattle.dh_schema.specs.Faults.{IsFirstFault};
 ghost use Rattle.dh_schema.specs.Store.{IsReady, IsReadyWith, Leaves, tables};
 ghost use Rattle.dh_runs.specs.Told.{IsCut, IsSaid, reply_of};
 
+use dh_plans::Plan;
+use dh_posting::{close_run, open_run, plan_run, post_rows};
 use dh_types::{Fault, Progress, RunOrder, RunSum};
 use sqlite::{Alter, Connection};
 use std::alloc::Global;
@@ -29,8 +32,43 @@ pub enum RunState {
     Posted(RunSum),
 }
 
-/// Carries out at most so many batches of the open run, and closes it where none is left. Whatever cuts it, the whole books are the
-/// same, and the open run is moved on by so many batches at most.
+// Carries out at most so many batches of the plan, and closes the run where none is left.
+fn post_planned<S: Alter>(
+    alloc: Global,
+    conn: &mut Connection<S>,
+    plan: &Plan,
+    most: u128,
+) -> Result<RunState, Fault>
+    requires ready { HasCleanDisk (state S.Store conn.old) → IsReady (state S.Store conn.old) }
+    requires planned { HasCleanDisk (state S.Store conn.old) → IsPlanOf plan.now (tables (state S.Store conn.old)) }
+    ensures ready { HasCleanDisk (state S.Store conn.new) → OnOk result (IsReady (state S.Store conn.new)) }
+    ensures said { HasCleanDisk (state S.Store conn.new)
+        → IfOk result (λ it. IsSaid (command.Post most) (reply_of it) (tables (state S.Store conn.old)) (tables (state S.Store conn.new))) }
+    ensures crash { HasCleanDisk (state S.Store conn.new) → Leaves (state S.Store conn.new) (IsPostedInPart most (tables (state S.Store conn.old))) }
+    ensures halted { HasCleanDisk (state S.Store conn.new) → IsTrue (state S.Store conn.new).is_open
+        → OnErr result (IsReadyWith (state S.Store conn.new) (IsPostedInPart most (tables (state S.Store conn.old)))) }
+    ensures cause { IfErr result IsFirstFault }
+    ensures was_clean { doubt (state S.Store conn.old).is_clean ≤ doubt (state S.Store conn.new).is_clean }
+{
+    let left = plan.batches.len();
+    let count = most.min(left as u128) as usize;
+    for rows in &plan.batches[..count] {
+        post_rows(alloc, conn, rows)?;
+    }
+    if count < left {
+        let of = plan.done.checked_add(left as u128).ok_or(Fault::Store)?;
+        return Ok(RunState::Part(Progress {
+            month: plan.month,
+            done: plan.done + count as u128,
+            of,
+        }));
+    }
+    Ok(RunState::Posted(close_run(alloc, conn)?))
+}
+
+/// Carries out at most so many batches of the open run, each in a transaction of its own, and closes it where none is left. The
+/// batches are counted out once, before the first. Fault 21 or 22 comes where memory ran out or the store failed. Whatever cuts
+/// it, the whole books are the same, and the open run is moved on by so many batches at most.
 pub fn post_some<S: Alter>(
     alloc: Global,
     conn: &mut Connection<S>,
@@ -46,13 +84,15 @@ pub fn post_some<S: Alter>(
     ensures cause { IfErr result IsFirstFault }
     ensures was_clean { doubt (state S.Store conn.old).is_clean ≤ doubt (state S.Store conn.new).is_clean }
 {
-    let _alloc = alloc;
-    let _held = &*conn;
-    let _most = most;
-    Err(Fault::Store)
+    match plan_run(alloc, conn)? {
+        Some(plan) => post_planned(alloc, conn, &plan, most),
+        None => Ok(RunState::NoRun),
+    }
 }
 
-/// Carries out a `run` that is accepted: the opening, all batches, and the end.
+/// Carries out a `run` that is accepted: the opening, all batches, and the end, whose count and total it answers. Fault 21 or 22 comes
+/// where memory ran out or the store failed. Whatever cuts it, the run was not opened, or it stands at one of its batches, or is
+/// closed.
 pub fn run_all<S: Alter>(
     alloc: Global,
     conn: &mut Connection<S>,
@@ -61,7 +101,8 @@ pub fn run_all<S: Alter>(
     requires ready { HasCleanDisk (state S.Store conn.old) → IsReady (state S.Store conn.old) }
     requires none { HasCleanDisk (state S.Store conn.old) → (tables (state S.Store conn.old)).open_run ≡ None }
     requires verdict { HasCleanDisk (state S.Store conn.old)
-        → run_verdict (tables (state S.Store conn.old)).books order.now ≡ verdict.Change (change.Open (opened_run (tables (state S.Store conn.old)).books order.now)) }
+        → run_verdict (tables (state S.Store conn.old)).books order.now
+        ≡ verdict.Change (change.Open (opened_run (tables (state S.Store conn.old)).books order.now)) }
     ensures ready { HasCleanDisk (state S.Store conn.new) → OnOk result (IsReady (state S.Store conn.new)) }
     ensures said { HasCleanDisk (state S.Store conn.new)
         → IfOk result (λ sum. IsSaid (command.Run order.now) (reply.Posted sum) (tables (state S.Store conn.old)) (tables (state S.Store conn.new))) }
@@ -71,8 +112,9 @@ pub fn run_all<S: Alter>(
     ensures cause { IfErr result IsFirstFault }
     ensures was_clean { doubt (state S.Store conn.old).is_clean ≤ doubt (state S.Store conn.new).is_clean }
 {
-    let _alloc = alloc;
-    let _held = &*conn;
-    let _order = *order;
-    Err(Fault::Store)
+    open_run(alloc, conn, order)?;
+    match post_some(alloc, conn, u128::MAX)? {
+        RunState::Posted(sum) => Ok(sum),
+        RunState::NoRun | RunState::Part(_) => Err(Fault::Store),
+    }
 }

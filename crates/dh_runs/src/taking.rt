@@ -1,34 +1,138 @@
 //! Whether tables are taken.
 
-ghost use Rattle.std.specs.Prelude.{◌≡◌, ◌≤◌, IsTrue, IfErr, OnOk};
+ghost use Rattle.std.specs.Prelude.{◌≡◌, ◌≤◌, IsTrue, IfOk, IfErr, OnOk, OnErr};
 ghost use Rattle.sqlite.specs.State.{HasCleanDisk};
 ghost use Rattle.sqlite.specs.Held.{state};
 ghost use Rattle.sqlite_trees.specs.View.{doubt};
 ghost use Rattle.sqlite_trees.specs.Tree.{Trees};
+ghost use Rattle.dh_model.specs.Rules.{MeetsRules};
+ghost use Rattle.dh_model.specs.Runs.{batch_size};
 ghost use Rattle.dh_tables.specs.Calls.{HasOurTables};
+ghost use Rattle.dh_tables.specs.MetaTable.{meta_rows};
+ghost use Rattle.dh_schema.specs.Faults.{IsOfStore};
 ghost use Rattle.dh_schema.specs.Store.{IsReady};
-ghost use Rattle.dh_runs.specs.Taking.{IsFirstProblem, IsProblemOf, IsResting};
+ghost use Rattle.dh_schema.specs.Tables.{IsSound};
+ghost use Rattle.dh_schema.specs.Version.{only_version};
+ghost use Rattle.dh_runs.specs.Problems.{IsFoundIn, IsTurnedAway};
+ghost use Rattle.dh_runs.specs.Taking.{IsFirstProblem, IsOurVersion, IsProblemOf, IsResting};
 
 use crate::problem::Problem;
-use dh_types::Fault;
-use sqlite::{Alter, Connection};
+use dh_audit::audit;
+use dh_books::Books;
+use dh_catalog::has_our_tables;
+use dh_rows::VERSION;
+use dh_schema::{LoadFault, load_tables};
+use dh_tables::meta_rows_shown;
+use dh_types::{Fault, Refusal};
+use sqlite::types::ValueRef;
+use sqlite::{Alter, Connection, Row};
 use std::alloc::Global;
 
-/// Whether the tables are sound. Refusal 16 comes exactly where `meta` gives another version; else refusal 17 exactly where they are
-/// not sound, with 0 where a column does not hold a value of its kind or `meta` gives no version, or the least rule of the audit
-/// that is broken. Tables that are not ours are fault 22. It changes nothing, at a fault too.
-pub fn check<S: Alter>(alloc: Global, conn: &mut Connection<S>) -> Result<(), Problem>
+// The version that meta's rows give, where they give one.
+fn version_in(rows: &[Row]) -> Option<i64>
+    ensures { result ≡ only_version rows.now }
+{
+    match rows {
+        [row] => match row.get_ref(1) {
+            Ok(ValueRef::Int(version)) => Some(version),
+            _ => None,
+        },
+        _ => None,
+    }
+}
+
+// The version that meta gives, where it gives one. It turns tables away that are not ours.
+fn version_shown<S: Alter>(
+    alloc: Global,
+    conn: &mut Connection<S>,
+) -> Result<Option<i64>, LoadFault>
     requires { HasCleanDisk (state S.Store conn.old) → IsResting (state S.Store conn.old) }
-    ensures ready { HasCleanDisk (state S.Store conn.new) → OnOk result (IsReady (state S.Store conn.new)) }
-    ensures refused { HasCleanDisk (state S.Store conn.new) → IfErr result (IsProblemOf (state S.Store conn.old).now.trees) }
-    ensures cause { IfErr result IsFirstProblem }
+    ensures others { ¬ HasOurTables (state S.Store conn.old) → OnErr result (conn.new ≡ conn.old) }
+    ensures ours { OnOk result (HasOurTables (state S.Store conn.old)) }
+    ensures found { HasCleanDisk (state S.Store conn.new) → IfOk result (λ found. found ≡ only_version (meta_rows (state S.Store conn.old).now.trees)) }
+    ensures cause { IfErr result IsOfStore }
+    ensures still { HasCleanDisk (state S.Store conn.new) → OnOk result (IsTrue (state S.Store conn.new).is_open) }
     ensures same { HasCleanDisk (state S.Store conn.new) → IsTrue (state S.Store conn.new).is_open
         → IsResting (state S.Store conn.new) × ((state S.Store conn.new).now ≡ (state S.Store conn.old).now) }
     ensures crash { HasCleanDisk (state S.Store conn.new)
         → (left : Trees) → (state S.Store conn.new).may_leave left → left ≡ (state S.Store conn.old).now.trees }
     ensures was_clean { doubt (state S.Store conn.old).is_clean ≤ doubt (state S.Store conn.new).is_clean }
 {
-    let _alloc = alloc;
-    let _held = &*conn;
-    Err(Problem::Fault(Fault::Store))
+    if !has_our_tables(alloc, conn)? {
+        return Err(LoadFault::Fault(Fault::Store));
+    }
+    let rows = meta_rows_shown(conn)?;
+    Ok(version_in(&rows))
+}
+
+// Refuses tables of another version, or of none.
+fn check_version<S: Alter>(alloc: Global, conn: &mut Connection<S>) -> Result<(), Problem>
+    requires { HasCleanDisk (state S.Store conn.old) → IsResting (state S.Store conn.old) }
+    ensures ours { OnOk result (HasOurTables (state S.Store conn.old)) }
+    ensures version { HasCleanDisk (state S.Store conn.new) → OnOk result (IsOurVersion (state S.Store conn.old).now.trees) }
+    ensures refused { HasCleanDisk (state S.Store conn.new) → IfErr result (IsProblemOf (state S.Store conn.old).now.trees) }
+    ensures cause { IfErr result IsFirstProblem }
+    ensures still { HasCleanDisk (state S.Store conn.new) → OnOk result (IsTrue (state S.Store conn.new).is_open) }
+    ensures others { ¬ HasOurTables (state S.Store conn.old) → IsTurnedAway result × (conn.new ≡ conn.old) }
+    ensures same { HasCleanDisk (state S.Store conn.new) → IsTrue (state S.Store conn.new).is_open
+        → IsResting (state S.Store conn.new) × ((state S.Store conn.new).now ≡ (state S.Store conn.old).now) }
+    ensures crash { HasCleanDisk (state S.Store conn.new)
+        → (left : Trees) → (state S.Store conn.new).may_leave left → left ≡ (state S.Store conn.old).now.trees }
+    ensures was_clean { doubt (state S.Store conn.old).is_clean ≤ doubt (state S.Store conn.new).is_clean }
+{
+    match version_shown(alloc, conn)? {
+        Some(version) if version == i64::from(VERSION) => Ok(()),
+        Some(version) => Err(Problem::Refused(Refusal::Version(version))),
+        None => Err(Problem::Refused(Refusal::Damaged(0))),
+    }
+}
+
+// Whether the books meet the rules of the audit.
+fn check_books(alloc: Global, books: &Books) -> Result<(), Problem>
+    ensures sound { OnOk result (MeetsRules books.now.books batch_size) }
+    ensures broken { IfErr result (IsFoundIn books.now.books) }
+{
+    match audit(alloc, books)? {
+        Ok(()) => Ok(()),
+        Err(rule) => Err(Problem::Refused(Refusal::Damaged(rule))),
+    }
+}
+
+// Refuses tables of our version that are not sound.
+fn check_rows<S: Alter>(alloc: Global, conn: &mut Connection<S>) -> Result<(), Problem>
+    requires resting { HasCleanDisk (state S.Store conn.old) → IsResting (state S.Store conn.old) }
+    requires ours { HasCleanDisk (state S.Store conn.old) → HasOurTables (state S.Store conn.old) }
+    requires version { HasCleanDisk (state S.Store conn.old) → IsOurVersion (state S.Store conn.old).now.trees }
+    ensures sound { HasCleanDisk (state S.Store conn.new) → OnOk result (IsSound (state S.Store conn.old).now.trees) }
+    ensures refused { HasCleanDisk (state S.Store conn.new) → IfErr result (IsProblemOf (state S.Store conn.old).now.trees) }
+    ensures cause { IfErr result IsFirstProblem }
+    ensures still { HasCleanDisk (state S.Store conn.new) → OnOk result (IsTrue (state S.Store conn.new).is_open) }
+    ensures same { HasCleanDisk (state S.Store conn.new) → IsTrue (state S.Store conn.new).is_open
+        → IsResting (state S.Store conn.new) × ((state S.Store conn.new).now ≡ (state S.Store conn.old).now) }
+    ensures crash { HasCleanDisk (state S.Store conn.new)
+        → (left : Trees) → (state S.Store conn.new).may_leave left → left ≡ (state S.Store conn.old).now.trees }
+    ensures was_clean { doubt (state S.Store conn.old).is_clean ≤ doubt (state S.Store conn.new).is_clean }
+{
+    let books = load_tables(alloc, conn)?;
+    check_books(alloc, &books)
+}
+
+/// Whether the tables are sound. Refusal 16 comes exactly where `meta` gives another version; else refusal 17 exactly where they are
+/// not sound, with 0 where a column does not hold a value of its kind or `meta` gives no version, or the least rule of the audit
+/// that is broken. Fault 21 or 22 comes where memory ran out or the store failed, or the tables are not ours. It changes nothing, at
+/// a fault too.
+pub fn check<S: Alter>(alloc: Global, conn: &mut Connection<S>) -> Result<(), Problem>
+    requires { HasCleanDisk (state S.Store conn.old) → IsResting (state S.Store conn.old) }
+    ensures ready { HasCleanDisk (state S.Store conn.new) → OnOk result (IsReady (state S.Store conn.new)) }
+    ensures refused { HasCleanDisk (state S.Store conn.new) → IfErr result (IsProblemOf (state S.Store conn.old).now.trees) }
+    ensures cause { IfErr result IsFirstProblem }
+    ensures others { ¬ HasOurTables (state S.Store conn.old) → IsTurnedAway result × (conn.new ≡ conn.old) }
+    ensures same { HasCleanDisk (state S.Store conn.new) → IsTrue (state S.Store conn.new).is_open
+        → IsResting (state S.Store conn.new) × ((state S.Store conn.new).now ≡ (state S.Store conn.old).now) }
+    ensures crash { HasCleanDisk (state S.Store conn.new)
+        → (left : Trees) → (state S.Store conn.new).may_leave left → left ≡ (state S.Store conn.old).now.trees }
+    ensures was_clean { doubt (state S.Store conn.old).is_clean ≤ doubt (state S.Store conn.new).is_clean }
+{
+    check_version(alloc, conn)?;
+    check_rows(alloc, conn)
 }

@@ -1,0 +1,39 @@
+use Rattle.std.proofs.Common.{◌≡◌, subst, arith}
+use Rattle.sqlite.specs.State.{HasCleanDisk}
+use Rattle.sqlite.specs.Held.{state}
+use Rattle.dh_model.specs.Books as machine
+use Rattle.dh_schema.specs.Store.{IsReadyWith, Leaves, tables}
+use Rattle.dh_runs.specs.Told.{IsTorn}
+use Rattle.dh_runs.proofs.Carried.{on_err}
+use Rattle.dh_runs.proofs.Taken.{left_torn, same_tables, torn_still}
+use Rattle.dh_runs.proofs.recovering.recover_in.Goals as goal
+
+pub returns-in_err-check-clause-crash : goal.returns-in_err-check-clause-crash
+returns-in_err-check-clause-crash g c clean sound left may = left_torn (state g.S.Store c.args.conn.now) sound left (c.check.ensures.crash clean left may)
+
+pub returns-in_err-check-clause-halted : goal.returns-in_err-check-clause-halted
+returns-in_err-check-clause-halted g c clean still ours sound =
+    on_err c.from_residual.result
+    (torn_still (state g.S.Store c.args.conn.now) (state g.S.Store c.check.new.conn) ours sound (c.check.ensures.same clean still))
+
+pub returns-in_err-finish-clause-crash : goal.returns-in_err-finish-clause-crash
+returns-in_err-finish-clause-crash g c clean sound =
+    let mid = state g.S.Store c.check.new.conn in
+    let early : HasCleanDisk mid = omega (arith, c.finish.ensures.was_clean, clean) in
+    let same = same_tables (state g.S.Store c.args.conn.now) mid (c.check.ensures.same early (c.in_ok-check.ensures.ready early).is_open) in
+    subst (λ (t : machine.State). Leaves (state g.S.Store c.finish.new.conn) (IsTorn t)) same (c.finish.ensures.crash clean)
+
+pub returns-in_err-finish-clause-halted : goal.returns-in_err-finish-clause-halted
+returns-in_err-finish-clause-halted g c clean still ours sound =
+    let mid = state g.S.Store c.check.new.conn in
+    let early : HasCleanDisk mid = omega (arith, c.finish.ensures.was_clean, clean) in
+    let same = same_tables (state g.S.Store c.args.conn.now) mid (c.check.ensures.same early (c.in_ok-check.ensures.ready early).is_open) in
+    on_err c.from_residual-in_err-finish.result
+    (subst (λ (t : machine.State). IsReadyWith (state g.S.Store c.finish.new.conn) (IsTorn t)) same (c.in_err-finish.ensures.halted clean still))
+
+pub returns-clause-crash : goal.returns-clause-crash
+returns-clause-crash g c clean sound =
+    let mid = state g.S.Store c.check.new.conn in
+    let early : HasCleanDisk mid = omega (arith, c.finish.ensures.was_clean, clean) in
+    let same = same_tables (state g.S.Store c.args.conn.now) mid (c.check.ensures.same early (c.in_ok-check.ensures.ready early).is_open) in
+    subst (λ (t : machine.State). Leaves (state g.S.Store c.finish.new.conn) (IsTorn t)) same (c.finish.ensures.crash clean)
