@@ -1,0 +1,7 @@
+pub mod ClosedRun
+pub mod Committing
+pub mod EachCharge
+pub mod Following
+pub mod NextRows
+pub mod OfMonth
+pub mod Putting

@@ -5,6 +5,7 @@ mod closing;
 mod opening;
 mod planning;
 mod posting;
+mod rows;
 
 pub use closing::close_run;
 pub use opening::open_run;

@@ -11,7 +11,10 @@ ghost use Rattle.dh_laws.specs.Telling.{begun};
 ghost use Rattle.dh_schema.specs.Faults.{IsFirstFault};
 ghost use Rattle.dh_schema.specs.Store.{IsReady, IsReadyWith, Leaves, StaysReady, tables};
 
-use dh_types::{Fault, RunOrder};
+use dh_laws::looking::accepted_changes_fit;
+use dh_model::Change;
+use dh_store::apply;
+use dh_types::{Fault, Pence, Run, RunOrder};
 use sqlite::{Alter, Connection};
 use std::alloc::Global;
 
@@ -35,8 +38,13 @@ pub fn open_run<S: Alter>(
         → Leaves (state S.Store conn.new) (λ t. (t ≡ tables (state S.Store conn.old)) ⊎ (t ≡ begun order.now (change.Open (opened_run (tables (state S.Store conn.old)).books order.now)) (tables (state S.Store conn.old)))) }
     ensures was_clean { doubt (state S.Store conn.old).is_clean ≤ doubt (state S.Store conn.new).is_clean }
 {
-    let _alloc = alloc;
-    let _held = &*conn;
-    let _order = *order;
-    Err(Fault::Store)
+    accepted_changes_fit();
+    let run = Run {
+        month: order.month,
+        key: order.key,
+        count: 0,
+        total: Pence::of_pence(0),
+        is_closed: false,
+    };
+    apply(alloc, conn, &Change::Open(run))
 }

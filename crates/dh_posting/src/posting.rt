@@ -1,19 +1,26 @@
 //! A batch in one transaction.
 
-ghost use Rattle.std.specs.Prelude.{◌≡◌, ◌≤◌, ◌⊎◌, IsTrue, IfOk, IfErr, OnOk, OnErr};
+ghost use Rattle.std.specs.Prelude.{◌≡◌, ◌≤◌, ◌⊎◌, false, is_some, IsTrue, IfOk, IfErr, OnOk, OnErr};
+ghost use Rattle.std.specs.FinMap.{get};
 ghost use Rattle.sqlite.specs.State.{HasCleanDisk};
 ghost use Rattle.sqlite.specs.Held.{state};
 ghost use Rattle.sqlite_trees.specs.View.{doubt};
+ghost use Rattle.dh_model.specs.Runs.{part_key};
 ghost use Rattle.dh_laws.specs.Batches.{IsUnderWay, next_batch};
 ghost use Rattle.dh_laws.specs.StateTables.{AreInOrder};
-ghost use Rattle.dh_plans.specs.Plans.{AreNew, with_batch_rows};
+ghost use Rattle.dh_plans.specs.Plans.{AreNew, IsPlanOf, with_batch_rows};
 ghost use Rattle.dh_schema.specs.Faults.{IsFirstFault};
-ghost use Rattle.dh_schema.specs.Store.{IsReady, IsReadyWith, Leaves, StaysReady, tables};
+ghost use Rattle.dh_schema.specs.Store.{Commits, IsReady, IsReadyWith, Leaves, StaysReady, tables};
+ghost use Rattle.dh_tables.specs.Calls.{CommitsNothing};
 ghost use Rattle.dh_posting.specs.Batches.{batch_told};
 
-use dh_plans::BatchRows;
-use dh_types::Fault;
-use sqlite::{Alter, Connection};
+use crate::planning::plan_run;
+use crate::rows::put_rows;
+use dh_plans::{BatchRows, Plan};
+use dh_schema::fault_of;
+use dh_tables::{PartOf, find};
+use dh_types::{Fault, Part};
+use sqlite::{Alter, Connection, Error};
 use std::alloc::Global;
 
 /// What posting a batch comes to.
@@ -23,6 +30,86 @@ pub enum Batch {
     Posted { done: u128, of: u128 },
     /// No batch of the run was left.
     NoneLeft,
+}
+
+// Whether the part's branch has something of the run.
+fn has_part<S: Alter>(
+    alloc: Global,
+    conn: &mut Connection<S>,
+    part: &Part,
+) -> Result<bool, Fault>
+    requires { HasCleanDisk (state S.Store conn.old) → IsReady (state S.Store conn.old) }
+    ensures told { HasCleanDisk (state S.Store conn.new)
+        → IfOk result (λ it. it ≡ is_some (get (tables (state S.Store conn.new)).books.parts (part_key part.now))) }
+    ensures done { HasCleanDisk (state S.Store conn.new) → OnOk result (StaysReady (state S.Store conn.old) (state S.Store conn.new)) }
+    ensures undone { HasCleanDisk (state S.Store conn.new) → IsTrue (state S.Store conn.new).is_open
+        → OnErr result (StaysReady (state S.Store conn.old) (state S.Store conn.new)) }
+    ensures cause { IfErr result IsFirstFault }
+    ensures crash { CommitsNothing (state S.Store conn.old) (state S.Store conn.new) }
+{
+    let question = PartOf {
+        month: part.month,
+        branch: part.branch,
+    };
+    match find(alloc, conn, &question) {
+        Ok(found) => Ok(found.is_some()),
+        Err(error) => Err(fault_of(error)),
+    }
+}
+
+// Puts the rows of a batch into the tables and commits them.
+fn commit_rows<S: Alter>(
+    alloc: Global,
+    conn: &mut Connection<S>,
+    rows: &BatchRows,
+    has_part: bool,
+) -> Result<(), Error>
+    requires autocommit { (state S.Store conn.old).in_transaction ≡ false }
+    requires ready { HasCleanDisk (state S.Store conn.old) → IsReady (state S.Store conn.old) }
+    requires order { HasCleanDisk (state S.Store conn.old) → AreInOrder (with_batch_rows rows.now (tables (state S.Store conn.old))) }
+    requires new { HasCleanDisk (state S.Store conn.old) → AreNew rows.now.charges.items (tables (state S.Store conn.old)).books.charges }
+    requires known { HasCleanDisk (state S.Store conn.old)
+        → has_part ≡ is_some (get (tables (state S.Store conn.old)).books.parts (part_key rows.now.part)) }
+    ensures done { HasCleanDisk (state S.Store conn.new)
+        → OnOk result (IsReadyWith (state S.Store conn.new) (λ t. t ≡ with_batch_rows rows.now (tables (state S.Store conn.old)))) }
+    ensures undone { HasCleanDisk (state S.Store conn.new) → IsTrue (state S.Store conn.new).is_open
+        → OnErr result (StaysReady (state S.Store conn.old) (state S.Store conn.new)) }
+    ensures survives { Commits (state S.Store conn.old) (state S.Store conn.new) (λ t. t ≡ with_batch_rows rows.now (tables (state S.Store conn.old))) }
+{
+    let mut tx = conn.transaction();
+    put_rows(alloc, &mut tx, rows, has_part)?;
+    tx.commit()?;
+    Ok(())
+}
+
+// Posts the rows of a batch, of whose branch it is known whether it has something of the run.
+fn post_known<S: Alter>(
+    alloc: Global,
+    conn: &mut Connection<S>,
+    rows: &BatchRows,
+    has_part: bool,
+) -> Result<(), Fault>
+    requires ready { HasCleanDisk (state S.Store conn.old) → IsReady (state S.Store conn.old) }
+    requires order { HasCleanDisk (state S.Store conn.old) → AreInOrder (with_batch_rows rows.now (tables (state S.Store conn.old))) }
+    requires new { HasCleanDisk (state S.Store conn.old) → AreNew rows.now.charges.items (tables (state S.Store conn.old)).books.charges }
+    requires known { HasCleanDisk (state S.Store conn.old)
+        → has_part ≡ is_some (get (tables (state S.Store conn.old)).books.parts (part_key rows.now.part)) }
+    ensures done { HasCleanDisk (state S.Store conn.new)
+        → OnOk result (IsReadyWith (state S.Store conn.new) (λ t. t ≡ with_batch_rows rows.now (tables (state S.Store conn.old)))) }
+    ensures undone { HasCleanDisk (state S.Store conn.new) → IsTrue (state S.Store conn.new).is_open
+        → OnErr result (StaysReady (state S.Store conn.old) (state S.Store conn.new)) }
+    ensures cause { IfErr result IsFirstFault }
+    ensures crash { HasCleanDisk (state S.Store conn.new)
+        → Leaves (state S.Store conn.new) (λ t. (t ≡ tables (state S.Store conn.old)) ⊎ (t ≡ with_batch_rows rows.now (tables (state S.Store conn.old)))) }
+    ensures was_clean { doubt (state S.Store conn.old).is_clean ≤ doubt (state S.Store conn.new).is_clean }
+{
+    if !conn.is_autocommit() {
+        return Err(Fault::Store);
+    }
+    match commit_rows(alloc, conn, rows, has_part) {
+        Ok(()) => Ok(()),
+        Err(error) => Err(fault_of(error)),
+    }
 }
 
 /// Puts the rows of a batch into the tables, in one transaction: charges that are new, and the part row of their branch in the place
@@ -45,10 +132,39 @@ pub fn post_rows<S: Alter>(
         → Leaves (state S.Store conn.new) (λ t. (t ≡ tables (state S.Store conn.old)) ⊎ (t ≡ with_batch_rows rows.now (tables (state S.Store conn.old)))) }
     ensures was_clean { doubt (state S.Store conn.old).is_clean ≤ doubt (state S.Store conn.new).is_clean }
 {
-    let _alloc = alloc;
-    let _held = &*conn;
-    let _rows = &*rows;
-    Err(Fault::Store)
+    let has_part = has_part(alloc, conn, &rows.part)?;
+    post_known(alloc, conn, rows, has_part)
+}
+
+// Posts the first batch of the plan, if it has one. More batches than can be counted come only from a store that is not clean.
+fn post_first<S: Alter>(
+    alloc: Global,
+    conn: &mut Connection<S>,
+    plan: &Plan,
+) -> Result<Batch, Fault>
+    requires ready { HasCleanDisk (state S.Store conn.old) → IsReady (state S.Store conn.old) }
+    requires plan { HasCleanDisk (state S.Store conn.old) → IsPlanOf plan.now (tables (state S.Store conn.old)) }
+    ensures told { HasCleanDisk (state S.Store conn.new) → IfOk result (λ it. it ≡ batch_told (tables (state S.Store conn.old)).books (tables (state S.Store conn.old)).open_run) }
+    ensures done { HasCleanDisk (state S.Store conn.new)
+        → OnOk result (IsReadyWith (state S.Store conn.new) (λ t. t ≡ next_batch (tables (state S.Store conn.old)))) }
+    ensures undone { HasCleanDisk (state S.Store conn.new) → IsTrue (state S.Store conn.new).is_open
+        → OnErr result (StaysReady (state S.Store conn.old) (state S.Store conn.new)) }
+    ensures cause { IfErr result IsFirstFault }
+    ensures crash { HasCleanDisk (state S.Store conn.new)
+        → Leaves (state S.Store conn.new) (λ t. (t ≡ tables (state S.Store conn.old)) ⊎ (t ≡ next_batch (tables (state S.Store conn.old)))) }
+    ensures was_clean { doubt (state S.Store conn.old).is_clean ≤ doubt (state S.Store conn.new).is_clean }
+{
+    let Some(rows) = plan.batches.first() else {
+        return Ok(Batch::NoneLeft);
+    };
+    let Some(of) = plan.done.checked_add(plan.batches.len() as u128) else {
+        return Err(Fault::Store);
+    };
+    post_rows(alloc, conn, rows)?;
+    Ok(Batch::Posted {
+        done: plan.done + 1,
+        of,
+    })
 }
 
 /// Posts the next batch of the open run, in one transaction, where one is left; it has at most fifty charges.
@@ -65,7 +181,8 @@ pub fn post_batch<S: Alter>(alloc: Global, conn: &mut Connection<S>) -> Result<B
         → Leaves (state S.Store conn.new) (λ t. (t ≡ tables (state S.Store conn.old)) ⊎ (t ≡ next_batch (tables (state S.Store conn.old)))) }
     ensures was_clean { doubt (state S.Store conn.old).is_clean ≤ doubt (state S.Store conn.new).is_clean }
 {
-    let _alloc = alloc;
-    let _held = &*conn;
-    Err(Fault::Store)
+    match plan_run(alloc, conn)? {
+        Some(plan) => post_first(alloc, conn, &plan),
+        None => Err(Fault::Store),
+    }
 }

@@ -1,0 +1,20 @@
+use Rattle.std.proofs.Common.{arith}
+use Rattle.sqlite.specs.Held.{state}
+use Rattle.dh_plans.specs.Plans.{with_batch_rows}
+use Rattle.dh_schema.specs.Store.{tables}
+use Rattle.dh_store.proofs.Committing.{leaves_either}
+use Rattle.dh_posting.proofs.posting.post_known.Goals as goal
+
+pub returns-in-Ok-clause-crash : goal.returns-in-Ok-clause-crash
+returns-in-Ok-clause-crash g c clean =
+    let old = c.args.conn.now in
+    let survives = c.commit_rows.ensures.survives in
+    leaves_either (state g.S.Store old) (state g.S.Store c.commit_rows.new.conn) (with_batch_rows c.args.rows.now (tables (state g.S.Store old)))
+    (g.met.S.Store.settled old.store) (c.requires.ready (omega (arith, survives.clean, clean))) clean survives
+
+pub returns-in-Err-clause-crash : goal.returns-in-Err-clause-crash
+returns-in-Err-clause-crash g c clean =
+    let old = c.args.conn.now in
+    let survives = c.commit_rows.ensures.survives in
+    leaves_either (state g.S.Store old) (state g.S.Store c.commit_rows.new.conn) (with_batch_rows c.args.rows.now (tables (state g.S.Store old)))
+    (g.met.S.Store.settled old.store) (c.requires.ready (omega (arith, survives.clean, clean))) clean survives

@@ -1,0 +1,26 @@
+-- What a run comes to that is closed.
+use Rattle.std.specs.Prelude.{◌≡◌, ℕ, List, Some, length, true}
+use Rattle.std.specs.FinMap.{insert}
+use Rattle.dh_types.specs.declared.lease.Charge.{Charge}
+use Rattle.dh_types.specs.declared.run.Run.{Run}
+use Rattle.dh_types.specs.declared.run.RunSum.{RunSum}
+use Rattle.dh_model.specs.Books.{Books}
+use Rattle.dh_model.specs.Rules.{charges_in}
+use Rattle.dh_model.specs.Runs.{total_of}
+use Rattle.dh_model.specs.Whole.{open_row}
+
+-- how many the charges of a month are, and the sum of their amounts
+abbrev pub sum_over : ℕ → List Charge → RunSum
+sum_over month charges = record { month = month; count = length charges; total = total_of charges }
+
+-- it is that of the charges of the open run
+abbrev pub IsSumOfOpen : RunSum → Books → Type 0
+IsSumOfOpen sum books = (run : Run) × (open_row books ≡ Some run) × (sum ≡ sum_over run.month (charges_in books run.month))
+
+-- the run, closed with its sum
+abbrev pub with_sum : RunSum → Run → Run
+with_sum sum run = record run { count = sum.count; total = sum.total; is_closed = true }
+
+-- the books with this run in the place of the one of its month
+abbrev pub with_run : ℕ → Run → Books → Books
+with_run month run books = record books { runs = insert books.runs month run }

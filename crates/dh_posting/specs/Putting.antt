@@ -1,0 +1,34 @@
+-- What rows leave that were put into the tables.
+use Rattle.std.specs.Prelude.{◌≡◌, List, [], ◌∷◌, Result, OnOk}
+use Rattle.std.specs.FinMap.{insert}
+use Rattle.sqlite.specs.declared.error.Error.{Error}
+use Rattle.sqlite.specs.State.{HasCleanDisk, KeepsCommit, State}
+use Rattle.dh_types.specs.declared.lease.Charge.{Charge}
+use Rattle.dh_types.specs.declared.run.Part.{Part}
+use Rattle.dh_model.specs.Books.{Books, with_rows}
+use Rattle.dh_model.specs.Runs.{charge_key, part_key}
+use Rattle.dh_plans.specs.declared.planning.BatchRows.{BatchRows}
+use Rattle.dh_tables.specs.Calls.{CommitsNothing}
+use Rattle.dh_schema.specs.Store.{IsWriting, tables}
+
+-- At Ok the tables are in order and the books are what this makes of them, and the transaction goes on. Nothing is committed.
+pub record Puts (turned : Books → Books) (result : Result (Unit {0}) Error) (old new : State) : Type 0 where
+  pub put : HasCleanDisk new → OnOk result (IsWriting new × ((tables new).books ≡ turned (tables old).books))
+  pub kept : HasCleanDisk new → KeepsCommit old new
+  pub crash : CommitsNothing old new
+
+-- the books with this charge
+abbrev pub with_charge : Charge → Books → Books
+with_charge charge books = record books { charges = insert books.charges (charge_key charge) charge }
+
+-- with these charges
+abbrev pub with_charges : List Charge → Books → Books
+with_charges charges books = record books { charges = with_rows charge_key charges books.charges }
+
+-- with this part row in the place of what its branch had of the run
+abbrev pub with_part : Part → Books → Books
+with_part part books = record books { parts = with_rows part_key (part ∷ []) books.parts }
+
+-- with both of a batch
+abbrev pub with_rows_of : BatchRows → Books → Books
+with_rows_of rows books = with_part rows.part (with_charges rows.charges.items books)
