@@ -1,5 +1,5 @@
 -- What a command makes of the tables, from what its transactions make of them.
-use Rattle.std.proofs.Common.{◌≡◌, ◌⊎◌, inl, inr, true, None, Result, Ok, Err, OnErr}
+use Rattle.std.proofs.Common.{◌≡◌, ◌∙◌, ◌⊎◌, sym, inl, inr, true, None, Result, Ok, Err, OnErr}
 use Rattle.sqlite.specs.State.{State}
 use Rattle.sqlite_trees.specs.Tree.{Trees}
 use Rattle.dh_types.specs.declared.command.Command.{Command}
@@ -11,6 +11,7 @@ use Rattle.dh_types.specs.declared.reply.Refusal.{Refusal}
 use Rattle.dh_model.specs.Books as machine
 use Rattle.dh_model.specs.declared.rows.Change.{Change}
 use Rattle.dh_model.specs.declared.rows.Change.TheVariants as change
+use Rattle.dh_model.specs.declared.rows.Verdict.{Verdict}
 use Rattle.dh_model.specs.declared.rows.Verdict.TheVariants as verdict
 use Rattle.dh_model.specs.Machine.{accepted}
 use Rattle.dh_model.specs.Runs.{batch_size}
@@ -38,10 +39,10 @@ sound_in_order trees sound = record { keyed = books_are_keyed trees; rules = sou
 in_order : (s : State) → IsReady s → AreInOrder (store.tables s)
 in_order s ready = sound_in_order s.now.trees ready.sound
 
-pub refused : (told : Command) (why : Refusal) (old : State) (t : machine.State) → IsReady old
-    → verdict_on (store.tables old).books (store.tables old).open_run told ≡ verdict.Refused why → t ≡ store.tables old
+pub refused : (told : Command) (why : Refusal) (it : Verdict) (old : State) (t : machine.State) → IsReady old
+    → it ≡ verdict_on (store.tables old).books (store.tables old).open_run told → it ≡ verdict.Refused why → t ≡ store.tables old
     → IsSaid told (reply.Refused why) (store.tables old) t
-refused told why old t ready h is = refused_said (store.tables old) t told why (in_order old ready) h is
+refused told why it old t ready found h is = refused_said (store.tables old) t told why (in_order old ready) (sym found ∙ h) is
 
 -- ---- what a crash leaves
 

@@ -1,6 +1,6 @@
 pub mod Seat
 pub mod Agency
-pub mod Opening
+pub mod Taken
 pub mod Told
 pub use Rattle.dh_schema.specs.Store
 pub use Rattle.dh_laws.specs.Events

@@ -4,8 +4,10 @@
 mod agency;
 mod carrying;
 mod opening;
+mod taking;
 
 pub use agency::Agency;
 pub use dh_laws::{lives as laws, passing};
 pub use dh_runs::{Problem, RunState};
-pub use opening::{NotOpened, attach, create, recover};
+pub use opening::{NotOpened, create};
+pub use taking::{attach, recover};

@@ -1,15 +1,35 @@
-use Rattle.std.proofs.Common.{◌∙◌, sym, arith}
+use Rattle.std.proofs.Common.{IfOk, OnErr, subst, arith}
 use Rattle.sqlite.specs.State.{HasCleanDisk}
 use Rattle.sqlite.specs.Held.{state}
-use Rattle.dh_schema.specs.Store.{tables}
+use Rattle.dh_model.specs.Books.{State}
+use Rattle.dh_schema.specs.Store.{IsReadyWith, Leaves, tables}
+use Rattle.dh_runs.specs.Told.{IsCut, IsSaid}
 use Rattle.dh_agency.proofs.Carried.{refused, same_crash}
 use Rattle.dh_agency.proofs.carrying.carry_out.Goals as goal
+
+pub returns-in-Change-clause-said : goal.returns-in-Change-clause-said
+returns-in-Change-clause-said g c clean =
+    let between : HasCleanDisk (state g.S.Store c.ask.new.conn) = omega (arith, clean, c.accept-reply.ensures.was_clean) in
+    subst (λ (s : State). IfOk c.accept-reply.result (λ reply. IsSaid c.args.command.now reply s (tables (state g.S.Store c.accept-reply.new.conn))))
+    (c.in_ok-change.ensures.done between).1 (c.accept-reply.ensures.said clean)
+
+pub returns-in-Change-clause-crash : goal.returns-in-Change-clause-crash
+returns-in-Change-clause-crash g c clean =
+    let between : HasCleanDisk (state g.S.Store c.ask.new.conn) = omega (arith, clean, c.accept-reply.ensures.was_clean) in
+    subst (λ (s : State). Leaves (state g.S.Store c.accept-reply.new.conn) (IsCut c.args.command.now s))
+    (c.in_ok-change.ensures.done between).1 (c.accept-reply.ensures.crash clean)
+
+pub returns-in-Change-clause-halted : goal.returns-in-Change-clause-halted
+returns-in-Change-clause-halted g c clean is_open =
+    let between : HasCleanDisk (state g.S.Store c.ask.new.conn) = omega (arith, clean, c.accept-reply.ensures.was_clean) in
+    subst (λ (s : State). OnErr c.accept-reply.result (IsReadyWith (state g.S.Store c.accept-reply.new.conn) (IsCut c.args.command.now s)))
+    (c.in_ok-change.ensures.done between).1 (c.accept-reply.ensures.halted clean is_open)
 
 pub returns-in-Refused-clause-said : goal.returns-in-Refused-clause-said
 returns-in-Refused-clause-said g c clean =
     let was : HasCleanDisk (state g.S.Store c.args.conn.now) = omega (arith, clean, c.ask.ensures.was_clean) in
-    refused c.args.command.now c.in-Refused.refusal (state g.S.Store c.args.conn.now) (tables (state g.S.Store c.ask.new.conn)) (c.requires was)
-    (sym (c.in_ok-change.ensures.verdict clean) ∙ c.in-Refused.is) (c.in_ok-change.ensures.done clean).1
+    refused c.args.command.now c.in-Refused.refusal _ (state g.S.Store c.args.conn.now) (tables (state g.S.Store c.ask.new.conn)) (c.requires was)
+    (c.in_ok-change.ensures.verdict clean) c.in-Refused.is (c.in_ok-change.ensures.done clean).1
 
 pub returns-in-Refused-clause-crash : goal.returns-in-Refused-clause-crash
 returns-in-Refused-clause-crash g c clean =

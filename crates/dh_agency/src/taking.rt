@@ -1,0 +1,64 @@
+//! Taking the tables that there are.
+
+ghost use Rattle.std.specs.Prelude.{◌≡◌, false, IsTrue, IfOk, IfErr};
+ghost use Rattle.sqlite.specs.State.{HasCleanDisk};
+ghost use Rattle.sqlite.specs.Held.{state};
+ghost use Rattle.dh_schema.specs.Store.{tables};
+ghost use Rattle.dh_schema.specs.Tables.{IsSound};
+ghost use Rattle.dh_runs.specs.Taking.{IsFirstProblem, IsProblemOf, IsResting};
+ghost use Rattle.dh_agency.specs.Agency.{IsClean, LeavesItsTables, machine, shown_by};
+ghost use Rattle.dh_agency.specs.Taken.{TakesAsTheyAre, TakesForward};
+ghost use Rattle.dh_agency.specs.Told.{IsMended, IsTorn};
+
+use crate::{Agency, NotOpened};
+use dh_runs::{Problem, check, recover_in};
+use sqlite::{Alter, Connection};
+use std::alloc::Global;
+
+/// Takes the tables as they are, with the run that they show as open, and changes nothing. Refusal 16 comes exactly where `meta`
+/// gives another version, and refusal 17 exactly where the tables are not sound, with 0 where a column does not hold a value of its
+/// kind or `meta` gives no version, or the least rule of the audit that is broken. Fault 21 comes where memory runs out, and
+/// fault 22 where the store fails or the tables are not ours.
+pub fn attach<S: Alter>(
+    alloc: Global,
+    conn: Connection<S>,
+) -> Result<Agency<S>, NotOpened<Problem, S>>
+    requires { HasCleanDisk (state S.Store conn) → IsResting (state S.Store conn) }
+    ensures taken { IfOk result (λ a. (a.is_stopped ≡ false) × (IsClean S.Store a → machine S.Store a ≡ tables (state S.Store conn))) }
+    ensures left { IfOk result (λ a. IsClean S.Store a → LeavesItsTables S.Store a) }
+    ensures refused { IfErr result (λ e. HasCleanDisk (state S.Store e.conn) → IsProblemOf (state S.Store conn).now.trees e.cause) }
+    ensures cause { IfErr result (λ e. IsFirstProblem e.cause) }
+    ensures kept { IfOk result (λ a. TakesAsTheyAre (state S.Store conn) (shown_by S.Store a)) }
+    ensures crash { IfErr result (λ e. TakesAsTheyAre (state S.Store conn) (state S.Store e.conn)) }
+{
+    let mut conn = conn;
+    match check(alloc, &mut conn) {
+        Ok(()) => Ok(Agency::over(conn)),
+        Err(cause) => Err(NotOpened { cause, conn }),
+    }
+}
+
+/// Takes the tables and makes the run that they show as open to its end. The refusals and faults are those of [`attach`], and at a
+/// refusal the tables stay as they are. At a fault, and wherever a crash cuts it, sound tables are sound with the same whole books,
+/// and the open run is moved on.
+pub fn recover<S: Alter>(
+    alloc: Global,
+    conn: Connection<S>,
+) -> Result<Agency<S>, NotOpened<Problem, S>>
+    requires { HasCleanDisk (state S.Store conn) → IsResting (state S.Store conn) }
+    ensures mended { IfOk result (λ a. (a.is_stopped ≡ false) × (IsClean S.Store a → IsMended (tables (state S.Store conn)) (machine S.Store a))) }
+    ensures left { IfOk result (λ a. IsClean S.Store a → LeavesItsTables S.Store a) }
+    ensures refused { IfErr result (λ e. HasCleanDisk (state S.Store e.conn) → IsProblemOf (state S.Store conn).now.trees e.cause) }
+    ensures cause { IfErr result (λ e. IsFirstProblem e.cause) }
+    ensures made { IfOk result (λ a. TakesForward (state S.Store conn) (shown_by S.Store a)) }
+    ensures crash { IfErr result (λ e. TakesForward (state S.Store conn) (state S.Store e.conn)) }
+    ensures halted { IfErr result (λ e. HasCleanDisk (state S.Store e.conn) → IsTrue (state S.Store e.conn).is_open
+        → IsSound (state S.Store conn).now.trees
+        → IsResting (state S.Store e.conn) × IsSound (state S.Store e.conn).now.trees × IsTorn (tables (state S.Store conn)) (tables (state S.Store e.conn))) }
+{
+    let mut conn = conn;
+    match recover_in(alloc, &mut conn) {
+        Ok(()) => Ok(Agency::over(conn)),
+        Err(cause) => Err(NotOpened { cause, conn }),
+    }
+}
