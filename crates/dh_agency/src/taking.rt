@@ -3,7 +3,8 @@
 ghost use Rattle.std.specs.Prelude.{◌≡◌, false, IsTrue, IfOk, IfErr};
 ghost use Rattle.sqlite.specs.State.{HasCleanDisk};
 ghost use Rattle.sqlite.specs.Held.{state};
-ghost use Rattle.dh_schema.specs.Store.{tables};
+ghost use Rattle.dh_tables.specs.Calls.{HasOurTables};
+ghost use Rattle.dh_schema.specs.Store.{IsReadyWith, tables};
 ghost use Rattle.dh_schema.specs.Tables.{IsSound};
 ghost use Rattle.dh_runs.specs.Taking.{IsFirstProblem, IsProblemOf, IsResting};
 ghost use Rattle.dh_agency.specs.Agency.{IsClean, LeavesItsTables, machine, shown_by};
@@ -53,8 +54,8 @@ pub fn recover<S: Alter>(
     ensures made { IfOk result (λ a. TakesForward (state S.Store conn) (shown_by S.Store a)) }
     ensures crash { IfErr result (λ e. TakesForward (state S.Store conn) (state S.Store e.conn)) }
     ensures halted { IfErr result (λ e. HasCleanDisk (state S.Store e.conn) → IsTrue (state S.Store e.conn).is_open
-        → IsSound (state S.Store conn).now.trees
-        → IsResting (state S.Store e.conn) × IsSound (state S.Store e.conn).now.trees × IsTorn (tables (state S.Store conn)) (tables (state S.Store e.conn))) }
+        → HasOurTables (state S.Store conn) → IsSound (state S.Store conn).now.trees
+        → IsReadyWith (state S.Store e.conn) (IsTorn (tables (state S.Store conn)))) }
 {
     let mut conn = conn;
     match recover_in(alloc, &mut conn) {

@@ -1,5 +1,6 @@
 -- What a record makes of an agency's tables, in the words of a batch.
-use Rattle.std.proofs.Common.{◌≡◌, ◌∙◌, ◌⊎◌, inl, inr, refl, sym, ap, subst, Bool, true, false, Option, Some, None, Result, Ok, Err, ℕ, List, [], ◌∷◌, ◌++◌, arith}
+use Rattle.std.proofs.Common.{◌≡◌, ◌∙◌, ◌⊎◌, inl, inr, refl, sym, ap, subst, Bool, true, false, Option, Some, None, Result, Ok, Err}
+use Rattle.std.proofs.Common.{ℕ, List, [], ◌∷◌, ◌++◌, arith}
 use Rattle.sqlite.specs.Store.{Ghosts}
 use Rattle.dh_types.specs.declared.command.Command as told
 use Rattle.dh_types.specs.declared.question.Question.{Question}
@@ -50,7 +51,8 @@ report_stands passes refuses s question in_order = by s.open_run refl
         (refuses s question at.month).1 (at, is, refl, off) ∙ sym ((refuses (place s) question at.month).1 (at, is, refl, off))
     put_off at is false free =
         let here : IsInOrder batch_size s.books (Some at) = subst (λ run. IsInOrder batch_size s.books run) is in_order in
-        subst (λ run. report (record { books = s.books; open_run = run }) question ≡ report (record { books = whole batch_size s.books; open_run = run }) question)
+        subst (λ run. report (record { books = s.books; open_run = run }) question
+        ≡ report (record { books = whole batch_size s.books; open_run = run }) question)
         (sym is)
         (passes s.books at (Some at) question (omega arith) here free)
 

@@ -13,18 +13,18 @@ returns-in-Ok-clause-said g c clean =
     let after = store.tables (state g.S.Store c.post_some.new.conn) in
     subst (λ (a : Seat g.row.S.Denot). IsSaid (command.Post c.args.most) (reply_of c.in-Ok.state) (machine g.S.Store a) after) c.self.view_is
     (subst (λ (most : ℕ). IsSaid (command.Post most) (reply_of c.in-Ok.state) (store.tables (state g.S.Store c.self.inside.conn)) after) c.from.ensures
-        (c.in-Ok.ensures.said clean))
+    (c.in-Ok.ensures.said clean))
 
 pub returns-in-Ok-clause-crash : goal.returns-in-Ok-clause-crash
 returns-in-Ok-clause-crash g c clean was =
     let new = state g.S.Store c.post_some.new.conn in
     subst (λ (a : Seat g.row.S.Denot). store.Leaves new (IsPostedInPart c.args.most (machine g.S.Store a))) c.self.view_is
     (subst (λ (most : ℕ). store.Leaves new (IsPostedInPart most (store.tables (state g.S.Store c.self.inside.conn)))) c.from.ensures
-        (c.post_some.ensures.crash clean))
+    (c.post_some.ensures.crash clean))
 
 pub returns-in-Err-clause-crash : goal.returns-in-Err-clause-crash
 returns-in-Err-clause-crash g c clean was =
     let new = state g.S.Store c.post_some.new.conn in
     subst (λ (a : Seat g.row.S.Denot). store.Leaves new (IsPostedInPart c.args.most (machine g.S.Store a))) c.self.view_is
     (subst (λ (most : ℕ). store.Leaves new (IsPostedInPart most (store.tables (state g.S.Store c.self.inside.conn)))) c.from.ensures
-        (c.post_some.ensures.crash clean))
+    (c.post_some.ensures.crash clean))
