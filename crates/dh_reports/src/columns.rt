@@ -1,13 +1,77 @@
 //! The columns of a line.
 
-ghost use Rattle.std.specs.Prelude.{◌≡◌, ◌-◌, ◌≤◌, length, replicate};
+ghost use Rattle.std.specs.Prelude.{◌≡◌, ◌-◌, ◌≤◌, length, map, replicate};
+ghost use Rattle.dh_types.specs.Output.{Puts};
+ghost use Rattle.dh_reports.specs.Columns.{column_text, left, line, right};
+
+use dh_types::Output;
+use dh_types::writing::{put, put_parts};
+use std::io::Write;
 
 const SPACES: [u8; 16] = [b' '; 16];
 
-/// The spaces that fill a column of `width` bytes beside the text; none beside a longer text.
-pub fn padding(width: usize, text: &[u8]) -> &[u8]
+/// A text, and the spaces that fill its column before or behind it.
+#[derive(Clone, Copy)]
+pub struct Column<'a> {
+    before: &'a [u8],
+    text: &'a [u8],
+    behind: &'a [u8],
+}
+
+// The spaces that fill a column of `width` bytes beside the text; none beside a longer text.
+fn padding(width: usize, text: &str) -> &'static [u8]
     requires { width ≤ 16 }
     ensures { result.now ≡ replicate (width - length text.now) 32 }
 {
     &SPACES[..width.saturating_sub(text.len())]
+}
+
+/// The text in a column of its own length.
+pub fn plain(text: &str) -> Column<'_>
+    ensures { column_text result ≡ text.now }
+{
+    Column {
+        before: b"",
+        text: text.as_bytes(),
+        behind: b"",
+    }
+}
+
+/// The text at the left of a column of `width` bytes; a longer one is not cut.
+pub fn left(width: usize, text: &str) -> Column<'_>
+    requires { width ≤ 16 }
+    ensures { column_text result ≡ left width text.now }
+{
+    Column {
+        before: b"",
+        text: text.as_bytes(),
+        behind: padding(width, text),
+    }
+}
+
+/// The text at the right of a column of `width` bytes; a longer one is not cut.
+pub fn right(width: usize, text: &str) -> Column<'_>
+    requires { width ≤ 16 }
+    ensures { column_text result ≡ right width text.now }
+{
+    Column {
+        before: padding(width, text),
+        text: text.as_bytes(),
+        behind: b"",
+    }
+}
+
+/// Writes the columns, parted by spaces, and the end of the line; at an `Output` a beginning of the line was written.
+pub fn put_line<W: Write>(writer: &mut W, columns: &[Column<'_>]) -> Result<(), Output>
+    ensures { Puts (W.contents writer.old) (W.contents writer.new) result (line (map column_text columns.now)) }
+{
+    let mut parting: &[u8] = b"";
+    for column in columns {
+        put_parts(
+            writer,
+            &[parting, column.before, column.text, column.behind],
+        )?;
+        parting = b" ";
+    }
+    put(writer, b"\n")
 }

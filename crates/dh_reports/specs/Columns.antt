@@ -1,0 +1,20 @@
+-- The columns of a line.
+use Rattle.std.specs.Prelude.{ℕ, ◌-◌, List, [], ◌∷◌, ◌++◌, length, replicate}
+use Rattle.std.specs.List.{join_with_byte}
+use Rattle.dh_reports.specs.declared.columns.Column.{Column}
+
+-- left-aligned in so many columns; what is longer is not cut
+abbrev pub left : ℕ → List ℕ → List ℕ
+left width text = text ++ replicate (width - length text) 32
+
+-- right-aligned; what is longer is not cut
+abbrev pub right : ℕ → List ℕ → List ℕ
+right width text = replicate (width - length text) 32 ++ text
+
+-- columns parted by one space, and the end of the line
+abbrev pub line : List (List ℕ) → List ℕ
+line columns = join_with_byte 32 columns ++ 10 ∷ []
+
+-- what a column of the program is written as
+abbrev pub column_text : Column → List ℕ
+column_text column = column.before.now ++ column.text.now ++ column.behind.now

@@ -1,0 +1,19 @@
+//! The line of a branch.
+
+ghost use Rattle.dh_reports.specs.ReportTexts.{branch_line};
+
+use crate::columns::{left, plain, put_line};
+use crate::listing::Line;
+use dh_types::{Branch, Output};
+use std::io::Write;
+
+impl Line for Branch {
+    ghost line = { branch_line };
+
+    fn put<W: Write>(&self, writer: &mut W) -> Result<(), Output> {
+        put_line(
+            writer,
+            &[left(8, self.number.as_str()), plain(self.city.as_str())],
+        )
+    }
+}

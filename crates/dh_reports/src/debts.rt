@@ -1,0 +1,41 @@
+//! The arrears of a branch.
+
+ghost use Rattle.std.specs.Prelude.{◌≡◌};
+ghost use Rattle.dh_types.specs.Output.{Puts};
+ghost use Rattle.dh_reports.specs.ReportTexts.{arrears_text, debt_line, name_text};
+
+use crate::columns::{left, plain, put_line, right};
+use crate::figures::money_text;
+use crate::listing::{Line, put_each};
+use crate::sums::put_sum;
+use dh_types::{Arrears, Debt, Output};
+use itoa::Buffer;
+use std::io::Write;
+
+impl Line for Debt {
+    ghost line = { debt_line };
+
+    fn put<W: Write>(&self, writer: &mut W) -> Result<(), Output> {
+        let name = match &self.name {
+            Some(name) => name.as_str(),
+            None => "",
+        };
+        put_line(
+            writer,
+            &[
+                right(8, Buffer::new().format(self.lease.number())),
+                left(8, self.client.as_str()),
+                right(12, money_text(self.balance).as_str()),
+                plain(name),
+            ],
+        )
+    }
+}
+
+/// Writes the debts and their sum; at an `Output` a beginning of their lines was written.
+pub fn put_arrears<W: Write>(arrears: &Arrears, writer: &mut W) -> Result<(), Output>
+    ensures { Puts (W.contents writer.old) (W.contents writer.new) result (arrears_text arrears.now.debts.items arrears.now.total) }
+{
+    put_each(&arrears.debts, writer)?;
+    put_sum(writer, "total", 8, arrears.total)
+}

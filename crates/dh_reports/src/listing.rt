@@ -1,0 +1,28 @@
+//! Records that stand one a line.
+
+ghost use Rattle.std.specs.List.{flat_map};
+ghost use Rattle.dh_types.specs.Output.{Puts};
+
+use dh_types::Output;
+use std::io::Write;
+
+/// A record that has a line in a report.
+pub trait Line {
+    ghost use Rattle.std.specs.Prelude.{ℕ, List};
+
+    ghost line: { Self → List ℕ };
+
+    /// Writes the line; at an `Output` a beginning of it was written.
+    fn put<W: Write>(&self, writer: &mut W) -> Result<(), Output>
+        ensures { Puts (W.contents writer.old) (W.contents writer.new) result (line self.now) };
+}
+
+/// Writes the line of each record; at an `Output` a beginning of them was written.
+pub fn put_each<L: Line, W: Write>(records: &[L], writer: &mut W) -> Result<(), Output>
+    ensures { Puts (W.contents writer.old) (W.contents writer.new) result (flat_map L.line records.now) }
+{
+    for record in records {
+        record.put(writer)?;
+    }
+    Ok(())
+}

@@ -1,0 +1,30 @@
+//! The last line of a report that ends in a sum of money.
+
+ghost use Rattle.std.specs.Prelude.{◌≤◌};
+ghost use Rattle.dh_types.specs.Output.{Puts};
+ghost use Rattle.dh_reports.specs.ReportTexts.{sum_line};
+
+use crate::columns::{left, put_line, right};
+use crate::figures::money_text;
+use dh_types::{Balance, Output};
+use std::io::Write;
+
+/// Writes the word, so many spaces and the money; at an `Output` a beginning of the line was written.
+pub fn put_sum<W: Write>(
+    writer: &mut W,
+    word: &str,
+    width: usize,
+    money: Balance,
+) -> Result<(), Output>
+    requires { width ≤ 16 }
+    ensures { Puts (W.contents writer.old) (W.contents writer.new) result (sum_line word.now width money) }
+{
+    put_line(
+        writer,
+        &[
+            left(8, word),
+            left(width, ""),
+            right(12, money_text(money).as_str()),
+        ],
+    )
+}
