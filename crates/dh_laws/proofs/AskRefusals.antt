@@ -234,7 +234,8 @@ module _ (month : ℕ) where
     receipt_unlike order =
         let made : Receipt = record { number = len books.receipts + 1; key = order.key; payment = order.payment } in
         paid_unlike order (receipt_of_key books order.key) _
-        (run_unlike (run_of_key books order.key) _ (judged_unlike (receipt_checks books (len books.receipts) order) (change.Receipt made) (receipt_other order)))
+        (run_unlike (run_of_key books order.key) _
+        (judged_unlike (receipt_checks books (len books.receipts) order) (change.Receipt made) (receipt_other order)))
 
     run_order_unlike : (order : RunOrder) → Unlike (run_verdict books order)
     run_order_unlike order =

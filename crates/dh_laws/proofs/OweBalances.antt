@@ -137,7 +137,8 @@ module _ (size : ℕ) (s : State) (lease : ℕ) (keyed : AreKeyed s.books) (lawf
       on_open size s lease (command.Lease it) s.open_run (lease_verdict s.books it)
       (on_row size s lease (command.Lease it) (λ other. is_same_lease_terms it other.terms) (get s.books.leases it.number) (lease_checks s.books it)
       (change.Lease (signed s.books it (get s.books.properties it.property))) (own size s lease))
-  moves (command.Receipt order) = on_open size s lease (command.Receipt order) s.open_run (receipt_verdict s.books (len s.books.receipts) order) (on_receipt order)
+  moves (command.Receipt order) =
+      on_open size s lease (command.Receipt order) s.open_run (receipt_verdict s.books (len s.books.receipts) order) (on_receipt order)
   moves (command.Run order) =
       on_open size s lease (command.Run order) s.open_run (run_verdict s.books order) (on_run (command.Run order) order (ran_moves order))
   moves (command.Open order) =

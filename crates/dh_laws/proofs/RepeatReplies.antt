@@ -35,13 +35,15 @@ use Rattle.dh_laws.proofs.FindKeys.{no_receipt, no_run, one_receipt, one_run}
 module _ (books : Books) (keys : KeysInOrder books) where
   module _ (order : ReceiptOrder) where
     abbrev told_new : Verdict
-    told_new = judged (receipt_checks books (len books.receipts) order) (change.Receipt (record { number = len books.receipts + 1; key = order.key; payment = order.payment }))
+    told_new = judged (receipt_checks books (len books.receipts) order)
+    (change.Receipt (record { number = len books.receipts + 1; key = order.key; payment = order.payment }))
 
     abbrev told_of : Option Receipt → Option Run → Verdict
     told_of receipt run = unless_paid books order receipt (unless_run books run told_new)
 
     paid_by : (b : Bool) (receipt : Receipt) → is_same_payment order.payment receipt.payment ≡ b → IsReceiptOf books order.key receipt
-        → receipt_verdict books (len books.receipts) order ≡ (if b then verdict.Already (reply.AlreadyReceipt receipt.number) else verdict.Refused refusal.KeyUsed)
+        → receipt_verdict books (len books.receipts) order
+        ≡ (if b then verdict.Already (reply.AlreadyReceipt receipt.number) else verdict.Refused refusal.KeyUsed)
     paid_by b receipt same is =
         ap (λ found. told_of found (run_of_key books order.key)) ((one_receipt books order.key keys receipt).1 is)
         ∙ ap (λ c. if c then verdict.Already (reply.AlreadyReceipt receipt.number) else verdict.Refused refusal.KeyUsed) same

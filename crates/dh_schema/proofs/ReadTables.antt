@@ -87,7 +87,8 @@ each_of P all Parts = all.1.1.1.1.1.1.1.1.1.1.1.1.0
 
 -- ---- one table after the other
 
-books_then : (ks ls : List Kind) (trees : Trees) (books : machine.State) → with_records (ks ++ ls) trees books ≡ with_records ls trees (with_records ks trees books)
+books_then : (ks ls : List Kind) (trees : Trees) (books : machine.State)
+    → with_records (ks ++ ls) trees books ≡ with_records ls trees (with_records ks trees books)
 books_then [] ls trees books = refl
 books_then (kind ∷ ks) ls trees books = books_then ks ls trees (with_records (kind ∷ []) trees books)
 

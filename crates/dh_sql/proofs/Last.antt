@@ -1,5 +1,6 @@
 -- What SELECT .. ORDER BY key DESC LIMIT 1 shows of a table whose keys are numbers.
-use Rattle.std.proofs.Common.{get_or, subst₂, suc, ◌+◌, flat_map, ◌≡◌, ◌∙◌, ◌≤◌, ◌⊎◌, inl, inr, refl, sym, ap, subst, ℕ, pos, Bool, true, false, List, [], ◌∷◌, map, Result, Ok, Err, IfOk, IsPermutation, is_lt, nat_cmp, arith}
+use Rattle.std.proofs.Common.{get_or, subst₂, suc, ◌+◌, flat_map, ◌≡◌, ◌∙◌, ◌≤◌, ◌⊎◌, inl, inr, refl, sym, ap, subst, ℕ, pos, Bool, true, false, List}
+use Rattle.std.proofs.Common.{[], ◌∷◌, map, Result, Ok, Err, IfOk, IsPermutation, is_lt, nat_cmp, arith}
 use Rattle.std.specs.Prelude.{IsSorted, Vec}
 use Rattle.std.specs.declared.alloc.Global.{Global}
 use Rattle.std.specs.declared.cmp.Ordering.{Ordering}
@@ -132,4 +133,5 @@ module _ {X : Type 0} (it : Shape ℕ X) where
     greatest_shown (Err e) h = tt
     greatest_shown (Ok rows) h =
         let got = reads_as text [] old new schema has _ is.command is.plain is.unlisted rows.items h in
-        top_shown project key columns keyed (old.now.trees it.tree) stored Null (overlay old.now.trees []) rows.items (is.stored old.now.trees) (got.answer Null)
+        top_shown project key columns keyed (old.now.trees it.tree) stored Null (overlay old.now.trees [])
+        rows.items (is.stored old.now.trees) (got.answer Null)

@@ -1,5 +1,6 @@
 -- The row of the greatest number, as the last receipt.
-use Rattle.std.proofs.Common.{◌≡◌, ◌∙◌, ◌≤◌, pos, inl, inr, refl, sym, ap, subst, ℕ, List, [], ◌∷◌, codes, map, cond, Bool, true, false, Option, Some, None, Result, Ok, Err, IfOk, is_eq, nat_cmp, arith}
+use Rattle.std.proofs.Common.{◌≡◌, ◌∙◌, ◌≤◌, pos, inl, inr, refl, sym, ap, subst, ℕ, List, [], ◌∷◌, codes, map, cond, Bool, true, false}
+use Rattle.std.proofs.Common.{Option, Some, None, Result, Ok, Err, IfOk, is_eq, nat_cmp, arith}
 use Rattle.std.specs.List.{AllByRecursion, IsDistinct}
 use Rattle.std.specs.Ordering.{eq_by_cmp}
 use Rattle.std.specs.FinMap.{FinMap, empty, find, get, get-empty, get-from_entries, from_entries}
@@ -73,7 +74,8 @@ pub last_of : (trees : Trees) → IsKept receipt_shape nat_cmp trees → (rows :
 last_of trees kept [] none None is = λ n.
     ap (λ all. get (from_entries {R = nat_cmp} (map (entry_in receipt_shape) all)) n) none ∙ get-from_entries nat_total [] n
 last_of trees kept [] none (Some x) is =
-    absurd (nothing x (sym (get-from_entries nat_total [] x.number) ∙ ap (λ (m : FinMap nat_cmp Receipt). get m x.number) is ∙ get_new nat_total nat_ties empty x.number x))
+    absurd (nothing x (sym (get-from_entries nat_total [] x.number) ∙ ap (λ (m : FinMap nat_cmp Receipt). get m x.number) is
+    ∙ get_new nat_total nat_ties empty x.number x))
 last_of trees kept (row ∷ []) top None is =
     let r = receipt_shape.row_in row in
     let here : get (rows_of receipt_shape {R = nat_cmp} (row ∷ [])) r.number ≡ Some r =
@@ -90,7 +92,8 @@ last_of trees kept (row ∷ []) top (Some x) is =
     get-from_entries nat_total (map (entry_in receipt_shape) all) (number top.0) ∙ found_row all top.0 kept.keys top.1 in (
       subst (λ (y : Receipt). get (rows_in receipt_shape {R = nat_cmp} trees) y.number ≡ Some y) its there,
       λ n y at.
-          let among = found_entry nat_total nat_ties (map (entry_in receipt_shape) all) n y (sym (get-from_entries nat_total (map (entry_in receipt_shape) all) n) ∙ at) in
+          let among = found_entry nat_total nat_ties (map (entry_in receipt_shape) all) n y
+          (sym (get-from_entries nat_total (map (entry_in receipt_shape) all) n) ∙ at) in
           let of = in_map (entry_in receipt_shape) all (n, y) among in
           let low = has_all (λ r. number r ≤ number top.0) all of.0 top.3 (has_among all of.0 of.1) in
           let from : n ≡ number of.0 = ap (λ (e : ℕ × Receipt). e.0) of.2 in

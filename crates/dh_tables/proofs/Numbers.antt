@@ -1,5 +1,6 @@
 -- Whole numbers that were read from rows.
-use Rattle.std.proofs.Common.{◌≡◌, ◌∙◌, refl, sym, ap, subst, ℤ, pos, ◌<ℤ◌, ◌<◌, ◌+◌, ℕ, Bool, true, false, cond, List, [], ◌∷◌, ◌++◌, map, map-id, length, get_or, IsPermutation, Less, Equal, Greater}
+use Rattle.std.proofs.Common.{◌≡◌, ◌∙◌, refl, sym, ap, subst, ℤ, pos, ◌<ℤ◌, ◌<◌, ◌+◌, ℕ, Bool, true, false, cond, List, []}
+use Rattle.std.proofs.Common.{◌∷◌, ◌++◌, map, map-id, length, get_or, IsPermutation, Less, Equal, Greater}
 use Rattle.std.specs.Prelude.{T, int_lt}
 use Rattle.std.specs.Ordering.{eq_by_cmp, int_cmp}
 use Rattle.std.specs.List.{AllByRecursion, IsDistinct}
@@ -47,5 +48,6 @@ is_so false h = absurd h
 below : (x y : ℤ) → x <ℤ y → int_cmp x y ≡ Less
 below x y h = ap (λ b. cond b Less (cond (int_lt y x) Greater Equal)) (is_so (int_lt x y) h.lt)
 
-pub rises : (numbers : List ℤ) → ((k : ℕ) → k + 1 < length numbers → get_or numbers k (pos 0) <ℤ get_or numbers (k + 1) (pos 0)) → IsStrictlySortedBy int_cmp numbers
+pub rises : (numbers : List ℤ) → ((k : ℕ) → k + 1 < length numbers → get_or numbers k (pos 0) <ℤ get_or numbers (k + 1) (pos 0))
+    → IsStrictlySortedBy int_cmp numbers
 rises numbers h = sorted_from_all_adjacent int_cmp_total numbers (pos 0) (λ k low. below (get_or numbers k (pos 0)) (get_or numbers (k + 1) (pos 0)) (h k low))

@@ -25,9 +25,11 @@ module _ {K X : Type 0} (it : Shape K X) (is_row : Row → Bool) (same : (r : Ro
     (rows : List Row) (perm : IsPermutation (map it.columns (trees it.tree)) rows) where
   pub no_record : (AllByRecursion (λ row. is_row row ≡ true) rows → ⊥) → AllByRecursion (IsStored it) (trees it.tree) → ⊥
   no_record damaged stored =
-      damaged (all_weaker (λ row. it.is_row row ≡ true) (λ row. is_row row ≡ true) (λ row good. sym (same row) ∙ good) rows (all_good it trees rows perm stored))
+      damaged (all_weaker (λ row. it.is_row row ≡ true) (λ row. is_row row ≡ true) (λ row good. sym (same row) ∙ good)
+      rows (all_good it trees rows perm stored))
 
-  module _ {R : K → K → Ordering} (o : IsTotalOrder R) (anti : IsAntisymmetric R) (shelf : Shelf K X R) (old new : machine.State) (none : shelf.held old ≡ empty)
+  module _ {R : K → K → Ordering} (o : IsTotalOrder R) (anti : IsAntisymmetric R) (shelf : Shelf K X R) (old new : machine.State)
+        (none : shelf.held old ≡ empty)
       (put : new ≡ shelf.with old (put_rows it rows (shelf.held old))) where
     all_held : new ≡ shelf.with old (put_rows it rows empty)
     all_held = put ∙ ap (λ m. shelf.with old (put_rows it rows m)) none

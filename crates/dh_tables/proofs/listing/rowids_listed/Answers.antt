@@ -18,7 +18,8 @@ returns-clause-rows g c clean =
     let how = g.R.Listed.listing in
     let law = g.met.R.Listed.is_listing in
     let told = subst (λ (t : List ℕ). IfOk c.query_all.result (λ rows. Shown t [] old new rows.items)) c.rowid_text.ensures (c.query_all.ensures.ok clean) in
-    shows_all how.rowid_text our_schema it.tree (col 1 0 ∷ []) (how.rowid_name ∷ []) law.selects_rowid rowid_alone (λ r. refl) old new (c.requires.reading early) c.query_all.result told
+    shows_all how.rowid_text our_schema it.tree (col 1 0 ∷ []) (how.rowid_name ∷ []) law.selects_rowid rowid_alone (λ r. refl)
+    old new (c.requires.reading early) c.query_all.result told
 
 pub returns-clause-same : goal.returns-clause-same
 returns-clause-same g c clean =
@@ -28,7 +29,8 @@ returns-clause-same g c clean =
     let how = g.R.Listed.listing in
     let law = g.met.R.Listed.is_listing in
     let told = subst (λ (t : List ℕ). IfOk c.query_all.result (λ rows. Shown t [] old new rows.items)) c.rowid_text.ensures (c.query_all.ensures.ok clean) in
-    same_ok how.rowid_text our_schema g.R.Tabled.shape.tree [] (col 1 0 ∷ []) [] (how.rowid_name ∷ []) [] law.selects_rowid c.query_all.result old new (c.requires.reading early) told
+    same_ok how.rowid_text our_schema g.R.Tabled.shape.tree [] (col 1 0 ∷ []) [] (how.rowid_name ∷ []) []
+    law.selects_rowid c.query_all.result old new (c.requires.reading early) told
 
 pub returns-clause-undone : goal.returns-clause-undone
 returns-clause-undone g c clean =
@@ -39,7 +41,8 @@ returns-clause-undone g c clean =
     let law = g.met.R.Listed.is_listing in
     let told = subst (λ (t : List ℕ). IfErr c.query_all.result (FailsToQuery t [] old new)) c.rowid_text.ensures (c.query_all.ensures.err clean) in
     undone_from c.query_all.result old new
-    (undone_err how.rowid_text our_schema g.R.Tabled.shape.tree [] (col 1 0 ∷ []) [] (how.rowid_name ∷ []) [] law.selects_rowid c.query_all.result old new (c.requires.reading early) told)
+    (undone_err how.rowid_text our_schema g.R.Tabled.shape.tree [] (col 1 0 ∷ []) [] (how.rowid_name ∷ []) []
+    law.selects_rowid c.query_all.result old new (c.requires.reading early) told)
 
 pub returns-clause-crash : goal.returns-clause-crash
 returns-clause-crash g c =
@@ -48,4 +51,5 @@ returns-clause-crash g c =
     let how = g.R.Listed.listing in
     let law = g.met.R.Listed.is_listing in
     let told = subst (λ (t : List ℕ). Survives old new (CommitsShowing t [] old)) c.rowid_text.ensures c.query_all.ensures.survives in
-    commits_nothing how.rowid_text our_schema g.R.Tabled.shape.tree [] (col 1 0 ∷ []) [] (how.rowid_name ∷ []) [] law.selects_rowid old new c.requires.reading told
+    commits_nothing how.rowid_text our_schema g.R.Tabled.shape.tree [] (col 1 0 ∷ []) [] (how.rowid_name ∷ []) []
+    law.selects_rowid old new c.requires.reading told

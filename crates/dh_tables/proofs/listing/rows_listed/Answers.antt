@@ -16,7 +16,8 @@ returns-clause-rows g c clean =
     let how = g.R.Listed.listing in
     let law = g.met.R.Listed.is_listing in
     let told = subst (λ (t : List ℕ). IfOk c.query_all.result (λ rows. Shown t [] old new rows.items)) c.list_text.ensures (c.query_all.ensures.ok clean) in
-    shows_all how.text our_schema it.tree how.project how.names law.selects it.columns law.shows_columns old new (c.requires.reading early) c.query_all.result told
+    shows_all how.text our_schema it.tree how.project how.names law.selects it.columns law.shows_columns
+    old new (c.requires.reading early) c.query_all.result told
 
 pub returns-clause-same : goal.returns-clause-same
 returns-clause-same g c clean =
