@@ -6,6 +6,15 @@ use Rattle.dh_reports.specs.ReportTexts.{charge_line, lease_line, receipt_line, 
 use Rattle.dh_reports.proofs.LineLemmas.{behind, broke, front, goes_on}
 use Rattle.dh_reports.proofs.statements.put_statement.Goals as goal
 
+pub returns-in_err-put : goal.returns-in_err-put
+returns-in_err-put g c =
+    let it = c.args.statement.now in
+    let lease = lease_line it.lease in
+    let charges = flat_map charge_line it.charges.items in
+    let receipts = flat_map receipt_line it.receipts.items in
+    broke c.from_residual.result _ _ (lease ++ charges ++ receipts) (sum_line (codes "balance") 10 it.balance) c.from_residual.ensures.0
+    (front _ _ (lease ++ charges) receipts (front _ _ lease charges c.in_err-put.ensures))
+
 pub returns-in_err-put_each : goal.returns-in_err-put_each
 returns-in_err-put_each g c =
     let it = c.args.statement.now in
