@@ -23,14 +23,30 @@ module _ (old new : State) where
   pub same_tables : IsResting new × (new.now ≡ old.now) → tables new ≡ tables old
   same_tables it = ap (λ (d : Database). state_in d.trees) it.1
 
+  abbrev RestsTorn : Type 0
+  RestsTorn = IsResting new × IsSound new.now.trees × IsTorn (tables old) (tables new)
+
+  pub rests_torn : IsSound old.now.trees → IsResting new × (new.now ≡ old.now) → RestsTorn
+  rests_torn sound it =
+      let trees : old.now.trees ≡ new.now.trees = ap (λ (d : Database). d.trees) (sym it.1) in
+      (it.0, subst IsSound trees sound, same_is_torn (tables old) (tables new) (same_tables it))
+
   pub torn_still : HasOurTables old → IsSound old.now.trees → IsResting new × (new.now ≡ old.now) → IsReadyWith new (IsTorn (tables old))
-  torn_still ours sound it = (
-    record {
-      is_open = it.0.is_open;
-      autocommit = it.0.autocommit;
-      schema = ap (λ (d : Database). d.schema) it.1 ∙ ours;
-      settled = it.0.settled;
-      sound = subst IsSound (sym (ap (λ (d : Database). d.trees) it.1)) sound;
-    },
-    same_is_torn (tables old) (tables new) (same_tables it),
+  torn_still ours sound it =
+      let rests = rests_torn sound it in (
+        record {
+          is_open = it.0.is_open;
+          autocommit = it.0.autocommit;
+          schema = ap (λ (d : Database). d.schema) it.1 ∙ ours;
+          settled = it.0.settled;
+          sound = rests.1;
+        },
+        rests.2,
+      )
+
+  pub ready_rests : IsReadyWith new (IsTorn (tables old)) → RestsTorn
+  ready_rests it = (
+    record { is_open = it.0.is_open; autocommit = it.0.autocommit; settled = it.0.settled },
+    it.0.sound,
+    it.1,
   )

@@ -51,6 +51,9 @@ pub fn recover_in<S: Alter>(alloc: Global, conn: &mut Connection<S>) -> Result<(
     ensures halted { HasCleanDisk (state S.Store conn.new) → IsTrue (state S.Store conn.new).is_open
         → HasOurTables (state S.Store conn.old) → IsSound (state S.Store conn.old).now.trees
         → OnErr result (IsReadyWith (state S.Store conn.new) (IsTorn (tables (state S.Store conn.old)))) }
+    ensures resting { HasCleanDisk (state S.Store conn.new) → IsTrue (state S.Store conn.new).is_open → IsSound (state S.Store conn.old).now.trees
+        → OnErr result (IsResting (state S.Store conn.new) × IsSound (state S.Store conn.new).now.trees
+        × IsTorn (tables (state S.Store conn.old)) (tables (state S.Store conn.new))) }
     ensures untouched { HasCleanDisk (state S.Store conn.new) → ¬ IsSound (state S.Store conn.old).now.trees
         → (left : Trees) → (state S.Store conn.new).may_leave left → left ≡ (state S.Store conn.old).now.trees }
     ensures unchanged { HasCleanDisk (state S.Store conn.new) → IsTrue (state S.Store conn.new).is_open

@@ -5,7 +5,7 @@ use Rattle.dh_model.specs.Books as machine
 use Rattle.dh_schema.specs.Store.{IsReadyWith, Leaves, tables}
 use Rattle.dh_runs.specs.Told.{IsTorn}
 use Rattle.dh_runs.proofs.Carried.{on_err}
-use Rattle.dh_runs.proofs.Taken.{left_torn, same_tables, torn_still}
+use Rattle.dh_runs.proofs.Taken.{left_torn, ready_rests, rests_torn, same_tables, torn_still}
 use Rattle.dh_runs.proofs.recovering.recover_in.Goals as goal
 
 pub returns-in_err-check-clause-crash : goal.returns-in_err-check-clause-crash
@@ -15,6 +15,10 @@ pub returns-in_err-check-clause-halted : goal.returns-in_err-check-clause-halted
 returns-in_err-check-clause-halted g c clean still ours sound =
     on_err c.from_residual.result
     (torn_still (state g.S.Store c.args.conn.now) (state g.S.Store c.check.new.conn) ours sound (c.check.ensures.same clean still))
+
+pub returns-in_err-check-clause-resting : goal.returns-in_err-check-clause-resting
+returns-in_err-check-clause-resting g c clean still sound =
+    on_err c.from_residual.result (rests_torn (state g.S.Store c.args.conn.now) (state g.S.Store c.check.new.conn) sound (c.check.ensures.same clean still))
 
 pub returns-in_err-finish-clause-crash : goal.returns-in_err-finish-clause-crash
 returns-in_err-finish-clause-crash g c clean sound =
@@ -30,6 +34,16 @@ returns-in_err-finish-clause-halted g c clean still ours sound =
     let same = same_tables (state g.S.Store c.args.conn.now) mid (c.check.ensures.same early (c.in_ok-check.ensures.ready early).is_open) in
     on_err c.from_residual-in_err-finish.result
     (subst (λ (t : machine.State). IsReadyWith (state g.S.Store c.finish.new.conn) (IsTorn t)) same (c.in_err-finish.ensures.halted clean still))
+
+pub returns-in_err-finish-clause-resting : goal.returns-in_err-finish-clause-resting
+returns-in_err-finish-clause-resting g c clean still sound =
+    let old = state g.S.Store c.args.conn.now in
+    let mid = state g.S.Store c.check.new.conn in
+    let new = state g.S.Store c.finish.new.conn in
+    let early : HasCleanDisk mid = omega (arith, c.finish.ensures.was_clean, clean) in
+    let same = same_tables old mid (c.check.ensures.same early (c.in_ok-check.ensures.ready early).is_open) in
+    let halted = subst (λ (t : machine.State). IsReadyWith new (IsTorn t)) same (c.in_err-finish.ensures.halted clean still) in
+    on_err c.from_residual-in_err-finish.result (ready_rests old new halted)
 
 pub returns-clause-crash : goal.returns-clause-crash
 returns-clause-crash g c clean sound =
