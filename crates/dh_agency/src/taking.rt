@@ -56,6 +56,9 @@ pub fn recover<S: Alter>(
     ensures halted { IfErr result (λ e. HasCleanDisk (state S.Store e.conn) → IsTrue (state S.Store e.conn).is_open
         → HasOurTables (state S.Store conn) → IsSound (state S.Store conn).now.trees
         → IsReadyWith (state S.Store e.conn) (IsTorn (tables (state S.Store conn)))) }
+    ensures resting { IfErr result (λ e. HasCleanDisk (state S.Store e.conn) → IsTrue (state S.Store e.conn).is_open
+        → IsSound (state S.Store conn).now.trees
+        → IsResting (state S.Store e.conn) × IsSound (state S.Store e.conn).now.trees × IsTorn (tables (state S.Store conn)) (tables (state S.Store e.conn))) }
 {
     let mut conn = conn;
     match recover_in(alloc, &mut conn) {
