@@ -35,8 +35,9 @@ use Rattle.dh_laws.proofs.FindKeys.{no_receipt, no_run, one_receipt, one_run}
 module _ (books : Books) (keys : KeysInOrder books) where
   module _ (order : ReceiptOrder) where
     abbrev told_new : Verdict
-    told_new = judged (receipt_checks books (len books.receipts) order)
-    (change.Receipt (record { number = len books.receipts + 1; key = order.key; payment = order.payment }))
+    told_new =
+        judged (receipt_checks books (len books.receipts) order)
+        (change.Receipt (record { number = len books.receipts + 1; key = order.key; payment = order.payment }))
 
     abbrev told_of : Option Receipt → Option Run → Verdict
     told_of receipt run = unless_paid books order receipt (unless_run books run told_new)
