@@ -1,7 +1,10 @@
 -- The open run closed by its sum, as the whole of the books.
-use Rattle.std.proofs.Common.{◌≡◌, ◌∙◌, sym, ap, subst, refl, ℕ, true, Some, None, Option, arith}
+use Rattle.std.proofs.Common.{◌≡◌, ◌∙◌, refl, sym, ap, subst, ℕ, true, Some, None, Option, Ok, arith}
+use Rattle.std.specs.Ordering.{nat_cmp}
 use Rattle.std.specs.FinMap.{get, insert}
-use Rattle.sqlite.specs.State.{State}
+use Rattle.sqlite.specs.State.{HasCleanDisk, State}
+use Rattle.sqlite.specs.Store.{Ghosts}
+use Rattle.sqlite.specs.Held.{Held, state}
 use Rattle.dh_types.specs.declared.run.Run.{Run}
 use Rattle.dh_types.specs.declared.run.RunSum.{RunSum}
 use Rattle.dh_model.specs.declared.open_run.OpenRun.{OpenRun}
@@ -19,11 +22,16 @@ use Rattle.dh_laws.specs.StateTables as office
 use Rattle.dh_laws.proofs.MovingBatches.{at_the_end}
 use Rattle.dh_laws.proofs.PostClosing.{closing_makes_whole}
 use Rattle.dh_laws.proofs.PostWhole.{is_open}
+use Rattle.dh_sql.specs.Shape.{AreApart, IsKept}
+use Rattle.dh_tables.specs.Calls.{Amends, CommitsNothing, GoesOn}
+use Rattle.dh_tables.specs.RunTable.{run_shape}
 use Rattle.dh_schema.specs.Kinds.{Runs}
-use Rattle.dh_schema.specs.Store.{IsReady, tables}
+use Rattle.dh_schema.specs.Store.{IsReady, IsWriting, tables}
+use Rattle.dh_schema.specs.Tables.{IsTableInOrder}
 use Rattle.dh_schema.proofs.Keyed.{books_are_keyed, sound_tables_show_their_run}
 use Rattle.dh_posting.specs.Closing.{IsSumOfOpen, sum_over, with_run, with_sum}
-use Rattle.dh_posting.proofs.Putting.{IsThere}
+use Rattle.dh_posting.specs.Putting.{Puts}
+use Rattle.dh_posting.proofs.Putting.{IsThere, changed}
 
 -- ready tables are those that an office works on
 pub ready_in_order : (s : State) → IsReady s → office.AreInOrder (tables s)
@@ -59,19 +67,62 @@ module _ (books : Books) (sum : RunSum) (is : IsSumOfOpen sum books) where
       is.2 ∙ ap (posted_sum row.month) (sym found) ∙ ap (λ (month : ℕ). posted_sum month (get (insert books.runs row.month own_row) month)) (sym own)
       ∙ ap (λ (it : Books). posted_sum run.month (get it.runs run.month)) (whole_of (Some run) end order)
 
-module _ (old new : State) (ready : IsReady old) (sum : RunSum) (is : IsSumOfOpen sum (tables old).books)
-    (end : IsAtItsEnd (tables old).books (tables old).open_run) where
-  abbrev order : office.AreInOrder (tables old)
-  order = ready_in_order old ready
+module _ (s : State) (ready : IsReady s) (end : IsAtItsEnd (tables s).books (tables s).open_run) where
+  abbrev order : office.AreInOrder (tables s)
+  order = ready_in_order s ready
 
-  pub closed_in_order : office.AreInOrder (closed_state (tables old))
-  closed_in_order = (at_the_end batch_size (tables old).books (tables old).open_run (omega arith) order).order
+  pub closed_in_order : office.AreInOrder (closed_state (tables s))
+  closed_in_order = (at_the_end batch_size (tables s).books (tables s).open_run (omega arith) order).order
 
-  pub closed_books : with_run sum.month (with_sum sum is.0) (tables old).books ≡ (closed_state (tables old)).books
-  closed_books = closed_is_whole (tables old).books sum is (tables old).open_run end order
+  -- the row of the run is there, and closed by its sum it makes the books whole
+  pub run_there : (sum : RunSum) (later : State) → IsSumOfOpen sum (tables s).books
+      → IsThere Runs sum.month (with_sum sum) s later (λ _. (closed_state (tables s)).books)
+  run_there sum later is =
+      let at = (is_open (tables s).books is.0 order.keyed is.1).is in (
+        is.0,
+        subst (λ (month : ℕ). get (tables s).books.runs month ≡ Some is.0) (sym (ap (λ (it : RunSum). it.month) is.2)) at,
+        closed_is_whole (tables s).books sum is (tables s).open_run end order,
+      )
 
-  -- the row of the run is there
-  pub run_there : IsThere Runs sum.month (with_sum sum) old new (with_run sum.month (with_sum sum is.0))
-  run_there =
-      let at = (is_open (tables old).books is.0 order.keyed is.1).is in
-      (is.0, subst (λ (month : ℕ). get (tables old).books.runs month ≡ Some is.0) (sym (ap (λ (it : RunSum). it.month) is.2)) at, refl)
+-- a transaction is begun, and the sum is put
+module _ {S : Type 0} (g : Ghosts S) (old begun last : Held S) (is : begun ≡ record old { in_transaction = true })
+    (ready : HasCleanDisk (state g old) → IsReady (state g old))
+    (end : HasCleanDisk (state g old) → IsAtItsEnd (tables (state g old)).books (tables (state g old)).open_run) (sum : RunSum)
+    (of : HasCleanDisk (state g old) → IsSumOfOpen sum (tables (state g old)).books) where
+  abbrev made : Books → Books
+  made books = (closed_state (tables (state g old))).books
+
+  early : HasCleanDisk (state g begun) → HasCleanDisk (state g old)
+  early clean = subst (λ (h : Held S). HasCleanDisk (state g h)) is clean
+
+  writing : HasCleanDisk (state g begun) → IsWriting (state g begun)
+  writing clean =
+      let it = ready (early clean) in
+      let begins : IsWriting (state g (record old { in_transaction = true })) =
+      record { is_open = it.is_open; inside = refl; schema = it.schema; in_order = it.sound.in_order } in
+      subst (λ (h : Held S). IsWriting (state g h)) (sym is) begins
+
+  there : HasCleanDisk (state g begun) → IsThere Runs sum.month (with_sum sum) (state g begun) (state g last) made
+  there clean =
+      let was = early clean in
+      subst (λ (h : Held S). IsThere Runs sum.month (with_sum sum) (state g h) (state g last) made) (sym is)
+      (run_there (state g old) (ready was) (end was) sum (state g last) (of was))
+
+  pub sum_put : (x : Unit {0}) → (HasCleanDisk (state g last) → GoesOn (state g begun) (state g last))
+      → (HasCleanDisk (state g last) → Amends run_shape nat_cmp sum.month (with_sum sum) (state g begun) (state g last))
+      → CommitsNothing (state g begun) (state g last) → Puts made (Ok x) (state g begun) (state g last)
+  sum_put x on amended crash = changed Runs sum.month (with_sum sum) (state g begun) (state g last) made (Ok x) writing there on amended (λ _. tt) crash
+
+-- the table of runs is in order as the transaction begins
+module _ {S : Type 0} (g : Ghosts S) (old begun : Held S) (is : begun ≡ record old { in_transaction = true })
+    (ready : HasCleanDisk (state g old) → IsReady (state g old)) where
+  in_order : HasCleanDisk (state g begun) → IsTableInOrder Runs (state g begun).now.trees
+  in_order clean =
+      let early : HasCleanDisk (state g old) = subst (λ (h : Held S). HasCleanDisk (state g h)) is clean in
+      subst (λ (h : Held S). IsTableInOrder Runs (state g h).now.trees) (sym is) ((ready early).sound.in_order.tables Runs)
+
+  pub begun_kept : HasCleanDisk (state g begun) → IsKept run_shape nat_cmp (state g begun).now.trees
+  begun_kept clean = (in_order clean).kept
+
+  pub begun_apart : HasCleanDisk (state g begun) → AreApart ((state g begun).now.trees run_shape.tree)
+  begun_apart clean = (in_order clean).apart

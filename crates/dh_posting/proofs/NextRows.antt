@@ -1,6 +1,8 @@
 -- The first rows of a plan are the next batch.
 use Rattle.std.proofs.Common.{◌≡◌, ◌∙◌, sym, ap, subst, ℕ, ◌+◌, ◌<◌, ◌≤◌, Bool, true, false, nat_lt, if◌then◌else◌, List, length, Some, arith}
-use Rattle.std.specs.Prelude.{slice_index_or}
+use Rattle.std.specs.Prelude.{slice_index_or, option_copied, slice_get, Option}
+use Rattle.std.specs.Borrow.{Bor}
+use Rattle.std.proofs.lemmas.Option.{get_or_from_slice_get, slice_get_within}
 use Rattle.std.proofs.lemmas.Bool.Decides.{nat_tests}
 use Rattle.dh_model.specs.declared.open_run.OpenRun.{OpenRun}
 use Rattle.dh_model.specs.Books.{Books, State}
@@ -29,6 +31,13 @@ own_stage books run order =
     let parts = stays part_key part_month nat_text_total nat_text_ties books.parts run.month (posted_parts batch_size books run.month run.done)
     (parts_fit batch_size books order.keyed order.rules run.month run.done) shown.parts in
     λ i. record books { charges = charges i; parts = parts i }
+
+-- the first of a list that is there
+pub first_is : (rows : List BatchRows) (view : List BatchRows) (found : Option (Bor BatchRows)) {row : Bor BatchRows} → view ≡ rows
+    → option_copied found ≡ slice_get view 0 → found ≡ Some row → (0 < length rows) × (row.now ≡ slice_index_or rows 0 row.now)
+first_is rows view found {row = row} same value is =
+    let at : slice_get rows 0 ≡ Some row.now = ap (λ (list : List BatchRows). slice_get list 0) (sym same) ∙ sym value ∙ ap option_copied is in
+    (slice_get_within rows 0 row.now at, sym (get_or_from_slice_get rows 0 row.now row.now at))
 
 module _ (plan : Plan) (s : State) (order : AreInOrder s) (is : IsPlanOf plan s) where
   abbrev run : OpenRun

@@ -7,5 +7,6 @@ abbrev pub invariant-loop-charge : goal.invariant-loop-charge
 invariant-loop-charge l = record {
   count : l.count + length l.charge-iterator ≡ length (values l.books.books.charges);
   total : l.total + total_of l.charge-iterator ≡ total_of (values l.books.books.charges);
+  few : l.count ≤ 4294967295;
   small : l.total ≤ 999999 * l.count;
 }

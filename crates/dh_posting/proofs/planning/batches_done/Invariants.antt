@@ -8,5 +8,5 @@ abbrev pub invariant-loop-part : goal.invariant-loop-part
 invariant-loop-part l = record {
   value : l.done + sum_by (λ part. batches_for batch_size part.count) l.part-iterator
       ≡ sum_by (λ part. batches_for batch_size part.count) (values l.books.books.parts);
-  range : l.done + 4294967296 * length l.part-iterator ≤ 4294967296 * l._count;
+  range : l.done + 18446744073709551616 * length l.part-iterator ≤ 18446744073709551616 * l._count;
 }
