@@ -1,2 +1,1 @@
 pub mod Putting
-pub mod Gathered

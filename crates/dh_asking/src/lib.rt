@@ -1,0 +1,10 @@
+//! The verdict of the tables on a command, from the rows that it looks at. Read [`ask`] first.
+#![tactic(auto)]
+
+mod accounts;
+mod asking;
+mod gathering;
+mod lettings;
+mod people;
+
+pub use asking::ask;
