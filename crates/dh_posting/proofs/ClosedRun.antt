@@ -11,7 +11,7 @@ use Rattle.dh_model.specs.declared.open_run.OpenRun.{OpenRun}
 use Rattle.dh_model.specs.Books.{Books}
 use Rattle.dh_model.specs.Machine.{posted_sum}
 use Rattle.dh_model.specs.Rules.{charges_in}
-use Rattle.dh_model.specs.Runs.{batch_size, batches, closed_run}
+use Rattle.dh_model.specs.Runs.{batch_size, closed_run}
 use Rattle.dh_model.specs.Whole.{whole}
 use Rattle.dh_model.proofs.KeyOrders.{nat_ties, nat_total}
 use Rattle.dh_model.proofs.MapRows.{get_new, inside}
@@ -29,7 +29,7 @@ use Rattle.dh_schema.specs.Kinds.{Runs}
 use Rattle.dh_schema.specs.Store.{IsReady, IsWriting, tables}
 use Rattle.dh_schema.specs.Tables.{IsTableInOrder}
 use Rattle.dh_schema.proofs.Keyed.{books_are_keyed, sound_tables_show_their_run}
-use Rattle.dh_posting.specs.Closing.{IsSumOfOpen, sum_over, with_run, with_sum}
+use Rattle.dh_posting.specs.Closing.{IsSumOfOpen, with_run, with_sum}
 use Rattle.dh_posting.specs.Putting.{Puts}
 use Rattle.dh_posting.proofs.Putting.{IsThere, changed}
 

@@ -5,7 +5,7 @@ use Rattle.std.specs.Ordering.{nat_cmp}
 use Rattle.std.specs.FinMap.{FinMap, get}
 use Rattle.sqlite.specs.State.{HasCleanDisk, State}
 use Rattle.dh_types.specs.declared.lease.Charge.{Charge}
-use Rattle.dh_model.specs.Books.{pair_cmp, with_rows}
+use Rattle.dh_model.specs.Books.{pair_cmp}
 use Rattle.dh_model.specs.Runs.{charge_key}
 use Rattle.dh_plans.specs.Plans.{AreNew}
 use Rattle.dh_schema.specs.Store.{IsWriting, tables}

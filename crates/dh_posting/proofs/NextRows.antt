@@ -1,5 +1,5 @@
 -- The first rows of a plan are the next batch.
-use Rattle.std.proofs.Common.{◌≡◌, ◌∙◌, sym, ap, subst, ℕ, ◌+◌, ◌<◌, ◌≤◌, Bool, true, false, nat_lt, if◌then◌else◌, List, length, Some, arith}
+use Rattle.std.proofs.Common.{◌≡◌, ◌∙◌, sym, ap, subst, ℕ, ◌+◌, ◌<◌, Bool, true, false, nat_lt, if◌then◌else◌, List, length, Some, arith}
 use Rattle.std.specs.Prelude.{slice_index_or, option_copied, slice_get, Option}
 use Rattle.std.specs.Borrow.{Bor}
 use Rattle.std.proofs.lemmas.Option.{get_or_from_slice_get, slice_get_within}
@@ -18,7 +18,6 @@ use Rattle.dh_laws.proofs.PostMonth.{stays}
 use Rattle.dh_plans.specs.declared.planning.BatchRows.{BatchRows}
 use Rattle.dh_plans.specs.declared.planning.Plan.{Plan}
 use Rattle.dh_plans.specs.Plans.{AreNew, IsPlanOf, begins_at, stage, with_batch_rows}
-use Rattle.dh_posting.specs.declared.posting.Batch.{Batch}
 use Rattle.dh_posting.specs.declared.posting.Batch.TheVariants.{Posted, NoneLeft}
 use Rattle.dh_posting.specs.Batches.{batch_told}
 

@@ -1,11 +1,11 @@
 -- Rows that were put into their tables, as what becomes of the books.
-use Rattle.std.proofs.Common.{◌≡◌, ◌∙◌, refl, sym, ap, subst, inl, true, false, List, [], ◌∷◌, Option, Some, None, is_some, Result, Ok, Err, OnErr, OnOk, arith}
+use Rattle.std.proofs.Common.{◌≡◌, ◌∙◌, refl, sym, ap, subst, inl, true, false, [], ◌∷◌, Option, Some, None, is_some, Result, Ok, Err, OnErr, OnOk, arith}
 use Rattle.std.proofs.lemmas.Bool.{false≢true}
 use Rattle.std.specs.declared.cmp.Ordering.{Ordering}
 use Rattle.std.specs.Cmp.{IsTotalOrder}
 use Rattle.std.specs.FinMap.{FinMap, IsAntisymmetric, entries, get, get-entries, get-from_entries, insert, same_map}
 use Rattle.sqlite.specs.declared.error.Error.{Error}
-use Rattle.sqlite.specs.State.{HasCleanDisk, KeepsCommit, State}
+use Rattle.sqlite.specs.State.{HasCleanDisk, State}
 use Rattle.dh_types.specs.declared.lease.Charge.{Charge}
 use Rattle.dh_types.specs.declared.run.Part.{Part}
 use Rattle.dh_model.specs.Books.{Books, with_rows}
@@ -15,7 +15,7 @@ use Rattle.dh_catalog.specs.Layout.{our_schema}
 use Rattle.dh_sql.specs.Changes.{Becomes}
 use Rattle.dh_tables.specs.Calls.{Amends, CommitsNothing, GoesOn, IsUndone}
 use Rattle.dh_schema.specs.Kinds.{Kind, key_of, order_of, record_of, shape_of, shelf_of}
-use Rattle.dh_schema.specs.Kinds.{Charges, Parts}
+use Rattle.dh_schema.specs.Kinds.{Parts}
 use Rattle.dh_schema.specs.Store.{IsWriting, tables}
 use Rattle.dh_schema.specs.Tables.{AreInOrder, loaded_from, records_in}
 use Rattle.dh_schema.proofs.Crashing.{survives_both}

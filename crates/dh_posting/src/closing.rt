@@ -77,11 +77,7 @@ fn open_sum<S: Alter>(alloc: Global, conn: &mut Connection<S>) -> Result<RunSum,
 }
 
 // Puts the sum into the row of the open run, which is closed by it, and commits it.
-fn commit_sum<S: Alter>(
-    alloc: Global,
-    conn: &mut Connection<S>,
-    sum: &RunSum,
-) -> Result<(), Error>
+fn commit_sum<S: Alter>(alloc: Global, conn: &mut Connection<S>, sum: &RunSum) -> Result<(), Error>
     requires autocommit { (state S.Store conn.old).in_transaction ≡ false }
     requires ready { HasCleanDisk (state S.Store conn.old) → IsReady (state S.Store conn.old) }
     requires end { HasCleanDisk (state S.Store conn.old) → IsAtItsEnd (tables (state S.Store conn.old)).books (tables (state S.Store conn.old)).open_run }
@@ -99,11 +95,7 @@ fn commit_sum<S: Alter>(
 }
 
 // Closes the open run with what it comes to.
-fn close_with<S: Alter>(
-    alloc: Global,
-    conn: &mut Connection<S>,
-    sum: &RunSum,
-) -> Result<(), Fault>
+fn close_with<S: Alter>(alloc: Global, conn: &mut Connection<S>, sum: &RunSum) -> Result<(), Fault>
     requires ready { HasCleanDisk (state S.Store conn.old) → IsReady (state S.Store conn.old) }
     requires end { HasCleanDisk (state S.Store conn.old) → IsAtItsEnd (tables (state S.Store conn.old)).books (tables (state S.Store conn.old)).open_run }
     requires sum { HasCleanDisk (state S.Store conn.old) → IsSumOfOpen sum.now (tables (state S.Store conn.old)).books }

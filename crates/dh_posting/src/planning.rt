@@ -100,11 +100,7 @@ fn look_at_leases<S: Alter>(
 }
 
 // The batches that the run lacks, which is the open one.
-fn plan_open<S: Alter>(
-    alloc: Global,
-    conn: &mut Connection<S>,
-    run: OpenRun,
-) -> Result<Plan, Fault>
+fn plan_open<S: Alter>(alloc: Global, conn: &mut Connection<S>, run: OpenRun) -> Result<Plan, Fault>
     requires ready { HasCleanDisk (state S.Store conn.old) → IsReady (state S.Store conn.old) }
     requires run { HasCleanDisk (state S.Store conn.old) → (tables (state S.Store conn.old)).open_run ≡ Some run }
     ensures told { HasCleanDisk (state S.Store conn.new) → IfOk result (λ plan. IsPlanOf plan (tables (state S.Store conn.old))) }

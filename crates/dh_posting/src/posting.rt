@@ -33,11 +33,7 @@ pub enum Batch {
 }
 
 // Whether the part's branch has something of the run.
-fn has_part<S: Alter>(
-    alloc: Global,
-    conn: &mut Connection<S>,
-    part: &Part,
-) -> Result<bool, Fault>
+fn has_part<S: Alter>(alloc: Global, conn: &mut Connection<S>, part: &Part) -> Result<bool, Fault>
     requires { HasCleanDisk (state S.Store conn.old) → IsReady (state S.Store conn.old) }
     ensures told { HasCleanDisk (state S.Store conn.new)
         → IfOk result (λ it. it ≡ is_some (get (tables (state S.Store conn.new)).books.parts (part_key part.now))) }

@@ -1,5 +1,5 @@
-use Rattle.std.proofs.Common.{◌≡◌, ◌∙◌, refl, ap}
-use Rattle.std.specs.FinMap.{empty, values}
+use Rattle.std.proofs.Common.{◌∙◌, refl, ap}
+use Rattle.std.specs.FinMap.{values}
 use Rattle.sqlite.specs.Held.{state}
 use Rattle.dh_model.specs.Books as machine
 use Rattle.dh_schema.specs.Store.{tables}

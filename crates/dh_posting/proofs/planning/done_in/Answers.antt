@@ -1,4 +1,4 @@
-use Rattle.std.proofs.Common.{◌≡◌, ◌∙◌, refl, ap, List}
+use Rattle.std.proofs.Common.{◌∙◌, refl, ap, List}
 use Rattle.std.specs.List.{sum_by}
 use Rattle.std.specs.FinMap.{values}
 use Rattle.sqlite.specs.Held.{state}

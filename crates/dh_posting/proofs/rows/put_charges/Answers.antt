@@ -1,10 +1,8 @@
-use Rattle.std.proofs.Common.{◌≡◌, ◌∙◌, refl, sym, subst, ℕ, List, drop, length, Ok, Result, arith}
+use Rattle.std.proofs.Common.{◌≡◌, ◌∙◌, refl, sym, subst, ℕ, List, drop, Ok, arith}
 use Rattle.std.proofs.lemmas.Result.{err_from_is_err_and}
-use Rattle.sqlite.specs.declared.error.Error.{Error}
 use Rattle.sqlite.specs.State.{HasCleanDisk}
 use Rattle.sqlite.specs.Held.{state}
 use Rattle.dh_types.specs.declared.lease.Charge.{Charge}
-use Rattle.dh_schema.specs.Store.{tables}
 use Rattle.dh_posting.specs.Putting.{Puts, with_charge, with_charges}
 use Rattle.dh_posting.proofs.EachCharge.{is_new, none_yet, tail_is}
 use Rattle.dh_posting.proofs.Putting.{puts_both, puts_none}

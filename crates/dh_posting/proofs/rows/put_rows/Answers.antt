@@ -1,4 +1,4 @@
-use Rattle.std.proofs.Common.{◌≡◌, ◌∙◌, ap, sym, subst, is_some, List, Ok, arith}
+use Rattle.std.proofs.Common.{◌∙◌, ap, sym, subst, is_some, List, Ok, arith}
 use Rattle.std.proofs.lemmas.Result.{err_from_is_err_and}
 use Rattle.std.specs.FinMap.{get}
 use Rattle.sqlite.specs.State.{HasCleanDisk}
