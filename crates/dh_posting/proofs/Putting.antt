@@ -131,7 +131,9 @@ nothing_put turned s writing same = record {
 -- ---- charges
 
 pub no_charges : (books : Books) → with_charges [] books ≡ books
-no_charges books = ap (λ (charges : FinMap _ Charge). let it : Books = record books { charges = charges } in it) (with_none nats_total nats_tie charge_key books.charges)
+no_charges books =
+    ap (λ (charges : FinMap _ Charge). let it : Books = record books { charges = charges } in it)
+    (with_none nats_total nats_tie charge_key books.charges)
 
 -- ---- a part row
 
@@ -144,9 +146,11 @@ part_is there part same = λ i. record {
   total = part.total;
 }
 
-pub with_new_part : (part : Part) (books : Books) → (let it : Books = record books { parts = insert books.parts (part_key part) part } in it) ≡ with_part part books
+pub with_new_part : (part : Part) (books : Books)
+    → (let it : Books = record books { parts = insert books.parts (part_key part) part } in it) ≡ with_part part books
 with_new_part part books =
-    ap (λ (parts : FinMap _ Part). let it : Books = record books { parts = parts } in it) (sym (with_one nat_text_total nat_text_ties part_key part books.parts))
+    ap (λ (parts : FinMap _ Part). let it : Books = record books { parts = parts } in it)
+    (sym (with_one nat_text_total nat_text_ties part_key part books.parts))
 
 found : {X : Type 0} (it : Option X) → is_some it ≡ true → (x : X) × (it ≡ Some x)
 found None h = absurd (false≢true h)

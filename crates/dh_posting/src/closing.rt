@@ -122,7 +122,8 @@ fn close_with<S: Alter>(alloc: Global, conn: &mut Connection<S>, sum: &RunSum) -
 pub fn close_run<S: Alter>(alloc: Global, conn: &mut Connection<S>) -> Result<RunSum, Fault>
     requires ready { HasCleanDisk (state S.Store conn.old) → IsReady (state S.Store conn.old) }
     requires end { HasCleanDisk (state S.Store conn.old) → IsAtItsEnd (tables (state S.Store conn.old)).books (tables (state S.Store conn.old)).open_run }
-    ensures told { HasCleanDisk (state S.Store conn.new) → IfOk result (λ sum. sum ≡ sum_told (tables (state S.Store conn.old)).books (tables (state S.Store conn.old)).open_run) }
+    ensures told { HasCleanDisk (state S.Store conn.new)
+        → IfOk result (λ sum. sum ≡ sum_told (tables (state S.Store conn.old)).books (tables (state S.Store conn.old)).open_run) }
     ensures done { HasCleanDisk (state S.Store conn.new)
         → OnOk result (IsReadyWith (state S.Store conn.new) (λ t. t ≡ closed_state (tables (state S.Store conn.old)))) }
     ensures undone { HasCleanDisk (state S.Store conn.new) → IsTrue (state S.Store conn.new).is_open

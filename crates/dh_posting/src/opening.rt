@@ -28,14 +28,17 @@ pub fn open_run<S: Alter>(
     requires ready { HasCleanDisk (state S.Store conn.old) → IsReady (state S.Store conn.old) }
     requires none { HasCleanDisk (state S.Store conn.old) → (tables (state S.Store conn.old)).open_run ≡ None }
     requires verdict { HasCleanDisk (state S.Store conn.old)
-        → run_verdict (tables (state S.Store conn.old)).books order.now ≡ verdict.Change (change.Open (opened_run (tables (state S.Store conn.old)).books order.now)) }
+        → run_verdict (tables (state S.Store conn.old)).books order.now
+        ≡ verdict.Change (change.Open (opened_run (tables (state S.Store conn.old)).books order.now)) }
     ensures done { HasCleanDisk (state S.Store conn.new)
-        → OnOk result (IsReadyWith (state S.Store conn.new) (λ t. t ≡ begun order.now (change.Open (opened_run (tables (state S.Store conn.old)).books order.now)) (tables (state S.Store conn.old)))) }
+        → OnOk result (IsReadyWith (state S.Store conn.new)
+        (λ t. t ≡ begun order.now (change.Open (opened_run (tables (state S.Store conn.old)).books order.now)) (tables (state S.Store conn.old)))) }
     ensures undone { HasCleanDisk (state S.Store conn.new) → IsTrue (state S.Store conn.new).is_open
         → OnErr result (StaysReady (state S.Store conn.old) (state S.Store conn.new)) }
     ensures cause { IfErr result IsFirstFault }
     ensures crash { HasCleanDisk (state S.Store conn.new)
-        → Leaves (state S.Store conn.new) (λ t. (t ≡ tables (state S.Store conn.old)) ⊎ (t ≡ begun order.now (change.Open (opened_run (tables (state S.Store conn.old)).books order.now)) (tables (state S.Store conn.old)))) }
+        → Leaves (state S.Store conn.new) (λ t. (t ≡ tables (state S.Store conn.old))
+        ⊎ (t ≡ begun order.now (change.Open (opened_run (tables (state S.Store conn.old)).books order.now)) (tables (state S.Store conn.old)))) }
     ensures was_clean { doubt (state S.Store conn.old).is_clean ≤ doubt (state S.Store conn.new).is_clean }
 {
     accepted_changes_fit();

@@ -140,7 +140,8 @@ fn post_first<S: Alter>(
 ) -> Result<Batch, Fault>
     requires ready { HasCleanDisk (state S.Store conn.old) → IsReady (state S.Store conn.old) }
     requires plan { HasCleanDisk (state S.Store conn.old) → IsPlanOf plan.now (tables (state S.Store conn.old)) }
-    ensures told { HasCleanDisk (state S.Store conn.new) → IfOk result (λ it. it ≡ batch_told (tables (state S.Store conn.old)).books (tables (state S.Store conn.old)).open_run) }
+    ensures told { HasCleanDisk (state S.Store conn.new)
+        → IfOk result (λ it. it ≡ batch_told (tables (state S.Store conn.old)).books (tables (state S.Store conn.old)).open_run) }
     ensures done { HasCleanDisk (state S.Store conn.new)
         → OnOk result (IsReadyWith (state S.Store conn.new) (λ t. t ≡ next_batch (tables (state S.Store conn.old)))) }
     ensures undone { HasCleanDisk (state S.Store conn.new) → IsTrue (state S.Store conn.new).is_open
@@ -167,7 +168,8 @@ fn post_first<S: Alter>(
 pub fn post_batch<S: Alter>(alloc: Global, conn: &mut Connection<S>) -> Result<Batch, Fault>
     requires ready { HasCleanDisk (state S.Store conn.old) → IsReady (state S.Store conn.old) }
     requires run { HasCleanDisk (state S.Store conn.old) → IsUnderWay (tables (state S.Store conn.old)).open_run }
-    ensures told { HasCleanDisk (state S.Store conn.new) → IfOk result (λ it. it ≡ batch_told (tables (state S.Store conn.old)).books (tables (state S.Store conn.old)).open_run) }
+    ensures told { HasCleanDisk (state S.Store conn.new)
+        → IfOk result (λ it. it ≡ batch_told (tables (state S.Store conn.old)).books (tables (state S.Store conn.old)).open_run) }
     ensures done { HasCleanDisk (state S.Store conn.new)
         → OnOk result (IsReadyWith (state S.Store conn.new) (λ t. t ≡ next_batch (tables (state S.Store conn.old)))) }
     ensures undone { HasCleanDisk (state S.Store conn.new) → IsTrue (state S.Store conn.new).is_open

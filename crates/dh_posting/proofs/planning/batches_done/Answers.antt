@@ -12,8 +12,8 @@ loop-part-preserved c =
     let own : c.batches_for-done.result ≡ batches_for batch_size part.count =
     c.batches_for-done.ensures.value ∙ ap (batches_for batch_size) c.from.ensures in
     let steps = c.in-Some.ensures.steps in
-    let first = ap (sum_by (λ (part : Part). batches_for batch_size part.count)) steps ∙ sum_by-cons (λ (part : Part). batches_for batch_size part.count) part rest
-    in
+    let first = ap (sum_by (λ (part : Part). batches_for batch_size part.count)) steps
+    ∙ sum_by-cons (λ (part : Part). batches_for batch_size part.count) part rest in
     let fewer = ap length steps in
     record {
       value = omega (arith, own, first, c.loop-part.invariant.value);
