@@ -1,11 +1,12 @@
 //! Taking the tables that there are.
 
-ghost use Rattle.std.specs.Prelude.{◌≡◌, false, IsTrue, IfOk, IfErr};
+ghost use Rattle.std.specs.Prelude.{◌≡◌, false, IsTrue, Err, IfOk, IfErr, IsErrAnd};
 ghost use Rattle.sqlite.specs.State.{HasCleanDisk};
 ghost use Rattle.sqlite.specs.Held.{state};
 ghost use Rattle.dh_tables.specs.Calls.{HasOurTables};
 ghost use Rattle.dh_schema.specs.Store.{IsReadyWith, tables};
 ghost use Rattle.dh_schema.specs.Tables.{IsSound};
+ghost use Rattle.dh_runs.specs.Problems.{IsTurnedAway};
 ghost use Rattle.dh_runs.specs.Taking.{IsFirstProblem, IsProblemOf, IsResting};
 ghost use Rattle.dh_agency.specs.Agency.{IsClean, LeavesItsTables, machine, shown_by};
 ghost use Rattle.dh_agency.specs.Taken.{TakesAsTheyAre, TakesForward};
@@ -19,7 +20,7 @@ use std::alloc::Global;
 /// Takes the tables as they are, with the run that they show as open, and changes nothing. Refusal 16 comes exactly where `meta`
 /// gives another version, and refusal 17 exactly where the tables are not sound, with 0 where a column does not hold a value of its
 /// kind or `meta` gives no version, or the least rule of the audit that is broken. Fault 21 comes where memory runs out, and
-/// fault 22 where the store fails or the tables are not ours.
+/// fault 22 where the store fails. Tables that are not ours are one of these, and not touched.
 pub fn attach<S: Alter>(
     alloc: Global,
     conn: Connection<S>,
@@ -29,6 +30,7 @@ pub fn attach<S: Alter>(
     ensures left { IfOk result (λ a. IsClean S.Store a → LeavesItsTables S.Store a) }
     ensures refused { IfErr result (λ e. HasCleanDisk (state S.Store e.conn) → IsProblemOf (state S.Store conn).now.trees e.cause) }
     ensures cause { IfErr result (λ e. IsFirstProblem e.cause) }
+    ensures others { ¬ HasOurTables (state S.Store conn) → IsErrAnd result (λ e. IsTurnedAway (Err e.cause) × (e.conn ≡ conn)) }
     ensures kept { IfOk result (λ a. TakesAsTheyAre (state S.Store conn) (shown_by S.Store a)) }
     ensures crash { IfErr result (λ e. TakesAsTheyAre (state S.Store conn) (state S.Store e.conn)) }
 {
@@ -51,6 +53,7 @@ pub fn recover<S: Alter>(
     ensures left { IfOk result (λ a. IsClean S.Store a → LeavesItsTables S.Store a) }
     ensures refused { IfErr result (λ e. HasCleanDisk (state S.Store e.conn) → IsProblemOf (state S.Store conn).now.trees e.cause) }
     ensures cause { IfErr result (λ e. IsFirstProblem e.cause) }
+    ensures others { ¬ HasOurTables (state S.Store conn) → IsErrAnd result (λ e. IsTurnedAway (Err e.cause) × (e.conn ≡ conn)) }
     ensures made { IfOk result (λ a. TakesForward (state S.Store conn) (shown_by S.Store a)) }
     ensures crash { IfErr result (λ e. TakesForward (state S.Store conn) (state S.Store e.conn)) }
     ensures halted { IfErr result (λ e. HasCleanDisk (state S.Store e.conn) → IsTrue (state S.Store e.conn).is_open
