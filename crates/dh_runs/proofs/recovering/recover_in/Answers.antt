@@ -1,8 +1,8 @@
-use Rattle.std.proofs.Common.{◌≡◌, subst, arith}
+use Rattle.std.proofs.Common.{subst, arith}
 use Rattle.sqlite.specs.State.{HasCleanDisk}
 use Rattle.sqlite.specs.Held.{state}
 use Rattle.dh_model.specs.Books as machine
-use Rattle.dh_schema.specs.Store.{IsReadyWith, Leaves, tables}
+use Rattle.dh_schema.specs.Store.{IsReadyWith, Leaves}
 use Rattle.dh_runs.specs.Told.{IsTorn}
 use Rattle.dh_runs.proofs.Carried.{on_err}
 use Rattle.dh_runs.proofs.Taken.{left_torn, ready_rests, rests_torn, same_tables, torn_still}
