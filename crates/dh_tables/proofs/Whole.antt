@@ -29,7 +29,7 @@ module _ {K X : Type 0} (it : Shape K X) (is_row : Row → Bool) (same : (r : Ro
       rows (all_good it trees rows perm stored))
 
   module _ {R : K → K → Ordering} (o : IsTotalOrder R) (anti : IsAntisymmetric R) (shelf : Shelf K X R) (old new : machine.State)
-        (none : shelf.held old ≡ empty)
+      (none : shelf.held old ≡ empty)
       (put : new ≡ shelf.with old (put_rows it rows (shelf.held old))) where
     all_held : new ≡ shelf.with old (put_rows it rows empty)
     all_held = put ∙ ap (λ m. shelf.with old (put_rows it rows m)) none

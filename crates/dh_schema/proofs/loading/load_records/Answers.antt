@@ -12,8 +12,10 @@ load_lettings-requires-clause-reading g c =
 pub load_lettings-requires-clause-none : goal.load_lettings-requires-clause-none
 load_lettings-requires-clause-none g c =
     let t1 = c.in_ok-load_people.ensures in
-    still_none t1 lettings (λ early. ((c.requires.none early).1.1.1.1.0,
-    ((c.requires.none early).1.1.1.1.1.0, ((c.requires.none early).1.1.1.1.1.1.0, ((c.requires.none early).1.1.1.1.1.1.1.0, tt)))))
+    still_none t1 lettings (λ early. (
+      (c.requires.none early).1.1.1.1.0,
+      ((c.requires.none early).1.1.1.1.1.0, ((c.requires.none early).1.1.1.1.1.1.0, ((c.requires.none early).1.1.1.1.1.1.1.0, tt))),
+    ))
 
 pub load_accounts-requires-clause-reading : goal.load_accounts-requires-clause-reading
 load_accounts-requires-clause-reading g c =
@@ -25,8 +27,10 @@ pub load_accounts-requires-clause-none : goal.load_accounts-requires-clause-none
 load_accounts-requires-clause-none g c =
     let t1 = c.in_ok-load_people.ensures in
     let t2 = and_more t1 c.in_ok-load_lettings.ensures in
-    still_none t2 accounts (λ early. ((c.requires.none early).1.1.1.1.1.1.1.1.0,
-    ((c.requires.none early).1.1.1.1.1.1.1.1.1.0, ((c.requires.none early).1.1.1.1.1.1.1.1.1.1.0, tt))))
+    still_none t2 accounts (λ early. (
+      (c.requires.none early).1.1.1.1.1.1.1.1.0,
+      ((c.requires.none early).1.1.1.1.1.1.1.1.1.0, ((c.requires.none early).1.1.1.1.1.1.1.1.1.1.0, tt)),
+    ))
 
 pub load_rent_runs-requires-clause-reading : goal.load_rent_runs-requires-clause-reading
 load_rent_runs-requires-clause-reading g c =
