@@ -1,0 +1,4 @@
+pub mod SpelledTexts
+pub mod ReadFields
+pub mod Forms
+pub mod Requests

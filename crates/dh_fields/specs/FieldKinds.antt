@@ -1,0 +1,83 @@
+-- The kinds of fields: which texts each takes, and the value of each such text.
+use Rattle.std.specs.Prelude.{ℕ, Bool, ◌||◌, if◌then◌else◌, ◌==◌, List, length, Option, Some, None, is_some, unwrap_or}
+use Rattle.dh_values.specs.Texts.{is_id, is_key, is_text}
+use Rattle.dh_values.specs.Counts.{batch_count_of, lease_months_of, lease_no_of, rooms_of}
+use Rattle.dh_values.specs.Money.{amount_of, rent_of}
+use Rattle.dh_values.specs.Kinds.{payment_method_of, position_of, property_type_of, receipt_kind_of}
+use Rattle.dh_values.specs.declared.payment_method.PaymentMethod.{PaymentMethod}
+use Rattle.dh_values.specs.declared.payment_method.PaymentMethod.TheVariants.{Cash}
+use Rattle.dh_values.specs.declared.position.Position.{Position}
+use Rattle.dh_values.specs.declared.position.Position.TheVariants.{Manager}
+use Rattle.dh_values.specs.declared.property_type.PropertyType.{PropertyType}
+use Rattle.dh_values.specs.declared.property_type.PropertyType.TheVariants.{House}
+use Rattle.dh_values.specs.declared.receipt_kind.ReceiptKind.{ReceiptKind}
+use Rattle.dh_values.specs.declared.receipt_kind.ReceiptKind.TheVariants.{Rent}
+use Rattle.dh_days.specs.Days.{day_of}
+use Rattle.dh_days.specs.Months.{month_of}
+
+pub record Kind (T : Type 0) : Type 0 where
+  pub takes : List ℕ → Bool
+  pub value : List ℕ → T
+
+-- texts that are values themselves
+abbrev pub plain : (List ℕ → Bool) → Kind (List ℕ)
+plain takes = record { takes = takes; value = λ text. text }
+
+-- Texts that spell a value. A text that spells none is in no request, and gets the other value.
+abbrev pub spelled : {T : Type 0} → (List ℕ → Option T) → T → Kind T
+spelled read other = record { takes = λ text. is_some (read text); value = λ text. unwrap_or (read text) other }
+
+-- texts of this kind, and the empty one
+abbrev pub optional : {T : Type 0} → Kind T → Kind (Option T)
+optional kind = record {
+  takes = λ text. (length text == 0) || kind.takes text;
+  value = λ text. if length text == 0 then None else Some (kind.value text);
+}
+
+unfoldable pub id : Kind (List ℕ)
+id = plain is_id
+
+unfoldable pub key : Kind (List ℕ)
+key = plain is_key
+
+unfoldable pub text60 : Kind (List ℕ)
+text60 = plain (is_text 60)
+
+unfoldable pub comment : Kind (List ℕ)
+comment = plain (is_text 200)
+
+unfoldable pub lease_no : Kind ℕ
+lease_no = spelled lease_no_of 1
+
+unfoldable pub rooms : Kind ℕ
+rooms = spelled rooms_of 1
+
+unfoldable pub months : Kind ℕ
+months = spelled lease_months_of 3
+
+unfoldable pub batch_count : Kind ℕ
+batch_count = spelled batch_count_of 1
+
+unfoldable pub rent : Kind ℕ
+rent = spelled rent_of 1
+
+unfoldable pub amount : Kind ℕ
+amount = spelled amount_of 1
+
+unfoldable pub day : Kind ℕ
+day = spelled day_of 0
+
+unfoldable pub month : Kind ℕ
+month = spelled month_of 0
+
+unfoldable pub position : Kind Position
+position = spelled position_of Manager
+
+unfoldable pub property_type : Kind PropertyType
+property_type = spelled property_type_of House
+
+unfoldable pub method : Kind PaymentMethod
+method = spelled payment_method_of Cash
+
+unfoldable pub receipt_kind : Kind ReceiptKind
+receipt_kind = spelled receipt_kind_of Rent

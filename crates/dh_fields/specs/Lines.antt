@@ -1,0 +1,275 @@
+-- Which request the fields of a line are.
+use Rattle.std.specs.Prelude.{ℕ, ◌+◌, Bool, List, [], ◌∷◌, codes, bytes_eq, drop, slice_index_or, if◌then◌else◌, Option, Some, None, Result, Ok, Err}
+use Rattle.dh_types.specs.declared.command.Command.{Command}
+use Rattle.dh_types.specs.declared.command.Command.TheVariants as command
+use Rattle.dh_types.specs.declared.question.Question.{Question}
+use Rattle.dh_types.specs.declared.question.Question.TheVariants as question
+use Rattle.dh_types.specs.declared.reply.Refusal.{Refusal}
+use Rattle.dh_types.specs.declared.reply.Refusal.TheVariants.{BadLine}
+use Rattle.dh_fields.specs.FieldKinds.{amount, batch_count, comment, day, id, key, lease_no, method, month, months, optional, position, property_type}
+use Rattle.dh_fields.specs.FieldKinds.{receipt_kind, rent, rooms, text60}
+use Rattle.dh_fields.specs.declared.request.Request.{Request}
+use Rattle.dh_fields.specs.declared.request.Request.TheVariants as request
+
+-- the fields of a line
+abbrev pub Fields : Type 0
+Fields = List (List ℕ)
+
+-- fields are numbered from 1
+unfoldable pub field : Fields → ℕ → List ℕ
+field fields n = slice_index_or ([] ∷ fields) n []
+
+-- the first field, numbered from n, that its test refuses, that is missing, or that is one too many
+unfoldable pub first_bad : ℕ → List (List ℕ → Bool) → Fields → Option ℕ
+first_bad n [] [] = None
+first_bad n [] (field ∷ fields) = Some n
+first_bad n (test ∷ tests) [] = Some n
+first_bad n (test ∷ tests) (field ∷ fields) = if test field then first_bad (n + 1) tests fields else Some n
+
+-- A row of the table of lines: a word, the tests of the fields behind it, and what fields are that pass them.
+pub record Form (T : Type 0) : Type 0 where
+  pub word : List ℕ
+  pub tests : List (List ℕ → Bool)
+  pub value : Fields → T
+
+-- ---- commands: their word is field 1
+
+abbrev pub branch_form : Form Command
+branch_form = record {
+  word = codes "branch";
+  tests = id.takes ∷ text60.takes ∷ text60.takes ∷ text60.takes ∷ [];
+  value = λ f. command.Branch (record {
+    number = id.value (field f 2);
+    street = text60.value (field f 3);
+    city = text60.value (field f 4);
+    postcode = text60.value (field f 5);
+  });
+}
+
+abbrev pub staff_form : Form Command
+staff_form = record {
+  word = codes "staff";
+  tests = id.takes ∷ text60.takes ∷ position.takes ∷ id.takes ∷ [];
+  value = λ f. command.Staff (record {
+    number = id.value (field f 2);
+    name = text60.value (field f 3);
+    position = position.value (field f 4);
+    branch = id.value (field f 5);
+  });
+}
+
+abbrev pub owner_form : Form Command
+owner_form = record {
+  word = codes "owner";
+  tests = id.takes ∷ text60.takes ∷ text60.takes ∷ text60.takes ∷ [];
+  value = λ f. command.Owner (record {
+    number = id.value (field f 2);
+    name = text60.value (field f 3);
+    address = text60.value (field f 4);
+    telephone = text60.value (field f 5);
+  });
+}
+
+abbrev pub property_form : Form Command
+property_form = record {
+  word = codes "property";
+  tests = id.takes ∷ text60.takes ∷ text60.takes ∷ text60.takes ∷ property_type.takes ∷ rooms.takes ∷ rent.takes ∷ id.takes ∷ (optional id).takes
+      ∷ id.takes ∷ [];
+  value = λ f. command.Property (record {
+    number = id.value (field f 2);
+    street = text60.value (field f 3);
+    city = text60.value (field f 4);
+    postcode = text60.value (field f 5);
+    property_type = property_type.value (field f 6);
+    rooms = rooms.value (field f 7);
+    rent = rent.value (field f 8);
+    owner = id.value (field f 9);
+    staff = (optional id).value (field f 10);
+    branch = id.value (field f 11);
+  });
+}
+
+abbrev pub assign_form : Form Command
+assign_form = record {
+  word = codes "assign";
+  tests = id.takes ∷ (optional id).takes ∷ [];
+  value = λ f. command.Assign (record { property = id.value (field f 2); staff = (optional id).value (field f 3) });
+}
+
+abbrev pub rent_form : Form Command
+rent_form = record {
+  word = codes "rent";
+  tests = id.takes ∷ rent.takes ∷ [];
+  value = λ f. command.Rent (record { property = id.value (field f 2); rent = rent.value (field f 3) });
+}
+
+abbrev pub client_form : Form Command
+client_form = record {
+  word = codes "client";
+  tests = id.takes ∷ text60.takes ∷ text60.takes ∷ property_type.takes ∷ rent.takes ∷ [];
+  value = λ f. command.Client (record {
+    number = id.value (field f 2);
+    name = text60.value (field f 3);
+    telephone = text60.value (field f 4);
+    preferred_type = property_type.value (field f 5);
+    greatest_rent = rent.value (field f 6);
+  });
+}
+
+abbrev pub register_form : Form Command
+register_form = record {
+  word = codes "register";
+  tests = id.takes ∷ id.takes ∷ id.takes ∷ day.takes ∷ [];
+  value = λ f. command.Register (record {
+    client = id.value (field f 2);
+    branch = id.value (field f 3);
+    staff = id.value (field f 4);
+    day = day.value (field f 5);
+  });
+}
+
+abbrev pub viewing_form : Form Command
+viewing_form = record {
+  word = codes "viewing";
+  tests = id.takes ∷ id.takes ∷ day.takes ∷ (optional comment).takes ∷ [];
+  value = λ f. command.Viewing (record {
+    client = id.value (field f 2);
+    property = id.value (field f 3);
+    day = day.value (field f 4);
+    comment = (optional comment).value (field f 5);
+  });
+}
+
+abbrev pub comment_form : Form Command
+comment_form = record {
+  word = codes "comment";
+  tests = id.takes ∷ id.takes ∷ comment.takes ∷ [];
+  value = λ f. command.Comment (record { client = id.value (field f 2); property = id.value (field f 3); comment = comment.value (field f 4) });
+}
+
+abbrev pub inspection_form : Form Command
+inspection_form = record {
+  word = codes "inspection";
+  tests = id.takes ∷ day.takes ∷ id.takes ∷ comment.takes ∷ [];
+  value = λ f. command.Inspection (record {
+    property = id.value (field f 2);
+    day = day.value (field f 3);
+    staff = id.value (field f 4);
+    comment = comment.value (field f 5);
+  });
+}
+
+abbrev pub lease_form : Form Command
+lease_form = record {
+  word = codes "lease";
+  tests = lease_no.takes ∷ id.takes ∷ id.takes ∷ day.takes ∷ months.takes ∷ method.takes ∷ [];
+  value = λ f. command.Lease (record {
+    number = lease_no.value (field f 2);
+    client = id.value (field f 3);
+    property = id.value (field f 4);
+    start = day.value (field f 5);
+    months = months.value (field f 6);
+    method = method.value (field f 7);
+  });
+}
+
+abbrev pub receipt_form : Form Command
+receipt_form = record {
+  word = codes "receipt";
+  tests = key.takes ∷ lease_no.takes ∷ receipt_kind.takes ∷ amount.takes ∷ day.takes ∷ [];
+  value = λ f. command.Receipt (record {
+    key = key.value (field f 2);
+    payment = record {
+      lease = lease_no.value (field f 3);
+      kind = receipt_kind.value (field f 4);
+      amount = amount.value (field f 5);
+      day = day.value (field f 6);
+    };
+  });
+}
+
+abbrev pub run_form : Form Command
+run_form = record {
+  word = codes "run";
+  tests = key.takes ∷ month.takes ∷ [];
+  value = λ f. command.Run (record { key = key.value (field f 2); month = month.value (field f 3) });
+}
+
+abbrev pub open_form : Form Command
+open_form = record {
+  word = codes "open";
+  tests = key.takes ∷ month.takes ∷ [];
+  value = λ f. command.Open (record { key = key.value (field f 2); month = month.value (field f 3) });
+}
+
+abbrev pub post_form : Form Command
+post_form = record {
+  word = codes "post";
+  tests = batch_count.takes ∷ [];
+  value = λ f. command.Post (batch_count.value (field f 2));
+}
+
+abbrev pub command_forms : List (Form Command)
+command_forms = branch_form ∷ staff_form ∷ owner_form ∷ property_form ∷ assign_form ∷ rent_form ∷ client_form ∷ register_form ∷ viewing_form
+    ∷ comment_form ∷ inspection_form ∷ lease_form ∷ receipt_form ∷ run_form ∷ open_form ∷ post_form ∷ []
+
+-- ---- questions: field 1 is `show`, and their word is field 2
+
+abbrev pub branches_form : Form Question
+branches_form = record { word = codes "branches"; tests = []; value = λ f. question.Branches }
+
+abbrev pub vacant_form : Form Question
+vacant_form = record { word = codes "vacant"; tests = day.takes ∷ []; value = λ f. question.Vacant (day.value (field f 3)) }
+
+abbrev pub matching_form : Form Question
+matching_form = record {
+  word = codes "matching";
+  tests = id.takes ∷ day.takes ∷ [];
+  value = λ f. question.Matching (record { client = id.value (field f 3); day = day.value (field f 4) });
+}
+
+abbrev pub statement_form : Form Question
+statement_form = record { word = codes "statement"; tests = lease_no.takes ∷ []; value = λ f. question.Statement (lease_no.value (field f 3)) }
+
+abbrev pub arrears_form : Form Question
+arrears_form = record { word = codes "arrears"; tests = id.takes ∷ []; value = λ f. question.Arrears (id.value (field f 3)) }
+
+abbrev pub shown_run_form : Form Question
+shown_run_form = record { word = codes "run"; tests = month.takes ∷ []; value = λ f. question.Run (month.value (field f 3)) }
+
+abbrev pub question_forms : List (Form Question)
+question_forms = branches_form ∷ vacant_form ∷ matching_form ∷ statement_form ∷ arrears_form ∷ shown_run_form ∷ []
+
+-- ---- which request the fields are
+
+-- the value, where no field is bad
+abbrev pub judged : {T : Type 0} → Option ℕ → T → Result T Refusal
+judged None value = Ok value
+judged (Some n) value = Err (BadLine n)
+
+-- the form that has this word
+abbrev pub form_of : {T : Type 0} → List (Form T) → List ℕ → Option (Form T)
+form_of [] word = None
+form_of (form ∷ forms) word = if bytes_eq word form.word then Some form else form_of forms word
+
+-- what the fields are whose word is field n, by the form of that word; or their first bad field
+abbrev pub value_by : {T : Type 0} → Option (Form T) → ℕ → Fields → Result T Refusal
+value_by None n fields = Err (BadLine n)
+value_by (Some form) n fields = judged (first_bad (n + 1) form.tests (drop n fields)) (form.value fields)
+
+unfoldable pub value_among : {T : Type 0} → List (Form T) → ℕ → Fields → Result T Refusal
+value_among forms n fields = value_by (form_of forms (field fields n)) n fields
+
+abbrev pub a_command : Result Command Refusal → Result Request Refusal
+a_command (Ok it) = Ok (request.Command it)
+a_command (Err refusal) = Err refusal
+
+abbrev pub a_question : Result Question Refusal → Result Request Refusal
+a_question (Ok it) = Ok (request.Question it)
+a_question (Err refusal) = Err refusal
+
+-- the request that the fields are, or their first bad field
+unfoldable pub request_of : Fields → Result Request Refusal
+request_of fields =
+    if bytes_eq (field fields 1) (codes "show") then a_question (value_among question_forms 2 fields)
+    else a_command (value_among command_forms 1 fields)

@@ -1,0 +1,16 @@
+//! The lines that an agency is given, and the request that each is.
+#![tactic(auto)]
+
+mod commands;
+mod leases;
+mod line;
+mod people;
+mod properties;
+mod questions;
+mod reading;
+mod request;
+mod unread;
+mod values;
+
+pub use reading::{read_fields, read_line};
+pub use request::Request;

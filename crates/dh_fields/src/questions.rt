@@ -1,0 +1,80 @@
+//! The lines that are questions: `show`, what is asked, and what about.
+
+ghost use Rattle.dh_fields.specs.Lines.{arrears_form, branches_form, matching_form, question_forms, shown_run_form, statement_form, vacant_form, value_among};
+ghost use Rattle.dh_fields.specs.Readings.{ReadsForm, Tells};
+
+use crate::line::Line;
+use crate::unread::Unread;
+use dh_types::{ClientDay, Question};
+
+// show,branches
+fn read_branches(line: &Line) -> Result<Question, Unread>
+    ensures { ReadsForm branches_form 2 line.now result }
+{
+    line.end(2)?;
+    Ok(Question::Branches)
+}
+
+// show,vacant,DAY
+fn read_vacant(line: &Line) -> Result<Question, Unread>
+    ensures { ReadsForm vacant_form 2 line.now result }
+{
+    let day = line.day(3)?;
+    line.end(3)?;
+    Ok(Question::Vacant(day))
+}
+
+// show,matching,CLIENT,DAY
+fn read_matching(line: &Line) -> Result<Question, Unread>
+    ensures { ReadsForm matching_form 2 line.now result }
+{
+    let asked = ClientDay {
+        client: line.id(3)?,
+        day: line.day(4)?,
+    };
+    line.end(4)?;
+    Ok(Question::Matching(asked))
+}
+
+// show,statement,LEASE
+fn read_statement(line: &Line) -> Result<Question, Unread>
+    ensures { ReadsForm statement_form 2 line.now result }
+{
+    let lease = line.lease_no(3)?;
+    line.end(3)?;
+    Ok(Question::Statement(lease))
+}
+
+// show,arrears,BRANCH
+fn read_arrears(line: &Line) -> Result<Question, Unread>
+    ensures { ReadsForm arrears_form 2 line.now result }
+{
+    let branch = line.id(3)?;
+    line.end(3)?;
+    Ok(Question::Arrears(branch))
+}
+
+// show,run,MONTH
+fn read_shown_run(line: &Line) -> Result<Question, Unread>
+    ensures { ReadsForm shown_run_form 2 line.now result }
+{
+    let month = line.month(3)?;
+    line.end(3)?;
+    Ok(Question::Run(month))
+}
+
+/// The question that the line is, whose first field is `show`. `Field` has the number of its first bad field, which is 2 where
+/// the question is unknown.
+pub(crate) fn read_question(line: &Line) -> Result<Question, Unread>
+    ensures { Tells result (value_among question_forms 2 line.now) }
+{
+    match line.text(2)? {
+        "branches" => read_branches(line),
+        "vacant" => read_vacant(line),
+        "matching" => read_matching(line),
+        "statement" => read_statement(line),
+        "arrears" => read_arrears(line),
+        "run" => read_shown_run(line),
+        _ => Err(Unread::Field(2)),
+    }
+}

@@ -1,0 +1,51 @@
+//! Reading the lines that an agency is given.
+
+ghost use Rattle.std.specs.Prelude.{◌≡◌, map, bytes_eq, codes, IfOk};
+ghost use Rattle.csv.specs.Records.{fields_of};
+ghost use Rattle.dh_fields.specs.Lines.{field, request_of};
+ghost use Rattle.dh_fields.specs.Readings.{Tells};
+
+use crate::Request;
+use crate::commands::read_command;
+use crate::line::Line;
+use crate::questions::read_question;
+use crate::unread::Unread;
+use csv::ByteRecord;
+use dh_types::Refusal;
+use std::alloc::{AllocError, Global};
+
+fn read_request(alloc: Global, line: &Line) -> Result<Request, Unread>
+    ensures { Tells result (request_of line.now) }
+{
+    if line.text(1)? == "show" {
+        Ok(Request::Question(read_question(line)?))
+    } else {
+        Ok(Request::Command(read_command(alloc, line)?))
+    }
+}
+
+fn judge(alloc: Global, line: &Line) -> Result<Result<Request, Refusal>, AllocError>
+    ensures { IfOk result (λ r. r ≡ request_of line.now) }
+{
+    match read_request(alloc, line) {
+        Ok(request) => Ok(Ok(request)),
+        Err(Unread::Field(number)) => Ok(Err(Refusal::BadLine(number))),
+        Err(Unread::Memory) => Err(AllocError),
+    }
+}
+
+/// The request that the fields of a line are. A `BadLine` has the number of the first field, from 1 on,
+/// that is wrong, missing or too many. An error comes only for want of memory.
+pub fn read_fields(alloc: Global, fields: &[&[u8]]) -> Result<Result<Request, Refusal>, AllocError>
+    ensures { IfOk result (λ r. r ≡ request_of (map (λ f. f.now) fields.now)) }
+{
+    judge(alloc, &Line::of_fields(fields))
+}
+
+/// The request that a record's fields are. A `BadLine` has the number of the first field, from 1 on,
+/// that is wrong, missing or too many. An error comes only for want of memory.
+pub fn read_line(alloc: Global, record: &ByteRecord) -> Result<Result<Request, Refusal>, AllocError>
+    ensures { IfOk result (λ r. r ≡ request_of (fields_of «record».now)) }
+{
+    judge(alloc, &Line::of_record(record))
+}
