@@ -1,5 +1,0 @@
-pub mod Following
-pub mod Taken
-pub mod Ending
-pub mod Moving
-pub mod Reopened

@@ -1,4 +1,0 @@
-pub mod Calls
-pub mod Histories
-pub mod HistoryLaws
-pub mod Answered
