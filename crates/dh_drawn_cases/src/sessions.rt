@@ -4,6 +4,7 @@ use crate::books::{compare_books, empty, told as plainly_told};
 use crate::drawing::Draw;
 use dh_agency::Agency;
 use dh_agency_scripts::{compare, in_memory, told};
+use dh_leases::whole;
 use dh_rules::Books;
 use dh_schema::load;
 use dh_tally::Tally;
@@ -76,7 +77,7 @@ fn tell<S: Alter>(
     Ok(())
 }
 
-// Compares the books that are loaded from the store.
+// Compares the books that are loaded from the store, with their open run made to its end, as the machine's are.
 fn compare_tables<S: Alter>(
     rt: &HostRuntime,
     tally: &mut Tally,
@@ -84,7 +85,7 @@ fn compare_tables<S: Alter>(
     wanted: &Books,
 ) -> io::Result<()> {
     match load(rt.alloc(), conn) {
-        Ok(found) => compare_books(rt, tally, &found, wanted),
+        Ok(found) => compare_books(rt, tally, &whole(rt.alloc(), found)?, wanted),
         Err(_) => compare(rt, tally, "tables", "not loaded", "loaded"),
     }
 }

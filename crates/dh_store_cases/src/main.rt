@@ -7,7 +7,7 @@ mod escapes;
 mod requests;
 mod tables;
 
-use dh_agency_scripts::{compare, play_in_memory};
+use dh_agency_scripts::{compare, play_in_memory, play_lives};
 use dh_tally::Tally;
 use sqlite::{Alter, Connection};
 use std::alloc::{AllocError, Global};
@@ -56,6 +56,7 @@ fn play_lines(rt: &HostRuntime, tally: &mut Tally, kind: &str, lines: &str) -> i
 fn play(rt: &HostRuntime, tally: &mut Tally, kind: &str, lines: &str) -> io::Result<()> {
     match kind {
         "agencies in memory" => play_in_memory(rt, tally, lines),
+        "agencies taken anew" => play_lives(rt, tally, lines),
         "a reader that fails" => batches::play_reader(rt, tally),
         "a writer that fails" => batches::play_writer(rt, tally),
         _ => play_lines(rt, tally, kind, lines),

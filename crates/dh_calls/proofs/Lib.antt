@@ -1,0 +1,5 @@
+pub mod Following
+pub mod Taken
+pub mod Ending
+pub mod Moving
+pub mod Reopened

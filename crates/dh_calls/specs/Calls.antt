@@ -1,0 +1,68 @@
+-- What was called on an agency's tables, and what came of it, as the contracts of the calls say it.
+use Rattle.std.specs.Prelude.{◌≡◌, ℕ, IsTrue}
+use Rattle.sqlite.specs.State.{State, HasCleanDisk}
+use Rattle.dh_types.specs.declared.command.Command.{Command}
+use Rattle.dh_types.specs.declared.command.Command.TheVariants as command
+use Rattle.dh_types.specs.declared.reply.Reply.{Reply}
+use Rattle.dh_model.specs.Books as machine
+use Rattle.dh_laws.specs.Batches.{IsPostedInPart}
+use Rattle.dh_schema.specs.Store.{IsReadyWith, Leaves, LeavesItsTables, tables}
+use Rattle.dh_schema.specs.Tables.{IsSound}
+use Rattle.dh_agency.specs.Taken.{TakesAsTheyAre, TakesForward}
+use Rattle.dh_runs.specs.declared.running.RunState.{RunState}
+use Rattle.dh_runs.specs.Taking.{IsResting}
+use Rattle.dh_runs.specs.Told.{IsCut, IsMended, IsSaid, IsTorn, reply_of}
+
+-- A call, and how it ended. It was cut where a stop or a fault came within it.
+pub data Call : Type 0 where
+  -- a command was stepped, and got this reply
+  Stepped : Command → Reply → Call
+  StepCut : Command → Call
+  -- the open run was resumed for so many batches at most, and is there now
+  Resumed : ℕ → RunState → Call
+  ResumeCut : ℕ → Call
+  -- a question was answered
+  Shown : Call
+  ShowCut : Call
+  -- the tables were attached as they are, or were not
+  Attached : Call
+  AttachCut : Call
+  -- the tables were recovered, or the recovery was cut
+  Recovered : Call
+  RecoveryCut : Call
+
+-- From the connection as the call begins to the connection as it ends, or as the stop comes.
+module _ (old new : State) where
+  -- The call was answered: this holds of the tables before and after, and a crash now leaves the latter and nothing else.
+  pub record Answers (P : machine.State → machine.State → Type 0) : Type 0 where
+    pub said : HasCleanDisk new → P (tables old) (tables new)
+    pub left : HasCleanDisk new → LeavesItsTables new
+
+  -- The call was cut: whatever a crash now leaves are sound tables of which this holds, and so are those that are read, while the
+  -- store is open; and then no transaction is.
+  pub record Breaks (P : machine.State → machine.State → Type 0) : Type 0 where
+    pub crash : HasCleanDisk new → Leaves new (P (tables old))
+    pub halted : HasCleanDisk new → IsTrue new.is_open → IsReadyWith new (P (tables old))
+
+  -- A recovery was cut: what a crash now leaves, and what is read while the store is open, is moved on, where the tables were sound;
+  -- else they are as they were.
+  pub record BreaksRecovery : Type 0 where
+    pub forward : TakesForward old new
+    pub halted : HasCleanDisk new → IsTrue new.is_open → IsSound old.now.trees
+        → IsResting new × IsSound new.now.trees × IsTorn (tables old) (tables new)
+
+abbrev pub IsSame : machine.State → machine.State → Type 0
+IsSame before after = after ≡ before
+
+-- what the contract of the call says of the connection before and after it
+abbrev pub Tells : Call → State → State → Type 0
+Tells (Stepped told reply) old new = Answers old new (IsSaid told reply)
+Tells (StepCut told) old new = Breaks old new (IsCut told)
+Tells (Resumed most it) old new = Answers old new (IsSaid (command.Post most) (reply_of it))
+Tells (ResumeCut most) old new = Breaks old new (IsPostedInPart most)
+Tells Shown old new = Answers old new IsSame
+Tells ShowCut old new = Breaks old new IsSame
+Tells Attached old new = Answers old new IsSame
+Tells AttachCut old new = TakesAsTheyAre old new
+Tells Recovered old new = Answers old new IsMended
+Tells RecoveryCut old new = BreaksRecovery old new

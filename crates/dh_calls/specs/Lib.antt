@@ -1,0 +1,4 @@
+pub mod Calls
+pub mod Histories
+pub mod HistoryLaws
+pub mod Answered
