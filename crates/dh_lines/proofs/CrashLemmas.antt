@@ -24,9 +24,9 @@ use Rattle.dh_agency.specs.Told.{IsCut}
 use Rattle.dh_agency.proofs.Carried.{leaves_weaker, sound_in_order}
 use Rattle.dh_lines.specs.declared.outcome.Halt.{Halt}
 use Rattle.dh_lines.specs.declared.outcome.Halt.TheVariants as halt
-use Rattle.dh_lines.specs.declared.request.Request.{Request}
-use Rattle.dh_lines.specs.declared.request.Request.TheVariants as request
-use Rattle.dh_lines.specs.Lines.{Fields, request_of}
+use Rattle.dh_fields.specs.declared.request.Request.{Request}
+use Rattle.dh_fields.specs.declared.request.Request.TheVariants as request
+use Rattle.dh_fields.specs.Lines.{Fields, request_of}
 use Rattle.dh_lines.specs.Session.{Answered, answered, answered_request}
 use Rattle.dh_lines.specs.Batch.{Answers, AreAfter, IsWithin, LeavesAnswered, WasAnswered, stand}
 use Rattle.dh_lines.proofs.Following.{state-more}

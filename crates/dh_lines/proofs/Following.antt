@@ -11,7 +11,7 @@ use Rattle.csv.specs.declared.parser.State.TheVariants as st
 use Rattle.csv.specs.declared.parser.State as parser
 use Rattle.csv.proofs.ReadFacts.{rows-more, rows-end}
 use Rattle.dh_model.specs.Books.{State}
-use Rattle.dh_lines.specs.Lines.{Fields}
+use Rattle.dh_fields.specs.Lines.{Fields}
 use Rattle.dh_lines.specs.Session.{answered, line, lines_from, records_of, refused_in, state_after}
 use Rattle.dh_lines.proofs.AllRecords.{all_from, all_from-next, all_from-end}
 

@@ -15,7 +15,7 @@ use Rattle.dh_types.specs.declared.writing.Output as writing
 use Rattle.dh_model.specs.Books.{State}
 use Rattle.dh_agency.specs.Seat.{Seat}
 use Rattle.dh_agency.specs.Agency.{Leaves, LeavesItsTables, machine}
-use Rattle.dh_lines.specs.Lines.{Fields}
+use Rattle.dh_fields.specs.Lines.{Fields}
 use Rattle.dh_lines.specs.Session.{answered, fault_line, line, records_of, state_after}
 use Rattle.dh_lines.specs.Batch.{Answers, AnsweredAll, AnsweredFirst, EndsSo, Faulted, HaltsByFault, HaltsSo, IsAgencyFault, IsAtRest, IsFirst, IsWithin}
 use Rattle.dh_lines.specs.Batch.{PutsBehind, TellsFault, TellsReading, batch_fault, stand}

@@ -24,8 +24,8 @@ use Rattle.dh_lines.specs.declared.outcome.BatchFault.{BatchFault}
 use Rattle.dh_lines.specs.declared.outcome.BatchFault.TheVariants as ended
 use Rattle.dh_lines.specs.declared.outcome.Halt.{Halt}
 use Rattle.dh_lines.specs.declared.outcome.Halt.TheVariants as halt
-use Rattle.dh_lines.specs.declared.request.Request.TheVariants as request
-use Rattle.dh_lines.specs.Lines.{Fields, request_of}
+use Rattle.dh_fields.specs.declared.request.Request.TheVariants as request
+use Rattle.dh_fields.specs.Lines.{Fields, request_of}
 use Rattle.dh_lines.specs.Session.{Answered, answered, fault_line, line, lines_from, numbered, records_of, refused_in, state_after}
 
 -- ---- how a batch ends early

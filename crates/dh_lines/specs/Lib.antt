@@ -1,4 +1,2 @@
-pub mod Lines
 pub mod Session
-pub mod Readings
 pub mod Batch

@@ -12,9 +12,9 @@ use Rattle.dh_model.specs.Answers.{report}
 use Rattle.dh_model.specs.Machine.{step}
 use Rattle.dh_model.specs.Runs.{batch_size}
 use Rattle.dh_reports.specs.ReportTexts.{report_text, line_count}
-use Rattle.dh_lines.specs.declared.request.Request.{Request}
-use Rattle.dh_lines.specs.declared.request.Request.TheVariants.{Command, Question}
-use Rattle.dh_lines.specs.Lines.{Fields, request_of}
+use Rattle.dh_fields.specs.declared.request.Request.{Request}
+use Rattle.dh_fields.specs.declared.request.Request.TheVariants.{Command, Question}
+use Rattle.dh_fields.specs.Lines.{Fields, request_of}
 
 -- the records of an input, as csv reads them with its defaults
 abbrev pub records_of : List ℕ → List Fields

@@ -12,12 +12,11 @@ ghost use Rattle.dh_agency.specs.Told.{IsCut};
 ghost use Rattle.dh_lines.specs.Session.{answered, is_no_report, replied, reported};
 ghost use Rattle.dh_lines.specs.Batch.{Answers, HaltsByFault, IsFirst, IsWithin, TellsFault, TellsReading, batch_fault, stand};
 
-use crate::Request;
 use crate::outcome::Halt;
-use crate::reading::read_line;
 use crate::replies::{put_answer_line, put_fault_line, put_refused_line, put_reply_line};
 use csv::{ByteRecord, Error};
 use dh_agency::Agency;
+use dh_fields::{Request, read_line};
 use dh_laws::asking::{answers_pass_the_run, open_runs_refuse_put_off};
 use dh_types::{Answer, Command, Fault, Question};
 use sqlite::Alter;

@@ -2,8 +2,8 @@ use Rattle.std.proofs.Common.{◌≡◌, Ok, Some, ap, sym, refl, rules}
 use Rattle.csv.specs.Records.{fields_of}
 use Rattle.dh_agency.specs.Agency.{machine}
 use Rattle.dh_agency.specs.Told.{IsCut}
-use Rattle.dh_lines.specs.declared.request.Request.TheVariants as request
-use Rattle.dh_lines.specs.Lines.{request_of}
+use Rattle.dh_fields.specs.declared.request.Request.TheVariants as request
+use Rattle.dh_fields.specs.Lines.{request_of}
 use Rattle.dh_lines.specs.Session.{answered, answered_request}
 use Rattle.dh_lines.specs.Batch.{IsWithin, stand}
 use Rattle.dh_lines.proofs.OneRecord.{answers_fault, fault_first}
