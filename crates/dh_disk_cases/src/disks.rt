@@ -133,6 +133,14 @@ fn worked<D: Disk + Drop>(alloc: Global, files: Files<D>, work: Work<'_>) -> (Ca
     }
 }
 
+// The same on disks that may be of no use, where nothing is done.
+fn tried<D: Disk + Drop>(alloc: Global, files: Files<D>, work: Work<'_>) -> (Came, Files<D>) {
+    if files.may_be_used() {
+        return worked(alloc, files, work);
+    }
+    (Came::Told(Told::Wrong), files)
+}
+
 // The calls that each disk still takes.
 #[derive(Clone, Copy)]
 struct Calls {
@@ -162,6 +170,7 @@ fn stopped(alloc: Global, calls: Calls, lines: &[String]) -> (Told, Files<TrialD
 fn again(alloc: Global, disk: &TrialDisk, calls: u64) -> io::Result<TrialDisk> {
     let mut copy = Memory::new(alloc);
     copy.write_at(0, disk.inner().bytes())?;
+    copy.sync()?;
     Ok(Fuse::new(copy, calls))
 }
 
@@ -177,7 +186,7 @@ fn stopped_again(
         log: again(alloc, &left.log, calls.log)?,
         db: again(alloc, &left.db, calls.file)?,
     };
-    Ok(worked(alloc, files, Work::Recover))
+    Ok(tried(alloc, files, Work::Recover))
 }
 
 // What is found in the file after a power cut, opened anew.

@@ -4,11 +4,9 @@ use crate::escapes::{bytes_of, text_of};
 use csv::{ByteRecord, ReaderBuilder};
 use dh_agency_scripts::branch;
 use dh_examples::ToLine;
+use dh_fields::{Request, read_fields, read_line};
 use dh_lines::ends::FailingWriter;
-use dh_lines::{
-    Request, put_answer_line, put_fault_line, put_refused_line, put_reply_line, read_fields,
-    read_line,
-};
+use dh_lines::{put_answer_line, put_fault_line, put_refused_line, put_reply_line};
 use dh_types::{Answer, Branch, Command, Fault, Month, Output, Question, Refusal, Reply};
 use std::alloc::{AllocError, Global};
 use std::io;
