@@ -96,6 +96,8 @@ def plus_months(day, months):
 class Office:
     def __init__(self, path):
         self.conn = sqlite3.connect(path, isolation_level=None)
+        # As the store does on a file.
+        self.conn.execute("PRAGMA journal_mode = WAL")
         self.conn.execute("PRAGMA foreign_keys = ON")
         for text in creating_texts():
             self.conn.execute(text)

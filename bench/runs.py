@@ -108,6 +108,8 @@ def run(conn):
 
 def time_run(leases, path):
     conn = sqlite3.connect(path, isolation_level=None)
+    # As the store does on a file.
+    conn.execute("PRAGMA journal_mode = WAL")
     conn.execute("PRAGMA foreign_keys = ON")
     for text in creating_texts():
         conn.execute(text)
