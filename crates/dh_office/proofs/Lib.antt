@@ -1,5 +1,0 @@
-pub mod TextLemmas
-pub mod FinishLemmas
-pub mod AnswerLemmas
-pub mod StoreLemmas
-pub mod WordLemmas
