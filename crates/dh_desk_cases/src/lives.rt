@@ -1,0 +1,76 @@
+//! Lives of a path. A line `letting WORDS -> STATUS TEXT` is a run, and so is `letting WORDS < INPUT -> STATUS TEXT` with an input; of a run
+//! behind `help` the first line is compared. `answer` has what else a line may be.
+
+use crate::runs::{PATH, clear, ran, standing};
+use dh_agency_scripts::{all_rows, compare, parted, rows_of};
+use dh_tally::Tally;
+use sqlite::Connection;
+use std::alloc::AllocError;
+use std::{fs, io};
+
+// Runs statements on the file, as another program would, and tells the rows of a table.
+fn edited(rt: &HostRuntime, statements: &str) -> Result<&'static str, sqlite::Error> {
+    let mut conn = Connection::open(rt, PATH)?;
+    let done = conn.execute_batch(statements);
+    conn.close()?;
+    done?;
+    Ok("done")
+}
+
+/// The rows of all tables of the file.
+pub fn tables(rt: &HostRuntime) -> Result<String, AllocError> {
+    let Ok(mut conn) = Connection::open(rt, PATH) else {
+        return "not opened".to_string(rt.alloc());
+    };
+    let rows = all_rows(rt.alloc(), &mut conn);
+    let _ = conn.close();
+    rows
+}
+
+// What the run of these words comes to.
+fn run(rt: &HostRuntime, words: &str) -> Result<String, AllocError> {
+    let (words, input) = words.split_once(" < ").unwrap_or((words, ""));
+    ran(rt, words, input)
+}
+
+// What a line comes to, where the file was as it is kept.
+fn answer(rt: &HostRuntime, kept: &mut Vec<u8>, kind: &str, rest: &str) -> io::Result<String> {
+    let alloc = rt.alloc();
+    let text = match kind {
+        "letting" => return Ok(run(rt, rest)?),
+        "help" => return Ok(run(rt, rest)?.as_str().split("\\n").next().unwrap_or("").to_string(alloc)?),
+        "rows" => return Ok(rows_of(tables(rt)?.as_str(), rest).to_string(alloc)?),
+        "sql" => edited(rt, rest).unwrap_or("not done"),
+        "write" => {
+            fs::write(rt, PATH, rest)?;
+            "done"
+        }
+        "folder" => {
+            fs::create_dir(rt, PATH)?;
+            "done"
+        }
+        "keep" => {
+            *kept = fs::read(rt, PATH)?;
+            "done"
+        }
+        "changed" if fs::read(rt, PATH)?.as_slice() == kept.as_slice() => "no",
+        "changed" => "yes",
+        "standing" => standing(rt)?,
+        _ => "no kind",
+    };
+    Ok(text.to_string(alloc)?)
+}
+
+/// Plays the lines, one after the other, on a path where nothing is.
+pub fn play(rt: &HostRuntime, tally: &mut Tally, lines: &str) -> io::Result<()> {
+    clear(rt);
+    let mut kept = Vec::new(rt.alloc());
+    for line in lines.lines() {
+        let (words, want) = parted(line);
+        let (kind, rest) = words.split_once(' ').unwrap_or((words, ""));
+        let got = answer(rt, &mut kept, kind, rest)?;
+        compare(rt, tally, line, got.as_str(), want)?;
+    }
+    clear(rt);
+    Ok(())
+}

@@ -1,0 +1,32 @@
+//! Plays the cases of standard input by `desk`, on real files in the folder where it runs. It prints each that ends otherwise than wanted,
+//! and then `N cases, M differ`.
+//!
+//! A block is the life of one path, which is written `F`. Its first line has its kind: `play` has the kinds. In texts `\n` is a line feed.
+#![tactic(auto)]
+
+mod failing;
+mod imports;
+mod lives;
+mod runs;
+
+use dh_tally::Tally;
+use std::io;
+
+fn play(rt: &HostRuntime, tally: &mut Tally, kind: &str, lines: &str) -> io::Result<()> {
+    match kind {
+        "an import" => imports::play(rt, tally, lines),
+        "a reader that fails" => failing::play_reader(rt, tally, lines),
+        "a writer that fails" => failing::play_writer(rt, tally, lines),
+        _ => lives::play(rt, tally, lines),
+    }
+}
+
+fn main(rt: HostRuntime) -> io::Result<()> {
+    let text = io::read_to_string(rt.alloc(), rt.reader())?;
+    let mut tally = Tally::new();
+    for block in text.as_str().split("\n\n") {
+        let (kind, lines) = block.split_once('\n').unwrap_or((block, ""));
+        play(&rt, &mut tally, kind, lines)?;
+    }
+    println!(rt; "{tally}")
+}

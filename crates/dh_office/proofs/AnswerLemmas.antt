@@ -1,0 +1,55 @@
+-- Lines and questions, in the words of jobs.
+use Rattle.std.proofs.Common.{◌≡◌, ◌∙◌, ◌⊎◌, inl, inr, Bool, true, false, ℕ, ◌+◌, ◌<◌, ◌≤◌, Option, Some, None, List, [], ◌∷◌, ◌++◌, length, take, Result, Ok, Err, refl, sym, ap, subst, arith}
+use Rattle.std.specs.Prelude.{nat_lt}
+use Rattle.std.specs.Io.KnownBytes.{Appends}
+use Rattle.std.proofs.lemmas.List.{take_all}
+use Rattle.sqlite.specs.Store.{Ghosts}
+use Rattle.sqlite.specs.State as conn
+use Rattle.dh_types.specs.declared.question.Question.{Question}
+use Rattle.dh_types.specs.Reports.{Report}
+use Rattle.dh_model.specs.Answers.{report}
+use Rattle.dh_model.specs.Books.{State}
+use Rattle.dh_model.specs.Runs.{batch_size}
+use Rattle.dh_laws.specs.Asking.{AnswersPassTheRun, OpenRunsRefusePutOff}
+use Rattle.dh_laws.specs.StateTables.{AreInOrder}
+use Rattle.dh_agency.specs.Seat.{Seat}
+use Rattle.dh_agency.specs.Agency.{LeavesItsTables, machine, shown_by}
+use Rattle.dh_lines.specs.declared.outcome.BatchFault.{BatchFault}
+use Rattle.dh_lines.specs.declared.outcome.BatchFault.TheVariants as ended
+use Rattle.dh_lines.specs.Session as session
+use Rattle.dh_lines.specs.Session.{Answered, is_no_report, lines_from, records_of, state_after}
+use Rattle.dh_lines.specs.Batch.{EndsSo, PutsBehind, stand}
+use Rattle.dh_lines.proofs.CrashLemmas.{reads_in_order, report_stands}
+use Rattle.dh_office.specs.Jobs.{report_shown}
+use Rattle.dh_office.specs.Texts.{report_lines}
+use Rattle.dh_office.specs.Ends.{AtFault, AtReading, AtWriting, Stops}
+
+-- whole or not, a beginning of the second text stands behind the first
+behind : {T E : Type 0} (a b : Option (List ℕ)) (first second : List ℕ) (outcome : Result T E) → PutsBehind a b first outcome second
+    → (taken : ℕ) × Appends a b (first ++ take taken second)
+behind a b first second (Ok it) h = (length second, subst (λ l. Appends a b (first ++ l)) (sym (take_all (length second) second (omega arith))) h)
+behind a b first second (Err e) h = (h.0, h.2)
+
+-- a batch that ended early
+pub stops : {S : Type 0} (g : Ghosts S) (old new : Seat S) (a b : Option (List ℕ)) (fault : BatchFault) (input : List ℕ) → EndsSo g old new a b (Err fault) input
+    → Stops (shown_by g new) a b (stand g old) (records_of input)
+stops g old new a b (ended.Agency fault) input (outcome, h) =
+    let told = behind a b (lines_from 1 (stand g old) (take h.count (records_of input))) (session.fault_line (h.count + 1) fault) outcome h.written in
+    AtFault h.count fault told.0 h.few told.1 h.state
+stops g old new a b ended.Input input h = AtReading h.count h.few h.written h.state
+stops g old new a b ended.Output input h = AtWriting h.count h.fields h.cut h.here h.part h.written h.state
+
+-- ---- a question
+
+module _ {S : Type 0} (g : Ghosts S) (old new : Seat S) (question : Question) (shown : Report) (same : machine g new ≡ machine g old)
+    (left : LeavesItsTables g new) (said : shown ≡ report (machine g old) question)
+    (passes : AnswersPassTheRun batch_size) (refuses : OpenRunsRefusePutOff) where
+  pub shown_stands : shown ≡ report (stand g old) question
+  shown_stands =
+      said ∙ report_stands passes refuses (machine g old) question (subst (λ (s : State). AreInOrder s) same (reads_in_order g new left))
+
+  pub shown_text : report_lines shown ≡ (report_shown (stand g old) question).text
+  shown_text = ap report_lines shown_stands
+
+  pub shown_refused : (is_refused : Bool) → is_refused ≡ is_no_report shown → (report_shown (stand g old) question).is_refused ≡ is_refused
+  shown_refused is_refused is = sym (is ∙ ap is_no_report shown_stands)

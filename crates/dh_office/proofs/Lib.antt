@@ -1,0 +1,5 @@
+pub mod TextLemmas
+pub mod FinishLemmas
+pub mod AnswerLemmas
+pub mod StoreLemmas
+pub mod WordLemmas

@@ -1,0 +1,138 @@
+-- From an agency to the store that it is over.
+use Rattle.std.proofs.Common.{◌≡◌, ◌∙◌, ◌⊎◌, inl, inr, ◌≢◌, ℕ, Option, Some, None, List, [], refl, sym, ap, subst, arith}
+use Rattle.std.specs.Prelude.{IfSome}
+use Rattle.std.specs.Io.KnownBytes.{Appends}
+use Rattle.sqlite.specs.Store.{Ghosts}
+use Rattle.sqlite.specs.State as conn
+use Rattle.sqlite.specs.State.{HasCleanDisk}
+use Rattle.sqlite.specs.Held.{Held, state}
+use Rattle.dh_types.specs.Output.{BreaksOff}
+use Rattle.dh_types.specs.declared.reply.Refusal.{Refusal}
+use Rattle.dh_model.specs.Books.{State}
+use Rattle.dh_schema.specs.Store as store
+use Rattle.dh_schema.specs.Store.{Leaves}
+use Rattle.dh_schema.specs.Tables.{IsSound, state_in}
+use Rattle.sqlite_trees.specs.Tree.{Trees}
+use Rattle.dh_types.specs.declared.command.RunOrder.{RunOrder}
+use Rattle.dh_agency.specs.Taken.{LeavesAsTheyWere, TakesAsTheyAre}
+use Rattle.dh_lines.specs.Batch.{AreAfter}
+use Rattle.dh_office.specs.Jobs.{IsRunCut, stand_of}
+use Rattle.dh_office.specs.Leaving.{TakingLeaves, WorkLeaves}
+use Rattle.dh_agency.specs.Seat.{Seat}
+use Rattle.dh_agency.specs.Agency.{IsClean, machine, shown_by}
+use Rattle.dh_lines.specs.Batch.{stand}
+use Rattle.dh_runs.specs.declared.problem.Problem.{Problem}
+use Rattle.dh_runs.specs.declared.problem.Problem.TheVariants as problem
+use Rattle.dh_runs.specs.Taking.{IsFirstProblem}
+use Rattle.dh_office.specs.declared.jobs.Work.{Work}
+use Rattle.dh_office.specs.declared.jobs.Work.TheVariants as work
+use Rattle.dh_office.specs.declared.taking.FileJob.{FileJob}
+use Rattle.dh_office.specs.declared.taking.FileJob.TheVariants as job
+use Rattle.dh_office.specs.declared.status.Status.{Status}
+use Rattle.dh_office.specs.declared.status.Status.TheVariants.{Failed, FileRefused}
+use Rattle.dh_office.specs.Statuses.{problem_status}
+use Rattle.dh_office.specs.Texts.{problem_line}
+use Rattle.dh_office.specs.Printed.{Before, Behind, Closes, IsMakingEnd, IsOfLines, IsRecoveryEnd, IsRefusedEnd, IsReportEnd, IsRunEnd, Prints, PrintsJob, PrintsWork, PutsAs, TellsFault, Whole, Within}
+use Rattle.dh_office.specs.Ends.{LinesEnd, WorkEnds}
+use Rattle.dh_office.proofs.TextLemmas.{fault_as, told_behind}
+
+-- ---- what was printed
+
+-- a text with its status, or a beginning of it
+pub prints_as : (IsEnd : List ℕ → Status → Type 0) (text : List ℕ) (wanted : Status) (a b : Option (List ℕ)) (status : Status) → IsEnd text wanted
+    → PutsAs text wanted a b status → Prints IsEnd a b status
+prints_as IsEnd text wanted a b status ends (inl (is, h)) = Whole text (subst (IsEnd text) (sym is) ends) h
+prints_as IsEnd text wanted a b status ends (inr (failed, h)) = Within text wanted ends h failed
+
+-- a problem: the file was refused, or a fault came
+pub problem_prints : (problem : Problem) (a b : Option (List ℕ)) (status : Status) → IsFirstProblem problem → PutsAs (problem_line problem) (problem_status problem) a b status
+    → Prints IsRefusedEnd a b status
+problem_prints (problem.Refused why) a b status first h =
+    prints_as IsRefusedEnd (problem_line (problem.Refused why)) FileRefused a b status (why, first, refl, refl) h
+problem_prints (problem.Fault fault) a b status first h = let told = fault_as a b fault status first h in Before told.0 told.1
+
+-- ---- closing
+
+module _ (IsEnd : List ℕ → Status → Type 0) (a m b : Option (List ℕ)) (before after : Status) where
+  stays : (after ≡ before) × (b ≡ m) → Prints IsEnd a m before → Prints IsEnd a b after
+  stays same h = subst (λ s. Prints IsEnd a b s) (sym same.0) (subst (λ o. Prints IsEnd a o before) (sym same.1) h)
+
+  pub prints_closed : Prints IsEnd a m before → Closes m b before after → Prints IsEnd a b after
+  prints_closed h (inl same) = stays same h
+  prints_closed (Whole text ends h) (inr (fine, told, failed)) = Behind text before ends (told_behind a m b text h told) failed
+  prints_closed (Within text last ends h wrong) (inr (fine, told, failed)) = absurd (fine wrong)
+  prints_closed (Behind text last ends h wrong) (inr (fine, told, failed)) = absurd (fine wrong)
+  prints_closed (Before h wrong) (inr (fine, told, failed)) = absurd (fine wrong)
+
+pub failed_of_lines : (status : Status) → status ≡ Failed → IsOfLines status
+failed_of_lines status failed = (λ is. cc, λ is. cc)
+
+lines_closed : (m b : Option (List ℕ)) (before after : Status) → IsOfLines before → Closes m b before after → IsOfLines after
+lines_closed m b before after h (inl same) = subst IsOfLines (sym same.0) h
+lines_closed m b before after h (inr (fine, told, failed)) = failed_of_lines after failed
+
+module _ (a m b : Option (List ℕ)) (before after : Status) (closes : Closes m b before after) where
+  work_closed : (it : Work) → PrintsWork it a m before → PrintsWork it a b after
+  work_closed work.Lines h = lines_closed m b before after h closes
+  work_closed (work.Run order batches) h = prints_closed IsRunEnd a m b before after h closes
+  work_closed (work.Report question) h = prints_closed IsReportEnd a m b before after h closes
+
+  refused_closed : Prints IsRefusedEnd a m before → Prints IsRefusedEnd a b after
+  refused_closed h = prints_closed IsRefusedEnd a m b before after h closes
+
+  pub job_closed : (it : FileJob) → PrintsJob it a m before → PrintsJob it a b after
+  job_closed (job.Make first) h = prints_closed (IsMakingEnd first) a m b before after h closes
+  job_closed job.Recover (inl h) = inl (prints_closed IsRecoveryEnd a m b before after h closes)
+  job_closed job.Recover (inr h) = inr (refused_closed h)
+  job_closed (job.Work it) (inl h) = inl (work_closed it h)
+  job_closed (job.Work it) (inr h) = inr (refused_closed h)
+
+-- a fault that came first
+pub job_before : (it : FileJob) (a b : Option (List ℕ)) (status : Status) → TellsFault a b [] → status ≡ Failed → PrintsJob it a b status
+job_before (job.Make first) a b status told failed = Before told failed
+job_before job.Recover a b status told failed = inl (Before told failed)
+job_before (job.Work it) a b status told failed = inr (Before told failed)
+
+-- ---- the store behind an agency
+
+module _ {S : Type 0} (g : Ghosts S) (after : Seat S) (last : Held S) (same : last ≡ after.conn) where
+  pub was_clean : HasCleanDisk (state g last) → IsClean g after
+  was_clean clean = subst (λ (h : Held S). HasCleanDisk (state g h)) same clean
+
+  back : (P : conn.State → Type 0) → P (shown_by g after) → P (state g last)
+  back P h = subst (λ (h : Held S). P (state g h)) (sym same) h
+
+  module _ (a b : Option (List ℕ)) (status : Status) where
+    pub work_ends : (old : Held S) (taken : Seat S) → machine g taken ≡ store.tables (state g old) → (input : Option (List ℕ)) (it : Work)
+        → WorkEnds (shown_by g after) a b (machine g taken) input it status → WorkEnds (state g last) a b (store.tables (state g old)) input it status
+    work_ends old taken is input it h =
+        subst (λ t. WorkEnds (state g last) a b t input it status) is (back (λ new. WorkEnds new a b (machine g taken) input it status) h)
+
+    pub lines_end : (s : State) (made : Seat S) → stand g made ≡ s → (input : Option (List ℕ))
+        → IfSome input (λ input. LinesEnd (shown_by g after) a b (stand g made) input status) → IfSome input (λ input. LinesEnd (state g last) a b s input status)
+    lines_end s made is input h =
+        subst (λ t. IfSome input (λ input. LinesEnd (state g last) a b t input status)) is
+        (back (λ new. IfSome input (λ input. LinesEnd new a b (stand g made) input status)) h)
+
+-- ---- tables that were not taken
+
+module _ (old new : conn.State) (h : LeavesAsTheyWere old new) (sound : IsSound old.now.trees) where
+  same_leaves : (P : State → Type 0) → P (store.tables old) → Leaves new P
+  same_leaves P p left may = subst (λ (t : Trees). IsSound t × P (state_in t)) (sym (h left may)) (sound, p)
+
+  run_kept : (order : RunOrder) (batches : Option ℕ) → IsRunCut (stand_of (store.tables old)) order batches (store.tables old)
+  run_kept order None = inl (refl, refl)
+  run_kept order (Some count) = inl (inl (refl, refl))
+
+  work_kept : (it : Work) → WorkLeaves new (store.tables old) it
+  work_kept work.Lines =
+      let s = stand_of (store.tables old) in
+      record { rows = []; within = []; one = omega arith; left = same_leaves (λ left. AreAfter s [] left ⊎ AreAfter s [] left) (inl refl) }
+  work_kept (work.Run order batches) = same_leaves (IsRunCut (stand_of (store.tables old)) order batches) (run_kept order batches)
+  work_kept (work.Report question) = same_leaves (λ left. left ≡ store.tables old) refl
+
+pub kept_leaves : (old new : conn.State) (it : Work) → TakesAsTheyAre old new → TakingLeaves old new it
+kept_leaves old new it kept = record {
+  worked = λ clean sound. work_kept old new (kept.crash clean) sound it;
+  untouched = λ clean wrong. kept.crash clean;
+}

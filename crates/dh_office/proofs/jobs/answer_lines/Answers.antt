@@ -1,0 +1,22 @@
+use Rattle.std.proofs.Common.{inl, inr, refl, sym, ap, arith}
+use Rattle.std.specs.Prelude.{nat_lt}
+use Rattle.std.proofs.lemmas.Option.{IfSome_then}
+use Rattle.dh_agency.specs.Agency.{shown_by}
+use Rattle.dh_lines.specs.Batch.{stand}
+use Rattle.dh_lines.specs.Session.{records_of}
+use Rattle.dh_office.specs.Jobs.{lines_answered}
+use Rattle.dh_office.proofs.AnswerLemmas.{stops}
+use Rattle.dh_office.proofs.FinishLemmas.{comes_finished}
+use Rattle.dh_office.proofs.jobs.answer_lines.Goals as goal
+
+pub returns-in-Ok-clause-ends : goal.returns-in-Ok-clause-ends
+returns-in-Ok-clause-ends g c clean =
+    let mid = c.batch.new.agency in
+    IfSome_then (g.R.Read.remaining c.args.reader.now) (c.in-Ok.ensures.ends (omega (arith, c.finish.ensures.was_clean)))
+    (λ input h. inl (comes_finished (shown_by g.S.Store mid) (shown_by g.S.Store c.finish.new.agency) _ _ _ _ c.finish.result
+    (lines_answered (stand g.S.Store c.args.agency.now) (records_of input)) (ap (nat_lt 0) (sym h.refused)) h.written clean h.state c.finish.ensures.ends))
+
+pub returns-in-Err-clause-ends : goal.returns-in-Err-clause-ends
+returns-in-Err-clause-ends g c clean =
+    IfSome_then (g.R.Read.remaining c.args.reader.now) (c.in-Err.ensures.ends clean)
+    (λ input h. inr (stops g.S.Store c.args.agency.now c.batch.new.agency _ _ c.in-Err.field-0 input h, refl))

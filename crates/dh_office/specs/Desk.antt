@@ -1,0 +1,58 @@
+-- What comes of the words behind the program's name.
+use Rattle.std.specs.Prelude.{◌≡◌, ◌⊎◌, ℕ, List, ◌++◌, Option, Some, None, codes}
+use Rattle.clap.specs.Values.{kind_of}
+use Rattle.clap.specs.declared.error.Error.{Error}
+use Rattle.clap.specs.declared.error.kind.ErrorKind.{ErrorKind}
+use Rattle.clap.specs.declared.error.kind.ErrorKind.TheVariants.{DisplayHelp, DisplayVersion}
+use Rattle.dh_types.specs.declared.reply.Fault.TheVariants as fault
+use Rattle.dh_words.specs.declared.kinds.BadWords.{BadWords}
+use Rattle.dh_words.specs.declared.kinds.BadWords.TheVariants as bad
+use Rattle.dh_words.specs.declared.kinds.Job.{Job}
+use Rattle.dh_words.specs.declared.kinds.Job.TheVariants.{Init, Batch, Run, Recover, Report}
+use Rattle.dh_words.specs.Jobs.{IsBadFor, IsJobOf}
+use Rattle.dh_lines.specs.Session.{newline}
+use Rattle.dh_office.specs.declared.jobs.Work.TheVariants as work
+use Rattle.dh_office.specs.declared.taking.FileJob.{FileJob}
+use Rattle.dh_office.specs.declared.taking.FileJob.TheVariants as job
+use Rattle.dh_office.specs.declared.status.Status.{Status}
+use Rattle.dh_office.specs.declared.status.Status.TheVariants as status
+use Rattle.dh_office.specs.Texts.{fault_line, refusal_line}
+use Rattle.dh_office.specs.Printed.{IsOfLines, PrintsJob, PutsAs}
+use Rattle.dh_office.specs.Ends.{MemoryLinesEnd}
+
+-- help is all that was asked for, and else the words are bad
+abbrev pub message_status : ErrorKind → Status
+message_status DisplayHelp = status.Done
+message_status DisplayVersion = status.Done
+message_status _ = status.BadWords
+
+-- what `clap` says of the words was printed, or that failed
+abbrev pub MessagePrints : Error → Status → Type 0
+MessagePrints error it = (it ≡ message_status (kind_of error)) ⊎ (it ≡ status.Failed)
+
+-- the option whose value is bad
+abbrev pub value_line : List ℕ → List ℕ
+value_line option = codes "bad " ++ option ++ newline
+
+abbrev pub BadPrints : BadWords → Option (List ℕ) → Option (List ℕ) → Status → Type 0
+BadPrints (bad.Refused error) a b it = MessagePrints error it
+BadPrints (bad.Value option) a b it = PutsAs (value_line option.now) status.BadWords a b it
+BadPrints (bad.Question refusal) a b it = PutsAs (refusal_line refusal) status.BadWords a b it
+BadPrints bad.Memory a b it = PutsAs (fault_line fault.Memory) status.Failed a b it
+
+-- lines are answered on a file, or in memory where none is named
+abbrev pub BatchEnds : {T : Type 0} → Option T → ℕ → Option (List ℕ) → Option (List ℕ) → Option (List ℕ) → Status → Type 0
+BatchEnds None first input a b it = IsOfLines it × MemoryLinesEnd a b first input it
+BatchEnds (Some file) first input a b it = PrintsJob (job.Work work.Lines) a b it
+
+abbrev pub AskedEnds : Job → Option (List ℕ) → Option (List ℕ) → Option (List ℕ) → Status → Type 0
+AskedEnds (Init file first) input a b it = PrintsJob (job.Make first) a b it
+AskedEnds (Batch file first) input a b it = BatchEnds file first input a b it
+AskedEnds (Run file order batches) input a b it = PrintsJob (job.Work (work.Run order batches)) a b it
+AskedEnds (Recover file) input a b it = PrintsJob job.Recover a b it
+AskedEnds (Report file question) input a b it = PrintsJob (job.Work (work.Report question)) a b it
+
+-- The words ask for a job, and it was done; or they ask for none, and that was said.
+abbrev pub DeskEnds : List (List ℕ) → Option (List ℕ) → Option (List ℕ) → Option (List ℕ) → Status → Type 0
+DeskEnds words input a b it =
+    ((asked : Job) × IsJobOf words asked × AskedEnds asked input a b it) ⊎ ((why : BadWords) × IsBadFor words why × BadPrints why a b it)

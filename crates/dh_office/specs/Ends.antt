@@ -1,0 +1,123 @@
+-- How jobs end: what was printed, the status, and where the tables stand.
+use Rattle.std.specs.Prelude.{◌≡◌, ◌⊎◌, ℕ, ◌+◌, ◌<◌, ◌≤◌, List, [], ◌++◌, length, take, slice_get, Option, Some, IfSome, Bool, IsTrue}
+use Rattle.std.specs.Io.KnownBytes.{Appends}
+use Rattle.sqlite.specs.State as conn
+use Rattle.sqlite.specs.State.{HasCleanDisk}
+use Rattle.sqlite.specs.Held.{Held, state}
+use Rattle.sqlite.specs.Steps.{over_memory}
+use Rattle.sqlite_trees.specs.declared.memory.MemStore.{MemStore}
+use Rattle.dh_types.specs.declared.command.RunOrder.{RunOrder}
+use Rattle.dh_types.specs.declared.question.Question.{Question}
+use Rattle.dh_types.specs.declared.reply.Fault.{Fault}
+use Rattle.dh_types.specs.Output.{BreaksOff}
+use Rattle.dh_model.specs.Books.{State, start}
+use Rattle.dh_schema.specs.Store as store
+use Rattle.dh_runs.specs.declared.problem.Problem.{Problem}
+use Rattle.dh_runs.specs.Taking.{IsProblemOf}
+use Rattle.dh_runs.specs.Told.{IsMended}
+use Rattle.dh_agency.specs.Taken.{TakesAsTheyAre, TakesForward}
+use Rattle.dh_fields.specs.Lines.{Fields}
+use Rattle.dh_lines.specs.Session as session
+use Rattle.dh_lines.specs.Session.{Answered, line, lines_from, records_of, replied, state_after}
+use Rattle.dh_lines.specs.Batch.{IsWithin}
+use Rattle.dh_office.specs.declared.jobs.Work.{Work}
+use Rattle.dh_office.specs.declared.jobs.Work.TheVariants as work
+use Rattle.dh_office.specs.declared.taking.FileJob.{FileJob}
+use Rattle.dh_office.specs.declared.taking.FileJob.TheVariants as job
+use Rattle.dh_office.specs.declared.status.Status.{Status}
+use Rattle.dh_office.specs.declared.status.Status.TheVariants.{Done, Failed}
+use Rattle.dh_office.specs.Statuses.{IsEnding, ending, problem_status, status_of}
+use Rattle.dh_office.specs.Texts.{created_line, problem_line, recovered_line}
+use Rattle.dh_office.specs.Printed.{PutsAs, TellsFault}
+use Rattle.dh_office.specs.Jobs.{IsRunCut, lines_answered, report_shown, run_told, stand_in, stand_of}
+
+-- ---- over tables that were taken
+
+-- The job came to this. Its text was printed, and the status is by what is left; or the writer failed in the text; or a fault came
+-- behind it, as the open run was asked for.
+pub data Comes (new : conn.State) (a b : Option (List ℕ)) (it : Answered) (status : Status) : Type 0 where
+  Told : Appends a b it.text → stand_in new ≡ it.state → status ≡ status_of it → Comes new a b it status
+  Unheard : BreaksOff a b it.text → stand_in new ≡ it.state → status ≡ Failed → Comes new a b it status
+  Unasked : TellsFault a b it.text → (IsTrue new.is_open → stand_in new ≡ it.state) → status ≡ Failed → Comes new a b it status
+
+-- A fault came first, and was told. Of tables that can be read this holds.
+pub record Breaks (new : conn.State) (a b : Option (List ℕ)) (P : State → Type 0) (status : Status) : Type 0 where
+  pub told : TellsFault a b []
+  pub left : IsTrue new.is_open → P (store.tables new)
+  pub failed : status ≡ Failed
+
+-- The first records were answered, and then no more: by a fault within the next one, whose line or a beginning of it follows;
+-- by a reader that failed; or by a writer that failed in the next one's line, which was carried out.
+pub data Stops (new : conn.State) (a b : Option (List ℕ)) (s : State) (rows : List Fields) : Type 0 where
+  AtFault : (count : ℕ) (fault : Fault) (taken : ℕ) → count ≤ length rows
+      → Appends a b (lines_from 1 s (take count rows) ++ take taken (session.fault_line (count + 1) fault))
+      → (IsTrue new.is_open → IsWithin (state_after s (take count rows)) (slice_get rows count) (store.tables new)) → Stops new a b s rows
+  AtReading : (count : ℕ) → count ≤ length rows → Appends a b (lines_from 1 s (take count rows))
+      → stand_in new ≡ state_after s (take count rows) → Stops new a b s rows
+  AtWriting : (count : ℕ) (fields : Fields) (cut : ℕ) → slice_get rows count ≡ Some fields
+      → cut < length (line (count + 1) (state_after s (take count rows)) fields)
+      → Appends a b (lines_from 1 s (take count rows) ++ take cut (line (count + 1) (state_after s (take count rows)) fields))
+      → stand_in new ≡ state_after s (take (count + 1) rows) → Stops new a b s rows
+
+abbrev pub LinesEnd : conn.State → Option (List ℕ) → Option (List ℕ) → State → List ℕ → Status → Type 0
+LinesEnd new a b s input status =
+    Comes new a b (lines_answered s (records_of input)) status ⊎ (Stops new a b s (records_of input) × (status ≡ Failed))
+
+-- Nothing is printed, and the status is by what is left; or a fault came, and was told. The tables are as they were.
+abbrev pub Finishes : conn.State → conn.State → Option (List ℕ) → Option (List ℕ) → Bool → Status → Type 0
+Finishes old new a b is_refused status =
+    ((b ≡ a) × IsEnding is_refused status
+    × (HasCleanDisk new → (store.tables new ≡ store.tables old) × (status ≡ ending is_refused (store.tables old).open_run)))
+    ⊎ (TellsFault a b [] × (HasCleanDisk new → IsTrue new.is_open → store.tables new ≡ store.tables old) × (status ≡ Failed))
+
+-- a month's run over these tables
+abbrev pub RunEnds : conn.State → Option (List ℕ) → Option (List ℕ) → State → RunOrder → Option ℕ → Status → Type 0
+RunEnds new a b t order batches status =
+    Comes new a b (replied (run_told (stand_of t) order batches)) status ⊎ Breaks new a b (IsRunCut (stand_of t) order batches) status
+
+abbrev pub ReportEnds : conn.State → Option (List ℕ) → Option (List ℕ) → State → Question → Status → Type 0
+ReportEnds new a b t question status = Comes new a b (report_shown (stand_of t) question) status ⊎ Breaks new a b (λ left. left ≡ t) status
+
+abbrev pub WorkEnds : conn.State → Option (List ℕ) → Option (List ℕ) → State → Option (List ℕ) → Work → Status → Type 0
+WorkEnds new a b t input work.Lines status = IfSome input (λ input. LinesEnd new a b (stand_of t) input status)
+WorkEnds new a b t input (work.Run order batches) status = RunEnds new a b t order batches status
+WorkEnds new a b t input (work.Report question) status = ReportEnds new a b t question status
+
+-- ---- over a store
+
+-- The tables were not taken, for a reason that holds of them, or for a fault.
+pub record IsNotTaken (old : conn.State) (a b : Option (List ℕ)) (status : Status) : Type 0 where
+  pub problem : Problem
+  pub cause : IsProblemOf old.now.trees problem
+  pub told : PutsAs (problem_line problem) (problem_status problem) a b status
+
+-- The tables were taken, and worked on; or not taken, and they are as they were.
+abbrev pub TakingEnds : conn.State → conn.State → Option (List ℕ) → Option (List ℕ) → Option (List ℕ) → Work → Status → Type 0
+TakingEnds old new a b input it status =
+    WorkEnds new a b (store.tables old) input it status ⊎ (IsNotTaken old a b status × TakesAsTheyAre old new)
+
+-- The open run was made to its end; or the tables were not taken, or a fault came on the way, and the open run is moved on at most.
+abbrev pub RecoveryEnds : conn.State → conn.State → Option (List ℕ) → Option (List ℕ) → Status → Type 0
+RecoveryEnds old new a b status =
+    (IsMended (store.tables old) (store.tables new) × PutsAs recovered_line Done a b status) ⊎ (IsNotTaken old a b status × TakesForward old new)
+
+-- The tables of empty books were made; or a fault came, and what was committed is as it was.
+abbrev pub MakingEnds : conn.State → conn.State → Option (List ℕ) → Option (List ℕ) → ℕ → Status → Type 0
+MakingEnds old new a b first status =
+    ((store.tables new ≡ start first) × PutsAs (created_line first) Done a b status)
+    ⊎ (TellsFault a b [] × (status ≡ Failed) × (IsTrue new.is_open → new.committed ≡ old.committed))
+
+-- Lines are answered from the beginning with this month; or there was no agency, for a fault.
+abbrev pub NewLinesEnd : conn.State → Option (List ℕ) → Option (List ℕ) → ℕ → Option (List ℕ) → Status → Type 0
+NewLinesEnd new a b first input status =
+    IfSome input (λ input. LinesEnd new a b (start first) input status) ⊎ (TellsFault a b [] × (status ≡ Failed))
+
+-- the same in memory, which leaves some tables
+abbrev pub MemoryLinesEnd : Option (List ℕ) → Option (List ℕ) → ℕ → Option (List ℕ) → Status → Type 0
+MemoryLinesEnd a b first input status =
+    ((left : Held MemStore) × NewLinesEnd (state over_memory left) a b first input status) ⊎ (TellsFault a b [] × (status ≡ Failed))
+
+abbrev pub JobEnds : conn.State → conn.State → Option (List ℕ) → Option (List ℕ) → Option (List ℕ) → FileJob → Status → Type 0
+JobEnds old new a b input (job.Make first) status = MakingEnds old new a b first status
+JobEnds old new a b input job.Recover status = RecoveryEnds old new a b status
+JobEnds old new a b input (job.Work it) status = TakingEnds old new a b input it status

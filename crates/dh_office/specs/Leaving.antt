@@ -1,0 +1,39 @@
+-- What a crash leaves of a job, at whatever moment it comes.
+use Rattle.std.specs.Prelude.{◌≡◌, ◌⊎◌, ◌≤◌, List, ◌++◌, length}
+use Rattle.sqlite.specs.State as conn
+use Rattle.sqlite.specs.State.{HasCleanDisk}
+use Rattle.dh_model.specs.Books.{State, start}
+use Rattle.dh_schema.specs.Store.{Commits, Leaves, tables}
+use Rattle.dh_schema.specs.Tables.{IsSound}
+use Rattle.dh_agency.specs.Taken.{LeavesAsTheyWere, TakesForward}
+use Rattle.dh_fields.specs.Lines.{Fields}
+use Rattle.dh_lines.specs.Batch.{AreAfter}
+use Rattle.dh_office.specs.declared.jobs.Work.{Work}
+use Rattle.dh_office.specs.declared.jobs.Work.TheVariants as work
+use Rattle.dh_office.specs.declared.taking.FileJob.{FileJob}
+use Rattle.dh_office.specs.declared.taking.FileJob.TheVariants as job
+use Rattle.dh_office.specs.Jobs.{IsRunCut, stand_of}
+
+-- Some records were answered, and one more at most was being answered: the whole of the tables is the machine's books after those, or
+-- after that one too.
+pub record LinesLeave (new : conn.State) (s : State) : Type 0 where
+  pub rows : List Fields
+  pub within : List Fields
+  pub one : length within ≤ 1
+  pub left : Leaves new (λ left. AreAfter s rows left ⊎ AreAfter s (rows ++ within) left)
+
+-- work over these tables
+abbrev pub WorkLeaves : conn.State → State → Work → Type 0
+WorkLeaves new t work.Lines = LinesLeave new (stand_of t)
+WorkLeaves new t (work.Run order batches) = Leaves new (IsRunCut (stand_of t) order batches)
+WorkLeaves new t (work.Report question) = Leaves new (λ left. left ≡ t)
+
+-- The same from sound tables; others stay.
+pub record TakingLeaves (old new : conn.State) (it : Work) : Type 0 where
+  pub worked : HasCleanDisk new → IsSound old.now.trees → WorkLeaves new (tables old) it
+  pub untouched : HasCleanDisk new → ¬ IsSound old.now.trees → LeavesAsTheyWere old new
+
+abbrev pub JobLeaves : conn.State → conn.State → FileJob → Type 0
+JobLeaves old new (job.Make first) = Commits old new (λ t. t ≡ start first)
+JobLeaves old new job.Recover = TakesForward old new
+JobLeaves old new (job.Work it) = TakingLeaves old new it

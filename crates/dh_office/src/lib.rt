@@ -1,0 +1,13 @@
+//! What each subcommand of `letting` does, over any store and on files. Read [`desk`] first.
+#![tactic(auto)]
+
+mod asking;
+mod files;
+mod jobs;
+mod status;
+mod taking;
+mod telling;
+mod wording;
+
+pub use status::Status;
+pub use wording::desk;

@@ -1,0 +1,141 @@
+//! Jobs over a store: its tables are made, recovered, or taken and worked on, and the store is handed back.
+
+ghost use Rattle.std.specs.Prelude.{◌≡◌, ◌≤◌};
+ghost use Rattle.sqlite.specs.State.{HasCleanDisk};
+ghost use Rattle.sqlite.specs.Held.{state};
+ghost use Rattle.dh_types.specs.declared.reply.Fault.TheVariants as fault;
+ghost use Rattle.dh_schema.specs.Store.{IsBlank};
+ghost use Rattle.dh_runs.specs.Taking.{IsResting};
+ghost use Rattle.dh_office.specs.Ends.{JobEnds, MakingEnds, NewLinesEnd, RecoveryEnds, TakingEnds};
+ghost use Rattle.dh_office.specs.Leaving.{JobLeaves};
+ghost use Rattle.dh_office.specs.Printed.{IsMakingEnd, IsOfLines, IsRecoveryEnd, IsRefusedEnd, Prints, PrintsJob, PrintsWork, PutsAs};
+ghost use Rattle.dh_office.specs.Texts.{fault_line};
+
+use crate::jobs::{Work, answer_lines, carry_out};
+use crate::status::Status;
+use crate::telling::{heard, print_created, print_recovered, tell_fault, tell_problem};
+use dh_agency::{NotOpened, attach, create, recover};
+use dh_types::EntryMonth;
+use sqlite::{Alter, Connection};
+use std::alloc::Global;
+use std::io::{Read, Write};
+
+/// What is done on a file.
+#[derive(Clone, Copy)]
+pub(crate) enum FileJob {
+    /// Makes the tables of empty books that begin with this month.
+    Make(EntryMonth),
+    /// Makes the open run to its end.
+    Recover,
+    /// Takes the tables, and works on them.
+    Work(Work),
+}
+
+// Makes the tables of empty books.
+fn make<S: Alter, W: Write>(
+    alloc: Global,
+    conn: Connection<S>,
+    first: EntryMonth,
+    writer: &mut W,
+) -> (Status, Connection<S>)
+    ensures printed { Prints (IsMakingEnd first) (W.contents writer.old) (W.contents writer.new) result.0 }
+    ensures ends { HasCleanDisk (state S.Store result.1)
+        → MakingEnds (state S.Store conn) (state S.Store result.1) (W.contents writer.old) (W.contents writer.new) first result.0 }
+    ensures crash { JobLeaves (state S.Store conn) (state S.Store result.1) (FileJob.Make first) }
+    ensures occupied { ¬ IsBlank (state S.Store conn)
+        → PutsAs (fault_line fault.Store) Status.Failed (W.contents writer.old) (W.contents writer.new) result.0 × (result.1 ≡ conn) }
+{
+    match create(alloc, conn, first.month()) {
+        Ok(agency) => (
+            heard(print_created(writer, first), Status::Done),
+            agency.into_store(),
+        ),
+        Err(NotOpened { cause, conn }) => (tell_fault(writer, cause), conn),
+    }
+}
+
+// Makes the open run to its end.
+fn mend<S: Alter, W: Write>(
+    alloc: Global,
+    conn: Connection<S>,
+    writer: &mut W,
+) -> (Status, Connection<S>)
+    requires { HasCleanDisk (state S.Store conn) → IsResting (state S.Store conn) }
+    ensures printed { PrintsJob FileJob.Recover (W.contents writer.old) (W.contents writer.new) result.0 }
+    ensures ends { HasCleanDisk (state S.Store result.1)
+        → RecoveryEnds (state S.Store conn) (state S.Store result.1) (W.contents writer.old) (W.contents writer.new) result.0 }
+    ensures crash { JobLeaves (state S.Store conn) (state S.Store result.1) FileJob.Recover }
+{
+    match recover(alloc, conn) {
+        Ok(agency) => (
+            heard(print_recovered(writer), Status::Done),
+            agency.into_store(),
+        ),
+        Err(NotOpened { cause, conn }) => (tell_problem(writer, cause), conn),
+    }
+}
+
+// Takes the tables as they are, and works on them.
+fn take<S: Alter, R: Read, W: Write>(
+    alloc: Global,
+    conn: Connection<S>,
+    work: Work,
+    reader: &mut R,
+    writer: &mut W,
+) -> (Status, Connection<S>)
+    requires { HasCleanDisk (state S.Store conn) → IsResting (state S.Store conn) }
+    ensures printed { PrintsJob (FileJob.Work work) (W.contents writer.old) (W.contents writer.new) result.0 }
+    ensures ends { HasCleanDisk (state S.Store result.1)
+        → TakingEnds (state S.Store conn) (state S.Store result.1) (W.contents writer.old) (W.contents writer.new) (R.remaining reader.old) work result.0 }
+    ensures crash { JobLeaves (state S.Store conn) (state S.Store result.1) (FileJob.Work work) }
+{
+    match attach(alloc, conn) {
+        Ok(mut agency) => {
+            let status = carry_out(alloc, &mut agency, work, reader, writer);
+            (status, agency.into_store())
+        }
+        Err(NotOpened { cause, conn }) => (tell_problem(writer, cause), conn),
+    }
+}
+
+/// Answers lines from the beginning, over a store that has nothing yet.
+pub(crate) fn begin<S: Alter, R: Read, W: Write>(
+    alloc: Global,
+    conn: Connection<S>,
+    first: EntryMonth,
+    reader: &mut R,
+    writer: &mut W,
+) -> (Status, Connection<S>)
+    ensures printed { IsOfLines result.0 }
+    ensures ends { HasCleanDisk (state S.Store result.1)
+        → NewLinesEnd (state S.Store result.1) (W.contents writer.old) (W.contents writer.new) first (R.remaining reader.old) result.0 }
+{
+    match create(alloc, conn, first.month()) {
+        Ok(mut agency) => {
+            let status = answer_lines(alloc, &mut agency, reader, writer);
+            (status, agency.into_store())
+        }
+        Err(NotOpened { cause, conn }) => (tell_fault(writer, cause), conn),
+    }
+}
+
+/// Does the job over the store of a file.
+pub(crate) fn do_job<S: Alter, R: Read, W: Write>(
+    alloc: Global,
+    conn: Connection<S>,
+    job: FileJob,
+    reader: &mut R,
+    writer: &mut W,
+) -> (Status, Connection<S>)
+    requires { HasCleanDisk (state S.Store conn) → IsResting (state S.Store conn) }
+    ensures printed { PrintsJob job (W.contents writer.old) (W.contents writer.new) result.0 }
+    ensures ends { HasCleanDisk (state S.Store result.1)
+        → JobEnds (state S.Store conn) (state S.Store result.1) (W.contents writer.old) (W.contents writer.new) (R.remaining reader.old) job result.0 }
+    ensures crash { JobLeaves (state S.Store conn) (state S.Store result.1) job }
+{
+    match job {
+        FileJob::Make(first) => make(alloc, conn, first, writer),
+        FileJob::Recover => mend(alloc, conn, writer),
+        FileJob::Work(work) => take(alloc, conn, work, reader, writer),
+    }
+}

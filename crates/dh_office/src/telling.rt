@@ -1,0 +1,109 @@
+//! What is printed, each text with one line feed at its end. It takes no memory.
+
+ghost use Rattle.std.specs.Prelude.{◌≡◌, ℕ, ◌/◌, ◌%◌, ◌+◌, [], ◌∷◌, take};
+ghost use Rattle.std.specs.Io.KnownBytes.{Appends};
+ghost use Rattle.dh_types.specs.Output.{Puts};
+ghost use Rattle.dh_types.specs.Reports.{report_of};
+ghost use Rattle.dh_office.specs.Printed.{PutsAs, heard};
+ghost use Rattle.dh_office.specs.Statuses.{problem_status};
+ghost use Rattle.dh_office.specs.Texts.{created_line, fault_line, problem_line, recovered_line, refusal_line, reply_line, report_lines};
+
+use crate::status::Status;
+use dh_agency::Problem;
+use dh_reports::write;
+use dh_types::writing::{put, put_parts};
+use dh_types::{
+    Answer, EntryMonth, Fault, Output, Refusal, Reply, put_fault, put_refusal, put_reply,
+};
+use itoa::Buffer;
+use std::io::Write;
+
+/// Writes the reply's text and a line feed; at an `Output` a beginning of them.
+pub(crate) fn print_reply<W: Write>(writer: &mut W, reply: Reply) -> Result<(), Output>
+    ensures { Puts (W.contents writer.old) (W.contents writer.new) result (reply_line reply) }
+{
+    put_reply(writer, reply)?;
+    put(writer, b"\n")
+}
+
+/// Writes the text of the refusal and a line feed; at an `Output` a beginning of them.
+pub(crate) fn print_refusal<W: Write>(writer: &mut W, refusal: Refusal) -> Result<(), Output>
+    ensures { Puts (W.contents writer.old) (W.contents writer.new) result (refusal_line refusal) }
+{
+    put_refusal(writer, refusal)?;
+    put(writer, b"\n")
+}
+
+fn print_fault<W: Write>(writer: &mut W, fault: Fault) -> Result<(), Output>
+    ensures { Puts (W.contents writer.old) (W.contents writer.new) result (fault_line fault) }
+{
+    put_fault(writer, fault)?;
+    put(writer, b"\n")
+}
+
+/// Writes the report, or the refusal's text and a line feed; at an `Output` a beginning of them.
+pub(crate) fn print_answer<W: Write>(writer: &mut W, answer: &Answer) -> Result<(), Output>
+    ensures { Puts (W.contents writer.old) (W.contents writer.new) result (report_lines (report_of answer.now)) }
+{
+    match answer {
+        Answer::Refused(refusal) => print_refusal(writer, *refusal),
+        _ => write(answer, writer),
+    }
+}
+
+// A hyphen and the month of the year, behind the year.
+fn month_behind(month: EntryMonth) -> [u8; 3]
+    ensures { result ≡ 45 ∷ (48 + (month % 12 + 1) / 10) ∷ (48 + (month % 12 + 1) % 10) ∷ [] }
+{
+    let of_year = month.number() % 12 + 1;
+    [
+        b'-',
+        b'0' + (of_year / 10) as u8,
+        b'0' + (of_year % 10) as u8,
+    ]
+}
+
+/// Writes that books were made which begin with this month; at an `Output` a beginning of that.
+pub(crate) fn print_created<W: Write>(writer: &mut W, first: EntryMonth) -> Result<(), Output>
+    ensures { Puts (W.contents writer.old) (W.contents writer.new) result (created_line first) }
+{
+    let mut digits = Buffer::new();
+    let year = digits.format(first.number() / 12).as_bytes();
+    put_parts(writer, &[b"created ", year, &month_behind(first), b"\n"])
+}
+
+/// Writes that a file is recovered; at an `Output` a beginning of that.
+pub(crate) fn print_recovered<W: Write>(writer: &mut W) -> Result<(), Output>
+    ensures { Puts (W.contents writer.old) (W.contents writer.new) result recovered_line }
+{
+    put(writer, b"recovered\n")
+}
+
+/// The status, where the text was written whole.
+pub(crate) fn heard(outcome: Result<(), Output>, status: Status) -> Status
+    ensures { result ≡ heard outcome status }
+{
+    match outcome {
+        Ok(()) => status,
+        Err(_) => Status::Failed,
+    }
+}
+
+/// Tells the fault, as far as the writer takes it.
+pub(crate) fn tell_fault<W: Write>(writer: &mut W, fault: Fault) -> Status
+    ensures failed { result ≡ Status.Failed }
+    ensures told { (taken : ℕ) × Appends (W.contents writer.old) (W.contents writer.new) (take taken (fault_line fault)) }
+{
+    let _ = print_fault(writer, fault);
+    Status::Failed
+}
+
+/// Tells why tables are not taken.
+pub(crate) fn tell_problem<W: Write>(writer: &mut W, problem: Problem) -> Status
+    ensures { PutsAs (problem_line problem) (problem_status problem) (W.contents writer.old) (W.contents writer.new) result }
+{
+    match problem {
+        Problem::Refused(refusal) => heard(print_refusal(writer, refusal), Status::FileRefused),
+        Problem::Fault(fault) => heard(print_fault(writer, fault), Status::Failed),
+    }
+}

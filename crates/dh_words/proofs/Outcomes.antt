@@ -1,0 +1,37 @@
+-- What `job` answers, by what `clap` answered.
+use Rattle.std.proofs.Common.{◌≡◌, ◌∙◌, true, List, [], Result, Ok, Err, IfErr, IfOk, inl, inr, sym, ap, subst}
+use Rattle.clap.specs.Kinds.{HasKind, IsAmong}
+use Rattle.clap.specs.Words.{App, Row, Text, fault_of, is_simple_and_free, kind_of, subcommand_of}
+use Rattle.clap.specs.declared.error.Error.{Error}
+use Rattle.dh_words.proofs.Complete.{simple_and_free}
+use Rattle.dh_words.specs.Jobs.{HandsOn, IsAnswer, IsBadFor, IsJobOf, Takes}
+use Rattle.dh_words.specs.Table.{letting}
+use Rattle.dh_words.specs.declared.kinds.BadWords.{BadWords}
+use Rattle.dh_words.specs.declared.kinds.BadWords.TheVariants.{Refused, Value, Question, Memory}
+use Rattle.dh_words.specs.declared.kinds.Job.{Job}
+
+told : (words : List Text) (error : Error) (bad : BadWords) → HasKind (fault_of letting words) error → HandsOn error bad → IsBadFor words bad
+told words error (Refused same) (inl none) h = absurd (h.1 none)
+told words error (Refused same) (inr kind) h = subst (λ e. IsAmong (kind_of e) (fault_of letting words)) (sym h.0) kind
+told words error (Value option) kind h = absurd h
+told words error (Question refusal) kind h = absurd h
+told words error Memory kind h = tt
+
+-- an error of `clap`
+pub refused_so : (a : App) (words : List Text) (error : Error) (bad : BadWords) → a ≡ letting → (is_simple_and_free a ≡ true → HasKind (fault_of a words) error)
+    → HandsOn error bad → IsBadFor words bad
+refused_so a words error bad e h =
+    told words error bad (subst (λ x. HasKind (fault_of x words) error) e (h (ap is_simple_and_free e ∙ simple_and_free)))
+
+-- a subcommand
+module _ (words : List Text) (name : Text) (rows : List Row) (taken : Takes words (name, rows)) where
+  pub answered : (r : Result Job BadWords) → IsAnswer name rows r → IfOk r (IsJobOf words)
+  answered (Ok job) h = ((name, rows), taken, h.0, h.1)
+  answered (Err bad) h = tt
+
+  pub answered_badly : (r : Result Job BadWords) → IsAnswer name rows r → IfErr r (IsBadFor words)
+  answered_badly (Ok job) h = tt
+  answered_badly (Err (Refused error)) h = absurd h
+  answered_badly (Err (Value option)) h = ((name, rows), taken, h)
+  answered_badly (Err (Question refusal)) h = ((name, rows), taken, h.0, h.1, h.2)
+  answered_badly (Err Memory) h = tt

@@ -1,0 +1,105 @@
+-- Reading the options.
+use Rattle.std.proofs.Common.{◌≡◌, ◌≢◌, ◌∙◌, ◌&&◌, ◌||◌, not, Bool, cond, true, false, List, [], ◌∷◌, Option, Some, None, is_some, option_map, Result, Ok, Err, IfOk, MatchResult, Bor, refl, sym, ap, subst, codes}
+use Rattle.std.specs.Prelude.{option_and_then}
+use Rattle.std.specs.Option.{option_map_or}
+use Rattle.clap.proofs.WalkLemmas.{first_value-rows}
+use Rattle.clap.specs.Words.{Row, Text, first_of, first_value, rows_of}
+use Rattle.clap.specs.declared.parser.matches.Found.{Found}
+use Rattle.dh_values.specs.Counts.{batch_count_of}
+use Rattle.dh_values.specs.Texts.{is_key}
+use Rattle.dh_days.specs.Months.{month_of}
+use Rattle.dh_words.specs.Options.{first_bad, is_read, key_of, name_of, value}
+use Rattle.dh_words.specs.declared.options.Judged.{Judged}
+
+-- ---- one option, whose text is told
+
+pub text_of : (f : Found) (n : Text) (option : Judged) (o : Option Text) → o ≡ first_value f n → n ≡ name_of option → o ≡ first_of (name_of option) (rows_of f)
+text_of f n option o e is = e ∙ first_value-rows f n ∙ ap (λ x. first_of x (rows_of f)) is
+
+pub is_the_key : (text key : Text) → key ≡ text → is_key text ≡ true → key_of text ≡ Some key
+is_the_key text key same h = ap (λ b. cond b (Some text) None) h ∙ ap (λ t. Some t) (sym same)
+
+pub is_no_key : (text : Text) → (is_key text ≡ true → ⊥) → key_of text ≡ None
+is_no_key text h = go (is_key text) h
+  where
+    go : (b : Bool) → (b ≡ true → ⊥) → cond b (Some text) None ≡ None
+    go true wrong = absurd (wrong refl)
+    go false wrong = refl
+
+module _ {T : Type 0} (read : Text → Option T) (name : Text) (rows : List Row) where
+  pub not_given : None ≡ first_of name rows → (is_read read name rows ≡ true) × (None ≡ value read name rows)
+  not_given e = (ap (λ o. option_map_or (λ text. is_some (read text)) o true) (sym e), ap (option_and_then read) e)
+
+  pub given_well : (text : Text) (it : T) → Some text ≡ first_of name rows → read text ≡ Some it → (is_read read name rows ≡ true) × (Some it ≡ value read name rows)
+  given_well text it e is = (
+    ap (λ o. option_map_or (λ t. is_some (read t)) o true) (sym e) ∙ ap is_some is,
+    sym is ∙ ap (option_and_then read) e,
+  )
+
+  pub given_badly : (text : Text) → Some text ≡ first_of name rows → read text ≡ None → is_read read name rows ≡ false
+  given_badly text e is = ap (λ o. option_map_or (λ t. is_some (read t)) o true) (sym e) ∙ ap is_some is
+
+  -- an option that is read, and has a text, has a value
+  pub has_value : is_read read name rows ≡ true → is_some (first_of name rows) ≡ true → is_some (value read name rows) ≡ true
+  has_value well there = go (first_of name rows) well there
+    where
+      go : (o : Option Text) → option_map_or (λ text. is_some (read text)) o true ≡ true → is_some o ≡ true → is_some (option_and_then read o) ≡ true
+      go None w t = cc
+      go (Some text) w t = w
+
+-- an option that is there has a value
+pub value_there : {T : Type 0} (read : Text → Option T) (name : Text) (rows : List Row) (it : Option T) → it ≡ value read name rows → is_read read name rows ≡ true
+    → is_some (first_of name rows) ≡ true → is_some it ≡ true
+value_there read name rows it e well there = ap is_some e ∙ has_value read name rows well there
+
+pub text_there : (name : Text) (rows : List Row) (it : Option (Bor Text)) → option_map (λ text. text.now) it ≡ first_of name rows
+    → is_some (first_of name rows) ≡ true → is_some it ≡ true
+text_there name rows None e there = ap is_some e ∙ there
+text_there name rows (Some text) e there = refl
+
+-- ---- all of them
+
+abbrev pub AllRead : List Row → Type 0
+AllRead rows = (is_read month_of (codes "first") rows ≡ true) × (is_read key_of (codes "key") rows ≡ true) × (is_read month_of (codes "month") rows ≡ true)
+    × (is_read batch_count_of (codes "batches") rows ≡ true)
+
+abbrev pick : (a b c d : Bool) → Option Text
+pick a b c d = cond (not a) (Some (codes "first")) (cond (not b) (Some (codes "key")) (cond (not c) (Some (codes "month")) (cond (not d) (Some (codes "batches")) None)))
+
+all_true : (a b c d : Bool) → pick a b c d ≡ None → (a ≡ true) × (b ≡ true) × (c ≡ true) × (d ≡ true)
+all_true true true true true is = (refl, refl, refl, refl)
+all_true false b c d is = (cc, cc, cc, cc)
+all_true true false c d is = (cc, cc, cc, cc)
+all_true true true false d is = (cc, cc, cc, cc)
+all_true true true true false is = (cc, cc, cc, cc)
+
+module _ (rows : List Row) where
+  abbrev first_read : Bool
+  first_read = is_read month_of (codes "first") rows
+
+  abbrev key_read : Bool
+  key_read = is_read key_of (codes "key") rows
+
+  abbrev month_read : Bool
+  month_read = is_read month_of (codes "month") rows
+
+  abbrev batches_read : Bool
+  batches_read = is_read batch_count_of (codes "batches") rows
+
+  pub all_read : first_bad rows ≡ None → AllRead rows
+  all_read e = all_true first_read key_read month_read batches_read e
+
+  pub none_bad : AllRead rows → first_bad rows ≡ None
+  none_bad h = λ i. pick (h.0 i) (h.1 i) (h.2 i) (h.3 i)
+
+  pub first_is_bad : first_read ≡ false → first_bad rows ≡ Some (codes "first")
+  first_is_bad a = λ i. pick (a i) key_read month_read batches_read
+
+  pub key_is_bad : first_read ≡ true → key_read ≡ false → first_bad rows ≡ Some (codes "key")
+  key_is_bad a b = λ i. pick (a i) (b i) month_read batches_read
+
+  pub month_is_bad : first_read ≡ true → key_read ≡ true → month_read ≡ false → first_bad rows ≡ Some (codes "month")
+  month_is_bad a b c = λ i. pick (a i) (b i) (c i) batches_read
+
+  pub batches_are_bad : first_read ≡ true → key_read ≡ true → month_read ≡ true → batches_read ≡ false → first_bad rows ≡ Some (codes "batches")
+  batches_are_bad a b c d = λ i. pick (a i) (b i) (c i) (d i)

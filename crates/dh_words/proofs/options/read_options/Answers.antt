@@ -1,0 +1,21 @@
+use Rattle.std.proofs.Common.{codes, ◌∙◌}
+use Rattle.clap.proofs.WalkLemmas.{first_value-rows}
+use Rattle.clap.specs.Words.{found_of, rows_of}
+use Rattle.dh_words.proofs.Values.{none_bad}
+use Rattle.dh_words.proofs.options.read_options.Goals as goal
+
+pub returns : goal.returns
+returns c =
+    let first = c.in_ok-read_month.ensures in
+    let key = c.in_ok-read_key.ensures in
+    let month = c.in_ok-read_month-2.ensures in
+    let batches = c.in_ok-read_batches.ensures in (
+      none_bad (rows_of (found_of c.args.values.now)) (first.0, key.0, month.0, batches.0),
+      record {
+        file = c.get_str.ensures ∙ first_value-rows (found_of c.args.values.now) (codes "file");
+        first = first.1;
+        key = key.1;
+        month = month.1;
+        batches = batches.1;
+      },
+    )

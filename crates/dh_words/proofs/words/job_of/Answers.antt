@@ -1,0 +1,65 @@
+use Rattle.std.proofs.Common.{codes, ◌∙◌, ap, option_map, sym}
+use Rattle.clap.specs.Words.{found_of, rows_of}
+use Rattle.dh_days.specs.Months.{month_of}
+use Rattle.dh_fields.specs.Lines.{a_question, request_of}
+use Rattle.dh_words.proofs.Answers.{fields_are, init_has, no_other, recover_has, report_has, run_has, words_there}
+use Rattle.dh_words.proofs.Values.{all_read, text_there, value_there}
+use Rattle.dh_words.specs.Options.{key_of}
+use Rattle.dh_words.proofs.words.job_of.Goals as goal
+
+pub unwrap-requires : goal.unwrap-requires
+unwrap-requires c =
+    let rows = rows_of (found_of c.args.values.now) in
+    text_there (codes "file") rows _ c.in-Ok.ensures.1.file (init_has c.args.name.now rows c.requires c.in-init.is).0
+
+pub unwrap-requires-in-init : goal.unwrap-requires-in-init
+unwrap-requires-in-init c =
+    let rows = rows_of (found_of c.args.values.now) in
+    value_there month_of (codes "first") rows _ c.in-Ok.ensures.1.first (all_read rows c.in-Ok.ensures.0).0 (init_has c.args.name.now rows c.requires c.in-init.is).1
+
+pub unwrap-requires-in-run : goal.unwrap-requires-in-run
+unwrap-requires-in-run c =
+    let rows = rows_of (found_of c.args.values.now) in
+    text_there (codes "file") rows _ c.in-Ok.ensures.1.file (run_has c.args.name.now rows c.requires c.in-run.is).0
+
+pub unwrap-requires-in-run-2 : goal.unwrap-requires-in-run-2
+unwrap-requires-in-run-2 c =
+    let rows = rows_of (found_of c.args.values.now) in
+    value_there key_of (codes "key") rows _ c.in-Ok.ensures.1.key (all_read rows c.in-Ok.ensures.0).1 (run_has c.args.name.now rows c.requires c.in-run.is).1
+
+pub unwrap-requires-in-run-3 : goal.unwrap-requires-in-run-3
+unwrap-requires-in-run-3 c =
+    let rows = rows_of (found_of c.args.values.now) in
+    value_there month_of (codes "month") rows _ c.in-Ok.ensures.1.month (all_read rows c.in-Ok.ensures.0).2 (run_has c.args.name.now rows c.requires c.in-run.is).2
+
+pub unwrap-requires-in-recover : goal.unwrap-requires-in-recover
+unwrap-requires-in-recover c =
+    let rows = rows_of (found_of c.args.values.now) in
+    text_there (codes "file") rows _ c.in-Ok.ensures.1.file (recover_has c.args.name.now rows c.requires c.in-recover.is)
+
+pub unwrap-requires-in-report : goal.unwrap-requires-in-report
+unwrap-requires-in-report c =
+    let rows = rows_of (found_of c.args.values.now) in
+    words_there (found_of c.args.values.now) c.get_strs.result c.get_strs.ensures (report_has c.args.name.now rows c.requires c.in-report.is).1
+
+pub unwrap-requires-in-Ok-2 : goal.unwrap-requires-in-Ok-2
+unwrap-requires-in-Ok-2 c =
+    let rows = rows_of (found_of c.args.values.now) in
+    text_there (codes "file") rows _ c.in-Ok.ensures.1.file (report_has c.args.name.now rows c.requires c.in-report.is).0
+
+pub unreachable-requires : goal.unreachable-requires
+unreachable-requires c =
+    let no = c.in_default in
+    no_other c.args.name.now (rows_of (found_of c.args.values.now)) c.requires no.not-init no.not-batch no.not-run no.not-recover no.not-report
+
+pub returns-in-Ok-2 : goal.returns-in-Ok-2
+returns-in-Ok-2 c =
+    let fields = fields_are (found_of c.args.values.now) c.get_strs.result c.get_strs.ensures c.unwrap-in-report.result c.unwrap-in-report.ensures in
+    let asked = ap request_of fields ∙ sym c.in_ok-question-in-report.ensures ∙ ap a_question c.in-Ok-2.is in
+    (c.in-Ok.ensures.0, (c.in-report.is, sym c.in-Ok.ensures.1.file ∙ ap (option_map (λ text. text.now)) c.unwrap-in-Ok-2.ensures, asked))
+
+pub returns-in-Err-2 : goal.returns-in-Err-2
+returns-in-Err-2 c =
+    let fields = fields_are (found_of c.args.values.now) c.get_strs.result c.get_strs.ensures c.unwrap-in-report.result c.unwrap-in-report.ensures in
+    let asked = ap request_of fields ∙ sym c.in_ok-question-in-report.ensures ∙ ap a_question c.in-Err-2.is in
+    (c.in-Ok.ensures.0, c.in-report.is, asked)

@@ -1,0 +1,3 @@
+pub mod Table
+pub mod Options
+pub mod Jobs

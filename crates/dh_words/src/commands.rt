@@ -1,0 +1,184 @@
+//! The subcommands of `letting` and their options, as `clap` is told them.
+
+ghost use Rattle.std.specs.Prelude.{◌≡◌, [], IfOk};
+ghost use Rattle.clap.specs.Words.{app_of};
+ghost use Rattle.dh_words.specs.Table as table;
+ghost use Rattle.dh_words.specs.Table.{Adds, IsArgument, IsSubcommand};
+
+use clap::{Arg, Command};
+use std::alloc::{AllocError, Global};
+
+const STATUSES: &str = "Exit status:\n  \
+    0  done\n  \
+    1  some line was refused\n  \
+    2  bad words\n  \
+    3  a fault, or a failing input or output\n  \
+    4  a rent run stands open\n  \
+    5  the file was refused";
+
+const QUESTIONS: &str = "Questions:\n  \
+    branches               all branches\n  \
+    vacant DAY             the properties that no lease covers that day\n  \
+    matching CLIENT DAY    the vacant properties that the client would take\n  \
+    statement LEASE        what a lease was charged and what was paid on it\n  \
+    arrears BRANCH         the leases of a branch on which rent is owed\n  \
+    run MONTH              the parts of a month's closed rent run";
+
+// The option `--name VALUE`, which may be left out.
+fn option<'a>(alloc: Global, name: &'a str, value: &'a str, help: &'a str) -> Arg<'a>
+    ensures { IsArgument (table.option name.entry.now) result }
+{
+    Arg::new(alloc, name)
+        .long(name)
+        .value_name(value)
+        .help(help)
+}
+
+// The option `--name VALUE`, which has to be given.
+fn required<'a>(alloc: Global, name: &'a str, value: &'a str, help: &'a str) -> Arg<'a>
+    ensures { IsArgument (table.required (table.option name.entry.now)) result }
+{
+    option(alloc, name, value, help).required(true)
+}
+
+// One word or more that belong to no option.
+fn free_words<'a>(alloc: Global) -> Arg<'a>
+    ensures { IsArgument table.free_words result }
+{
+    Arg::new(alloc, "word")
+        .value_name("WORD")
+        .help("The question, as: arrears B001")
+        .num_args(1..)
+        .required(true)
+}
+
+fn init<'a>(alloc: Global) -> Result<Command<'a>, AllocError>
+    ensures { IfOk result (IsSubcommand table.init) }
+{
+    Command::new(alloc, "init")
+        .about("Makes the file of a new agency and prints `created M`, M being its first month")
+        .arg(required(
+            alloc,
+            "file",
+            "FILE",
+            "The file to make, as --file letting.db",
+        ))?
+        .arg(required(
+            alloc,
+            "first",
+            "MONTH",
+            "The month that the books begin with, as --first 2025-01",
+        ))
+}
+
+fn batch<'a>(alloc: Global) -> Result<Command<'a>, AllocError>
+    ensures { IfOk result (IsSubcommand table.batch) }
+{
+    Command::new(alloc, "batch")
+        .about("Answers the lines of standard input and prints a reply line for each")
+        .arg(option(
+            alloc,
+            "file",
+            "FILE",
+            "The agency's file, as --file letting.db; without it the agency is in memory",
+        ))?
+        .arg(option(
+            alloc,
+            "first",
+            "MONTH",
+            "The month that an agency in memory begins with, as --first 2025-01, which it is where not given",
+        ))
+}
+
+fn run<'a>(alloc: Global) -> Result<Command<'a>, AllocError>
+    ensures { IfOk result (IsSubcommand table.run) }
+{
+    Command::new(alloc, "run")
+        .about("Charges a month's rent and prints the reply")
+        .arg(required(
+            alloc,
+            "file",
+            "FILE",
+            "The agency's file, as --file letting.db",
+        ))?
+        .arg(required(
+            alloc,
+            "key",
+            "KEY",
+            "The key of the run, as --key R-2025-01; sent again, it charges nothing twice",
+        ))?
+        .arg(required(
+            alloc,
+            "month",
+            "MONTH",
+            "The month to charge, as --month 2025-01",
+        ))?
+        .arg(option(
+            alloc,
+            "batches",
+            "N",
+            "Only opens the run and carries out so many batches, as --batches 3",
+        ))
+}
+
+fn recover<'a>(alloc: Global) -> Result<Command<'a>, AllocError>
+    ensures { IfOk result (IsSubcommand table.recover) }
+{
+    Command::new(alloc, "recover")
+        .about("Brings the open rent run to its end and prints `recovered`")
+        .arg(required(
+            alloc,
+            "file",
+            "FILE",
+            "The agency's file, as --file letting.db",
+        ))
+}
+
+fn report<'a>(alloc: Global) -> Result<Command<'a>, AllocError>
+    ensures { IfOk result (IsSubcommand table.report) }
+{
+    Command::new(alloc, "report")
+        .about("Answers a question: prints the report, or the refusal")
+        .after_help(QUESTIONS)
+        .arg(required(
+            alloc,
+            "file",
+            "FILE",
+            "The agency's file, as --file letting.db",
+        ))?
+        .arg(free_words(alloc))
+}
+
+// `letting` before it has its subcommands.
+fn top<'a>(alloc: Global) -> Command<'a>
+    ensures { app_of result ≡ record { top = table.top; subs = [] } }
+{
+    Command::new(alloc, "letting")
+        .about("The daily system of a property letting agency")
+        .after_help(STATUSES)
+        .no_binary_name(true)
+        .disable_help_subcommand(true)
+        .arg_required_else_help(true)
+        .subcommand_required(true)
+}
+
+// The command with one more subcommand.
+fn with<'a>(
+    command: Command<'a>,
+    subcommand: Result<Command<'a>, AllocError>,
+) -> Result<Command<'a>, AllocError>
+    ensures { IfOk result (Adds command.entry subcommand.entry) }
+{
+    command.subcommand(subcommand?)
+}
+
+/// All that the words behind the program's name may be.
+pub(crate) fn letting<'a>(alloc: Global) -> Result<Command<'a>, AllocError>
+    ensures { IfOk result (λ command. app_of command ≡ table.letting) }
+{
+    let letting = with(top(alloc), init(alloc))?;
+    let letting = with(letting, batch(alloc))?;
+    let letting = with(letting, run(alloc))?;
+    let letting = with(letting, recover(alloc))?;
+    with(letting, report(alloc))
+}

@@ -1,0 +1,11 @@
+//! What the words behind `letting` ask for. Read `Job` first, then `job`.
+#![tactic(auto)]
+
+mod commands;
+mod kinds;
+mod options;
+mod questions;
+mod words;
+
+pub use kinds::{BadWords, Job};
+pub use words::job;

@@ -1,0 +1,85 @@
+//! From words to a job.
+
+ghost use Rattle.std.specs.Prelude.{◌≡◌, map, true, IfErr, IfOk};
+ghost use Rattle.clap.specs.Words.{found_of, rows_of};
+ghost use Rattle.dh_words.specs.Jobs.{HandsOn, IsAnswer, IsBadFor, IsJobOf, is_complete};
+
+use crate::commands::letting;
+use crate::options::read_options;
+use crate::questions::read_question;
+use crate::{BadWords, Job};
+use clap::error::ErrorKind;
+use clap::{ArgMatches, Error};
+use dh_types::{EntryMonth, RunOrder};
+use std::alloc::Global;
+
+/// The first month of an agency in memory where none is given: 2025-01, counted as 12 * year + month - 1.
+const FIRST_MONTH: u32 = 24300;
+
+// Why the words ask for no job, where `clap` answers this.
+fn refused(error: Error) -> BadWords
+    ensures { HandsOn error result }
+{
+    match error.kind() {
+        ErrorKind::OutOfMemory => BadWords::Memory,
+        _ => BadWords::Refused(error),
+    }
+}
+
+// The job of the subcommand of this name, where its words have these values.
+fn job_of<'a>(alloc: Global, name: &str, values: &ArgMatches<'a>) -> Result<Job<'a>, BadWords>
+    requires { is_complete name.now (rows_of (found_of values.now)) ≡ true }
+    ensures { IsAnswer name.now (rows_of (found_of values.now)) result }
+{
+    let options = match read_options(values) {
+        Ok(options) => options,
+        Err(option) => return Err(BadWords::Value(option.name())),
+    };
+    match name {
+        "init" => Ok(Job::Init {
+            file: options.file.unwrap(),
+            first: options.first.unwrap(),
+        }),
+        "batch" => Ok(Job::Batch {
+            file: options.file,
+            first: options.first.unwrap_or(EntryMonth::of_number(FIRST_MONTH)),
+        }),
+        "run" => Ok(Job::Run {
+            file: options.file.unwrap(),
+            order: RunOrder {
+                key: options.key.unwrap(),
+                month: options.month.unwrap(),
+            },
+            batches: options.batches,
+        }),
+        "recover" => Ok(Job::Recover {
+            file: options.file.unwrap(),
+        }),
+        "report" => match read_question(alloc, values.get_strs("word").unwrap())? {
+            Ok(question) => Ok(Job::Report {
+                file: options.file.unwrap(),
+                question,
+            }),
+            Err(refusal) => Err(BadWords::Question(refusal)),
+        },
+        _ => unreachable!(),
+    }
+}
+
+/// The job that the words behind the program's name ask for. `Refused` comes where `clap` does not take the words: they are
+/// none of the table of subcommands, or ask for help. `Value` has the first option, in the order file, first, key, month,
+/// batches, whose text is none of its values, even one that is then passed over. `Question` has the first bad field of the
+/// question of a `report`, where `show` is field 1. `Memory` is want of memory.
+pub fn job<'a>(alloc: Global, words: &'a [&'a str]) -> Result<Job<'a>, BadWords>
+    ensures ok { IfOk result (IsJobOf (map (λ word. word.now) words.entry.now)) }
+    ensures err { IfErr result (IsBadFor (map (λ word. word.now) words.entry.now)) }
+{
+    let matches = match letting(alloc)?.try_get_matches_from(words) {
+        Ok(matches) => matches,
+        Err(error) => return Err(refused(error)),
+    };
+    match matches.subcommand() {
+        Some((name, values)) => job_of(alloc, name, values),
+        None => unreachable!(),
+    }
+}
