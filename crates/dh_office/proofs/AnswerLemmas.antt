@@ -1,5 +1,6 @@
 -- Lines and questions, in the words of jobs.
-use Rattle.std.proofs.Common.{◌≡◌, ◌∙◌, ◌⊎◌, inl, inr, Bool, true, false, ℕ, ◌+◌, ◌<◌, ◌≤◌, Option, Some, None, List, [], ◌∷◌, ◌++◌, length, take, Result, Ok, Err, refl, sym, ap, subst, arith}
+use Rattle.std.proofs.Common.{◌≡◌, ◌∙◌, ◌⊎◌, inl, inr, Bool, true, false, ℕ, ◌+◌, ◌<◌, ◌≤◌, Option, Some, None, List, [], ◌∷◌, ◌++◌, length, take, Result, Ok}
+use Rattle.std.proofs.Common.{Err, refl, sym, ap, subst, arith}
 use Rattle.std.specs.Prelude.{nat_lt}
 use Rattle.std.specs.Io.KnownBytes.{Appends}
 use Rattle.std.proofs.lemmas.List.{take_all}
@@ -31,7 +32,8 @@ behind a b first second (Ok it) h = (length second, subst (λ l. Appends a b (fi
 behind a b first second (Err e) h = (h.0, h.2)
 
 -- a batch that ended early
-pub stops : {S : Type 0} (g : Ghosts S) (old new : Seat S) (a b : Option (List ℕ)) (fault : BatchFault) (input : List ℕ) → EndsSo g old new a b (Err fault) input
+pub stops : {S : Type 0} (g : Ghosts S) (old new : Seat S) (a b : Option (List ℕ)) (fault : BatchFault) (input : List ℕ)
+    → EndsSo g old new a b (Err fault) input
     → Stops (shown_by g new) a b (stand g old) (records_of input)
 stops g old new a b (ended.Agency fault) input (outcome, h) =
     let told = behind a b (lines_from 1 (stand g old) (take h.count (records_of input))) (session.fault_line (h.count + 1) fault) outcome h.written in

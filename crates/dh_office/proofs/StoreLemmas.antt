@@ -32,7 +32,8 @@ use Rattle.dh_office.specs.declared.status.Status.{Status}
 use Rattle.dh_office.specs.declared.status.Status.TheVariants.{Failed, FileRefused}
 use Rattle.dh_office.specs.Statuses.{problem_status}
 use Rattle.dh_office.specs.Texts.{problem_line}
-use Rattle.dh_office.specs.Printed.{Before, Behind, Closes, IsMakingEnd, IsOfLines, IsRecoveryEnd, IsRefusedEnd, IsReportEnd, IsRunEnd, Prints, PrintsJob, PrintsWork, PutsAs, TellsFault, Whole, Within}
+use Rattle.dh_office.specs.Printed.{Before, Behind, Closes, IsMakingEnd, IsOfLines, IsRecoveryEnd, IsRefusedEnd, IsReportEnd, IsRunEnd, Prints, PrintsJob}
+use Rattle.dh_office.specs.Printed.{PrintsWork, PutsAs, TellsFault, Whole, Within}
 use Rattle.dh_office.specs.Ends.{LinesEnd, WorkEnds}
 use Rattle.dh_office.proofs.TextLemmas.{fault_as, told_behind}
 
@@ -45,7 +46,8 @@ prints_as IsEnd text wanted a b status ends (inl (is, h)) = Whole text (subst (I
 prints_as IsEnd text wanted a b status ends (inr (failed, h)) = Within text wanted ends h failed
 
 -- a problem: the file was refused, or a fault came
-pub problem_prints : (problem : Problem) (a b : Option (List ℕ)) (status : Status) → IsFirstProblem problem → PutsAs (problem_line problem) (problem_status problem) a b status
+pub problem_prints : (problem : Problem) (a b : Option (List ℕ)) (status : Status) → IsFirstProblem problem
+    → PutsAs (problem_line problem) (problem_status problem) a b status
     → Prints IsRefusedEnd a b status
 problem_prints (problem.Refused why) a b status first h =
     prints_as IsRefusedEnd (problem_line (problem.Refused why)) FileRefused a b status (why, first, refl, refl) h
@@ -109,7 +111,8 @@ module _ {S : Type 0} (g : Ghosts S) (after : Seat S) (last : Held S) (same : la
         subst (λ t. WorkEnds (state g last) a b t input it status) is (back (λ new. WorkEnds new a b (machine g taken) input it status) h)
 
     pub lines_end : (s : State) (made : Seat S) → stand g made ≡ s → (input : Option (List ℕ))
-        → IfSome input (λ input. LinesEnd (shown_by g after) a b (stand g made) input status) → IfSome input (λ input. LinesEnd (state g last) a b s input status)
+        → IfSome input (λ input. LinesEnd (shown_by g after) a b (stand g made) input status)
+            → IfSome input (λ input. LinesEnd (state g last) a b s input status)
     lines_end s made is input h =
         subst (λ t. IfSome input (λ input. LinesEnd (state g last) a b t input status)) is
         (back (λ new. IfSome input (λ input. LinesEnd new a b (stand g made) input status)) h)

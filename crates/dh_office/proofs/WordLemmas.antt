@@ -25,7 +25,8 @@ use Rattle.dh_office.specs.declared.status.Status.TheVariants as status
 use Rattle.dh_office.specs.Statuses.{IsEnding}
 use Rattle.dh_office.specs.Desk.{AskedEnds, BatchEnds, DeskEnds}
 use Rattle.dh_office.specs.Ends.{MemoryLinesEnd}
-use Rattle.dh_office.specs.Printed.{Before, Behind, IsMakingEnd, IsRecoveryEnd, IsRefusedEnd, IsReportEnd, IsRunEnd, Prints, PrintsJob, PrintsWork, Whole, Within}
+use Rattle.dh_office.specs.Printed.{Before, Behind, IsMakingEnd, IsRecoveryEnd, IsRefusedEnd, IsReportEnd, IsRunEnd, Prints, PrintsJob, PrintsWork, Whole}
+use Rattle.dh_office.specs.Printed.{Within}
 use Rattle.dh_office.proofs.TextLemmas.{fault_as}
 
 -- ---- the word `batch` alone

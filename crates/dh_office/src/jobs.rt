@@ -197,7 +197,8 @@ pub(crate) fn carry_out<S: Alter, R: Read, W: Write>(
     ensures printed { PrintsWork work (W.contents writer.old) (W.contents writer.new) result }
     ensures ends { IsClean S.Store agency.new → WorkEnds (shown_by S.Store agency.new) (W.contents writer.old) (W.contents writer.new)
         (machine S.Store agency.old) (R.remaining reader.old) work result }
-    ensures crash { IsClean S.Store agency.new → LeavesItsTables S.Store agency.old → WorkLeaves (shown_by S.Store agency.new) (machine S.Store agency.old) work }
+    ensures crash { IsClean S.Store agency.new → LeavesItsTables S.Store agency.old
+        → WorkLeaves (shown_by S.Store agency.new) (machine S.Store agency.old) work }
     ensures was_clean { WasClean S.Store agency.old agency.new }
 {
     match work {

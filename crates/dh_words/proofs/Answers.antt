@@ -1,5 +1,6 @@
 -- What a subcommand of the table has, and its question.
-use Rattle.std.proofs.Common.{◌≡◌, ◌∙◌, ◌&&◌, Bool, cond, true, false, List, [], ◌∷◌, Option, Some, None, is_some, option_map, Result, Ok, Err, bytes_eq, codes, refl, sym, ap, subst}
+use Rattle.std.proofs.Common.{◌≡◌, ◌∙◌, ◌&&◌, Bool, cond, true, false, List, [], ◌∷◌, Option, Some, None, is_some, option_map, Result, Ok, Err, bytes_eq, codes}
+use Rattle.std.proofs.Common.{refl, sym, ap, subst}
 use Rattle.std.proofs.Common.{Bor, map, unwrap_or}
 use Rattle.std.specs.Prelude.{option_and_then, slice_get}
 use Rattle.std.specs.List.{find, list_all}
@@ -60,7 +61,8 @@ module _ (name : Text) (rows : List Row) (complete : is_complete name rows ≡ t
   judged a b c d e = option_map_or (λ (s : Shape). list_all (is_there rows) s.rules)
       (cond a (Some init) (cond b (Some batch) (cond c (Some run) (cond d (Some recover) (cond e (Some report) None))))) false
 
-  pub no_other : (name ≡ codes "init" → ⊥) → (name ≡ codes "batch" → ⊥) → (name ≡ codes "run" → ⊥) → (name ≡ codes "recover" → ⊥) → (name ≡ codes "report" → ⊥) → ⊥
+  pub no_other : (name ≡ codes "init" → ⊥) → (name ≡ codes "batch" → ⊥) → (name ≡ codes "run" → ⊥) → (name ≡ codes "recover" → ⊥)
+      → (name ≡ codes "report" → ⊥) → ⊥
   unfolding is_complete letting
   no_other a b c d e =
       let none : is_complete name rows ≡ false =

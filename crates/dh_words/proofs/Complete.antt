@@ -95,7 +95,8 @@ both_of f g (Some x) a b p q = let l : a ≡ f x = cc in let r : b ≡ g x = cc 
 
 -- the name and the rows of the subcommand that a parse entered are those that the words give
 pub asked : (a : App) (words : List Text) (m : ArgMatches) (name : Text) (rows : List Row) → a ≡ letting → HasMatchesOf a words m
-    → Some name ≡ subcommand_name_of m → Some rows ≡ option_map (λ (p : Text × List Row). p.1) (subcommand_rows_of m) → subcommand_of letting words ≡ Some (name, rows)
+    → Some name ≡ subcommand_name_of m → Some rows ≡ option_map (λ (p : Text × List Row). p.1) (subcommand_rows_of m)
+    → subcommand_of letting words ≡ Some (name, rows)
 asked a words m name rows e h p q =
     sym ((h (ap is_simple e ∙ simple)).1 ∙ ap (λ (x : App). subcommand_of x words) e) ∙ both_of _ _ (out-ArgMatches m).subcommand name rows p q
 

@@ -1,5 +1,6 @@
 -- Reading the options.
-use Rattle.std.proofs.Common.{◌≡◌, ◌≢◌, ◌∙◌, ◌&&◌, ◌||◌, not, Bool, cond, true, false, List, [], ◌∷◌, Option, Some, None, is_some, option_map, Result, Ok, Err, IfOk, MatchResult, Bor, refl, sym, ap, subst, codes}
+use Rattle.std.proofs.Common.{◌≡◌, ◌≢◌, ◌∙◌, ◌&&◌, ◌||◌, not, Bool, cond, true, false, List, [], ◌∷◌, Option, Some, None, is_some, option_map, Result, Ok, Err}
+use Rattle.std.proofs.Common.{IfOk, MatchResult, Bor, refl, sym, ap, subst, codes}
 use Rattle.std.specs.Prelude.{option_and_then}
 use Rattle.std.specs.Option.{option_map_or}
 use Rattle.clap.proofs.WalkLemmas.{first_value-rows}
@@ -30,7 +31,8 @@ module _ {T : Type 0} (read : Text → Option T) (name : Text) (rows : List Row)
   pub not_given : None ≡ first_of name rows → (is_read read name rows ≡ true) × (None ≡ value read name rows)
   not_given e = (ap (λ o. option_map_or (λ text. is_some (read text)) o true) (sym e), ap (option_and_then read) e)
 
-  pub given_well : (text : Text) (it : T) → Some text ≡ first_of name rows → read text ≡ Some it → (is_read read name rows ≡ true) × (Some it ≡ value read name rows)
+  pub given_well : (text : Text) (it : T) → Some text ≡ first_of name rows → read text ≡ Some it
+      → (is_read read name rows ≡ true) × (Some it ≡ value read name rows)
   given_well text it e is = (
     ap (λ o. option_map_or (λ t. is_some (read t)) o true) (sym e) ∙ ap is_some is,
     sym is ∙ ap (option_and_then read) e,
@@ -48,7 +50,8 @@ module _ {T : Type 0} (read : Text → Option T) (name : Text) (rows : List Row)
       go (Some text) w t = w
 
 -- an option that is there has a value
-pub value_there : {T : Type 0} (read : Text → Option T) (name : Text) (rows : List Row) (it : Option T) → it ≡ value read name rows → is_read read name rows ≡ true
+pub value_there : {T : Type 0} (read : Text → Option T) (name : Text) (rows : List Row) (it : Option T) → it ≡ value read name rows
+    → is_read read name rows ≡ true
     → is_some (first_of name rows) ≡ true → is_some it ≡ true
 value_there read name rows it e well there = ap is_some e ∙ has_value read name rows well there
 
@@ -64,7 +67,8 @@ AllRead rows = (is_read month_of (codes "first") rows ≡ true) × (is_read key_
     × (is_read batch_count_of (codes "batches") rows ≡ true)
 
 abbrev pick : (a b c d : Bool) → Option Text
-pick a b c d = cond (not a) (Some (codes "first")) (cond (not b) (Some (codes "key")) (cond (not c) (Some (codes "month")) (cond (not d) (Some (codes "batches")) None)))
+pick a b c d = cond (not a) (Some (codes "first"))
+    (cond (not b) (Some (codes "key")) (cond (not c) (Some (codes "month")) (cond (not d) (Some (codes "batches")) None)))
 
 all_true : (a b c d : Bool) → pick a b c d ≡ None → (a ≡ true) × (b ≡ true) × (c ≡ true) × (d ≡ true)
 all_true true true true true is = (refl, refl, refl, refl)

@@ -1,5 +1,6 @@
 -- Where a level of a parse has no fault, each row that it leaves has a text, and each required argument has a row.
-use Rattle.std.proofs.Common.{◌≡◌, ◌∙◌, ◌≤◌, ℕ, zero, suc, Bool, cond, true, false, ◌&&◌, ◌||◌, not, true≢false, List, [], ◌∷◌, ◌++◌, length, drop, Option, Some, None, is_some, refl, sym, ap, ap₂, subst}
+use Rattle.std.proofs.Common.{◌≡◌, ◌∙◌, ◌≤◌, ℕ, zero, suc, Bool, cond, true, false, ◌&&◌, ◌||◌, not, true≢false, List, [], ◌∷◌, ◌++◌, length, drop, Option}
+use Rattle.std.proofs.Common.{Some, None, is_some, refl, sym, ap, ap₂, subst}
 use Rattle.std.specs.Prelude.{encode_utf8, nat_lt, option_and_then, slice_get}
 use Rattle.std.specs.List.{find, fold, list_all, list_any}
 use Rattle.std.specs.Option.{option_map_or}
@@ -7,12 +8,18 @@ use Rattle.std.specs.Str.{bytes_eq, chars}
 use Rattle.std.proofs.lemmas.List.Folds.{list_all-append}
 use Rattle.clap.proofs.WalkLemmas.{both}
 use Rattle.clap.specs.Facts.{explicit_source, unwrap_or_range}
-use Rattle.clap.specs.Faults.{bundle_step_fault, check_fault, defaults_fault, flags_fault, flag_word_fault, level_fault, long_fault, option_fault, other_fault, positional_fault, react_fault, settle_fault, short_fault, step_fault, stray_fault, turn_fault, use_fault, walk_fault, word_fault}
+use Rattle.clap.specs.Faults.{bundle_step_fault, check_fault, defaults_fault, flags_fault, flag_word_fault, level_fault, long_fault, option_fault, other_fault}
+use Rattle.clap.specs.Faults.{positional_fault, react_fault, settle_fault, short_fault, step_fault, stray_fault, turn_fault, use_fault, walk_fault, word_fault}
 use Rattle.clap.specs.Kinds.{Kinds, check_kinds, or_else, range_kinds}
 use Rattle.clap.specs.Lexer.{long_of, short_of}
 use Rattle.clap.specs.Simple.{Shape}
 use Rattle.clap.specs.Takes.{is_given}
-use Rattle.clap.specs.Walk.{Held, Names, Outcome, Row, Rule, Step, Text, Waiting, Walk, action_of, after_flag, after_step, arg_by_id, arg_by_index, arg_by_long, arg_by_short, at_row, attached_value, bundle_met, bundle_step, default_rows, finished, first_of, flag_met, has_row, idle, is_pending, long_met, long_or_other, more_values, most_values, next, nothing_held, option_met, option_word, plain, plain_word, positional, positional_held, reacted, reading_by, refused, rows_after, settled, settled_rows, short_met, short_or_plain, subcommand_met, subcommand_or_other, takes_several, takes_values, to_positional, trailing, used, used_as, used_by_id, value, values_or_missing, waits, walk, walk_from, walked, walked_from, with_default, with_values, without, word_met}
+use Rattle.clap.specs.Walk.{Held, Names, Outcome, Row, Rule, Step, Text, Waiting, Walk, action_of, after_flag, after_step, arg_by_id, arg_by_index, arg_by_long}
+use Rattle.clap.specs.Walk.{arg_by_short, at_row, attached_value, bundle_met, bundle_step, default_rows, finished, first_of, flag_met, has_row, idle}
+use Rattle.clap.specs.Walk.{is_pending, long_met, long_or_other, more_values, most_values, next, nothing_held, option_met, option_word, plain, plain_word}
+use Rattle.clap.specs.Walk.{positional, positional_held, reacted, reading_by, refused, rows_after, settled, settled_rows, short_met, short_or_plain}
+use Rattle.clap.specs.Walk.{subcommand_met, subcommand_or_other, takes_several, takes_values, to_positional, trailing, used, used_as, used_by_id, value}
+use Rattle.clap.specs.Walk.{values_or_missing, waits, walk, walk_from, walked, walked_from, with_default, with_values, without, word_met}
 use Rattle.clap.specs.Walk.{done, option, subcommand}
 use Rattle.clap.specs.declared.builder.action.ArgAction.{ArgAction}
 use Rattle.clap.specs.declared.builder.action.ArgAction.TheVariants.{Append, Count, Help, HelpLong, HelpShort, Set, SetFalse, SetTrue, Version}
@@ -85,7 +92,8 @@ gives_text _ least = false
 abbrev pub wants_text : Rule → Bool
 wants_text a = gives_text (action_of a) (unwrap_or_range a.range).start_inclusive
 
-given_text : (a : Rule) (least most : ℕ) (values : List Text) → nat_lt 0 least ≡ true → range_kinds least most (length values) ≡ [] → has_text (values_or_missing a values) ≡ true
+given_text : (a : Rule) (least most : ℕ) (values : List Text) → nat_lt 0 least ≡ true → range_kinds least most (length values) ≡ []
+    → has_text (values_or_missing a values) ≡ true
 given_text a least most [] t e = let bad : InvalidValue ∷ [] ≡ [] = rw t at e in cc
 given_text a least most (v ∷ vs) t e = refl
 
@@ -165,8 +173,10 @@ module _ (c : List Rule) (again : Bool) (all : list_all wants_text c ≡ true) w
           more (reacted c a [] h) (full_reacted a [] h (t a refl) f p.0) p.1
 
   full_step_of_bundle : (next_met : Text → ℕ → Outcome → Held → Held × Outcome) (next_fault : Text → ℕ → Held → Kinds)
-      → ((flags : Text) (skip : ℕ) (o : Outcome) (g : Held) → are_full g.rows ≡ true → next_fault flags skip g ≡ [] → are_full (next_met flags skip o g).0.rows ≡ true)
-      → (first : Option ℕ) (flags : Text) (skip : ℕ) (o : Outcome) (h : Held) → are_full h.rows ≡ true → bundle_step_fault c again first flags skip h next_fault ≡ []
+      → ((flags : Text) (skip : ℕ) (o : Outcome) (g : Held) → are_full g.rows ≡ true → next_fault flags skip g ≡ []
+          → are_full (next_met flags skip o g).0.rows ≡ true)
+      → (first : Option ℕ) (flags : Text) (skip : ℕ) (o : Outcome) (h : Held) → are_full h.rows ≡ true
+      → bundle_step_fault c again first flags skip h next_fault ≡ []
       → are_full (bundle_step c first flags skip o h next_met).0.rows ≡ true
   full_step_of_bundle next_met next_fault more None flags skip o h f e = f
   full_step_of_bundle next_met next_fault more (Some x) flags zero o h f e =
@@ -212,7 +222,8 @@ module _ (c : List Rule) (again : Bool) (all : list_all wants_text c ≡ true) w
           let met = bundle_met c (length flags) flags h.skip plain (record h { skip = 0 }) in
           ap are_full (same_after waiting word met.0 met.1) ∙ full_bundle (length flags) flags h.skip plain (record h { skip = 0 }) f is
 
-  full_positional : (a : Rule) (word : Text) (h : Held) → are_full h.rows ≡ true → positional_fault c again a h ≡ [] → are_full (positional_held c a word h).rows ≡ true
+  full_positional : (a : Rule) (word : Text) (h : Held) → are_full h.rows ≡ true → positional_fault c again a h ≡ []
+      → are_full (positional_held c a word h).rows ≡ true
   full_positional a word h f e = go (is_pending a h.pending && takes_several a) e
     where
       go : (b : Bool) → cond b [] (settle_fault c again h) ≡ [] → are_full (cond b h (settled c h)).rows ≡ true
@@ -261,7 +272,8 @@ module _ (s : Shape) (all : list_all wants_text s.rules ≡ true) where
   full_turn w word f e = go w.stopped e
     where
       go : (stopped : Option (Text × List Text))
-          → cond (is_some stopped) [] (or_else (word_fault s [] w.is_trailing w.waiting word w.held) (step_fault s w.position (met w word).0 (met w word).1)) ≡ []
+          → cond (is_some stopped) [] (or_else (word_fault s [] w.is_trailing w.waiting word w.held)
+              (step_fault s w.position (met w word).0 (met w word).1)) ≡ []
           → are_full (walked_from s.rules [] stopped w word).held.rows ≡ true
       go (Some p) is = f
       go None is =
@@ -305,7 +317,8 @@ text_given id rows f e = go (find (λ r. bytes_eq r.id id) rows) refl e
     go None is given = cc
     go (Some r) is given = text_of_row r (find_passes (λ x. bytes_eq x.id id) (λ x. has_text x.values) rows r f is)
 
-all_there : (c : List Rule) (rows : List Row) → are_full rows ≡ true → list_any (λ a. a.required && not (is_given a.id rows)) c ≡ false → list_all (is_there rows) c ≡ true
+all_there : (c : List Rule) (rows : List Row) → are_full rows ≡ true → list_any (λ a. a.required && not (is_given a.id rows)) c ≡ false
+    → list_all (is_there rows) c ≡ true
 all_there [] rows f e = refl
 all_there (a ∷ c) rows f e = go a.required (is_given a.id rows) refl e (all_there c rows f)
   where
@@ -332,7 +345,8 @@ level_enters s names words has below required e =
     let b = no_faults below _ a.1 in
     let c = no_faults (settle_fault s.rules s.args_override_self h.held) _ b.1 in
     let d = no_faults (defaults_fault (settled s.rules h.held).rows s.rules) (check_fault s rows has) c.1 in
-    go has required (only_arguments (not has && (s.arg_required_else_help && not (list_any (λ r. explicit_source r.source) rows))) (not has && s.subcommand_required)
+    go has required (only_arguments (not has && (s.arg_required_else_help && not (list_any (λ r. explicit_source r.source) rows)))
+    (not has && s.subcommand_required)
     (not (s.subcommand_negates_reqs && has) && list_any (λ x. x.required && not (is_given x.id rows)) s.rules) d.1).0
   where
     go : (b : Bool) → s.subcommand_required ≡ true → (not b && s.subcommand_required) ≡ false → b ≡ true

@@ -38,7 +38,8 @@ returns-else-is_err-clause-printed g c =
     prints_finished (shown_by g.S.Store c.show.new.self) (shown_by g.S.Store c.finish.new.agency) _ _ _ (is_no_report it) c.finish.result
     IsReportEnd (report_lines it) (λ last ends. (it, refl, ends))
     (whole_text c.print_answer-outcome.result _ _ (report_lines it) (sym c.is_err.ensures.value ∙ c.if-is_err.false) c.print_answer-outcome.ensures)
-    (finished_alike (shown_by g.S.Store c.show.new.self) (shown_by g.S.Store c.finish.new.agency) _ _ c.is_refusal-is_refused.result (is_no_report it) c.finish.result c.is_refusal-is_refused.ensures c.finish.ensures.ends)
+    (finished_alike (shown_by g.S.Store c.show.new.self) (shown_by g.S.Store c.finish.new.agency) _ _ c.is_refusal-is_refused.result
+    (is_no_report it) c.finish.result c.is_refusal-is_refused.ensures c.finish.ensures.ends)
 
 pub returns-else-is_err-clause-ends : goal.returns-else-is_err-clause-ends
 returns-else-is_err-clause-ends g c clean =

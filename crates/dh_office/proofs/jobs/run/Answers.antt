@@ -24,7 +24,8 @@ returns-else-is_err-clause-printed g c =
     prints_finished (shown_by g.S.Store c.tell_run.new.agency) (shown_by g.S.Store c.finish.new.agency) _ _ _ (is_refusal reply) c.finish.result
     IsRunEnd (reply_line reply) (λ last ends. (reply, refl, ends))
     (whole_text c.print_reply.result _ _ (reply_line reply) (sym c.is_err.ensures.value ∙ c.if-is_err.false) c.print_reply.ensures)
-    (finished_alike (shown_by g.S.Store c.tell_run.new.agency) (shown_by g.S.Store c.finish.new.agency) _ _ c.is_refusal.result (is_refusal reply) c.finish.result c.is_refusal.ensures c.finish.ensures.ends)
+    (finished_alike (shown_by g.S.Store c.tell_run.new.agency) (shown_by g.S.Store c.finish.new.agency) _ _ c.is_refusal.result
+    (is_refusal reply) c.finish.result c.is_refusal.ensures c.finish.ensures.ends)
 
 pub returns-else-is_err-clause-ends : goal.returns-else-is_err-clause-ends
 returns-else-is_err-clause-ends g c clean =
@@ -33,4 +34,5 @@ returns-else-is_err-clause-ends g c clean =
     (run_told (stand g.S.Store c.args.agency.now) c.args.order c.args.batches) reply
     (c.in-Ok.ensures.said (omega (arith, c.finish.ensures.was_clean))) refl
     (whole_text c.print_reply.result _ _ (reply_line reply) (sym c.is_err.ensures.value ∙ c.if-is_err.false) c.print_reply.ensures) clean
-    (finished_alike (shown_by g.S.Store c.tell_run.new.agency) (shown_by g.S.Store c.finish.new.agency) _ _ c.is_refusal.result (is_refusal reply) c.finish.result c.is_refusal.ensures c.finish.ensures.ends))
+    (finished_alike (shown_by g.S.Store c.tell_run.new.agency) (shown_by g.S.Store c.finish.new.agency) _ _ c.is_refusal.result
+    (is_refusal reply) c.finish.result c.is_refusal.ensures c.finish.ensures.ends))

@@ -15,7 +15,8 @@ unwrap-requires c =
 pub unwrap-requires-in-init : goal.unwrap-requires-in-init
 unwrap-requires-in-init c =
     let rows = rows_of (found_of c.args.values.now) in
-    value_there month_of (codes "first") rows _ c.in-Ok.ensures.1.first (all_read rows c.in-Ok.ensures.0).0 (init_has c.args.name.now rows c.requires c.in-init.is).1
+    value_there month_of (codes "first") rows _ c.in-Ok.ensures.1.first (all_read rows c.in-Ok.ensures.0).0
+    (init_has c.args.name.now rows c.requires c.in-init.is).1
 
 pub unwrap-requires-in-run : goal.unwrap-requires-in-run
 unwrap-requires-in-run c =
@@ -30,7 +31,8 @@ unwrap-requires-in-run-2 c =
 pub unwrap-requires-in-run-3 : goal.unwrap-requires-in-run-3
 unwrap-requires-in-run-3 c =
     let rows = rows_of (found_of c.args.values.now) in
-    value_there month_of (codes "month") rows _ c.in-Ok.ensures.1.month (all_read rows c.in-Ok.ensures.0).2 (run_has c.args.name.now rows c.requires c.in-run.is).2
+    value_there month_of (codes "month") rows _ c.in-Ok.ensures.1.month (all_read rows c.in-Ok.ensures.0).2
+    (run_has c.args.name.now rows c.requires c.in-run.is).2
 
 pub unwrap-requires-in-recover : goal.unwrap-requires-in-recover
 unwrap-requires-in-recover c =
