@@ -8,8 +8,8 @@ use sqlite::Connection;
 use std::alloc::AllocError;
 use std::{fs, io};
 
-// Runs statements on the file, as another program would, and tells the rows of a table.
-fn edited(rt: &HostRuntime, statements: &str) -> Result<&'static str, sqlite::Error> {
+/// Runs statements on the file, as another program would.
+pub fn edited(rt: &HostRuntime, statements: &str) -> Result<&'static str, sqlite::Error> {
     let mut conn = Connection::open(rt, PATH)?;
     let done = conn.execute_batch(statements);
     conn.close()?;

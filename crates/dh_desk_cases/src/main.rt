@@ -4,6 +4,7 @@
 //! A block is the life of one path, which is written `F`. Its first line has its kind: `play` has the kinds. In texts `\n` is a line feed.
 #![tactic(auto)]
 
+mod edits;
 mod failing;
 mod imports;
 mod lives;
@@ -14,6 +15,7 @@ use std::io;
 
 fn play(rt: &HostRuntime, tally: &mut Tally, kind: &str, lines: &str) -> io::Result<()> {
     match kind {
+        "edited files" => edits::play(rt, tally, lines),
         "an import" => imports::play(rt, tally, lines),
         "a reader that fails" => failing::play_reader(rt, tally, lines),
         "a writer that fails" => failing::play_writer(rt, tally, lines),

@@ -6,12 +6,16 @@ mod disks;
 
 use dh_agency_scripts::compare;
 use dh_tally::Tally;
+use disks::Stops;
 use std::io;
 
 fn play(rt: &HostRuntime, tally: &mut Tally, kind: &str, lines: &str) -> io::Result<()> {
     match kind {
-        "agencies on disks" => disks::play(rt, tally, lines, false),
-        "agencies on disks that stop" => disks::play(rt, tally, lines, true),
+        "agencies on disks" => disks::play(rt, tally, lines, Stops::None),
+        "agencies on disks that stop" => disks::play(rt, tally, lines, Stops::Once),
+        "agencies on disks that stop and are recovered" => {
+            disks::play(rt, tally, lines, Stops::Twice)
+        }
         _ => compare(rt, tally, kind, "no kind", ""),
     }
 }

@@ -1,0 +1,80 @@
+//! Files that another program edited. The first line is the input that makes the file. A line behind it is `STATEMENT -> STATUS TEXT`, as a recovery
+//! ends once the statement ran; with `100 TIMES` before it the statement runs a hundred times, with `{n}` for 00 to 99.
+
+use crate::lives::{edited, tables};
+use crate::runs::{PATH, clear, ran};
+use dh_agency_scripts::{compare, parted};
+use dh_tally::Tally;
+use std::alloc::{AllocError, Global};
+use std::{fs, io};
+
+// The statements of a line.
+fn statements_of(alloc: Global, text: &str) -> Result<String, AllocError> {
+    let Some(statement) = text.strip_prefix("100 TIMES ") else {
+        return text.to_string(alloc);
+    };
+    let mut statements = String::new(alloc);
+    for number in 0..100u8 {
+        let digits = format!(in alloc; "{}{}", number / 10, number % 10)?;
+        statements.push_str(statement.replace(alloc, "{n}", digits.as_str())?.as_str())?;
+        statements.push_str(";")?;
+    }
+    Ok(statements)
+}
+
+// A file as it was closed, and its tables.
+#[derive(Drop)]
+struct Closed {
+    bytes: Vec<u8>,
+    tables: String,
+}
+
+fn made(rt: &HostRuntime, input: &str) -> io::Result<Closed> {
+    clear(rt);
+    let _ = ran(rt, "init --file F --first 2025-01", "")?;
+    let _ = ran(rt, "batch --file F", input)?;
+    Ok(Closed {
+        bytes: fs::read(rt, PATH)?,
+        tables: tables(rt)?,
+    })
+}
+
+// What became of the file that was edited to these bytes.
+fn left(rt: &HostRuntime, closed: &Closed, edited: &[u8]) -> io::Result<&'static str> {
+    if fs::read(rt, PATH)?.as_slice() == edited {
+        return Ok("as it was edited");
+    }
+    if tables(rt)?.as_str() == closed.tables.as_str() {
+        return Ok("as before the edit");
+    }
+    Ok("another")
+}
+
+// Edits the file and recovers it: a file that is refused stays, and one that isn't has the tables of before.
+fn play_edit(rt: &HostRuntime, tally: &mut Tally, closed: &Closed, line: &str) -> io::Result<()> {
+    let (text, want) = parted(line);
+    let statements = statements_of(rt.alloc(), text)?;
+    fs::write(rt, PATH, &closed.bytes)?;
+    let done = edited(rt, statements.as_str()).unwrap_or("not done");
+    compare(rt, tally, text, done, "done")?;
+    let edited = fs::read(rt, PATH)?;
+    let got = ran(rt, "recover --file F", "")?;
+    compare(rt, tally, line, got.as_str(), want)?;
+    let stays = if want.starts_with("5") {
+        "as it was edited"
+    } else {
+        "as before the edit"
+    };
+    compare(rt, tally, text, left(rt, closed, &edited)?, stays)
+}
+
+/// Plays each line on a file of its own.
+pub fn play(rt: &HostRuntime, tally: &mut Tally, lines: &str) -> io::Result<()> {
+    let (input, edits) = lines.split_once('\n').unwrap_or((lines, ""));
+    let closed = made(rt, input)?;
+    for line in edits.lines() {
+        play_edit(rt, tally, &closed, line)?;
+    }
+    clear(rt);
+    Ok(())
+}
