@@ -1,9 +1,11 @@
 #!/usr/bin/env python3
-"""Lines for bench/runs.sh, and what Python's own sqlite3 takes for the same rent run.
+"""Lines for bench/runs.sh and bench/office.sh, and what Python's own sqlite3 takes for the same rent run.
 
 runs.py lines LEASES RUNS       lines that give so many leases of ten branches and the rent runs of so many months, and then, behind
                                 `time run`, the run of the month after
 runs.py half LEASES             the same leases, and a run that is opened and half posted
+runs.py leases LEASES           the same leases alone
+runs.py middle LEASES           prints half the number of batches of their run
 runs.py python LEASES [FILE]    makes the same tables, in memory or in FILE, and prints the microseconds of the run of the first
                                 month: its opening, its batches of fifty and its end, a transaction each
 """
@@ -125,6 +127,10 @@ match sys.argv[1:]:
         put_lines(int(leases), int(runs))
     case ["half", leases]:
         put_half(int(leases))
+    case ["leases", leases]:
+        put_leases(int(leases))
+    case ["middle", leases]:
+        print(batches(int(leases)) // 2)
     case ["python", leases, *path]:
         time_run(int(leases), path[0] if path else ":memory:")
     case _:
