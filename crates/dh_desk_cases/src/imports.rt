@@ -15,7 +15,12 @@ struct Import {
 }
 
 // The first records of the lines, where so many of them were imported before.
-fn import(rt: &HostRuntime, lines: &str, records: usize, before: usize) -> Result<Import, AllocError> {
+fn import(
+    rt: &HostRuntime,
+    lines: &str,
+    records: usize,
+    before: usize,
+) -> Result<Import, AllocError> {
     let mut input = String::new(rt.alloc());
     let mut replies = String::new(rt.alloc());
     for (at, line) in lines.lines().take(records).enumerate() {

@@ -38,7 +38,14 @@ fn answer(rt: &HostRuntime, kept: &mut Vec<u8>, kind: &str, rest: &str) -> io::R
     let alloc = rt.alloc();
     let text = match kind {
         "letting" => return Ok(run(rt, rest)?),
-        "help" => return Ok(run(rt, rest)?.as_str().split("\\n").next().unwrap_or("").to_string(alloc)?),
+        "help" => return Ok(
+            run(rt, rest)?
+                .as_str()
+                .split("\\n")
+                .next()
+                .unwrap_or("")
+                .to_string(alloc)?,
+        ),
         "rows" => return Ok(rows_of(tables(rt)?.as_str(), rest).to_string(alloc)?),
         "sql" => edited(rt, rest).unwrap_or("not done"),
         "write" => {

@@ -31,7 +31,8 @@ const THREE: &str = "branch,B001,1 Main St,Leeds,LS1 1AA\n\
     lease,10003,C002,P301,2025-01-15,12,Transfer\n";
 
 // The replies to those lines: it is written `{oks}` in an output.
-const OKS: &str = "1 ok\\n2 ok\\n3 ok\\n4 ok\\n5 ok\\n6 ok\\n7 ok\\n8 ok\\n9 ok\\n10 ok\\n11 ok\\n12 ok\\n13 ok\\n14 ok\\n15 ok\\n16 ok\\n17 ok\\n";
+const OKS: &str =
+    "1 ok\\n2 ok\\n3 ok\\n4 ok\\n5 ok\\n6 ok\\n7 ok\\n8 ok\\n9 ok\\n10 ok\\n11 ok\\n12 ok\\n13 ok\\n14 ok\\n15 ok\\n16 ok\\n17 ok\\n";
 
 /// The words behind the program's name, with the path for `F`.
 pub fn words_of(alloc: Global, line: &str) -> Result<Vec<&str>, AllocError> {

@@ -1,9 +1,10 @@
-//! Plays the manual and the examples, prints each part that `letting batch` answers otherwise, and then `N cases, M differ`.
+//! Plays the manual and the examples, prints each part that is answered otherwise, and then `N cases, M differ`.
 //!
 //! Standard input has a part a line: `page FILE` for a page with blocks of lines and of their answers, `pair NAME` for the lines of
 //! `NAME.csv` and the answers of `NAME.out`, and `long BYTES` for a field of so many bytes.
 #![tactic(auto)]
 
+mod consoles;
 mod pages;
 mod playing;
 

@@ -1,6 +1,8 @@
 //! Pages with blocks. A block of lines begins with three backticks and `lines`, and the block of their answers with `answers`. With
-//! `lines after NAME` the lines of `examples/NAME.csv` come before, and its answers before those of the block.
+//! `lines after NAME` the lines of `examples/NAME.csv` come before, and its answers before those of the block. A block of a terminal begins with
+//! `console`, where it begins without a file, and with `console, going on` where it goes on with that of the block before.
 
+use crate::consoles::{clear, play_console};
 use crate::playing::{bytes_of, compare_answers};
 use dh_tally::Tally;
 use std::{fs, io};
@@ -46,6 +48,13 @@ fn play_block(
         add(&mut told.want, text)?;
         return compare_answers(rt, tally, text, &told.lines, &told.want);
     }
+    if heading == "console" {
+        clear(rt);
+        return play_console(rt, tally, text);
+    }
+    if heading == "console, going on" {
+        return play_console(rt, tally, text);
+    }
     if heading == "lines" {
         *told = nothing(rt);
         return add(&mut told.lines, text);
@@ -65,5 +74,6 @@ pub fn play_page(rt: &HostRuntime, tally: &mut Tally, file: &str) -> io::Result<
         let (heading, text) = part.split_once('\n').unwrap_or((part, ""));
         play_block(rt, tally, &mut told, heading, text)?;
     }
+    clear(rt);
     Ok(())
 }

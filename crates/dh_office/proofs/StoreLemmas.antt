@@ -112,7 +112,7 @@ module _ {S : Type 0} (g : Ghosts S) (after : Seat S) (last : Held S) (same : la
 
     pub lines_end : (s : State) (made : Seat S) → stand g made ≡ s → (input : Option (List ℕ))
         → IfSome input (λ input. LinesEnd (shown_by g after) a b (stand g made) input status)
-            → IfSome input (λ input. LinesEnd (state g last) a b s input status)
+        → IfSome input (λ input. LinesEnd (state g last) a b s input status)
     lines_end s made is input h =
         subst (λ t. IfSome input (λ input. LinesEnd (state g last) a b t input status)) is
         (back (λ new. IfSome input (λ input. LinesEnd new a b (stand g made) input status)) h)

@@ -174,7 +174,7 @@ module _ (c : List Rule) (again : Bool) (all : list_all wants_text c ≡ true) w
 
   full_step_of_bundle : (next_met : Text → ℕ → Outcome → Held → Held × Outcome) (next_fault : Text → ℕ → Held → Kinds)
       → ((flags : Text) (skip : ℕ) (o : Outcome) (g : Held) → are_full g.rows ≡ true → next_fault flags skip g ≡ []
-          → are_full (next_met flags skip o g).0.rows ≡ true)
+      → are_full (next_met flags skip o g).0.rows ≡ true)
       → (first : Option ℕ) (flags : Text) (skip : ℕ) (o : Outcome) (h : Held) → are_full h.rows ≡ true
       → bundle_step_fault c again first flags skip h next_fault ≡ []
       → are_full (bundle_step c first flags skip o h next_met).0.rows ≡ true
@@ -273,7 +273,7 @@ module _ (s : Shape) (all : list_all wants_text s.rules ≡ true) where
     where
       go : (stopped : Option (Text × List Text))
           → cond (is_some stopped) [] (or_else (word_fault s [] w.is_trailing w.waiting word w.held)
-              (step_fault s w.position (met w word).0 (met w word).1)) ≡ []
+          (step_fault s w.position (met w word).0 (met w word).1)) ≡ []
           → are_full (walked_from s.rules [] stopped w word).held.rows ≡ true
       go (Some p) is = f
       go None is =
@@ -365,5 +365,5 @@ level_complete s words all negates e =
     let end = full_settled s.rules s.args_override_self all h.held (full_walk s all words (walk_from nothing_held) refl a.0) c.0 in
     let full = full_defaults s.rules (settled s.rules h.held).rows end in
     let wanted = only_arguments (s.arg_required_else_help && not (list_any (λ r. explicit_source r.source) rows)) s.subcommand_required
-        (not (s.subcommand_negates_reqs && false) && list_any (λ x. x.required && not (is_given x.id rows)) s.rules) d.1 in
+    (not (s.subcommand_negates_reqs && false) && list_any (λ x. x.required && not (is_given x.id rows)) s.rules) d.1 in
     all_there s.rules rows full (rw negates at wanted.1)

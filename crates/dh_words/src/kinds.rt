@@ -11,7 +11,10 @@ use std::alloc::AllocError;
 #[derive(Clone, Copy)]
 pub enum Job<'a> {
     /// Makes a file, whose books begin with this month.
-    Init { file: &'a str, first: EntryMonth },
+    Init {
+        file: &'a str,
+        first: EntryMonth,
+    },
     /// Answers lines, in memory where no file is named, from this month on.
     Batch {
         file: Option<&'a str>,
@@ -24,9 +27,14 @@ pub enum Job<'a> {
         batches: Option<BatchCount>,
     },
     /// Brings the open run to its end.
-    Recover { file: &'a str },
+    Recover {
+        file: &'a str,
+    },
     /// Asks a question.
-    Report { file: &'a str, question: Question },
+    Report {
+        file: &'a str,
+        question: Question,
+    },
 }
 
 /// Why the words ask for no job.

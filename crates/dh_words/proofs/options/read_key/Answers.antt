@@ -18,7 +18,7 @@ returns-in-Ok c =
 pub returns-in-Err : goal.returns-in-Err
 returns-in-Err c = (
   given_badly key_of (name_of c.args.option) (rows_of (found_of c.args.values.now)) c.in-Some.text.now
-  (text_of (found_of c.args.values.now) _ c.args.option (Some c.in-Some.text.now) c.in-Some.ensures c.name.ensures)
-  (is_no_key c.in-Some.text.now (λ h. true≢false (sym (c.in-Err.ensures.exact.1 h)))),
+      (text_of (found_of c.args.values.now) _ c.args.option (Some c.in-Some.text.now) c.in-Some.ensures c.name.ensures)
+      (is_no_key c.in-Some.text.now (λ h. true≢false (sym (c.in-Err.ensures.exact.1 h)))),
   refl,
 )

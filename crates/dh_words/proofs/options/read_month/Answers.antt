@@ -18,6 +18,6 @@ returns-in-Ok c =
 pub returns-in-Err : goal.returns-in-Err
 returns-in-Err c = (
   given_badly month_of (name_of c.args.option) (rows_of (found_of c.args.values.now)) c.in-Some.text.now
-  (text_of (found_of c.args.values.now) _ c.args.option (Some c.in-Some.text.now) c.in-Some.ensures c.name.ensures) c.in-Err.ensures,
+      (text_of (found_of c.args.values.now) _ c.args.option (Some c.in-Some.text.now) c.in-Some.ensures c.name.ensures) c.in-Err.ensures,
   refl,
 )
