@@ -29,7 +29,20 @@ fn run(rt: &HostRuntime) -> io::Result<Status> {
     Ok(desk(rt, &texts, &mut rt.reader(), &mut io::writer(rt)))
 }
 
+// Says why the words can't be had: one of them is no text, or memory ran out.
+fn refuse(rt: &HostRuntime, error: &io::Error) -> Status {
+    if error.kind() == io::ErrorKind::InvalidData {
+        let _ = println!(rt; "error: invalid UTF-8 was detected in one or more arguments");
+        return Status::BadWords;
+    }
+    let _ = println!(rt; "fault 21");
+    Status::Failed
+}
+
 fn main(rt: HostRuntime) -> ExitCode {
-    let status = run(&rt).unwrap_or(Status::Failed);
+    let status = match run(&rt) {
+        Ok(status) => status,
+        Err(error) => refuse(&rt, &error),
+    };
     ExitCode::from(status.code())
 }
