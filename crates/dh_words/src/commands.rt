@@ -8,21 +8,48 @@ ghost use Rattle.dh_words.specs.Table.{Adds, IsArgument, IsSubcommand};
 use clap::{Arg, Command};
 use std::alloc::{AllocError, Global};
 
-const STATUSES: &str = "Exit status:\n  \
-    0  done\n  \
-    1  some line was refused\n  \
-    2  bad words\n  \
-    3  a fault, or a failing input or output\n  \
-    4  a rent run stands open\n  \
-    5  the file was refused";
+// The text, and the exit statuses behind it.
+macro_rules! with_statuses {
+    ($text:literal) => {
+        concat!(
+            $text,
+            "Exit status:\n  \
+            0  done\n  \
+            1  some line, the run or the question was refused\n  \
+            2  bad words\n  \
+            3  a fault, or a failing input or output\n  \
+            4  a rent run stands open\n  \
+            5  the file was refused"
+        )
+    };
+}
 
-const QUESTIONS: &str = "Questions:\n  \
+const STATUSES: &str = with_statuses!("");
+
+const REPLIES: &str = with_statuses!(
+    "Replies:\n  \
+    ok                          done\n  \
+    already                     there with the same fields: nothing changed\n  \
+    receipt N                   the receipt has the number N\n  \
+    opened MONTH                the month's rent run is open\n  \
+    part MONTH D of N           D of its N batches are done\n  \
+    posted MONTH COUNT TOTAL    it is closed: so many charges, and their sum\n  \
+    already ..                  told before, by this key: nothing changed\n  \
+    refused R                   refused for the reason R of the manual: nothing changed\n  \
+    bad field N                 field N is wrong, missing or one too many\n  \
+    shown K                     the K lines of a report follow\n  \
+    fault 21, fault 22          memory ran out, the store failed\n\n"
+);
+
+const QUESTIONS: &str = with_statuses!(
+    "Questions:\n  \
     branches               all branches\n  \
     vacant DAY             the properties that no lease covers that day\n  \
     matching CLIENT DAY    the vacant properties that the client would take\n  \
     statement LEASE        what a lease was charged and what was paid on it\n  \
     arrears BRANCH         the leases of a branch on which rent is owed\n  \
-    run MONTH              the parts of a month's closed rent run";
+    run MONTH              the parts of a month's closed rent run\n\n"
+);
 
 // The option `--name VALUE`, which may be left out.
 fn option<'a>(alloc: Global, name: &'a str, value: &'a str, help: &'a str) -> Arg<'a>
@@ -41,6 +68,13 @@ fn required<'a>(alloc: Global, name: &'a str, value: &'a str, help: &'a str) -> 
     option(alloc, name, value, help).required(true)
 }
 
+// A subcommand before it has its arguments.
+fn subcommand<'a>(alloc: Global, name: &'a str, about: &'a str, help: &'a str) -> Command<'a>
+    ensures { IsSubcommand (table.subcommand name.entry.now []) result }
+{
+    Command::new(alloc, name).about(about).after_help(help)
+}
+
 // One word or more that belong to no option.
 fn free_words<'a>(alloc: Global) -> Arg<'a>
     ensures { IsArgument table.free_words result }
@@ -55,98 +89,117 @@ fn free_words<'a>(alloc: Global) -> Arg<'a>
 fn init<'a>(alloc: Global) -> Result<Command<'a>, AllocError>
     ensures { IfOk result (IsSubcommand table.init) }
 {
-    Command::new(alloc, "init")
-        .about("Makes the file of a new agency and prints `created M`, M being its first month")
-        .arg(required(
-            alloc,
-            "file",
-            "FILE",
-            "The file to make, as --file letting.db",
-        ))?
-        .arg(required(
-            alloc,
-            "first",
-            "MONTH",
-            "The month that the books begin with, as --first 2025-01",
-        ))
+    subcommand(
+        alloc,
+        "init",
+        "Makes the file of a new agency and prints `created M`, M being its first month",
+        STATUSES,
+    )
+    .arg(required(
+        alloc,
+        "file",
+        "FILE",
+        "The file to make, as --file letting.db",
+    ))?
+    .arg(required(
+        alloc,
+        "first",
+        "MONTH",
+        "The month that the books begin with, as --first 2025-01",
+    ))
 }
 
 fn batch<'a>(alloc: Global) -> Result<Command<'a>, AllocError>
     ensures { IfOk result (IsSubcommand table.batch) }
 {
-    Command::new(alloc, "batch")
-        .about("Answers the lines of standard input and prints a reply line for each")
-        .arg(option(
-            alloc,
-            "file",
-            "FILE",
-            "The agency's file, as --file letting.db; without it the agency is in memory",
-        ))?
-        .arg(option(
-            alloc,
-            "first",
-            "MONTH",
-            "The month that an agency in memory begins with, as --first 2025-01, which it is where not given",
-        ))
+    subcommand(
+        alloc,
+        "batch",
+        "Answers the lines of standard input and prints a reply line for each",
+        REPLIES,
+    )
+    .arg(option(
+        alloc,
+        "file",
+        "FILE",
+        "The agency's file, as --file letting.db; without it the agency is in memory",
+    ))?
+    .arg(option(
+        alloc,
+        "first",
+        "MONTH",
+        "The month that an agency in memory begins with, as --first 2025-01, which it is where not given",
+    ))
 }
 
 fn run<'a>(alloc: Global) -> Result<Command<'a>, AllocError>
     ensures { IfOk result (IsSubcommand table.run) }
 {
-    Command::new(alloc, "run")
-        .about("Charges a month's rent and prints the reply")
-        .arg(required(
-            alloc,
-            "file",
-            "FILE",
-            "The agency's file, as --file letting.db",
-        ))?
-        .arg(required(
-            alloc,
-            "key",
-            "KEY",
-            "The key of the run, as --key R-2025-01; sent again, it charges nothing twice",
-        ))?
-        .arg(required(
-            alloc,
-            "month",
-            "MONTH",
-            "The month to charge, as --month 2025-01",
-        ))?
-        .arg(option(
-            alloc,
-            "batches",
-            "N",
-            "Only opens the run and carries out so many batches, as --batches 3",
-        ))
+    subcommand(
+        alloc,
+        "run",
+        "Charges a month's rent and prints the reply",
+        REPLIES,
+    )
+    .arg(required(
+        alloc,
+        "file",
+        "FILE",
+        "The agency's file, as --file letting.db",
+    ))?
+    .arg(required(
+        alloc,
+        "key",
+        "KEY",
+        "The key of the run, as --key R-2025-01; sent again, it charges nothing twice",
+    ))?
+    .arg(required(
+        alloc,
+        "month",
+        "MONTH",
+        "The month to charge, as --month 2025-01",
+    ))?
+    .arg(option(
+        alloc,
+        "batches",
+        "N",
+        "Only opens the run and carries out so many batches, as --batches 3",
+    ))
 }
 
 fn recover<'a>(alloc: Global) -> Result<Command<'a>, AllocError>
     ensures { IfOk result (IsSubcommand table.recover) }
 {
-    Command::new(alloc, "recover")
-        .about("Brings the open rent run to its end and prints `recovered`")
-        .arg(required(
-            alloc,
-            "file",
-            "FILE",
-            "The agency's file, as --file letting.db",
-        ))
+    subcommand(
+        alloc,
+        "recover",
+        "Brings the open rent run to its end and prints `recovered`",
+        STATUSES,
+    )
+    .arg(required(
+        alloc,
+        "file",
+        "FILE",
+        "The agency's file, as --file letting.db",
+    ))
 }
 
 fn report<'a>(alloc: Global) -> Result<Command<'a>, AllocError>
     ensures { IfOk result (IsSubcommand table.report) }
 {
-    Command::new(alloc, "report")
-        .about("Answers a question: prints the report, or the refusal")
-        .after_help(QUESTIONS)
-        .arg(required(
-            alloc,
-            "file",
-            "FILE",
-            "The agency's file, as --file letting.db",
-        ))?
-        .arg(free_words(alloc))
+    subcommand(
+        alloc,
+        "report",
+        "Answers a question: prints the report, or the refusal",
+        QUESTIONS,
+    )
+    .arg(required(
+        alloc,
+        "file",
+        "FILE",
+        "The agency's file, as --file letting.db",
+    ))?
+    .arg(free_words(alloc))
 }
 
 // `letting` before it has its subcommands.
