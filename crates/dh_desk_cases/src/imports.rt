@@ -15,7 +15,7 @@ struct Import {
 }
 
 // The first records of the lines, where so many of them were imported before.
-fn import(
+fn import_of(
     rt: &HostRuntime,
     lines: &str,
     records: usize,
@@ -43,7 +43,7 @@ fn play_import(
     records: usize,
     before: usize,
 ) -> io::Result<()> {
-    let import = import(rt, lines, records, before)?;
+    let import = import_of(rt, lines, records, before)?;
     let got = ran(rt, "batch --file F", import.input.as_str())?;
     let want = outcome(rt.alloc(), 0, import.replies.as_str())?;
     let case = format!(in rt.alloc(); "{records} records behind {before}")?;

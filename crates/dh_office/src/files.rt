@@ -1,9 +1,11 @@
 //! Jobs on files and in memory: a store is opened for one job, and closed.
 
-ghost use Rattle.std.specs.Prelude.{IfErr};
-ghost use Rattle.dh_schema.specs.Faults.{IsFirstFault};
+ghost use Rattle.std.specs.Prelude.{◌≡◌, ◌≢◌, ℕ, take, IfErr, IfOk};
+ghost use Rattle.std.specs.Io.KnownBytes.{Appends};
+ghost use Rattle.dh_schema.specs.Faults.{IsFirstFault, fault_of};
 ghost use Rattle.dh_office.specs.Ends.{MemoryLinesEnd};
 ghost use Rattle.dh_office.specs.Printed.{Closes, IsOfLines, PrintsJob};
+ghost use Rattle.dh_office.specs.Texts.{fault_line};
 
 use crate::status::Status;
 use crate::taking::{FileJob, begin, do_job};
@@ -32,7 +34,10 @@ fn look(rt: &HostRuntime, path: &str, job: &FileJob) -> Result<(), Fault>
 
 // The status behind the closing of the store. A failure of that is told, where nothing had failed before.
 fn end_closed<W: Write>(outcome: Result<(), Error>, status: Status, writer: &mut W) -> Status
-    ensures { Closes (W.contents writer.old) (W.contents writer.new) status result }
+    ensures closes { Closes (W.contents writer.old) (W.contents writer.new) status result }
+    ensures silent { IfOk outcome (λ done. (result ≡ status) × (W.contents writer.new ≡ W.contents writer.old)) }
+    ensures told { IfErr outcome (λ error. status ≢ Status.Failed
+        → (result ≡ Status.Failed) × ((taken : ℕ) × Appends (W.contents writer.old) (W.contents writer.new) (take taken (fault_line (fault_of error))))) }
 {
     match outcome {
         Err(error) if !matches!(status, Status::Failed) => tell_fault(writer, fault_of(error)),

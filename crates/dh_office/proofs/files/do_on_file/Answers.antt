@@ -7,4 +7,4 @@ do_job-status-requires g c clean =
     record { is_open = found.is_open; autocommit = found.autocommit; settled = found.clean }
 
 pub returns-in-Ok : goal.returns-in-Ok
-returns-in-Ok g c = job_closed _ _ _ c.do_job-status.result.0 c.end_closed.result c.end_closed.ensures c.args.job c.do_job-status.ensures.printed
+returns-in-Ok g c = job_closed _ _ _ c.do_job-status.result.0 c.end_closed.result c.end_closed.ensures.closes c.args.job c.do_job-status.ensures.printed
