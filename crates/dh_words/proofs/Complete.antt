@@ -2,9 +2,7 @@
 use Rattle.std.proofs.Common.{◌≡◌, ◌∙◌, Bool, cond, true, false, List, [], ◌∷◌, Option, Some, None, is_some, option_map, refl, sym, ap, subst}
 use Rattle.std.specs.List.{find, list_all}
 use Rattle.std.specs.Option.{option_map_or}
-use Rattle.clap.proofs.WalkLemmas.{both}
-use Rattle.clap.specs.Faults.{built_fault, entered_fault, level_fault}
-use Rattle.clap.specs.Kinds.{Kinds}
+use Rattle.clap.specs.Faults.{entered_fault, level_fault}
 use Rattle.clap.specs.Simple.{built, entered, label_of, names_of, rows_at}
 use Rattle.clap.specs.Walk.{answers_to, nothing_held, stop_after}
 use Rattle.clap.specs.Words.{App, HasMatchesOf, Row, Shape, Text, fault_of, is_simple, subcommand_name_of, subcommand_of, subcommand_rows_of}

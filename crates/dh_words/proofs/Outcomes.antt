@@ -1,7 +1,7 @@
 -- What `job` answers, by what `clap` answered.
-use Rattle.std.proofs.Common.{◌≡◌, ◌∙◌, true, List, [], Result, Ok, Err, IfErr, IfOk, inl, inr, sym, ap, subst}
+use Rattle.std.proofs.Common.{◌≡◌, ◌∙◌, true, List, Result, Ok, Err, IfErr, IfOk, inl, inr, sym, ap, subst}
 use Rattle.clap.specs.Kinds.{HasKind, IsAmong}
-use Rattle.clap.specs.Words.{App, Row, Text, fault_of, is_simple_and_free, kind_of, subcommand_of}
+use Rattle.clap.specs.Words.{App, Row, Text, fault_of, is_simple_and_free, kind_of}
 use Rattle.clap.specs.declared.error.Error.{Error}
 use Rattle.dh_words.proofs.Complete.{simple_and_free}
 use Rattle.dh_words.specs.Jobs.{HandsOn, IsAnswer, IsBadFor, IsJobOf, Takes}

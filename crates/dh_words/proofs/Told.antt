@@ -1,9 +1,9 @@
 -- What is told to `clap` step by step.
-use Rattle.std.proofs.Common.{◌≡◌, ◌∙◌, ◌||◌, false, true, List, [], ◌∷◌, ◌++◌, Result, Ok, Err, IfOk, refl, sym, ap, ap₂}
-use Rattle.clap.specs.Words.{AddsArg, App, Rule, Shape, app_of, rule_of, shape_of, with_rule, with_subcommand}
+use Rattle.std.proofs.Common.{◌≡◌, ◌∙◌, ◌||◌, [], ◌∷◌, ◌++◌, Result, Ok, Err, IfOk, ap, ap₂}
+use Rattle.clap.specs.Words.{AddsArg, App, Rule, Shape, app_of, with_subcommand}
 use Rattle.clap.specs.declared.builder.arg.Arg.{Arg}
 use Rattle.clap.specs.declared.builder.command.Command.{Command}
-use Rattle.dh_words.specs.Table.{Adds, IsArgument, IsSubcommand, required}
+use Rattle.dh_words.specs.Table.{Adds, IsArgument, IsSubcommand}
 
 -- a shape with one more argument
 abbrev pub with_one : Shape → Rule → Shape

@@ -1,6 +1,6 @@
 -- Reading the options.
-use Rattle.std.proofs.Common.{◌≡◌, ◌≢◌, ◌∙◌, ◌&&◌, ◌||◌, not, Bool, cond, true, false, List, [], ◌∷◌, Option, Some, None, is_some, option_map, Result, Ok, Err}
-use Rattle.std.proofs.Common.{IfOk, MatchResult, Bor, refl, sym, ap, subst, codes}
+use Rattle.std.proofs.Common.{◌≡◌, ◌∙◌, not, Bool, cond, true, false, List, Option, Some, None, is_some, option_map}
+use Rattle.std.proofs.Common.{Bor, refl, sym, ap, codes}
 use Rattle.std.specs.Prelude.{option_and_then}
 use Rattle.std.specs.Option.{option_map_or}
 use Rattle.clap.proofs.WalkLemmas.{first_value-rows}

@@ -1,6 +1,6 @@
 -- Where a level of a parse has no fault, each row that it leaves has a text, and each required argument has a row.
-use Rattle.std.proofs.Common.{◌≡◌, ◌∙◌, ◌≤◌, ℕ, zero, suc, Bool, cond, true, false, ◌&&◌, ◌||◌, not, true≢false, List, [], ◌∷◌, ◌++◌, length, drop, Option}
-use Rattle.std.proofs.Common.{Some, None, is_some, refl, sym, ap, ap₂, subst}
+use Rattle.std.proofs.Common.{◌≡◌, ◌∙◌, ℕ, zero, suc, Bool, cond, true, false, ◌&&◌, ◌||◌, not, List, [], ◌∷◌, ◌++◌, length, drop, Option}
+use Rattle.std.proofs.Common.{Some, None, is_some, refl, ap, ap₂, subst}
 use Rattle.std.specs.Prelude.{encode_utf8, nat_lt, option_and_then, slice_get}
 use Rattle.std.specs.List.{find, fold, list_all, list_any}
 use Rattle.std.specs.Option.{option_map_or}

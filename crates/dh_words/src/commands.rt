@@ -215,6 +215,13 @@ fn top<'a>(alloc: Global) -> Command<'a>
         .subcommand_required(true)
 }
 
+// The command with the program's name in usages, which is none of its words.
+fn with_name<'a>(command: Command<'a>) -> Result<Command<'a>, AllocError>
+    ensures { IfOk result (λ named. app_of named ≡ app_of command.entry) }
+{
+    command.bin_name("letting")
+}
+
 // The command with one more subcommand.
 fn with<'a>(
     command: Command<'a>,
@@ -229,7 +236,8 @@ fn with<'a>(
 pub(crate) fn letting<'a>(alloc: Global) -> Result<Command<'a>, AllocError>
     ensures { IfOk result (λ command. app_of command ≡ table.letting) }
 {
-    let letting = with(top(alloc), init(alloc))?;
+    let bare = with_name(top(alloc))?;
+    let letting = with(bare, init(alloc))?;
     let letting = with(letting, batch(alloc))?;
     let letting = with(letting, run(alloc))?;
     let letting = with(letting, recover(alloc))?;

@@ -1,3 +1,4 @@
+use Rattle.std.proofs.Common.{◌∙◌}
 use Rattle.std.proofs.lemmas.Result.{IfOk-weaker}
 use Rattle.dh_words.proofs.Told.{added}
 use Rattle.dh_words.specs.Table.{batch, init, letting, recover, report, run}
@@ -6,7 +7,7 @@ use Rattle.dh_words.proofs.commands.letting.Goals as goal
 pub returns : goal.returns
 unfolding letting
 returns c =
-    let one = added _ _ c.init.result _ init c.top.ensures c.init.ensures c.in_ok-letting.ensures in
+    let one = added _ _ c.init.result _ init (c.in_ok-bare.ensures ∙ c.top.ensures) c.init.ensures c.in_ok-letting.ensures in
     let two = added _ _ c.batch.result _ batch one c.batch.ensures c.in_ok-letting-2.ensures in
     let three = added _ _ c.run.result _ run two c.run.ensures c.in_ok-letting-3.ensures in
     let four = added _ _ c.recover.result _ recover three c.recover.ensures c.in_ok-letting-4.ensures in
