@@ -1,10 +1,10 @@
 //! Readers and writers that fail, at each call in turn.
 
-use crate::runs::{clear, ended, input_of, ran, shown};
+use crate::runs::{PATH, clear, ended, input_of, ran, shown};
 use dh_agency_scripts::{compare, parted};
 use dh_lines::ends::{FailingReader, FailingWriter};
 use dh_tally::Tally;
-use std::io;
+use std::{fs, io};
 
 // A run that reads so many bytes and then fails: status 3, and whole lines of the output that is wanted.
 fn play_reads(
@@ -66,28 +66,43 @@ fn play_writes(
     compare(rt, tally, case.as_str(), got.as_str(), "3 true")
 }
 
-// Plays a line, each time on a file of its own that the lines before made.
-fn play_line(rt: &HostRuntime, tally: &mut Tally, before: &[&str], line: &str) -> io::Result<()> {
+// The bytes of the file, none where there is no file.
+fn kept(rt: &HostRuntime) -> io::Result<Vec<u8>> {
+    if fs::exists(rt, PATH)? {
+        return fs::read(rt, PATH);
+    }
+    Ok(Vec::new(rt.alloc()))
+}
+
+fn put_back(rt: &HostRuntime, bytes: &[u8]) -> io::Result<()> {
+    clear(rt);
+    if bytes.is_empty() {
+        return Ok(());
+    }
+    fs::write(rt, PATH, bytes)
+}
+
+// Plays a line with each failing writer, on the file as it stands, and then once whole.
+fn play_line(rt: &HostRuntime, tally: &mut Tally, line: &str) -> io::Result<()> {
     let (told, whole) = parted(line);
     let whole = whole.replace(rt.alloc(), "\\n", "\n")?;
+    let bytes = kept(rt)?;
     for writes in 0..whole.len() {
-        clear(rt);
-        for told in before {
-            let (words, input) = told.split_once(" < ").unwrap_or((*told, ""));
-            let _ = ran(rt, words, input)?;
-        }
+        put_back(rt, &bytes)?;
         play_writes(rt, tally, told, whole.as_str(), writes)?;
     }
-    clear(rt);
+    put_back(rt, &bytes)?;
+    let (words, input) = told.split_once(" < ").unwrap_or((told, ""));
+    let _ = ran(rt, words, input)?;
     Ok(())
 }
 
 /// Plays each line `WORDS -> TEXT` or `WORDS < INPUT -> TEXT` behind those above it, with a writer that takes a byte a write and fails at each write in turn.
 pub fn play_writer(rt: &HostRuntime, tally: &mut Tally, lines: &str) -> io::Result<()> {
-    let mut before = Vec::new(rt.alloc());
+    clear(rt);
     for line in lines.lines() {
-        play_line(rt, tally, &before, line)?;
-        before.push(parted(line).0)?;
+        play_line(rt, tally, line)?;
     }
+    clear(rt);
     Ok(())
 }

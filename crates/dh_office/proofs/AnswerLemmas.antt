@@ -1,11 +1,9 @@
 -- Lines and questions, in the words of jobs.
-use Rattle.std.proofs.Common.{◌≡◌, ◌∙◌, ◌⊎◌, inl, inr, Bool, true, false, ℕ, ◌+◌, ◌<◌, ◌≤◌, Option, Some, None, List, [], ◌∷◌, ◌++◌, length, take, Result, Ok}
-use Rattle.std.proofs.Common.{Err, refl, sym, ap, subst, arith}
-use Rattle.std.specs.Prelude.{nat_lt}
+use Rattle.std.proofs.Common.{◌≡◌, ◌∙◌, Bool, ℕ, ◌+◌, Option, List, ◌++◌, length, take, Result, Ok}
+use Rattle.std.proofs.Common.{Err, sym, ap, subst, arith}
 use Rattle.std.specs.Io.KnownBytes.{Appends}
 use Rattle.std.proofs.lemmas.List.{take_all}
 use Rattle.sqlite.specs.Store.{Ghosts}
-use Rattle.sqlite.specs.State as conn
 use Rattle.dh_types.specs.declared.question.Question.{Question}
 use Rattle.dh_types.specs.Reports.{Report}
 use Rattle.dh_model.specs.Answers.{report}

@@ -1,26 +1,23 @@
 -- How a job ends whose text was printed.
-use Rattle.std.proofs.Common.{◌≡◌, ◌∙◌, ◌⊎◌, inl, inr, Bool, true, false, ℕ, Option, Some, None, List, [], refl, sym, ap, subst, is_some, if◌then◌else◌}
+use Rattle.std.proofs.Common.{◌≡◌, ◌∙◌, inl, inr, Bool, true, false, ℕ, Option, Some, None, List, refl, sym, ap, subst, is_some, if◌then◌else◌}
 use Rattle.std.specs.Io.KnownBytes.{Appends}
 use Rattle.sqlite.specs.State as conn
 use Rattle.sqlite.specs.State.{HasCleanDisk}
 use Rattle.dh_types.specs.Output.{BreaksOff}
-use Rattle.dh_types.specs.Reports.{Report, NoReport}
-use Rattle.dh_types.specs.declared.reply.Refusal.{Refusal}
-use Rattle.dh_types.specs.declared.reply.Refusal.TheVariants as refusal
 use Rattle.dh_types.specs.declared.reply.Reply.{Reply}
 use Rattle.dh_types.specs.declared.run.Run.{Run}
 use Rattle.dh_types.specs.Replies.{is_refusal}
 use Rattle.dh_types.specs.declared.question.Question.TheVariants as asked
 use Rattle.dh_model.specs.declared.open_run.OpenRun.{OpenRun}
-use Rattle.dh_model.specs.Answers.{report, run_report, unless_open}
+use Rattle.dh_model.specs.Answers.{report, run_report}
 use Rattle.dh_model.specs.Books.{Books, State}
 use Rattle.dh_schema.specs.Store as store
 use Rattle.dh_lines.specs.Session.{Answered, replied}
 use Rattle.dh_office.specs.declared.status.Status.{Status}
 use Rattle.dh_office.specs.declared.status.Status.TheVariants.{Done, SomeRefused, Failed, RunOpen}
-use Rattle.dh_office.specs.Statuses.{IsEnding, ending, status_of}
+use Rattle.dh_office.specs.Statuses.{IsEnding, ending}
 use Rattle.dh_office.specs.Texts.{reply_line}
-use Rattle.dh_office.specs.Printed.{Behind, Prints, TellsFault, Whole, Within}
+use Rattle.dh_office.specs.Printed.{Behind, Prints, Whole, Within}
 use Rattle.dh_office.specs.Jobs.{says_open, stand_in, stand_of}
 use Rattle.dh_office.specs.Ends.{Comes, Finishes, Told, Unasked}
 use Rattle.dh_office.proofs.TextLemmas.{same_behind, told_behind}

@@ -1,13 +1,10 @@
 -- From an agency to the store that it is over.
-use Rattle.std.proofs.Common.{◌≡◌, ◌∙◌, ◌⊎◌, inl, inr, ◌≢◌, ℕ, Option, Some, None, List, [], refl, sym, ap, subst, arith}
+use Rattle.std.proofs.Common.{◌≡◌, ◌⊎◌, inl, inr, ℕ, Option, Some, None, List, [], refl, sym, subst, arith}
 use Rattle.std.specs.Prelude.{IfSome}
-use Rattle.std.specs.Io.KnownBytes.{Appends}
 use Rattle.sqlite.specs.Store.{Ghosts}
 use Rattle.sqlite.specs.State as conn
 use Rattle.sqlite.specs.State.{HasCleanDisk}
 use Rattle.sqlite.specs.Held.{Held, state}
-use Rattle.dh_types.specs.Output.{BreaksOff}
-use Rattle.dh_types.specs.declared.reply.Refusal.{Refusal}
 use Rattle.dh_model.specs.Books.{State}
 use Rattle.dh_schema.specs.Store as store
 use Rattle.dh_schema.specs.Store.{Leaves}

@@ -1,6 +1,6 @@
 -- From words to how the program ends.
-use Rattle.std.proofs.Common.{◌≡◌, ◌≢◌, ◌∙◌, ◌⊎◌, inl, inr, ℕ, Bool, true, false, Option, Some, None, List, [], ◌∷◌, refl, sym, ap, subst, arith}
-use Rattle.std.specs.Prelude.{codes, option_map, slice_index, unwrap_or}
+use Rattle.std.proofs.Common.{◌≡◌, ◌≢◌, ◌∙◌, inl, inr, ℕ, Option, Some, None, List, [], ◌∷◌, refl, sym, ap, subst, arith}
+use Rattle.std.specs.Prelude.{codes, option_map, slice_index}
 use Rattle.std.specs.Borrow.{Bor}
 use Rattle.clap.specs.Faults.{defaults_fault, walk_fault}
 use Rattle.clap.specs.Kinds.{IsAmong}
@@ -11,22 +11,13 @@ use Rattle.clap.specs.Words.{Row, Text, fault_of, subcommand_of}
 use Rattle.dh_types.specs.declared.reply.Fault.TheVariants as fault
 use Rattle.dh_words.specs.Table.{letting}
 use Rattle.dh_words.specs.Options.{first_bad}
-use Rattle.dh_words.specs.Jobs.{Asks, IsBadFor, IsJobOf}
-use Rattle.dh_words.specs.declared.kinds.BadWords.{BadWords}
+use Rattle.dh_words.specs.Jobs.{Asks}
 use Rattle.dh_words.specs.declared.kinds.BadWords.TheVariants as bad
 use Rattle.dh_words.specs.declared.kinds.Job.{Job}
 use Rattle.dh_words.specs.declared.kinds.Job.TheVariants.{Init, Batch, Run, Recover, Report}
-use Rattle.dh_office.specs.declared.jobs.Work.{Work}
-use Rattle.dh_office.specs.declared.jobs.Work.TheVariants as work
-use Rattle.dh_office.specs.declared.taking.FileJob.{FileJob}
-use Rattle.dh_office.specs.declared.taking.FileJob.TheVariants as job
 use Rattle.dh_office.specs.declared.status.Status.{Status}
-use Rattle.dh_office.specs.declared.status.Status.TheVariants as status
-use Rattle.dh_office.specs.Statuses.{IsEnding}
 use Rattle.dh_office.specs.Desk.{AskedEnds, BatchEnds, DeskEnds}
 use Rattle.dh_office.specs.Ends.{MemoryLinesEnd}
-use Rattle.dh_office.specs.Printed.{Before, Behind, IsMakingEnd, IsRecoveryEnd, IsRefusedEnd, IsReportEnd, IsRunEnd, Prints, PrintsJob, PrintsWork, Whole}
-use Rattle.dh_office.specs.Printed.{Within}
 use Rattle.dh_office.proofs.TextLemmas.{fault_as}
 
 -- ---- the word `batch` alone

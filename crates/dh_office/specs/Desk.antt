@@ -12,7 +12,6 @@ use Rattle.dh_words.specs.declared.kinds.Job.TheVariants.{Init, Batch, Run, Reco
 use Rattle.dh_words.specs.Jobs.{IsBadFor, IsJobOf}
 use Rattle.dh_lines.specs.Session.{newline}
 use Rattle.dh_office.specs.declared.jobs.Work.TheVariants as work
-use Rattle.dh_office.specs.declared.taking.FileJob.{FileJob}
 use Rattle.dh_office.specs.declared.taking.FileJob.TheVariants as job
 use Rattle.dh_office.specs.declared.status.Status.{Status}
 use Rattle.dh_office.specs.declared.status.Status.TheVariants as status
