@@ -1,5 +1,6 @@
 -- Lines and the forms of their words.
-use Rattle.std.proofs.Common.{◌≡◌, ◌∙◌, ℕ, zero, suc, ◌+◌, Bool, true, false, if◌then◌else◌, Option, None, Some, slice_get, Result, Ok, Err, List, [], ◌∷◌, drop, refl, sym, ap}
+use Rattle.std.proofs.Common.{◌≡◌, ◌∙◌, ℕ, zero, suc, ◌+◌, Bool, true, false, if◌then◌else◌, Option, None, Some, slice_get, Result, Ok, Err, List, [], ◌∷◌}
+use Rattle.std.proofs.Common.{drop, refl, sym, ap}
 use Rattle.std.proofs.Common.{subst, add-one, unwrap_or, bytes_eq}
 use Rattle.std.specs.Prelude.{⊤}
 use Rattle.std.specs.List.{list_all}

@@ -1,5 +1,6 @@
 -- Reading one field.
-use Rattle.std.proofs.Common.{◌≡◌, ◌∙◌, ◌↔◌, ℕ, zero, suc, ◌-◌, ◌≤◌, ◌==◌, Bool, true, false, ◌||◌, if◌then◌else◌, Option, None, Some, is_some, unwrap_or, slice_get}
+use Rattle.std.proofs.Common.{◌≡◌, ◌∙◌, ◌↔◌, ℕ, zero, suc, ◌-◌, ◌≤◌, ◌==◌, Bool, true, false, ◌||◌, if◌then◌else◌, Option, None, Some, is_some, unwrap_or}
+use Rattle.std.proofs.Common.{slice_get}
 use Rattle.std.proofs.Common.{Result, Ok, Err, IfOk, List, [], ◌∷◌, length, map, Bor, refl, sym, ap, subst, arith, ◌⊎◌, inl, inr}
 use Rattle.std.specs.Prelude.{IsTrue}
 use Rattle.std.specs.Option.{option_map, option_copied}

@@ -1,5 +1,6 @@
 -- Commands and questions among the lines.
-use Rattle.std.proofs.Common.{◌≡◌, ◌∙◌, ℕ, Bool, true, false, Option, None, Some, slice_get, bytes_eq, codes, Result, Ok, Err, List, [], ◌∷◌, refl, sym, ap, subst}
+use Rattle.std.proofs.Common.{◌≡◌, ◌∙◌, ℕ, Bool, true, false, Option, None, Some, slice_get, bytes_eq, codes, Result, Ok, Err, List, [], ◌∷◌, refl, sym, ap}
+use Rattle.std.proofs.Common.{subst}
 use Rattle.std.specs.Result.{IsErrAnd}
 use Rattle.std.specs.Str.{IsUtf8}
 use Rattle.std.proofs.lemmas.Slice.Eq.{bytes_eq-Decides}
@@ -20,7 +21,8 @@ use Rattle.dh_fields.specs.Readings.{GivesUp, IsNoText, Tells}
 abbrev pub is_show : Fields → Bool
 is_show fields = bytes_eq (field fields 1) (codes "show")
 
-pub shows : (fields : Fields) (word : List ℕ) (b c : Bool) → slice_get ([] ∷ fields) 1 ≡ Some word → b ≡ bytes_eq word (codes "show") → b ≡ c → is_show fields ≡ c
+pub shows : (fields : Fields) (word : List ℕ) (b c : Bool) → slice_get ([] ∷ fields) 1 ≡ Some word → b ≡ bytes_eq word (codes "show") → b ≡ c
+    → is_show fields ≡ c
 shows fields word b c is tested h = ap (λ w. bytes_eq w (codes "show")) (field_is fields 1 word is) ∙ sym tested ∙ h
 
 gives : {T : Type 0} (whole : Result Request Refusal) (part : Result T Refusal) → ((refusal : Refusal) → Err refusal ≡ part → Err refusal ≡ whole)

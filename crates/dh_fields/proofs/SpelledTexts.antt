@@ -41,7 +41,8 @@ before b bs small h zero = small
 before b bs small h (suc i) = h i
 
 -- what stands on both sides of a byte
-joined : (text : List ℕ) (i sep : ℕ) → i < length text → sep < 128 → nat_eq (slice_index text i) sep ≡ true → IsAscii (take i text) → IsAscii (drop (suc i) text)
+joined : (text : List ℕ) (i sep : ℕ) → i < length text → sep < 128 → nat_eq (slice_index text i) sep ≡ true → IsAscii (take i text)
+    → IsAscii (drop (suc i) text)
     → IsAscii text
 joined text i sep in_it small same front back =
     let there : slice_index text i ≡ sep = eqb-true _ sep same in
@@ -108,7 +109,8 @@ month-IsAscii n text h =
 pub month-IsUtf8 : (n : ℕ) (text : List ℕ) → month_of text ≡ Some n → IsUtf8 text
 month-IsUtf8 n text h = IsUtf8-from_ascii text (month-IsAscii n text h)
 
-month_first : (f : ℕ → Option ℕ) (text : List ℕ) (m : Option ℕ) (day : ℕ) → ((n : ℕ) → m ≡ Some n → IsAscii text) → option_and_then f m ≡ Some day → IsAscii text
+month_first : (f : ℕ → Option ℕ) (text : List ℕ) (m : Option ℕ) (day : ℕ) → ((n : ℕ) → m ≡ Some n → IsAscii text) → option_and_then f m ≡ Some day
+    → IsAscii text
 month_first f text None day all h = absurd (cc)
 month_first f text (Some n) day all h = all n refl
 

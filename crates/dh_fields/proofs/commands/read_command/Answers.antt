@@ -9,55 +9,68 @@ returns-in_err-text c = no_text command_forms 1 c.args.line.now refl refl _ _ c.
 
 pub returns-in-branch : goal.returns-in-branch
 returns-in-branch c =
-    by_form command_forms 1 c.args.line.now (codes "branch") branch_form _ (field_is c.args.line.now 1 _ c.in_ok-text.ensures ∙ c.in-branch.is) refl c.read_branch.ensures
+    by_form command_forms 1 c.args.line.now (codes "branch") branch_form _
+    (field_is c.args.line.now 1 _ c.in_ok-text.ensures ∙ c.in-branch.is) refl c.read_branch.ensures
 
 pub returns-in-staff : goal.returns-in-staff
 returns-in-staff c =
-    by_form command_forms 1 c.args.line.now (codes "staff") staff_form _ (field_is c.args.line.now 1 _ c.in_ok-text.ensures ∙ c.in-staff.is) refl c.read_staff.ensures
+    by_form command_forms 1 c.args.line.now (codes "staff") staff_form _
+    (field_is c.args.line.now 1 _ c.in_ok-text.ensures ∙ c.in-staff.is) refl c.read_staff.ensures
 
 pub returns-in-owner : goal.returns-in-owner
 returns-in-owner c =
-    by_form command_forms 1 c.args.line.now (codes "owner") owner_form _ (field_is c.args.line.now 1 _ c.in_ok-text.ensures ∙ c.in-owner.is) refl c.read_owner.ensures
+    by_form command_forms 1 c.args.line.now (codes "owner") owner_form _
+    (field_is c.args.line.now 1 _ c.in_ok-text.ensures ∙ c.in-owner.is) refl c.read_owner.ensures
 
 pub returns-in-property : goal.returns-in-property
 returns-in-property c =
-    by_form command_forms 1 c.args.line.now (codes "property") property_form _ (field_is c.args.line.now 1 _ c.in_ok-text.ensures ∙ c.in-property.is) refl c.read_property.ensures
+    by_form command_forms 1 c.args.line.now (codes "property") property_form _
+    (field_is c.args.line.now 1 _ c.in_ok-text.ensures ∙ c.in-property.is) refl c.read_property.ensures
 
 pub returns-in-assign : goal.returns-in-assign
 returns-in-assign c =
-    by_form command_forms 1 c.args.line.now (codes "assign") assign_form _ (field_is c.args.line.now 1 _ c.in_ok-text.ensures ∙ c.in-assign.is) refl c.read_assign.ensures
+    by_form command_forms 1 c.args.line.now (codes "assign") assign_form _
+    (field_is c.args.line.now 1 _ c.in_ok-text.ensures ∙ c.in-assign.is) refl c.read_assign.ensures
 
 pub returns-in-rent : goal.returns-in-rent
 returns-in-rent c =
-    by_form command_forms 1 c.args.line.now (codes "rent") rent_form _ (field_is c.args.line.now 1 _ c.in_ok-text.ensures ∙ c.in-rent.is) refl c.read_rent.ensures
+    by_form command_forms 1 c.args.line.now (codes "rent") rent_form _
+    (field_is c.args.line.now 1 _ c.in_ok-text.ensures ∙ c.in-rent.is) refl c.read_rent.ensures
 
 pub returns-in-client : goal.returns-in-client
 returns-in-client c =
-    by_form command_forms 1 c.args.line.now (codes "client") client_form _ (field_is c.args.line.now 1 _ c.in_ok-text.ensures ∙ c.in-client.is) refl c.read_client.ensures
+    by_form command_forms 1 c.args.line.now (codes "client") client_form _
+    (field_is c.args.line.now 1 _ c.in_ok-text.ensures ∙ c.in-client.is) refl c.read_client.ensures
 
 pub returns-in-register : goal.returns-in-register
 returns-in-register c =
-    by_form command_forms 1 c.args.line.now (codes "register") register_form _ (field_is c.args.line.now 1 _ c.in_ok-text.ensures ∙ c.in-register.is) refl c.read_register.ensures
+    by_form command_forms 1 c.args.line.now (codes "register") register_form _
+    (field_is c.args.line.now 1 _ c.in_ok-text.ensures ∙ c.in-register.is) refl c.read_register.ensures
 
 pub returns-in-viewing : goal.returns-in-viewing
 returns-in-viewing c =
-    by_form command_forms 1 c.args.line.now (codes "viewing") viewing_form _ (field_is c.args.line.now 1 _ c.in_ok-text.ensures ∙ c.in-viewing.is) refl c.read_viewing.ensures
+    by_form command_forms 1 c.args.line.now (codes "viewing") viewing_form _
+    (field_is c.args.line.now 1 _ c.in_ok-text.ensures ∙ c.in-viewing.is) refl c.read_viewing.ensures
 
 pub returns-in-comment : goal.returns-in-comment
 returns-in-comment c =
-    by_form command_forms 1 c.args.line.now (codes "comment") comment_form _ (field_is c.args.line.now 1 _ c.in_ok-text.ensures ∙ c.in-comment.is) refl c.read_comment.ensures
+    by_form command_forms 1 c.args.line.now (codes "comment") comment_form _
+    (field_is c.args.line.now 1 _ c.in_ok-text.ensures ∙ c.in-comment.is) refl c.read_comment.ensures
 
 pub returns-in-inspection : goal.returns-in-inspection
 returns-in-inspection c =
-    by_form command_forms 1 c.args.line.now (codes "inspection") inspection_form _ (field_is c.args.line.now 1 _ c.in_ok-text.ensures ∙ c.in-inspection.is) refl c.read_inspection.ensures
+    by_form command_forms 1 c.args.line.now (codes "inspection") inspection_form _
+    (field_is c.args.line.now 1 _ c.in_ok-text.ensures ∙ c.in-inspection.is) refl c.read_inspection.ensures
 
 pub returns-in-lease : goal.returns-in-lease
 returns-in-lease c =
-    by_form command_forms 1 c.args.line.now (codes "lease") lease_form _ (field_is c.args.line.now 1 _ c.in_ok-text.ensures ∙ c.in-lease.is) refl c.read_lease.ensures
+    by_form command_forms 1 c.args.line.now (codes "lease") lease_form _
+    (field_is c.args.line.now 1 _ c.in_ok-text.ensures ∙ c.in-lease.is) refl c.read_lease.ensures
 
 pub returns-in-receipt : goal.returns-in-receipt
 returns-in-receipt c =
-    by_form command_forms 1 c.args.line.now (codes "receipt") receipt_form _ (field_is c.args.line.now 1 _ c.in_ok-text.ensures ∙ c.in-receipt.is) refl c.read_receipt.ensures
+    by_form command_forms 1 c.args.line.now (codes "receipt") receipt_form _
+    (field_is c.args.line.now 1 _ c.in_ok-text.ensures ∙ c.in-receipt.is) refl c.read_receipt.ensures
 
 pub returns-in-run : goal.returns-in-run
 returns-in-run c =
@@ -65,11 +78,13 @@ returns-in-run c =
 
 pub returns-in-open : goal.returns-in-open
 returns-in-open c =
-    by_form command_forms 1 c.args.line.now (codes "open") open_form _ (field_is c.args.line.now 1 _ c.in_ok-text.ensures ∙ c.in-open.is) refl c.read_open.ensures
+    by_form command_forms 1 c.args.line.now (codes "open") open_form _
+    (field_is c.args.line.now 1 _ c.in_ok-text.ensures ∙ c.in-open.is) refl c.read_open.ensures
 
 pub returns-in-post : goal.returns-in-post
 returns-in-post c =
-    by_form command_forms 1 c.args.line.now (codes "post") post_form _ (field_is c.args.line.now 1 _ c.in_ok-text.ensures ∙ c.in-post.is) refl c.read_post.ensures
+    by_form command_forms 1 c.args.line.now (codes "post") post_form _
+    (field_is c.args.line.now 1 _ c.in_ok-text.ensures ∙ c.in-post.is) refl c.read_post.ensures
 
 pub returns-in_default : goal.returns-in_default
 returns-in_default c =

@@ -8,27 +8,33 @@ returns-in_err-text c = no_text question_forms 2 c.args.line.now refl refl _ _ c
 
 pub returns-in-branches : goal.returns-in-branches
 returns-in-branches c =
-    by_form question_forms 2 c.args.line.now (codes "branches") branches_form _ (field_is c.args.line.now 2 _ c.in_ok-text.ensures ∙ c.in-branches.is) refl c.read_branches.ensures
+    by_form question_forms 2 c.args.line.now (codes "branches") branches_form _
+    (field_is c.args.line.now 2 _ c.in_ok-text.ensures ∙ c.in-branches.is) refl c.read_branches.ensures
 
 pub returns-in-vacant : goal.returns-in-vacant
 returns-in-vacant c =
-    by_form question_forms 2 c.args.line.now (codes "vacant") vacant_form _ (field_is c.args.line.now 2 _ c.in_ok-text.ensures ∙ c.in-vacant.is) refl c.read_vacant.ensures
+    by_form question_forms 2 c.args.line.now (codes "vacant") vacant_form _
+    (field_is c.args.line.now 2 _ c.in_ok-text.ensures ∙ c.in-vacant.is) refl c.read_vacant.ensures
 
 pub returns-in-matching : goal.returns-in-matching
 returns-in-matching c =
-    by_form question_forms 2 c.args.line.now (codes "matching") matching_form _ (field_is c.args.line.now 2 _ c.in_ok-text.ensures ∙ c.in-matching.is) refl c.read_matching.ensures
+    by_form question_forms 2 c.args.line.now (codes "matching") matching_form _
+    (field_is c.args.line.now 2 _ c.in_ok-text.ensures ∙ c.in-matching.is) refl c.read_matching.ensures
 
 pub returns-in-statement : goal.returns-in-statement
 returns-in-statement c =
-    by_form question_forms 2 c.args.line.now (codes "statement") statement_form _ (field_is c.args.line.now 2 _ c.in_ok-text.ensures ∙ c.in-statement.is) refl c.read_statement.ensures
+    by_form question_forms 2 c.args.line.now (codes "statement") statement_form _
+    (field_is c.args.line.now 2 _ c.in_ok-text.ensures ∙ c.in-statement.is) refl c.read_statement.ensures
 
 pub returns-in-arrears : goal.returns-in-arrears
 returns-in-arrears c =
-    by_form question_forms 2 c.args.line.now (codes "arrears") arrears_form _ (field_is c.args.line.now 2 _ c.in_ok-text.ensures ∙ c.in-arrears.is) refl c.read_arrears.ensures
+    by_form question_forms 2 c.args.line.now (codes "arrears") arrears_form _
+    (field_is c.args.line.now 2 _ c.in_ok-text.ensures ∙ c.in-arrears.is) refl c.read_arrears.ensures
 
 pub returns-in-run : goal.returns-in-run
 returns-in-run c =
-    by_form question_forms 2 c.args.line.now (codes "run") shown_run_form _ (field_is c.args.line.now 2 _ c.in_ok-text.ensures ∙ c.in-run.is) refl c.read_shown_run.ensures
+    by_form question_forms 2 c.args.line.now (codes "run") shown_run_form _
+    (field_is c.args.line.now 2 _ c.in_ok-text.ensures ∙ c.in-run.is) refl c.read_shown_run.ensures
 
 pub returns-in_default : goal.returns-in_default
 returns-in_default c =

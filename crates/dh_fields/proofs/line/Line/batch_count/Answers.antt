@@ -6,7 +6,8 @@ use Rattle.dh_fields.proofs.line.Line.batch_count.Goals as goal
 
 pub returns-in_err-text : goal.returns-in_err-text
 unfolding batch_count
-returns-in_err-text c = stops batch_count c.args.self.now c.args.number (texts batch_count_of 1 (numeral-IsUtf8 _ _)) _ _ c.from_residual.ensures.1 c.in_err-text.ensures
+returns-in_err-text c = stops batch_count c.args.self.now c.args.number
+    (texts batch_count_of 1 (numeral-IsUtf8 _ _)) _ _ c.from_residual.ensures.1 c.in_err-text.ensures
 
 pub returns : goal.returns
 unfolding batch_count

@@ -9,4 +9,5 @@ returns-in_err-text c = stops comment c.args.self.now c.args.number (is_text-IsU
 
 pub returns : goal.returns
 unfolding comment
-returns c = reads_plain (is_text 200) c.args.self.now c.args.number _ c.in_ok-text.ensures _ c.in_ok-read.ensures.value c.in_ok-read.ensures.exact _ c.or.ensures
+returns c = reads_plain
+    (is_text 200) c.args.self.now c.args.number _ c.in_ok-text.ensures _ c.in_ok-read.ensures.value c.in_ok-read.ensures.exact _ c.or.ensures

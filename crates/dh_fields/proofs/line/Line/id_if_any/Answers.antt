@@ -14,7 +14,8 @@ returns-then-is_empty c = reads_nothing id c.args.self.now c.args.number _ c.in_
 
 pub returns-in_err-id : goal.returns-in_err-id
 returns-in_err-id c =
-    stops_something id c.args.self.now c.args.number _ c.in_ok-text.ensures (sym c.is_empty.ensures ∙ c.if-is_empty.false) _ _ c.from_residual-in_err-id.ensures.1
+    stops_something id c.args.self.now c.args.number _ c.in_ok-text.ensures
+    (sym c.is_empty.ensures ∙ c.if-is_empty.false) _ _ c.from_residual-in_err-id.ensures.1
     c.in_err-id.ensures
 
 pub returns : goal.returns

@@ -7,7 +7,8 @@ use Rattle.dh_fields.proofs.line.Line.method.Goals as goal
 
 pub returns-in_err-text : goal.returns-in_err-text
 unfolding method
-returns-in_err-text c = stops method c.args.self.now c.args.number (texts payment_method_of Cash payment_method-IsUtf8) _ _ c.from_residual.ensures.1 c.in_err-text.ensures
+returns-in_err-text c = stops method c.args.self.now c.args.number
+    (texts payment_method_of Cash payment_method-IsUtf8) _ _ c.from_residual.ensures.1 c.in_err-text.ensures
 
 pub returns : goal.returns
 unfolding method

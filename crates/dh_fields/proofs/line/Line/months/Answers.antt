@@ -6,7 +6,8 @@ use Rattle.dh_fields.proofs.line.Line.months.Goals as goal
 
 pub returns-in_err-text : goal.returns-in_err-text
 unfolding months
-returns-in_err-text c = stops months c.args.self.now c.args.number (texts lease_months_of 3 (numeral-IsUtf8 _ _)) _ _ c.from_residual.ensures.1 c.in_err-text.ensures
+returns-in_err-text c = stops months c.args.self.now c.args.number
+    (texts lease_months_of 3 (numeral-IsUtf8 _ _)) _ _ c.from_residual.ensures.1 c.in_err-text.ensures
 
 pub returns : goal.returns
 unfolding months

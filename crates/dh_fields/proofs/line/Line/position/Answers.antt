@@ -7,7 +7,8 @@ use Rattle.dh_fields.proofs.line.Line.position.Goals as goal
 
 pub returns-in_err-text : goal.returns-in_err-text
 unfolding position
-returns-in_err-text c = stops position c.args.self.now c.args.number (texts position_of Manager position-IsUtf8) _ _ c.from_residual.ensures.1 c.in_err-text.ensures
+returns-in_err-text c = stops position c.args.self.now c.args.number
+    (texts position_of Manager position-IsUtf8) _ _ c.from_residual.ensures.1 c.in_err-text.ensures
 
 pub returns : goal.returns
 unfolding position

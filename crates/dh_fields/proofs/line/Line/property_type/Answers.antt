@@ -7,7 +7,8 @@ use Rattle.dh_fields.proofs.line.Line.property_type.Goals as goal
 
 pub returns-in_err-text : goal.returns-in_err-text
 unfolding property_type
-returns-in_err-text c = stops property_type c.args.self.now c.args.number (texts property_type_of House property_type-IsUtf8) _ _ c.from_residual.ensures.1 c.in_err-text.ensures
+returns-in_err-text c = stops property_type c.args.self.now c.args.number
+    (texts property_type_of House property_type-IsUtf8) _ _ c.from_residual.ensures.1 c.in_err-text.ensures
 
 pub returns : goal.returns
 unfolding property_type

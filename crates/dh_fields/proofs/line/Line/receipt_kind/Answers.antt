@@ -7,7 +7,8 @@ use Rattle.dh_fields.proofs.line.Line.receipt_kind.Goals as goal
 
 pub returns-in_err-text : goal.returns-in_err-text
 unfolding receipt_kind
-returns-in_err-text c = stops receipt_kind c.args.self.now c.args.number (texts receipt_kind_of Rent receipt_kind-IsUtf8) _ _ c.from_residual.ensures.1 c.in_err-text.ensures
+returns-in_err-text c = stops receipt_kind c.args.self.now c.args.number
+    (texts receipt_kind_of Rent receipt_kind-IsUtf8) _ _ c.from_residual.ensures.1 c.in_err-text.ensures
 
 pub returns : goal.returns
 unfolding receipt_kind
