@@ -1,0 +1,3 @@
+pub mod HeadLemmas
+pub mod BodyLemmas
+pub mod LineLemmas

@@ -1,0 +1,4 @@
+pub mod Heads
+pub mod Known
+pub mod Bodies
+pub mod HeaderLines

@@ -1,0 +1,13 @@
+//! How large a request may be.
+
+/// The most bytes of a head, with its empty line and with empty lines before it.
+pub const HEAD_BYTES: usize = 8192;
+
+/// The most header lines.
+pub const HEADER_LINES: usize = 32;
+
+/// The most bytes of a body.
+pub const BODY_BYTES: u32 = 65_536;
+
+/// The bytes of a buffer that tells a head which is too large from one that is not complete yet.
+pub const ROOM: usize = HEAD_BYTES + 1;

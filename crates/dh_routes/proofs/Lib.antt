@@ -1,0 +1,3 @@
+pub mod Seeking
+pub mod Found
+pub mod Parting
