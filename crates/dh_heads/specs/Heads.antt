@@ -11,16 +11,15 @@ use Rattle.dh_heads.specs.declared.head.HeadRead.TheVariants.{Found, Closed, Bad
 use Rattle.dh_heads.specs.declared.head.Judged.{Judged}
 use Rattle.dh_heads.specs.declared.head.Judged.TheVariants.{Whole, Partial, Wrong, TooLarge}
 
-
 -- the input begins with this head, which keeps the limits, and goes on with rest
 pub record IsHead (input : List ℕ) (h : RequestHead) (rest : List ℕ) : Type 0 where
   pub reads : ReadsRequest input h rest
   pub bytes : length (print_request h) ≤ HEAD_BYTES
   pub few : length h.fields ≤ HEADER_LINES
 
--- no continuation makes the input a head, or it ends before one is complete
+-- some bytes came, and no continuation makes them a head, or they end before one is complete
 abbrev pub IsBadHead : List ℕ → Type 0
-IsBadHead input = NeverHasRequest input ⊎ (HasNoRequest input × (length input ≤ HEAD_BYTES))
+IsBadHead input = (0 < length input) × (NeverHasRequest input ⊎ (HasNoRequest input × (length input ≤ HEAD_BYTES)))
 
 -- no head within the limits, and too many lines, or too many bytes that could still have been a head
 pub record IsLargeHead (input : List ℕ) : Type 0 where

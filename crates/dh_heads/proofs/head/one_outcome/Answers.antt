@@ -5,8 +5,8 @@ use Rattle.dh_heads.specs.Heads.{IsHead, IsBadHead, IsLargeHead}
 use Rattle.dh_heads.proofs.head.one_outcome.Goals as goal
 
 not_bad : (input : List ℕ) (h : RequestHead) (rest : List ℕ) → IsHead input h rest → IsBadHead input → ⊥
-not_bad input h rest x (inl never) = never [] h rest (subst (λ l. ReadsRequest l h rest) (sym (append-nil input)) x.reads)
-not_bad input h rest x (inr none) = none.0 h rest x.reads
+not_bad input h rest x (some, inl never) = never [] h rest (subst (λ l. ReadsRequest l h rest) (sym (append-nil input)) x.reads)
+not_bad input h rest x (some, inr none) = none.0 h rest x.reads
 
 pub returns : goal.returns
 returns c input h rest x = (

@@ -1,0 +1,106 @@
+-- What serving a request does to an agency, and what was written.
+use Rattle.std.specs.Prelude.{◌≡◌, ◌≢◌, ◌⊎◌, ℕ, Bool, true, false, List, Option, Result, Ok, Err, ⊤}
+use Rattle.std.specs.Io.KnownBytes.{Appends}
+use Rattle.sqlite.specs.Store.{Ghosts}
+use Rattle.dh_types.specs.Output.{BreaksOff}
+use Rattle.dh_types.specs.declared.command.Command.{Command}
+use Rattle.dh_types.specs.declared.reply.Fault.{Fault}
+use Rattle.dh_types.specs.declared.reply.Fault.TheVariants as fault
+use Rattle.dh_types.specs.declared.reply.Refusal.{Refusal}
+use Rattle.dh_model.specs.Answers.{report}
+use Rattle.dh_model.specs.Books.{State}
+use Rattle.dh_model.specs.Machine.{step}
+use Rattle.dh_model.specs.Runs.{batch_size}
+use Rattle.dh_schema.specs.Faults.{IsFirstFault}
+use Rattle.dh_agency.specs.Seat.{Seat}
+use Rattle.dh_agency.specs.Agency.{IsOpen, Leaves, machine}
+use Rattle.dh_agency.specs.Told.{IsCut}
+use Rattle.dh_fields.specs.declared.request.Request.{Request}
+use Rattle.dh_fields.specs.declared.request.Request.TheVariants.{Command as Ordered, Question}
+use Rattle.dh_lines.specs.Batch.{stand}
+use Rattle.dh_requests.specs.declared.asked.Asked.{Asked}
+use Rattle.dh_requests.specs.declared.asked.Asked.TheVariants.{Turned, Fields}
+use Rattle.dh_http.specs.declared.fault.NetFault.{NetFault}
+use Rattle.dh_http.specs.declared.fault.NetFault.TheVariants.{Closed, Input, Output, Memory}
+use Rattle.dh_requests.specs.declared.unread.Unread.{Unread}
+use Rattle.dh_requests.specs.declared.unread.Unread.TheVariants as unread
+use Rattle.dh_http.specs.declared.answers.Unsent.{Unsent}
+use Rattle.dh_http.specs.declared.answers.Unsent.TheVariants as unsent
+use Rattle.dh_http.specs.Answers.{Answer, answer_text, fault_answer, refusal_answer, reply_answer, report_answer, turned_answer}
+
+-- what a request is answered, and where the machine stands then
+pub record Served : Type 0 where
+  pub state : State
+  pub answer : Answer
+
+abbrev pub served_request : State → Result Request Refusal → Served
+served_request s (Ok (Ordered command)) =
+    record { state = (step batch_size s command).0; answer = reply_answer (step batch_size s command).1 }
+served_request s (Ok (Question question)) = record { state = s; answer = report_answer (report s question) }
+served_request s (Err why) = record { state = s; answer = refusal_answer why }
+
+abbrev pub served : State → Asked → Served
+served s (Turned why) = record { state = s; answer = turned_answer why }
+served s (Fields request) = served_request s request
+
+-- the request carries out a command
+abbrev pub IsOrder : Asked → Type 0
+IsOrder (Fields (Ok (Ordered command))) = ⊤
+IsOrder (Fields (Ok (Question question))) = ⊥
+IsOrder (Fields (Err why)) = ⊥
+IsOrder (Turned why) = ⊥
+
+-- The tables that a fault leaves: those of a command that was cut, or the same where nothing was to be changed.
+abbrev pub IsLeftBy : Asked → State → State → Type 0
+IsLeftBy (Fields (Ok (Ordered command))) before left = IsCut command before left
+IsLeftBy (Fields (Ok (Question question))) before left = left ≡ before
+IsLeftBy (Fields (Err why)) before left = left ≡ before
+IsLeftBy (Turned why) before left = left ≡ before
+
+-- an agency that goes on meets a first fault, and one that has stopped says so
+abbrev pub IsFaultOf : {S : Type 0} → Seat S → Fault → Type 0
+IsFaultOf old it = (old.is_stopped ≡ false → IsFirstFault it) × (old.is_stopped ≡ true → it ≡ fault.Stopped)
+
+-- where no request was read nothing was carried out
+abbrev pub unread_fault : Unread → NetFault
+unread_fault unread.Closed = Closed
+unread_fault unread.Input = Input
+unread_fault unread.Memory = Memory false
+
+-- what came of an answer is told; want of memory with whether the machine's step was made
+abbrev pub Tells : Bool → Result ℕ Unsent → Result ℕ NetFault → Type 0
+Tells acted (Ok status) it = it ≡ Ok status
+Tells acted (Err unsent.Output) it = it ≡ Err Output
+Tells acted (Err unsent.Memory) it = it ≡ Err (Memory acted)
+
+module _ {S : Type 0} (g : Ghosts S) (old new : Seat S) where
+  -- The request was answered, and the machine stands where the answer says; or a fault was told, and the agency has stopped.
+  pub data IsServed (asked : Asked) (status : ℕ) (Writes : List ℕ → Type 0) : Type 0 where
+    Told : Writes (answer_text (served (stand g old) asked).answer) → stand g new ≡ (served (stand g old) asked).state
+        → status ≡ (served (stand g old) asked).answer.status → IsServed asked status Writes
+    Faulted : (fault : Fault) → Writes (answer_text (fault_answer fault)) → IsFaultOf old fault → new.is_stopped ≡ true
+        → (IsOpen g new → IsLeftBy asked (machine g old) (machine g new)) → status ≡ 503 → IsServed asked status Writes
+
+  -- What the result says, where requests may be asked so. After `Memory` nothing is written, and it tells whether the machine's step
+  -- was made.
+  abbrev pub Serves : (Asked → Type 0) → Option (List ℕ) → Option (List ℕ) → Result ℕ NetFault → Type 0
+  Serves May a b (Ok status) = (asked : Asked) × May asked × IsServed asked status (Appends a b)
+  Serves May a b (Err Output) = (asked : Asked) × (status : ℕ) × May asked × IsServed asked status (BreaksOff a b)
+  Serves May a b (Err Closed) = (b ≡ a) × (new ≡ old)
+  Serves May a b (Err Input) = (b ≡ a) × (new ≡ old)
+  Serves May a b (Err (Memory true)) =
+      (asked : Asked) × May asked × (b ≡ a) × IsOrder asked × (stand g new ≡ (served (stand g old) asked).state)
+  Serves May a b (Err (Memory false)) = (b ≡ a) × (machine g new ≡ machine g old)
+
+  -- a crash leaves the tables as they were, or those of a command that is asked for and cut
+  abbrev pub LeavesServed : (Asked → Type 0) → Type 0
+  LeavesServed May = Leaves g new (λ left. (left ≡ machine g old) ⊎ ((asked : Asked) × May asked × IsLeftBy asked (machine g old) left))
+
+-- the agency goes on as it did; or it has stopped, which an answer 503 tells, or the beginning of one
+module _ {S : Type 0} (old new : Seat S) where
+  abbrev pub StopsBy : Result ℕ NetFault → Type 0
+  StopsBy (Ok status) = ((status ≢ 503) × (new.is_stopped ≡ old.is_stopped)) ⊎ ((status ≡ 503) × (new.is_stopped ≡ true))
+  StopsBy (Err Output) = (new.is_stopped ≡ old.is_stopped) ⊎ (new.is_stopped ≡ true)
+  StopsBy (Err Closed) = new.is_stopped ≡ old.is_stopped
+  StopsBy (Err Input) = new.is_stopped ≡ old.is_stopped
+  StopsBy (Err (Memory acted)) = new.is_stopped ≡ old.is_stopped

@@ -1,0 +1,260 @@
+//! Writing answers.
+
+ghost use Rattle.std.specs.Prelude.{◌≡◌, [], false, unwrap_or};
+ghost use Rattle.http.specs.StatusCode.{reason_phrase};
+ghost use Rattle.dh_types.specs.Output.{Puts};
+ghost use Rattle.dh_types.specs.Reports.{report_of};
+ghost use Rattle.dh_lines.specs.Session.{is_no_report};
+ghost use Rattle.dh_http.specs.Answers.{Sends, allow_line, content_line, fault_answer, json_answer, refusal_answer, refusal_number};
+ghost use Rattle.dh_http.specs.Answers.{refusal_status, reply_answer, report_answer, status_line, turned_answer, turned_status};
+ghost use Rattle.dh_http.specs.declared.answers.Unsent.TheVariants as unsent;
+
+use dh_reports::write;
+use dh_requests::Turned;
+use dh_types::writing::{put, put_parts};
+use dh_types::{Answer, Fault, Output, Refusal, Reply};
+use http::StatusCode;
+use itoa::Buffer;
+use std::alloc::{AllocError, Global};
+use std::io::Write;
+
+/// What the body of an answer is.
+#[derive(Clone, Copy)]
+pub(crate) enum Content {
+    Json,
+    Report,
+    Empty,
+}
+
+/// Why an answer was not sent.
+#[derive(Clone, Copy)]
+pub(crate) enum Unsent {
+    /// Memory ran out, and nothing was written.
+    Memory,
+    /// The writer failed.
+    Output,
+}
+
+impl From<AllocError> for Unsent {
+    ghost from_gives = { λ _ e. e ≡ unsent.Memory };
+
+    fn from(_: AllocError) -> Unsent {
+        Unsent::Memory
+    }
+}
+
+// The phrase of a status, if it has one.
+fn phrase(status: StatusCode) -> &'static str
+    ensures { result.now ≡ unwrap_or (reason_phrase status) [] }
+{
+    status.canonical_reason().unwrap_or("")
+}
+
+fn put_status<W: Write>(writer: &mut W, status: StatusCode) -> Result<(), Output>
+    ensures { Puts (W.contents writer.old) (W.contents writer.new) result (status_line status) }
+{
+    put_parts(
+        writer,
+        &[
+            b"HTTP/1.1 ",
+            status.as_str().as_bytes(),
+            b" ",
+            phrase(status).as_bytes(),
+            b"\r\n",
+        ],
+    )
+}
+
+fn content_line(content: Content) -> &'static str
+    ensures { result.now ≡ content_line content }
+{
+    match content {
+        Content::Json => "Content-Type: application/json\r\n",
+        Content::Report => "Content-Type: text/plain; charset=utf-8\r\n",
+        Content::Empty => "",
+    }
+}
+
+// Writes an answer; `allow` is a whole header line, or nothing.
+fn put_answer<W: Write>(
+    writer: &mut W,
+    status: StatusCode,
+    content: Content,
+    allow: &str,
+    body: &[u8],
+) -> Result<StatusCode, Unsent>
+    ensures { Sends (W.contents writer.old) (W.contents writer.new)
+        (record { status = status; content = content; allow = allow.now; body = body.now }) result }
+{
+    if put_status(writer, status).is_err() {
+        return Err(Unsent::Output);
+    }
+    let rest = put_parts(
+        writer,
+        &[
+            content_line(content).as_bytes(),
+            b"Content-Length: ",
+            Buffer::new().format(body.len()).as_bytes(),
+            b"\r\n",
+            allow.as_bytes(),
+            b"Connection: close\r\n\r\n",
+            body,
+        ],
+    );
+    match rest {
+        Ok(()) => Ok(status),
+        Err(_) => Err(Unsent::Output),
+    }
+}
+
+// The status of a request that is turned away.
+fn turned_status(why: Turned) -> StatusCode
+    ensures { result ≡ turned_status why }
+{
+    match why {
+        Turned::BadRequest => StatusCode::BAD_REQUEST,
+        Turned::NotFound => StatusCode::NOT_FOUND,
+        Turned::OnlyByPost | Turned::OnlyByGet => StatusCode::METHOD_NOT_ALLOWED,
+        Turned::NoLength => StatusCode::LENGTH_REQUIRED,
+        Turned::BodyTooLarge => StatusCode::PAYLOAD_TOO_LARGE,
+        Turned::HeadTooLarge => StatusCode::REQUEST_HEADER_FIELDS_TOO_LARGE,
+        Turned::NotImplemented => StatusCode::NOT_IMPLEMENTED,
+    }
+}
+
+// The header line that names the route's method, where another was used.
+fn allow_line(why: Turned) -> &'static str
+    ensures { result.now ≡ allow_line why }
+{
+    match why {
+        Turned::OnlyByPost => "Allow: POST\r\n",
+        Turned::OnlyByGet => "Allow: GET\r\n",
+        _ => "",
+    }
+}
+
+/// Answers a request that is turned away. It takes no memory.
+pub(crate) fn put_turned<W: Write>(writer: &mut W, why: Turned) -> Result<StatusCode, Unsent>
+    ensures { Sends (W.contents writer.old) (W.contents writer.new) (turned_answer why) result }
+{
+    put_answer(writer, turned_status(why), Content::Empty, allow_line(why), b"")
+}
+
+// Answers with this number and text.
+fn put_json<W: Write>(
+    alloc: Global,
+    writer: &mut W,
+    status: StatusCode,
+    code: u8,
+    text: &str,
+) -> Result<StatusCode, Unsent>
+    ensures { Sends (W.contents writer.old) (W.contents writer.new) (json_answer status code text.now) result }
+{
+    let body = dh_bodies::reply(alloc, code, text)?;
+    put_answer(writer, status, Content::Json, "", body.as_bytes())
+}
+
+// The number of a refusal.
+fn refusal_number(why: &Refusal) -> u8
+    ensures { result ≡ refusal_number why.now }
+{
+    match why {
+        Refusal::Taken => 1,
+        Refusal::Unknown(_) => 2,
+        Refusal::WrongBranch => 3,
+        Refusal::TooMany => 4,
+        Refusal::Overlap(_) => 5,
+        Refusal::ClientStart(_) => 6,
+        Refusal::MonthPosted(_) => 7,
+        Refusal::NotNextMonth(_) => 8,
+        Refusal::KeyUsed => 9,
+        Refusal::RunOpen(_) => 10,
+        Refusal::DepositAmount(_) => 11,
+        Refusal::DepositPaid => 12,
+        Refusal::NotRegistered => 13,
+        Refusal::NoRun => 14,
+        Refusal::BadLine(_) => 15,
+        Refusal::Version(_) => 16,
+        Refusal::Damaged(_) => 17,
+        Refusal::Full => 18,
+    }
+}
+
+// The status of a refusal.
+fn refusal_status(why: &Refusal) -> StatusCode
+    ensures { result ≡ refusal_status why.now }
+{
+    match why {
+        Refusal::BadLine(_) => StatusCode::BAD_REQUEST,
+        _ => StatusCode::CONFLICT,
+    }
+}
+
+/// Answers a refusal.
+pub(crate) fn put_refused<W: Write>(
+    alloc: Global,
+    writer: &mut W,
+    why: Refusal,
+) -> Result<StatusCode, Unsent>
+    ensures { Sends (W.contents writer.old) (W.contents writer.new) (refusal_answer why) result }
+{
+    let text = why.to_string(alloc)?;
+    put_json(alloc, writer, refusal_status(&why), refusal_number(&why), &text)
+}
+
+/// Answers a command that was replied to so.
+pub(crate) fn put_replied<W: Write>(
+    alloc: Global,
+    writer: &mut W,
+    reply: Reply,
+) -> Result<StatusCode, Unsent>
+    ensures { Sends (W.contents writer.old) (W.contents writer.new) (reply_answer reply) result }
+{
+    if let Reply::Refused(why) = reply {
+        return put_refused(alloc, writer, why);
+    }
+    let text = reply.to_string(alloc)?;
+    put_json(alloc, writer, StatusCode::OK, 0, &text)
+}
+
+// Answers with the text of a report.
+fn put_report<W: Write>(
+    alloc: Global,
+    writer: &mut W,
+    answer: &Answer,
+) -> Result<StatusCode, Unsent>
+    requires { is_no_report (report_of answer.now) ≡ false }
+    ensures { Sends (W.contents writer.old) (W.contents writer.new) (report_answer (report_of answer.now)) result }
+{
+    let mut body = Vec::new(alloc);
+    match write(answer, &mut body) {
+        Ok(()) => put_answer(writer, StatusCode::OK, Content::Report, "", &body),
+        Err(Output) => Err(Unsent::Memory),
+    }
+}
+
+/// Answers a question that was answered so.
+pub(crate) fn put_shown<W: Write>(
+    alloc: Global,
+    writer: &mut W,
+    answer: &Answer,
+) -> Result<StatusCode, Unsent>
+    ensures { Sends (W.contents writer.old) (W.contents writer.new) (report_answer (report_of answer.now)) result }
+{
+    match answer {
+        Answer::Refused(why) => put_refused(alloc, writer, *why),
+        _ => put_report(alloc, writer, answer),
+    }
+}
+
+/// Answers a request that met a fault. It takes no memory.
+pub(crate) fn put_fault<W: Write>(writer: &mut W, fault: Fault) -> Result<StatusCode, Unsent>
+    ensures { Sends (W.contents writer.old) (W.contents writer.new) (fault_answer fault) result }
+{
+    let body = match fault {
+        Fault::Memory => b"{\"code\":21,\"text\":\"fault 21\"}",
+        Fault::Store => b"{\"code\":22,\"text\":\"fault 22\"}",
+        Fault::Stopped => b"{\"code\":23,\"text\":\"fault 23\"}",
+    };
+    put_answer(writer, StatusCode::SERVICE_UNAVAILABLE, Content::Json, "", body)
+}

@@ -1,0 +1,32 @@
+//! Why a request got no answer.
+
+ghost use Rattle.std.specs.Prelude.{◌≡◌};
+ghost use Rattle.dh_http.specs.Served.{unread_fault};
+
+use dh_requests::Unread;
+
+/// Why a request got no answer.
+#[derive(Clone, Copy, Debug, PartialEq, Eq)]
+pub enum NetFault {
+    /// No byte came; nothing was done.
+    Closed,
+    /// The reader failed; nothing was done.
+    Input,
+    /// The writer failed, and has a beginning of the answer; what was asked for stands.
+    Output,
+    /// Memory for the request or its answer ran out, and nothing was written. The command was carried out where `acted`, and
+    /// else nothing was done.
+    Memory { acted: bool },
+}
+
+impl From<Unread> for NetFault {
+    ghost from_gives = { λ unread fault. fault ≡ unread_fault unread };
+
+    fn from(unread: Unread) -> NetFault {
+        match unread {
+            Unread::Closed => NetFault::Closed,
+            Unread::Input => NetFault::Input,
+            Unread::Memory => NetFault::Memory { acted: false },
+        }
+    }
+}

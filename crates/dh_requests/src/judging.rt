@@ -1,0 +1,178 @@
+//! Judging a request by its head.
+
+ghost use Rattle.std.specs.Prelude.{◌≡◌, ◌↔◌, ◌≢◌, ℕ, map, length, drop, All, IsTrue, IfOk, IfSome, codes};
+ghost use Rattle.httparse.specs.Grammar.{RequestHead};
+ghost use Rattle.httparse.specs.Spans.{IsHeaderWithin, IsRequestAt, IsRequestWithin};
+ghost use Rattle.dh_routes.specs.Targets.{IsTarget};
+ghost use Rattle.dh_routes.specs.declared.routing.Route.{Route as AnyRoute};
+ghost use Rattle.dh_requests.specs.Requests.{IsByMethod, IsOfHead, IsOfRoute, IsOfTarget, IsQuestionOf, turned_by_lines};
+ghost use Rattle.dh_requests.specs.Steps.{Behind};
+
+use crate::asked::{Asked, Turned};
+use crate::unread::Unread;
+use crate::posting::judge_command;
+use dh_fields::{Request, read_fields};
+use dh_heads::{body_length, count};
+use dh_routes::{Route, pieces_of, route_of, router};
+use dh_types::Refusal;
+use httparse::spans::{HeaderSpan, RequestSpans};
+use std::alloc::{AllocError, Global};
+use std::io::Read;
+use std::str;
+
+/// The bytes that were read, and where in them the head of the request stands.
+#[derive(Clone, Copy)]
+pub(crate) struct Found<'a> {
+    pub(crate) front: &'a [u8],
+    pub(crate) headers: &'a [HeaderSpan],
+    pub(crate) spans: RequestSpans,
+}
+
+// The request's method is this one.
+fn is_method(method: &[u8], wanted: &[u8]) -> bool
+    ensures { IsTrue result ↔ (method.now ≡ wanted.now) }
+{
+    method == wanted
+}
+
+// Why the header lines turn the request away, if they do.
+fn turned_by_lines(found: &Found) -> Option<Turned>
+    requires { IsRequestWithin found.now.front.now found.now.headers.now found.now.spans }
+    ensures { (h : RequestHead) → IsRequestAt found.now.front.now found.now.headers.now found.now.spans h → result ≡ turned_by_lines h }
+{
+    let lines = &found.headers[..found.spans.headers];
+    if found.spans.version == 1 && count(found.front, lines, b"host") != 1 {
+        return Some(Turned::BadRequest);
+    }
+    if count(found.front, lines, b"transfer-encoding") > 0 {
+        return Some(Turned::NotImplemented);
+    }
+    None
+}
+
+// The request's target. In the grammar of heads it is a text.
+fn target_of<'a>(found: &Found<'a>) -> &'a str
+    requires at { (h : RequestHead) × IsRequestAt found.now.front.now found.now.headers.now found.now.spans h }
+    requires within { IsRequestWithin found.now.front.now found.now.headers.now found.now.spans }
+    ensures { (h : RequestHead) → IsRequestAt found.now.front.now found.now.headers.now found.now.spans h → result.now ≡ h.target }
+{
+    match str::from_utf8(found.spans.path.of(found.front)) {
+        Ok(target) => target,
+        Err(_) => unreachable!(),
+    }
+}
+
+// The route of a target.
+fn find_route(alloc: Global, target: &str) -> Result<Option<Route>, Unread>
+    ensures found { IfOk result (λ route. IfSome route (λ it. IsTarget it target.now)) }
+    ensures none { IfOk result (λ route. route ≡ None → (any : AnyRoute) → ¬ IsTarget any target.now) }
+{
+    let router = router(alloc)?;
+    Ok(route_of(&router, target))
+}
+
+// The request of the question that a target asks by its route.
+fn read_question(
+    alloc: Global,
+    route: Route,
+    target: &[u8],
+) -> Result<Result<Request, Refusal>, AllocError>
+    requires target { IsTarget route target.now }
+    requires asks { route ≢ Route.Commands }
+    ensures { IfOk result (λ request. IsQuestionOf route target.now (Asked.Fields request)) }
+{
+    let (first, second) = pieces_of(route, target);
+    match route {
+        Route::Commands => unreachable!(),
+        Route::Branches => read_fields(alloc, &[b"show", b"branches"]),
+        Route::Vacant => read_fields(alloc, &[b"show", b"vacant", first]),
+        Route::Matching => read_fields(alloc, &[b"show", b"matching", first, second]),
+        Route::Statement => read_fields(alloc, &[b"show", b"statement", first]),
+        Route::Arrears => read_fields(alloc, &[b"show", b"arrears", first]),
+        Route::Run => read_fields(alloc, &[b"show", b"run", first]),
+    }
+}
+
+// What a request asks for whose target has the route of a question.
+fn judge_question(
+    alloc: Global,
+    method: &[u8],
+    route: Route,
+    target: &[u8],
+) -> Result<Asked, Unread>
+    requires target { IsTarget route target.now }
+    requires asks { route ≢ Route.Commands }
+    ensures { IfOk result (λ asked. IsByMethod (codes "GET") method.now Turned.OnlyByGet asked (IsQuestionOf route target.now asked)) }
+{
+    if !is_method(method, b"GET") {
+        return Ok(Asked::Turned(Turned::OnlyByGet));
+    }
+    let request = read_question(alloc, route, target)?;
+    Ok(Asked::Fields(request))
+}
+
+// What a request asks for whose target is the route of commands.
+fn judge_order<R: Read>(alloc: Global, reader: &mut R, found: &Found) -> Result<Asked, Unread>
+    requires { IsRequestWithin found.now.front.now found.now.headers.now found.now.spans }
+    ensures { (h : RequestHead) → IsRequestAt found.now.front.now found.now.headers.now found.now.spans h
+        → IfOk result (λ asked. Behind (drop found.now.spans.len found.now.front.now) (R.remaining reader.old) (λ rest. IsOfRoute Route.Commands h rest asked)) }
+{
+    if !is_method(found.spans.method.of(found.front), b"POST") {
+        return Ok(Asked::Turned(Turned::OnlyByPost));
+    }
+    let length = body_length(found.front, &found.headers[..found.spans.headers]);
+    judge_command(alloc, reader, &found.front[found.spans.len..], length)
+}
+
+// What a request asks for whose target has this route.
+fn judge_route<R: Read>(
+    alloc: Global,
+    reader: &mut R,
+    found: &Found,
+    route: Route,
+    target: &str,
+) -> Result<Asked, Unread>
+    requires within { IsRequestWithin found.now.front.now found.now.headers.now found.now.spans }
+    requires target { IsTarget route target.now }
+    ensures { (h : RequestHead) → IsRequestAt found.now.front.now found.now.headers.now found.now.spans h → target.now ≡ h.target
+        → IfOk result (λ asked. Behind (drop found.now.spans.len found.now.front.now) (R.remaining reader.old) (λ rest. IsOfRoute route h rest asked)) }
+{
+    match route {
+        Route::Commands => judge_order(alloc, reader, found),
+        _ => {
+            let method = found.spans.method.of(found.front);
+            judge_question(alloc, method, route, target.as_bytes())
+        }
+    }
+}
+
+// What a request asks for whose header lines do not turn it away.
+fn judge_target<R: Read>(alloc: Global, reader: &mut R, found: &Found) -> Result<Asked, Unread>
+    requires at { (h : RequestHead) × IsRequestAt found.now.front.now found.now.headers.now found.now.spans h }
+    requires within { IsRequestWithin found.now.front.now found.now.headers.now found.now.spans }
+    ensures { (h : RequestHead) → IsRequestAt found.now.front.now found.now.headers.now found.now.spans h
+        → IfOk result (λ asked. Behind (drop found.now.spans.len found.now.front.now) (R.remaining reader.old) (λ rest. IsOfTarget h rest asked)) }
+{
+    let target = target_of(found);
+    match find_route(alloc, target)? {
+        Some(route) => judge_route(alloc, reader, found, route, target),
+        None => Ok(Asked::Turned(Turned::NotFound)),
+    }
+}
+
+/// What a request with a head within the limits asks for.
+pub(crate) fn judge<R: Read>(
+    alloc: Global,
+    reader: &mut R,
+    found: &Found,
+) -> Result<Asked, Unread>
+    requires at { (h : RequestHead) × IsRequestAt found.now.front.now found.now.headers.now found.now.spans h }
+    requires within { IsRequestWithin found.now.front.now found.now.headers.now found.now.spans }
+    ensures { (h : RequestHead) → IsRequestAt found.now.front.now found.now.headers.now found.now.spans h
+        → IfOk result (λ asked. Behind (drop found.now.spans.len found.now.front.now) (R.remaining reader.old) (λ rest. IsOfHead h rest asked)) }
+{
+    match turned_by_lines(found) {
+        Some(why) => Ok(Asked::Turned(why)),
+        None => judge_target(alloc, reader, found),
+    }
+}
