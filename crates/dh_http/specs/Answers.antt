@@ -12,6 +12,7 @@ use Rattle.dh_types.specs.declared.reply.Fault.TheVariants as fault
 use Rattle.dh_types.specs.Replies.{fault_text, refusal_text, reply_text}
 use Rattle.dh_types.specs.Reports.{Report, NoReport}
 use Rattle.dh_reports.specs.ReportTexts.{report_text}
+use Rattle.dh_types.specs.declared.writing.Output.{Output}
 use Rattle.dh_bodies.specs.Texts.{reply_body}
 use Rattle.dh_requests.specs.declared.asked.Turned.{Turned}
 use Rattle.dh_requests.specs.declared.asked.Turned.TheVariants as turned
@@ -32,15 +33,14 @@ content_line Json = codes "Content-Type: application/json\r\n"
 content_line Text = codes "Content-Type: text/plain; charset=utf-8\r\n"
 content_line Empty = []
 
-abbrev pub status_line : ℕ → List ℕ
-status_line status = codes "HTTP/1.1 " ++ (code_digits status ++ (codes " " ++ (unwrap_or (reason_phrase status) [] ++ codes "\r\n")))
+-- the head of an answer whose body has so many bytes, with its empty line
+abbrev pub head_text : ℕ → Content → ℕ → List ℕ → List ℕ
+head_text status content bytes allow =
+    codes "HTTP/1.1 " ++ (code_digits status ++ (codes " " ++ (unwrap_or (reason_phrase status) [] ++ (codes "\r\n"
+    ++ (content_line content ++ (codes "Content-Length: " ++ (decimal bytes ++ (codes "\r\n" ++ (allow ++ codes "Connection: close\r\n\r\n")))))))))
 
 abbrev pub answer_text : Answer → List ℕ
-answer_text it =
-    status_line it.status
-    ++ (content_line it.content
-    ++ (codes "Content-Length: "
-    ++ (decimal (length it.body) ++ (codes "\r\n" ++ (it.allow ++ (codes "Connection: close\r\n\r\n" ++ it.body))))))
+answer_text it = head_text it.status it.content (length it.body) it.allow ++ it.body
 
 -- ---- a request that is turned away
 
@@ -112,8 +112,17 @@ fault_answer it = json_answer 503 (fault_number it) (fault_text it)
 
 -- ---- an answer is sent
 
--- the whole was written, and its status is told; or the writer failed in it; or memory ran out before any of it
+-- the whole was written, and its status is told; or the writer failed in it
+abbrev pub Writes : Option (List ℕ) → Option (List ℕ) → Answer → Result ℕ Output → Type 0
+Writes old new it (Ok status) = Appends old new (answer_text it) × (status ≡ it.status)
+Writes old new it (Err e) = BreaksOff old new (answer_text it)
+
+-- the same, or memory ran out before any of it
 abbrev pub Sends : Option (List ℕ) → Option (List ℕ) → Answer → Result ℕ Unsent → Type 0
 Sends old new it (Ok status) = Appends old new (answer_text it) × (status ≡ it.status)
 Sends old new it (Err unsent.Output) = BreaksOff old new (answer_text it)
 Sends old new it (Err unsent.Memory) = new ≡ old
+
+abbrev pub Passes : Result ℕ Output → Result ℕ Unsent → Type 0
+Passes (Ok status) it = it ≡ Ok status
+Passes (Err e) it = it ≡ Err unsent.Output

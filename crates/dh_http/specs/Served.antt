@@ -3,10 +3,10 @@ use Rattle.std.specs.Prelude.{◌≡◌, ◌≢◌, ◌⊎◌, ℕ, Bool, true, 
 use Rattle.std.specs.Io.KnownBytes.{Appends}
 use Rattle.sqlite.specs.Store.{Ghosts}
 use Rattle.dh_types.specs.Output.{BreaksOff}
-use Rattle.dh_types.specs.declared.command.Command.{Command}
 use Rattle.dh_types.specs.declared.reply.Fault.{Fault}
 use Rattle.dh_types.specs.declared.reply.Fault.TheVariants as fault
 use Rattle.dh_types.specs.declared.reply.Refusal.{Refusal}
+use Rattle.dh_types.specs.declared.writing.Output.{Output as Written}
 use Rattle.dh_model.specs.Answers.{report}
 use Rattle.dh_model.specs.Books.{State}
 use Rattle.dh_model.specs.Machine.{step}
@@ -63,7 +63,6 @@ IsFaultOf old it = (old.is_stopped ≡ false → IsFirstFault it) × (old.is_sto
 
 -- where no request was read nothing was carried out
 abbrev pub unread_fault : Unread → NetFault
-unread_fault unread.Closed = Closed
 unread_fault unread.Input = Input
 unread_fault unread.Memory = Memory false
 
@@ -72,6 +71,10 @@ abbrev pub Tells : Bool → Result ℕ Unsent → Result ℕ NetFault → Type 0
 Tells acted (Ok status) it = it ≡ Ok status
 Tells acted (Err unsent.Output) it = it ≡ Err Output
 Tells acted (Err unsent.Memory) it = it ≡ Err (Memory acted)
+
+abbrev pub Hears : Result ℕ Written → Result ℕ NetFault → Type 0
+Hears (Ok status) it = it ≡ Ok status
+Hears (Err e) it = it ≡ Err Output
 
 module _ {S : Type 0} (g : Ghosts S) (old new : Seat S) where
   -- The request was answered, and the machine stands where the answer says; or a fault was told, and the agency has stopped.

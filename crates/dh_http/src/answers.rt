@@ -5,8 +5,8 @@ ghost use Rattle.http.specs.StatusCode.{reason_phrase};
 ghost use Rattle.dh_types.specs.Output.{Puts};
 ghost use Rattle.dh_types.specs.Reports.{report_of};
 ghost use Rattle.dh_lines.specs.Session.{is_no_report};
-ghost use Rattle.dh_http.specs.Answers.{Sends, allow_line, content_line, fault_answer, json_answer, refusal_answer, refusal_number};
-ghost use Rattle.dh_http.specs.Answers.{refusal_status, reply_answer, report_answer, status_line, turned_answer, turned_status};
+ghost use Rattle.dh_http.specs.Answers.{Passes, Sends, Writes, allow_line, answer_text, content_line, fault_answer, head_text, json_answer, refusal_answer};
+ghost use Rattle.dh_http.specs.Answers.{refusal_number, refusal_status, reply_answer, report_answer, turned_answer, turned_status};
 ghost use Rattle.dh_http.specs.declared.answers.Unsent.TheVariants as unsent;
 
 use dh_reports::write;
@@ -50,21 +50,6 @@ fn phrase(status: StatusCode) -> &'static str
     status.canonical_reason().unwrap_or("")
 }
 
-fn put_status<W: Write>(writer: &mut W, status: StatusCode) -> Result<(), Output>
-    ensures { Puts (W.contents writer.old) (W.contents writer.new) result (status_line status) }
-{
-    put_parts(
-        writer,
-        &[
-            b"HTTP/1.1 ",
-            status.as_str().as_bytes(),
-            b" ",
-            phrase(status).as_bytes(),
-            b"\r\n",
-        ],
-    )
-}
-
 fn content_line(content: Content) -> &'static str
     ensures { result.now ≡ content_line content }
 {
@@ -75,34 +60,73 @@ fn content_line(content: Content) -> &'static str
     }
 }
 
-// Writes an answer; `allow` is a whole header line, or nothing.
+// Writes the head of an answer whose body has so many bytes; `allow` is a whole header line, or nothing.
+fn put_head<W: Write>(
+    writer: &mut W,
+    status: StatusCode,
+    content: Content,
+    length: usize,
+    allow: &'static str,
+) -> Result<(), Output>
+    ensures { Puts (W.contents writer.old) (W.contents writer.new) result (head_text status content length allow.now) }
+{
+    let mut digits = Buffer::new();
+    put_parts(
+        writer,
+        &[
+            b"HTTP/1.1 ",
+            status.as_str().as_bytes(),
+            b" ",
+            phrase(status).as_bytes(),
+            b"\r\n",
+            content_line(content).as_bytes(),
+            b"Content-Length: ",
+            digits.format(length).as_bytes(),
+            b"\r\n",
+            allow.as_bytes(),
+            b"Connection: close\r\n\r\n",
+        ],
+    )
+}
+
+// Writes the head and the body of an answer.
+fn put_whole<W: Write>(
+    writer: &mut W,
+    status: StatusCode,
+    content: Content,
+    allow: &'static str,
+    body: &[u8],
+) -> Result<(), Output>
+    ensures { Puts (W.contents writer.old) (W.contents writer.new) result
+        (answer_text (record { status = status; content = content; allow = allow.now; body = body.now })) }
+{
+    put_head(writer, status, content, body.len(), allow)?;
+    put(writer, body)
+}
+
+// Writes an answer, and tells its status.
 fn put_answer<W: Write>(
     writer: &mut W,
     status: StatusCode,
     content: Content,
-    allow: &str,
+    allow: &'static str,
     body: &[u8],
-) -> Result<StatusCode, Unsent>
-    ensures { Sends (W.contents writer.old) (W.contents writer.new)
+) -> Result<StatusCode, Output>
+    ensures { Writes (W.contents writer.old) (W.contents writer.new)
         (record { status = status; content = content; allow = allow.now; body = body.now }) result }
 {
-    if put_status(writer, status).is_err() {
-        return Err(Unsent::Output);
-    }
-    let rest = put_parts(
-        writer,
-        &[
-            content_line(content).as_bytes(),
-            b"Content-Length: ",
-            Buffer::new().format(body.len()).as_bytes(),
-            b"\r\n",
-            allow.as_bytes(),
-            b"Connection: close\r\n\r\n",
-            body,
-        ],
-    );
-    match rest {
+    match put_whole(writer, status, content, allow, body) {
         Ok(()) => Ok(status),
+        Err(output) => Err(output),
+    }
+}
+
+// What came of an answer, which wanted memory before it.
+fn passed(outcome: Result<StatusCode, Output>) -> Result<StatusCode, Unsent>
+    ensures { Passes outcome result }
+{
+    match outcome {
+        Ok(status) => Ok(status),
         Err(_) => Err(Unsent::Output),
     }
 }
@@ -134,8 +158,8 @@ fn allow_line(why: Turned) -> &'static str
 }
 
 /// Answers a request that is turned away. It takes no memory.
-pub(crate) fn put_turned<W: Write>(writer: &mut W, why: Turned) -> Result<StatusCode, Unsent>
-    ensures { Sends (W.contents writer.old) (W.contents writer.new) (turned_answer why) result }
+pub(crate) fn put_turned<W: Write>(writer: &mut W, why: Turned) -> Result<StatusCode, Output>
+    ensures { Writes (W.contents writer.old) (W.contents writer.new) (turned_answer why) result }
 {
     put_answer(writer, turned_status(why), Content::Empty, allow_line(why), b"")
 }
@@ -151,7 +175,7 @@ fn put_json<W: Write>(
     ensures { Sends (W.contents writer.old) (W.contents writer.new) (json_answer status code text.now) result }
 {
     let body = dh_bodies::reply(alloc, code, text)?;
-    put_answer(writer, status, Content::Json, "", body.as_bytes())
+    passed(put_answer(writer, status, Content::Json, "", body.as_bytes()))
 }
 
 // The number of a refusal.
@@ -227,10 +251,10 @@ fn put_report<W: Write>(
     ensures { Sends (W.contents writer.old) (W.contents writer.new) (report_answer (report_of answer.now)) result }
 {
     let mut body = Vec::new(alloc);
-    match write(answer, &mut body) {
-        Ok(()) => put_answer(writer, StatusCode::OK, Content::Report, "", &body),
-        Err(Output) => Err(Unsent::Memory),
+    if write(answer, &mut body).is_err() {
+        return Err(Unsent::Memory);
     }
+    passed(put_answer(writer, StatusCode::OK, Content::Report, "", &body))
 }
 
 /// Answers a question that was answered so.
@@ -247,14 +271,27 @@ pub(crate) fn put_shown<W: Write>(
     }
 }
 
-/// Answers a request that met a fault. It takes no memory.
-pub(crate) fn put_fault<W: Write>(writer: &mut W, fault: Fault) -> Result<StatusCode, Unsent>
-    ensures { Sends (W.contents writer.old) (W.contents writer.new) (fault_answer fault) result }
+// The body that tells a fault.
+fn fault_body(fault: Fault) -> &'static str
+    ensures { result.now ≡ (fault_answer fault).body }
 {
-    let body = match fault {
-        Fault::Memory => b"{\"code\":21,\"text\":\"fault 21\"}",
-        Fault::Store => b"{\"code\":22,\"text\":\"fault 22\"}",
-        Fault::Stopped => b"{\"code\":23,\"text\":\"fault 23\"}",
-    };
-    put_answer(writer, StatusCode::SERVICE_UNAVAILABLE, Content::Json, "", body)
+    match fault {
+        Fault::Memory => "{\"code\":21,\"text\":\"fault 21\"}",
+        Fault::Store => "{\"code\":22,\"text\":\"fault 22\"}",
+        Fault::Stopped => "{\"code\":23,\"text\":\"fault 23\"}",
+    }
+}
+
+/// Answers a request that met a fault. It takes no memory.
+pub(crate) fn put_fault<W: Write>(writer: &mut W, fault: Fault) -> Result<StatusCode, Output>
+    ensures { Writes (W.contents writer.old) (W.contents writer.new) (fault_answer fault) result }
+{
+    let body = fault_body(fault);
+    put_answer(
+        writer,
+        StatusCode::SERVICE_UNAVAILABLE,
+        Content::Json,
+        "",
+        body.as_bytes(),
+    )
 }

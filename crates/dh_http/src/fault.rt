@@ -24,7 +24,6 @@ impl From<Unread> for NetFault {
 
     fn from(unread: Unread) -> NetFault {
         match unread {
-            Unread::Closed => NetFault::Closed,
             Unread::Input => NetFault::Input,
             Unread::Memory => NetFault::Memory { acted: false },
         }

@@ -1,11 +1,11 @@
 //! Serving one request.
 
-ghost use Rattle.std.specs.Prelude.{◌≡◌, ◌×◌, false, [], Err, IfSome};
+ghost use Rattle.std.specs.Prelude.{◌≡◌, ◌≢◌, false, [], Err, Ok, IfSome};
 ghost use Rattle.dh_agency.specs.Agency.{IsClean, LeavesItsTables, WasClean};
 ghost use Rattle.dh_fields.specs.declared.request.Request.TheVariants as request;
 ghost use Rattle.dh_http.specs.Answers.{Sends};
 ghost use Rattle.dh_requests.specs.Requests.{MayAsk};
-ghost use Rattle.dh_http.specs.Served.{LeavesServed, Serves, StopsBy, Tells};
+ghost use Rattle.dh_http.specs.Served.{Hears, LeavesServed, Serves, StopsBy, Tells};
 
 use crate::answers::{Unsent, put_fault, put_refused, put_replied, put_shown, put_turned};
 use crate::fault::NetFault;
@@ -13,7 +13,7 @@ use dh_agency::Agency;
 use dh_fields::Request;
 use dh_laws::asking::{answers_pass_the_run, open_runs_refuse_put_off};
 use dh_requests::{Asked, read_request};
-use dh_types::{Command, Question};
+use dh_types::{Command, Output, Question};
 use http::StatusCode;
 use sqlite::Alter;
 use std::alloc::Global;
@@ -30,6 +30,16 @@ fn told(outcome: Result<StatusCode, Unsent>, acted: bool) -> Result<StatusCode, 
     }
 }
 
+// What came of an answer that takes no memory.
+fn heard(outcome: Result<StatusCode, Output>) -> Result<StatusCode, NetFault>
+    ensures { Hears outcome result }
+{
+    match outcome {
+        Ok(status) => Ok(status),
+        Err(_) => Err(NetFault::Output),
+    }
+}
+
 // Carries out a command, and answers it.
 fn carry_out<S: Alter, W: Write>(
     alloc: Global,
@@ -42,12 +52,13 @@ fn carry_out<S: Alter, W: Write>(
     ensures crash { IsClean S.Store agency.new → agency.old.is_stopped ≡ false → LeavesItsTables S.Store agency.old
         → LeavesServed S.Store agency.old agency.new (λ asked. asked ≡ Asked.Fields (Ok (request.Command command.now))) }
     ensures left { IsClean S.Store agency.new → agency.new.is_stopped ≡ false → LeavesItsTables S.Store agency.new }
+    ensures open { result ≢ Err NetFault.Closed }
     ensures stops { StopsBy agency.old agency.new result }
     ensures was_clean { WasClean S.Store agency.old agency.new }
 {
     match agency.step(alloc, command) {
         Ok(reply) => told(put_replied(alloc, writer, reply), true),
-        Err(fault) => told(put_fault(writer, fault), false),
+        Err(fault) => heard(put_fault(writer, fault)),
     }
 }
 
@@ -63,6 +74,7 @@ fn show<S: Alter, W: Write>(
     ensures crash { IsClean S.Store agency.new → agency.old.is_stopped ≡ false → LeavesItsTables S.Store agency.old
         → LeavesServed S.Store agency.old agency.new (λ asked. asked ≡ Asked.Fields (Ok (request.Question question.now))) }
     ensures left { IsClean S.Store agency.new → agency.new.is_stopped ≡ false → LeavesItsTables S.Store agency.new }
+    ensures open { result ≢ Err NetFault.Closed }
     ensures stops { StopsBy agency.old agency.new result }
     ensures was_clean { WasClean S.Store agency.old agency.new }
 {
@@ -75,7 +87,7 @@ fn show<S: Alter, W: Write>(
             drop(answer);
             told(outcome, false)
         }
-        Err(fault) => told(put_fault(writer, fault), false),
+        Err(fault) => heard(put_fault(writer, fault)),
     }
 }
 
@@ -99,13 +111,16 @@ pub fn serve_one<S: Alter, R: Read, W: Write>(
     ensures was_clean { WasClean S.Store agency.old agency.new }
 {
     match read_request(alloc, reader)? {
-        Asked::Turned(why) => told(put_turned(writer, why), false),
-        Asked::Fields(Err(why)) => told(put_refused(alloc, writer, why), false),
-        Asked::Fields(Ok(Request::Command(command))) => {
+        None => Err(NetFault::Closed),
+        Some(Asked::Turned(why)) => heard(put_turned(writer, why)),
+        Some(Asked::Fields(Err(why))) => told(put_refused(alloc, writer, why), false),
+        Some(Asked::Fields(Ok(Request::Command(command)))) => {
             let served = carry_out(alloc, agency, &command, writer);
             drop(command);
             served
         }
-        Asked::Fields(Ok(Request::Question(question))) => show(alloc, agency, &question, writer),
+        Some(Asked::Fields(Ok(Request::Question(question)))) => {
+            show(alloc, agency, &question, writer)
+        }
     }
 }
