@@ -15,7 +15,7 @@ use Rattle.dh_types.specs.declared.reply.Refusal.{Refusal}
 use Rattle.dh_fields.specs.declared.request.Request.TheVariants as request
 use Rattle.dh_fields.specs.Lines.{a_question, field, question_forms, request_of, value_among}
 use Rattle.dh_words.specs.Jobs.{is_complete, is_there, question_fields}
-use Rattle.dh_words.specs.Table.{batch, init, letting, recover, report, run}
+use Rattle.dh_words.specs.Table.{batch, init, letting, recover, report, run, serve}
 
 abbrev pub has : Text → List Row → Type 0
 has name rows = is_some (first_of name rows) ≡ true
@@ -49,6 +49,13 @@ module _ (name : Text) (rows : List Row) (complete : is_complete name rows ≡ t
       let p = both (is_some (first_of (codes "file") rows)) _ (here (codes "report") is) in
       (p.0, (both (is_some (first_of (codes "word") rows)) _ p.1).0)
 
+  pub serve_has : name ≡ codes "serve" → has (codes "file") rows × has (codes "port") rows × has (codes "count") rows
+  unfolding is_complete letting
+  serve_has is =
+      let p = both (is_some (first_of (codes "file") rows)) _ (here (codes "serve") is) in
+      let q = both (is_some (first_of (codes "port") rows)) _ p.1 in
+      (p.0, q.0, (both (is_some (first_of (codes "count") rows)) _ q.1).0)
+
   other : (word : Text) → (name ≡ word → ⊥) → bytes_eq word name ≡ false
   other word differs = go (bytes_eq word name) refl
     where
@@ -56,16 +63,17 @@ module _ (name : Text) (rows : List Row) (complete : is_complete name rows ≡ t
       go true is = absurd (differs (sym ((bytes_eq-Decides word name).0 is)))
       go false is = is
 
-  abbrev judged : (a b c d e : Bool) → Bool
-  judged a b c d e = option_map_or (λ (s : Shape). list_all (is_there rows) s.rules)
-      (cond a (Some init) (cond b (Some batch) (cond c (Some run) (cond d (Some recover) (cond e (Some report) None))))) false
+  abbrev judged : (a b c d e f : Bool) → Bool
+  judged a b c d e f = option_map_or (λ (s : Shape). list_all (is_there rows) s.rules)
+      (cond a (Some init) (cond b (Some batch) (cond c (Some run) (cond d (Some recover) (cond e (Some report) (cond f (Some serve) None)))))) false
 
   pub no_other : (name ≡ codes "init" → ⊥) → (name ≡ codes "batch" → ⊥) → (name ≡ codes "run" → ⊥) → (name ≡ codes "recover" → ⊥)
-      → (name ≡ codes "report" → ⊥) → ⊥
+      → (name ≡ codes "report" → ⊥) → (name ≡ codes "serve" → ⊥) → ⊥
   unfolding is_complete letting
-  no_other a b c d e =
+  no_other a b c d e f =
       let none : is_complete name rows ≡ false =
-      λ i. judged (other (codes "init") a i) (other (codes "batch") b i) (other (codes "run") c i) (other (codes "recover") d i) (other (codes "report") e i) in
+      λ i. judged (other (codes "init") a i) (other (codes "batch") b i) (other (codes "run") c i) (other (codes "recover") d i) (other (codes "report") e i)
+      (other (codes "serve") f i) in
       let bad : true ≡ false = sym complete ∙ none in
       cc
 

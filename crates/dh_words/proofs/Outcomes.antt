@@ -1,14 +1,16 @@
 -- What `job` answers, by what `clap` answered.
-use Rattle.std.proofs.Common.{◌≡◌, ◌∙◌, true, List, Result, Ok, Err, IfErr, IfOk, inl, inr, sym, ap, subst}
+use Rattle.std.proofs.Common.{◌≡◌, ◌∙◌, true, List, Some, None, Result, Ok, Err, IfErr, IfOk, codes, inl, inr, sym, ap, subst}
 use Rattle.clap.specs.Kinds.{HasKind, IsAmong}
-use Rattle.clap.specs.Words.{App, Row, Text, fault_of, is_simple_and_free, kind_of}
+use Rattle.clap.specs.Words.{App, Row, Text, fault_of, first_of, is_simple_and_free, kind_of}
 use Rattle.clap.specs.declared.error.Error.{Error}
 use Rattle.dh_words.proofs.Complete.{simple_and_free}
-use Rattle.dh_words.specs.Jobs.{HandsOn, IsAnswer, IsBadFor, IsJobOf, Takes}
+use Rattle.dh_words.specs.Jobs.{HandsOn, IsAnswer, IsBadFor, IsJobOf, IsReport, Takes, question_fields}
+use Rattle.dh_words.specs.Options.{first_bad}
 use Rattle.dh_words.specs.Table.{letting}
 use Rattle.dh_words.specs.declared.kinds.BadWords.{BadWords}
 use Rattle.dh_words.specs.declared.kinds.BadWords.TheVariants.{Refused, Value, Question, Memory}
 use Rattle.dh_words.specs.declared.kinds.Job.{Job}
+use Rattle.dh_words.specs.declared.kinds.Job.TheVariants.{Init, Batch, Run, Recover, Report, Serve}
 
 told : (words : List Text) (error : Error) (bad : BadWords) → HasKind (fault_of letting words) error → HandsOn error bad → IsBadFor words bad
 told words error (Refused same) (inl none) h = absurd (h.1 none)
@@ -35,3 +37,18 @@ module _ (words : List Text) (name : Text) (rows : List Row) (taken : Takes word
   answered_badly (Err (Value option)) h = ((name, rows), taken, h)
   answered_badly (Err (Question refusal)) h = ((name, rows), taken, h.0, h.1, h.2)
   answered_badly (Err Memory) h = tt
+
+-- `report`
+module _ (name file : Text) (rows : List Row) (is : name ≡ codes "report") (well : first_bad rows ≡ None)
+    (given : first_of (codes "file") rows ≡ Some file) where
+  pub reported : (r : Result Job BadWords) → IsReport file (question_fields rows) r → IsAnswer name rows r
+  reported (Ok (Report at question)) h = (well, (is, given ∙ ap (λ text. Some text) (sym h.0), h.1))
+  reported (Ok (Init at first)) h = absurd h
+  reported (Ok (Batch at first)) h = absurd h
+  reported (Ok (Run at order batches)) h = absurd h
+  reported (Ok (Recover at)) h = absurd h
+  reported (Ok (Serve at port count)) h = absurd h
+  reported (Err (Question refusal)) h = (well, is, h)
+  reported (Err (Refused error)) h = absurd h
+  reported (Err (Value option)) h = absurd h
+  reported (Err Memory) h = tt

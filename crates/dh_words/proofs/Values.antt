@@ -9,7 +9,7 @@ use Rattle.clap.specs.declared.parser.matches.Found.{Found}
 use Rattle.dh_values.specs.Counts.{batch_count_of}
 use Rattle.dh_values.specs.Texts.{is_key}
 use Rattle.dh_days.specs.Months.{month_of}
-use Rattle.dh_words.specs.Options.{first_bad, is_read, key_of, name_of, value}
+use Rattle.dh_words.specs.Options.{first_bad, is_read, key_of, name_of, port_of, value}
 use Rattle.dh_words.specs.declared.options.Judged.{Judged}
 
 -- ---- one option, whose text is told
@@ -64,46 +64,27 @@ text_there name rows (Some text) e there = refl
 
 abbrev pub AllRead : List Row → Type 0
 AllRead rows = (is_read month_of (codes "first") rows ≡ true) × (is_read key_of (codes "key") rows ≡ true) × (is_read month_of (codes "month") rows ≡ true)
-    × (is_read batch_count_of (codes "batches") rows ≡ true)
+    × (is_read batch_count_of (codes "batches") rows ≡ true) × (is_read port_of (codes "port") rows ≡ true)
+    × (is_read batch_count_of (codes "count") rows ≡ true)
 
-abbrev pick : (a b c d : Bool) → Option Text
-pick a b c d = cond (not a) (Some (codes "first"))
-    (cond (not b) (Some (codes "key")) (cond (not c) (Some (codes "month")) (cond (not d) (Some (codes "batches")) None)))
+abbrev pick : (a b c d e f : Bool) → Option Text
+pick a b c d e f = cond (not a) (Some (codes "first"))
+    (cond (not b) (Some (codes "key")) (cond (not c) (Some (codes "month")) (cond (not d) (Some (codes "batches"))
+    (cond (not e) (Some (codes "port")) (cond (not f) (Some (codes "count")) None)))))
 
-all_true : (a b c d : Bool) → pick a b c d ≡ None → (a ≡ true) × (b ≡ true) × (c ≡ true) × (d ≡ true)
-all_true true true true true is = (refl, refl, refl, refl)
-all_true false b c d is = (cc, cc, cc, cc)
-all_true true false c d is = (cc, cc, cc, cc)
-all_true true true false d is = (cc, cc, cc, cc)
-all_true true true true false is = (cc, cc, cc, cc)
+all_true : (a b c d e f : Bool) → pick a b c d e f ≡ None → (a ≡ true) × (b ≡ true) × (c ≡ true) × (d ≡ true) × (e ≡ true) × (f ≡ true)
+all_true true true true true true true is = (refl, refl, refl, refl, refl, refl)
+all_true false b c d e f is = cc
+all_true true false c d e f is = cc
+all_true true true false d e f is = cc
+all_true true true true false e f is = cc
+all_true true true true true false f is = cc
+all_true true true true true true false is = cc
 
 module _ (rows : List Row) where
-  abbrev first_read : Bool
-  first_read = is_read month_of (codes "first") rows
-
-  abbrev key_read : Bool
-  key_read = is_read key_of (codes "key") rows
-
-  abbrev month_read : Bool
-  month_read = is_read month_of (codes "month") rows
-
-  abbrev batches_read : Bool
-  batches_read = is_read batch_count_of (codes "batches") rows
-
   pub all_read : first_bad rows ≡ None → AllRead rows
-  all_read e = all_true first_read key_read month_read batches_read e
+  all_read e = all_true (is_read month_of (codes "first") rows) (is_read key_of (codes "key") rows) (is_read month_of (codes "month") rows)
+      (is_read batch_count_of (codes "batches") rows) (is_read port_of (codes "port") rows) (is_read batch_count_of (codes "count") rows) e
 
   pub none_bad : AllRead rows → first_bad rows ≡ None
-  none_bad h = λ i. pick (h.0 i) (h.1 i) (h.2 i) (h.3 i)
-
-  pub first_is_bad : first_read ≡ false → first_bad rows ≡ Some (codes "first")
-  first_is_bad a = λ i. pick (a i) key_read month_read batches_read
-
-  pub key_is_bad : first_read ≡ true → key_read ≡ false → first_bad rows ≡ Some (codes "key")
-  key_is_bad a b = λ i. pick (a i) (b i) month_read batches_read
-
-  pub month_is_bad : first_read ≡ true → key_read ≡ true → month_read ≡ false → first_bad rows ≡ Some (codes "month")
-  month_is_bad a b c = λ i. pick (a i) (b i) (c i) batches_read
-
-  pub batches_are_bad : first_read ≡ true → key_read ≡ true → month_read ≡ true → batches_read ≡ false → first_bad rows ≡ Some (codes "batches")
-  batches_are_bad a b c d = λ i. pick (a i) (b i) (c i) (d i)
+  none_bad h = λ i. pick (h.0 i) (h.1 i) (h.2 i) (h.3 i) (h.4 i) (h.5 i)

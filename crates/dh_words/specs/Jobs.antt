@@ -11,12 +11,12 @@ use Rattle.dh_values.specs.Counts.{batch_count_of}
 use Rattle.dh_days.specs.Months.{month_of}
 use Rattle.dh_fields.specs.Lines.{request_of}
 use Rattle.dh_fields.specs.declared.request.Request.TheVariants as request
-use Rattle.dh_words.specs.Options.{first_bad, key_of, value}
+use Rattle.dh_words.specs.Options.{first_bad, key_of, port_of, value}
 use Rattle.dh_words.specs.Table.{letting}
 use Rattle.dh_words.specs.declared.kinds.BadWords.{BadWords}
 use Rattle.dh_words.specs.declared.kinds.BadWords.TheVariants as bad
 use Rattle.dh_words.specs.declared.kinds.Job.{Job}
-use Rattle.dh_words.specs.declared.kinds.Job.TheVariants.{Init, Batch, Run, Recover, Report}
+use Rattle.dh_words.specs.declared.kinds.Job.TheVariants.{Init, Batch, Run, Recover, Report, Serve}
 
 -- `clap` takes the words, which name this subcommand and give its options and free words these rows
 abbrev pub Takes : List Text → Text × List Row → Type 0
@@ -41,6 +41,8 @@ Asks name rows (Run file order batches) = (name ≡ codes "run") × (first_of (c
 Asks name rows (Recover file) = (name ≡ codes "recover") × (first_of (codes "file") rows ≡ Some file.now)
 Asks name rows (Report file question) = (name ≡ codes "report") × (first_of (codes "file") rows ≡ Some file.now)
     × (request_of (question_fields rows) ≡ Ok (request.Question question))
+Asks name rows (Serve file port count) = (name ≡ codes "serve") × (first_of (codes "file") rows ≡ Some file.now)
+    × (value port_of (codes "port") rows ≡ Some port) × (value batch_count_of (codes "count") rows ≡ Some count)
 
 -- the words are taken, each option's text has a value, and these values ask for the job
 abbrev pub IsJobOf : List Text → Job → Type 0
@@ -63,6 +65,14 @@ is_there rows rule = not rule.required || is_some (first_of rule.id rows)
 -- there is such a subcommand, and all that it requires is there
 unfoldable pub is_complete : Text → List Row → Bool
 is_complete name rows = option_map_or (λ s. list_all (is_there rows) s.rules) (find (λ s. bytes_eq s.name name) letting.subs) false
+
+-- what the question with these fields, asked of this file, comes to
+abbrev pub IsReport : Text → List Text → Result Job BadWords → Type 0
+IsReport name fields (Ok (Report file question)) = (file.now ≡ name) × (request_of fields ≡ Ok (request.Question question))
+IsReport name fields (Ok _) = ⊥
+IsReport name fields (Err (bad.Question refusal)) = request_of fields ≡ Err refusal
+IsReport name fields (Err bad.Memory) = ⊤
+IsReport name fields (Err _) = ⊥
 
 -- what the subcommand of this name comes to with these rows
 abbrev pub IsAnswer : Text → List Row → Result Job BadWords → Type 0

@@ -42,6 +42,9 @@ recover = subcommand (codes "recover") (required (option (codes "file")) ∷ [])
 abbrev pub report : Shape
 report = subcommand (codes "report") (required (option (codes "file")) ∷ free_words ∷ [])
 
+abbrev pub serve : Shape
+serve = subcommand (codes "serve") (required (option (codes "file")) ∷ required (option (codes "port")) ∷ required (option (codes "count")) ∷ [])
+
 -- the words are those behind the program's name, and name a subcommand
 abbrev pub top : Shape
 top = record (new_shape (codes "letting")) {
@@ -54,7 +57,7 @@ top = record (new_shape (codes "letting")) {
 unfoldable pub letting : App
 letting = record {
   top = record top { is_leaf = false };
-  subs = init ∷ batch ∷ run ∷ recover ∷ report ∷ [];
+  subs = init ∷ batch ∷ run ∷ recover ∷ report ∷ serve ∷ [];
 }
 
 -- ---- what is told to `clap`

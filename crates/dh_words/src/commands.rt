@@ -8,18 +8,25 @@ ghost use Rattle.dh_words.specs.Table.{Adds, IsArgument, IsSubcommand};
 use clap::{Arg, Command};
 use std::alloc::{AllocError, Global};
 
-// The text, and the exit statuses behind it.
+// The text, and the exit statuses behind it. A subcommand may tell 0 and 1, and 3 and 4, in its own words.
 macro_rules! with_statuses {
     ($text:literal) => {
+        with_statuses!(
+            $text,
+            "0  done\n  \
+            1  some line, the run or the question was refused\n  ",
+            "3  a fault, or a failing input or output\n  \
+            4  a rent run stands open\n  "
+        )
+    };
+    ($text:literal, $done:literal, $failed:literal) => {
         concat!(
             $text,
-            "Exit status:\n  \
-            0  done\n  \
-            1  some line, the run or the question was refused\n  \
-            2  bad words\n  \
-            3  a fault, or a failing input or output\n  \
-            4  a rent run stands open\n  \
-            5  the file was refused"
+            "Exit status:\n  ",
+            $done,
+            "2  bad words\n  ",
+            $failed,
+            "5  the file was refused"
         )
     };
 }
@@ -49,6 +56,14 @@ const QUESTIONS: &str = with_statuses!(
     statement LEASE        what a lease was charged and what was paid on it\n  \
     arrears BRANCH         the leases of a branch on which rent is owed\n  \
     run MONTH              the parts of a month's closed rent run\n\n"
+);
+
+const ANSWERS: &str = with_statuses!(
+    "Answers:\n  \
+    200, ..  the status of an answered request; serving ends at the first 503\n  \
+    lost     a connection without an answer\n\n",
+    "0  done, though requests were refused or a run stands open\n  ",
+    "3  a fault, an answer 503, no listener (`no listener`), or a failing output\n  "
 );
 
 // The option `--name VALUE`, which may be left out.
@@ -202,6 +217,35 @@ fn report<'a>(alloc: Global) -> Result<Command<'a>, AllocError>
     .arg(free_words(alloc))
 }
 
+fn serve<'a>(alloc: Global) -> Result<Command<'a>, AllocError>
+    ensures { IfOk result (IsSubcommand table.serve) }
+{
+    subcommand(
+        alloc,
+        "serve",
+        "Answers HTTP requests on this machine, and prints the status of each answer",
+        ANSWERS,
+    )
+    .arg(required(
+        alloc,
+        "file",
+        "FILE",
+        "The agency's file, as --file letting.db",
+    ))?
+    .arg(required(
+        alloc,
+        "port",
+        "PORT",
+        "The port to listen at on 127.0.0.1, 0 to 65535, as --port 8080; with 0 the system picks one, and `port P` is printed first",
+    ))?
+    .arg(required(
+        alloc,
+        "count",
+        "N",
+        "How many connections to serve, one after the other, as --count 1000 (1 to 1,000,000)",
+    ))
+}
+
 // `letting` before it has its subcommands.
 fn top<'a>(alloc: Global) -> Command<'a>
     ensures { app_of result ≡ record { top = table.top; subs = [] } }
@@ -241,5 +285,6 @@ pub(crate) fn letting<'a>(alloc: Global) -> Result<Command<'a>, AllocError>
     let letting = with(letting, batch(alloc))?;
     let letting = with(letting, run(alloc))?;
     let letting = with(letting, recover(alloc))?;
-    with(letting, report(alloc))
+    let letting = with(letting, report(alloc))?;
+    with(letting, serve(alloc))
 }

@@ -35,6 +35,12 @@ pub enum Job<'a> {
         file: &'a str,
         question: Question,
     },
+    /// Answers HTTP requests at this port of 127.0.0.1, on so many connections. 0 is a port that the system picks.
+    Serve {
+        file: &'a str,
+        port: u16,
+        count: BatchCount,
+    },
 }
 
 /// Why the words ask for no job.

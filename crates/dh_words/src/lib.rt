@@ -4,6 +4,7 @@
 mod commands;
 mod kinds;
 mod options;
+mod ports;
 mod questions;
 mod words;
 

@@ -4,8 +4,9 @@ ghost use Rattle.std.specs.Prelude.{◌≡◌, None, Some, MatchResult};
 ghost use Rattle.clap.specs.Words.{found_of, rows_of};
 ghost use Rattle.dh_values.specs.Counts.{batch_count_of};
 ghost use Rattle.dh_days.specs.Months.{month_of};
-ghost use Rattle.dh_words.specs.Options.{HasValues, IsReadBy, first_bad, key_of, name_of};
+ghost use Rattle.dh_words.specs.Options.{HasValues, IsReadBy, first_bad, key_of, name_of, port_of};
 
+use crate::ports::port_from_text;
 use clap::ArgMatches;
 use dh_types::{BatchCount, EntryMonth, Key};
 
@@ -16,6 +17,8 @@ pub(crate) enum Judged {
     Key,
     Month,
     Batches,
+    Port,
+    Count,
 }
 
 impl Judged {
@@ -28,6 +31,8 @@ impl Judged {
             Judged::Key => "key",
             Judged::Month => "month",
             Judged::Batches => "batches",
+            Judged::Port => "port",
+            Judged::Count => "count",
         }
     }
 }
@@ -40,6 +45,8 @@ pub(crate) struct Options<'a> {
     pub(crate) key: Option<Key>,
     pub(crate) month: Option<EntryMonth>,
     pub(crate) batches: Option<BatchCount>,
+    pub(crate) port: Option<u16>,
+    pub(crate) count: Option<BatchCount>,
 }
 
 // The month that the option gives, if it is given. The option itself where its text is none.
@@ -68,8 +75,8 @@ fn read_key(values: &ArgMatches, option: Judged) -> Result<Option<Key>, Judged>
     }
 }
 
-// The number of batches that the option gives, if it is given. The option itself where its text is none.
-fn read_batches(values: &ArgMatches, option: Judged) -> Result<Option<BatchCount>, Judged>
+// The count that the option gives, if it is given. The option itself where its text is none.
+fn read_count(values: &ArgMatches, option: Judged) -> Result<Option<BatchCount>, Judged>
     ensures { IsReadBy batch_count_of option (rows_of (found_of values.now)) result }
 {
     let Some(text) = values.get_str(option.name()) else {
@@ -77,6 +84,19 @@ fn read_batches(values: &ArgMatches, option: Judged) -> Result<Option<BatchCount
     };
     match BatchCount::read(text) {
         Ok(count) => Ok(Some(count)),
+        Err(_) => Err(option),
+    }
+}
+
+// The port that the option gives, if it is given. The option itself where its text is none.
+fn read_port(values: &ArgMatches, option: Judged) -> Result<Option<u16>, Judged>
+    ensures { IsReadBy port_of option (rows_of (found_of values.now)) result }
+{
+    let Some(text) = values.get_str(option.name()) else {
+        return Ok(None);
+    };
+    match port_from_text(text) {
+        Ok(port) => Ok(Some(port)),
         Err(_) => Err(option),
     }
 }
@@ -91,6 +111,8 @@ pub(crate) fn read_options<'a>(values: &ArgMatches<'a>) -> Result<Options<'a>, J
         first: read_month(values, Judged::First)?,
         key: read_key(values, Judged::Key)?,
         month: read_month(values, Judged::Month)?,
-        batches: read_batches(values, Judged::Batches)?,
+        batches: read_count(values, Judged::Batches)?,
+        port: read_port(values, Judged::Port)?,
+        count: read_count(values, Judged::Count)?,
     })
 }

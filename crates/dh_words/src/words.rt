@@ -1,8 +1,8 @@
 //! From words to a job.
 
-ghost use Rattle.std.specs.Prelude.{◌≡◌, map, true, IfErr, IfOk};
-ghost use Rattle.clap.specs.Words.{found_of, rows_of};
-ghost use Rattle.dh_words.specs.Jobs.{HandsOn, IsAnswer, IsBadFor, IsJobOf, is_complete};
+ghost use Rattle.std.specs.Prelude.{◌≡◌, codes, is_some, map, true, IfErr, IfOk};
+ghost use Rattle.clap.specs.Words.{first_of, found_of, rows_of};
+ghost use Rattle.dh_words.specs.Jobs.{HandsOn, IsAnswer, IsBadFor, IsJobOf, IsReport, is_complete, question_fields};
 
 use crate::commands::letting;
 use crate::options::read_options;
@@ -23,6 +23,17 @@ fn refused(error: Error) -> BadWords
     match error.kind() {
         ErrorKind::OutOfMemory => BadWords::Memory,
         _ => BadWords::Refused(error),
+    }
+}
+
+// The job of `report` at this file, where its words have these values.
+fn report<'a>(alloc: Global, file: &'a str, values: &ArgMatches<'a>) -> Result<Job<'a>, BadWords>
+    requires { is_some (first_of (codes "word") (rows_of (found_of values.now))) ≡ true }
+    ensures { IsReport file.now (question_fields (rows_of (found_of values.now))) result }
+{
+    match read_question(alloc, values.get_strs("word").unwrap())? {
+        Ok(question) => Ok(Job::Report { file, question }),
+        Err(refusal) => Err(BadWords::Question(refusal)),
     }
 }
 
@@ -55,21 +66,20 @@ fn job_of<'a>(alloc: Global, name: &str, values: &ArgMatches<'a>) -> Result<Job<
         "recover" => Ok(Job::Recover {
             file: options.file.unwrap(),
         }),
-        "report" => match read_question(alloc, values.get_strs("word").unwrap())? {
-            Ok(question) => Ok(Job::Report {
-                file: options.file.unwrap(),
-                question,
-            }),
-            Err(refusal) => Err(BadWords::Question(refusal)),
-        },
+        "report" => report(alloc, options.file.unwrap(), values),
+        "serve" => Ok(Job::Serve {
+            file: options.file.unwrap(),
+            port: options.port.unwrap(),
+            count: options.count.unwrap(),
+        }),
         _ => unreachable!(),
     }
 }
 
 /// The job that the words behind the program's name ask for. `Refused` comes where `clap` does not take the words: they are
 /// none of the table of subcommands, or ask for help. `Value` has the first option, in the order file, first, key, month,
-/// batches, whose text is none of its values, even one that is then passed over. `Question` has the first bad field of the
-/// question of a `report`, where `show` is field 1. `Memory` is want of memory.
+/// batches, port, count, whose text is none of its values, even one that is then passed over. `Question` has the first bad
+/// field of the question of a `report`, where `show` is field 1. `Memory` is want of memory.
 pub fn job<'a>(alloc: Global, words: &'a [&'a str]) -> Result<Job<'a>, BadWords>
     ensures ok { IfOk result (IsJobOf (map (λ word. word.now) words.entry.now)) }
     ensures err { IfErr result (IsBadFor (map (λ word. word.now) words.entry.now)) }

@@ -9,13 +9,17 @@ returns c =
     let first = c.in_ok-read_month.ensures in
     let key = c.in_ok-read_key.ensures in
     let month = c.in_ok-read_month-2.ensures in
-    let batches = c.in_ok-read_batches.ensures in (
-      none_bad (rows_of (found_of c.args.values.now)) (first.0, key.0, month.0, batches.0),
+    let batches = c.in_ok-read_count.ensures in
+    let port = c.in_ok-read_port.ensures in
+    let count = c.in_ok-read_count-2.ensures in (
+      none_bad (rows_of (found_of c.args.values.now)) (first.0, key.0, month.0, batches.0, port.0, count.0),
       record {
         file = c.get_str.ensures ∙ first_value-rows (found_of c.args.values.now) (codes "file");
         first = first.1;
         key = key.1;
         month = month.1;
         batches = batches.1;
+        port = port.1;
+        count = count.1;
       },
     )

@@ -1,10 +1,11 @@
 use Rattle.std.proofs.Common.{codes, ◌∙◌, ap, option_map, sym}
 use Rattle.clap.specs.Words.{found_of, rows_of}
+use Rattle.dh_values.specs.Counts.{batch_count_of}
 use Rattle.dh_days.specs.Months.{month_of}
-use Rattle.dh_fields.specs.Lines.{a_question, request_of}
-use Rattle.dh_words.proofs.Answers.{fields_are, init_has, no_other, recover_has, report_has, run_has, words_there}
+use Rattle.dh_words.proofs.Answers.{init_has, no_other, recover_has, report_has, run_has, serve_has}
 use Rattle.dh_words.proofs.Values.{all_read, text_there, value_there}
-use Rattle.dh_words.specs.Options.{key_of}
+use Rattle.dh_words.proofs.Outcomes.{reported}
+use Rattle.dh_words.specs.Options.{key_of, port_of}
 use Rattle.dh_words.proofs.words.job_of.Goals as goal
 
 pub unwrap-requires : goal.unwrap-requires
@@ -42,26 +43,34 @@ unwrap-requires-in-recover c =
 pub unwrap-requires-in-report : goal.unwrap-requires-in-report
 unwrap-requires-in-report c =
     let rows = rows_of (found_of c.args.values.now) in
-    words_there (found_of c.args.values.now) c.get_strs.result c.get_strs.ensures (report_has c.args.name.now rows c.requires c.in-report.is).1
-
-pub unwrap-requires-in-Ok-2 : goal.unwrap-requires-in-Ok-2
-unwrap-requires-in-Ok-2 c =
-    let rows = rows_of (found_of c.args.values.now) in
     text_there (codes "file") rows _ c.in-Ok.ensures.1.file (report_has c.args.name.now rows c.requires c.in-report.is).0
+
+pub report-requires : goal.report-requires
+report-requires c = (report_has c.args.name.now (rows_of (found_of c.args.values.now)) c.requires c.in-report.is).1
+
+pub unwrap-requires-in-serve : goal.unwrap-requires-in-serve
+unwrap-requires-in-serve c =
+    let rows = rows_of (found_of c.args.values.now) in
+    text_there (codes "file") rows _ c.in-Ok.ensures.1.file (serve_has c.args.name.now rows c.requires c.in-serve.is).0
+
+pub unwrap-requires-in-serve-2 : goal.unwrap-requires-in-serve-2
+unwrap-requires-in-serve-2 c =
+    let rows = rows_of (found_of c.args.values.now) in
+    value_there port_of (codes "port") rows _ c.in-Ok.ensures.1.port (all_read rows c.in-Ok.ensures.0).4
+    (serve_has c.args.name.now rows c.requires c.in-serve.is).1
+
+pub unwrap-requires-in-serve-3 : goal.unwrap-requires-in-serve-3
+unwrap-requires-in-serve-3 c =
+    let rows = rows_of (found_of c.args.values.now) in
+    value_there batch_count_of (codes "count") rows _ c.in-Ok.ensures.1.count (all_read rows c.in-Ok.ensures.0).5
+    (serve_has c.args.name.now rows c.requires c.in-serve.is).2
 
 pub unreachable-requires : goal.unreachable-requires
 unreachable-requires c =
     let no = c.in_default in
-    no_other c.args.name.now (rows_of (found_of c.args.values.now)) c.requires no.not-init no.not-batch no.not-run no.not-recover no.not-report
+    no_other c.args.name.now (rows_of (found_of c.args.values.now)) c.requires no.not-init no.not-batch no.not-run no.not-recover no.not-report no.not-serve
 
-pub returns-in-Ok-2 : goal.returns-in-Ok-2
-returns-in-Ok-2 c =
-    let fields = fields_are (found_of c.args.values.now) c.get_strs.result c.get_strs.ensures c.unwrap-in-report.result c.unwrap-in-report.ensures in
-    let asked = ap request_of fields ∙ sym c.in_ok-question-in-report.ensures ∙ ap a_question c.in-Ok-2.is in
-    (c.in-Ok.ensures.0, (c.in-report.is, sym c.in-Ok.ensures.1.file ∙ ap (option_map (λ text. text.now)) c.unwrap-in-Ok-2.ensures, asked))
-
-pub returns-in-Err-2 : goal.returns-in-Err-2
-returns-in-Err-2 c =
-    let fields = fields_are (found_of c.args.values.now) c.get_strs.result c.get_strs.ensures c.unwrap-in-report.result c.unwrap-in-report.ensures in
-    let asked = ap request_of fields ∙ sym c.in_ok-question-in-report.ensures ∙ ap a_question c.in-Err-2.is in
-    (c.in-Ok.ensures.0, c.in-report.is, asked)
+pub returns-in-report : goal.returns-in-report
+returns-in-report c =
+    let file = sym c.in-Ok.ensures.1.file ∙ ap (option_map (λ text. text.now)) c.unwrap-in-report.ensures in
+    reported _ _ (rows_of (found_of c.args.values.now)) c.in-report.is c.in-Ok.ensures.0 file c.report.result c.report.ensures

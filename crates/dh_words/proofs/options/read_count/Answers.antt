@@ -3,7 +3,7 @@ use Rattle.clap.specs.Words.{found_of, rows_of}
 use Rattle.dh_values.specs.Counts.{batch_count_of}
 use Rattle.dh_words.proofs.Values.{given_badly, given_well, not_given, text_of}
 use Rattle.dh_words.specs.Options.{name_of}
-use Rattle.dh_words.proofs.options.read_batches.Goals as goal
+use Rattle.dh_words.proofs.options.read_count.Goals as goal
 
 pub returns-in_default : goal.returns-in_default
 returns-in_default c =
