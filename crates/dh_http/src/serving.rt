@@ -1,6 +1,6 @@
 //! Serving one request.
 
-ghost use Rattle.std.specs.Prelude.{◌≡◌, ◌≢◌, false, [], Err, Ok, IfSome};
+ghost use Rattle.std.specs.Prelude.{◌≡◌, ◌≢◌, true, false, [], Err, Ok, IfSome};
 ghost use Rattle.dh_agency.specs.Agency.{IsClean, LeavesItsTables, WasClean};
 ghost use Rattle.dh_fields.specs.declared.request.Request.TheVariants as request;
 ghost use Rattle.dh_http.specs.Answers.{Sends};
@@ -54,6 +54,7 @@ fn carry_out<S: Alter, W: Write>(
     ensures left { IsClean S.Store agency.new → agency.new.is_stopped ≡ false → LeavesItsTables S.Store agency.new }
     ensures open { result ≢ Err NetFault.Closed }
     ensures stops { StopsBy agency.old agency.new result }
+    ensures stopped { agency.old.is_stopped ≡ true → agency.new ≡ agency.old }
     ensures was_clean { WasClean S.Store agency.old agency.new }
 {
     match agency.step(alloc, command) {
@@ -76,6 +77,7 @@ fn show<S: Alter, W: Write>(
     ensures left { IsClean S.Store agency.new → agency.new.is_stopped ≡ false → LeavesItsTables S.Store agency.new }
     ensures open { result ≢ Err NetFault.Closed }
     ensures stops { StopsBy agency.old agency.new result }
+    ensures stopped { agency.old.is_stopped ≡ true → agency.new ≡ agency.old }
     ensures was_clean { WasClean S.Store agency.old agency.new }
 {
     // A question is answered alike by the tables and by their whole.
@@ -108,6 +110,7 @@ pub fn serve_one<S: Alter, R: Read, W: Write>(
         → LeavesServed S.Store agency.old agency.new (λ asked. IfSome (R.remaining reader.old) (λ input. MayAsk input asked)) }
     ensures left { IsClean S.Store agency.new → LeavesItsTables S.Store agency.old → agency.new.is_stopped ≡ false → LeavesItsTables S.Store agency.new }
     ensures stops { StopsBy agency.old agency.new result }
+    ensures stopped { agency.old.is_stopped ≡ true → agency.new ≡ agency.old }
     ensures was_clean { WasClean S.Store agency.old agency.new }
 {
     match read_request(alloc, reader)? {

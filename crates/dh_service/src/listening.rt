@@ -1,0 +1,76 @@
+//! Listening at a port.
+
+ghost use Rattle.std.specs.Prelude.{◌≡◌};
+ghost use Rattle.dh_model.specs.Books.{State};
+ghost use Rattle.dh_agency.specs.Agency.{IsClean, WasClean};
+ghost use Rattle.dh_service.specs.Service.{IsServing};
+ghost use Rattle.dh_service.specs.declared.listening.Unserved.TheVariants as unserved;
+
+use crate::serving::serve_connections;
+use dh_agency::Agency;
+use dh_types::writing::put_parts;
+use dh_types::{BatchCount, Output};
+use itoa::Buffer;
+use sqlite::Alter;
+use std::io::Write;
+use std::net::{Ipv4Addr, SocketAddr, SocketAddrV4, TcpListener};
+
+/// The port of 127.0.0.1 where requests are listened for, and on how many connections they are served. With port 0 the system picks one.
+#[derive(Clone, Copy)]
+pub struct Service {
+    pub port: u16,
+    pub count: BatchCount,
+}
+
+/// Why serving ended before its last connection.
+#[derive(Clone, Copy, Debug, PartialEq, Eq)]
+pub enum Unserved {
+    /// There is no listener at that port.
+    NoListener,
+    /// The writer failed.
+    Output,
+    /// The agency has stopped, behind an answer 503.
+    Stopped,
+}
+
+impl From<Output> for Unserved {
+    ghost from_gives = { λ _ e. e ≡ unserved.Output };
+
+    fn from(_: Output) -> Unserved {
+        Unserved::Output
+    }
+}
+
+// The listener at this port of 127.0.0.1, and the port that it has.
+fn listen(rt: &HostRuntime, port: u16) -> Option<(TcpListener, u16)> {
+    let address = SocketAddr::V4(SocketAddrV4::new(Ipv4Addr::LOCALHOST, port));
+    let listener = TcpListener::bind(rt, address).ok()?;
+    let port = listener.local_addr().ok()?.port();
+    Some((listener, port))
+}
+
+fn print_port<W: Write>(writer: &mut W, port: u16) -> Result<(), Output> {
+    let mut digits = Buffer::new();
+    put_parts(writer, &[b"port ", digits.format(port).as_bytes(), b"\n"])
+}
+
+/// Listens at the service's port, answers its connections one after the other, and prints the status of each, or `lost`; before them
+/// `port P` where the system picks the port. `NoListener` where the port can't be had, `Stopped` behind an answer 503, `Output` where
+/// the writer failed.
+pub fn serve<S: Alter, W: Write>(
+    rt: &HostRuntime,
+    agency: &mut Agency<S>,
+    service: Service,
+    writer: &mut W,
+) -> Result<(), Unserved>
+    ensures serving { (s : State) → (IsClean S.Store agency.old → IsServing S.Store s agency.old) → IsClean S.Store agency.new → IsServing S.Store s agency.new }
+    ensures was_clean { WasClean S.Store agency.old agency.new }
+{
+    let Some((listener, port)) = listen(rt, service.port) else {
+        return Err(Unserved::NoListener);
+    };
+    if service.port == 0 {
+        print_port(writer, port)?;
+    }
+    serve_connections(rt.alloc(), agency, &listener, service.count.number(), writer)
+}
