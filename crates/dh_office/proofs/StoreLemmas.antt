@@ -1,6 +1,6 @@
 -- From an agency to the store that it is over.
 use Rattle.std.proofs.Common.{◌≡◌, ◌⊎◌, inl, inr, ℕ, Option, Some, None, List, [], refl, sym, subst, arith}
-use Rattle.std.specs.Prelude.{IfSome}
+use Rattle.std.specs.Prelude.{IfErr, IfOk, IfSome, IsTrue, Result, Ok, Err}
 use Rattle.sqlite.specs.Store.{Ghosts}
 use Rattle.sqlite.specs.State as conn
 use Rattle.sqlite.specs.State.{HasCleanDisk}
@@ -14,7 +14,8 @@ use Rattle.dh_types.specs.declared.command.RunOrder.{RunOrder}
 use Rattle.dh_agency.specs.Taken.{LeavesAsTheyWere, TakesAsTheyAre}
 use Rattle.dh_lines.specs.Batch.{AreAfter}
 use Rattle.dh_office.specs.Jobs.{IsRunCut, stand_of}
-use Rattle.dh_office.specs.Leaving.{TakingLeaves, WorkLeaves}
+use Rattle.dh_service.specs.Service.{IsAfterSome, IsServing}
+use Rattle.dh_office.specs.Leaving.{ServingLeaves, TakingLeaves, WorkLeaves}
 use Rattle.dh_agency.specs.Seat.{Seat}
 use Rattle.dh_agency.specs.Agency.{IsClean, machine, shown_by}
 use Rattle.dh_lines.specs.Batch.{stand}
@@ -26,10 +27,10 @@ use Rattle.dh_office.specs.declared.jobs.Work.TheVariants as work
 use Rattle.dh_office.specs.declared.taking.FileJob.{FileJob}
 use Rattle.dh_office.specs.declared.taking.FileJob.TheVariants as job
 use Rattle.dh_office.specs.declared.status.Status.{Status}
-use Rattle.dh_office.specs.declared.status.Status.TheVariants.{Failed, FileRefused}
+use Rattle.dh_office.specs.declared.status.Status.TheVariants.{Done, Failed, FileRefused}
 use Rattle.dh_office.specs.Statuses.{problem_status}
 use Rattle.dh_office.specs.Texts.{problem_line}
-use Rattle.dh_office.specs.Printed.{Before, Behind, Closes, IsMakingEnd, IsOfLines, IsRecoveryEnd, IsRefusedEnd, IsReportEnd, IsRunEnd, Prints, PrintsJob}
+use Rattle.dh_office.specs.Printed.{Before, Behind, Closes, IsMakingEnd, IsOfLines, IsOfService, IsRecoveryEnd, IsRefusedEnd, IsReportEnd, IsRunEnd, Prints, PrintsJob}
 use Rattle.dh_office.specs.Printed.{PrintsWork, PutsAs, TellsFault, Whole, Within}
 use Rattle.dh_office.specs.Ends.{LinesEnd, WorkEnds}
 use Rattle.dh_office.proofs.TextLemmas.{fault_as, told_behind}
@@ -79,18 +80,28 @@ module _ (a m b : Option (List ℕ)) (before after : Status) (closes : Closes m 
   refused_closed : Prints IsRefusedEnd a m before → Prints IsRefusedEnd a b after
   refused_closed h = prints_closed IsRefusedEnd a m b before after h closes
 
+  service_closed : IsOfService before → IsOfService after
+  service_closed h = by closes
+    where
+      by : Closes m b before after → IsOfService after
+      by (inl same) = subst IsOfService (sym same.0) h
+      by (inr (fine, told, failed)) = inr failed
+
   pub job_closed : (it : FileJob) → PrintsJob it a m before → PrintsJob it a b after
   job_closed (job.Make first) h = prints_closed (IsMakingEnd first) a m b before after h closes
   job_closed job.Recover (inl h) = inl (prints_closed IsRecoveryEnd a m b before after h closes)
   job_closed job.Recover (inr h) = inr (refused_closed h)
   job_closed (job.Work it) (inl h) = inl (work_closed it h)
   job_closed (job.Work it) (inr h) = inr (refused_closed h)
+  job_closed (job.Serve service) (inl h) = inl (service_closed h)
+  job_closed (job.Serve service) (inr h) = inr (refused_closed h)
 
 -- a fault that came first
 pub job_before : (it : FileJob) (a b : Option (List ℕ)) (status : Status) → TellsFault a b [] → status ≡ Failed → PrintsJob it a b status
 job_before (job.Make first) a b status told failed = Before told failed
 job_before job.Recover a b status told failed = inl (Before told failed)
 job_before (job.Work it) a b status told failed = inr (Before told failed)
+job_before (job.Serve service) a b status told failed = inr (Before told failed)
 
 -- ---- the store behind an agency
 
@@ -114,6 +125,25 @@ module _ {S : Type 0} (g : Ghosts S) (after : Seat S) (last : Held S) (same : la
         subst (λ t. IfSome input (λ input. LinesEnd (state g last) a b t input status)) is
         (back (λ new. IfSome input (λ input. LinesEnd new a b (stand g made) input status)) h)
 
+  -- requests were served
+  pub serving_ends : (old : Held S) (taken : Seat S) → machine g taken ≡ store.tables (state g old) → IsServing g (stand g taken) after
+      → IsTrue (state g last).is_open → IsAfterSome (stand_of (store.tables (state g old))) (store.tables (state g last))
+  serving_ends old taken is served =
+      subst (λ t. IsTrue (state g last).is_open → IsAfterSome (stand_of t) (store.tables (state g last))) is
+      (back (λ new. IsTrue new.is_open → IsAfterSome (stand_of (machine g taken)) (store.tables new)) served.reads)
+
+  pub serving_leaves : (old : Held S) (taken : Seat S) → machine g taken ≡ store.tables (state g old) → IsServing g (stand g taken) after
+      → Leaves (state g last) (IsAfterSome (stand_of (store.tables (state g old))))
+  serving_leaves old taken is served =
+      subst (λ t. Leaves (state g last) (IsAfterSome (stand_of t))) is
+      (back (λ new. Leaves new (IsAfterSome (stand_of (machine g taken)))) served.left)
+
+-- serving came to its end, or not
+pub of_service : {T E : Type 0} (outcome : Result T E) (status : Status) → IfOk outcome (λ done. status ≡ Done) → IfErr outcome (λ why. status ≡ Failed)
+    → IsOfService status
+of_service (Ok done) status served unserved = inl served
+of_service (Err why) status served unserved = inr unserved
+
 -- ---- tables that were not taken
 
 module _ (old new : conn.State) (h : LeavesAsTheyWere old new) (sound : IsSound old.now.trees) where
@@ -134,5 +164,11 @@ module _ (old new : conn.State) (h : LeavesAsTheyWere old new) (sound : IsSound 
 pub kept_leaves : (old new : conn.State) (it : Work) → TakesAsTheyAre old new → TakingLeaves old new it
 kept_leaves old new it kept = record {
   worked = λ clean sound. work_kept old new (kept.crash clean) sound it;
+  untouched = λ clean wrong. kept.crash clean;
+}
+
+pub kept_serving : (old new : conn.State) → TakesAsTheyAre old new → ServingLeaves old new
+kept_serving old new kept = record {
+  served = λ clean sound. same_leaves old new (kept.crash clean) sound (IsAfterSome (stand_of (store.tables old))) ([], refl);
   untouched = λ clean wrong. kept.crash clean;
 }

@@ -14,7 +14,7 @@ use Rattle.dh_words.specs.Options.{first_bad}
 use Rattle.dh_words.specs.Jobs.{Asks}
 use Rattle.dh_words.specs.declared.kinds.BadWords.TheVariants as bad
 use Rattle.dh_words.specs.declared.kinds.Job.{Job}
-use Rattle.dh_words.specs.declared.kinds.Job.TheVariants.{Init, Batch, Run, Recover, Report}
+use Rattle.dh_words.specs.declared.kinds.Job.TheVariants.{Init, Batch, Run, Recover, Report, Serve}
 use Rattle.dh_office.specs.declared.status.Status.{Status}
 use Rattle.dh_office.specs.Desk.{AskedEnds, BatchEnds, DeskEnds}
 use Rattle.dh_office.specs.Ends.{MemoryLinesEnd}
@@ -43,6 +43,7 @@ module _ (a b input : Option (List ℕ)) (it : Status) where
   batch_job (Run file order batches) asks ends = other_text (codes "batch") (codes "run") (λ is. omega (arith, is)) asks.0
   batch_job (Recover file) asks ends = other_text (codes "batch") (codes "recover") (λ is. omega (arith, is)) asks.0
   batch_job (Report file question) asks ends = other_text (codes "batch") (codes "report") (λ is. omega (arith, is)) asks.0
+  batch_job (Serve file port count) asks ends = other_text (codes "batch") (codes "serve") (λ is. omega (arith, is)) asks.0
   batch_job (Batch file first) asks ends = by file asks.1 ends
     where
       by : (file : Option (Bor Text)) → None ≡ option_map (λ text. text.now) file → BatchEnds file first input a b it → MemoryLinesEnd a b 24300 input it

@@ -8,7 +8,7 @@ use Rattle.dh_types.specs.declared.reply.Fault.TheVariants as fault
 use Rattle.dh_words.specs.declared.kinds.BadWords.{BadWords}
 use Rattle.dh_words.specs.declared.kinds.BadWords.TheVariants as bad
 use Rattle.dh_words.specs.declared.kinds.Job.{Job}
-use Rattle.dh_words.specs.declared.kinds.Job.TheVariants.{Init, Batch, Run, Recover, Report}
+use Rattle.dh_words.specs.declared.kinds.Job.TheVariants.{Init, Batch, Run, Recover, Report, Serve}
 use Rattle.dh_words.specs.Jobs.{IsBadFor, IsJobOf}
 use Rattle.dh_lines.specs.Session.{newline}
 use Rattle.dh_office.specs.declared.jobs.Work.TheVariants as work
@@ -50,6 +50,7 @@ AskedEnds (Batch file first) input a b it = BatchEnds file first input a b it
 AskedEnds (Run file order batches) input a b it = PrintsJob (job.Work (work.Run order batches)) a b it
 AskedEnds (Recover file) input a b it = PrintsJob job.Recover a b it
 AskedEnds (Report file question) input a b it = PrintsJob (job.Work (work.Report question)) a b it
+AskedEnds (Serve file port count) input a b it = PrintsJob (job.Serve (record { port = port; count = count })) a b it
 
 -- The words ask for a job, and it was done; or they ask for none, and that was said.
 abbrev pub DeskEnds : List (List ℕ) → Option (List ℕ) → Option (List ℕ) → Option (List ℕ) → Status → Type 0

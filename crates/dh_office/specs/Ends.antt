@@ -28,7 +28,8 @@ use Rattle.dh_office.specs.declared.status.Status.{Status}
 use Rattle.dh_office.specs.declared.status.Status.TheVariants.{Done, Failed}
 use Rattle.dh_office.specs.Statuses.{IsEnding, ending, problem_status, status_of}
 use Rattle.dh_office.specs.Texts.{created_line, problem_line, recovered_line}
-use Rattle.dh_office.specs.Printed.{PutsAs, TellsFault}
+use Rattle.dh_service.specs.Service.{IsAfterSome}
+use Rattle.dh_office.specs.Printed.{IsOfService, PutsAs, TellsFault}
 use Rattle.dh_office.specs.Jobs.{IsRunCut, lines_answered, report_shown, run_told, stand_in, stand_of}
 
 -- ---- over tables that were taken
@@ -117,7 +118,14 @@ abbrev pub MemoryLinesEnd : Option (List ℕ) → Option (List ℕ) → ℕ → 
 MemoryLinesEnd a b first input status =
     ((left : Held MemStore) × NewLinesEnd (state over_memory left) a b first input status) ⊎ (TellsFault a b [] × (status ≡ Failed))
 
+-- Requests were served, and the tables that can be read are the machine's after some of them; or the tables were not taken.
+abbrev pub ServingEnds : conn.State → conn.State → Option (List ℕ) → Option (List ℕ) → Status → Type 0
+ServingEnds old new a b status =
+    (IsOfService status × (IsTrue new.is_open → IsAfterSome (stand_of (store.tables old)) (store.tables new)))
+    ⊎ (IsNotTaken old a b status × TakesAsTheyAre old new)
+
 abbrev pub JobEnds : conn.State → conn.State → Option (List ℕ) → Option (List ℕ) → Option (List ℕ) → FileJob → Status → Type 0
 JobEnds old new a b input (job.Make first) status = MakingEnds old new a b first status
 JobEnds old new a b input job.Recover status = RecoveryEnds old new a b status
 JobEnds old new a b input (job.Work it) status = TakingEnds old new a b input it status
+JobEnds old new a b input (job.Serve service) status = ServingEnds old new a b status

@@ -8,6 +8,7 @@ use Rattle.dh_schema.specs.Tables.{IsSound}
 use Rattle.dh_agency.specs.Taken.{LeavesAsTheyWere, TakesForward}
 use Rattle.dh_fields.specs.Lines.{Fields}
 use Rattle.dh_lines.specs.Batch.{AreAfter}
+use Rattle.dh_service.specs.Service.{IsAfterSome}
 use Rattle.dh_office.specs.declared.jobs.Work.{Work}
 use Rattle.dh_office.specs.declared.jobs.Work.TheVariants as work
 use Rattle.dh_office.specs.declared.taking.FileJob.{FileJob}
@@ -33,7 +34,13 @@ pub record TakingLeaves (old new : conn.State) (it : Work) : Type 0 where
   pub worked : HasCleanDisk new → IsSound old.now.trees → WorkLeaves new (tables old) it
   pub untouched : HasCleanDisk new → ¬ IsSound old.now.trees → LeavesAsTheyWere old new
 
+-- Requests were served over sound tables: the whole of the tables is the machine's books after some of them. Other tables stay.
+pub record ServingLeaves (old new : conn.State) : Type 0 where
+  pub served : HasCleanDisk new → IsSound old.now.trees → Leaves new (IsAfterSome (stand_of (tables old)))
+  pub untouched : HasCleanDisk new → ¬ IsSound old.now.trees → LeavesAsTheyWere old new
+
 abbrev pub JobLeaves : conn.State → conn.State → FileJob → Type 0
 JobLeaves old new (job.Make first) = Commits old new (λ t. t ≡ start first)
 JobLeaves old new job.Recover = TakesForward old new
 JobLeaves old new (job.Work it) = TakingLeaves old new it
+JobLeaves old new (job.Serve service) = ServingLeaves old new

@@ -68,11 +68,19 @@ PrintsWork work.Lines a b status = IsOfLines status
 PrintsWork (work.Run order batches) a b status = Prints IsRunEnd a b status
 PrintsWork (work.Report question) a b status = Prints IsReportEnd a b status
 
+-- Serving ends well or fails, whatever was refused.
+abbrev pub IsOfService : Status → Type 0
+IsOfService status = (status ≡ Done) ⊎ (status ≡ Failed)
+
+abbrev pub PrintsService : Option (List ℕ) → Option (List ℕ) → Status → Type 0
+PrintsService a b status = IsOfService status ⊎ Prints IsRefusedEnd a b status
+
 -- the same of a job on a file, which may be refused
 abbrev pub PrintsJob : FileJob → Option (List ℕ) → Option (List ℕ) → Status → Type 0
 PrintsJob (job.Make first) a b status = Prints (IsMakingEnd first) a b status
 PrintsJob job.Recover a b status = Prints IsRecoveryEnd a b status ⊎ Prints IsRefusedEnd a b status
 PrintsJob (job.Work it) a b status = PrintsWork it a b status ⊎ Prints IsRefusedEnd a b status
+PrintsJob (job.Serve service) a b status = PrintsService a b status
 
 -- A store was closed after this status: it stays, and nothing is printed; or that failed, where nothing had failed before, and is told.
 abbrev pub Closes : Option (List ℕ) → Option (List ℕ) → Status → Status → Type 0

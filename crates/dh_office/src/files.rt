@@ -61,7 +61,7 @@ pub(crate) fn do_on_file<R: Read, W: Write>(
     }
     match Connection::open(rt, path) {
         Ok(conn) => {
-            let (status, conn) = do_job(rt.alloc(), conn, job, reader, writer);
+            let (status, conn) = do_job(rt, conn, job, reader, writer);
             end_closed(conn.close(), status, writer)
         }
         Err(error) => tell_fault(writer, fault_of(error)),

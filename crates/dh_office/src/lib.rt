@@ -4,6 +4,7 @@
 mod asking;
 mod files;
 mod jobs;
+mod serving;
 mod status;
 mod taking;
 mod telling;

@@ -12,9 +12,11 @@ ghost use Rattle.dh_office.specs.Printed.{IsMakingEnd, IsOfLines, IsRecoveryEnd,
 ghost use Rattle.dh_office.specs.Texts.{fault_line};
 
 use crate::jobs::{Work, answer_lines, carry_out};
+use crate::serving::answer_requests;
 use crate::status::Status;
 use crate::telling::{heard, print_created, print_recovered, tell_fault, tell_problem};
 use dh_agency::{NotOpened, attach, create, recover};
+use dh_service::Service;
 use dh_types::EntryMonth;
 use sqlite::{Alter, Connection};
 use std::alloc::Global;
@@ -29,6 +31,8 @@ pub(crate) enum FileJob {
     Recover,
     /// Takes the tables, and works on them.
     Work(Work),
+    /// Takes the tables, and serves requests over them.
+    Serve(Service),
 }
 
 // Makes the tables of empty books.
@@ -121,7 +125,7 @@ pub(crate) fn begin<S: Alter, R: Read, W: Write>(
 
 /// Does the job over the store of a file.
 pub(crate) fn do_job<S: Alter, R: Read, W: Write>(
-    alloc: Global,
+    rt: &HostRuntime,
     conn: Connection<S>,
     job: FileJob,
     reader: &mut R,
@@ -134,8 +138,9 @@ pub(crate) fn do_job<S: Alter, R: Read, W: Write>(
     ensures crash { JobLeaves (state S.Store conn) (state S.Store result.1) job }
 {
     match job {
-        FileJob::Make(first) => make(alloc, conn, first, writer),
-        FileJob::Recover => mend(alloc, conn, writer),
-        FileJob::Work(work) => take(alloc, conn, work, reader, writer),
+        FileJob::Make(first) => make(rt.alloc(), conn, first, writer),
+        FileJob::Recover => mend(rt.alloc(), conn, writer),
+        FileJob::Work(work) => take(rt.alloc(), conn, work, reader, writer),
+        FileJob::Serve(service) => answer_requests(rt, conn, service, writer),
     }
 }

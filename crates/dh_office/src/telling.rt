@@ -6,7 +6,7 @@ ghost use Rattle.dh_types.specs.Output.{Puts};
 ghost use Rattle.dh_types.specs.Reports.{report_of};
 ghost use Rattle.dh_office.specs.Printed.{PutsAs, heard};
 ghost use Rattle.dh_office.specs.Statuses.{problem_status};
-ghost use Rattle.dh_office.specs.Texts.{created_line, fault_line, problem_line, recovered_line, refusal_line, reply_line, report_lines};
+ghost use Rattle.dh_office.specs.Texts.{created_line, fault_line, no_listener_line, problem_line, recovered_line, refusal_line, reply_line, report_lines};
 
 use crate::status::Status;
 use dh_agency::Problem;
@@ -77,6 +77,13 @@ pub(crate) fn print_recovered<W: Write>(writer: &mut W) -> Result<(), Output>
     ensures { Puts (W.contents writer.old) (W.contents writer.new) result recovered_line }
 {
     put(writer, b"recovered\n")
+}
+
+/// Writes that there is no listener; at an `Output` a beginning of that.
+pub(crate) fn print_no_listener<W: Write>(writer: &mut W) -> Result<(), Output>
+    ensures { Puts (W.contents writer.old) (W.contents writer.new) result no_listener_line }
+{
+    put(writer, b"no listener\n")
 }
 
 /// The status, where the text was written whole.

@@ -11,6 +11,7 @@ use crate::status::Status;
 use crate::taking::FileJob;
 use crate::telling::{heard, print_refusal, tell_fault};
 use clap::Error;
+use dh_service::Service;
 use dh_types::writing::put_parts;
 use dh_types::{EntryMonth, Fault};
 use dh_words::{BadWords, Job, job};
@@ -95,6 +96,13 @@ fn do_asked<R: Read, W: Write>(
             reader,
             writer,
         ),
+        Job::Serve { file, port, count } => {
+            let service = Service {
+                port: *port,
+                count: *count,
+            };
+            do_on_file(rt, file, FileJob::Serve(service), reader, writer)
+        }
     }
 }
 

@@ -11,7 +11,7 @@ use Rattle.dh_agency.specs.Seat.{Seat}
 use Rattle.dh_agency.specs.Agency.{IsOpen, Leaves, LeavesItsTables, machine}
 use Rattle.dh_fields.specs.declared.request.Request.TheVariants.{Command as Ordered, Question}
 use Rattle.dh_lines.specs.Batch.{stand}
-use Rattle.dh_lines.proofs.CrashLemmas.{leaves_more, place}
+use Rattle.dh_lines.proofs.CrashLemmas.{leaves_more, leaves_what_holds, place}
 use Rattle.dh_requests.specs.declared.asked.Asked.{Asked}
 use Rattle.dh_requests.specs.declared.asked.Asked.TheVariants.{Turned, Fields}
 use Rattle.dh_http.specs.declared.fault.NetFault.{NetFault}
@@ -75,6 +75,14 @@ module _ {S : Type 0} (g : Ghosts S) (s : State) (old : Seat S) (asked : List As
       some : (left : State) → (left ≡ machine g old) ⊎ ((it : Asked) × May it × IsLeftBy it (machine g old) left) → IsAfterSome s left
       some left (inl is) = same_some left is
       some left (inr x) = left_some x.0 left x.2
+
+-- nothing was asked yet
+pub begins : {S : Type 0} (g : Ghosts S) (a : Seat S) → LeavesItsTables g a → IsServing g (stand g a) a
+begins g a rests = record {
+  reads = λ is_open. ([], refl);
+  left = leaves_what_holds g a (IsAfterSome (stand g a)) rests ([], refl);
+  rests = λ live. (rests, ([], refl));
+}
 
 -- a request was served
 pub serves_on : {S : Type 0} (g : Ghosts S) (s : State) (old new : Seat S) (May : Asked → Type 0) (a b : Option (List ℕ)) (r : Result ℕ NetFault)

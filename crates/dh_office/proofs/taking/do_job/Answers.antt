@@ -30,3 +30,14 @@ pub returns-in-Work-clause-printed : goal.returns-in-Work-clause-printed
 returns-in-Work-clause-printed g c =
     subst (λ job. PrintsJob job (g.W.Write.contents c.args.writer.now) (g.W.Write.contents c.take.new.writer) c.take.result.0) (sym c.in-Work.is)
     c.take.ensures.printed
+
+pub returns-in-Serve-clause-printed : goal.returns-in-Serve-clause-printed
+returns-in-Serve-clause-printed g c =
+    subst (λ job. PrintsJob job (g.W.Write.contents c.args.writer.now) (g.W.Write.contents c.answer_requests.new.writer) c.answer_requests.result.0)
+    (sym c.in-Serve.is) c.answer_requests.ensures.printed
+
+pub returns-in-Serve-clause-ends : goal.returns-in-Serve-clause-ends
+returns-in-Serve-clause-ends g c clean =
+    subst (λ job. JobEnds (state g.S.Store c.args.conn) (state g.S.Store c.answer_requests.result.1) (g.W.Write.contents c.args.writer.now)
+    (g.W.Write.contents c.answer_requests.new.writer) (g.R.Read.remaining c.args.reader.now) job c.answer_requests.result.0)
+    (sym c.in-Serve.is) (c.answer_requests.ensures.ends clean)

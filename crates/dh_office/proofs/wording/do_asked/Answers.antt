@@ -14,3 +14,6 @@ returns-in-Recover g c = rw c.in-Recover.is c.do_on_file-in-Recover.ensures
 
 pub returns-in-Report : goal.returns-in-Report
 returns-in-Report g c = rw c.in-Report.is c.do_on_file-in-Report.ensures
+
+pub returns-in-Serve : goal.returns-in-Serve
+returns-in-Serve g c = rw c.in-Serve.is c.do_on_file-in-Serve.ensures

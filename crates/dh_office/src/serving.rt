@@ -1,0 +1,54 @@
+//! Serving requests over the tables of a file.
+
+ghost use Rattle.std.specs.Prelude.{◌≡◌, IfErr, IfOk};
+ghost use Rattle.sqlite.specs.State.{HasCleanDisk};
+ghost use Rattle.sqlite.specs.Held.{state};
+ghost use Rattle.dh_runs.specs.Taking.{IsResting};
+ghost use Rattle.dh_office.specs.Ends.{ServingEnds};
+ghost use Rattle.dh_office.specs.Leaving.{ServingLeaves};
+ghost use Rattle.dh_office.specs.Printed.{IsOfService, IsRefusedEnd, Prints, PrintsService};
+
+use crate::status::Status;
+use crate::telling::{print_no_listener, tell_problem};
+use dh_agency::{NotOpened, attach};
+use dh_service::{Service, Unserved, serve};
+use sqlite::{Alter, Connection};
+use std::io::Write;
+
+// How the program ends behind serving. That there is no listener is told, as far as the writer takes it.
+fn tell_served<W: Write>(outcome: Result<(), Unserved>, writer: &mut W) -> Status
+    ensures served { IfOk outcome (λ done. result ≡ Status.Done) }
+    ensures unserved { IfErr outcome (λ why. result ≡ Status.Failed) }
+{
+    match outcome {
+        Ok(()) => Status::Done,
+        Err(Unserved::NoListener) => {
+            let _ = print_no_listener(writer);
+            Status::Failed
+        }
+        Err(_) => Status::Failed,
+    }
+}
+
+/// Takes the tables as they are, and serves requests over them.
+pub(crate) fn answer_requests<S: Alter, W: Write>(
+    rt: &HostRuntime,
+    conn: Connection<S>,
+    service: Service,
+    writer: &mut W,
+) -> (Status, Connection<S>)
+    requires { HasCleanDisk (state S.Store conn) → IsResting (state S.Store conn) }
+    ensures printed { PrintsService (W.contents writer.old) (W.contents writer.new) result.0 }
+    ensures ends { HasCleanDisk (state S.Store result.1)
+        → ServingEnds (state S.Store conn) (state S.Store result.1) (W.contents writer.old) (W.contents writer.new) result.0 }
+    ensures crash { ServingLeaves (state S.Store conn) (state S.Store result.1) }
+{
+    match attach(rt.alloc(), conn) {
+        Ok(mut agency) => {
+            let outcome = serve(rt, &mut agency, service, writer);
+            let status = tell_served(outcome, writer);
+            (status, agency.into_store())
+        }
+        Err(NotOpened { cause, conn }) => (tell_problem(writer, cause), conn),
+    }
+}
