@@ -10,10 +10,7 @@ use serde_json::Value;
 use std::alloc::{AllocError, Global};
 
 /// The texts that the values of a list are; `None` where one is no text. An error comes only for want of memory.
-pub fn texts_of<'a>(
-    alloc: Global,
-    items: &'a [Value],
-) -> Result<Option<Vec<&'a [u8]>>, AllocError>
+pub fn texts_of<'a>(alloc: Global, items: &'a [Value]) -> Result<Option<Vec<&'a [u8]>>, AllocError>
     ensures { IfOk result (λ found. MatchOption found
         ((texts : List (List ℕ)) → array (items_view items.now) ≢ list_of texts)
         (λ v. array (items_view items.now) ≡ list_of (map (λ s. s.now) v.items))) }

@@ -25,9 +25,9 @@ settled : (w v : List ℕ) → Invalid ≡ with_value (length_of w) v
 settled w v =
     elim (is_number w) as (λ b. Invalid ≡ with_value (cond b (cond (nat_le (digits_value 10 w) BODY_BYTES) (Bytes (digits_value 10 w)) TooLarge) Invalid) v) [
       | true ↦ elim (nat_le (digits_value 10 w) BODY_BYTES) as (λ b. Invalid ≡ with_value (cond b (Bytes (digits_value 10 w)) TooLarge) v) [
-          | true ↦ refl
-          | false ↦ refl
-        ]
+        | true ↦ refl
+        | false ↦ refl
+      ]
       | false ↦ refl
     ]
 

@@ -98,5 +98,4 @@ pub fn one_outcome()
     ensures { (input : List ℕ) (h : RequestHead) (rest : List ℕ) → IsHead input h rest
         → (¬ IsBadHead input) × (¬ IsLargeHead input)
         × ((k : RequestHead) (q : List ℕ) → IsHead input k q → (h ≡ k) × (rest ≡ q)) }
-{
-}
+{}

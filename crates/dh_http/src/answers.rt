@@ -161,7 +161,13 @@ fn allow_line(why: Turned) -> &'static str
 pub(crate) fn put_turned<W: Write>(writer: &mut W, why: Turned) -> Result<StatusCode, Output>
     ensures { Writes (W.contents writer.old) (W.contents writer.new) (turned_answer why) result }
 {
-    put_answer(writer, turned_status(why), Content::Empty, allow_line(why), b"")
+    put_answer(
+        writer,
+        turned_status(why),
+        Content::Empty,
+        allow_line(why),
+        b"",
+    )
 }
 
 // Answers with this number and text.
@@ -223,7 +229,13 @@ pub(crate) fn put_refused<W: Write>(
     ensures { Sends (W.contents writer.old) (W.contents writer.new) (refusal_answer why) result }
 {
     let text = why.to_string(alloc)?;
-    put_json(alloc, writer, refusal_status(&why), refusal_number(&why), &text)
+    put_json(
+        alloc,
+        writer,
+        refusal_status(&why),
+        refusal_number(&why),
+        &text,
+    )
 }
 
 /// Answers a command that was replied to so.

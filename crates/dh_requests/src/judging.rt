@@ -9,8 +9,8 @@ ghost use Rattle.dh_requests.specs.Requests.{IsByMethod, IsOfHead, IsOfRoute, Is
 ghost use Rattle.dh_requests.specs.Steps.{Behind};
 
 use crate::asked::{Asked, Turned};
-use crate::unread::Unread;
 use crate::posting::judge_command;
+use crate::unread::Unread;
 use dh_fields::{Request, read_fields};
 use dh_heads::{body_length, count};
 use dh_routes::{Route, pieces_of, route_of, router};
@@ -161,11 +161,7 @@ fn judge_target<R: Read>(alloc: Global, reader: &mut R, found: &Found) -> Result
 }
 
 /// What a request with a head within the limits asks for.
-pub(crate) fn judge<R: Read>(
-    alloc: Global,
-    reader: &mut R,
-    found: &Found,
-) -> Result<Asked, Unread>
+pub(crate) fn judge<R: Read>(alloc: Global, reader: &mut R, found: &Found) -> Result<Asked, Unread>
     requires at { (h : RequestHead) × IsRequestAt found.now.front.now found.now.headers.now found.now.spans h }
     requires within { IsRequestWithin found.now.front.now found.now.headers.now found.now.spans }
     ensures { (h : RequestHead) → IsRequestAt found.now.front.now found.now.headers.now found.now.spans h

@@ -4,8 +4,8 @@ ghost use Rattle.std.specs.Prelude.{◌≡◌, [], IfOk, IfSome, MatchOption};
 ghost use Rattle.dh_requests.specs.Requests.{MayAsk};
 
 use crate::asked::{Asked, Turned};
-use crate::unread::Unread;
 use crate::judging::{Found, judge};
+use crate::unread::Unread;
 use dh_heads::limits::{HEADER_LINES, ROOM};
 use dh_heads::{HeadRead, read_head};
 use httparse::spans::EMPTY_HEADER_SPAN;

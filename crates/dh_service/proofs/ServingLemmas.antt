@@ -35,9 +35,10 @@ module _ {S : Type 0} (g : Ghosts S) (s : State) (old : Seat S) (asked : List As
   -- those of a command that is cut
   left_some : (it : Asked) (left : State) → IsLeftBy it (machine g old) left → IsAfterSome s left
   left_some (Fields (Ok (Ordered command))) left (inl undone) = (asked, undone.books ∙ ap (λ (t : State). t.books) stands)
-  left_some (Fields (Ok (Ordered command))) left (inr done) =
-      (asked ++ Fields (Ok (Ordered command)) ∷ [],
-      done.books ∙ ap (λ (t : State). t.books) (next_stand (served (stand g old) (Fields (Ok (Ordered command)))).state (Fields (Ok (Ordered command))) refl))
+  left_some (Fields (Ok (Ordered command))) left (inr done) = (
+    asked ++ Fields (Ok (Ordered command)) ∷ [],
+    done.books ∙ ap (λ (t : State). t.books) (next_stand (served (stand g old) (Fields (Ok (Ordered command)))).state (Fields (Ok (Ordered command))) refl),
+  )
   left_some (Fields (Ok (Question question))) left is = same_some left is
   left_some (Fields (Err why)) left is = same_some left is
   left_some (Turned why) left is = same_some left is

@@ -72,5 +72,11 @@ pub fn serve<S: Alter, W: Write>(
     if service.port == 0 {
         print_port(writer, port)?;
     }
-    serve_connections(rt.alloc(), agency, &listener, service.count.number(), writer)
+    serve_connections(
+        rt.alloc(),
+        agency,
+        &listener,
+        service.count.number(),
+        writer,
+    )
 }

@@ -15,8 +15,10 @@ returns-in-Ok-clause-ends g c clean =
     let still : IsClean g.S.Store after = was_clean g.S.Store after c.into_store.result c.into_store.ensures clean in
     let first : IsClean g.S.Store taken = omega (arith, c.serve-outcome.ensures.was_clean, still) in
     let served = c.serve-outcome.ensures.serving (stand g.S.Store taken) (λ at. begins g.S.Store taken (c.in-Ok.ensures.left at)) still in
-    inl (of_service c.serve-outcome.result c.tell_served-status.result c.tell_served-status.ensures.served c.tell_served-status.ensures.unserved,
-    serving_ends g.S.Store after c.into_store.result c.into_store.ensures c.args.conn taken (c.in-Ok.ensures.taken.1 first) served)
+    inl (
+      of_service c.serve-outcome.result c.tell_served-status.result c.tell_served-status.ensures.served c.tell_served-status.ensures.unserved,
+      serving_ends g.S.Store after c.into_store.result c.into_store.ensures c.args.conn taken (c.in-Ok.ensures.taken.1 first) served,
+    )
 
 pub returns-in-Ok-clause-crash : goal.returns-in-Ok-clause-crash
 returns-in-Ok-clause-crash g c =

@@ -14,9 +14,11 @@ parted target first second x e f =
     let day = x.1 in
     let rest : drop 10 target ≡ client ++ 47 ∷ day = ap (drop 10) x.2.0 in
     let is_client : first ≡ client = e ∙ ap (λ l. take (first_slash l) l) rest ∙ parted_before client day x.2.1.1 in
-    let is_day : second ≡ day = f ∙ ap (λ l. drop (first_slash l + 1) l) rest ∙ parted_behind client day x.2.1.1 in
-    (x.2.0 ∙ ap (λ l. codes "/matching/" ++ (l ++ 47 ∷ day)) (sym is_client) ∙ ap (λ l. codes "/matching/" ++ (first ++ 47 ∷ l)) (sym is_day),
-    subst IsPiece (sym is_client) x.2.1, subst IsPiece (sym is_day) x.2.2)
+    let is_day : second ≡ day = f ∙ ap (λ l. drop (first_slash l + 1) l) rest ∙ parted_behind client day x.2.1.1 in (
+      x.2.0 ∙ ap (λ l. codes "/matching/" ++ (l ++ 47 ∷ day)) (sym is_client) ∙ ap (λ l. codes "/matching/" ++ (first ++ 47 ∷ l)) (sym is_day),
+      subst IsPiece (sym is_client) x.2.1,
+      subst IsPiece (sym is_day) x.2.2,
+    )
 
 pub returns-in-Matching : goal.returns-in-Matching
 returns-in-Matching c =

@@ -1,0 +1,159 @@
+//! Blocks of cases.
+
+use std::alloc::{AllocError, Global};
+use std::io;
+
+/// Lines under one heading, which is `== NAME`, and behind commas what is said of the block: `after NAME` of a block above it,
+/// whose records are its first; `to the end`, of a request that is answered only at the end of input; `with failures`, of one over
+/// which each read and each write fails in turn; `over a listener`, of one that is also sent to a listener. Lines of words stand
+/// behind `#`. The lines of a block begin with a mark:
+///
+/// - `+ RECORD`, a record that is carried out before the request;
+/// - `> LINE`, a line of the request, and `>| BYTES`, bytes of it without a line end, and `>* N LINE`, so many lines;
+/// - `< LINE` and `<| BYTES`, of the answer; without one, none is wanted; `<= NAME`, the answer of a block above;
+/// - `- WORD -> NAME`, a case of its own: the word for `~_` in the request, and the block whose answer is wanted;
+/// - `? RECORD -> REPLY`, what is replied afterwards, and `?! RECORD -> REPLY` where nothing was done.
+#[derive(Drop)]
+pub struct Block {
+    pub name: String,
+    pub records: String,
+    /// The request, where the block has one.
+    pub request: Option<String>,
+    pub answer: String,
+    /// The cases, each with its word, an arrow and the name of its answer.
+    pub cases: Vec<String>,
+    /// What is replied to records afterwards, a record to a line.
+    pub replies: String,
+    /// What is replied where nothing was done.
+    pub first_replies: String,
+    pub is_to_the_end: bool,
+    pub has_failures: bool,
+    pub is_over_a_listener: bool,
+}
+
+fn unreadable() -> io::Error {
+    io::ErrorKind::InvalidData.into()
+}
+
+/// The block that is named so.
+pub fn named<'a>(blocks: &'a [Block], name: &str) -> io::Result<&'a Block> {
+    for block in blocks {
+        if block.name.as_str() == name {
+            return Ok(block);
+        }
+    }
+    Err(unreadable())
+}
+
+fn empty(alloc: Global, name: &str) -> Result<Block, AllocError> {
+    Ok(Block {
+        name: name.to_string(alloc)?,
+        records: String::new(alloc),
+        request: None,
+        answer: String::new(alloc),
+        cases: Vec::new(alloc),
+        replies: String::new(alloc),
+        first_replies: String::new(alloc),
+        is_to_the_end: false,
+        has_failures: false,
+        is_over_a_listener: false,
+    })
+}
+
+// Adds what a word of the heading says of the block.
+fn add_word(block: &mut Block, blocks: &[Block], word: &str) -> io::Result<()> {
+    match word {
+        "to the end" => block.is_to_the_end = true,
+        "with failures" => block.has_failures = true,
+        "over a listener" => block.is_over_a_listener = true,
+        _ => {
+            let name = word.strip_prefix("after ").ok_or(unreadable())?;
+            block
+                .records
+                .push_str(named(blocks, name)?.records.as_str())?;
+        }
+    }
+    Ok(())
+}
+
+// The block of the heading, without its lines.
+fn headed(alloc: Global, blocks: &[Block], heading: &str) -> io::Result<Block> {
+    let mut words = heading.split(", ");
+    let mut block = empty(alloc, words.next().unwrap_or(""))?;
+    for word in words {
+        add_word(&mut block, blocks, word)?;
+    }
+    Ok(block)
+}
+
+fn add_line(text: &mut String, line: &str, end: &str) -> Result<(), AllocError> {
+    text.push_str(line)?;
+    text.push_str(end)
+}
+
+fn add_lines(text: &mut String, times_and_line: &str) -> io::Result<()> {
+    let (times, line) = times_and_line.split_once(' ').ok_or(unreadable())?;
+    let times = times.parse::<u32>().ok().ok_or(unreadable())?;
+    for _ in 0..times {
+        add_line(text, line, "~r~n")?;
+    }
+    Ok(())
+}
+
+// Adds a line of the request.
+fn add_request(alloc: Global, block: &mut Block, mark: &str, text: &str) -> io::Result<()> {
+    let request = block.request.get_or_insert(String::new(alloc));
+    match mark {
+        ">*" => add_lines(request, text),
+        ">|" => Ok(request.push_str(text)?),
+        _ => Ok(add_line(request, text, "~r~n")?),
+    }
+}
+
+// Adds what stands behind a mark.
+fn add_marked(alloc: Global, block: &mut Block, mark: &str, text: &str) -> io::Result<()> {
+    match mark {
+        "+" => Ok(add_line(&mut block.records, text, "\n")?),
+        ">" | ">|" | ">*" => add_request(alloc, block, mark, text),
+        "<" => Ok(add_line(&mut block.answer, text, "~r~n")?),
+        "<|" => Ok(block.answer.push_str(text)?),
+        "-" => Ok(block.cases.push(text.to_string(alloc)?)?),
+        "?" => Ok(add_line(&mut block.replies, text, "\n")?),
+        "?!" => Ok(add_line(&mut block.first_replies, text, "\n")?),
+        _ => Err(unreadable()),
+    }
+}
+
+// Gives the last block the answer of the block that is named so.
+fn share_answer(alloc: Global, blocks: &mut [Block], name: &str) -> io::Result<()> {
+    let answer = named(blocks, name)?.answer.as_str().to_string(alloc)?;
+    let block = blocks.last_mut().ok_or(unreadable())?;
+    block.answer = answer;
+    Ok(())
+}
+
+// Adds what a line of the text says.
+fn add(alloc: Global, blocks: &mut Vec<Block>, line: &str) -> io::Result<()> {
+    let (mark, text) = line.split_once(' ').unwrap_or((line, ""));
+    match mark {
+        "" | "#" => Ok(()),
+        "==" => {
+            let block = headed(alloc, blocks, text)?;
+            Ok(blocks.push(block)?)
+        }
+        "<=" => share_answer(alloc, blocks, text),
+        _ => {
+            let block = blocks.last_mut().ok_or(unreadable())?;
+            add_marked(alloc, block, mark, text)
+        }
+    }
+}
+
+/// The blocks of the text; an error where a name is that of no block above, or a mark is unknown.
+pub fn blocks_of(alloc: Global, text: &str) -> io::Result<Vec<Block>> {
+    let mut blocks = Vec::new(alloc);
+    for line in text.lines() {
+        add(alloc, &mut blocks, line)?;
+    }
+    Ok(blocks)
+}
