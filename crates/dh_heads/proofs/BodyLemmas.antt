@@ -1,5 +1,6 @@
 -- A body, of which the front was read before.
-use Rattle.std.proofs.Common.{◌≡◌, ℕ, List, ◌++◌, Option, Some, None, length, take, sym, ap, ◌∙◌, arith, append-nil, length-append, length-take, IfSome, refl, true, false, Bool}
+use Rattle.std.proofs.Common.{◌≡◌, ℕ, List, ◌++◌, Option, Some, None, length, take, sym, ap, ◌∙◌, arith, append-nil, length-append, length-take, IfSome, refl}
+use Rattle.std.proofs.Common.{true, false, Bool}
 use Rattle.std.specs.Io.KnownBytes.{Consumes, prepend_known}
 use lib.Seq.{take-append_seam}
 use Rattle.dh_heads.specs.Bodies.{IsFilled, FillsOrEnds}

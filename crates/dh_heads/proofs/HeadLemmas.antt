@@ -1,5 +1,6 @@
 -- What the bytes so far say of the whole input.
-use Rattle.std.proofs.Common.{◌≡◌, ℕ, ◌+◌, ◌-◌, ◌<◌, ◌≤◌, List, [], ◌++◌, Option, Some, None, length, take, drop, slice_range, sym, ap, ◌∙◌, subst, arith, append_assoc, append-nil, length-take-le, drop_at, drop_of_length-le, length-append, inl, inr}
+use Rattle.std.proofs.Common.{◌≡◌, ℕ, ◌+◌, ◌-◌, ◌<◌, ◌≤◌, List, [], ◌++◌, Option, Some, None, length, take, drop, slice_range, sym, ap, ◌∙◌, subst, arith}
+use Rattle.std.proofs.Common.{append_assoc, append-nil, length-take-le, drop_at, drop_of_length-le, length-append, inl, inr}
 use Rattle.std.proofs.lemmas.Slice.{take-put_mid_below}
 use Rattle.std.specs.Io.KnownBytes.{Consumes, IsAtEnd}
 use borrow.Rule.Slice.PartMut.{put_mid, post_of}
@@ -24,7 +25,8 @@ slice_range-put_mid : (a k n : ℕ) (xs ys : List ℕ) → a ≤ length xs → n
 slice_range-put_mid a k n xs ys within fits =
     let same : (a + n) - a ≡ n = omega arith in
     let after = post_of a k xs in
-    ap (take ((a + n) - a)) (drop_at (take a xs) (ys ++ after) a (length-take-le a xs within)) ∙ ap (λ m. take m (ys ++ after)) same ∙ take-append-le n ys after fits
+    ap (take ((a + n) - a)) (drop_at (take a xs) (ys ++ after) a (length-take-le a xs within)) ∙ ap (λ m. take m (ys ++ after)) same
+    ∙ take-append-le n ys after fits
 
 pub take_read : (a k n : ℕ) (xs ys : List ℕ) → a ≤ length xs → n ≤ length ys → take a xs ++ take n ys ≡ take (a + n) (put_mid a k xs ys)
 take_read a k n xs ys within fits =
@@ -92,14 +94,17 @@ pub long_more : (front after : List ℕ) {input : List ℕ} → input ≡ front 
     → {headers : List HeaderSpan} {spans : RequestSpans} {h : RequestHead} → IsWhole front headers spans h → HEAD_BYTES < spans.len → IsLargeHead input
 long_more front after {input} e room {headers} {spans} {h} x big =
     let is : front ≡ print_request h ++ drop spans.len front = x.at.reads.1 in
-    let all : length front ≡ spans.len + length (drop spans.len front) = ap length is ∙ length-append (print_request h) (drop spans.len front) ∙ ap (λ n. n + length (drop spans.len front)) (sym x.at.len) in
+    let all : length front ≡ spans.len + length (drop spans.len front) =
+    ap length is ∙ length-append (print_request h) (drop spans.len front) ∙ ap (λ n. n + length (drop spans.len front)) (sym x.at.len) in
     let len : length front ≡ ROOM = omega arith in
-    let read : ReadsRequest input h (drop spans.len front ++ after) = subst (λ l. ReadsRequest l h (drop spans.len front ++ after)) (sym e) (ReadsRequest-append front h (drop spans.len front) after x.at.reads) in
+    let read : ReadsRequest input h (drop spans.len front ++ after) =
+    subst (λ l. ReadsRequest l h (drop spans.len front ++ after)) (sym e) (ReadsRequest-append front h (drop spans.len front) after x.at.reads) in
     let no_more : drop spans.len front ≡ [] = drop_of_length-le front {i = spans.len} (omega arith) in
     let whole : ReadsRequest (front ++ []) h [] = subst (λ l. ReadsRequest l h []) (sym (append-nil front)) (subst (ReadsRequest front h) no_more x.at.reads) in
     record {
       none = λ k rest y.
-          let same : length (print_request k) ≡ length (print_request h) = ap (λ z. length (print_request z)) (request_unique input k h rest (drop spans.len front ++ after) y.reads read).0 in
+          let same : length (print_request k) ≡ length (print_request h) =
+          ap (λ z. length (print_request z)) (request_unique input k h rest (drop spans.len front ++ after) y.reads read).0 in
           let small : length (print_request k) ≤ HEAD_BYTES = y.bytes in
           let len_is : spans.len ≡ length (print_request h) = x.at.len in
           omega arith;

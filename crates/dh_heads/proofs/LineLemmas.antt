@@ -16,7 +16,11 @@ values_push name [] l =
       | false ↦ refl
     ]
 values_push name (k ∷ lines) l =
-    elim (same_name k.0 name) as (λ b. map (λ (x : Line). x.1) (cond b (k ∷ filter (λ (x : Line). same_name x.0 name) (lines ++ l ∷ [])) (filter (λ (x : Line). same_name x.0 name) (lines ++ l ∷ []))) ≡ map (λ (x : Line). x.1) (cond b (k ∷ filter (λ (x : Line). same_name x.0 name) lines) (filter (λ (x : Line). same_name x.0 name) lines)) ++ cond (same_name l.0 name) (l.1 ∷ []) []) [
+    elim (same_name k.0 name) as (λ b.
+    map (λ (x : Line). x.1)
+    (cond b (k ∷ filter (λ (x : Line). same_name x.0 name) (lines ++ l ∷ [])) (filter (λ (x : Line). same_name x.0 name) (lines ++ l ∷ [])))
+    ≡ map (λ (x : Line). x.1) (cond b (k ∷ filter (λ (x : Line). same_name x.0 name) lines) (filter (λ (x : Line). same_name x.0 name) lines))
+    ++ cond (same_name l.0 name) (l.1 ∷ []) []) [
       | true ↦ ap (λ r. k.1 ∷ r) (values_push name lines l)
       | false ↦ values_push name lines l
     ]
@@ -38,7 +42,8 @@ length_push (w ∷ x ∷ rest) v = refl
 
 -- one more of the elements
 pub values_more : {X : Type 0} (f : X → Line) (name : List ℕ) (xs : List X) (i : ℕ) (d : X) → i < length xs
-    → values_of name (map f (take (i + 1) xs)) ≡ values_of name (map f (take i xs)) ++ cond (same_name (f (get_or xs i d)).0 name) ((f (get_or xs i d)).1 ∷ []) []
+    → values_of name (map f (take (i + 1) xs))
+    ≡ values_of name (map f (take i xs)) ++ cond (same_name (f (get_or xs i d)).0 name) ((f (get_or xs i d)).1 ∷ []) []
 values_more f name xs i d h =
     ap (values_of name) (ap (map f) (take_more xs i d h) ∙ map-append f (take i xs) (get_or xs i d ∷ []))
     ∙ values_push name (map f (take i xs)) (f (get_or xs i d))

@@ -1,5 +1,6 @@
 -- Steps of the order in which a request is judged.
-use Rattle.std.proofs.Common.{◌≡◌, ◌≢◌, ◌++◌, ◌∷◌, [], Bor, false, List, ℕ, Option, Some, None, IfSome, ap, codes, drop, inl, inr, map, refl, subst, sym, take, nat_eq}
+use Rattle.std.proofs.Common.{◌≡◌, ◌≢◌, ◌++◌, ◌∷◌, [], Bor, false, List, ℕ, Option, Some, None, IfSome, ap, codes, drop, inl, inr, map, refl, subst, sym}
+use Rattle.std.proofs.Common.{take, nat_eq}
 use Rattle.std.specs.Prelude.{bytes_eq, option_map, slice_get}
 use Rattle.std.specs.Cmp.Lexicographic.{pointwise}
 use Rattle.httparse.specs.Spans.{IsRequestAt}
@@ -46,7 +47,8 @@ pub behind : (front : List ℕ) (left : Option (List ℕ)) (P : List ℕ → Typ
 behind front None P f = tt
 behind front (Some after) P f = f (front ++ after)
 
-pub behind_weaker : (front : List ℕ) (left : Option (List ℕ)) (P Q : List ℕ → Type 0) → ((rest : List ℕ) → P rest → Q rest) → Behind front left P → Behind front left Q
+pub behind_weaker : (front : List ℕ) (left : Option (List ℕ)) (P Q : List ℕ → Type 0) → ((rest : List ℕ) → P rest → Q rest) → Behind front left P
+    → Behind front left Q
 behind_weaker front None P Q f x = tt
 behind_weaker front (Some after) P Q f x = f (front ++ after) x
 

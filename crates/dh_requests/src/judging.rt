@@ -115,7 +115,8 @@ fn judge_question(
 fn judge_order<R: Read>(alloc: Global, reader: &mut R, found: &Found) -> Result<Asked, Unread>
     requires { IsRequestWithin found.now.front.now found.now.headers.now found.now.spans }
     ensures { (h : RequestHead) → IsRequestAt found.now.front.now found.now.headers.now found.now.spans h
-        → IfOk result (λ asked. Behind (drop found.now.spans.len found.now.front.now) (R.remaining reader.old) (λ rest. IsOfRoute Route.Commands h rest asked)) }
+        → IfOk result (λ asked. Behind (drop found.now.spans.len found.now.front.now) (R.remaining reader.old)
+        (λ rest. IsOfRoute Route.Commands h rest asked)) }
 {
     if !is_method(found.spans.method.of(found.front), b"POST") {
         return Ok(Asked::Turned(Turned::OnlyByPost));

@@ -1,5 +1,6 @@
 -- What the routes find.
-use Rattle.std.proofs.Common.{◌≡◌, ℕ, ◌<◌, List, [], ◌∷◌, ◌++◌, Option, Some, None, refl, sym, ap, ◌∙◌, subst, arith, codes, inl, inr, append-nil, Bool, true, false, ltb, ◌&&◌, ◌==◌, get_or, suc, length, ◌-◌, ◌+◌, cond, leb, length-append, drop, take, drop_at, take_all, le_refl, nat_eq}
+use Rattle.std.proofs.Common.{◌≡◌, ℕ, ◌<◌, List, [], ◌∷◌, ◌++◌, Option, Some, None, refl, sym, ap, ◌∙◌, subst, arith, codes, inl, inr, append-nil, Bool, true}
+use Rattle.std.proofs.Common.{false, ltb, ◌&&◌, ◌==◌, get_or, suc, length, ◌-◌, ◌+◌, cond, leb, length-append, drop, take, drop_at, take_all, le_refl, nat_eq}
 use Rattle.std.specs.List.{ends_with}
 use Rattle.matchit.specs.Rows.{RowsOf}
 use Rattle.std.proofs.lemmas.Bool.Decides.{nat_tests}
@@ -24,7 +25,8 @@ whole w path bytes x =
     ([], [], (text.1 ∙ ap (λ l. w ++ l) text.2 ∙ append-nil w, refl, refl))
 
 -- a row of the table, and what it takes
-row_is : (x : List ℕ × RouteOf Route) (t : List ℕ) (r : RouteOf Route) (path : List ℕ) (P : Route → Type 0) → x ≡ (t, r) → Takes t path → (Takes x.0 path → P x.1.value) → P r.value
+row_is : (x : List ℕ × RouteOf Route) (t : List ℕ) (r : RouteOf Route) (path : List ℕ) (P : Route → Type 0) → x ≡ (t, r) → Takes t path
+    → (Takes x.0 path → P x.1.value) → P r.value
 row_is x t r path P e takes f =
     let same : x.0 ≡ t = λ i. (e i).0 in
     subst (λ (y : RouteOf Route). P y.value) (λ i. (e i).1) (f (subst (λ l. Takes l path) (sym same) takes))
@@ -61,11 +63,15 @@ member : (t : List ℕ) (r : RouteOf Route) (path : List ℕ) → In (t, r) rout
 unfolding all_bytes
 member t r path (inl e) x = row_is arrears_row t r path (λ v. IsTarget v path) e x (after (codes "/arrears/") path (bytes_if (codes "/arrears/") refl))
 member t r path (inr (inl e)) x = row_is branches_row t r path (λ v. IsTarget v path) e x (whole (codes "/branches") path (bytes_if (codes "/branches") refl))
-member t r path (inr (inr (inl e))) x = row_is commands_row t r path (λ v. IsTarget v path) e x (whole (codes "/commands") path (bytes_if (codes "/commands") refl))
+member t r path (inr (inr (inl e))) x =
+    row_is commands_row t r path (λ v. IsTarget v path) e x (whole (codes "/commands") path (bytes_if (codes "/commands") refl))
 member t r path (inr (inr (inr (inl e)))) x = row_is matching_row t r path (λ v. IsTarget v path) e x (two path)
-member t r path (inr (inr (inr (inr (inl e))))) x = row_is run_row t r path (λ v. IsTarget v path) e x (after (codes "/run/") path (bytes_if (codes "/run/") refl))
-member t r path (inr (inr (inr (inr (inr (inl e)))))) x = row_is statement_row t r path (λ v. IsTarget v path) e x (after (codes "/statement/") path (bytes_if (codes "/statement/") refl))
-member t r path (inr (inr (inr (inr (inr (inr (inl e))))))) x = row_is vacant_row t r path (λ v. IsTarget v path) e x (after (codes "/vacant/") path (bytes_if (codes "/vacant/") refl))
+member t r path (inr (inr (inr (inr (inl e))))) x =
+    row_is run_row t r path (λ v. IsTarget v path) e x (after (codes "/run/") path (bytes_if (codes "/run/") refl))
+member t r path (inr (inr (inr (inr (inr (inl e)))))) x =
+    row_is statement_row t r path (λ v. IsTarget v path) e x (after (codes "/statement/") path (bytes_if (codes "/statement/") refl))
+member t r path (inr (inr (inr (inr (inr (inr (inl e))))))) x =
+    row_is vacant_row t r path (λ v. IsTarget v path) e x (after (codes "/vacant/") path (bytes_if (codes "/vacant/") refl))
 member t r path (inr (inr (inr (inr (inr (inr (inr e))))))) x = absurd e
 
 pub found : (path : List ℕ) (r : RouteOf Route) → AreBytes path → first routes path ≡ Some r → IsTarget r.value path
@@ -86,7 +92,8 @@ segment_of [] day free = refl
 segment_of (b ∷ client) day free = segment_at b client day (b == 47) refl free (segment_of client day)
   where
     segment_at : (b : ℕ) (client day : List ℕ) (v : Bool) → (b == 47) ≡ v → cond v true (has_slash client) ≡ false
-        → (has_slash client ≡ false → segment (client ++ 47 ∷ day) ≡ client ++ 47 ∷ []) → cond v (b ∷ []) (b ∷ segment (client ++ 47 ∷ day)) ≡ b ∷ (client ++ 47 ∷ [])
+        → (has_slash client ≡ false → segment (client ++ 47 ∷ day) ≡ client ++ 47 ∷ [])
+        → cond v (b ∷ []) (b ∷ segment (client ++ 47 ∷ day)) ≡ b ∷ (client ++ 47 ∷ [])
     segment_at b client day true e free again = cc
     segment_at b client day false e free again = ap (λ l. b ∷ l) (again free)
 
@@ -106,7 +113,16 @@ rest_of path front rest at e at_is =
 walk_vacant : (b : ℕ) (p : List ℕ) → walk vacant_row.0 (codes "/vacant/{day}") (codes "/vacant/" ++ b ∷ p) ((9, 12) ∷ []) 0 0 ≡ (codes "day", b ∷ p) ∷ []
 walk_vacant b p =
     let len = length (codes "/vacant/" ++ b ∷ p) in
-    rw (next_is len 0 (omega arith), next_is len 1 (omega arith), next_is len 2 (omega arith), next_is len 3 (omega arith), next_is len 4 (omega arith), next_is len 5 (omega arith), next_is len 6 (omega arith), next_is len 7 (omega arith))
+    rw (
+      next_is len 0 (omega arith),
+      next_is len 1 (omega arith),
+      next_is len 2 (omega arith),
+      next_is len 3 (omega arith),
+      next_is len 4 (omega arith),
+      next_is len 5 (omega arith),
+      next_is len 6 (omega arith),
+      next_is len 7 (omega arith),
+    )
     (ap (λ r. (codes "day", r) ∷ []) (rest_of (codes "/vacant/" ++ b ∷ p) (codes "/vacant/") (b ∷ p) 8 refl refl))
 
 -- ---- the other direction, for each route
@@ -129,11 +145,14 @@ unfolding is_none
 none_is [] e = refl
 none_is (x ∷ rs) e = cc
 
-no_param-at : (b : ℕ) (path : List ℕ) (v : Bool) → seek {K = RouteOf Route} ((cond {A = ℕ × RowsOf (RouteOf Route)} v (0, []) (length (b ∷ path), [])).0 - 1) (cond {A = ℕ × RowsOf (RouteOf Route)} v (0, []) (length (b ∷ path), [])).1 path ≡ None
+no_param-at : (b : ℕ) (path : List ℕ) (v : Bool)
+    → seek {K = RouteOf Route} ((cond {A = ℕ × RowsOf (RouteOf Route)} v (0, []) (length (b ∷ path), [])).0 - 1)
+    (cond {A = ℕ × RowsOf (RouteOf Route)} v (0, []) (length (b ∷ path), [])).1 path ≡ None
 no_param-at b path true = seek_none {K = RouteOf Route} (0 - 1) path
 no_param-at b path false = seek_none {K = RouteOf Route} (length (b ∷ path) - 1) path
 
-no_param : (b : ℕ) (path : List ℕ) → seek {K = RouteOf Route} ((param_step {K = RouteOf Route} [] (b ∷ path)).0 - 1) (param_step {K = RouteOf Route} [] (b ∷ path)).1 path ≡ None
+no_param : (b : ℕ) (path : List ℕ)
+    → seek {K = RouteOf Route} ((param_step {K = RouteOf Route} [] (b ∷ path)).0 - 1) (param_step {K = RouteOf Route} [] (b ∷ path)).1 path ≡ None
 unfolding param_step
 no_param b path = no_param-at b path (has_slash (b ∷ path))
 
@@ -190,7 +209,8 @@ seek_over (b ∷ front) path rs = seek_over front path rs
 rows_of_day : RouteOf Route → RowsOf (RouteOf Route)
 rows_of_day r = (47 ∷ 256 ∷ [], r) ∷ []
 
-client_step : (r : RouteOf Route) (b : ℕ) (c day : List ℕ) → has_slash (b ∷ c) ≡ false → param_step (rows_of_day r) ((b ∷ c) ++ 47 ∷ day) ≡ (suc (length c), rows_of_day r)
+client_step : (r : RouteOf Route) (b : ℕ) (c day : List ℕ) → has_slash (b ∷ c) ≡ false
+    → param_step (rows_of_day r) ((b ∷ c) ++ 47 ∷ day) ≡ (suc (length c), rows_of_day r)
 unfolding param_step rows_of_day
 client_step r b c day free =
     let text = (b ∷ c) ++ 47 ∷ [] in
@@ -200,8 +220,11 @@ client_step r b c day free =
     let some : ltb 1 (length text) ≡ true = grind (arith, nat_tests) in
     let best : longest_suffix text (rows_of_day r) ≡ 47 ∷ [] = rw (some, ends) refl in
     let left : length text - 1 ≡ suc (length c) = omega arith in
-    let at : longest_suffix (segment ((b ∷ c) ++ 47 ∷ day)) (rows_of_day r) ≡ 47 ∷ [] = ap (λ l. longest_suffix l (rows_of_day r)) (segment_of (b ∷ c) day free) ∙ best in
-    ap (λ s. cond {A = ℕ × RowsOf (RouteOf Route)} (ltb 0 (length s)) (length (segment ((b ∷ c) ++ 47 ∷ day)) - length s, with_suffix s (rows_of_day r)) (cond (has_slash ((b ∷ c) ++ 47 ∷ day)) (0, []) (length ((b ∷ c) ++ 47 ∷ day), rows_of_day r))) at
+    let at : longest_suffix (segment ((b ∷ c) ++ 47 ∷ day)) (rows_of_day r) ≡ 47 ∷ [] =
+    ap (λ l. longest_suffix l (rows_of_day r)) (segment_of (b ∷ c) day free) ∙ best in
+    ap (λ s.
+    cond {A = ℕ × RowsOf (RouteOf Route)} (ltb 0 (length s)) (length (segment ((b ∷ c) ++ 47 ∷ day)) - length s, with_suffix s (rows_of_day r))
+    (cond (has_slash ((b ∷ c) ++ 47 ∷ day)) (0, []) (length ((b ∷ c) ++ 47 ∷ day), rows_of_day r))) at
     ∙ ap (λ l. (length l - 1, rows_of_day r)) (segment_of (b ∷ c) day free) ∙ ap (λ n. (n, rows_of_day r)) left
 
 client_first : (r : RouteOf Route) (b : ℕ) (c : List ℕ) (d : ℕ) (e : List ℕ) → b < 256 → has_slash (b ∷ c) ≡ false → d < 256 → has_slash (d ∷ e) ≡ false
@@ -213,7 +236,9 @@ client_first r b c d e byte free byte2 free2 =
     let other : (256 == b) ≡ false = grind (arith, nat_tests) in
     let same : (suc (length c) - 1) ≡ length c = omega arith in
     let day : first row (47 ∷ d ∷ e) ≡ Some r = lit 47 (d ∷ e) row refl refl ∙ last_piece r d e byte2 free2 in
-    ap (λ v. or_else (seek 0 (cond {A = RowsOf (RouteOf Route)} v row []) rest) (or_else (seek ((param_step row (b ∷ rest)).0 - 1) (param_step row (b ∷ rest)).1 rest) None)) other
+    ap (λ v.
+    or_else (seek 0 (cond {A = RowsOf (RouteOf Route)} v row []) rest)
+    (or_else (seek ((param_step row (b ∷ rest)).0 - 1) (param_step row (b ∷ rest)).1 rest) None)) other
     ∙ ap (λ o. or_else o (or_else (seek ((param_step row (b ∷ rest)).0 - 1) (param_step row (b ∷ rest)).1 rest) None)) (seek_none {K = RouteOf Route} 0 rest)
     ∙ ap (λ (s : ℕ × RowsOf (RouteOf Route)). or_else (seek (s.0 - 1) s.1 rest) None) (client_step r b c (d ∷ e) free)
     ∙ ap (λ n. or_else (seek n row rest) None) same
@@ -239,7 +264,8 @@ not_none front path r at bytes none (b ∷ p) e x =
     let no : None ≡ Some r = sym none ∙ some in
     cc
 
-not_two : (path : List ℕ) → AreBytes path → first routes path ≡ None → (client day : List ℕ) → path ≡ codes "/matching/" ++ (client ++ 47 ∷ day) → IsPiece client → IsPiece day → ⊥
+not_two : (path : List ℕ) → AreBytes path → first routes path ≡ None → (client day : List ℕ) → path ≡ codes "/matching/" ++ (client ++ 47 ∷ day)
+    → IsPiece client → IsPiece day → ⊥
 not_two path bytes none [] day e x y = absurd (omega (arith, x.0))
 not_two path bytes none (b ∷ c) [] e x y = absurd (omega (arith, y.0))
 not_two path bytes none (b ∷ c) (d ∷ f) e x y =

@@ -1,5 +1,6 @@
 -- A text is parted at its first slash.
-use Rattle.std.proofs.Common.{◌≡◌, ◌∙◌, ℕ, ◌+◌, ◌<◌, ◌≤◌, Bool, true, false, cond, List, [], ◌∷◌, ◌++◌, length, take, drop, get_or, refl, add-one, ap, arith, suc, zero, ◌==◌}
+use Rattle.std.proofs.Common.{◌≡◌, ◌∙◌, ℕ, ◌+◌, ◌<◌, ◌≤◌, Bool, true, false, cond, List, [], ◌∷◌, ◌++◌, length, take, drop, get_or, refl, add-one, ap, arith}
+use Rattle.std.proofs.Common.{suc, zero, ◌==◌}
 use lib.Seq.{take-append_seam}
 use Rattle.matchit.specs.Seek.{has_slash}
 use Rattle.dh_routes.specs.Pieces.{first_slash}

@@ -1,5 +1,6 @@
 -- What a walk over rows finds.
-use Rattle.std.proofs.Common.{◌≡◌, ℕ, zero, suc, ◌-◌, ◌<◌, List, [], ◌∷◌, ◌++◌, length, take, drop, Option, Some, None, Bool, true, false, cond, refl, sym, ap, ◌∙◌, subst, arith, nat_eq, ◌==◌, ◌&&◌, ◌⊎◌, inl, inr, take-append-drop, ltb, length-take, take_all, le_refl, append-nil}
+use Rattle.std.proofs.Common.{◌≡◌, ℕ, zero, suc, ◌-◌, ◌<◌, List, [], ◌∷◌, ◌++◌, length, take, drop, Option, Some, None, Bool, true, false, cond, refl, sym}
+use Rattle.std.proofs.Common.{ap, ◌∙◌, subst, arith, nat_eq, ◌==◌, ◌&&◌, ◌⊎◌, inl, inr, take-append-drop, ltb, length-take, take_all, le_refl, append-nil}
 use Rattle.std.specs.List.{ends_with}
 use Rattle.std.proofs.lemmas.Bool.Decides.{nat_tests}
 use Rattle.matchit.specs.Rows.{RowsOf, param_token, catch_all_token}
@@ -38,7 +39,8 @@ module _ {K : Type 0} where
   Fits-longest seg best [] f = f
   Fits-longest seg best ((t, key) ∷ rs) f =
       Fits-longest seg (better seg best (segment t)) rs
-      (Fits-better seg best (segment t) (ltb (length best) (length (segment t))) (ltb (length (segment t)) (length seg)) (ends_with nat_eq seg (segment t)) refl f)
+      (Fits-better seg best (segment t) (ltb (length best) (length (segment t))) (ltb (length (segment t)) (length seg))
+      (ends_with nat_eq seg (segment t)) refl f)
 
   -- the row is among these
   abbrev pub In : (List ℕ × K) → RowsOf K → Type 0
@@ -80,7 +82,8 @@ module _ {K : Type 0} where
     pub some : 0 < n
     pub piece : IsPiece (take n path)
 
-  param_in-at : (rs : RowsOf K) (b : ℕ) (p : List ℕ) (t : List ℕ) (k : K) (s : List ℕ) → Fits (segment (b ∷ p)) s → (v w : Bool) → ltb 0 (length s) ≡ v → has_slash (b ∷ p) ≡ w
+  param_in-at : (rs : RowsOf K) (b : ℕ) (p : List ℕ) (t : List ℕ) (k : K) (s : List ℕ) → Fits (segment (b ∷ p)) s → (v w : Bool) → ltb 0 (length s) ≡ v
+      → has_slash (b ∷ p) ≡ w
       → In (t, k) (cond {A = ℕ × RowsOf K} v (length (segment (b ∷ p)) - length s, with_suffix s rs) (cond w (0, []) (length (b ∷ p), rs))).1
       → Ends rs (b ∷ p) (cond {A = ℕ × RowsOf K} v (length (segment (b ∷ p)) - length s, with_suffix s rs) (cond w (0, []) (length (b ∷ p), rs))).0 t k
   unfolding Fits
@@ -91,7 +94,11 @@ module _ {K : Type 0} where
       let some : 0 < n = omega arith in
       record { row = with_in s rs (t, k) h; some = some; piece = (omega (arith, length-take n (b ∷ p)), slash_free (b ∷ p) n (omega arith)) }
   param_in-at rs b p t k s fits false true e f h = absurd h
-  param_in-at rs b p t k s fits false false e f h = record { row = h; some = omega arith; piece = subst IsPiece (sym (take_all (length (b ∷ p)) (b ∷ p) (le_refl (length (b ∷ p))))) (omega arith, f) }
+  param_in-at rs b p t k s fits false false e f h = record {
+    row = h;
+    some = omega arith;
+    piece = subst IsPiece (sym (take_all (length (b ∷ p)) (b ∷ p) (le_refl (length (b ∷ p))))) (omega arith, f);
+  }
 
   param_in : (rs : RowsOf K) (b : ℕ) (p : List ℕ) (t : List ℕ) (k : K) → In (t, k) (param_step rs (b ∷ p)).1 → Ends rs (b ∷ p) (param_step rs (b ∷ p)).0 t k
   unfolding param_step Fits
@@ -123,7 +130,8 @@ module _ {K : Type 0} where
   after_lit : (b : ℕ) (path : List ℕ) (rs : RowsOf K) (k : K) → b < 256 → Found 0 (step b rs) path k → Found 0 rs (b ∷ path) k
   after_lit b path rs k byte x = (b ∷ x.0, step_in b rs x.0 k x.1, inl (byte, path, refl, x.2))
 
-  after_param_found : (b : ℕ) (path : List ℕ) (rs : RowsOf K) (k : K) → Found ((param_step (step param_token rs) (b ∷ path)).0 - 1) (param_step (step param_token rs) (b ∷ path)).1 path k
+  after_param_found : (b : ℕ) (path : List ℕ) (rs : RowsOf K) (k : K)
+      → Found ((param_step (step param_token rs) (b ∷ path)).0 - 1) (param_step (step param_token rs) (b ∷ path)).1 path k
       → Found 0 rs (b ∷ path) k
   after_param_found b path rs k x =
       let at = param_in (step param_token rs) b path x.0 k x.1 in
@@ -131,7 +139,14 @@ module _ {K : Type 0} where
       let one : n ≡ suc (n - 1) = omega (arith, at.some) in (
         256 ∷ x.0,
         step_in 256 rs x.0 k at.row,
-        inr (inl (refl, take n (b ∷ path), drop (n - 1) path, sym (take-append-drop n (b ∷ path)) ∙ ap (λ m. take n (b ∷ path) ++ drop m (b ∷ path)) one, at.piece, x.2)),
+        inr (inl (
+          refl,
+          take n (b ∷ path),
+          drop (n - 1) path,
+          sym (take-append-drop n (b ∷ path)) ∙ ap (λ m. take n (b ∷ path) ++ drop m (b ∷ path)) one,
+          at.piece,
+          x.2,
+        )),
       )
 
   after_all : (path : List ℕ) (rs : RowsOf K) (k : K) → own (step catch_all_token rs) ≡ Some k → Found 0 rs path k
@@ -145,7 +160,9 @@ module _ {K : Type 0} where
   seek_sound (b ∷ path) zero rs k bytes e =
       let lit = seek_sound path 0 (step b rs) k bytes.1 in
       let param = seek_sound path ((param_step (step param_token rs) (b ∷ path)).0 - 1) (param_step (step param_token rs) (b ∷ path)).1 k bytes.1 in
-      choose (seek 0 (step b rs) path) (seek ((param_step (step param_token rs) (b ∷ path)).0 - 1) (param_step (step param_token rs) (b ∷ path)).1 path) (own (step catch_all_token rs)) k e
+      choose (seek 0 (step b rs) path)
+      (seek ((param_step (step param_token rs) (b ∷ path)).0 - 1) (param_step (step param_token rs) (b ∷ path)).1 path)
+      (own (step catch_all_token rs)) k e
       (λ h. after_lit b path rs k bytes.0 (lit h)) (λ h. after_param_found b path rs k (param h)) (λ h. after_all (b ∷ path) rs k h)
 
   -- ---- the other direction: a piece at the end
@@ -157,7 +174,10 @@ module _ {K : Type 0} where
   seek_none zero (b ∷ path) = none_at (has_slash (b ∷ path)) (seek_none 0 path) (λ n. seek_none n path)
     where
       none_at : (v : Bool) → seek {K = K} 0 [] path ≡ None → ((n : ℕ) → seek {K = K} n [] path ≡ None)
-          → or_else (seek {K = K} 0 [] path) (or_else (seek ((cond {A = ℕ × RowsOf K} v (0, []) (length (b ∷ path), [])).0 - 1) (cond {A = ℕ × RowsOf K} v (0, []) (length (b ∷ path), [])).1 path) None) ≡ None
+          → or_else (seek {K = K} 0 [] path)
+          (or_else
+          (seek ((cond {A = ℕ × RowsOf K} v (0, []) (length (b ∷ path), [])).0 - 1)
+          (cond {A = ℕ × RowsOf K} v (0, []) (length (b ∷ path), [])).1 path) None) ≡ None
       none_at true x again = rw x refl
       none_at false x again = rw (x, again (length (b ∷ path) - 1)) refl
 

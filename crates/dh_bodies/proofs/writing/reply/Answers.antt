@@ -15,4 +15,6 @@ text_is code text = refl
 pub returns : goal.returns
 returns c =
     let built = c.in_ok-value.ensures in
-    IfOk-weaker c.to_string.result _ _ (λ s h. h (ap has_float built ∙ no_float c.args.code c.args.text.now) ∙ ap compact_text built ∙ text_is c.args.code c.args.text.now) c.to_string.ensures.text
+    IfOk-weaker c.to_string.result _ _
+    (λ s h. h (ap has_float built ∙ no_float c.args.code c.args.text.now) ∙ ap compact_text built ∙ text_is c.args.code c.args.text.now)
+    c.to_string.ensures.text

@@ -16,4 +16,7 @@ returns-clause-whole g c =
     let start = prepend_known front (g.R.Read.remaining c.args.reader.now) in
     IfOk-weaker c.fill.result (FillsOrEnds start (g.R.Read.remaining c.fill.new.reader) c.fill.new.buffer) _
     (λ whole x. filled (g.R.Read.remaining c.args.reader.now) (g.R.Read.remaining c.fill.new.reader) front c.fill.new.buffer whole x)
-    (c.fill.ensures.bytes start (subst (Consumes start (g.R.Read.remaining c.args.reader.now)) (sym (placed (length front) c.args.body.now front c.copy_from_slice-2.new.self c.copy_from_slice-2.ensures.after)) (after_front (g.R.Read.remaining c.args.reader.now) front)))
+    (c.fill.ensures.bytes start
+    (subst (Consumes start (g.R.Read.remaining c.args.reader.now))
+    (sym (placed (length front) c.args.body.now front c.copy_from_slice-2.new.self c.copy_from_slice-2.ensures.after))
+    (after_front (g.R.Read.remaining c.args.reader.now) front)))

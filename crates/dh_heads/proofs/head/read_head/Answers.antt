@@ -16,4 +16,6 @@ returns-then-spans-gt-HEAD_BYTES-clause-input g c =
 pub returns-clause-input : goal.returns-clause-input
 returns-clause-input g c =
     lift _ _ _ (λ input after. IsLargeHead input) c.loop-filled.invariant.read
-    (λ input after e. full_more (take c.loop-filled.filled c.loop-filled.buffer) after e (omega (arith, length-take {A = ℕ})) (c.loop-filled.invariant.unfinished (omega arith)))
+    (λ input after e.
+    full_more (take c.loop-filled.filled c.loop-filled.buffer) after e (omega (arith, length-take {A = ℕ}))
+    (c.loop-filled.invariant.unfinished (omega arith)))

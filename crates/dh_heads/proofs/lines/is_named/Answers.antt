@@ -15,4 +15,5 @@ pub returns : goal.returns
 returns c =
     let a = map to_ascii_lowercase c.args.name.now in
     let b = map to_ascii_lowercase c.args.wanted.now in
-    decided c.eq_ignore_ascii_case.result (pointwise nat_eq a b) (a ≡ b) c.eq_ignore_ascii_case.ensures.test (λ e. same_text a b (sym e)) (λ e. other_text a b (sym e))
+    decided c.eq_ignore_ascii_case.result (pointwise nat_eq a b) (a ≡ b) c.eq_ignore_ascii_case.ensures.test
+    (λ e. same_text a b (sym e)) (λ e. other_text a b (sym e))

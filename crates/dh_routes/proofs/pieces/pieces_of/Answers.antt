@@ -23,7 +23,8 @@ parted target first second x e f =
 pub returns-in-Matching : goal.returns-in-Matching
 returns-in-Matching c =
     let target = c.args.target.now in
-    let all : take (length target - 10) (drop 10 target) ≡ drop 10 target = take_all (length target - 10) (drop 10 target) (omega (arith, length-drop 10 target)) in
+    let all : take (length target - 10) (drop 10 target) ≡ drop 10 target =
+    take_all (length target - 10) (drop 10 target) (omega (arith, length-drop 10 target)) in
     let is : c.args.route ≡ Matching = c.in-Matching.is in
     subst (λ route. HasPieces route target c.cut.result.0.now c.cut.result.1.now) (sym is)
     (parted target c.cut.result.0.now c.cut.result.1.now (subst (λ route. IsTarget route target) is c.requires)
