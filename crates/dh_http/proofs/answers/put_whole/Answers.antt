@@ -10,4 +10,5 @@ returns-in_err-put_head g c =
 
 pub returns : goal.returns
 returns g c =
-    goes_on c.put.result _ _ _ (head_text c.args.status c.args.content (length c.args.body.now) c.args.allow.now) c.args.body.now c.in_ok-put_head.ensures c.put.ensures
+    goes_on c.put.result _ _ _ (head_text c.args.status c.args.content (length c.args.body.now) c.args.allow.now) c.args.body.now
+    c.in_ok-put_head.ensures c.put.ensures

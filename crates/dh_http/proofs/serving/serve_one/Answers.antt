@@ -39,7 +39,8 @@ returns-in-Some-Fields-Ok-Command-clause-crash g c clean live left =
     let it = asked.Fields (Ok (request.Command w.command)) in
     let is = w.is ∙ ap Some (w.field-0-is ∙ ap asked.Fields (w.field-0-0-is ∙ ap Ok w.field-0-0-0-is)) in
     let may = may_of (g.R.Read.remaining c.args.reader.now) _ it is c.in_ok-read_request.ensures in
-    leaves_served_more g.S.Store c.args.agency.now c.carry_out-served.new.agency _ (λ x. IfSome (g.R.Read.remaining c.args.reader.now) (λ input. MayAsk input x))
+    leaves_served_more g.S.Store c.args.agency.now c.carry_out-served.new.agency _
+    (λ x. IfSome (g.R.Read.remaining c.args.reader.now) (λ input. MayAsk input x))
     (λ x same. subst (λ y. IfSome (g.R.Read.remaining c.args.reader.now) (λ input. MayAsk input y)) (sym same) may)
     (c.carry_out-served.ensures.crash clean live left)
 
