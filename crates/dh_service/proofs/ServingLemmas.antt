@@ -1,6 +1,6 @@
--- One request more.
-use Rattle.std.proofs.Common.{◌≡◌, ◌∙◌, ◌⊎◌, ◌++◌, [], ◌∷◌, ℕ, Bool, true, false, List, Option, Result, Ok, Err, ap, inl, inr, refl, subst, sym}
-use Rattle.std.specs.Prelude.{⊤}
+-- One connection more.
+use Rattle.std.proofs.Common.{◌≡◌, ◌≢◌, ◌∙◌, ◌⊎◌, ◌++◌, [], ◌∷◌, ℕ, Bool, true, false, List, Option, Some, None, Result, Ok, Err, ap, append_assoc}
+use Rattle.std.proofs.Common.{append-nil, inl, inr, refl, subst, sym}
 use Rattle.std.specs.Io.KnownBytes.{Appends}
 use Rattle.sqlite.specs.Store.{Ghosts}
 use Rattle.dh_types.specs.Output.{BreaksOff}
@@ -8,7 +8,7 @@ use Rattle.dh_model.specs.Books.{State}
 use Rattle.dh_model.specs.Runs.{batch_size}
 use Rattle.dh_model.specs.Whole.{whole}
 use Rattle.dh_agency.specs.Seat.{Seat}
-use Rattle.dh_agency.specs.Agency.{IsOpen, Leaves, LeavesItsTables, machine}
+use Rattle.dh_agency.specs.Agency.{IsClean, IsOpen, Leaves, LeavesItsTables, machine}
 use Rattle.dh_fields.specs.declared.request.Request.TheVariants.{Command as Ordered, Question}
 use Rattle.dh_lines.specs.Batch.{stand}
 use Rattle.dh_lines.proofs.CrashLemmas.{leaves_more, leaves_what_holds, place}
@@ -16,59 +16,50 @@ use Rattle.dh_requests.specs.declared.asked.Asked.{Asked}
 use Rattle.dh_requests.specs.declared.asked.Asked.TheVariants.{Turned, Fields}
 use Rattle.dh_http.specs.declared.fault.NetFault.{NetFault}
 use Rattle.dh_http.specs.declared.fault.NetFault.TheVariants.{Closed, Input, Output, Memory}
-use Rattle.dh_http.specs.Served.{IsLeftBy, IsServed, LeavesServed, Serves, served}
-use Rattle.dh_service.specs.Service.{IsAfterSome, IsServing, state_after}
+use Rattle.dh_http.specs.Served.{IsLeftBy, IsServed, LeavesServed, Serves, StopsBy, served}
+use Rattle.dh_service.specs.Service.{Answered, AreTold, Contact, IsAfterSome, IsHalt, IsServing, Lost, ServesOn, Unheard, outcome_of, outcomes_of}
+use Rattle.dh_service.specs.Service.{state_after, state_behind}
 
--- one more that was asked
-pub after_more : (s : State) (asked : List Asked) (it : Asked) → state_after s (asked ++ it ∷ []) ≡ (served (state_after s asked) it).state
+-- ---- one contact more
+
+pub after_more : (s : State) (contacts : List Contact) (it : Contact) → state_after s (contacts ++ it ∷ []) ≡ state_behind (state_after s contacts) it
 after_more s [] it = refl
-after_more s (first ∷ asked) it = after_more (served s first).state asked it
+after_more s (first ∷ contacts) it = after_more (state_behind s first) contacts it
 
-module _ {S : Type 0} (g : Ghosts S) (s : State) (old : Seat S) (asked : List Asked) (stands : stand g old ≡ state_after s asked) where
+pub outcomes_more : (s : State) (contacts : List Contact) (it : Contact)
+    → outcomes_of s (contacts ++ it ∷ []) ≡ outcomes_of s contacts ++ outcome_of (state_after s contacts) it ∷ []
+outcomes_more s [] it = refl
+outcomes_more s (first ∷ contacts) it = ap (λ l. outcome_of s first ∷ l) (outcomes_more (state_behind s first) contacts it)
+
+-- what is told of a connection that ended so
+abbrev pub told_of : Result ℕ NetFault → Option ℕ
+told_of (Ok status) = Some status
+told_of (Err why) = None
+
+module _ {S : Type 0} (g : Ghosts S) (s : State) (before : List (Option ℕ)) (old : Seat S) (contacts : List Contact)
+    (are : before ≡ outcomes_of s contacts) (stands : stand g old ≡ state_after s contacts) where
+  next_state : (it : Contact) (t : State) → t ≡ state_behind (stand g old) it → t ≡ state_after s (contacts ++ it ∷ [])
+  next_state it t is = is ∙ ap (λ z. state_behind z it) stands ∙ sym (after_more s contacts it)
+
+  next_outcomes : (it : Contact) (outcome : Option ℕ) → outcome ≡ outcome_of (stand g old) it
+      → before ++ outcome ∷ [] ≡ outcomes_of s (contacts ++ it ∷ [])
+  next_outcomes it outcome is =
+      ap (λ l. l ++ outcome ∷ []) are ∙ ap (λ o. outcomes_of s contacts ++ o ∷ []) (is ∙ ap (λ z. outcome_of z it) stands)
+      ∙ sym (outcomes_more s contacts it)
+
   -- the tables as they were
   same_some : (left : State) → left ≡ machine g old → IsAfterSome s left
-  same_some left is = (asked, ap (λ (t : State). whole batch_size t.books) is ∙ ap (λ (t : State). t.books) stands)
-
-  next_stand : (t : State) (it : Asked) → t ≡ (served (stand g old) it).state → t ≡ state_after s (asked ++ it ∷ [])
-  next_stand t it is = is ∙ ap (λ z. (served z it).state) stands ∙ sym (after_more s asked it)
+  same_some left is = (contacts, ap (λ (t : State). whole batch_size t.books) is ∙ ap (λ (t : State). t.books) stands)
 
   -- those of a command that is cut
   left_some : (it : Asked) (left : State) → IsLeftBy it (machine g old) left → IsAfterSome s left
-  left_some (Fields (Ok (Ordered command))) left (inl undone) = (asked, undone.books ∙ ap (λ (t : State). t.books) stands)
-  left_some (Fields (Ok (Ordered command))) left (inr done) = (
-    asked ++ Fields (Ok (Ordered command)) ∷ [],
-    done.books ∙ ap (λ (t : State). t.books) (next_stand (served (stand g old) (Fields (Ok (Ordered command)))).state (Fields (Ok (Ordered command))) refl),
-  )
+  left_some (Fields (Ok (Ordered command))) left (inl undone) = (contacts, undone.books ∙ ap (λ (t : State). t.books) stands)
+  left_some (Fields (Ok (Ordered command))) left (inr done) =
+      let it : Contact = Unheard (Fields (Ok (Ordered command))) in
+      (contacts ++ it ∷ [], done.books ∙ ap (λ (t : State). t.books) (next_state it (state_behind (stand g old) it) refl))
   left_some (Fields (Ok (Question question))) left is = same_some left is
   left_some (Fields (Err why)) left is = same_some left is
   left_some (Turned why) left is = same_some left is
-
-  module _ (new : Seat S) (rests : new.is_stopped ≡ false → LeavesItsTables g new) (left : Leaves g new (IsAfterSome s)) where
-    at_stand : (after : List Asked) → stand g new ≡ state_after s after → IsServing g s new
-    at_stand after is = record {
-      reads = λ is_open. (after, ap (λ (t : State). t.books) is);
-      left = left;
-      rests = λ live. (rests live, (after, is));
-    }
-
-    stopped_at : (it : Asked) → new.is_stopped ≡ true → (IsOpen g new → IsLeftBy it (machine g old) (machine g new)) → IsServing g s new
-    stopped_at it stopped reads = record {
-      reads = λ is_open. left_some it (machine g new) (reads is_open);
-      left = left;
-      rests = λ live. cc;
-    }
-
-    by_served : (it : Asked) (status : ℕ) (Writes : List ℕ → Type 0) → IsServed g old new it status Writes → IsServing g s new
-    by_served it status Writes (IsServed.Told written state is) = at_stand (asked ++ it ∷ []) (next_stand (stand g new) it state)
-    by_served it status Writes (IsServed.Faulted fault written is stopped reads told) = stopped_at it stopped reads
-
-    by_result : (was : IsServing g s old) (May : Asked → Type 0) (a b : Option (List ℕ)) (r : Result ℕ NetFault) → Serves g old new May a b r → IsServing g s new
-    by_result was May a b (Ok status) h = by_served h.0 status (Appends a b) h.2
-    by_result was May a b (Err Output) h = by_served h.0 h.1 (BreaksOff a b) h.3
-    by_result was May a b (Err Closed) h = subst (IsServing g s) (sym h.1) was
-    by_result was May a b (Err Input) h = subst (IsServing g s) (sym h.1) was
-    by_result was May a b (Err (Memory true)) h = at_stand (asked ++ h.0 ∷ []) (next_stand (stand g new) h.0 h.4)
-    by_result was May a b (Err (Memory false)) h = at_stand asked (ap place h.1 ∙ stands)
 
   crash_some : (new : Seat S) (May : Asked → Type 0) → LeavesServed g old new May → Leaves g new (IsAfterSome s)
   crash_some new May h = leaves_more g new _ (IsAfterSome s) some h
@@ -77,22 +68,117 @@ module _ {S : Type 0} (g : Ghosts S) (s : State) (old : Seat S) (asked : List As
       some left (inl is) = same_some left is
       some left (inr x) = left_some x.0 left x.2
 
--- nothing was asked yet
-pub begins : {S : Type 0} (g : Ghosts S) (a : Seat S) → LeavesItsTables g a → IsServing g (stand g a) a
-begins g a rests = record {
-  reads = λ is_open. ([], refl);
-  left = leaves_what_holds g a (IsAfterSome (stand g a)) rests ([], refl);
-  rests = λ live. (rests, ([], refl));
+  module _ (live : old.is_stopped ≡ false) (new : Seat S) (rests : new.is_stopped ≡ false → LeavesItsTables g new) (left : Leaves g new (IsAfterSome s)) where
+    -- the agency goes on
+    goes_on : (it : Contact) (outcome : Option ℕ) → outcome ≡ outcome_of (stand g old) it → stand g new ≡ state_behind (stand g old) it
+        → new.is_stopped ≡ false → IsServing g s (before ++ outcome ∷ []) new
+    goes_on it outcome told is goes =
+        let after = next_state it (stand g new) is in
+        record {
+          told = AreTold.GoesOn (contacts ++ it ∷ []) (next_outcomes it outcome told) after goes;
+          reads = λ is_open. (contacts ++ it ∷ [], ap (λ (t : State). t.books) after);
+          left = left;
+          rests = rests;
+        }
+
+    -- it has stopped
+    halts : (outcome : Option ℕ) → IsHalt outcome → new.is_stopped ≡ true → (IsOpen g new → IsAfterSome s (machine g new))
+        → IsServing g s (before ++ outcome ∷ []) new
+    halts outcome halt stopped reads = record {
+      told = AreTold.HasStopped contacts outcome [] (ap (λ l. l ++ outcome ∷ []) are) halt stopped;
+      reads = reads;
+      left = left;
+      rests = rests;
+    }
+
+    reads_on : (it : Asked) → stand g new ≡ (served (stand g old) it).state → IsAfterSome s (machine g new)
+    reads_on it is = (contacts ++ Unheard it ∷ [], ap (λ (t : State). t.books) (next_state (Unheard it) (stand g new) is))
+
+    by_answer : (it : Asked) (status : ℕ) (Writes : List ℕ → Type 0) → IsServed g old new it status Writes → StopsBy old new (Ok status)
+        → IsServing g s (before ++ Some status ∷ []) new
+    by_answer it status Writes (IsServed.Told written state is) (inl on) = goes_on (Answered it) (Some status) (ap Some is) state (on.1 ∙ live)
+    by_answer it status Writes (IsServed.Told written state is) (inr at) = halts (Some status) at.0 at.1 (λ is_open. reads_on it state)
+    by_answer it status Writes (IsServed.Faulted fault written is stopped reads told) stops =
+        halts (Some status) told stopped (λ is_open. left_some it (machine g new) (reads is_open))
+
+    by_lost_answer : (it : Asked) (status : ℕ) (Writes : List ℕ → Type 0) → IsServed g old new it status Writes → IsServing g s (before ++ None ∷ []) new
+    by_lost_answer it status Writes (IsServed.Told written state is) = by new.is_stopped refl
+      where
+        by : (v : Bool) → new.is_stopped ≡ v → IsServing g s (before ++ None ∷ []) new
+        by false goes = goes_on (Unheard it) None refl state goes
+        by true stopped = halts None tt stopped (λ is_open. reads_on it state)
+    by_lost_answer it status Writes (IsServed.Faulted fault written is stopped reads told) =
+        halts None tt stopped (λ is_open. left_some it (machine g new) (reads is_open))
+
+    same_as : new ≡ old → IsServing g s (before ++ None ∷ []) new
+    same_as is = goes_on Lost None refl (ap (stand g) is) (ap (λ (a : Seat S). a.is_stopped) is ∙ live)
+
+    by_result : (May : Asked → Type 0) (a b : Option (List ℕ)) (r : Result ℕ NetFault) → Serves g old new May a b r → StopsBy old new r
+        → IsServing g s (before ++ told_of r ∷ []) new
+    by_result May a b (Ok status) h stops = by_answer h.0 status (Appends a b) h.2 stops
+    by_result May a b (Err Output) h stops = by_lost_answer h.0 h.1 (BreaksOff a b) h.3
+    by_result May a b (Err Closed) h stops = same_as h.1
+    by_result May a b (Err Input) h stops = same_as h.1
+    by_result May a b (Err (Memory true)) h stops = goes_on (Unheard h.0) None refl h.4 (stops ∙ live)
+    by_result May a b (Err (Memory false)) h stops = goes_on Lost None refl (ap place h.1) (stops ∙ live)
+
+-- ---- from one connection to the next
+
+-- an agency that has stopped tells more
+halted_more : {S : Type 0} (g : Ghosts S) (s : State) (before : List (Option ℕ)) (a : Seat S) (contacts : List Contact) (halt outcome : Option ℕ)
+    (more : List (Option ℕ)) → before ≡ outcomes_of s contacts ++ halt ∷ more → IsHalt halt → a.is_stopped ≡ true → IsServing g s before a
+    → IsServing g s (before ++ outcome ∷ []) a
+halted_more g s before a contacts halt outcome more are halts stopped was = record {
+  told =
+      AreTold.HasStopped contacts halt (more ++ outcome ∷ [])
+      (ap (λ l. l ++ outcome ∷ []) are ∙ append_assoc (outcomes_of s contacts) (halt ∷ more) (outcome ∷ [])) halts stopped;
+  reads = was.reads;
+  left = was.left;
+  rests = was.rests;
 }
 
--- a request was served
-pub serves_on : {S : Type 0} (g : Ghosts S) (s : State) (old new : Seat S) (May : Asked → Type 0) (a b : Option (List ℕ)) (r : Result ℕ NetFault)
-    → Serves g old new May a b r → (old.is_stopped ≡ false → LeavesItsTables g old → LeavesServed g old new May)
-    → (LeavesItsTables g old → new.is_stopped ≡ false → LeavesItsTables g new) → (old.is_stopped ≡ true → new ≡ old) → IsServing g s old → IsServing g s new
-serves_on g s old new May a b r serves crash rests stopped was = by old.is_stopped refl
+-- a connection was lost before anything was asked
+pub lost_more : {S : Type 0} (g : Ghosts S) (s : State) (before : List (Option ℕ)) (a : Seat S) → IsServing g s before a
+    → IsServing g s (before ++ None ∷ []) a
+lost_more g s before a was = by was.told
   where
-    by : (v : Bool) → old.is_stopped ≡ v → IsServing g s new
-    by true dead = subst (IsServing g s) (sym (stopped dead)) was
-    by false live =
-        let at = was.rests live in
-        by_result g s old at.1.0 at.1.1 new (rests at.0) (crash_some g s old at.1.0 at.1.1 new May (crash live at.0)) was May a b r serves
+    by : AreTold s before (stand g a) a.is_stopped → IsServing g s (before ++ None ∷ []) a
+    by (AreTold.GoesOn contacts are stands live) = goes_on g s before a contacts are stands live a was.rests was.left Lost None refl refl live
+    by (AreTold.HasStopped contacts halt more are halts stopped) = halted_more g s before a contacts halt None more are halts stopped was
+
+-- a request was served
+pub serves_on : {S : Type 0} (g : Ghosts S) (s : State) (before : List (Option ℕ)) (old new : Seat S) (May : Asked → Type 0) (a b : Option (List ℕ))
+    (r : Result ℕ NetFault) → Serves g old new May a b r → (old.is_stopped ≡ false → LeavesItsTables g old → LeavesServed g old new May)
+    → (LeavesItsTables g old → new.is_stopped ≡ false → LeavesItsTables g new) → StopsBy old new r → (old.is_stopped ≡ true → new ≡ old)
+    → IsServing g s before old → IsServing g s (before ++ told_of r ∷ []) new
+serves_on g s before old new May a b r serves crash rests stops same was = by was.told
+  where
+    by : AreTold s before (stand g old) old.is_stopped → IsServing g s (before ++ told_of r ∷ []) new
+    by (AreTold.GoesOn contacts are stands live) =
+        let left = crash_some g s before old contacts are stands new May (crash live (was.rests live)) in
+        by_result g s before old contacts are stands live new (rests (was.rests live)) left May a b r serves stops
+    by (AreTold.HasStopped contacts halt more are halts stopped) =
+        subst (IsServing g s (before ++ told_of r ∷ [])) (sym (same stopped))
+        (halted_more g s before old contacts halt (told_of r) more are halts stopped was)
+
+-- ---- several connections
+
+-- nothing was asked yet
+pub begins : {S : Type 0} (g : Ghosts S) (a : Seat S) → a.is_stopped ≡ false → LeavesItsTables g a → IsServing g (stand g a) [] a
+begins g a live rests = record {
+  told = AreTold.GoesOn [] refl refl live;
+  reads = λ is_open. ([], refl);
+  left = leaves_what_holds g a (IsAfterSome (stand g a)) rests ([], refl);
+  rests = λ goes. rests;
+}
+
+pub serves_none : {S : Type 0} (g : Ghosts S) (a : Seat S) → ServesOn g a a []
+serves_none g a s before was clean = subst (λ l. IsServing g s l a) (sym (append-nil before)) (was clean)
+
+pub serves_lost : {S : Type 0} (g : Ghosts S) (a : Seat S) → ServesOn g a a (None ∷ [])
+serves_lost g a s before was clean = lost_more g s before a (was clean)
+
+pub serves_both : {S : Type 0} (g : Ghosts S) (old mid new : Seat S) (first second : List (Option ℕ)) → ServesOn g old mid first → ServesOn g mid new second
+    → ServesOn g old new (first ++ second)
+serves_both g old mid new first second one two s before was clean =
+    subst (λ l. IsServing g s l new) (append_assoc before first second) (two s (before ++ first) (λ at. one s before was at) clean)

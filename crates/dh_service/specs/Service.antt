@@ -1,27 +1,67 @@
--- What serving requests leaves, whatever they are and whenever a crash comes.
-use Rattle.std.specs.Prelude.{◌≡◌, false, List, [], ◌∷◌}
+-- What serving connections leaves, whatever peers send and whenever a crash comes, and what is told of each connection.
+use Rattle.std.specs.Prelude.{◌≡◌, ℕ, Bool, true, false, ⊤, List, [], ◌∷◌, ◌++◌, Option, Some, None}
 use Rattle.sqlite.specs.Store.{Ghosts}
 use Rattle.dh_model.specs.Books.{State}
 use Rattle.dh_model.specs.Runs.{batch_size}
 use Rattle.dh_model.specs.Whole.{whole}
 use Rattle.dh_agency.specs.Seat.{Seat}
-use Rattle.dh_agency.specs.Agency.{IsOpen, Leaves, LeavesItsTables, machine}
+use Rattle.dh_agency.specs.Agency.{IsClean, IsOpen, Leaves, LeavesItsTables, machine}
 use Rattle.dh_lines.specs.Batch.{stand}
 use Rattle.dh_requests.specs.declared.asked.Asked.{Asked}
 use Rattle.dh_http.specs.Served.{served}
 
--- where the machine stands after what was asked, one after the other
-abbrev pub state_after : State → List Asked → State
+-- What became of a connection: what was asked was answered; or it was dealt with, and its answer was lost; or nothing was dealt with.
+pub data Contact : Type 0 where
+  Answered : Asked → Contact
+  Unheard : Asked → Contact
+  Lost : Contact
+
+-- where the machine stands behind it
+abbrev pub state_behind : State → Contact → State
+state_behind s (Answered it) = (served s it).state
+state_behind s (Unheard it) = (served s it).state
+state_behind s Lost = s
+
+-- and behind several, one after the other
+abbrev pub state_after : State → List Contact → State
 state_after s [] = s
-state_after s (it ∷ rest) = state_after (served s it).state rest
+state_after s (it ∷ rest) = state_after (state_behind s it) rest
 
--- the whole of these books is the machine's after something that was asked
+-- what is told of it: the status of its answer, if it was answered
+abbrev pub outcome_of : State → Contact → Option ℕ
+outcome_of s (Answered it) = Some (served s it).answer.status
+outcome_of s (Unheard it) = None
+outcome_of s Lost = None
+
+abbrev pub outcomes_of : State → List Contact → List (Option ℕ)
+outcomes_of s [] = []
+outcomes_of s (it ∷ rest) = outcome_of s it ∷ outcomes_of (state_behind s it) rest
+
+-- so an agency ends that meets a fault: with answer 503, or with an answer that was lost
+abbrev pub IsHalt : Option ℕ → Type 0
+IsHalt (Some status) = status ≡ 503
+IsHalt None = ⊤
+
+-- What was told is told of such contacts, and the machine stands behind them; or behind some contacts the agency has stopped, and more was told.
+pub data AreTold (s : State) (outcomes : List (Option ℕ)) (now : State) (is_stopped : Bool) : Type 0 where
+  GoesOn : (contacts : List Contact) → outcomes ≡ outcomes_of s contacts → now ≡ state_after s contacts → is_stopped ≡ false
+      → AreTold s outcomes now is_stopped
+  HasStopped : (contacts : List Contact) (halt : Option ℕ) (more : List (Option ℕ)) → outcomes ≡ outcomes_of s contacts ++ halt ∷ more → IsHalt halt
+      → is_stopped ≡ true → AreTold s outcomes now is_stopped
+
+-- the whole of these books is the machine's behind some contacts
 abbrev pub IsAfterSome : State → State → Type 0
-IsAfterSome s left = (asked : List Asked) × (whole batch_size left.books ≡ (state_after s asked).books)
+IsAfterSome s left = (contacts : List Contact) × (whole batch_size left.books ≡ (state_after s contacts).books)
 
--- From where the machine stood, requests were served: the tables that can be read, and those that a crash leaves, are the machine's after
--- some that were asked; and while the agency goes on, it stands where the machine stands.
-pub record IsServing {S : Type 0} (g : Ghosts S) (s : State) (a : Seat S) : Type 0 where
+-- From where the machine stood, connections were served, and these outcomes told: the tables that can be read, and those that a crash leaves,
+-- are the machine's behind some contacts.
+pub record IsServing {S : Type 0} (g : Ghosts S) (s : State) (outcomes : List (Option ℕ)) (a : Seat S) : Type 0 where
+  pub told : AreTold s outcomes (stand g a) a.is_stopped
   pub reads : IsOpen g a → IsAfterSome s (machine g a)
   pub left : Leaves g a (IsAfterSome s)
-  pub rests : a.is_stopped ≡ false → LeavesItsTables g a × ((asked : List Asked) × (stand g a ≡ state_after s asked))
+  pub rests : a.is_stopped ≡ false → LeavesItsTables g a
+
+-- an agency that was serving has served more
+abbrev pub ServesOn : {S : Type 0} → Ghosts S → Seat S → Seat S → List (Option ℕ) → Type 0
+ServesOn g old new outcomes =
+    (s : State) (before : List (Option ℕ)) → (IsClean g old → IsServing g s before old) → IsClean g new → IsServing g s (before ++ outcomes) new

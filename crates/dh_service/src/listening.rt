@@ -1,9 +1,10 @@
 //! Listening at a port.
 
-ghost use Rattle.std.specs.Prelude.{◌≡◌};
-ghost use Rattle.dh_model.specs.Books.{State};
-ghost use Rattle.dh_agency.specs.Agency.{IsClean, WasClean};
-ghost use Rattle.dh_service.specs.Service.{IsServing};
+ghost use Rattle.std.specs.Prelude.{◌≡◌, ℕ, List, Option};
+ghost use Rattle.dh_agency.specs.Agency.{WasClean};
+ghost use Rattle.dh_types.specs.Output.{Puts};
+ghost use Rattle.dh_service.specs.Printed.{IsPortText, PrintsServed};
+ghost use Rattle.dh_service.specs.Service.{ServesOn};
 ghost use Rattle.dh_service.specs.declared.listening.Unserved.TheVariants as unserved;
 
 use crate::serving::serve_connections;
@@ -49,7 +50,13 @@ fn listen(rt: &HostRuntime, port: u16) -> Option<(TcpListener, u16)> {
     Some((listener, port))
 }
 
-fn print_port<W: Write>(writer: &mut W, port: u16) -> Result<(), Output> {
+// Prints the port that is listened at, where the system was to pick it.
+fn print_port<W: Write>(writer: &mut W, asked: u16, port: u16) -> Result<(), Output>
+    ensures { (text : List ℕ) × IsPortText asked text × Puts (W.contents writer.old) (W.contents writer.new) result text }
+{
+    if asked != 0 {
+        return Ok(());
+    }
     let mut digits = Buffer::new();
     put_parts(writer, &[b"port ", digits.format(port).as_bytes(), b"\n"])
 }
@@ -63,15 +70,14 @@ pub fn serve<S: Alter, W: Write>(
     service: Service,
     writer: &mut W,
 ) -> Result<(), Unserved>
-    ensures serving { (s : State) → (IsClean S.Store agency.old → IsServing S.Store s agency.old) → IsClean S.Store agency.new → IsServing S.Store s agency.new }
+    ensures served { (outcomes : List (Option ℕ)) × ServesOn S.Store agency.old agency.new outcomes
+        × PrintsServed service outcomes (W.contents writer.old) (W.contents writer.new) result }
     ensures was_clean { WasClean S.Store agency.old agency.new }
 {
     let Some((listener, port)) = listen(rt, service.port) else {
         return Err(Unserved::NoListener);
     };
-    if service.port == 0 {
-        print_port(writer, port)?;
-    }
+    print_port(writer, service.port, port)?;
     serve_connections(
         rt.alloc(),
         agency,

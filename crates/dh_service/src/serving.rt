@@ -1,12 +1,13 @@
 //! Serving connections, one after the other.
 
-ghost use Rattle.std.specs.Prelude.{◌≡◌};
-ghost use Rattle.dh_model.specs.Books.{State};
-ghost use Rattle.dh_agency.specs.Agency.{IsClean, WasClean};
-ghost use Rattle.dh_service.specs.Service.{IsServing};
+ghost use Rattle.std.specs.Prelude.{◌≡◌, ℕ, List, [], ◌∷◌, Option, Some, IsTrue, ◌↔◌};
+ghost use Rattle.dh_agency.specs.Agency.{WasClean};
+ghost use Rattle.dh_types.specs.Output.{Puts};
+ghost use Rattle.dh_service.specs.Printed.{PrintsBehind, outcome_line};
+ghost use Rattle.dh_service.specs.Service.{ServesOn};
 
 use crate::listening::Unserved;
-use crate::streams::{end_answered, limit_request};
+use crate::streams::{end_answered, limit_waits};
 use dh_agency::Agency;
 use dh_http::serve_one;
 use dh_types::Output;
@@ -24,7 +25,7 @@ fn serve_over<S: Alter, R: Read, W: Write>(
     reader: &mut R,
     writer: &mut W,
 ) -> Option<StatusCode>
-    ensures serving { (s : State) → (IsClean S.Store agency.old → IsServing S.Store s agency.old) → IsClean S.Store agency.new → IsServing S.Store s agency.new }
+    ensures on { ServesOn S.Store agency.old agency.new (result ∷ []) }
     ensures was_clean { WasClean S.Store agency.old agency.new }
 {
     match serve_one(alloc, agency, reader, writer) {
@@ -39,10 +40,10 @@ fn serve_connection<S: Alter>(
     agency: &mut Agency<S>,
     stream: &TcpStream,
 ) -> Option<StatusCode>
-    ensures serving { (s : State) → (IsClean S.Store agency.old → IsServing S.Store s agency.old) → IsClean S.Store agency.new → IsServing S.Store s agency.new }
+    ensures on { ServesOn S.Store agency.old agency.new (result ∷ []) }
     ensures was_clean { WasClean S.Store agency.old agency.new }
 {
-    if !limit_request(stream) {
+    if !limit_waits(stream) {
         return None;
     }
     let mut reader = stream;
@@ -58,7 +59,7 @@ fn serve_next<S: Alter>(
     agency: &mut Agency<S>,
     listener: &TcpListener,
 ) -> Option<StatusCode>
-    ensures serving { (s : State) → (IsClean S.Store agency.old → IsServing S.Store s agency.old) → IsClean S.Store agency.new → IsServing S.Store s agency.new }
+    ensures on { ServesOn S.Store agency.old agency.new (result ∷ []) }
     ensures was_clean { WasClean S.Store agency.old agency.new }
 {
     match listener.accept() {
@@ -68,7 +69,9 @@ fn serve_next<S: Alter>(
 }
 
 // Prints the status of a connection, or that it was lost.
-fn print_outcome<W: Write>(writer: &mut W, outcome: &Option<StatusCode>) -> Result<(), Output> {
+fn print_outcome<W: Write>(writer: &mut W, outcome: &Option<StatusCode>) -> Result<(), Output>
+    ensures { Puts (W.contents writer.old) (W.contents writer.new) result (outcome_line outcome.now) }
+{
     match outcome {
         Some(status) => put_parts(writer, &[status.as_str().as_bytes(), b"\n"]),
         None => put(writer, b"lost\n"),
@@ -76,7 +79,9 @@ fn print_outcome<W: Write>(writer: &mut W, outcome: &Option<StatusCode>) -> Resu
 }
 
 // The answer said that the agency has stopped.
-fn says_stopped(outcome: &Option<StatusCode>) -> bool {
+fn says_stopped(outcome: &Option<StatusCode>) -> bool
+    ensures { IsTrue result ↔ (outcome.now ≡ Some 503) }
+{
     match outcome {
         Some(status) => status.as_u16() == 503,
         None => false,
@@ -92,10 +97,11 @@ pub(crate) fn serve_connections<S: Alter, W: Write>(
     count: u32,
     writer: &mut W,
 ) -> Result<(), Unserved>
-    ensures serving { (s : State) → (IsClean S.Store agency.old → IsServing S.Store s agency.old) → IsClean S.Store agency.new → IsServing S.Store s agency.new }
+    ensures served { (outcomes : List (Option ℕ)) × ServesOn S.Store agency.old agency.new outcomes
+        × PrintsBehind count [] outcomes (W.contents writer.old) (W.contents writer.new) result }
     ensures was_clean { WasClean S.Store agency.old agency.new }
 {
-    for _ in 0..count {
+    for _served in 0..count {
         let outcome = serve_next(alloc, agency, listener);
         print_outcome(writer, &outcome)?;
         if says_stopped(&outcome) {

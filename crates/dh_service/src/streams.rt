@@ -4,8 +4,8 @@ use std::io::Read;
 use std::net::{Shutdown, TcpStream};
 use std::time::Duration;
 
-/// How many seconds a read of a request may take.
-const REQUEST_SECONDS: u64 = 30;
+/// How many seconds a read of a request, or a write of its answer, may wait for the peer.
+const PEER_SECONDS: u64 = 30;
 
 /// How many seconds a read of what comes behind a request may take.
 const REST_SECONDS: u64 = 1;
@@ -13,10 +13,10 @@ const REST_SECONDS: u64 = 1;
 /// How many bytes behind a request are read at most.
 const REST_BYTES: usize = 65_536;
 
-/// Lets no read of the request take longer than thirty seconds. False where the system refuses that.
-pub(crate) fn limit_request(stream: &TcpStream) -> bool {
-    let limit = Duration::from_secs(REQUEST_SECONDS);
-    stream.set_read_timeout(Some(limit)).is_ok()
+/// Lets no read and no write wait for the peer longer than thirty seconds. False where the system refuses that.
+pub(crate) fn limit_waits(stream: &TcpStream) -> bool {
+    let limit = Some(Duration::from_secs(PEER_SECONDS));
+    stream.set_read_timeout(limit).is_ok() && stream.set_write_timeout(limit).is_ok()
 }
 
 // Reads some bytes and gives how many; none at the end of input, and where the peer is slow or gone.

@@ -1,14 +1,48 @@
-use Rattle.std.proofs.Common.{arith}
+use Rattle.std.proofs.Common.{◌≡◌, ◌≢◌, ◌∙◌, [], ℕ, List, Option, Some, arith, rules, subst, sym}
+use Rattle.std.proofs.lemmas.Bool.{false≢true}
+use Rattle.dh_service.specs.Printed.{PrintsBehind}
+use Rattle.dh_service.specs.Service.{ServesOn}
+use Rattle.dh_service.proofs.PrintedLemmas.{is_output, served_more, served_none, served_to_break, served_to_halt}
 use Rattle.dh_service.proofs.serving.serve_connections.Goals as goal
 
-pub loop-preserved : goal.loop-preserved
-loop-preserved g c = record {
-  serving = λ s was clean. c.serve_next-outcome.ensures.serving s (c.loop.invariant.serving s was) clean;
-  was_clean = omega (arith, c.loop.invariant.was_clean, c.serve_next-outcome.ensures.was_clean);
+pub loop-served-init : goal.loop-served-init
+loop-served-init g c = record {
+  served = served_none g.S.Store c.args.agency.now (g.W.Write.contents c.args.writer.now);
+  was_clean = search rules;
 }
 
-pub returns-then-says_stopped-clause-serving : goal.returns-then-says_stopped-clause-serving
-returns-then-says_stopped-clause-serving g c s was clean = c.serve_next-outcome.ensures.serving s (c.loop.invariant.serving s was) clean
+pub loop-served-preserved : goal.loop-served-preserved
+loop-served-preserved g c =
+    let goes : c.serve_next-outcome.result ≢ Some 503 = λ is. false≢true (sym c.if-says_stopped.false ∙ c.says_stopped.ensures.1 is) in
+    record {
+      served =
+          served_more g.S.Store c.args.agency.now c.loop-served.agency c.serve_next-outcome.new.agency (g.W.Write.contents c.args.writer.now)
+          (g.W.Write.contents c.loop-served.writer) (g.W.Write.contents c.print_outcome.new.writer) c.loop-served._served c.serve_next-outcome.result
+          c.loop-served.invariant.served c.serve_next-outcome.ensures.on c.in_ok-print_outcome.ensures goes;
+      was_clean = omega (arith, c.loop-served.invariant.was_clean, c.serve_next-outcome.ensures.was_clean);
+    }
 
-pub returns-in_err-print_outcome-clause-serving : goal.returns-in_err-print_outcome-clause-serving
-returns-in_err-print_outcome-clause-serving g c s was clean = c.serve_next-outcome.ensures.serving s (c.loop.invariant.serving s was) clean
+pub returns-in_err-print_outcome-clause-served : goal.returns-in_err-print_outcome-clause-served
+returns-in_err-print_outcome-clause-served g c =
+    subst (λ r.
+    (outcomes : List (Option ℕ)) × ServesOn g.S.Store c.args.agency.now c.serve_next-outcome.new.agency outcomes
+    × PrintsBehind c.args.count [] outcomes (g.W.Write.contents c.args.writer.now) (g.W.Write.contents c.print_outcome.new.writer) r)
+    (sym (is_output c.from_residual.result c.from_residual.ensures.1))
+    (served_to_break g.S.Store c.args.agency.now c.loop-served.agency c.serve_next-outcome.new.agency (g.W.Write.contents c.args.writer.now)
+    (g.W.Write.contents c.loop-served.writer) (g.W.Write.contents c.print_outcome.new.writer) c.loop-served._served c.serve_next-outcome.result
+    c.loop-served.invariant.served c.serve_next-outcome.ensures.on c.args.count c.loop-served-test.true c.in_err-print_outcome.ensures)
+
+pub returns-in_err-print_outcome-clause-was_clean : goal.returns-in_err-print_outcome-clause-was_clean
+returns-in_err-print_outcome-clause-was_clean g c = omega (arith, c.loop-served.invariant.was_clean, c.serve_next-outcome.ensures.was_clean)
+
+pub returns-then-says_stopped-clause-served : goal.returns-then-says_stopped-clause-served
+returns-then-says_stopped-clause-served g c =
+    served_to_halt g.S.Store c.args.agency.now c.loop-served.agency c.serve_next-outcome.new.agency (g.W.Write.contents c.args.writer.now)
+    (g.W.Write.contents c.loop-served.writer) (g.W.Write.contents c.print_outcome.new.writer) c.loop-served._served c.serve_next-outcome.result
+    c.loop-served.invariant.served c.serve_next-outcome.ensures.on c.args.count c.loop-served-test.true c.in_ok-print_outcome.ensures
+    (c.if-says_stopped.ensures.0 (search rules))
+
+pub returns-clause-served : goal.returns-clause-served
+returns-clause-served g c =
+    let was = c.loop-served.invariant.served in
+    (was.outcomes, was.on, (record { count_is = omega (arith, was.count_is); going = was.going }, was.written))

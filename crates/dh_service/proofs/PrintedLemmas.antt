@@ -1,0 +1,107 @@
+-- The line of one connection more.
+use Rattle.std.proofs.Common.{◌≡◌, ◌≢◌, ◌∙◌, ◌++◌, ◌+◌, ◌<◌, [], ◌∷◌, ℕ, List, Option, Some, Result, Ok, Err, ap, append_assoc, append-nil, arith, length}
+use Rattle.std.proofs.Common.{length-append, refl, subst, sym, take}
+use Rattle.std.specs.Io.KnownBytes.{Appends}
+use Rattle.std.specs.Prelude.{IsErrAnd}
+use Rattle.std.proofs.KnownBytes.{Appends-nil, Appends-trans}
+use Rattle.std.proofs.lemmas.List.Elements.{All-push}
+use Rattle.sqlite.specs.Store.{Ghosts}
+use Rattle.dh_types.specs.Output.{BreaksOff}
+use Rattle.dh_agency.specs.Seat.{Seat}
+use Rattle.dh_service.specs.declared.listening.Unserved.{Unserved}
+use Rattle.dh_service.specs.declared.listening.Unserved.TheVariants as unserved
+use Rattle.dh_service.specs.Service.{ServesOn}
+use Rattle.dh_service.specs.Printed.{BreaksAt, EndsWith, GoOn, PrintsBehind, outcome_line, outcome_lines}
+use Rattle.dh_service.proofs.ServingLemmas.{serves_both, serves_none}
+
+lines_more : (outcomes : List (Option ℕ)) (it : Option ℕ) → outcome_lines (outcomes ++ it ∷ []) ≡ outcome_lines outcomes ++ outcome_line it
+lines_more [] it = append-nil (outcome_line it)
+lines_more (first ∷ outcomes) it =
+    ap (λ l. outcome_line first ++ l) (lines_more outcomes it) ∙ sym (append_assoc (outcome_line first) (outcome_lines outcomes) (outcome_line it))
+
+going_more : (outcomes : List (Option ℕ)) (it : Option ℕ) → GoOn outcomes → it ≢ Some 503 → GoOn (outcomes ++ it ∷ [])
+going_more outcomes it h goes = All-push (λ (o : Option ℕ). o ≢ Some 503) outcomes it h goes
+
+-- so many connections were served, none of them with answer 503, and each was told
+pub record HasServed {S : Type 0} (g : Ghosts S) (old new : Seat S) (a b : Option (List ℕ)) (count : ℕ) : Type 0 where
+  pub outcomes : List (Option ℕ)
+  pub on : ServesOn g old new outcomes
+  pub written : Appends a b (outcome_lines outcomes)
+  pub count_is : length outcomes ≡ count
+  pub going : GoOn outcomes
+
+pub served_none : {S : Type 0} (g : Ghosts S) (seat : Seat S) (a : Option (List ℕ)) → HasServed g seat seat a a 0
+served_none g seat a = record {
+  outcomes = [];
+  on = serves_none g seat;
+  written = Appends-nil a;
+  count_is = refl;
+  going = λ k d below. absurd (omega arith);
+}
+
+-- the writer that failed is told as such
+pub is_output : (r : Result (Unit {0}) Unserved) → IsErrAnd r (λ e. e ≡ unserved.Output) → r ≡ Err unserved.Output
+is_output (Ok done) h = absurd h
+is_output (Err why) h = ap Err h
+
+module _ {S : Type 0} (g : Ghosts S) (old mid new : Seat S) (a m b : Option (List ℕ)) (count : ℕ) (outcome : Option ℕ) (was : HasServed g old mid a m count)
+    (on : ServesOn g mid new (outcome ∷ [])) where
+  all_on : ServesOn g old new (was.outcomes ++ outcome ∷ [])
+  all_on = serves_both g old mid new was.outcomes (outcome ∷ []) was.on on
+
+  all_written : Appends m b (outcome_line outcome) → Appends a b (outcome_lines (was.outcomes ++ outcome ∷ []))
+  all_written h =
+      subst (Appends a b) (sym (lines_more was.outcomes outcome)) (Appends-trans a m b (outcome_lines was.outcomes) (outcome_line outcome) was.written h)
+
+  one_more : length (was.outcomes ++ outcome ∷ []) ≡ count + 1
+  one_more = omega (arith, length-append was.outcomes (outcome ∷ []), was.count_is)
+
+  pub served_more : Appends m b (outcome_line outcome) → outcome ≢ Some 503 → HasServed g old new a b (count + 1)
+  served_more h goes = record {
+    outcomes = was.outcomes ++ outcome ∷ [];
+    on = all_on;
+    written = all_written h;
+    count_is = one_more;
+    going = going_more was.outcomes outcome was.going goes;
+  }
+
+  ends : (most : ℕ) → count < most → EndsWith most (was.outcomes ++ outcome ∷ []) outcome
+  ends most within = record { before = was.outcomes; is = refl; going = was.going; few = omega (arith, one_more, within) }
+
+  -- the last answer was 503
+  pub served_to_halt : (most : ℕ) → count < most → Appends m b (outcome_line outcome) → outcome ≡ Some 503
+      → (outcomes : List (Option ℕ)) × ServesOn g old new outcomes × PrintsBehind most [] outcomes a b (Err unserved.Stopped)
+  served_to_halt most within h is =
+      (was.outcomes ++ outcome ∷ [], all_on, (subst (EndsWith most (was.outcomes ++ outcome ∷ [])) is (ends most within), all_written h))
+
+  -- the writer failed in the last line
+  pub served_to_break : (most : ℕ) → count < most → BreaksOff m b (outcome_line outcome)
+      → (outcomes : List (Option ℕ)) × ServesOn g old new outcomes × PrintsBehind most [] outcomes a b (Err unserved.Output)
+  unfolding ends
+  served_to_break most within h = (
+    was.outcomes ++ outcome ∷ [],
+    all_on,
+    record {
+      last = outcome;
+      ends = ends most within;
+      cut = h.0;
+      part = h.1;
+      written = Appends-trans a m b (outcome_lines was.outcomes) (take h.0 (outcome_line outcome)) was.written h.2;
+    },
+  )
+
+-- behind a text
+pub prints_behind : (count : ℕ) (text : List ℕ) (outcomes : List (Option ℕ)) (a m b : Option (List ℕ)) (r : Result (Unit {0}) Unserved)
+    → Appends a m text → PrintsBehind count [] outcomes m b r → PrintsBehind count text outcomes a b r
+prints_behind count text outcomes a m b (Ok done) first h = (h.0, Appends-trans a m b text (outcome_lines outcomes) first h.1)
+prints_behind count text outcomes a m b (Err unserved.Stopped) first h = (h.0, Appends-trans a m b text (outcome_lines outcomes) first h.1)
+prints_behind count text outcomes a m b (Err unserved.Output) first h = record {
+  last = h.last;
+  ends = h.ends;
+  cut = h.cut;
+  part = h.part;
+  written =
+      subst (Appends a b) (sym (append_assoc text (outcome_lines h.ends.before) (take h.cut (outcome_line h.last))))
+      (Appends-trans a m b text (outcome_lines h.ends.before ++ take h.cut (outcome_line h.last)) first h.written);
+}
+prints_behind count text outcomes a m b (Err unserved.NoListener) first h = h
