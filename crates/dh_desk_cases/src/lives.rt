@@ -68,15 +68,25 @@ fn answer(rt: &HostRuntime, kept: &mut Vec<u8>, kind: &str, rest: &str) -> io::R
     Ok(text.to_string(alloc)?)
 }
 
+/// Plays a line behind those above it, where the file was as it is kept.
+pub fn play_line(
+    rt: &HostRuntime,
+    tally: &mut Tally,
+    kept: &mut Vec<u8>,
+    line: &str,
+) -> io::Result<()> {
+    let (words, want) = parted(line);
+    let (kind, rest) = words.split_once(' ').unwrap_or((words, ""));
+    let got = answer(rt, kept, kind, rest)?;
+    compare(rt, tally, line, got.as_str(), want)
+}
+
 /// Plays the lines, one after the other, on a path where nothing is.
 pub fn play(rt: &HostRuntime, tally: &mut Tally, lines: &str) -> io::Result<()> {
     clear(rt);
     let mut kept = Vec::new(rt.alloc());
     for line in lines.lines() {
-        let (words, want) = parted(line);
-        let (kind, rest) = words.split_once(' ').unwrap_or((words, ""));
-        let got = answer(rt, &mut kept, kind, rest)?;
-        compare(rt, tally, line, got.as_str(), want)?;
+        play_line(rt, tally, &mut kept, line)?;
     }
     clear(rt);
     Ok(())

@@ -8,6 +8,7 @@ mod edits;
 mod failing;
 mod imports;
 mod lives;
+mod peers;
 mod runs;
 
 use dh_tally::Tally;
@@ -17,6 +18,7 @@ fn play(rt: &HostRuntime, tally: &mut Tally, kind: &str, lines: &str) -> io::Res
     match kind {
         "edited files" => edits::play(rt, tally, lines),
         "an import" => imports::play(rt, tally, lines),
+        "peers" => peers::play(rt, tally, lines),
         "a reader that fails" => failing::play_reader(rt, tally, lines),
         "a writer that fails" => failing::play_writer(rt, tally, lines),
         _ => lives::play(rt, tally, lines),

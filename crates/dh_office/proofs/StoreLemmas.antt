@@ -1,6 +1,6 @@
 -- From an agency to the store that it is over.
-use Rattle.std.proofs.Common.{◌≡◌, ◌⊎◌, inl, inr, ℕ, Option, Some, None, List, [], refl, sym, subst, arith}
-use Rattle.std.specs.Prelude.{IfErr, IfOk, IfSome, IsTrue, Result, Ok, Err}
+use Rattle.std.proofs.Common.{◌≡◌, ◌⊎◌, inl, inr, ℕ, Option, Some, None, List, [], ◌++◌, refl, sym, subst, arith}
+use Rattle.std.specs.Prelude.{IfSome, IsTrue, Result, Ok, Err}
 use Rattle.sqlite.specs.Store.{Ghosts}
 use Rattle.sqlite.specs.State as conn
 use Rattle.sqlite.specs.State.{HasCleanDisk}
@@ -13,8 +13,12 @@ use Rattle.sqlite_trees.specs.Tree.{Trees}
 use Rattle.dh_types.specs.declared.command.RunOrder.{RunOrder}
 use Rattle.dh_agency.specs.Taken.{LeavesAsTheyWere, TakesAsTheyAre}
 use Rattle.dh_lines.specs.Batch.{AreAfter}
-use Rattle.dh_office.specs.Jobs.{IsRunCut, stand_of}
-use Rattle.dh_service.specs.Service.{IsAfterSome, IsServing}
+use Rattle.dh_office.specs.Jobs.{IsRunCut, stand_in, stand_of}
+use Rattle.dh_service.specs.declared.listening.Service.{Service}
+use Rattle.dh_service.specs.declared.listening.Unserved.{Unserved}
+use Rattle.dh_service.specs.declared.listening.Unserved.TheVariants as unserved
+use Rattle.dh_service.specs.Printed.{Listened, PrintsServed, Unlistened, Untold, outcome_lines}
+use Rattle.dh_service.specs.Service.{AreTold, IsAfterSome, IsServing}
 use Rattle.dh_office.specs.Leaving.{ServingLeaves, TakingLeaves, WorkLeaves}
 use Rattle.dh_agency.specs.Seat.{Seat}
 use Rattle.dh_agency.specs.Agency.{IsClean, machine, shown_by}
@@ -27,12 +31,12 @@ use Rattle.dh_office.specs.declared.jobs.Work.TheVariants as work
 use Rattle.dh_office.specs.declared.taking.FileJob.{FileJob}
 use Rattle.dh_office.specs.declared.taking.FileJob.TheVariants as job
 use Rattle.dh_office.specs.declared.status.Status.{Status}
-use Rattle.dh_office.specs.declared.status.Status.TheVariants.{Done, Failed, FileRefused}
+use Rattle.dh_office.specs.declared.status.Status.TheVariants.{Failed, FileRefused}
 use Rattle.dh_office.specs.Statuses.{problem_status}
-use Rattle.dh_office.specs.Texts.{problem_line}
-use Rattle.dh_office.specs.Printed.{Before, Behind, Closes, IsMakingEnd, IsOfLines, IsOfService, IsRecoveryEnd, IsRefusedEnd, IsReportEnd, IsRunEnd, Prints, PrintsJob}
-use Rattle.dh_office.specs.Printed.{PrintsWork, PutsAs, TellsFault, Whole, Within}
-use Rattle.dh_office.specs.Ends.{LinesEnd, WorkEnds}
+use Rattle.dh_office.specs.Texts.{no_listener_line, problem_line}
+use Rattle.dh_office.specs.Printed.{Before, Behind, Closes, IsMakingEnd, IsOfLines, IsRecoveryEnd, IsRefusedEnd, IsReportEnd, IsRunEnd, Prints}
+use Rattle.dh_office.specs.Printed.{PrintsEnd, PrintsJob, PrintsService, PrintsWork, PutsAs, Served, TellsFault, TellsServed, Unclosed, Whole, Within}
+use Rattle.dh_office.specs.Ends.{IsServed, LinesEnd, WorkEnds}
 use Rattle.dh_office.proofs.TextLemmas.{fault_as, told_behind}
 
 -- ---- what was printed
@@ -71,6 +75,42 @@ lines_closed : (m b : Option (List ℕ)) (before after : Status) → IsOfLines b
 lines_closed m b before after h (inl same) = subst IsOfLines (sym same.0) h
 lines_closed m b before after h (inr (fine, told, failed)) = failed_of_lines after failed
 
+-- ---- connections that were served
+
+-- how serving ended is told behind the lines of the connections
+pub serving_prints : (service : Service) (outcomes : List (Option ℕ)) (a m b : Option (List ℕ)) (result : Result (Unit {0}) Unserved) (status : Status)
+    → PrintsServed service outcomes a m result → TellsServed result m b status → PrintsEnd service outcomes a b result status
+serving_prints service outcomes a m b (Ok done) status h (same, is) = (subst (λ o. PrintsServed service outcomes a o (Ok done)) (sym same) h, is)
+serving_prints service outcomes a m b (Err unserved.NoListener) status h told = by h
+  where
+    by : PrintsServed service outcomes a m (Err unserved.NoListener) → PrintsEnd service outcomes a b (Err unserved.NoListener) status
+    by (Listened text port never) = absurd never
+    by (Untold text port broken none is) = cc
+    by (Unlistened same none is) = (none, subst (λ o. PutsAs no_listener_line Failed o b status) same told)
+serving_prints service outcomes a m b (Err unserved.Output) status h (same, is) =
+    (subst (λ o. PrintsServed service outcomes a o (Err unserved.Output)) (sym same) h, is)
+serving_prints service outcomes a m b (Err unserved.Stopped) status h (same, is) =
+    (subst (λ o. PrintsServed service outcomes a o (Err unserved.Stopped)) (sym same) h, is)
+
+module _ (service : Service) (outcomes : List (Option ℕ)) (a m b : Option (List ℕ)) (before after : Status) where
+  failed_end : (why : Unserved) → PrintsEnd service outcomes a m (Err why) before → before ≡ Failed
+  failed_end unserved.NoListener (none, inl h) = h.0
+  failed_end unserved.NoListener (none, inr h) = h.0
+  failed_end unserved.Output h = h.1
+  failed_end unserved.Stopped h = h.1
+
+  unclosed : (done : Unit {0}) → PrintsServed service outcomes a m (Ok done) → TellsFault m b [] → after ≡ Failed → PrintsService service outcomes a b after
+  unclosed done (Listened text port h) told failed = Unclosed text port h.0 (told_behind a m b (text ++ outcome_lines outcomes) h.1 told) failed
+  unclosed done (Untold text port broken none is) told failed = cc
+  unclosed done (Unlistened same none is) told failed = cc
+
+  service_closed : PrintsService service outcomes a m before → Closes m b before after → PrintsService service outcomes a b after
+  service_closed h (inl same) =
+      subst (λ s. PrintsService service outcomes a b s) (sym same.0) (subst (λ o. PrintsService service outcomes a o before) (sym same.1) h)
+  service_closed (Served (Ok done) h) (inr (fine, told, failed)) = unclosed done h.0 told failed
+  service_closed (Served (Err why) h) (inr (fine, told, failed)) = absurd (fine (failed_end why h))
+  service_closed (Unclosed text port all behind wrong) (inr (fine, told, failed)) = absurd (fine wrong)
+
 module _ (a m b : Option (List ℕ)) (before after : Status) (closes : Closes m b before after) where
   work_closed : (it : Work) → PrintsWork it a m before → PrintsWork it a b after
   work_closed work.Lines h = lines_closed m b before after h closes
@@ -80,20 +120,13 @@ module _ (a m b : Option (List ℕ)) (before after : Status) (closes : Closes m 
   refused_closed : Prints IsRefusedEnd a m before → Prints IsRefusedEnd a b after
   refused_closed h = prints_closed IsRefusedEnd a m b before after h closes
 
-  service_closed : IsOfService before → IsOfService after
-  service_closed h = by closes
-    where
-      by : Closes m b before after → IsOfService after
-      by (inl same) = subst IsOfService (sym same.0) h
-      by (inr (fine, told, failed)) = inr failed
-
   pub job_closed : (it : FileJob) → PrintsJob it a m before → PrintsJob it a b after
   job_closed (job.Make first) h = prints_closed (IsMakingEnd first) a m b before after h closes
   job_closed job.Recover (inl h) = inl (prints_closed IsRecoveryEnd a m b before after h closes)
   job_closed job.Recover (inr h) = inr (refused_closed h)
   job_closed (job.Work it) (inl h) = inl (work_closed it h)
   job_closed (job.Work it) (inr h) = inr (refused_closed h)
-  job_closed (job.Serve service) (inl h) = inl (service_closed h)
+  job_closed (job.Serve service) (inl h) = inl (h.0, service_closed service h.0 a m b before after h.1 closes)
   job_closed (job.Serve service) (inr h) = inr (refused_closed h)
 
 -- a fault that came first
@@ -125,24 +158,27 @@ module _ {S : Type 0} (g : Ghosts S) (after : Seat S) (last : Held S) (same : la
         subst (λ t. IfSome input (λ input. LinesEnd (state g last) a b t input status)) is
         (back (λ new. IfSome input (λ input. LinesEnd new a b (stand g made) input status)) h)
 
-  -- requests were served
-  pub serving_ends : (old : Held S) (taken : Seat S) → machine g taken ≡ store.tables (state g old) → IsServing g (stand g taken) after
-      → IsTrue (state g last).is_open → IsAfterSome (stand_of (store.tables (state g old))) (store.tables (state g last))
-  serving_ends old taken is served =
-      subst (λ t. IsTrue (state g last).is_open → IsAfterSome (stand_of t) (store.tables (state g last))) is
-      (back (λ new. IsTrue new.is_open → IsAfterSome (stand_of (machine g taken)) (store.tables new)) served.reads)
+  -- connections were served
+  module _ (old : Held S) (taken : Seat S) (is : machine g taken ≡ store.tables (state g old)) (outcomes : List (Option ℕ))
+      (served : IsServing g (stand g taken) outcomes after) where
+    pub serving_ends : (a b : Option (List ℕ)) (service : Service) (status : Status) → PrintsService service outcomes a b status
+        → IsServed (state g old) (state g last) a b service status
+    serving_ends a b service status printed = record {
+      outcomes = outcomes;
+      printed = printed;
+      is_stopped = after.is_stopped;
+      told =
+          subst (λ t. AreTold (stand_of t) outcomes (stand_in (state g last)) after.is_stopped) is
+          (back (λ new. AreTold (stand_of (machine g taken)) outcomes (stand_in new) after.is_stopped) served.told);
+      reads =
+          subst (λ t. IsTrue (state g last).is_open → IsAfterSome (stand_of t) (store.tables (state g last))) is
+          (back (λ new. IsTrue new.is_open → IsAfterSome (stand_of (machine g taken)) (store.tables new)) served.reads);
+    }
 
-  pub serving_leaves : (old : Held S) (taken : Seat S) → machine g taken ≡ store.tables (state g old) → IsServing g (stand g taken) after
-      → Leaves (state g last) (IsAfterSome (stand_of (store.tables (state g old))))
-  serving_leaves old taken is served =
-      subst (λ t. Leaves (state g last) (IsAfterSome (stand_of t))) is
-      (back (λ new. Leaves new (IsAfterSome (stand_of (machine g taken)))) served.left)
-
--- serving came to its end, or not
-pub of_service : {T E : Type 0} (outcome : Result T E) (status : Status) → IfOk outcome (λ done. status ≡ Done) → IfErr outcome (λ why. status ≡ Failed)
-    → IsOfService status
-of_service (Ok done) status served unserved = inl served
-of_service (Err why) status served unserved = inr unserved
+    pub serving_leaves : Leaves (state g last) (IsAfterSome (stand_of (store.tables (state g old))))
+    serving_leaves =
+        subst (λ t. Leaves (state g last) (IsAfterSome (stand_of t))) is
+        (back (λ new. Leaves new (IsAfterSome (stand_of (machine g taken)))) served.left)
 
 -- ---- tables that were not taken
 

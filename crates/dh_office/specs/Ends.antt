@@ -28,8 +28,9 @@ use Rattle.dh_office.specs.declared.status.Status.{Status}
 use Rattle.dh_office.specs.declared.status.Status.TheVariants.{Done, Failed}
 use Rattle.dh_office.specs.Statuses.{IsEnding, ending, problem_status, status_of}
 use Rattle.dh_office.specs.Texts.{created_line, problem_line, recovered_line}
-use Rattle.dh_service.specs.Service.{IsAfterSome}
-use Rattle.dh_office.specs.Printed.{IsOfService, PutsAs, TellsFault}
+use Rattle.dh_service.specs.declared.listening.Service.{Service}
+use Rattle.dh_service.specs.Service.{AreTold, IsAfterSome}
+use Rattle.dh_office.specs.Printed.{PrintsService, PutsAs, TellsFault}
 use Rattle.dh_office.specs.Jobs.{IsRunCut, lines_answered, report_shown, run_told, stand_in, stand_of}
 
 -- ---- over tables that were taken
@@ -118,14 +119,21 @@ abbrev pub MemoryLinesEnd : Option (List ℕ) → Option (List ℕ) → ℕ → 
 MemoryLinesEnd a b first input status =
     ((left : Held MemStore) × NewLinesEnd (state over_memory left) a b first input status) ⊎ (TellsFault a b [] × (status ≡ Failed))
 
--- Requests were served, and the tables that can be read are the machine's after some of them; or the tables were not taken.
-abbrev pub ServingEnds : conn.State → conn.State → Option (List ℕ) → Option (List ℕ) → Status → Type 0
-ServingEnds old new a b status =
-    (IsOfService status × (IsTrue new.is_open → IsAfterSome (stand_of (store.tables old)) (store.tables new)))
-    ⊎ (IsNotTaken old a b status × TakesAsTheyAre old new)
+-- Connections were served, and the outcomes that were printed are those of the machine's answers; the tables that can be read are the machine's
+-- behind some connections.
+pub record IsServed (old new : conn.State) (a b : Option (List ℕ)) (service : Service) (status : Status) : Type 0 where
+  pub outcomes : List (Option ℕ)
+  pub printed : PrintsService service outcomes a b status
+  pub is_stopped : Bool
+  pub told : AreTold (stand_of (store.tables old)) outcomes (stand_in new) is_stopped
+  pub reads : IsTrue new.is_open → IsAfterSome (stand_of (store.tables old)) (store.tables new)
+
+-- Connections were served; or the tables were not taken.
+abbrev pub ServingEnds : conn.State → conn.State → Option (List ℕ) → Option (List ℕ) → Service → Status → Type 0
+ServingEnds old new a b service status = IsServed old new a b service status ⊎ (IsNotTaken old a b status × TakesAsTheyAre old new)
 
 abbrev pub JobEnds : conn.State → conn.State → Option (List ℕ) → Option (List ℕ) → Option (List ℕ) → FileJob → Status → Type 0
 JobEnds old new a b input (job.Make first) status = MakingEnds old new a b first status
 JobEnds old new a b input job.Recover status = RecoveryEnds old new a b status
 JobEnds old new a b input (job.Work it) status = TakingEnds old new a b input it status
-JobEnds old new a b input (job.Serve service) status = ServingEnds old new a b status
+JobEnds old new a b input (job.Serve service) status = ServingEnds old new a b service status

@@ -34,7 +34,7 @@ pub record TakingLeaves (old new : conn.State) (it : Work) : Type 0 where
   pub worked : HasCleanDisk new → IsSound old.now.trees → WorkLeaves new (tables old) it
   pub untouched : HasCleanDisk new → ¬ IsSound old.now.trees → LeavesAsTheyWere old new
 
--- Requests were served over sound tables: the whole of the tables is the machine's books after some of them. Other tables stay.
+-- Connections were served over sound tables: the whole of the tables is the machine's books behind some of them. Other tables stay.
 pub record ServingLeaves (old new : conn.State) : Type 0 where
   pub served : HasCleanDisk new → IsSound old.now.trees → Leaves new (IsAfterSome (stand_of (tables old)))
   pub untouched : HasCleanDisk new → ¬ IsSound old.now.trees → LeavesAsTheyWere old new

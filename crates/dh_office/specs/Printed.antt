@@ -10,6 +10,10 @@ use Rattle.dh_types.specs.Reports.{Report}
 use Rattle.dh_schema.specs.Faults.{IsFirstFault}
 use Rattle.dh_runs.specs.Taking.{IsOfTables}
 use Rattle.dh_lines.specs.Session.{is_no_report}
+use Rattle.dh_service.specs.declared.listening.Service.{Service}
+use Rattle.dh_service.specs.declared.listening.Unserved.{Unserved}
+use Rattle.dh_service.specs.declared.listening.Unserved.TheVariants as unserved
+use Rattle.dh_service.specs.Printed.{AreAll, IsPortText, PrintsServed, outcome_lines}
 use Rattle.dh_office.specs.declared.jobs.Work.{Work}
 use Rattle.dh_office.specs.declared.jobs.Work.TheVariants as work
 use Rattle.dh_office.specs.declared.taking.FileJob.{FileJob}
@@ -17,7 +21,7 @@ use Rattle.dh_office.specs.declared.taking.FileJob.TheVariants as job
 use Rattle.dh_office.specs.declared.status.Status.{Status}
 use Rattle.dh_office.specs.declared.status.Status.TheVariants.{Done, BadWords, Failed, FileRefused}
 use Rattle.dh_office.specs.Statuses.{IsEnding}
-use Rattle.dh_office.specs.Texts.{created_line, fault_line, recovered_line, refusal_line, reply_line, report_lines}
+use Rattle.dh_office.specs.Texts.{created_line, fault_line, no_listener_line, recovered_line, refusal_line, reply_line, report_lines}
 
 abbrev pub heard : {T E : Type 0} → Result T E → Status → Status
 heard (Ok it) wanted = wanted
@@ -68,19 +72,33 @@ PrintsWork work.Lines a b status = IsOfLines status
 PrintsWork (work.Run order batches) a b status = Prints IsRunEnd a b status
 PrintsWork (work.Report question) a b status = Prints IsReportEnd a b status
 
--- Serving ends well or fails, whatever was refused.
-abbrev pub IsOfService : Status → Type 0
-IsOfService status = (status ≡ Done) ⊎ (status ≡ Failed)
+-- Serving came to its end, whatever was refused; or it did not, and a want of a listener is told.
+abbrev pub TellsServed : Result (Unit {0}) Unserved → Option (List ℕ) → Option (List ℕ) → Status → Type 0
+TellsServed (Ok done) a b status = (b ≡ a) × (status ≡ Done)
+TellsServed (Err unserved.NoListener) a b status = PutsAs no_listener_line Failed a b status
+TellsServed (Err unserved.Output) a b status = (b ≡ a) × (status ≡ Failed)
+TellsServed (Err unserved.Stopped) a b status = (b ≡ a) × (status ≡ Failed)
 
-abbrev pub PrintsService : Option (List ℕ) → Option (List ℕ) → Status → Type 0
-PrintsService a b status = IsOfService status ⊎ Prints IsRefusedEnd a b status
+-- the same, with the lines of the connections
+abbrev pub PrintsEnd : Service → List (Option ℕ) → Option (List ℕ) → Option (List ℕ) → Result (Unit {0}) Unserved → Status → Type 0
+PrintsEnd service outcomes a b (Ok done) status = PrintsServed service outcomes a b (Ok done) × (status ≡ Done)
+PrintsEnd service outcomes a b (Err unserved.NoListener) status = (outcomes ≡ []) × PutsAs no_listener_line Failed a b status
+PrintsEnd service outcomes a b (Err unserved.Output) status = PrintsServed service outcomes a b (Err unserved.Output) × (status ≡ Failed)
+PrintsEnd service outcomes a b (Err unserved.Stopped) status = PrintsServed service outcomes a b (Err unserved.Stopped) × (status ≡ Failed)
+
+-- Connections were served, and these outcomes told; or all were, and a fault was told behind them, as the store was closed.
+pub data PrintsService (service : Service) (outcomes : List (Option ℕ)) (a b : Option (List ℕ)) (status : Status) : Type 0 where
+  Served : (result : Result (Unit {0}) Unserved) → PrintsEnd service outcomes a b result status → PrintsService service outcomes a b status
+  Unclosed : (text : List ℕ) → IsPortText service.port text → AreAll service.count outcomes → TellsFault a b (text ++ outcome_lines outcomes)
+      → status ≡ Failed → PrintsService service outcomes a b status
 
 -- the same of a job on a file, which may be refused
 abbrev pub PrintsJob : FileJob → Option (List ℕ) → Option (List ℕ) → Status → Type 0
 PrintsJob (job.Make first) a b status = Prints (IsMakingEnd first) a b status
 PrintsJob job.Recover a b status = Prints IsRecoveryEnd a b status ⊎ Prints IsRefusedEnd a b status
 PrintsJob (job.Work it) a b status = PrintsWork it a b status ⊎ Prints IsRefusedEnd a b status
-PrintsJob (job.Serve service) a b status = PrintsService a b status
+PrintsJob (job.Serve service) a b status =
+    ((outcomes : List (Option ℕ)) × PrintsService service outcomes a b status) ⊎ Prints IsRefusedEnd a b status
 
 -- A store was closed after this status: it stays, and nothing is printed; or that failed, where nothing had failed before, and is told.
 abbrev pub Closes : Option (List ℕ) → Option (List ℕ) → Status → Status → Type 0

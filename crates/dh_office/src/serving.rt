@@ -1,32 +1,28 @@
 //! Serving requests over the tables of a file.
 
-ghost use Rattle.std.specs.Prelude.{◌≡◌, IfErr, IfOk};
+ghost use Rattle.std.specs.Prelude.{◌⊎◌, ℕ, List, Option};
 ghost use Rattle.sqlite.specs.State.{HasCleanDisk};
 ghost use Rattle.sqlite.specs.Held.{state};
 ghost use Rattle.dh_runs.specs.Taking.{IsResting};
 ghost use Rattle.dh_office.specs.Ends.{ServingEnds};
 ghost use Rattle.dh_office.specs.Leaving.{ServingLeaves};
-ghost use Rattle.dh_office.specs.Printed.{IsOfService, IsRefusedEnd, Prints, PrintsService};
+ghost use Rattle.dh_office.specs.Printed.{IsRefusedEnd, Prints, PrintsService, TellsServed};
 
 use crate::status::Status;
-use crate::telling::{print_no_listener, tell_problem};
+use crate::telling::{heard, print_no_listener, tell_problem};
 use dh_agency::{NotOpened, attach};
 use dh_service::{Service, Unserved, serve};
 use sqlite::{Alter, Connection};
 use std::io::Write;
 
-// How the program ends behind serving. That there is no listener is told, as far as the writer takes it.
+// How the program ends behind serving. That there is no listener is told.
 fn tell_served<W: Write>(outcome: Result<(), Unserved>, writer: &mut W) -> Status
-    ensures served { IfOk outcome (λ done. result ≡ Status.Done) }
-    ensures unserved { IfErr outcome (λ why. result ≡ Status.Failed) }
+    ensures { TellsServed outcome (W.contents writer.old) (W.contents writer.new) result }
 {
     match outcome {
         Ok(()) => Status::Done,
-        Err(Unserved::NoListener) => {
-            let _ = print_no_listener(writer);
-            Status::Failed
-        }
-        Err(_) => Status::Failed,
+        Err(Unserved::NoListener) => heard(print_no_listener(writer), Status::Failed),
+        Err(Unserved::Output | Unserved::Stopped) => Status::Failed,
     }
 }
 
@@ -38,9 +34,10 @@ pub(crate) fn answer_requests<S: Alter, W: Write>(
     writer: &mut W,
 ) -> (Status, Connection<S>)
     requires { HasCleanDisk (state S.Store conn) → IsResting (state S.Store conn) }
-    ensures printed { PrintsService (W.contents writer.old) (W.contents writer.new) result.0 }
+    ensures printed { ((outcomes : List (Option ℕ)) × PrintsService service outcomes (W.contents writer.old) (W.contents writer.new) result.0)
+        ⊎ Prints IsRefusedEnd (W.contents writer.old) (W.contents writer.new) result.0 }
     ensures ends { HasCleanDisk (state S.Store result.1)
-        → ServingEnds (state S.Store conn) (state S.Store result.1) (W.contents writer.old) (W.contents writer.new) result.0 }
+        → ServingEnds (state S.Store conn) (state S.Store result.1) (W.contents writer.old) (W.contents writer.new) service result.0 }
     ensures crash { ServingLeaves (state S.Store conn) (state S.Store result.1) }
 {
     match attach(rt.alloc(), conn) {

@@ -1,36 +1,48 @@
-use Rattle.std.proofs.Common.{◌≡◌, arith, inl, inr, subst}
+use Rattle.std.proofs.Common.{◌≡◌, List, Option, ℕ, [], arith, inl, inr, subst}
 use Rattle.sqlite.specs.Held.{state}
 use Rattle.dh_schema.specs.Tables.{IsSound}
 use Rattle.dh_agency.specs.Agency.{IsClean, shown_by}
 use Rattle.dh_lines.specs.Batch.{stand}
 use Rattle.dh_service.proofs.ServingLemmas.{begins}
 use Rattle.dh_service.specs.Service.{IsServing}
-use Rattle.dh_office.proofs.StoreLemmas.{kept_serving, of_service, problem_prints, serving_ends, serving_leaves, was_clean}
+use Rattle.dh_office.specs.Printed.{Served}
+use Rattle.dh_office.proofs.StoreLemmas.{kept_serving, problem_prints, serving_ends, serving_leaves, serving_prints, was_clean}
 use Rattle.dh_office.proofs.serving.answer_requests.Goals as goal
+
+pub returns-in-Ok-clause-printed : goal.returns-in-Ok-clause-printed
+returns-in-Ok-clause-printed g c =
+    let did = c.serve-outcome.ensures.served in
+    inl (
+      did.0,
+      Served c.serve-outcome.result
+          (serving_prints c.args.service did.0 _ _ _ c.serve-outcome.result c.tell_served-status.result did.2 c.tell_served-status.ensures),
+    )
 
 pub returns-in-Ok-clause-ends : goal.returns-in-Ok-clause-ends
 returns-in-Ok-clause-ends g c clean =
     let taken = c.in-Ok.agency in
     let after = c.serve-outcome.new.agency in
+    let did = c.serve-outcome.ensures.served in
     let still : IsClean g.S.Store after = was_clean g.S.Store after c.into_store.result c.into_store.ensures clean in
     let first : IsClean g.S.Store taken = omega (arith, c.serve-outcome.ensures.was_clean, still) in
-    let served = c.serve-outcome.ensures.serving (stand g.S.Store taken) (λ at. begins g.S.Store taken (c.in-Ok.ensures.left at)) still in
-    inl (
-      of_service c.serve-outcome.result c.tell_served-status.result c.tell_served-status.ensures.served c.tell_served-status.ensures.unserved,
-      serving_ends g.S.Store after c.into_store.result c.into_store.ensures c.args.conn taken (c.in-Ok.ensures.taken.1 first) served,
-    )
+    let served = did.1 (stand g.S.Store taken) [] (λ at. begins g.S.Store taken c.in-Ok.ensures.taken.0 (c.in-Ok.ensures.left at)) still in
+    inl (serving_ends g.S.Store after c.into_store.result c.into_store.ensures c.args.conn taken (c.in-Ok.ensures.taken.1 first) did.0 served _ _
+    c.args.service c.tell_served-status.result
+    (Served c.serve-outcome.result
+    (serving_prints c.args.service did.0 _ _ _ c.serve-outcome.result c.tell_served-status.result did.2 c.tell_served-status.ensures)))
 
 pub returns-in-Ok-clause-crash : goal.returns-in-Ok-clause-crash
 returns-in-Ok-clause-crash g c =
     let taken = c.in-Ok.agency in
     let after = c.serve-outcome.new.agency in
+    let did = c.serve-outcome.ensures.served in
     let same = c.into_store.ensures in
     record {
       served = λ clean sound.
           let still : IsClean g.S.Store after = was_clean g.S.Store after c.into_store.result same clean in
           let first : IsClean g.S.Store taken = omega (arith, c.serve-outcome.ensures.was_clean, still) in
-          serving_leaves g.S.Store after c.into_store.result same c.args.conn taken (c.in-Ok.ensures.taken.1 first)
-          (c.serve-outcome.ensures.serving (stand g.S.Store taken) (λ at. begins g.S.Store taken (c.in-Ok.ensures.left at)) still);
+          let served = did.1 (stand g.S.Store taken) [] (λ at. begins g.S.Store taken c.in-Ok.ensures.taken.0 (c.in-Ok.ensures.left at)) still in
+          serving_leaves g.S.Store after c.into_store.result same c.args.conn taken (c.in-Ok.ensures.taken.1 first) did.0 served;
       untouched = λ clean wrong.
           let still : IsClean g.S.Store after = was_clean g.S.Store after c.into_store.result same clean in
           let first : IsClean g.S.Store taken = omega (arith, c.serve-outcome.ensures.was_clean, still) in

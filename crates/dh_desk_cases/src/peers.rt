@@ -1,0 +1,203 @@
+//! Peers of `letting serve`. Behind the lines of a life, a line `ask REQUEST -> STATUS BODY` is a request, in which `\r` and `\n` are bytes,
+//! and what its peer is answered: `-> nothing` where it gets no byte. A line `serve WORDS -> STATUS TEXT` sends the requests above it, one
+//! connection each, as soon as it is told the port, and compares the rest of the text; `spoil WORDS` does so over a file that is emptied
+//! then; `busy WORDS` names a port that is taken.
+
+ghost use Rattle.std.specs.Prelude.{◌≡◌, Some};
+
+use crate::lives;
+use crate::runs::{PATH, clear, ended, outcome, ran, shown};
+use dh_agency_scripts::{compare, parted};
+use dh_tally::Tally;
+use std::alloc::{AllocError, Global};
+use std::io::{Read, Write};
+use std::net::{Ipv4Addr, Shutdown, SocketAddr, SocketAddrV4, TcpListener, TcpStream};
+use std::{fs, io, str};
+
+// A request, and the answer that is wanted.
+#[derive(Drop)]
+struct Ask {
+    request: String,
+    wanted: String,
+}
+
+impl Ask {
+    fn new(alloc: Global, request: &str, wanted: &str) -> Result<Ask, AllocError> {
+        Ok(Ask {
+            request: request
+                .replace(alloc, "\\r", "\r")?
+                .as_str()
+                .replace(alloc, "\\n", "\n")?,
+            wanted: wanted.to_string(alloc)?,
+        })
+    }
+}
+
+// The port that is told in such a line.
+fn port_in(line: &[u8]) -> Option<u16> {
+    let text = str::from_utf8(line).ok()?;
+    text.strip_prefix("port ")?.trim_end().parse().ok()
+}
+
+fn connected(rt: &HostRuntime, port: u16, request: &str) -> io::Result<TcpStream> {
+    let address = SocketAddr::V4(SocketAddrV4::new(Ipv4Addr::LOCALHOST, port));
+    let mut peer = TcpStream::connect(rt, address)?;
+    peer.write_all(request.as_bytes())?;
+    peer.shutdown(Shutdown::Write)?;
+    Ok(peer)
+}
+
+// A peer for each request, which it has sent.
+fn peers_of(rt: &HostRuntime, told: &[u8], asks: &[Ask]) -> io::Result<Vec<TcpStream>> {
+    let mut peers = Vec::new(rt.alloc());
+    let Some(port) = port_in(told) else {
+        return Ok(peers);
+    };
+    for ask in asks {
+        peers.push(connected(rt, port, ask.request.as_str())?)?;
+    }
+    Ok(peers)
+}
+
+// A writer that sends the requests once it is told the port.
+#[derive(Drop)]
+struct Caller<'a> {
+    rt: &'a HostRuntime,
+    asks: &'a [Ask],
+    spoils: bool,
+    told: Vec<u8>,
+    peers: Vec<TcpStream>,
+}
+
+impl<'a> Caller<'a> {
+    fn new(rt: &'a HostRuntime, asks: &'a [Ask], spoils: bool) -> Caller<'a> {
+        Caller {
+            rt,
+            asks,
+            spoils,
+            told: Vec::new(rt.alloc()),
+            peers: Vec::new(rt.alloc()),
+        }
+    }
+
+    // Sends the requests, where the line that tells the port has just ended.
+    fn call(&mut self)
+        ensures { self.new.told.items ≡ self.old.told.items }
+    {
+        if !self.peers.is_empty() || !self.told.ends_with(b"\n") {
+            return;
+        }
+        if self.spoils {
+            let _ = fs::write(self.rt, PATH, b"");
+        }
+        if let Ok(peers) = peers_of(self.rt, &self.told, self.asks) {
+            self.peers = peers;
+        }
+    }
+}
+
+impl Write for Caller<'_> {
+    ghost contents = { λ w. Some w.told.items };
+
+    fn write(&mut self, buf: &[u8]) -> io::Result<usize> {
+        let count = self.told.write(buf)?;
+        self.call();
+        Ok(count)
+    }
+
+    fn flush(&mut self) -> io::Result<()> {
+        Ok(())
+    }
+}
+
+// What a peer was answered: the status and the body, or nothing.
+fn answer_of(alloc: Global, peer: &mut TcpStream) -> Result<String, AllocError> {
+    let mut bytes = Vec::new(alloc);
+    let _ = peer.read_to_end(&mut bytes);
+    let text = str::from_utf8(&bytes).unwrap_or("no text");
+    let (head, body) = text.split_once("\r\n\r\n").unwrap_or((text, ""));
+    match head.get(9..12) {
+        Some(status) if body.is_empty() => status.to_string(alloc),
+        Some(status) => format!(in alloc; "{status} {}", shown(alloc, body.as_bytes())?.as_str()),
+        None => "nothing".to_string(alloc),
+    }
+}
+
+// Compares what each peer was answered.
+fn judge(
+    rt: &HostRuntime,
+    tally: &mut Tally,
+    asks: &[Ask],
+    peers: &mut [TcpStream],
+) -> io::Result<()> {
+    for (ask, peer) in asks.iter().zip(peers.iter_mut()) {
+        let got = answer_of(rt.alloc(), peer)?;
+        compare(
+            rt,
+            tally,
+            ask.request.as_str(),
+            got.as_str(),
+            ask.wanted.as_str(),
+        )?;
+    }
+    Ok(())
+}
+
+// What a run comes to whose peers send these requests, without the line of the port.
+fn served(
+    rt: &HostRuntime,
+    tally: &mut Tally,
+    asks: &[Ask],
+    words: &str,
+    spoils: bool,
+) -> io::Result<String> {
+    let mut caller = Caller::new(rt, asks, spoils);
+    let mut reader: &[u8] = b"";
+    let status = ended(rt, words, &mut reader, &mut caller)?;
+    judge(rt, tally, asks, &mut caller.peers)?;
+    let told = shown(rt.alloc(), &caller.told)?;
+    let text = told.as_str();
+    let (_, rest) = text.split_once("\\n").unwrap_or(("", text));
+    Ok(outcome(rt.alloc(), status.code(), rest)?)
+}
+
+// What a run comes to whose port is taken.
+fn refused(rt: &HostRuntime, words: &str) -> io::Result<String> {
+    let listener = TcpListener::bind(rt, "127.0.0.1:0")?;
+    let port = listener.local_addr()?.port();
+    let words = format!(in rt.alloc(); "serve --port {port} {words}")?;
+    Ok(ran(rt, words.as_str(), "")?)
+}
+
+// Plays a line behind those above it, of which these requests were not sent yet.
+fn play_line(
+    rt: &HostRuntime,
+    tally: &mut Tally,
+    asks: &mut Vec<Ask>,
+    line: &str,
+) -> io::Result<()> {
+    let (told, wanted) = parted(line);
+    let (kind, words) = told.split_once(' ').unwrap_or((told, ""));
+    let got = match kind {
+        "ask" => return Ok(asks.push(Ask::new(rt.alloc(), words, wanted)?)?),
+        "busy" => refused(rt, words)?,
+        "serve" | "spoil" => {
+            let got = served(rt, tally, asks, words, kind == "spoil")?;
+            asks.clear();
+            got
+        }
+        _ => return lives::play_line(rt, tally, &mut Vec::new(rt.alloc()), line),
+    };
+    compare(rt, tally, line, got.as_str(), wanted)
+}
+
+/// Plays the lines, one after the other, on a path where nothing is.
+pub fn play(rt: &HostRuntime, tally: &mut Tally, lines: &str) -> io::Result<()> {
+    clear(rt);
+    let mut asks = Vec::new(rt.alloc());
+    for line in lines.lines() {
+        play_line(rt, tally, &mut asks, line)?;
+    }
+    clear(rt);
+    Ok(())
+}
