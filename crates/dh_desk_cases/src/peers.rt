@@ -154,8 +154,15 @@ fn served(
     let mut caller = Caller::new(rt, asks, spoils);
     let mut reader: &[u8] = b"";
     let status = ended(rt, words, &mut reader, &mut caller)?;
-    judge(rt, tally, asks, &mut caller.peers)?;
-    let told = shown(rt.alloc(), &caller.told)?;
+    let Caller {
+        rt: _,
+        asks: _,
+        spoils: _,
+        told,
+        mut peers,
+    } = caller;
+    judge(rt, tally, asks, &mut peers)?;
+    let told = shown(rt.alloc(), &told)?;
     let text = told.as_str();
     let (_, rest) = text.split_once("\\n").unwrap_or(("", text));
     Ok(outcome(rt.alloc(), status.code(), rest)?)
