@@ -22,19 +22,29 @@ def read(path, mode='r'):
         return file.read()
 
 
+def words_of(pid):
+    return read(f'/proc/{pid}/cmdline', 'rb').decode(errors='replace').split('\0')
+
+
 def process(pid):
-    """The crate that a process of the toolchain works on, for what, its processor seconds and its memory; None for another process."""
+    """The crate that a process of the toolchain works on, for what, its processor seconds and its memory; None for another process. LLVM works for
+    the process that began it, and a program of cases runs in its crate's folder."""
     try:
-        words = read(f'/proc/{pid}/cmdline', 'rb').decode(errors='replace').split('\0')
-        if os.path.basename(words[0]) != 'rattle' or '--crate-name' not in words:
-            return None
+        words = words_of(pid)
         folder = os.readlink(f'/proc/{pid}/cwd')
         fields = read(f'/proc/{pid}/stat').rpartition(') ')[2].split()
+        if '--crate-name' not in words:
+            words = words_of(fields[1])
+        if '--crate-name' in words:
+            crate = words[words.index('--crate-name') + 1]
+        elif '/crates/' in folder:
+            crate = folder.rpartition('/crates/')[2].partition('/')[0]
+        else:
+            return None
         seconds = (int(fields[11]) + int(fields[12])) / TICK
         memory = int(read(f'/proc/{pid}/statm').split()[1]) * PAGE
     except (OSError, IndexError):
         return None
-    crate = words[words.index('--crate-name') + 1]
     if crate.endswith('_tests'):
         crate = crate[:-len('_tests')]
     work = 'edits' if 'rt-edit-' in folder else 'tests' if '--test' in words else 'proof'

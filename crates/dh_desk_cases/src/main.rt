@@ -4,10 +4,13 @@
 //! A block is the life of one path, which is written `F`. Its first line has its kind: `play` has the kinds. In texts `\n` is a line feed.
 #![tactic(auto)]
 
+mod consoles;
 mod edits;
 mod failing;
 mod imports;
 mod lives;
+mod manual;
+mod pages;
 mod peers;
 mod runs;
 
@@ -18,6 +21,7 @@ fn play(rt: &HostRuntime, tally: &mut Tally, kind: &str, lines: &str) -> io::Res
     match kind {
         "edited files" => edits::play(rt, tally, lines),
         "an import" => imports::play(rt, tally, lines),
+        "the manual and the examples" => manual::play(rt, tally, lines),
         "peers" => peers::play(rt, tally, lines),
         "a reader that fails" => failing::play_reader(rt, tally, lines),
         "a writer that fails" => failing::play_writer(rt, tally, lines),

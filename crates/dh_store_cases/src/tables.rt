@@ -1,11 +1,13 @@
 //! The tables made.
 
-use dh_agency_scripts::found;
+use dh_agency_scripts::{compare, found, parted};
 use dh_examples::january;
 use dh_schema::{install, version};
+use dh_tally::Tally;
 use dh_types::{Fault, Month};
 use sqlite::{Alter, Connection};
 use std::alloc::{AllocError, Global};
+use std::io;
 
 fn outcome(alloc: Global, done: Result<(), Fault>) -> Result<String, AllocError> {
     match done {
@@ -30,9 +32,7 @@ fn made_again<S: Alter>(alloc: Global, conn: &mut Connection<S>) -> Result<Strin
     outcome(alloc, again)
 }
 
-/// The tables made in a file on which these statements were run, and made again for another month: how both end, the tables
-/// and views of the file, and the rows of meta.
-pub fn made<S: Alter>(
+fn made_over<S: Alter>(
     alloc: Global,
     conn: &mut Connection<S>,
     before: &str,
@@ -53,4 +53,22 @@ pub fn made<S: Alter>(
         "SELECT id, version, first_month, next_month FROM meta",
     )?;
     format!(in alloc; "{first}, {again}: {objects} {rows}")
+}
+
+fn made(alloc: Global, before: &str) -> io::Result<String> {
+    let mut conn = Connection::open_in_memory(alloc)?;
+    let text = made_over(alloc, &mut conn, before);
+    drop(conn);
+    Ok(text?)
+}
+
+/// Plays each line `STATEMENTS -> TEXT`: the tables made in a store in which these statements were run, and made again for another month, how
+/// both end, the tables and views of the store, and the rows of meta.
+pub fn play(rt: &HostRuntime, tally: &mut Tally, lines: &str) -> io::Result<()> {
+    for line in lines.lines() {
+        let (before, want) = parted(line);
+        let got = made(rt.alloc(), before)?;
+        compare(rt, tally, line, got.as_str(), want)?;
+    }
+    Ok(())
 }

@@ -1,30 +1,36 @@
-//! Plays the cases of standard input over stores in memory: which schemas are ours, and which tables are damaged. It prints each that is
-//! answered otherwise, and then `N cases, M differ`. Read `tables` first.
+//! Plays the cases of standard input over stores in memory: what rows are read as, which schemas are ours, and which tables are damaged.
+//! It prints each that is answered otherwise, and then `N cases, M differ`.
 //!
-//! Blocks are parted by empty lines. The first line of a block is what stands in each of its stores: statements that put rows into our
-//! tables. Of its other lines each is a case on a store of its own: `OLD ~> NEW; STATEMENTS -> WANT` makes our tables with OLD replaced by
-//! NEW in the texts that make them, and runs the statements; what stands before `; ` may be missing.
+//! A block of cases has its kind in the first line: `rows of KIND`, whose lines are queries of one row and what that row is read as;
+//! `records`, whose lines are the words of a row of the books and what that is once it was made a row and read back; `tables behind
+//! STATEMENTS`, each of whose lines is a case on a store of its own, in whose tables the statements put rows. Such a line is `OLD ~> NEW;
+//! MORE -> WANT`: our tables are made with OLD replaced by NEW in the texts that make them, and more statements are run; what stands before
+//! `; ` may be missing.
 #![tactic(auto)]
 
+mod rows;
 mod tables;
 
 use dh_tally::Tally;
+use std::alloc::Global;
 use std::io;
-use tables::answer;
 
-fn play_line(rt: &HostRuntime, tally: &mut Tally, rows: &str, line: &str) -> io::Result<()> {
-    let (case, want) = line.split_once(" -> ").unwrap_or((line, ""));
-    let got = answer(rt.alloc(), rows, case)?;
-    if tally.compare(got.as_str(), want) {
-        return Ok(());
+// What the case is answered, in a block of this kind.
+fn answer(alloc: Global, kind: &str, case: &str) -> io::Result<String> {
+    if let Some(statements) = kind.strip_prefix("tables behind ") {
+        return tables::answer(alloc, statements, case);
     }
-    println!(rt; "{case} -> {got}")
+    rows::answer(alloc, kind, case)
 }
 
 fn play_block(rt: &HostRuntime, tally: &mut Tally, block: &str) -> io::Result<()> {
-    let (rows, lines) = block.split_once('\n').unwrap_or((block, ""));
+    let (kind, lines) = block.split_once('\n').unwrap_or((block, ""));
     for line in lines.lines() {
-        play_line(rt, tally, rows, line)?;
+        let (case, want) = line.split_once(" -> ").unwrap_or((line, ""));
+        let got = answer(rt.alloc(), kind, case)?;
+        if !tally.compare(got.as_str(), want) {
+            println!(rt; "{kind}: {case} -> {got}")?;
+        }
     }
     Ok(())
 }

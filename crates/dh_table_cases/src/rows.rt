@@ -9,6 +9,7 @@ use dh_types::{
 use sqlite::types::ValueRef;
 use sqlite::{Alter, Connection, Row};
 use std::alloc::{AllocError, Global};
+use std::io;
 
 // The fields of the record that the row is.
 fn read<R: Record + ToLine + Drop>(alloc: Global, row: &Row) -> Result<String, AllocError> {
@@ -57,8 +58,8 @@ fn one_row<S: Alter>(conn: &mut Connection<S>, sql: &str, values: &[ValueRef<'_>
     conn.query_row(sql, values).ok()
 }
 
-/// What the one row of the query is of this kind.
-pub fn read_as<S: Alter>(
+// What the one row of the query is of this kind.
+fn read_as<S: Alter>(
     alloc: Global,
     conn: &mut Connection<S>,
     kind: &str,
@@ -127,8 +128,8 @@ fn row_back<S: Alter>(
     }
 }
 
-/// The record that the words are, made a row and read back.
-pub fn through<S: Alter>(
+// The record that the words are, made a row and read back.
+fn through<S: Alter>(
     alloc: Global,
     conn: &mut Connection<S>,
     words: &str,
@@ -137,4 +138,15 @@ pub fn through<S: Alter>(
         Ok(row) => row_back(alloc, conn, &row),
         Err(Unreadable) => "not read".to_string(alloc),
     }
+}
+
+/// What the case of such a block is answered, over an empty store: `rows of KIND`, or `records`.
+pub fn answer(alloc: Global, kind: &str, words: &str) -> io::Result<String> {
+    let mut conn = Connection::open_in_memory(alloc)?;
+    let text = match kind.strip_prefix("rows of ") {
+        Some(kind) => read_as(alloc, &mut conn, kind, words),
+        None => through(alloc, &mut conn, words),
+    };
+    drop(conn);
+    Ok(text?)
 }

@@ -1,10 +1,9 @@
 //! Blocks of a terminal. Behind `$ ` stands a call of `./letting`, with `<FILE` behind it for its input or `echo LINE | ` before it, and with
 //! `; echo $?` where its exit status is printed too. The lines up to the next call are what it prints.
 
+use crate::runs::ended;
 use dh_agency_scripts::compare;
-use dh_office::desk;
 use dh_tally::Tally;
-use std::alloc::{AllocError, Global};
 use std::{fs, io, str};
 
 // The file that the calls name, and its log.
@@ -62,21 +61,12 @@ fn input_of(rt: &HostRuntime, input: Input<'_>) -> io::Result<Vec<u8>> {
     Ok(bytes)
 }
 
-fn words_of(alloc: Global, text: &str) -> Result<Vec<&str>, AllocError> {
-    let mut words = Vec::new(alloc);
-    for word in text.split(' ') {
-        words.push(word)?;
-    }
-    Ok(words)
-}
-
 // What the terminal shows of the call.
 fn shown(rt: &HostRuntime, call: Call<'_>) -> io::Result<Vec<u8>> {
-    let words = words_of(rt.alloc(), call.words)?;
     let input = input_of(rt, call.input)?;
     let mut reader = input.as_slice();
     let mut out = Vec::new(rt.alloc());
-    let status = desk(rt, &words, &mut reader, &mut out);
+    let status = ended(rt, call.words, &mut reader, &mut out)?;
     if call.with_status {
         let code = format!(in rt.alloc(); "{}\n", status.code())?;
         out.extend_from_slice(code.as_bytes())?;

@@ -3,7 +3,7 @@
 //! `console`, where it begins without a file, and with `console, going on` where it goes on with that of the block before.
 
 use crate::consoles::{clear, play_console};
-use crate::playing::{bytes_of, compare_answers};
+use crate::manual::{bytes_of, compare_answers};
 use dh_tally::Tally;
 use std::{fs, io};
 

@@ -1,18 +1,12 @@
-//! Tells sessions of drawn lines to agencies in memory and to the plain program over books, and prints each line that the two
-//! answer otherwise, and what their tables then differ in. Standard input has the lines that are drawn from, and the replies
-//! that are to occur. Then a store of many owners is read under a limit of steps. In the end stands `N cases, M differ`.
-#![tactic(auto)]
+//! Sessions of drawn lines, told to agencies in memory and to the plain program over books: each line that the two answer otherwise, and what
+//! their tables then differ in. A file has the lines that are drawn from, the replies that are to occur, and lines that are told to a store of
+//! many owners under a limit of steps.
 
-mod books;
-mod drawing;
-mod sessions;
-mod short_reads;
-
+use crate::sessions::{Plan, play_sessions};
+use crate::short_reads::play_short_reads;
 use dh_agency_scripts::compare;
 use dh_tally::Tally;
-use sessions::{Plan, play_sessions};
-use short_reads::play_short_reads;
-use std::io;
+use std::{fs, io};
 
 const SESSIONS: u32 = 500;
 
@@ -44,8 +38,8 @@ fn compare_replies(
     Ok(())
 }
 
-fn main(rt: HostRuntime) -> io::Result<()> {
-    let text = io::read_to_string(rt.alloc(), rt.reader())?;
+fn play_file(rt: &HostRuntime, tally: &mut Tally, file: &str) -> io::Result<()> {
+    let text = fs::read_to_string(rt, file)?;
     let mut blocks = text.as_str().trim_end().split("\n\n");
     let plan = Plan {
         sessions: SESSIONS,
@@ -53,9 +47,15 @@ fn main(rt: HostRuntime) -> io::Result<()> {
         further: below(blocks.next()),
         count: FURTHER_LINES,
     };
-    let mut tally = Tally::new();
-    let replies = play_sessions(&rt, &mut tally, plan)?;
-    compare_replies(&rt, &mut tally, replies.as_str(), below(blocks.next()))?;
-    play_short_reads(&rt, &mut tally, below(blocks.next()))?;
-    println!(rt; "{tally}")
+    let replies = play_sessions(rt, tally, plan)?;
+    compare_replies(rt, tally, replies.as_str(), below(blocks.next()))?;
+    play_short_reads(rt, tally, below(blocks.next()))
+}
+
+/// Plays the sessions that each file tells of.
+pub fn play_files(rt: &HostRuntime, tally: &mut Tally, files: &str) -> io::Result<()> {
+    for file in files.lines() {
+        play_file(rt, tally, file)?;
+    }
+    Ok(())
 }

@@ -1,4 +1,4 @@
-//! Cases played: read whole and byte by byte, with failures, and over a listener.
+//! Requests played: read whole and byte by byte, with failures, and over a listener.
 
 use crate::blocks::Block;
 use crate::serving::{Outcome, serve};
