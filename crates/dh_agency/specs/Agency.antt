@@ -1,13 +1,16 @@
 -- An agency between calls.
-use Rattle.std.specs.Prelude.{◌≡◌, ◌≤◌, false, IsTrue}
+use Rattle.std.specs.Prelude.{◌≤◌, IsTrue}
 use Rattle.sqlite.specs.Store.{Ghosts}
 use Rattle.sqlite.specs.State as conn
 use Rattle.sqlite.specs.State.{HasCleanDisk}
 use Rattle.sqlite.specs.Held.{state}
 use Rattle.sqlite_trees.specs.View.{doubt}
 use Rattle.dh_model.specs.Books.{State}
+use Rattle.dh_model.specs.Runs.{batch_size}
+use Rattle.dh_laws.specs.Events.{state_of}
+use Rattle.dh_laws.specs.StateTables as laws
 use Rattle.dh_schema.specs.Store as store
-use Rattle.dh_schema.specs.Store.{IsReady, tables}
+use Rattle.dh_schema.specs.Store.{tables}
 use Rattle.dh_agency.specs.Seat.{Seat}
 
 abbrev pub shown_by : {S : Type 0} → Ghosts S → Seat S → conn.State
@@ -25,6 +28,14 @@ IsOpen g a = IsTrue (shown_by g a).is_open
 abbrev pub machine : {S : Type 0} → Ghosts S → Seat S → State
 machine g a = tables (shown_by g a)
 
+-- Where the machine stands with these tables: the whole books, and the open run.
+abbrev pub stand_of : State → State
+stand_of s = state_of batch_size (laws.tables s)
+
+-- Where it stands with the agency's tables.
+abbrev pub stand : {S : Type 0} → Ghosts S → Seat S → State
+stand g a = stand_of (machine g a)
+
 -- A store that is clean was so before.
 abbrev pub WasClean : {S : Type 0} → Ghosts S → Seat S → Seat S → Type 0
 WasClean g old new = doubt (shown_by g old).is_clean ≤ doubt (shown_by g new).is_clean
@@ -40,7 +51,3 @@ Leaves g a P = store.Leaves (shown_by g a) P
 -- The tables that it reads are sound, no transaction is open, and this holds of them.
 abbrev pub ReadsAs : {S : Type 0} → Ghosts S → Seat S → (State → Type 0) → Type 0
 ReadsAs g a P = store.IsReadyWith (shown_by g a) P
-
--- Between calls an agency that has not stopped has sound tables, which are the last commit.
-abbrev pub IsInOrder : {S : Type 0} → Ghosts S → Seat S → Type 0
-IsInOrder g a = a.is_stopped ≡ false → IsClean g a → IsReady (shown_by g a)

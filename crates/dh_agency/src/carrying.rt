@@ -5,7 +5,6 @@ ghost use Rattle.sqlite.specs.State.{HasCleanDisk};
 ghost use Rattle.sqlite.specs.Held.{state};
 ghost use Rattle.sqlite_trees.specs.View.{doubt};
 ghost use Rattle.dh_model.specs.declared.rows.Verdict.TheVariants as verdict;
-ghost use Rattle.dh_model.specs.Machine.{accepted};
 ghost use Rattle.dh_model.specs.MachineLaws.{is_post};
 ghost use Rattle.dh_model.specs.Verdicts.{verdict_on};
 ghost use Rattle.dh_laws.specs.Batches.{is_plain};
@@ -22,16 +21,6 @@ use dh_store::apply;
 use dh_types::{Command, Fault, Refusal, Reply};
 use sqlite::{Alter, Connection};
 use std::alloc::Global;
-
-// What rows that were put into the tables are answered.
-fn accepted(change: &Change) -> Reply
-    ensures { result ≡ accepted change.now }
-{
-    match change {
-        Change::Receipt(receipt) => Reply::Receipt(receipt.number),
-        _ => Reply::Accepted,
-    }
-}
 
 // What posting batches is answered.
 fn reply_of(state: RunState) -> Reply
@@ -67,7 +56,7 @@ fn put_rows<S: Alter>(
     commands_are_entered(command);
     accepted_changes_fit();
     apply(alloc, conn, change)?;
-    Ok(accepted(change))
+    Ok(change.reply())
 }
 
 // Carries out an accepted command: the rows, and the batches of a run.

@@ -1,7 +1,8 @@
 //! Agencies that are told lines.
 
 use dh_agency::{Agency, NotOpened, create};
-use dh_examples::{answer_text, command, january, question};
+use dh_examples::{Unreadable, answer_text, january, request};
+use dh_fields::Request;
 use dh_types::{Command, Question};
 use sqlite::{Alter, Connection, MemStore};
 use std::alloc::{AllocError, Global};
@@ -25,7 +26,7 @@ fn replied<S: Alter>(
     }
 }
 
-fn answered<S: Alter>(
+fn shown<S: Alter>(
     alloc: Global,
     agency: &mut Agency<S>,
     question: &Question,
@@ -36,28 +37,25 @@ fn answered<S: Alter>(
     }
 }
 
-fn asked<S: Alter>(
+fn answered<S: Alter>(
     alloc: Global,
     agency: &mut Agency<S>,
-    words: &str,
+    request: &Request,
 ) -> Result<String, AllocError> {
-    match question(words) {
-        Ok(question) => answered(alloc, agency, &question),
-        Err(_) => "no question".to_string(alloc),
+    match request {
+        Request::Command(command) => replied(alloc, agency, command),
+        Request::Question(question) => shown(alloc, agency, question),
     }
 }
 
-/// What the agency answers to the line: its reply to a command, and to `show,QUESTION` its answer.
+/// What the agency answers to the line: its reply to a command, and its answer to a question.
 pub fn told<S: Alter>(
     alloc: Global,
     agency: &mut Agency<S>,
     line: &str,
 ) -> Result<String, AllocError> {
-    if let Some(words) = line.strip_prefix("show,") {
-        return asked(alloc, agency, words);
-    }
-    match command(alloc, line) {
-        Ok(command) => replied(alloc, agency, &command),
-        Err(_) => "no command".to_string(alloc),
+    match request(alloc, line) {
+        Ok(request) => answered(alloc, agency, &request),
+        Err(Unreadable) => "not read".to_string(alloc),
     }
 }

@@ -7,11 +7,9 @@ mod comparing;
 mod lives;
 mod rows;
 mod scripts;
-mod words;
 
 pub use agencies::{in_memory, told};
 pub use comparing::compare;
-pub use lives::{play_lives, reopened};
+pub use lives::play_lives;
 pub use rows::{all_rows, found, rows_of};
 pub use scripts::{compare_tables, parted, play_in_memory, table_of};
-pub use words::branch;

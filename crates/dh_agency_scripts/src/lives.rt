@@ -18,11 +18,8 @@ use sqlite_trees::store::Reopen;
 use std::alloc::{AllocError, Global};
 use std::io;
 
-/// The store after a power cut, opened anew, where it can be.
-pub fn reopened<S: Alter + Reopen + Drop>(
-    alloc: Global,
-    conn: Connection<S>,
-) -> Option<Connection<S>>
+// The store after a power cut, opened anew, where it can be.
+fn reopened<S: Alter + Reopen + Drop>(alloc: Global, conn: Connection<S>) -> Option<Connection<S>>
     ensures { IfSome result (λ again. HasCleanDisk (state S.Store again) → IsResting (state S.Store again)) }
 {
     let mut store = conn.into_store();

@@ -9,14 +9,16 @@ ghost use Rattle.dh_verdicts.specs.Seen.{facts_of};
 ghost use Rattle.dh_tables.specs.Calls.{CommitsNothing};
 ghost use Rattle.dh_schema.specs.Faults.{IsFirstFault};
 ghost use Rattle.dh_schema.specs.Store.{IsReady, StaysReady, tables};
+ghost use Rattle.dh_looks.specs.Months.{AreMonthsOf};
 ghost use Rattle.dh_asking.specs.Gathered.{Gathers, bare};
 
 use crate::accounts::{at_lease, at_receipt, at_run};
 use crate::lettings::{at_assign, at_comment, at_inspection, at_property, at_rent, at_viewing};
 use crate::people::{at_branch, at_client, at_owner, at_register, at_staff};
 use dh_books::Books;
-use dh_looks::{months_now, open_run};
+use dh_looks::find_open_run;
 use dh_model::OpenRun;
+use dh_rows::Meta;
 use dh_schema::fault_of;
 use dh_tables::last_receipt;
 use dh_types::{Command, Fault};
@@ -24,23 +26,14 @@ use dh_verdicts::Facts;
 use sqlite::{Alter, Connection};
 use std::alloc::Global;
 
-// Books of the tables' months without a row.
-fn bare_books<S: Alter>(alloc: Global, conn: &mut Connection<S>) -> Result<Books, Fault>
-    requires { HasCleanDisk (state S.Store conn.old) → IsReady (state S.Store conn.old) }
-    ensures bare { HasCleanDisk (state S.Store conn.new) → IfOk result (λ books. books ≡ bare (tables (state S.Store conn.old))) }
-    ensures done { HasCleanDisk (state S.Store conn.new) → OnOk result (StaysReady (state S.Store conn.old) (state S.Store conn.new)) }
-    ensures kept { HasCleanDisk (state S.Store conn.new) → IsTrue (state S.Store conn.new).is_open
-        → StaysReady (state S.Store conn.old) (state S.Store conn.new) }
-    ensures cause { IfErr result IsFirstFault }
-    ensures crash { CommitsNothing (state S.Store conn.old) (state S.Store conn.new) }
-{
-    let months = months_now(alloc, conn)?;
-    Ok(Books::new(alloc, months.first(), months.next()))
-}
-
-// The open run, of which the month alone is known.
-fn open_month<S: Alter>(alloc: Global, conn: &mut Connection<S>) -> Result<Option<OpenRun>, Fault>
-    requires { HasCleanDisk (state S.Store conn.old) → IsReady (state S.Store conn.old) }
+/// The open run, of which the month alone is known. The months are those of the tables.
+pub(crate) fn open_month<S: Alter>(
+    alloc: Global,
+    conn: &mut Connection<S>,
+    months: Meta,
+) -> Result<Option<OpenRun>, Fault>
+    requires ready { HasCleanDisk (state S.Store conn.old) → IsReady (state S.Store conn.old) }
+    requires months { HasCleanDisk (state S.Store conn.old) → AreMonthsOf months (tables (state S.Store conn.old)).books }
     ensures month { HasCleanDisk (state S.Store conn.new) → IfOk result (λ run. month_open run ≡ month_open (tables (state S.Store conn.old)).open_run) }
     ensures done { HasCleanDisk (state S.Store conn.new) → OnOk result (StaysReady (state S.Store conn.old) (state S.Store conn.new)) }
     ensures kept { HasCleanDisk (state S.Store conn.new) → IsTrue (state S.Store conn.new).is_open
@@ -48,7 +41,7 @@ fn open_month<S: Alter>(alloc: Global, conn: &mut Connection<S>) -> Result<Optio
     ensures cause { IfErr result IsFirstFault }
     ensures crash { CommitsNothing (state S.Store conn.old) (state S.Store conn.new) }
 {
-    match open_run(alloc, conn)? {
+    match find_open_run(alloc, conn, months)? {
         Some(run) => Ok(Some(OpenRun {
             month: run.month,
             done: 0,
@@ -133,9 +126,11 @@ fn gather_into<S: Alter>(
     alloc: Global,
     conn: &mut Connection<S>,
     command: &Command,
+    run: Option<OpenRun>,
     facts: &mut Facts,
 ) -> Result<(), Fault>
-    requires { HasCleanDisk (state S.Store conn.old) → IsReady (state S.Store conn.old) }
+    requires ready { HasCleanDisk (state S.Store conn.old) → IsReady (state S.Store conn.old) }
+    requires run { HasCleanDisk (state S.Store conn.old) → month_open run ≡ month_open (tables (state S.Store conn.old)).open_run }
     ensures cut { HasCleanDisk (state S.Store conn.new) → facts.old.books ≡ bare (tables (state S.Store conn.old))
         → OnOk result (IsCutOf (facts_of facts.new) (tables (state S.Store conn.old)).books (tables (state S.Store conn.old)).open_run command.now) }
     ensures done { HasCleanDisk (state S.Store conn.new) → OnOk result (StaysReady (state S.Store conn.old) (state S.Store conn.new)) }
@@ -145,19 +140,22 @@ fn gather_into<S: Alter>(
     ensures crash { CommitsNothing (state S.Store conn.old) (state S.Store conn.new) }
 {
     gather_rows(alloc, conn, command, &mut facts.books)?;
-    let run = open_month(alloc, conn)?;
     facts.books.set_open_run(run);
     facts.receipts = count_for(alloc, conn, command)?;
     Ok(())
 }
 
-/// What the command looks at in the tables.
+/// What the command looks at in the tables. The months are those of the tables, and the run is the one that is open.
 pub(crate) fn gather<S: Alter>(
     alloc: Global,
     conn: &mut Connection<S>,
     command: &Command,
+    months: Meta,
+    run: Option<OpenRun>,
 ) -> Result<Facts, Fault>
-    requires { HasCleanDisk (state S.Store conn.old) → IsReady (state S.Store conn.old) }
+    requires ready { HasCleanDisk (state S.Store conn.old) → IsReady (state S.Store conn.old) }
+    requires months { HasCleanDisk (state S.Store conn.old) → AreMonthsOf months (tables (state S.Store conn.old)).books }
+    requires run { HasCleanDisk (state S.Store conn.old) → month_open run ≡ month_open (tables (state S.Store conn.old)).open_run }
     ensures cut { HasCleanDisk (state S.Store conn.new)
         → IfOk result (λ facts. IsCutOf (facts_of facts) (tables (state S.Store conn.old)).books (tables (state S.Store conn.old)).open_run command.now) }
     ensures done { HasCleanDisk (state S.Store conn.new) → OnOk result (StaysReady (state S.Store conn.old) (state S.Store conn.new)) }
@@ -166,9 +164,9 @@ pub(crate) fn gather<S: Alter>(
     ensures cause { IfErr result IsFirstFault }
     ensures crash { CommitsNothing (state S.Store conn.old) (state S.Store conn.new) }
 {
-    let books = bare_books(alloc, conn)?;
+    let books = Books::new(alloc, months.first(), months.next());
     let mut facts = Facts { books, receipts: 0 };
-    match gather_into(alloc, conn, command, &mut facts) {
+    match gather_into(alloc, conn, command, run, &mut facts) {
         Ok(()) => Ok(facts),
         Err(fault) => Err(fault),
     }

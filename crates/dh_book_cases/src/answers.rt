@@ -1,19 +1,19 @@
 //! What questions are answered, as texts.
 
 use dh_books::Books;
-use dh_examples::{Fields, Unreadable, answer_text, numbers_of, question};
+use dh_examples::{Fields, Unreadable, answer_text, numbers_of};
 use dh_rules::{answer, balance, matching, vacant};
-use dh_types::{Answer, Balance, Client, EntryDay, LeaseNo, Property, Question};
+use dh_types::{Balance, Client, EntryDay, LeaseNo, Property, Question};
 use std::alloc::{AllocError, Global};
 
-fn answer_to(alloc: Global, books: &Books, question: &Question) -> Result<Answer, AllocError> {
-    answer(alloc, books, question)
-}
-
-/// `show,QUESTION`
-pub(crate) fn shown(alloc: Global, books: &Books, words: &str) -> Result<String, Unreadable> {
-    let answer = answer_to(alloc, books, &question(words)?)?;
-    Ok(answer_text(alloc, &answer)?)
+/// The answer to the question.
+pub(crate) fn shown(
+    alloc: Global,
+    books: &Books,
+    question: &Question,
+) -> Result<String, AllocError> {
+    let answer = answer(alloc, books, question)?;
+    answer_text(alloc, &answer)
 }
 
 fn vacant_on(alloc: Global, books: &Books, day: EntryDay) -> Result<Vec<Property>, AllocError> {

@@ -1,10 +1,9 @@
 //! Commands that are cut: each in turn in each way. Beside the tables goes the machine, which is told the commands that count.
 
 use crate::calls::{cut_after, cut_before, empty, mend, say, tear, tell};
-use crate::lines::is_command;
 use crate::playing::parted;
 use dh_books::Books;
-use dh_examples::{Block, Unreadable, command};
+use dh_examples::{Block, Unreadable, command_if_any};
 use dh_player::Reach;
 use dh_tally::Tally;
 use dh_types::Command;
@@ -140,8 +139,8 @@ fn add_commands(
 ) -> Result<(), Unreadable> {
     for line in lines {
         let (words, _) = parted(line.as_str());
-        if is_command(words) {
-            commands.push(command(alloc, words)?)?;
+        if let Some(command) = command_if_any(alloc, words)? {
+            commands.push(command)?;
         }
     }
     Ok(())

@@ -1,10 +1,10 @@
 //! Lists of what can happen to tables, played at once.
 
 use crate::calls::{empty, put_back};
-use crate::lines::{Teller, answered, is_command};
+use crate::lines::{Teller, answered};
 use crate::playing::{compare, parted, told};
 use dh_books::Books;
-use dh_examples::{Block, Unreadable, command};
+use dh_examples::{Block, Unreadable, command, command_if_any};
 use dh_player::{Happening, Reach, play};
 use dh_tally::Tally;
 use dh_types::Reply;
@@ -44,8 +44,8 @@ fn done(alloc: Global, words: &str) -> Result<Happening, Unreadable> {
 
 // What happens at the words, or nothing where they ask.
 fn happening(alloc: Global, words: &str) -> Result<Option<Happening>, Unreadable> {
-    if is_command(words) {
-        return Ok(Some(Happening::Said(command(alloc, words)?)));
+    if let Some(command) = command_if_any(alloc, words)? {
+        return Ok(Some(Happening::Said(command)));
     }
     let (kind, rest) = words.split_once(',').unwrap_or((words, ""));
     match kind {
@@ -98,6 +98,11 @@ fn next_text(alloc: Global, replies: &mut Iter<'_, Reply>) -> Result<String, All
     }
 }
 
+// Whether the words are a command, which has a reply.
+fn is_command(alloc: Global, words: &str) -> bool {
+    matches!(command_if_any(alloc, words), Ok(Some(_)))
+}
+
 // Whether the words tell what happens and is not answered.
 fn is_unanswered(words: &str) -> bool {
     let (kind, _) = words.split_once(',').unwrap_or((words, ""));
@@ -113,7 +118,7 @@ fn compare_reply(
     line: &str,
 ) -> io::Result<()> {
     let (words, _) = parted(line);
-    if !is_command(words) {
+    if !is_command(rt.alloc(), words) {
         return Ok(());
     }
     let got = next_text(rt.alloc(), replies)?;
@@ -129,7 +134,7 @@ fn compare_asked(
     line: &str,
 ) -> io::Result<()> {
     let (words, _) = parted(line);
-    if is_command(words) || is_unanswered(words) {
+    if is_unanswered(words) || is_command(rt.alloc(), words) {
         return Ok(());
     }
     let got = told(

@@ -10,7 +10,8 @@ use crate::runs::{
 };
 use crate::terms::{covered, due, dues_of, end, overlapping};
 use dh_books::Books;
-use dh_examples::{Fields, Unreadable, command, row_of};
+use dh_examples::{Fields, Unreadable, command, request_if_any, row_of};
+use dh_fields::Request;
 use dh_model::Verdict;
 use dh_rules::decide;
 use dh_types::{Command, Reply};
@@ -36,16 +37,17 @@ fn replied(
     }
 }
 
-fn commanded(
+// The reply to a command, or the answer to a question.
+fn requested(
     alloc: Global,
     teller: Teller,
     books: &mut Books,
-    words: &str,
-) -> Result<String, Unreadable> {
-    let command = command(alloc, words)?;
-    let text = replied(alloc, teller, books, &command);
-    drop(command);
-    Ok(text?)
+    request: &Request,
+) -> Result<String, AllocError> {
+    match request {
+        Request::Command(command) => replied(alloc, teller, books, command),
+        Request::Question(question) => shown(alloc, books, question),
+    }
 }
 
 // The reply that a verdict comes to; a change is accepted.
@@ -136,7 +138,6 @@ fn of_months(
 fn asked(alloc: Global, books: &Books, kind: &str, rest: &str) -> Result<String, Unreadable> {
     let mut fields = Fields::of(rest);
     match kind {
-        "show" => shown(alloc, books, rest),
         "judge" => judged(alloc, books, rest),
         "audit" => audited(alloc, books),
         "rule" => is_kept(alloc, books, rest),
@@ -149,7 +150,7 @@ fn asked(alloc: Global, books: &Books, kind: &str, rest: &str) -> Result<String,
     }
 }
 
-// Whether such a line changes the books and is no command.
+// Whether such a line changes the books and is no request.
 fn is_change(kind: &str) -> bool {
     matches!(
         kind,
@@ -163,30 +164,6 @@ fn is_change(kind: &str) -> bool {
     )
 }
 
-/// Whether the words are those of a command.
-pub(crate) fn is_command(words: &str) -> bool {
-    let (kind, _) = words.split_once(',').unwrap_or((words, ""));
-    matches!(
-        kind,
-        "branch"
-            | "staff"
-            | "owner"
-            | "property"
-            | "assign"
-            | "rent"
-            | "client"
-            | "register"
-            | "viewing"
-            | "comment"
-            | "inspection"
-            | "lease"
-            | "receipt"
-            | "run"
-            | "open"
-            | "post"
-    )
-}
-
 // What the words without rows are answered.
 fn answered_bare(
     alloc: Global,
@@ -194,8 +171,8 @@ fn answered_bare(
     books: &mut Books,
     words: &str,
 ) -> Result<String, Unreadable> {
-    if is_command(words) {
-        return commanded(alloc, teller, books, words);
+    if let Some(request) = request_if_any(alloc, words)? {
+        return Ok(requested(alloc, teller, books, &request)?);
     }
     let (kind, rest) = words.split_once(',').unwrap_or((words, ""));
     if !is_change(kind) {

@@ -1,10 +1,10 @@
-//! The fields of a line.
+//! The fields of a line that is no request.
 
 use dh_types::{
-    BadText, ChargeIndex, Comment, Day, EntryDay, EntryMonth, Id, Key, LeaseNo, Month, Pence,
-    ReceiptNo, Rent, Text60,
+    BadText, ChargeIndex, Day, EntryDay, EntryMonth, Id, Key, LeaseNo, Month, Pence, ReceiptNo,
+    Rent,
 };
-use std::alloc::{AllocError, AllocFailed, Global};
+use std::alloc::{AllocError, AllocFailed};
 use std::num::ParseIntError;
 use std::str::Split;
 
@@ -58,14 +58,6 @@ impl<'a> Fields<'a> {
         Ok(Id::read(self.text()?)?)
     }
 
-    /// The code, or none where the field is empty.
-    pub fn id_if_any(&mut self) -> Result<Option<Id>, Unreadable> {
-        match self.text()? {
-            "" => Ok(None),
-            text => Ok(Some(Id::read(text)?)),
-        }
-    }
-
     pub fn key(&mut self) -> Result<Key, Unreadable> {
         Ok(Key::read(self.text()?)?)
     }
@@ -115,22 +107,6 @@ impl<'a> Fields<'a> {
         match self.text()? {
             "" => Ok(None),
             text => Ok(Some(LeaseNo::read(text)?)),
-        }
-    }
-
-    pub fn text60(&mut self, alloc: Global) -> Result<Text60, Unreadable> {
-        Ok(Text60::read(alloc, self.text()?)??)
-    }
-
-    pub fn comment(&mut self, alloc: Global) -> Result<Comment, Unreadable> {
-        Ok(Comment::read(alloc, self.text()?)??)
-    }
-
-    /// The comment, or none where the field is empty.
-    pub fn comment_if_any(&mut self, alloc: Global) -> Result<Option<Comment>, Unreadable> {
-        match self.text()? {
-            "" => Ok(None),
-            text => Ok(Some(Comment::read(alloc, text)??)),
         }
     }
 }

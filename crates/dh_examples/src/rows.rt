@@ -1,12 +1,11 @@
 //! The rows of the books.
 
+use crate::account_rows::{charge, lease, part, receipt, run};
 use crate::fields::{Fields, Unreadable};
-use crate::people::{branch, client, owner, registration, staff};
-use crate::properties::{inspection, property, viewing};
-use crate::terms::{charge, lease, part, receipt, run};
+use crate::requests::command;
 use dh_types::{
-    Branch, Charge, Client, Inspection, Lease, Month, Owner, Part, Property, Receipt, Registration,
-    Run, Staff, Viewing,
+    Branch, Charge, Client, Command, Inspection, Lease, Month, Owner, Part, Property, Receipt,
+    Registration, Run, Staff, Viewing,
 };
 use std::alloc::Global;
 
@@ -29,25 +28,33 @@ pub enum Row {
     Next(Month),
 }
 
+// The row that the command adds as it is.
+fn row_added(command: Command) -> Result<Row, Unreadable> {
+    match command {
+        Command::Branch(it) => Ok(Row::Branch(it)),
+        Command::Staff(it) => Ok(Row::Staff(it)),
+        Command::Owner(it) => Ok(Row::Owner(it)),
+        Command::Property(it) => Ok(Row::Property(it)),
+        Command::Client(it) => Ok(Row::Client(it)),
+        Command::Register(it) => Ok(Row::Registration(it)),
+        Command::Viewing(it) => Ok(Row::Viewing(it)),
+        Command::Inspection(it) => Ok(Row::Inspection(it)),
+        _ => Err(Unreadable),
+    }
+}
+
 /// The row that these words are; an error where they are none. A row that a command adds has the command's words; a lease
 /// has its rent behind them, and a receipt its number before them.
 pub fn row_of(alloc: Global, words: &str) -> Result<Row, Unreadable> {
-    let mut fields = Fields::of(words);
-    match fields.text()? {
-        "branch" => branch(alloc, &mut fields).map(Row::Branch),
-        "staff" => staff(alloc, &mut fields).map(Row::Staff),
-        "owner" => owner(alloc, &mut fields).map(Row::Owner),
-        "property" => property(alloc, &mut fields).map(Row::Property),
-        "client" => client(alloc, &mut fields).map(Row::Client),
-        "register" => registration(&mut fields).map(Row::Registration),
-        "viewing" => viewing(alloc, &mut fields).map(Row::Viewing),
-        "inspection" => inspection(alloc, &mut fields).map(Row::Inspection),
-        "lease" => lease(&mut fields).map(Row::Lease),
+    let (kind, rest) = words.split_once(',').ok_or(Unreadable)?;
+    let mut fields = Fields::of(rest);
+    match kind {
+        "lease" => lease(alloc, words).map(Row::Lease),
         "charge" => charge(&mut fields).map(Row::Charge),
-        "receipt" => receipt(&mut fields).map(Row::Receipt),
+        "receipt" => receipt(alloc, rest).map(Row::Receipt),
         "run" => run(&mut fields).map(Row::Run),
         "part" => part(&mut fields).map(Row::Part),
         "next" => fields.any_month().map(Row::Next),
-        _ => Err(Unreadable),
+        _ => row_added(command(alloc, words)?),
     }
 }

@@ -2,9 +2,8 @@
 use Rattle.std.proofs.Common.{◌≡◌, ◌∙◌, ◌++◌, [], ℕ, List, Option, Some, Result, Ok, Err, ap, false, refl, subst, sym}
 use Rattle.std.specs.Result.{is_err}
 use Rattle.dh_types.specs.Output.{Puts}
-use Rattle.dh_types.specs.Reports.{Report, BranchList, VacantList, MatchingList, LeaseStatement, BranchArrears, RunParts, NoReport}
+use Rattle.dh_types.specs.Reports.{Report, BranchList, VacantList, MatchingList, LeaseStatement, BranchArrears, RunParts, NoReport, is_no_report}
 use Rattle.dh_reports.specs.ReportTexts.{report_text}
-use Rattle.dh_lines.specs.Session.{is_no_report}
 use Rattle.dh_types.specs.declared.reply.Reply.{Reply}
 use Rattle.dh_types.specs.declared.reply.Reply.TheVariants as reply
 use Rattle.dh_types.specs.declared.reply.Refusal.{Refusal}

@@ -8,9 +8,8 @@ use Rattle.dh_types.specs.declared.writing.Output.{Output as Written}
 use Rattle.dh_model.specs.Books.{State}
 use Rattle.dh_schema.specs.Faults.{IsFirstFault}
 use Rattle.dh_agency.specs.Seat.{Seat}
-use Rattle.dh_agency.specs.Agency.{IsOpen, machine}
-use Rattle.dh_lines.specs.Batch.{stand}
-use Rattle.dh_lines.proofs.CrashLemmas.{leaves_more}
+use Rattle.dh_agency.specs.Agency.{IsOpen, machine, stand}
+use Rattle.dh_agency.proofs.Standing.{leaves_more}
 use Rattle.dh_requests.specs.Requests.{MayAsk}
 use Rattle.dh_requests.specs.declared.asked.Asked.{Asked}
 use Rattle.dh_http.specs.declared.fault.NetFault.{NetFault}

@@ -9,7 +9,7 @@ use Rattle.dh_types.specs.declared.reply.Refusal.{Refusal}
 use Rattle.dh_types.specs.declared.reply.Refusal.TheVariants as refusal
 use Rattle.dh_types.specs.declared.reply.Fault.{Fault}
 use Rattle.dh_types.specs.declared.reply.Fault.TheVariants as fault
-use Rattle.dh_types.specs.Replies.{fault_text, refusal_text, reply_text}
+use Rattle.dh_types.specs.Replies.{fault_text, refusal_number, refusal_text, reply_text}
 use Rattle.dh_types.specs.Reports.{Report, NoReport}
 use Rattle.dh_reports.specs.ReportTexts.{report_text}
 use Rattle.dh_types.specs.declared.writing.Output.{Output}
@@ -66,26 +66,6 @@ turned_answer why = record { status = turned_status why; content = Empty; allow 
 
 abbrev pub json_answer : ℕ → ℕ → List ℕ → Answer
 json_answer status code text = record { status = status; content = Json; allow = []; body = reply_body code text }
-
-abbrev pub refusal_number : Refusal → ℕ
-refusal_number refusal.Taken = 1
-refusal_number (refusal.Unknown field) = 2
-refusal_number refusal.WrongBranch = 3
-refusal_number refusal.TooMany = 4
-refusal_number (refusal.Overlap lease) = 5
-refusal_number (refusal.ClientStart lease) = 6
-refusal_number (refusal.MonthPosted next) = 7
-refusal_number (refusal.NotNextMonth next) = 8
-refusal_number refusal.KeyUsed = 9
-refusal_number (refusal.RunOpen month) = 10
-refusal_number (refusal.DepositAmount expected) = 11
-refusal_number refusal.DepositPaid = 12
-refusal_number refusal.NotRegistered = 13
-refusal_number refusal.NoRun = 14
-refusal_number (refusal.BadLine field) = 15
-refusal_number (refusal.Version found) = 16
-refusal_number (refusal.Damaged rule) = 17
-refusal_number refusal.Full = 18
 
 abbrev pub refusal_status : Refusal → ℕ
 refusal_status (refusal.BadLine field) = 400

@@ -13,11 +13,10 @@ use Rattle.dh_model.specs.Machine.{step}
 use Rattle.dh_model.specs.Runs.{batch_size}
 use Rattle.dh_schema.specs.Faults.{IsFirstFault}
 use Rattle.dh_agency.specs.Seat.{Seat}
-use Rattle.dh_agency.specs.Agency.{IsOpen, Leaves, machine}
+use Rattle.dh_agency.specs.Agency.{IsOpen, Leaves, machine, stand}
 use Rattle.dh_agency.specs.Told.{IsCut}
 use Rattle.dh_fields.specs.declared.request.Request.{Request}
 use Rattle.dh_fields.specs.declared.request.Request.TheVariants.{Command as Ordered, Question}
-use Rattle.dh_lines.specs.Batch.{stand}
 use Rattle.dh_requests.specs.declared.asked.Asked.{Asked}
 use Rattle.dh_requests.specs.declared.asked.Asked.TheVariants.{Turned, Fields}
 use Rattle.dh_http.specs.declared.fault.NetFault.{NetFault}

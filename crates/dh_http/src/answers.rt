@@ -3,12 +3,12 @@
 ghost use Rattle.std.specs.Prelude.{◌≡◌, [], false, unwrap_or};
 ghost use Rattle.http.specs.StatusCode.{reason_phrase};
 ghost use Rattle.dh_types.specs.Output.{Puts};
-ghost use Rattle.dh_types.specs.Reports.{report_of};
-ghost use Rattle.dh_lines.specs.Session.{is_no_report};
+ghost use Rattle.dh_types.specs.Reports.{is_no_report, report_of};
 ghost use Rattle.dh_http.specs.Answers.{Passes, Sends, Writes, allow_line, answer_text, content_line, fault_answer, head_text, json_answer, refusal_answer};
-ghost use Rattle.dh_http.specs.Answers.{refusal_number, refusal_status, reply_answer, report_answer, turned_answer, turned_status};
+ghost use Rattle.dh_http.specs.Answers.{refusal_status, reply_answer, report_answer, turned_answer, turned_status};
 ghost use Rattle.dh_http.specs.declared.answers.Unsent.TheVariants as unsent;
 
+use arrayvec::ArrayVec;
 use dh_reports::write;
 use dh_requests::Turned;
 use dh_types::writing::{put, put_parts};
@@ -17,6 +17,9 @@ use http::StatusCode;
 use itoa::Buffer;
 use std::alloc::{AllocError, Global};
 use std::io::Write;
+
+/// The head of an answer, with room for the longest, of some 160 bytes.
+type Head = ArrayVec<u8, 256>;
 
 /// What the body of an answer is.
 #[derive(Clone, Copy)]
@@ -60,8 +63,8 @@ fn content_line(content: Content) -> &'static str
     }
 }
 
-// Writes the head of an answer whose body has so many bytes; `allow` is a whole header line, or nothing.
-fn put_head<W: Write>(
+// Writes the head of an answer part by part.
+fn put_head_parts<W: Write>(
     writer: &mut W,
     status: StatusCode,
     content: Content,
@@ -87,6 +90,24 @@ fn put_head<W: Write>(
             b"Connection: close\r\n\r\n",
         ],
     )
+}
+
+// Writes the head of an answer whose body has so many bytes, at once; one that had no room would be written part by part. `allow` is a
+// whole header line, or nothing.
+fn put_head<W: Write>(
+    writer: &mut W,
+    status: StatusCode,
+    content: Content,
+    length: usize,
+    allow: &'static str,
+) -> Result<(), Output>
+    ensures { Puts (W.contents writer.old) (W.contents writer.new) result (head_text status content length allow.now) }
+{
+    let mut head: Head = ArrayVec::new();
+    match put_head_parts(&mut head, status, content, length, allow) {
+        Ok(()) => put(writer, &head),
+        Err(_) => put_head_parts(writer, status, content, length, allow),
+    }
 }
 
 // Writes the head and the body of an answer.
@@ -184,32 +205,6 @@ fn put_json<W: Write>(
     passed(put_answer(writer, status, Content::Json, "", body.as_bytes()))
 }
 
-// The number of a refusal.
-fn refusal_number(why: &Refusal) -> u8
-    ensures { result ≡ refusal_number why.now }
-{
-    match why {
-        Refusal::Taken => 1,
-        Refusal::Unknown(_) => 2,
-        Refusal::WrongBranch => 3,
-        Refusal::TooMany => 4,
-        Refusal::Overlap(_) => 5,
-        Refusal::ClientStart(_) => 6,
-        Refusal::MonthPosted(_) => 7,
-        Refusal::NotNextMonth(_) => 8,
-        Refusal::KeyUsed => 9,
-        Refusal::RunOpen(_) => 10,
-        Refusal::DepositAmount(_) => 11,
-        Refusal::DepositPaid => 12,
-        Refusal::NotRegistered => 13,
-        Refusal::NoRun => 14,
-        Refusal::BadLine(_) => 15,
-        Refusal::Version(_) => 16,
-        Refusal::Damaged(_) => 17,
-        Refusal::Full => 18,
-    }
-}
-
 // The status of a refusal.
 fn refusal_status(why: &Refusal) -> StatusCode
     ensures { result ≡ refusal_status why.now }
@@ -229,13 +224,7 @@ pub(crate) fn put_refused<W: Write>(
     ensures { Sends (W.contents writer.old) (W.contents writer.new) (refusal_answer why) result }
 {
     let text = why.to_string(alloc)?;
-    put_json(
-        alloc,
-        writer,
-        refusal_status(&why),
-        refusal_number(&why),
-        &text,
-    )
+    put_json(alloc, writer, refusal_status(&why), why.number(), &text)
 }
 
 /// Answers a command that was replied to so.

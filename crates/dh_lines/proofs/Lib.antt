@@ -3,4 +3,4 @@ pub mod OneRecord
 pub mod RunningLemmas
 pub mod AllRecords
 pub mod Following
-pub mod PartLemmas
+pub mod LineLemmas

@@ -5,7 +5,7 @@ use Rattle.std.specs.Io.KnownBytes.{Appends}
 use Rattle.sqlite.specs.Store.{Ghosts}
 use Rattle.dh_types.specs.Output.{BreaksOff, Puts}
 use Rattle.dh_types.specs.Replies.{is_refusal, reply_text}
-use Rattle.dh_types.specs.Reports.{Report}
+use Rattle.dh_types.specs.Reports.{Report, is_no_report}
 use Rattle.dh_types.specs.declared.question.Question.{Question}
 use Rattle.dh_types.specs.declared.reply.Fault.{Fault}
 use Rattle.dh_types.specs.declared.reply.Reply.{Reply}
@@ -16,12 +16,13 @@ use Rattle.dh_laws.specs.Asking.{AnswersPassTheRun, OpenRunsRefusePutOff}
 use Rattle.dh_laws.specs.StateTables.{AreInOrder}
 use Rattle.dh_schema.specs.Faults.{IsFirstFault}
 use Rattle.dh_agency.specs.Seat.{Seat}
-use Rattle.dh_agency.specs.Agency.{IsOpen, LeavesItsTables, machine}
+use Rattle.dh_agency.specs.Agency.{IsOpen, LeavesItsTables, machine, stand, stand_of}
+use Rattle.dh_agency.proofs.Standing.{reads_in_order, report_stands}
 use Rattle.dh_lines.specs.declared.outcome.Halt.{Halt}
 use Rattle.dh_lines.specs.declared.outcome.Halt.TheVariants as halt
-use Rattle.dh_lines.specs.Session.{Answered, fault_line, is_no_report, newline, numbered, replied, reported, reported_text}
-use Rattle.dh_lines.specs.Batch.{Answers, HaltsByFault, IsFirst, TellsFault, batch_fault, stand}
-use Rattle.dh_lines.proofs.CrashLemmas.{place, reads_in_order, report_stands}
+use Rattle.dh_reports.specs.Columns.{newline}
+use Rattle.dh_lines.specs.Session.{Answered, fault_line, numbered, replied, reported, reported_text}
+use Rattle.dh_lines.specs.Batch.{Answers, HaltsByFault, IsFirst, TellsFault, batch_fault}
 
 -- a fault that was told
 pub fault_first : (a b : Option (List ℕ)) (n : ℕ) (fault : Fault) (h : Halt) → TellsFault a b n fault h → IsFirstFault fault → IsFirst (batch_fault h)
@@ -63,7 +64,7 @@ module _ {S : Type 0} (g : Ghosts S) (old new : Seat S) (a b : Option (List ℕ)
   module _ (P : State → Type 0) (question : Question) (shown : Report) (same : machine g new ≡ machine g old) (left : LeavesItsTables g new)
       (said : shown ≡ report (machine g old) question) (passes : AnswersPassTheRun batch_size) (refuses : OpenRunsRefusePutOff) where
     at : stand g new ≡ stand g old
-    at = ap place same
+    at = ap stand_of same
 
     in_order : AreInOrder (machine g old)
     in_order = subst (λ (s : State). AreInOrder s) same (reads_in_order g new left)

@@ -14,16 +14,16 @@ use Rattle.dh_types.specs.declared.reply.Fault.TheVariants as faults
 use Rattle.dh_types.specs.declared.writing.Output as writing
 use Rattle.dh_model.specs.Books.{State}
 use Rattle.dh_agency.specs.Seat.{Seat}
-use Rattle.dh_agency.specs.Agency.{Leaves, LeavesItsTables, machine}
+use Rattle.dh_agency.specs.Agency.{Leaves, LeavesItsTables, machine, stand}
+use Rattle.dh_agency.proofs.Standing.{leaves_more, leaves_what_holds}
 use Rattle.dh_fields.specs.Lines.{Fields}
 use Rattle.dh_lines.specs.Session.{answered, fault_line, line, records_of, state_after}
 use Rattle.dh_lines.specs.Batch.{Answers, AnsweredAll, AnsweredFirst, EndsSo, Faulted, HaltsByFault, HaltsSo, IsAgencyFault, IsAtRest, IsFirst, IsWithin}
-use Rattle.dh_lines.specs.Batch.{PutsBehind, TellsFault, TellsReading, batch_fault, stand}
+use Rattle.dh_lines.specs.Batch.{PutsBehind, TellsFault, TellsReading, batch_fault}
 use Rattle.dh_lines.specs.declared.outcome.Summary.{Summary}
 use Rattle.dh_lines.specs.declared.outcome.BatchFault.{BatchFault}
 use Rattle.dh_lines.specs.declared.outcome.Halt.{Halt}
 use Rattle.dh_lines.specs.declared.outcome.Halt.TheVariants as halt
-use Rattle.dh_lines.proofs.CrashLemmas.{leaves_more, leaves_what_holds}
 use Rattle.dh_lines.proofs.Following.{Ended, Follows, Found, state-more}
 
 few : {X : Type 0} (xs : List X) (n : ℕ) → length (take n xs) ≡ n → n ≤ length xs

@@ -14,11 +14,10 @@ use Rattle.dh_model.specs.Books.{State}
 use Rattle.dh_model.specs.Runs.{batch_size}
 use Rattle.dh_model.specs.Verdicts.{verdict_on}
 use Rattle.dh_model.specs.Whole.{whole}
-use Rattle.dh_laws.specs.Events.{RunIfDone, RunIfUndone, state_of}
-use Rattle.dh_laws.specs.StateTables.{tables}
+use Rattle.dh_laws.specs.Events.{RunIfDone, RunIfUndone}
 use Rattle.dh_schema.specs.Faults.{IsFirstFault}
 use Rattle.dh_agency.specs.Seat.{Seat}
-use Rattle.dh_agency.specs.Agency.{IsOpen, Leaves, LeavesItsTables, machine}
+use Rattle.dh_agency.specs.Agency.{IsOpen, Leaves, LeavesItsTables, machine, stand, stand_of}
 use Rattle.dh_lines.specs.declared.outcome.Summary.{Summary}
 use Rattle.dh_lines.specs.declared.outcome.BatchFault.{BatchFault}
 use Rattle.dh_lines.specs.declared.outcome.BatchFault.TheVariants as ended
@@ -70,10 +69,6 @@ TellsReading held old new n _ it = TellsFault (held old) (held new) n faults.Mem
 
 -- ---- where the machine stands
 
--- where it stands with the agency's tables: the whole books, and the open run
-abbrev pub stand : {S : Type 0} → Ghosts S → Seat S → State
-stand g a = state_of batch_size (tables (machine g a))
-
 -- the whole of these books is the machine's after the records
 abbrev pub AreAfter : State → List Fields → State → Type 0
 AreAfter start rows left = whole batch_size left.books ≡ (state_after start rows).books
@@ -87,7 +82,7 @@ IsCutAt s fields it left =
 
 -- Tables with which the machine still stands there, or those of a cut command, which the next record is.
 abbrev pub IsWithin : State → Option Fields → State → Type 0
-IsWithin s next left = (state_of batch_size (tables left) ≡ s)
+IsWithin s next left = (stand_of left ≡ s)
     ⊎ ((fields : Fields) × (it : told.Command) × (next ≡ Some fields) × (request_of fields ≡ Ok (request.Command it)) × IsCutAt s fields it left)
 
 -- ---- one record

@@ -1,16 +1,17 @@
 -- The lines that the records of an input are answered, and the state after them.
-use Rattle.std.specs.Prelude.{ℕ, ◌+◌, Bool, true, false, List, [], ◌∷◌, ◌++◌, codes, if◌then◌else◌, Result, Ok, Err}
+use Rattle.std.specs.Prelude.{ℕ, ◌+◌, Bool, true, List, [], ◌∷◌, ◌++◌, codes, if◌then◌else◌, Result, Ok, Err}
 use Rattle.std.specs.Fmt.{decimal}
 use Rattle.csv.specs.Reading.{default_config, records, strip_bom}
 use Rattle.dh_types.specs.declared.reply.Reply.{Reply}
 use Rattle.dh_types.specs.declared.reply.Refusal.{Refusal}
 use Rattle.dh_types.specs.declared.reply.Fault.{Fault}
 use Rattle.dh_types.specs.Replies.{reply_text, refusal_text, fault_text, is_refusal}
-use Rattle.dh_types.specs.Reports.{Report, NoReport}
+use Rattle.dh_types.specs.Reports.{Report, NoReport, is_no_report}
 use Rattle.dh_model.specs.Books.{State}
 use Rattle.dh_model.specs.Answers.{report}
 use Rattle.dh_model.specs.Machine.{step}
 use Rattle.dh_model.specs.Runs.{batch_size}
+use Rattle.dh_reports.specs.Columns.{newline}
 use Rattle.dh_reports.specs.ReportTexts.{report_text, line_count}
 use Rattle.dh_fields.specs.declared.request.Request.{Request}
 use Rattle.dh_fields.specs.declared.request.Request.TheVariants.{Command, Question}
@@ -26,9 +27,6 @@ pub record Answered : Type 0 where
   pub text : List ℕ
   pub is_refused : Bool
 
-abbrev pub newline : List ℕ
-newline = 10 ∷ []
-
 abbrev pub replied : State × Reply → Answered
 replied after = record { state = after.0; text = reply_text after.1 ++ newline; is_refused = is_refusal after.1 }
 
@@ -43,10 +41,6 @@ shown_text it = codes "shown " ++ decimal (line_count it) ++ newline ++ report_t
 abbrev pub reported_text : Report → List ℕ
 reported_text (NoReport refusal) = refusal_text refusal ++ newline
 reported_text it = shown_text it
-
-abbrev pub is_no_report : Report → Bool
-is_no_report (NoReport refusal) = true
-is_no_report _ = false
 
 abbrev pub reported : State → Report → Answered
 reported s it = record { state = s; text = reported_text it; is_refused = is_no_report it }

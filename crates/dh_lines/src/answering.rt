@@ -3,14 +3,13 @@
 ghost use Rattle.std.specs.Prelude.{◌≡◌, ◌⊎◌, Some, true, false, IfErr};
 ghost use Rattle.csv.specs.Reading.{error_kind};
 ghost use Rattle.csv.specs.Records.{fields_of};
-ghost use Rattle.dh_types.specs.Reports.{report_of};
 ghost use Rattle.dh_model.specs.Answers.{report};
 ghost use Rattle.dh_model.specs.Machine.{step};
 ghost use Rattle.dh_model.specs.Runs.{batch_size};
-ghost use Rattle.dh_agency.specs.Agency.{IsClean, Leaves, LeavesItsTables, WasClean, machine};
+ghost use Rattle.dh_agency.specs.Agency.{IsClean, Leaves, LeavesItsTables, WasClean, machine, stand};
 ghost use Rattle.dh_agency.specs.Told.{IsCut};
-ghost use Rattle.dh_lines.specs.Session.{answered, is_no_report, replied, reported};
-ghost use Rattle.dh_lines.specs.Batch.{Answers, HaltsByFault, IsFirst, IsWithin, TellsFault, TellsReading, batch_fault, stand};
+ghost use Rattle.dh_lines.specs.Session.{answered, replied, reported};
+ghost use Rattle.dh_lines.specs.Batch.{Answers, HaltsByFault, IsFirst, IsWithin, TellsFault, TellsReading, batch_fault};
 
 use crate::outcome::Halt;
 use crate::replies::{put_answer_line, put_fault_line, put_refused_line, put_reply_line};
@@ -18,7 +17,7 @@ use csv::{ByteRecord, Error};
 use dh_agency::Agency;
 use dh_fields::{Request, read_line};
 use dh_laws::asking::{answers_pass_the_run, open_runs_refuse_put_off};
-use dh_types::{Answer, Command, Fault, Question};
+use dh_types::{Command, Fault, Question};
 use sqlite::Alter;
 use std::alloc::Global;
 use std::io::Write;
@@ -68,13 +67,6 @@ fn answer_command<S: Alter, W: Write>(
     }
 }
 
-// Whether the question was refused.
-fn is_refusal(answer: &Answer) -> bool
-    ensures { result ≡ is_no_report (report_of answer.now) }
-{
-    matches!(answer, Answer::Refused(_))
-}
-
 fn answer_question<S: Alter, W: Write>(
     alloc: Global,
     agency: &mut Agency<S>,
@@ -96,7 +88,7 @@ fn answer_question<S: Alter, W: Write>(
     open_runs_refuse_put_off();
     match agency.show(alloc, &question) {
         Ok(answer) => {
-            let is_refused = is_refusal(&answer);
+            let is_refused = answer.is_refusal();
             put_answer_line(writer, number, &answer)?;
             Ok(is_refused)
         }

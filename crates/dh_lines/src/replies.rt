@@ -1,18 +1,33 @@
-//! Writing the lines that an agency answers: each has the number of its record, a space and the answer.
+//! Writing the lines that an agency answers: each has the number of its record, a space and the answer. A line is one write.
 //! It takes no memory.
 
-ghost use Rattle.std.specs.Prelude.{[], ◌∷◌, ◌++◌, codes};
+ghost use Rattle.std.specs.Prelude.{[], ◌∷◌, ◌++◌};
 ghost use Rattle.std.specs.Fmt.{decimal};
 ghost use Rattle.dh_types.specs.Output.{Puts};
 ghost use Rattle.dh_types.specs.Reports.{report_of};
 ghost use Rattle.dh_types.specs.Replies.{refusal_text, reply_text};
-ghost use Rattle.dh_lines.specs.Session.{fault_line, newline, numbered, reported_text, shown_text};
+ghost use Rattle.dh_reports.specs.Columns.{newline};
+ghost use Rattle.dh_lines.specs.Session.{fault_line, numbered, reported_text};
+ghost use Rattle.dh_lines.specs.Told.{told_line, told_text};
 
+use arrayvec::ArrayVec;
 use dh_reports::{lines, write};
 use dh_types::writing::{put, put_parts};
-use dh_types::{Answer, Fault, Output, Refusal, Reply, put_fault, put_refusal, put_reply};
+use dh_types::{Answer, Fault, Output, Refusal, Reply, put_fault, put_reply};
 use itoa::Buffer;
 use std::io::Write;
+
+/// A line, with room for the longest: a number of 20 digits, and `part` with a month and two numbers of 39.
+type Line = ArrayVec<u8, 128>;
+
+/// What a line says behind the number of its record.
+#[derive(Clone, Copy)]
+enum Told {
+    Reply(Reply),
+    Fault(Fault),
+    /// So many lines of a report follow.
+    Shown(u64),
+}
 
 // The number and the space.
 fn put_number<W: Write>(writer: &mut W, number: u64) -> Result<(), Output>
@@ -21,14 +36,46 @@ fn put_number<W: Write>(writer: &mut W, number: u64) -> Result<(), Output>
     put_parts(writer, &[Buffer::new().format(number).as_bytes(), b" "])
 }
 
+// What the line says.
+fn put_told<W: Write>(writer: &mut W, told: &Told) -> Result<(), Output>
+    ensures { Puts (W.contents writer.old) (W.contents writer.new) result (told_text told.now) }
+{
+    match told {
+        Told::Reply(reply) => put_reply(writer, *reply),
+        Told::Fault(fault) => put_fault(writer, *fault),
+        Told::Shown(count) => put_parts(
+            writer,
+            &[b"shown ", Buffer::new().format(*count).as_bytes()],
+        ),
+    }
+}
+
+// Writes a line part by part.
+fn put_line_parts<W: Write>(writer: &mut W, number: u64, told: &Told) -> Result<(), Output>
+    ensures { Puts (W.contents writer.old) (W.contents writer.new) result (told_line number told.now) }
+{
+    put_number(writer, number)?;
+    put_told(writer, told)?;
+    put(writer, b"\n")
+}
+
+// Writes a line at once; one that had no room would be written part by part.
+fn put_line<W: Write>(writer: &mut W, number: u64, told: &Told) -> Result<(), Output>
+    ensures { Puts (W.contents writer.old) (W.contents writer.new) result (told_line number told.now) }
+{
+    let mut line: Line = ArrayVec::new();
+    match put_line_parts(&mut line, number, told) {
+        Ok(()) => put(writer, &line),
+        Err(_) => put_line_parts(writer, number, told),
+    }
+}
+
 /// Writes the line of a record whose command was answered so; `number` is the record's, from 1 on.
 /// At an `Output` the writer failed, and a beginning of the line was written.
 pub fn put_reply_line<W: Write>(writer: &mut W, number: u64, reply: Reply) -> Result<(), Output>
     ensures { Puts (W.contents writer.old) (W.contents writer.new) result (numbered number (reply_text reply ++ newline)) }
 {
-    put_number(writer, number)?;
-    put_reply(writer, reply)?;
-    put(writer, b"\n")
+    put_line(writer, number, &Told::Reply(reply))
 }
 
 /// Writes the line of a refused record; `number` is the record's, from 1 on.
@@ -40,9 +87,7 @@ pub fn put_refused_line<W: Write>(
 ) -> Result<(), Output>
     ensures { Puts (W.contents writer.old) (W.contents writer.new) result (numbered number (refusal_text refusal ++ newline)) }
 {
-    put_number(writer, number)?;
-    put_refusal(writer, refusal)?;
-    put(writer, b"\n")
+    put_line(writer, number, &Told::Reply(Reply::Refused(refusal)))
 }
 
 /// Writes the line of a record that met a fault; `number` is the record's, from 1 on.
@@ -50,26 +95,7 @@ pub fn put_refused_line<W: Write>(
 pub fn put_fault_line<W: Write>(writer: &mut W, number: u64, fault: Fault) -> Result<(), Output>
     ensures { Puts (W.contents writer.old) (W.contents writer.new) result (fault_line number fault) }
 {
-    put_number(writer, number)?;
-    put_fault(writer, fault)?;
-    put(writer, b"\n")
-}
-
-fn put_count<W: Write>(writer: &mut W, count: u64) -> Result<(), Output>
-    ensures { Puts (W.contents writer.old) (W.contents writer.new) result (codes "shown " ++ decimal count ++ newline) }
-{
-    put_parts(
-        writer,
-        &[b"shown ", Buffer::new().format(count).as_bytes(), b"\n"],
-    )
-}
-
-// How many lines are shown, and they.
-fn put_shown<W: Write>(writer: &mut W, answer: &Answer) -> Result<(), Output>
-    ensures { Puts (W.contents writer.old) (W.contents writer.new) result (shown_text (report_of answer.now)) }
-{
-    put_count(writer, lines(answer))?;
-    write(answer, writer)
+    put_line(writer, number, &Told::Fault(fault))
 }
 
 /// Writes the line of a record that asked a question, and the report that answers it; `number` is the
@@ -80,6 +106,6 @@ pub fn put_answer_line<W: Write>(writer: &mut W, number: u64, answer: &Answer) -
     if let Answer::Refused(refusal) = answer {
         return put_refused_line(writer, number, *refusal);
     }
-    put_number(writer, number)?;
-    put_shown(writer, answer)
+    put_line(writer, number, &Told::Shown(lines(answer)))?;
+    write(answer, writer)
 }

@@ -1,2 +1,3 @@
 pub mod FirstWins
+pub mod OpenRuns
 pub mod Owing

@@ -1,10 +1,11 @@
 //! The answer to each question.
 
-ghost use Rattle.std.specs.Prelude.{◌≡◌, option_map, IfOk};
+ghost use Rattle.std.specs.Prelude.{◌≡◌, if◌then◌else◌, option_map, IfOk};
 ghost use Rattle.std.specs.FinMap as fin;
 ghost use Rattle.dh_types.specs.declared.reply.Refusal.TheVariants.{RunOpen};
 ghost use Rattle.dh_types.specs.Reports.{report_of};
 ghost use Rattle.dh_model.specs.Answers.{matching_report, report};
+ghost use Rattle.dh_model.specs.MachineLaws.{is_put_off};
 
 use crate::{arrears, branches, matching, run_report, statement, vacant};
 use dh_books::Books;
@@ -21,13 +22,41 @@ fn matching_report(alloc: Global, books: &Books, asked: ClientDay) -> Result<Ans
     Ok(Answer::Matching(matching(alloc, books, client, asked.day.day())?))
 }
 
-// The refusal of what an open run would show half made.
-fn open_refusal(books: &Books) -> Option<Refusal>
-    ensures { result ≡ option_map (λ run. RunOpen run.month) books.now.open_run }
+/// Whether an open run puts the question off: its answer would show the run half made.
+pub fn is_put_off(question: &Question) -> bool
+    ensures { result ≡ is_put_off question.now }
 {
-    books
-        .open_run()
-        .map(|run| Refusal::RunOpen(run.month.month()))
+    matches!(
+        question,
+        Question::Statement(_) | Question::Arrears(_) | Question::Run(_)
+    )
+}
+
+// The refusal of a question that an open run puts off.
+fn open_refusal(books: &Books, question: &Question) -> Option<Refusal>
+    ensures { result ≡ (if is_put_off question.now then option_map (λ run. RunOpen run.month) books.now.open_run else None) }
+{
+    if is_put_off(question) {
+        books
+            .open_run()
+            .map(|run| Refusal::RunOpen(run.month.month()))
+    } else {
+        None
+    }
+}
+
+// What the books answer where no run is open.
+fn answer_passed(alloc: Global, books: &Books, question: &Question) -> Result<Answer, AllocError>
+    ensures { IfOk result (λ answer. report_of answer ≡ report (record books.now { open_run = None }) question.now) }
+{
+    match *question {
+        Question::Branches => Ok(Answer::Branches(branches(alloc, books)?)),
+        Question::Vacant(day) => Ok(Answer::Vacant(vacant(alloc, books, day.day())?)),
+        Question::Matching(asked) => matching_report(alloc, books, asked),
+        Question::Statement(lease) => statement(alloc, books, lease),
+        Question::Arrears(branch) => arrears(alloc, books, &branch),
+        Question::Run(month) => run_report(alloc, books, month),
+    }
 }
 
 /// What the books answer to the question. While a run is open, `statement`, `arrears` and `run` are refused 10 with its
@@ -35,21 +64,8 @@ fn open_refusal(books: &Books) -> Option<Refusal>
 pub fn answer(alloc: Global, books: &Books, question: &Question) -> Result<Answer, AllocError>
     ensures { IfOk result (λ answer. report_of answer ≡ report books.now question.now) }
 {
-    match *question {
-        Question::Branches => Ok(Answer::Branches(branches(alloc, books)?)),
-        Question::Vacant(day) => Ok(Answer::Vacant(vacant(alloc, books, day.day())?)),
-        Question::Matching(asked) => matching_report(alloc, books, asked),
-        Question::Statement(lease) => match open_refusal(books) {
-            Some(refusal) => Ok(Answer::Refused(refusal)),
-            None => statement(alloc, books, lease),
-        },
-        Question::Arrears(branch) => match open_refusal(books) {
-            Some(refusal) => Ok(Answer::Refused(refusal)),
-            None => arrears(alloc, books, &branch),
-        },
-        Question::Run(month) => match open_refusal(books) {
-            Some(refusal) => Ok(Answer::Refused(refusal)),
-            None => run_report(alloc, books, month),
-        },
+    match open_refusal(books, question) {
+        Some(refusal) => Ok(Answer::Refused(refusal)),
+        None => answer_passed(alloc, books, question),
     }
 }

@@ -10,7 +10,7 @@ mod run_reports;
 mod statements;
 mod vacancies;
 
-pub use answers::answer;
+pub use answers::{answer, is_put_off};
 pub use balances::balance;
 pub use debts::arrears;
 pub use lists::branches;

@@ -7,7 +7,7 @@ ghost use Rattle.dh_types.specs.Reports.{report_of};
 ghost use Rattle.dh_model.specs.Answers.{run_report};
 
 use dh_books::Books;
-use dh_types::{Answer, EntryMonth, Part, Refusal, RunReport, RunSum};
+use dh_types::{Answer, EntryMonth, Part, Refusal, RunReport};
 use std::alloc::{AllocError, Global};
 
 // The parts of the month's run, rising by branch.
@@ -32,11 +32,7 @@ pub fn run_report(alloc: Global, books: &Books, month: EntryMonth) -> Result<Ans
     if !run.is_closed {
         return Ok(Answer::Refused(Refusal::NoRun));
     }
-    let sum = RunSum {
-        month: run.month,
-        count: run.count,
-        total: run.total,
-    };
+    let sum = run.sum();
     let parts = parts(alloc, books, run.month)?;
     Ok(Answer::Run(RunReport { parts, sum }))
 }

@@ -1,2 +1,3 @@
 pub mod LastRun
+pub mod MonthsStay
 pub mod Taken

@@ -5,4 +5,4 @@ mod looking;
 mod reading;
 
 pub use looking::{Kept, look, look_at_all};
-pub use reading::{months_now, no_rows, open_run};
+pub use reading::{find_open_run, months_now, no_rows};

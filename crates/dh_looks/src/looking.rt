@@ -16,7 +16,7 @@ ghost use Rattle.dh_looks.specs.Looked.{AreBoth};
 
 use dh_books::Books;
 use dh_schema::fault_of;
-use dh_tables::{Listed, Look, Tabled, fetch_more, load_all};
+use dh_tables::{Listed, Look, Tabled, fetch_more, gather_all};
 use dh_types::{
     Branch, Charge, Client, Fault, Inspection, Lease, Owner, Part, Property, Receipt, Registration,
     Run, Staff, Viewing,
@@ -196,7 +196,7 @@ pub fn look_at_all<R: Listed, S: Alter>(
     ensures cause { IfErr result IsFirstFault }
     ensures crash { CommitsNothing (state S.Store conn.old) (state S.Store conn.new) }
 {
-    match load_all::<R, S>(alloc, conn, books) {
+    match gather_all::<R, S>(alloc, conn, books) {
         Ok(true) => Ok(()),
         Ok(false) => Err(Fault::Store),
         Err(error) => Err(fault_of(error)),

@@ -85,9 +85,14 @@ fn unless_closed(run: Option<Run>) -> Option<Run>
     }
 }
 
-/// The run that is open: that of the month before the next, where it is not closed.
-pub fn open_run<S: Alter>(alloc: Global, conn: &mut Connection<S>) -> Result<Option<Run>, Fault>
-    requires { HasCleanDisk (state S.Store conn.old) → IsReady (state S.Store conn.old) }
+/// The run that is open: that of the month before the next, where it is not closed. The months are those of the tables.
+pub fn find_open_run<S: Alter>(
+    alloc: Global,
+    conn: &mut Connection<S>,
+    months: Meta,
+) -> Result<Option<Run>, Fault>
+    requires ready { HasCleanDisk (state S.Store conn.old) → IsReady (state S.Store conn.old) }
+    requires months { HasCleanDisk (state S.Store conn.old) → AreMonthsOf months (tables (state S.Store conn.old)).books }
     ensures found { HasCleanDisk (state S.Store conn.new) → IfOk result (λ run. run ≡ open_row (tables (state S.Store conn.old)).books) }
     ensures done { HasCleanDisk (state S.Store conn.new) → OnOk result (StaysReady (state S.Store conn.old) (state S.Store conn.new)) }
     ensures undone { HasCleanDisk (state S.Store conn.new) → IsTrue (state S.Store conn.new).is_open
@@ -95,7 +100,6 @@ pub fn open_run<S: Alter>(alloc: Global, conn: &mut Connection<S>) -> Result<Opt
     ensures cause { IfErr result IsFirstFault }
     ensures crash { CommitsNothing (state S.Store conn.old) (state S.Store conn.new) }
 {
-    let months = months_now(alloc, conn)?;
     let run = last_run(alloc, conn, months)?;
     Ok(unless_closed(run))
 }

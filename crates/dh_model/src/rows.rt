@@ -1,5 +1,8 @@
 //! What the books say of a command.
 
+ghost use Rattle.std.specs.Prelude.{◌≡◌};
+ghost use Rattle.dh_model.specs.Machine.{accepted};
+
 use dh_types::{
     Assignment, Branch, Client, Inspection, Lease, Owner, Property, Receipt, Refusal, Registration,
     RentChange, Reply, Run, Staff, Viewing, ViewingComment,
@@ -28,6 +31,18 @@ pub enum Change {
     Open(Run),
     /// No rows: batches are posted one by one.
     Post,
+}
+
+impl Change {
+    /// What the change is answered where it is accepted: a receipt its number.
+    pub fn reply(&self) -> Reply
+        ensures { result ≡ accepted self.now }
+    {
+        match self {
+            Change::Receipt(it) => Reply::Receipt(it.number),
+            _ => Reply::Accepted,
+        }
+    }
 }
 
 /// The verdict on a command.

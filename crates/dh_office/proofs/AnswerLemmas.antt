@@ -5,20 +5,20 @@ use Rattle.std.specs.Io.KnownBytes.{Appends}
 use Rattle.std.proofs.lemmas.List.{take_all}
 use Rattle.sqlite.specs.Store.{Ghosts}
 use Rattle.dh_types.specs.declared.question.Question.{Question}
-use Rattle.dh_types.specs.Reports.{Report}
+use Rattle.dh_types.specs.Reports.{Report, is_no_report}
 use Rattle.dh_model.specs.Answers.{report}
 use Rattle.dh_model.specs.Books.{State}
 use Rattle.dh_model.specs.Runs.{batch_size}
 use Rattle.dh_laws.specs.Asking.{AnswersPassTheRun, OpenRunsRefusePutOff}
 use Rattle.dh_laws.specs.StateTables.{AreInOrder}
 use Rattle.dh_agency.specs.Seat.{Seat}
-use Rattle.dh_agency.specs.Agency.{LeavesItsTables, machine, shown_by}
+use Rattle.dh_agency.specs.Agency.{LeavesItsTables, machine, shown_by, stand}
+use Rattle.dh_agency.proofs.Standing.{reads_in_order, report_stands}
 use Rattle.dh_lines.specs.declared.outcome.BatchFault.{BatchFault}
 use Rattle.dh_lines.specs.declared.outcome.BatchFault.TheVariants as ended
 use Rattle.dh_lines.specs.Session as session
-use Rattle.dh_lines.specs.Session.{Answered, is_no_report, lines_from, records_of, state_after}
-use Rattle.dh_lines.specs.Batch.{EndsSo, PutsBehind, stand}
-use Rattle.dh_lines.proofs.CrashLemmas.{reads_in_order, report_stands}
+use Rattle.dh_lines.specs.Session.{lines_from, records_of}
+use Rattle.dh_lines.specs.Batch.{EndsSo, PutsBehind}
 use Rattle.dh_office.specs.Jobs.{report_shown}
 use Rattle.dh_office.specs.Texts.{report_lines}
 use Rattle.dh_office.specs.Ends.{AtFault, AtReading, AtWriting, Stops}

@@ -18,7 +18,8 @@ use Rattle.dh_office.specs.declared.status.Status.TheVariants.{Done, SomeRefused
 use Rattle.dh_office.specs.Statuses.{IsEnding, ending}
 use Rattle.dh_office.specs.Texts.{reply_line}
 use Rattle.dh_office.specs.Printed.{Behind, Prints, Whole, Within}
-use Rattle.dh_office.specs.Jobs.{says_open, stand_in, stand_of}
+use Rattle.dh_agency.specs.Agency.{stand_of}
+use Rattle.dh_office.specs.Jobs.{says_open, stand_in}
 use Rattle.dh_office.specs.Ends.{Comes, Finishes, Told, Unasked}
 use Rattle.dh_office.proofs.TextLemmas.{same_behind, told_behind}
 

@@ -13,7 +13,7 @@ use Rattle.sqlite_trees.specs.Tree.{Trees}
 use Rattle.dh_types.specs.declared.command.RunOrder.{RunOrder}
 use Rattle.dh_agency.specs.Taken.{LeavesAsTheyWere, TakesAsTheyAre}
 use Rattle.dh_lines.specs.Batch.{AreAfter}
-use Rattle.dh_office.specs.Jobs.{IsRunCut, stand_in, stand_of}
+use Rattle.dh_office.specs.Jobs.{IsRunCut, stand_in}
 use Rattle.dh_service.specs.declared.listening.Service.{Service}
 use Rattle.dh_service.specs.declared.listening.Unserved.{Unserved}
 use Rattle.dh_service.specs.declared.listening.Unserved.TheVariants as unserved
@@ -21,8 +21,7 @@ use Rattle.dh_service.specs.Printed.{Listened, PrintsServed, Unlistened, Untold,
 use Rattle.dh_service.specs.Service.{AreTold, IsAfterSome, IsServing}
 use Rattle.dh_office.specs.Leaving.{ServingLeaves, TakingLeaves, WorkLeaves}
 use Rattle.dh_agency.specs.Seat.{Seat}
-use Rattle.dh_agency.specs.Agency.{IsClean, machine, shown_by}
-use Rattle.dh_lines.specs.Batch.{stand}
+use Rattle.dh_agency.specs.Agency.{IsClean, machine, shown_by, stand, stand_of}
 use Rattle.dh_runs.specs.declared.problem.Problem.{Problem}
 use Rattle.dh_runs.specs.declared.problem.Problem.TheVariants as problem
 use Rattle.dh_runs.specs.Taking.{IsFirstProblem}

@@ -10,7 +10,7 @@ use Rattle.dh_words.specs.declared.kinds.BadWords.TheVariants as bad
 use Rattle.dh_words.specs.declared.kinds.Job.{Job}
 use Rattle.dh_words.specs.declared.kinds.Job.TheVariants.{Init, Batch, Run, Recover, Report, Serve}
 use Rattle.dh_words.specs.Jobs.{IsBadFor, IsJobOf}
-use Rattle.dh_lines.specs.Session.{newline}
+use Rattle.dh_reports.specs.Columns.{newline}
 use Rattle.dh_office.specs.declared.jobs.Work.TheVariants as work
 use Rattle.dh_office.specs.declared.taking.FileJob.TheVariants as job
 use Rattle.dh_office.specs.declared.status.Status.{Status}

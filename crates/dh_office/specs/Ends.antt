@@ -16,6 +16,7 @@ use Rattle.dh_runs.specs.declared.problem.Problem.{Problem}
 use Rattle.dh_runs.specs.Taking.{IsProblemOf}
 use Rattle.dh_runs.specs.Told.{IsMended}
 use Rattle.dh_agency.specs.Taken.{TakesAsTheyAre, TakesForward}
+use Rattle.dh_agency.specs.Agency.{stand_of}
 use Rattle.dh_fields.specs.Lines.{Fields}
 use Rattle.dh_lines.specs.Session as session
 use Rattle.dh_lines.specs.Session.{Answered, line, lines_from, records_of, replied, state_after}
@@ -31,7 +32,7 @@ use Rattle.dh_office.specs.Texts.{created_line, problem_line, recovered_line}
 use Rattle.dh_service.specs.declared.listening.Service.{Service}
 use Rattle.dh_service.specs.Service.{AreTold, IsAfterSome}
 use Rattle.dh_office.specs.Printed.{PrintsService, PutsAs, TellsFault}
-use Rattle.dh_office.specs.Jobs.{IsRunCut, lines_answered, report_shown, run_told, stand_in, stand_of}
+use Rattle.dh_office.specs.Jobs.{IsRunCut, lines_answered, report_shown, run_told, stand_in}
 
 -- ---- over tables that were taken
 

@@ -8,25 +8,21 @@ use Rattle.dh_types.specs.declared.question.Question.{Question}
 use Rattle.dh_types.specs.declared.reply.Reply.{Reply}
 use Rattle.dh_types.specs.declared.reply.Reply.TheVariants as reply
 use Rattle.dh_types.specs.declared.reply.Refusal.TheVariants as refusal
-use Rattle.dh_types.specs.Reports.{Report, NoReport}
+use Rattle.dh_types.specs.Reports.{Report, NoReport, is_no_report}
 use Rattle.dh_model.specs.Books.{State}
 use Rattle.dh_model.specs.Answers.{report}
 use Rattle.dh_model.specs.Machine.{step}
 use Rattle.dh_model.specs.Runs.{batch_size}
 use Rattle.dh_model.specs.Verdicts.{verdict_on}
 use Rattle.dh_model.specs.Whole.{whole}
-use Rattle.dh_laws.specs.Events.{RunIfDone, RunIfUndone, state_of}
-use Rattle.dh_laws.specs.StateTables.{tables}
+use Rattle.dh_laws.specs.Events.{RunIfDone, RunIfUndone}
 use Rattle.dh_schema.specs.Store as store
+use Rattle.dh_agency.specs.Agency.{stand_of}
 use Rattle.dh_fields.specs.Lines.{Fields}
-use Rattle.dh_lines.specs.Session.{Answered, is_no_report, lines_from, refused_in, state_after}
+use Rattle.dh_lines.specs.Session.{Answered, lines_from, refused_in, state_after}
 use Rattle.dh_office.specs.Texts.{report_lines}
 
--- where the machine stands with these tables: the whole books, and the open run
-abbrev pub stand_of : State → State
-stand_of t = state_of batch_size (tables t)
-
--- the same with those that a connection reads
+-- where the machine stands with the tables that a connection reads
 abbrev pub stand_in : conn.State → State
 stand_in s = stand_of (store.tables s)
 

@@ -6,6 +6,7 @@ use Rattle.dh_model.specs.Books.{State, start}
 use Rattle.dh_schema.specs.Store.{Commits, Leaves, tables}
 use Rattle.dh_schema.specs.Tables.{IsSound}
 use Rattle.dh_agency.specs.Taken.{LeavesAsTheyWere, TakesForward}
+use Rattle.dh_agency.specs.Agency.{stand_of}
 use Rattle.dh_fields.specs.Lines.{Fields}
 use Rattle.dh_lines.specs.Batch.{AreAfter}
 use Rattle.dh_service.specs.Service.{IsAfterSome}
@@ -13,7 +14,7 @@ use Rattle.dh_office.specs.declared.jobs.Work.{Work}
 use Rattle.dh_office.specs.declared.jobs.Work.TheVariants as work
 use Rattle.dh_office.specs.declared.taking.FileJob.{FileJob}
 use Rattle.dh_office.specs.declared.taking.FileJob.TheVariants as job
-use Rattle.dh_office.specs.Jobs.{IsRunCut, stand_of}
+use Rattle.dh_office.specs.Jobs.{IsRunCut}
 
 -- Some records were answered, and one more at most was being answered: the whole of the tables is the machine's books after those, or
 -- after that one too.

@@ -6,10 +6,9 @@ use Rattle.dh_types.specs.declared.reply.Refusal.{Refusal}
 use Rattle.dh_types.specs.declared.reply.Fault.{Fault}
 use Rattle.dh_types.specs.Output.{BreaksOff}
 use Rattle.dh_types.specs.Replies.{is_refusal}
-use Rattle.dh_types.specs.Reports.{Report}
+use Rattle.dh_types.specs.Reports.{Report, is_no_report}
 use Rattle.dh_schema.specs.Faults.{IsFirstFault}
 use Rattle.dh_runs.specs.Taking.{IsOfTables}
-use Rattle.dh_lines.specs.Session.{is_no_report}
 use Rattle.dh_service.specs.declared.listening.Service.{Service}
 use Rattle.dh_service.specs.declared.listening.Unserved.{Unserved}
 use Rattle.dh_service.specs.declared.listening.Unserved.TheVariants as unserved

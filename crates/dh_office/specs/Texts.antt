@@ -9,7 +9,7 @@ use Rattle.dh_types.specs.Reports.{Report, NoReport}
 use Rattle.dh_runs.specs.declared.problem.Problem.{Problem}
 use Rattle.dh_runs.specs.declared.problem.Problem.TheVariants as problem
 use Rattle.dh_reports.specs.ReportTexts.{report_text}
-use Rattle.dh_lines.specs.Session.{newline}
+use Rattle.dh_reports.specs.Columns.{newline}
 
 abbrev pub reply_line : Reply → List ℕ
 reply_line reply = reply_text reply ++ newline

@@ -1,12 +1,9 @@
 //! What is done over tables that were taken, and how that ends.
 
 ghost use Rattle.std.specs.Prelude.{◌≡◌, ◌≢◌, false, IfOk, IfErr, IfSome, OnOk, OnErr};
-ghost use Rattle.dh_types.specs.Reports.{report_of};
 ghost use Rattle.dh_schema.specs.Faults.{IsFirstFault};
-ghost use Rattle.dh_agency.specs.Agency.{IsClean, IsOpen, Leaves, LeavesItsTables, WasClean, machine, shown_by};
+ghost use Rattle.dh_agency.specs.Agency.{IsClean, IsOpen, Leaves, LeavesItsTables, WasClean, machine, shown_by, stand};
 ghost use Rattle.dh_agency.specs.Told.{IsCut, IsSaid};
-ghost use Rattle.dh_lines.specs.Batch.{stand};
-ghost use Rattle.dh_lines.specs.Session.{is_no_report};
 ghost use Rattle.dh_office.specs.Ends.{Finishes, LinesEnd, ReportEnds, RunEnds, WorkEnds};
 ghost use Rattle.dh_office.specs.Leaving.{LinesLeave, WorkLeaves};
 ghost use Rattle.dh_office.specs.Jobs.{IsRunCut, run_told};
@@ -18,7 +15,7 @@ use crate::telling::{print_answer, print_reply, tell_fault};
 use dh_agency::Agency;
 use dh_laws::asking::{answers_pass_the_run, open_runs_refuse_put_off};
 use dh_lines::batch;
-use dh_types::{Answer, BatchCount, Command, Fault, Question, Reply, RunOrder};
+use dh_types::{BatchCount, Command, Fault, Question, Reply, RunOrder};
 use sqlite::Alter;
 use std::alloc::Global;
 use std::io::{Read, Write};
@@ -146,13 +143,6 @@ fn run<S: Alter, W: Write>(
     }
 }
 
-// Whether the question was refused.
-fn is_refusal(answer: &Answer) -> bool
-    ensures { result ≡ is_no_report (report_of answer.now) }
-{
-    matches!(answer, Answer::Refused(_))
-}
-
 // Prints the report, or the refusal of the question.
 fn report<S: Alter, W: Write>(
     alloc: Global,
@@ -174,7 +164,7 @@ fn report<S: Alter, W: Write>(
     match agency.show(alloc, &question) {
         Ok(answer) => {
             let outcome = print_answer(writer, &answer);
-            let is_refused = is_refusal(&answer);
+            let is_refused = answer.is_refusal();
             drop(answer);
             if outcome.is_err() {
                 return Status::Failed;

@@ -1,6 +1,6 @@
 //! What is printed, each text with one line feed at its end. It takes no memory.
 
-ghost use Rattle.std.specs.Prelude.{◌≡◌, ℕ, ◌/◌, ◌%◌, ◌+◌, [], ◌∷◌, take};
+ghost use Rattle.std.specs.Prelude.{◌≡◌, ℕ, take};
 ghost use Rattle.std.specs.Io.KnownBytes.{Appends};
 ghost use Rattle.dh_types.specs.Output.{Puts};
 ghost use Rattle.dh_types.specs.Reports.{report_of};
@@ -11,11 +11,10 @@ ghost use Rattle.dh_office.specs.Texts.{created_line, fault_line, no_listener_li
 use crate::status::Status;
 use dh_agency::Problem;
 use dh_reports::write;
-use dh_types::writing::{put, put_parts};
+use dh_types::writing::put;
 use dh_types::{
-    Answer, EntryMonth, Fault, Output, Refusal, Reply, put_fault, put_refusal, put_reply,
+    Answer, EntryMonth, Fault, Output, Refusal, Reply, put_fault, put_month, put_refusal, put_reply,
 };
-use itoa::Buffer;
 use std::io::Write;
 
 /// Writes the reply's text and a line feed; at an `Output` a beginning of them.
@@ -51,25 +50,12 @@ pub(crate) fn print_answer<W: Write>(writer: &mut W, answer: &Answer) -> Result<
     }
 }
 
-// A hyphen and the month of the year, behind the year.
-fn month_behind(month: EntryMonth) -> [u8; 3]
-    ensures { result ≡ 45 ∷ (48 + (month % 12 + 1) / 10) ∷ (48 + (month % 12 + 1) % 10) ∷ [] }
-{
-    let of_year = month.number() % 12 + 1;
-    [
-        b'-',
-        b'0' + (of_year / 10) as u8,
-        b'0' + (of_year % 10) as u8,
-    ]
-}
-
 /// Writes that books were made which begin with this month; at an `Output` a beginning of that.
 pub(crate) fn print_created<W: Write>(writer: &mut W, first: EntryMonth) -> Result<(), Output>
     ensures { Puts (W.contents writer.old) (W.contents writer.new) result (created_line first) }
 {
-    let mut digits = Buffer::new();
-    let year = digits.format(first.number() / 12).as_bytes();
-    put_parts(writer, &[b"created ", year, &month_behind(first), b"\n"])
+    put_month(writer, b"created ", first.month())?;
+    put(writer, b"\n")
 }
 
 /// Writes that a file is recovered; at an `Output` a beginning of that.

@@ -1,5 +1,5 @@
 -- The branch of a batch.
-use Rattle.std.proofs.Common.{◌≡◌, ◌∙◌, refl, sym, ap, ℕ, ◌+◌, ◌-◌, ◌*◌, ◌/◌, ◌≤◌, List, ◌++◌, take, Ordering, Less, Equal, Greater, is_lt}
+use Rattle.std.proofs.Common.{◌≡◌, ◌∙◌, refl, sym, ap, ℕ, Bool, ◌+◌, ◌-◌, ◌*◌, ◌/◌, ◌≤◌, List, ◌++◌, take, Ordering, Less, Equal, Greater, is_lt}
 use Rattle.std.proofs.Common.{le-add_right, arith}
 use Rattle.std.specs.Ordering.{ordering_reverse}
 use Rattle.std.specs.FinMap.{keys}
@@ -22,7 +22,7 @@ abbrev pub IsHeld : ℕ → Books → ℕ → ℕ → Type 0
 IsHeld size books month number = Holds (batches_of_branch size books month) text_cmp text_total (keys books.branches) number
 
 -- the rows are those of the batch of this number
-pub record IsBatch (size : ℕ) (books : Books) (month number : ℕ) (rows : List Charge × Part) : Type 0 where
+pub record IsBatch (size : ℕ) (books : Books) (month number : ℕ) (rows : List Charge × Part × Bool) : Type 0 where
   pub held : IsHeld size books month number
   pub is : rows ≡ rows_at size month held.key (dues_of_branch books month held.key) (number - batches_before size books month held.key)
 

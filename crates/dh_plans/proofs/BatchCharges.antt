@@ -1,6 +1,6 @@
 -- The charges of a batch lead from those before it to those with it, and are new to them.
 use Rattle.std.proofs.Common.{◌≡◌, ◌⊎◌, ◌∙◌, refl, sym, ap, subst, inl, inr, ℕ, ◌+◌, ◌<◌, ◌≤◌, nat_lt, List, [], ◌∷◌, ◌++◌, None, ltb-true, lt-ltb, arith}
-use Rattle.std.specs.FinMap.{FinMap, get}
+use Rattle.std.specs.FinMap.{FinMap, get, insert}
 use Rattle.std.specs.Ordering.{nat_cmp}
 use Rattle.std.proofs.lemmas.Bool.{cases_lt}
 use Rattle.dh_types.specs.declared.lease.Charge.{Charge}
@@ -10,10 +10,10 @@ use Rattle.dh_model.specs.Rules.{MeetsRules}
 use Rattle.dh_model.proofs.Among.{Among, in_append, in_filter, of_filter}
 use Rattle.dh_model.proofs.BranchDues.{dues_of_branch_rise, lease_of, one_branch_of_due}
 use Rattle.dh_model.proofs.KeyOrders.{nats_tie, nats_total}
+use Rattle.dh_model.proofs.MapRows.{get_other}
 use Rattle.dh_model.proofs.Pairs.{among_right}
 use Rattle.dh_model.proofs.Rising.{Lesser, Rises, filter_rises}
 use Rattle.dh_laws.specs.InOrder.{AreKeyed}
-use Rattle.dh_laws.proofs.MapMerges.{get_past_rows}
 use Rattle.dh_laws.proofs.PostCharged.{charge_month, charges_fit}
 use Rattle.dh_laws.proofs.PostDues.{is_posted, of_posted, one_posted}
 use Rattle.dh_laws.proofs.PostMonth.{replaced}
@@ -28,11 +28,12 @@ are_new : (charges : List Charge) (held : FinMap (pair_cmp nat_cmp nat_cmp) Char
     → ((x : Charge) → Among charges x → get held (charge_key x) ≡ None) → AreNew charges held
 are_new [] held rise free = tt
 are_new (charge ∷ charges) held rise free = (
-  get_past_rows nats_total nats_tie charge_key charges held (charge_key charge)
-      (λ x a e. let less : charge.lease < x.lease = rise.0 x a in
+  free charge (inl refl),
+  are_new charges (insert held (charge_key charge) charge) rise.1
+      (λ x a. get_other nats_total nats_tie held (charge_key charge) charge (charge_key x)
+      (λ e. let less : charge.lease < x.lease = rise.0 x a in
       let same = ap (λ (k : ℕ × ℕ). k.0) e in omega (arith, less, same))
-      ∙ free charge (inl refl),
-  are_new charges held rise.1 (λ x a. free x (inr a)),
+      ∙ free x (inr a)),
 )
 
 module _ (size : ℕ) (books : Books) (month number : ℕ) (pos : 1 ≤ size) (keyed : AreKeyed books) (held : IsHeld size books month number) where

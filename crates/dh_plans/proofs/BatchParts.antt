@@ -1,7 +1,7 @@
 -- The part row of a batch leads from those before it to those with it.
-use Rattle.std.proofs.Common.{◌≡◌, ◌⊎◌, ◌∙◌, refl, sym, ap, subst, inl, inr, ℕ, ◌+◌, ◌*◌, ◌<◌, ◌≤◌, nat_lt, List, [], ◌∷◌, take}
+use Rattle.std.proofs.Common.{◌≡◌, ◌⊎◌, ◌∙◌, refl, sym, ap, subst, inl, inr, ℕ, ◌+◌, ◌-◌, ◌*◌, ◌<◌, ◌≤◌, nat_lt, is_some, List, [], ◌∷◌, take}
 use Rattle.std.proofs.Common.{lt-ltb, le-ltb, arith}
-use Rattle.std.specs.FinMap.{keys}
+use Rattle.std.specs.FinMap.{get, keys}
 use Rattle.std.proofs.lemmas.Bool.{cases_lt}
 use Rattle.dh_types.specs.declared.run.Part.{Part}
 use Rattle.dh_model.specs.Books.{Books, with_rows}
@@ -13,9 +13,9 @@ use Rattle.dh_model.proofs.MapRows.{cases_key}
 use Rattle.dh_laws.specs.InOrder.{AreKeyed}
 use Rattle.dh_laws.proofs.PostCharged.{part_month, parts_fit}
 use Rattle.dh_laws.proofs.PostDues.{is_begun}
-use Rattle.dh_laws.proofs.PostMonth.{replaced}
+use Rattle.dh_laws.proofs.PostMonth.{of_new, replaced}
 use Rattle.dh_plans.proofs.BatchBranch.{IsHeld, branch_of_due, one_branch, own_dues, own_number, posted_with}
-use Rattle.dh_plans.proofs.MonthRows.{led}
+use Rattle.dh_plans.proofs.MonthRows.{led, was_free}
 use Rattle.dh_plans.proofs.Places.{filter_alike}
 
 -- a branch that has begun has its part row
@@ -111,3 +111,26 @@ module _ (size : ℕ) (books : Books) (month number : ℕ) (pos : 1 ≤ size) (k
         led part_key part_month nat_text_total nat_text_ties books.parts month (posted_parts size books month number)
         (posted_parts size books month (number + 1)) (parts_fit size books keyed rules month number)
         (parts_fit size books keyed rules month (number + 1)) (part ∷ []) is_new still_or_replaced new_or_before
+
+    -- the branch has a part row where this is not its first batch
+    pub had_part : nat_lt 0 (own_number size books month number pos keyed.leases held)
+        ≡ is_some (get (replaced part_key part_month books.parts month (posted_parts size books month number)) (month, key))
+    had_part =
+        let rows = posted_parts size books month number in
+        let fit = parts_fit size books keyed rules month number in
+        elim (cases_lt (batches_before size books month key) number) [
+          | inl less ↦
+              let own = part_of month key (posted_of_branch size books month number key) in
+              let there = of_new part_key part_month nat_text_total nat_text_ties books.parts month rows fit own
+              (of_begun size books month number key held.of less) in
+              lt-ltb 0 (number - batches_before size books month key) (omega (arith, less)) ∙ sym (ap is_some there)
+          | inr first ↦
+              let free = was_free part_key part_month nat_text_total nat_text_ties books.parts month rows (posted_parts size books month (number + 1)) fit
+              (parts_fit size books keyed rules month (number + 1)) part (is_new part (inl refl))
+              (λ y a e.
+              let p = is_begun size books month number y a in
+              let same : p.branch ≡ key = ap (λ (it : Part). it.branch) (sym p.is) ∙ ap (λ (k : ℕ × List ℕ). k.1) e in
+              let early : batches_before size books month key < number = subst (λ b. batches_before size books month b < number) same p.early in
+              omega (arith, first, early)) in
+              le-ltb 0 (number - batches_before size books month key) (omega (arith, first)) ∙ sym (ap is_some free)
+        ]

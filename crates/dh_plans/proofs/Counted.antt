@@ -1,5 +1,5 @@
 -- The rows that are left of a run are those of its batches, one after the other.
-use Rattle.std.proofs.Common.{◌≡◌, ap, subst, inl, inr, ℕ, ◌+◌, ◌-◌, ◌≤◌, max, List, [], ◌∷◌, length, arith}
+use Rattle.std.proofs.Common.{◌≡◌, ap, subst, inl, inr, ℕ, Bool, ◌+◌, ◌-◌, ◌≤◌, max, List, [], ◌∷◌, length, arith}
 use Rattle.std.specs.List.{flat_map, sum_by}
 use Rattle.std.specs.FinMap.{entries, entries_sorted, is_sorted, keys}
 use Rattle.std.proofs.lemmas.List.{length-append}
@@ -24,10 +24,10 @@ module _ (size : ℕ) (books : Books) (month done : ℕ) where
   abbrev before : List ℕ → ℕ
   before branch = batches_before size books month branch
 
-  abbrev left : List ℕ → List (List Charge × Part)
+  abbrev left : List ℕ → List (List Charge × Part × Bool)
   left branch = rows_left size books month done branch
 
-  abbrev Batch : ℕ → List Charge × Part → Type 0
+  abbrev Batch : ℕ → List Charge × Part × Bool → Type 0
   Batch number rows = IsBatch size books month number rows
 
   length_left : (branch : List ℕ) → length (left branch) ≡ own branch - (done - before branch)
@@ -70,7 +70,7 @@ module _ (size : ℕ) (books : Books) (month done : ℕ) where
       }
 
   -- the rows that are left are those of the batches from that number on, as many as there are
-  pub record AreTheRest (rows : List (List Charge × Part)) : Type 0 where
+  pub record AreTheRest (rows : List (List Charge × Part × Bool)) : Type 0 where
     pub batches_from : AreFrom (IsBatch size books month) done rows
     pub count : done + length rows ≡ batches size books month
 

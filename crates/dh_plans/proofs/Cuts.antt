@@ -1,5 +1,5 @@
 -- One batch after the other, cut from a branch's dues.
-use Rattle.std.proofs.Common.{◌≡◌, ◌∙◌, sym, ap, ℕ, ◌+◌, ◌-◌, ◌*◌, ◌≤◌, List, [], ◌∷◌, ◌++◌, length, map, take, arith}
+use Rattle.std.proofs.Common.{◌≡◌, ◌∙◌, sym, ap, ℕ, Bool, ◌+◌, ◌-◌, ◌*◌, ◌≤◌, List, [], ◌∷◌, ◌++◌, length, map, take, arith}
 use Rattle.std.specs.List.{range_with_len}
 use Rattle.std.proofs.lemmas.List.{append_assoc, length-append, length-take, take-append-drop, take-take}
 use Rattle.std.proofs.lemmas.List.FromFn.{map-range_with_len_more}
@@ -25,7 +25,7 @@ module _ (size : ℕ) (dues : List Charge) (number : ℕ) where
       omega (arith, both, all, some)
 
   -- the rows of one batch more
-  pub rows_more : (month : ℕ) (branch : List ℕ) (done : ℕ) (old : List (List Charge × Part)) → done ≤ number
+  pub rows_more : (month : ℕ) (branch : List ℕ) (done : ℕ) (old : List (List Charge × Part × Bool)) → done ≤ number
       → (old ++ map (rows_at size month branch dues) (range_with_len done (number - done))) ++ rows_at size month branch dues number ∷ []
       ≡ old ++ map (rows_at size month branch dues) (range_with_len done (number + 1 - done))
   rows_more month branch done old from =

@@ -1,6 +1,7 @@
 -- The rows that are left of a run are a plan of it.
-use Rattle.std.proofs.Common.{◌≡◌, ◌∙◌, sym, ap, subst, ℕ, ◌+◌, ◌<◌, List, [], ◌∷◌, map, length, slice_index_or, Some, arith}
+use Rattle.std.proofs.Common.{◌≡◌, ◌∙◌, sym, ap, subst, ℕ, Bool, ◌+◌, ◌<◌, List, [], ◌∷◌, map, length, slice_index_or, is_some, Some, arith}
 use Rattle.std.proofs.lemmas.List.{length-map}
+use Rattle.std.specs.FinMap.{get}
 use Rattle.dh_types.specs.declared.lease.Charge.{Charge}
 use Rattle.dh_types.specs.declared.run.Part.{Part}
 use Rattle.dh_model.specs.Books.{Books, State, with_rows}
@@ -10,11 +11,11 @@ use Rattle.dh_laws.specs.InOrder.{IsInOrder}
 use Rattle.dh_laws.specs.StateTables.{AreInOrder}
 use Rattle.dh_plans.specs.declared.planning.BatchRows.{BatchRows}
 use Rattle.dh_plans.specs.declared.planning.Plan.{Plan}
-use Rattle.dh_plans.specs.Plans.{AreNew, HaveTheLeases, IsPlanOf, begins_at, with_batch_rows}
+use Rattle.dh_plans.specs.Plans.{AreNew, HasItsPart, HaveTheLeases, IsPlanOf, begins_at, with_batch_rows}
 use Rattle.dh_plans.specs.Rows.{all_rows_left, rows_of}
 use Rattle.dh_plans.proofs.BatchBranch.{IsBatch}
 use Rattle.dh_plans.proofs.BatchCharges.{charges_led, charges_new}
-use Rattle.dh_plans.proofs.BatchParts.{parts_led}
+use Rattle.dh_plans.proofs.BatchParts.{had_part, parts_led}
 use Rattle.dh_plans.proofs.Counted.{AreTheRest, all_counted}
 use Rattle.dh_plans.proofs.Places.{at_place}
 
@@ -37,17 +38,24 @@ module _ (books : Books) (month done : ℕ) (order : IsInOrder batch_size books 
   rows_lead : with_batch_rows rows (stage_at books month number) ≡ stage_at books month (number + 1)
   rows_lead =
       let before = with_posted batch_size books month number in
-      let charges = ap (λ (r : List Charge × Part). with_rows charge_key r.0 before.charges) batch.is
+      let charges = ap (λ (r : List Charge × Part × Bool). with_rows charge_key r.0 before.charges) batch.is
       ∙ charges_led batch_size books month number (omega arith) order.keyed batch.held order.rules in
-      let parts = ap (λ (r : List Charge × Part). with_rows part_key (r.1 ∷ []) before.parts) batch.is
+      let parts = ap (λ (r : List Charge × Part × Bool). with_rows part_key (r.1 ∷ []) before.parts) batch.is
       ∙ parts_led batch_size books month number (omega arith) order.keyed batch.held order.rules in
       λ i. record { books = record books { charges = charges i; parts = parts i }; open_run = Some (record { month = month; done = number + 1 }) }
 
   rows_new : AreNew rows.charges.items (with_posted batch_size books month number).charges
   rows_new =
       let before = with_posted batch_size books month number in
-      subst (λ (r : List Charge × Part). AreNew r.0 before.charges) (sym batch.is)
+      subst (λ (r : List Charge × Part × Bool). AreNew r.0 before.charges) (sym batch.is)
       (charges_new batch_size books month number (omega arith) order.keyed batch.held order.rules)
+
+  rows_begun : HasItsPart rows (stage_at books month number)
+  rows_begun =
+      let before = with_posted batch_size books month number in
+      ap (λ (r : List Charge × Part × Bool). r.2) batch.is
+      ∙ had_part batch_size books month number (omega arith) order.keyed batch.held order.rules
+      ∙ ap (λ (r : List Charge × Part × Bool). is_some (get before.parts (part_key r.1))) (sym batch.is)
 
 module _ (plan : Plan) (t : State) (order : AreInOrder t) (shown : t.open_run ≡ Some (begins_at plan))
     (rows : map rows_of plan.batches.items ≡ all_rows_left batch_size t.books plan.month plan.done) where
@@ -72,6 +80,7 @@ module _ (plan : Plan) (t : State) (order : AreInOrder t) (shown : t.open_run �
             let next : plan.done + n + 1 ≡ plan.done + (n + 1) = omega arith in
             rows_lead t.books plan.month plan.done here (plan.done + n) it (is_batch n it h e) ∙ ap (stage_at t.books plan.month) next;
         new = λ n it h e. rows_new t.books plan.month plan.done here (plan.done + n) it (is_batch n it h e);
+        begun = λ n it h e. rows_begun t.books plan.month plan.done here (plan.done + n) it (is_batch n it h e);
       }
 
 -- rows that are left over books are a plan over tables with the same leases

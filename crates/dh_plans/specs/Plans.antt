@@ -1,6 +1,6 @@
 -- The rows of a run's batches, and the tables that they lead to.
-use Rattle.std.specs.Prelude.{◌≡◌, ◌<◌, ℕ, ◌+◌, List, [], ◌∷◌, length, slice_index_or, Option, Some, None}
-use Rattle.std.specs.FinMap.{FinMap, get}
+use Rattle.std.specs.Prelude.{◌≡◌, ◌<◌, ℕ, ◌+◌, List, [], ◌∷◌, length, slice_index_or, is_some, Option, Some, None}
+use Rattle.std.specs.FinMap.{FinMap, get, insert}
 use Rattle.std.specs.Ordering.{nat_cmp}
 use Rattle.dh_types.specs.declared.lease.Charge.{Charge}
 use Rattle.dh_model.specs.declared.open_run.OpenRun.{OpenRun}
@@ -24,10 +24,14 @@ with_batch_rows rows s = record {
   open_run = one_more s.open_run;
 }
 
--- none of the charges is there, and no two have one key
+-- each of the charges is new to what is there and to those before it
 abbrev pub AreNew : List Charge → FinMap (pair_cmp nat_cmp nat_cmp) Charge → Type 0
 AreNew [] held = Unit {0}
-AreNew (charge ∷ charges) held = (get (with_rows charge_key charges held) (charge_key charge) ≡ None) × AreNew charges held
+AreNew (charge ∷ charges) held = (get held (charge_key charge) ≡ None) × AreNew charges (insert held (charge_key charge) charge)
+
+-- it is known whether the branch of the batch has a part row of the run
+abbrev pub HasItsPart : BatchRows → State → Type 0
+HasItsPart rows s = rows.has_part ≡ is_some (get s.books.parts (part_key rows.part))
 
 abbrev pub begins_at : Plan → OpenRun
 begins_at plan = record { month = plan.month; done = plan.done }
@@ -40,7 +44,7 @@ stage books run n = record {
 }
 
 -- The plan has the batches that the open run lacks: the rows of each are new to the tables with those before, and lead from them
--- to the tables with it.
+-- to the tables with it; and each knows whether its branch has a part row.
 pub record IsPlanOf (plan : Plan) (s : State) : Type 0 where
   pub shown : s.open_run ≡ Some (begins_at plan)
   pub counted : plan.done + length plan.batches.items ≡ batches batch_size s.books plan.month
@@ -48,6 +52,8 @@ pub record IsPlanOf (plan : Plan) (s : State) : Type 0 where
       → with_batch_rows rows (stage s.books (begins_at plan) n) ≡ stage s.books (begins_at plan) (n + 1)
   pub new : (n : ℕ) (rows : BatchRows) → n < length plan.batches.items → rows ≡ slice_index_or plan.batches.items n rows
       → AreNew rows.charges.items (stage s.books (begins_at plan) n).books.charges
+  pub begun : (n : ℕ) (rows : BatchRows) → n < length plan.batches.items → rows ≡ slice_index_or plan.batches.items n rows
+      → HasItsPart rows (stage s.books (begins_at plan) n)
 
 -- no run is open, or this is the plan of it
 abbrev pub IsPlanned : State → Option Plan → Type 0

@@ -21,6 +21,8 @@ use std::alloc::{AllocError, Global};
 pub struct BatchRows {
     pub charges: Vec<Charge>,
     pub part: Part,
+    /// Whether the branch has a part row of the run before this batch.
+    pub has_part: bool,
 }
 
 /// The batches that an open run lacks, in their order.
@@ -43,14 +45,20 @@ fn charges_at(dues: &[Charge], number: u128) -> &[Charge]
 }
 
 // The rows of these charges, after which the branch has this part.
-fn rows_with(alloc: Global, charges: &[Charge], part: Part) -> Result<BatchRows, AllocError>
-    ensures { IfOk result (λ rows. rows_of rows ≡ (charges.now, part)) }
+fn rows_with(
+    alloc: Global,
+    charges: &[Charge],
+    part: Part,
+    has_part: bool,
+) -> Result<BatchRows, AllocError>
+    ensures { IfOk result (λ rows. rows_of rows ≡ (charges.now, part, has_part)) }
 {
     let mut owned = Vec::new(alloc);
     owned.extend_from_slice(charges)?;
     Ok(BatchRows {
         charges: owned,
         part,
+        has_part,
     })
 }
 
@@ -72,7 +80,7 @@ fn put_batches(
         let batch = charges_at(dues, number);
         sum = sum_with(sum, batch);
         let part = part_of_sum(month, branch, sum);
-        batches.push(rows_with(alloc, batch, part)?)?;
+        batches.push(rows_with(alloc, batch, part, number > 0)?)?;
     }
     Ok(())
 }

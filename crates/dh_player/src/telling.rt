@@ -13,7 +13,7 @@ use crate::moving::{advanced, mended};
 use dh_books::Books;
 use dh_laws::entering::commands_are_entered;
 use dh_model::{Change, OpenRun, Verdict};
-use dh_rules::{accepted, apply_change, batches, decide, step};
+use dh_rules::{apply_change, batches, decide, step};
 use dh_types::{BatchCount, Command, Progress, Reply, RunOrder};
 use dh_verdicts::decide_run;
 use std::alloc::{AllocError, Global};
@@ -115,7 +115,7 @@ fn told_meanwhile(alloc: Global, mut before: Books, command: &Command) -> Result
     let verdict = decide(alloc, &before, command)?;
     match verdict {
         Verdict::Change(rows) => {
-            let reply = accepted(&rows);
+            let reply = rows.reply();
             apply_change(&mut before, rows)?;
             Ok(Told {
                 tables: before,

@@ -8,10 +8,11 @@ use Rattle.sqlite.specs.Held.{Held, state}
 use Rattle.dh_types.specs.declared.run.Run.{Run}
 use Rattle.dh_types.specs.declared.run.RunSum.{RunSum}
 use Rattle.dh_model.specs.declared.open_run.OpenRun.{OpenRun}
+use Rattle.dh_model.specs.Books as office_state
 use Rattle.dh_model.specs.Books.{Books}
 use Rattle.dh_model.specs.Machine.{posted_sum}
-use Rattle.dh_model.specs.Rules.{charges_in}
-use Rattle.dh_model.specs.Runs.{batch_size, closed_run}
+use Rattle.dh_model.specs.Rules.{charges_in, parts_in}
+use Rattle.dh_model.specs.Runs.{batch_size, batches, closed_run}
 use Rattle.dh_model.specs.Whole.{whole}
 use Rattle.dh_model.proofs.KeyOrders.{nat_ties, nat_total}
 use Rattle.dh_model.proofs.MapRows.{get_new, inside}
@@ -29,8 +30,9 @@ use Rattle.dh_schema.specs.Kinds.{Runs}
 use Rattle.dh_schema.specs.Store.{IsReady, IsWriting, tables}
 use Rattle.dh_schema.specs.Tables.{IsTableInOrder}
 use Rattle.dh_schema.proofs.Keyed.{books_are_keyed, sound_tables_show_their_run}
-use Rattle.dh_posting.specs.Closing.{IsSumOfOpen, with_run, with_sum}
+use Rattle.dh_posting.specs.Closing.{IsOpenMonth, IsSumOfOpen, sum_of_parts, sum_over, with_run, with_sum}
 use Rattle.dh_posting.specs.Putting.{Puts}
+use Rattle.dh_posting.proofs.PartSums.{parts_are_charges}
 use Rattle.dh_posting.proofs.Putting.{IsThere, changed}
 
 -- ready tables are those that an office works on
@@ -66,6 +68,30 @@ module _ (books : Books) (sum : RunSum) (is : IsSumOfOpen sum books) where
       let found : get (insert books.runs row.month own_row) row.month ≡ Some own_row = get_new nat_total nat_ties books.runs row.month own_row in
       is.2 ∙ ap (posted_sum row.month) (sym found) ∙ ap (λ (month : ℕ). posted_sum month (get (insert books.runs row.month own_row) month)) (sym own)
       ∙ ap (λ (it : Books). posted_sum run.month (get it.runs run.month)) (whole_of (Some run) end order)
+
+-- the open run of this month, where no batch of it is left
+pub at_end_of : (books : Books) (run : Option OpenRun) (month : ℕ) → IsOpenMonth books month → IsAtItsEnd books run → IsInOrder batch_size books run
+    → run ≡ Some (record { month = month; done = batches batch_size books month })
+at_end_of books None month is end order = absurd end
+at_end_of books (Some run) month is end order =
+    let same : order.shown.0 ≡ is.0 = inside order.shown.0 is.0 (sym order.shown.1 ∙ is.1) in
+    let own : run.month ≡ month = sym order.shown.2 ∙ ap (λ (it : Run). it.month) same ∙ is.2 in
+    let done : run.done ≡ batches batch_size books month = end ∙ ap (batches batch_size books) own in
+    λ i. Some (record { month = own i; done = done i })
+
+-- what its part rows come to is what its charges come to
+pub sum_of_open : (s : office_state.State) (month : ℕ) (sum : RunSum) → office.AreInOrder s
+    → s.open_run ≡ Some (record { month = month; done = batches batch_size s.books month })
+    → sum ≡ sum_of_parts month (parts_in s.books month) → IsSumOfOpen sum s.books
+sum_of_open s month sum order open_one is =
+    let run : OpenRun = record { month = month; done = batches batch_size s.books month } in
+    let here : IsInOrder batch_size s.books (Some run) = subst (λ (it : Option OpenRun). IsInOrder batch_size s.books it) open_one order in
+    let row = here.shown.0 in (
+      row,
+      here.shown.1,
+      is ∙ parts_are_charges batch_size s.books month (omega arith) here
+          ∙ ap (λ (m : ℕ). sum_over m (charges_in s.books m)) (sym here.shown.2),
+    )
 
 module _ (s : State) (ready : IsReady s) (end : IsAtItsEnd (tables s).books (tables s).open_run) where
   abbrev order : office.AreInOrder (tables s)

@@ -4,4 +4,5 @@ pub mod EachCharge
 pub mod Following
 pub mod NextRows
 pub mod OfMonth
+pub mod PartSums
 pub mod Putting

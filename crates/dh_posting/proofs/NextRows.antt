@@ -17,7 +17,7 @@ use Rattle.dh_laws.proofs.PostCharged.{charge_month, charges_fit, part_month, pa
 use Rattle.dh_laws.proofs.PostMonth.{stays}
 use Rattle.dh_plans.specs.declared.planning.BatchRows.{BatchRows}
 use Rattle.dh_plans.specs.declared.planning.Plan.{Plan}
-use Rattle.dh_plans.specs.Plans.{AreNew, IsPlanOf, begins_at, stage, with_batch_rows}
+use Rattle.dh_plans.specs.Plans.{AreNew, HasItsPart, IsPlanOf, begins_at, stage, with_batch_rows}
 use Rattle.dh_posting.specs.declared.posting.Batch.TheVariants.{Posted, NoneLeft}
 use Rattle.dh_posting.specs.Batches.{batch_told}
 
@@ -92,3 +92,6 @@ module _ (plan : Plan) (s : State) (order : AreInOrder s) (is : IsPlanOf plan s)
 
     pub rows_new : AreNew rows.charges.items s.books.charges
     rows_new = subst (λ (it : State). AreNew rows.charges.items it.books.charges) (sym first_stage) (is.new 0 rows some at)
+
+    pub rows_known : HasItsPart rows s
+    rows_known = subst (HasItsPart rows) (sym first_stage) (is.begun 0 rows some at)

@@ -1,43 +1,45 @@
 //! The end of a run in one transaction.
 
-ghost use Rattle.std.specs.Prelude.{◌≡◌, ◌≤◌, ◌⊎◌, false, IsTrue, IfOk, IfErr, IfSome, OnOk, OnErr};
+ghost use Rattle.std.specs.Prelude.{◌≡◌, ◌≤◌, ◌⊎◌, Some, false, IsTrue, IfOk, IfErr, IfSome, OnOk, OnErr};
 ghost use Rattle.std.specs.FinMap.{values};
 ghost use Rattle.sqlite.specs.State.{HasCleanDisk};
 ghost use Rattle.sqlite.specs.Held.{state};
 ghost use Rattle.sqlite_trees.specs.View.{doubt};
-ghost use Rattle.dh_model.specs.Rules.{charges_in};
+ghost use Rattle.dh_model.specs.Rules.{parts_in};
+ghost use Rattle.dh_model.specs.Runs.{batch_size, batches};
 ghost use Rattle.dh_laws.specs.Batches.{IsAtItsEnd, closed_state, sum_told};
 ghost use Rattle.dh_tables.specs.Calls.{CommitsNothing};
 ghost use Rattle.dh_schema.specs.Faults.{IsFirstFault};
 ghost use Rattle.dh_schema.specs.Store.{Commits, IsReady, IsReadyWith, Leaves, StaysReady, tables};
-ghost use Rattle.dh_posting.specs.Closing.{IsSumOfOpen, sum_over};
+ghost use Rattle.dh_posting.specs.Closing.{IsOpenMonth, IsSumOfOpen, sum_of_parts};
 
 use dh_books::Books;
-use dh_looks::{look, no_rows, open_run};
+use dh_looks::{find_open_run, look, months_now, no_rows};
 use dh_schema::fault_of;
-use dh_tables::{ChargesOfMonth, update};
+use dh_tables::{PartsOfMonth, update};
 use dh_types::{EntryMonth, Fault, Pence, RunSum};
 use sqlite::{Alter, Connection, Error};
 use std::alloc::Global;
 
-// What the charges of the books come to, in a run of this month. `None` where they are more than a run can have.
+// What the part rows of the books come to, in a run of this month. `None` where they are more than a run can have.
 fn sum_of(month: EntryMonth, books: &Books) -> Option<RunSum>
-    ensures { IfSome result (λ sum. sum ≡ sum_over month (values books.now.books.charges)) }
+    ensures { IfSome result (λ sum. sum ≡ sum_of_parts month (values books.now.books.parts)) }
 {
     let mut count = 0u32;
     let mut total = 0u64;
-    for charge in books.charges() {
-        count = count.checked_add(1)?;
-        total += u64::from(charge.amount.pence());
+    for part in books.parts() {
+        count = count.checked_add(part.count)?;
+        total = total.checked_add(part.total.pence())?;
     }
+    let total = Pence::try_of_pence(i64::try_from(total).ok()?)?;
     Some(RunSum {
         month,
         count,
-        total: Pence::of_pence(total),
+        total,
     })
 }
 
-// What the charges of the month come to. More than a run can have come only from a store that is not clean.
+// What the part rows of the month come to. More than a run can have come only from a store that is not clean.
 fn month_sum<S: Alter>(
     alloc: Global,
     conn: &mut Connection<S>,
@@ -45,7 +47,7 @@ fn month_sum<S: Alter>(
 ) -> Result<RunSum, Fault>
     requires { HasCleanDisk (state S.Store conn.old) → IsReady (state S.Store conn.old) }
     ensures told { HasCleanDisk (state S.Store conn.new)
-        → IfOk result (λ sum. sum ≡ sum_over month (charges_in (tables (state S.Store conn.old)).books month)) }
+        → IfOk result (λ sum. sum ≡ sum_of_parts month (parts_in (tables (state S.Store conn.old)).books month)) }
     ensures done { HasCleanDisk (state S.Store conn.new) → OnOk result (StaysReady (state S.Store conn.old) (state S.Store conn.new)) }
     ensures undone { HasCleanDisk (state S.Store conn.new) → IsTrue (state S.Store conn.new).is_open
         → OnErr result (StaysReady (state S.Store conn.old) (state S.Store conn.new)) }
@@ -53,25 +55,9 @@ fn month_sum<S: Alter>(
     ensures crash { CommitsNothing (state S.Store conn.old) (state S.Store conn.new) }
 {
     let mut books = no_rows(alloc);
-    look(alloc, conn, &ChargesOfMonth { month }, &mut books)?;
+    look(alloc, conn, &PartsOfMonth { month }, &mut books)?;
     match sum_of(month, &books) {
         Some(sum) => Ok(sum),
-        None => Err(Fault::Store),
-    }
-}
-
-// What the open run comes to. That none is open comes only from a store that is not clean.
-fn open_sum<S: Alter>(alloc: Global, conn: &mut Connection<S>) -> Result<RunSum, Fault>
-    requires { HasCleanDisk (state S.Store conn.old) → IsReady (state S.Store conn.old) }
-    ensures told { HasCleanDisk (state S.Store conn.new) → IfOk result (λ sum. IsSumOfOpen sum (tables (state S.Store conn.old)).books) }
-    ensures done { HasCleanDisk (state S.Store conn.new) → OnOk result (StaysReady (state S.Store conn.old) (state S.Store conn.new)) }
-    ensures undone { HasCleanDisk (state S.Store conn.new) → IsTrue (state S.Store conn.new).is_open
-        → OnErr result (StaysReady (state S.Store conn.old) (state S.Store conn.new)) }
-    ensures cause { IfErr result IsFirstFault }
-    ensures crash { CommitsNothing (state S.Store conn.old) (state S.Store conn.new) }
-{
-    match open_run(alloc, conn)? {
-        Some(run) => month_sum(alloc, conn, run.month),
         None => Err(Fault::Store),
     }
 }
@@ -117,8 +103,52 @@ fn close_with<S: Alter>(alloc: Global, conn: &mut Connection<S>, sum: &RunSum) -
     }
 }
 
-/// Closes the open run, of which no batch is left, in one transaction: its row gets the count and the total of its charges, which are
-/// answered. At a fault the tables are these or those before, and while the store is open those before.
+/// Closes the open run of this month, of which no batch is left, in one transaction: its row gets the count and the total of its
+/// charges, which are answered. They are summed up from the month's part rows. At a fault the tables are these or those before, and
+/// while the store is open those before.
+pub fn close_month<S: Alter>(
+    alloc: Global,
+    conn: &mut Connection<S>,
+    month: EntryMonth,
+) -> Result<RunSum, Fault>
+    requires ready { HasCleanDisk (state S.Store conn.old) → IsReady (state S.Store conn.old) }
+    requires end { HasCleanDisk (state S.Store conn.old)
+        → (tables (state S.Store conn.old)).open_run
+        ≡ Some (record { month = month; done = batches batch_size (tables (state S.Store conn.old)).books month }) }
+    ensures told { HasCleanDisk (state S.Store conn.new)
+        → IfOk result (λ sum. sum ≡ sum_told (tables (state S.Store conn.old)).books (tables (state S.Store conn.old)).open_run) }
+    ensures done { HasCleanDisk (state S.Store conn.new)
+        → OnOk result (IsReadyWith (state S.Store conn.new) (λ t. t ≡ closed_state (tables (state S.Store conn.old)))) }
+    ensures undone { HasCleanDisk (state S.Store conn.new) → IsTrue (state S.Store conn.new).is_open
+        → OnErr result (StaysReady (state S.Store conn.old) (state S.Store conn.new)) }
+    ensures cause { IfErr result IsFirstFault }
+    ensures crash { HasCleanDisk (state S.Store conn.new)
+        → Leaves (state S.Store conn.new) (λ t. (t ≡ tables (state S.Store conn.old)) ⊎ (t ≡ closed_state (tables (state S.Store conn.old)))) }
+    ensures was_clean { doubt (state S.Store conn.old).is_clean ≤ doubt (state S.Store conn.new).is_clean }
+{
+    let sum = month_sum(alloc, conn, month)?;
+    close_with(alloc, conn, &sum)?;
+    Ok(sum)
+}
+
+// The month of the open run. That none is open comes only from a store that is not clean.
+fn open_month<S: Alter>(alloc: Global, conn: &mut Connection<S>) -> Result<EntryMonth, Fault>
+    requires { HasCleanDisk (state S.Store conn.old) → IsReady (state S.Store conn.old) }
+    ensures told { HasCleanDisk (state S.Store conn.new) → IfOk result (IsOpenMonth (tables (state S.Store conn.old)).books) }
+    ensures done { HasCleanDisk (state S.Store conn.new) → OnOk result (StaysReady (state S.Store conn.old) (state S.Store conn.new)) }
+    ensures undone { HasCleanDisk (state S.Store conn.new) → IsTrue (state S.Store conn.new).is_open
+        → OnErr result (StaysReady (state S.Store conn.old) (state S.Store conn.new)) }
+    ensures cause { IfErr result IsFirstFault }
+    ensures crash { CommitsNothing (state S.Store conn.old) (state S.Store conn.new) }
+{
+    let months = months_now(alloc, conn)?;
+    match find_open_run(alloc, conn, months)? {
+        Some(run) => Ok(run.month),
+        None => Err(Fault::Store),
+    }
+}
+
+/// Closes the open run, of which no batch is left, as [`close_month`] does.
 pub fn close_run<S: Alter>(alloc: Global, conn: &mut Connection<S>) -> Result<RunSum, Fault>
     requires ready { HasCleanDisk (state S.Store conn.old) → IsReady (state S.Store conn.old) }
     requires end { HasCleanDisk (state S.Store conn.old) → IsAtItsEnd (tables (state S.Store conn.old)).books (tables (state S.Store conn.old)).open_run }
@@ -133,7 +163,6 @@ pub fn close_run<S: Alter>(alloc: Global, conn: &mut Connection<S>) -> Result<Ru
         → Leaves (state S.Store conn.new) (λ t. (t ≡ tables (state S.Store conn.old)) ⊎ (t ≡ closed_state (tables (state S.Store conn.old)))) }
     ensures was_clean { doubt (state S.Store conn.old).is_clean ≤ doubt (state S.Store conn.new).is_clean }
 {
-    let sum = open_sum(alloc, conn)?;
-    close_with(alloc, conn, &sum)?;
-    Ok(sum)
+    let month = open_month(alloc, conn)?;
+    close_month(alloc, conn, month)
 }

@@ -7,7 +7,7 @@ mod planning;
 mod posting;
 mod rows;
 
-pub use closing::close_run;
+pub use closing::{close_month, close_run};
 pub use opening::open_run;
 pub use planning::plan_run;
 pub use posting::{Batch, post_batch, post_rows};

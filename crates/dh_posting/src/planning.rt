@@ -17,7 +17,7 @@ ghost use Rattle.dh_schema.specs.Store.{IsReady, Leaves, StaysReady, tables};
 
 use dh_books::Books;
 use dh_leases::batches_for;
-use dh_looks::{look, look_at_all, no_rows, open_run};
+use dh_looks::{find_open_run, look, look_at_all, months_now, no_rows};
 use dh_model::OpenRun;
 use dh_plans::{Plan, plan_of};
 use dh_tables::PartsOfMonth;
@@ -69,7 +69,8 @@ fn run_now<S: Alter>(alloc: Global, conn: &mut Connection<S>) -> Result<Option<O
     ensures cause { IfErr result IsFirstFault }
     ensures crash { CommitsNothing (state S.Store conn.old) (state S.Store conn.new) }
 {
-    let Some(run) = open_run(alloc, conn)? else {
+    let months = months_now(alloc, conn)?;
+    let Some(run) = find_open_run(alloc, conn, months)? else {
         return Ok(None);
     };
     let done = done_in(alloc, conn, run.month)?;

@@ -1,25 +1,21 @@
 //! A batch in one transaction.
 
-ghost use Rattle.std.specs.Prelude.{◌≡◌, ◌≤◌, ◌⊎◌, false, is_some, IsTrue, IfOk, IfErr, OnOk, OnErr};
-ghost use Rattle.std.specs.FinMap.{get};
+ghost use Rattle.std.specs.Prelude.{◌≡◌, ◌≤◌, ◌⊎◌, false, IsTrue, IfOk, IfErr, OnOk, OnErr};
 ghost use Rattle.sqlite.specs.State.{HasCleanDisk};
 ghost use Rattle.sqlite.specs.Held.{state};
 ghost use Rattle.sqlite_trees.specs.View.{doubt};
-ghost use Rattle.dh_model.specs.Runs.{part_key};
 ghost use Rattle.dh_laws.specs.Batches.{IsUnderWay, next_batch};
 ghost use Rattle.dh_laws.specs.StateTables.{AreInOrder};
-ghost use Rattle.dh_plans.specs.Plans.{AreNew, IsPlanOf, with_batch_rows};
+ghost use Rattle.dh_plans.specs.Plans.{AreNew, HasItsPart, IsPlanOf, with_batch_rows};
 ghost use Rattle.dh_schema.specs.Faults.{IsFirstFault};
 ghost use Rattle.dh_schema.specs.Store.{Commits, IsReady, IsReadyWith, Leaves, StaysReady, tables};
-ghost use Rattle.dh_tables.specs.Calls.{CommitsNothing};
 ghost use Rattle.dh_posting.specs.Batches.{batch_told};
 
 use crate::planning::plan_run;
 use crate::rows::put_rows;
 use dh_plans::{BatchRows, Plan};
 use dh_schema::fault_of;
-use dh_tables::{PartOf, find};
-use dh_types::{Fault, Part};
+use dh_types::Fault;
 use sqlite::{Alter, Connection, Error};
 use std::alloc::Global;
 
@@ -32,40 +28,17 @@ pub enum Batch {
     NoneLeft,
 }
 
-// Whether the part's branch has something of the run.
-fn has_part<S: Alter>(alloc: Global, conn: &mut Connection<S>, part: &Part) -> Result<bool, Fault>
-    requires { HasCleanDisk (state S.Store conn.old) → IsReady (state S.Store conn.old) }
-    ensures told { HasCleanDisk (state S.Store conn.new)
-        → IfOk result (λ it. it ≡ is_some (get (tables (state S.Store conn.new)).books.parts (part_key part.now))) }
-    ensures done { HasCleanDisk (state S.Store conn.new) → OnOk result (StaysReady (state S.Store conn.old) (state S.Store conn.new)) }
-    ensures undone { HasCleanDisk (state S.Store conn.new) → IsTrue (state S.Store conn.new).is_open
-        → OnErr result (StaysReady (state S.Store conn.old) (state S.Store conn.new)) }
-    ensures cause { IfErr result IsFirstFault }
-    ensures crash { CommitsNothing (state S.Store conn.old) (state S.Store conn.new) }
-{
-    let question = PartOf {
-        month: part.month,
-        branch: part.branch,
-    };
-    match find(alloc, conn, &question) {
-        Ok(found) => Ok(found.is_some()),
-        Err(error) => Err(fault_of(error)),
-    }
-}
-
 // Puts the rows of a batch into the tables and commits them.
 fn commit_rows<S: Alter>(
     alloc: Global,
     conn: &mut Connection<S>,
     rows: &BatchRows,
-    has_part: bool,
 ) -> Result<(), Error>
     requires autocommit { (state S.Store conn.old).in_transaction ≡ false }
     requires ready { HasCleanDisk (state S.Store conn.old) → IsReady (state S.Store conn.old) }
     requires order { HasCleanDisk (state S.Store conn.old) → AreInOrder (with_batch_rows rows.now (tables (state S.Store conn.old))) }
     requires new { HasCleanDisk (state S.Store conn.old) → AreNew rows.now.charges.items (tables (state S.Store conn.old)).books.charges }
-    requires known { HasCleanDisk (state S.Store conn.old)
-        → has_part ≡ is_some (get (tables (state S.Store conn.old)).books.parts (part_key rows.now.part)) }
+    requires known { HasCleanDisk (state S.Store conn.old) → HasItsPart rows.now (tables (state S.Store conn.old)) }
     ensures done { HasCleanDisk (state S.Store conn.new)
         → OnOk result (IsReadyWith (state S.Store conn.new) (λ t. t ≡ with_batch_rows rows.now (tables (state S.Store conn.old)))) }
     ensures undone { HasCleanDisk (state S.Store conn.new) → IsTrue (state S.Store conn.new).is_open
@@ -73,39 +46,9 @@ fn commit_rows<S: Alter>(
     ensures survives { Commits (state S.Store conn.old) (state S.Store conn.new) (λ t. t ≡ with_batch_rows rows.now (tables (state S.Store conn.old))) }
 {
     let mut tx = conn.transaction();
-    put_rows(alloc, &mut tx, rows, has_part)?;
+    put_rows(alloc, &mut tx, rows)?;
     tx.commit()?;
     Ok(())
-}
-
-// Posts the rows of a batch, of whose branch it is known whether it has something of the run.
-fn post_known<S: Alter>(
-    alloc: Global,
-    conn: &mut Connection<S>,
-    rows: &BatchRows,
-    has_part: bool,
-) -> Result<(), Fault>
-    requires ready { HasCleanDisk (state S.Store conn.old) → IsReady (state S.Store conn.old) }
-    requires order { HasCleanDisk (state S.Store conn.old) → AreInOrder (with_batch_rows rows.now (tables (state S.Store conn.old))) }
-    requires new { HasCleanDisk (state S.Store conn.old) → AreNew rows.now.charges.items (tables (state S.Store conn.old)).books.charges }
-    requires known { HasCleanDisk (state S.Store conn.old)
-        → has_part ≡ is_some (get (tables (state S.Store conn.old)).books.parts (part_key rows.now.part)) }
-    ensures done { HasCleanDisk (state S.Store conn.new)
-        → OnOk result (IsReadyWith (state S.Store conn.new) (λ t. t ≡ with_batch_rows rows.now (tables (state S.Store conn.old)))) }
-    ensures undone { HasCleanDisk (state S.Store conn.new) → IsTrue (state S.Store conn.new).is_open
-        → OnErr result (StaysReady (state S.Store conn.old) (state S.Store conn.new)) }
-    ensures cause { IfErr result IsFirstFault }
-    ensures crash { HasCleanDisk (state S.Store conn.new)
-        → Leaves (state S.Store conn.new) (λ t. (t ≡ tables (state S.Store conn.old)) ⊎ (t ≡ with_batch_rows rows.now (tables (state S.Store conn.old)))) }
-    ensures was_clean { doubt (state S.Store conn.old).is_clean ≤ doubt (state S.Store conn.new).is_clean }
-{
-    if !conn.is_autocommit() {
-        return Err(Fault::Store);
-    }
-    match commit_rows(alloc, conn, rows, has_part) {
-        Ok(()) => Ok(()),
-        Err(error) => Err(fault_of(error)),
-    }
 }
 
 /// Puts the rows of a batch into the tables, in one transaction: charges that are new, and the part row of their branch in the place
@@ -119,6 +62,7 @@ pub fn post_rows<S: Alter>(
     requires ready { HasCleanDisk (state S.Store conn.old) → IsReady (state S.Store conn.old) }
     requires order { HasCleanDisk (state S.Store conn.old) → AreInOrder (with_batch_rows rows.now (tables (state S.Store conn.old))) }
     requires new { HasCleanDisk (state S.Store conn.old) → AreNew rows.now.charges.items (tables (state S.Store conn.old)).books.charges }
+    requires known { HasCleanDisk (state S.Store conn.old) → HasItsPart rows.now (tables (state S.Store conn.old)) }
     ensures done { HasCleanDisk (state S.Store conn.new)
         → OnOk result (IsReadyWith (state S.Store conn.new) (λ t. t ≡ with_batch_rows rows.now (tables (state S.Store conn.old)))) }
     ensures undone { HasCleanDisk (state S.Store conn.new) → IsTrue (state S.Store conn.new).is_open
@@ -128,8 +72,13 @@ pub fn post_rows<S: Alter>(
         → Leaves (state S.Store conn.new) (λ t. (t ≡ tables (state S.Store conn.old)) ⊎ (t ≡ with_batch_rows rows.now (tables (state S.Store conn.old)))) }
     ensures was_clean { doubt (state S.Store conn.old).is_clean ≤ doubt (state S.Store conn.new).is_clean }
 {
-    let has_part = has_part(alloc, conn, &rows.part)?;
-    post_known(alloc, conn, rows, has_part)
+    if !conn.is_autocommit() {
+        return Err(Fault::Store);
+    }
+    match commit_rows(alloc, conn, rows) {
+        Ok(()) => Ok(()),
+        Err(error) => Err(fault_of(error)),
+    }
 }
 
 // Posts the first batch of the plan, if it has one. More batches than can be counted come only from a store that is not clean.

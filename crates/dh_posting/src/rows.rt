@@ -5,7 +5,7 @@ ghost use Rattle.std.specs.FinMap.{get};
 ghost use Rattle.sqlite.specs.State.{HasCleanDisk};
 ghost use Rattle.sqlite.specs.Held.{state};
 ghost use Rattle.dh_model.specs.Runs.{charge_key, part_key};
-ghost use Rattle.dh_plans.specs.Plans.{AreNew};
+ghost use Rattle.dh_plans.specs.Plans.{AreNew, HasItsPart};
 ghost use Rattle.dh_schema.specs.Store.{IsWriting, tables};
 ghost use Rattle.dh_posting.specs.Putting.{Puts, with_charge, with_charges, with_part, with_rows_of};
 
@@ -34,7 +34,7 @@ fn put_charge<S: Alter>(
     insert(alloc, tx, charge)
 }
 
-// Puts charges that are new, the last of them first.
+// Puts charges that are new, one after the other.
 fn put_charges<S: Alter>(
     alloc: Global,
     tx: &mut Transaction<'_, S>,
@@ -45,8 +45,8 @@ fn put_charges<S: Alter>(
     ensures same_reference { tx.new.conn.ghost_name ≡ tx.old.conn.ghost_name }
     ensures puts { Puts (with_charges charges.now) result (state S.Store tx.old.conn.now) (state S.Store tx.new.conn.now) }
 {
-    for left in (0..charges.len()).rev() {
-        put_charge(alloc, tx, &charges[left])?;
+    for charge in charges {
+        put_charge(alloc, tx, charge)?;
     }
     Ok(())
 }
@@ -76,15 +76,13 @@ pub(crate) fn put_rows<S: Alter>(
     alloc: Global,
     tx: &mut Transaction<'_, S>,
     rows: &BatchRows,
-    has_part: bool,
 ) -> Result<(), Error>
     requires writing { HasCleanDisk (state S.Store tx.old.conn.now) → IsWriting (state S.Store tx.old.conn.now) }
     requires new { HasCleanDisk (state S.Store tx.old.conn.now) → AreNew rows.now.charges.items (tables (state S.Store tx.old.conn.now)).books.charges }
-    requires known { HasCleanDisk (state S.Store tx.old.conn.now)
-        → has_part ≡ is_some (get (tables (state S.Store tx.old.conn.now)).books.parts (part_key rows.now.part)) }
+    requires known { HasCleanDisk (state S.Store tx.old.conn.now) → HasItsPart rows.now (tables (state S.Store tx.old.conn.now)) }
     ensures same_reference { tx.new.conn.ghost_name ≡ tx.old.conn.ghost_name }
     ensures puts { Puts (with_rows_of rows.now) result (state S.Store tx.old.conn.now) (state S.Store tx.new.conn.now) }
 {
     put_charges(alloc, tx, &rows.charges)?;
-    put_part(alloc, tx, &rows.part, has_part)
+    put_part(alloc, tx, &rows.part, rows.has_part)
 }

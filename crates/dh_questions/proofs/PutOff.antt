@@ -1,5 +1,5 @@
--- A question that an open run puts off.
-use Rattle.std.proofs.Common.{◌≡◌, sym, ap, true, Option, Some, option_map}
+-- A question, and the run that is open.
+use Rattle.std.proofs.Common.{◌≡◌, sym, ap, true, Option, Some, None, option_map}
 use Rattle.std.specs.FinMap.{get}
 use Rattle.sqlite.specs.State.{State}
 use Rattle.dh_types.specs.declared.question.Question.{Question}
@@ -28,8 +28,12 @@ module _ (s : State) where
   abbrev shown : Run → OpenRun
   shown row = record { month = row.month; done = batches_shown batch_size (tables s).books row.month }
 
-  pub run_there : (found : Option Run) → found ≡ open_row (tables s).books → (tables s).open_run ≡ option_map shown found
+  run_there : (found : Option Run) → found ≡ open_row (tables s).books → (tables s).open_run ≡ option_map shown found
   run_there found is = ap (option_map shown) (sym is)
+
+  -- no run is open
+  pub none_there : None ≡ open_row (tables s).books → (tables s).open_run ≡ None
+  none_there is = run_there None is
 
   -- the run that is open refuses it
   pub refused_for : (row : Run) (question : Question) → Some row ≡ open_row (tables s).books → is_put_off question ≡ true

@@ -21,8 +21,8 @@ ghost use Rattle.dh_schema.specs.Faults.{IsFirstFault};
 ghost use Rattle.dh_schema.specs.Store.{IsReady, Leaves, StaysReady, tables};
 
 use dh_books::Books;
-use dh_lists::answer;
-use dh_looks::{look, look_at_all, no_rows, open_run};
+use dh_lists::{answer, is_put_off};
+use dh_looks::{find_open_run, look, look_at_all, months_now, no_rows};
 use dh_tables::{
     BranchNumbered, ChargesOfLease, ClientNumbered, LeaseNumbered, LeasesOfProperty, PartsOfMonth,
     ReceiptsOfLease, RunOf,
@@ -316,16 +316,6 @@ fn gather<S: Alter>(
     }
 }
 
-// Whether an open run puts the question off.
-fn is_put_off(question: &Question) -> bool
-    ensures { result ≡ is_put_off question.now }
-{
-    matches!(
-        question,
-        Question::Statement(_) | Question::Arrears(_) | Question::Run(_)
-    )
-}
-
 // What these books answer.
 fn answer_on(alloc: Global, books: &Books, question: &Question) -> Result<Answer, Fault>
     ensures answer { IfOk result (λ a. report_of a ≡ report books.now question.now) }
@@ -344,8 +334,8 @@ fn answer_now<S: Alter>(
     question: &Question,
 ) -> Result<Answer, Fault>
     requires ready { HasCleanDisk (state S.Store conn.old) → IsReady (state S.Store conn.old) }
-    requires free { HasCleanDisk (state S.Store conn.old) → is_put_off question.now ≡ true → (tables (state S.Store conn.old)).open_run ≡ None }
-    ensures answer { HasCleanDisk (state S.Store conn.new) → IfOk result (λ a. report_of a ≡ report (tables (state S.Store conn.old)) question.now) }
+    ensures answer { HasCleanDisk (state S.Store conn.new) → (is_put_off question.now ≡ true → (tables (state S.Store conn.old)).open_run ≡ None)
+        → IfOk result (λ a. report_of a ≡ report (tables (state S.Store conn.old)) question.now) }
     ensures done { HasCleanDisk (state S.Store conn.new) → OnOk result (StaysReady (state S.Store conn.old) (state S.Store conn.new)) }
     ensures undone { HasCleanDisk (state S.Store conn.new) → IsTrue (state S.Store conn.new).is_open
         → OnErr result (StaysReady (state S.Store conn.old) (state S.Store conn.new)) }
@@ -372,10 +362,11 @@ fn answer_put_off<S: Alter>(
     ensures cause { IfErr result IsFirstFault }
     ensures crash { CommitsNothing (state S.Store conn.old) (state S.Store conn.new) }
 {
-    let found = open_run(alloc, conn)?;
+    let months = months_now(alloc, conn)?;
+    let found = find_open_run(alloc, conn, months)?;
     match found {
         Some(run) => Ok(Answer::Refused(Refusal::RunOpen(run.month.month()))),
-        None => Ok(answer_now(alloc, conn, question)?),
+        None => answer_now(alloc, conn, question),
     }
 }
 

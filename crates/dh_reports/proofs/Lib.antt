@@ -1,3 +1,4 @@
 pub mod LineLemmas
 pub mod ColumnLemmas
 pub mod FigureLemmas
+pub mod PartLemmas

@@ -11,9 +11,13 @@ left width text = text ++ replicate (width - length text) 32
 abbrev pub right : ℕ → List ℕ → List ℕ
 right width text = replicate (width - length text) 32 ++ text
 
+-- the end of a line
+abbrev pub newline : List ℕ
+newline = 10 ∷ []
+
 -- columns parted by one space, and the end of the line
 abbrev pub line : List (List ℕ) → List ℕ
-line columns = join_with_byte 32 columns ++ 10 ∷ []
+line columns = join_with_byte 32 columns ++ newline
 
 -- what a column of the program is written as
 abbrev pub column_text : Column → List ℕ

@@ -1,11 +1,10 @@
 //! The rows of a change, put into the books.
 
 ghost use Rattle.std.specs.Prelude.{◌≡◌, OnOk};
-ghost use Rattle.dh_model.specs.Machine.{accepted, changed};
+ghost use Rattle.dh_model.specs.Machine.{changed};
 
 use dh_books::Books;
 use dh_model::Change;
-use dh_types::Reply;
 use std::alloc::AllocError;
 
 /// Puts the rows of the change into the books. An error may leave them changed in part.
@@ -42,15 +41,5 @@ pub fn apply_change(books: &mut Books, change: Change) -> Result<(), AllocError>
             Ok(())
         }
         Change::Post => Ok(()),
-    }
-}
-
-/// What an accepted change is answered: a receipt its number.
-pub fn accepted(change: &Change) -> Reply
-    ensures { result ≡ accepted change.now }
-{
-    match change {
-        Change::Receipt(it) => Reply::Receipt(it.number),
-        _ => Reply::Accepted,
     }
 }

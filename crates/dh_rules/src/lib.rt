@@ -6,7 +6,7 @@ mod changes;
 mod machine;
 mod runs;
 
-pub use changes::{accepted, apply_change};
+pub use changes::apply_change;
 pub use dh_audit::audit;
 pub use dh_books::Books;
 pub use dh_leases::{batches, dues};

@@ -6,7 +6,7 @@ ghost use Rattle.dh_model.specs.Runs.{batch_size};
 ghost use Rattle.dh_model.specs.Verdicts.{verdict_on};
 ghost use Rattle.dh_model.specs.declared.rows.Verdict.TheVariants as verdict;
 
-use crate::changes::{accepted, apply_change};
+use crate::changes::apply_change;
 use crate::runs::{resumed, run_made, run_opened};
 use dh_books::Books;
 use dh_model::{Change, Verdict};
@@ -26,7 +26,7 @@ fn put(mut books: Books, change: Change) -> Result<Stepped, AllocError>
     ensures books { IfOk result (λ s. s.books ≡ record books { books = changed change books.books }) }
     ensures reply { IfOk result (λ s. s.reply ≡ accepted change) }
 {
-    let reply = accepted(&change);
+    let reply = change.reply();
     apply_change(&mut books, change)?;
     Ok(Stepped { books, reply })
 }

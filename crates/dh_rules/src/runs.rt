@@ -16,11 +16,7 @@ fn posted_sum(month: EntryMonth, row: Option<&Run>) -> RunSum
     ensures { result ≡ posted_sum month (option_copied row.entry) }
 {
     match row {
-        Some(run) => RunSum {
-            month: run.month,
-            count: run.count,
-            total: run.total,
-        },
+        Some(run) => run.sum(),
         None => RunSum {
             month,
             count: 0,

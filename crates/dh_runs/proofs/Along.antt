@@ -1,11 +1,12 @@
 -- What stands after so many batches of an open run, and what an exit leaves there.
-use Rattle.std.proofs.Common.{◌≡◌, ◌⊎◌, inl, inr, ℕ, ◌+◌, ◌-◌, ◌≤◌, Some, IsTrue, arith}
+use Rattle.std.proofs.Common.{◌≡◌, ◌∙◌, ◌⊎◌, inl, inr, ap, subst, ℕ, ◌+◌, ◌-◌, ◌≤◌, Option, Some, IsTrue, arith}
 use Rattle.sqlite_trees.specs.Tree.{Trees}
 use Rattle.sqlite_trees.specs.View.{doubt}
 use Rattle.sqlite.specs.State.{State, HasCleanDisk}
 use Rattle.dh_types.specs.declared.reply.Progress.{Progress}
 use Rattle.dh_model.specs.declared.open_run.OpenRun.{OpenRun}
 use Rattle.dh_model.specs.Books as machine
+use Rattle.dh_model.specs.Runs.{batch_size, batches}
 use Rattle.dh_laws.specs.Batches.{IsAtItsEnd, IsPostedInPart}
 use Rattle.dh_laws.specs.StateTables.{AreInOrder}
 use Rattle.dh_laws.proofs.Standing.{Stands, all_of, at_its_end, posted_in_part, within}
@@ -66,5 +67,14 @@ module _ (old : State) (run : Progress) (now : State) (n : ℕ) (h : Along old n
       let fits = within (at run) (tables old) n (tables now) (h.stands clean) in
       omega (arith, fits, all, h.counted clean)
 
-  pub ends : run.of - run.done ≤ n → HasCleanDisk now → IsAtItsEnd (tables now).books (tables now).open_run
+  ends : run.of - run.done ≤ n → HasCleanDisk now → IsAtItsEnd (tables now).books (tables now).open_run
   ends all clean = at_its_end (at run) (tables old) n (tables now) (h.stands clean) (full all clean)
+
+  -- and the open run shows it
+  pub ends_at : run.of - run.done ≤ n → HasCleanDisk now
+      → (tables now).open_run ≡ Some (record { month = run.month; done = batches batch_size (tables now).books run.month })
+  ends_at all clean =
+      let is = (h.stands clean).is in
+      let done : run.done + n ≡ batches batch_size (tables now).books run.month =
+      subst (λ (it : Option OpenRun). IsAtItsEnd (tables now).books it) is (ends all clean) in
+      is ∙ ap (λ (m : ℕ). Some (record { month = run.month; done = m })) done

@@ -20,7 +20,7 @@ use Rattle.dh_laws.proofs.PostMonth.{stays}
 use Rattle.dh_laws.proofs.Standing.{Stands, posted_in_part}
 use Rattle.dh_plans.specs.declared.planning.BatchRows.{BatchRows}
 use Rattle.dh_plans.specs.declared.planning.Plan.{Plan}
-use Rattle.dh_plans.specs.Plans.{AreNew, IsPlanOf, begins_at, stage, with_batch_rows}
+use Rattle.dh_plans.specs.Plans.{AreNew, HasItsPart, IsPlanOf, begins_at, stage, with_batch_rows}
 use Rattle.dh_schema.specs.Store.{IsReady, Leaves, tables}
 use Rattle.dh_runs.proofs.Along.{Along, either, in_order, leaves_weaker}
 
@@ -106,6 +106,9 @@ module _ (old : State) (plan : Plan) where
     pub rows_are_new : HasCleanDisk now → AreNew rows.charges.items (tables now).books.charges
     rows_are_new clean =
         subst (λ (it : machine.State). AreNew rows.charges.items it.books.charges) (sym (h.stands clean)) ((h.plans clean).new n rows few is)
+
+    pub rows_begun : HasCleanDisk now → HasItsPart rows (tables now)
+    rows_begun clean = subst (HasItsPart rows) (sym (h.stands clean)) ((h.plans clean).begun n rows few is)
 
     pub planned_next : (new : State) → doubt now.is_clean ≤ doubt new.is_clean
         → (HasCleanDisk new → IsReady new × (tables new ≡ with_batch_rows rows (tables now))) → Planned old new plan (n + 1)

@@ -16,7 +16,7 @@ ghost use Rattle.dh_schema.specs.Store.{IsReady, IsReadyWith, Leaves, tables};
 ghost use Rattle.dh_runs.specs.Told.{IsCut, IsSaid, reply_of};
 
 use dh_plans::Plan;
-use dh_posting::{close_run, open_run, plan_run, post_rows};
+use dh_posting::{close_month, open_run, plan_run, post_rows};
 use dh_types::{Fault, Progress, RunOrder, RunSum};
 use sqlite::{Alter, Connection};
 use std::alloc::Global;
@@ -63,7 +63,7 @@ fn post_planned<S: Alter>(
             of,
         }));
     }
-    Ok(RunState::Posted(close_run(alloc, conn)?))
+    Ok(RunState::Posted(close_month(alloc, conn, plan.month)?))
 }
 
 /// Carries out at most so many batches of the open run, each in a transaction of its own, and closes it where none is left. The

@@ -8,62 +8,19 @@ ghost use Rattle.sqlite_trees.specs.Tree.{Trees};
 ghost use Rattle.dh_model.specs.Rules.{MeetsRules};
 ghost use Rattle.dh_model.specs.Runs.{batch_size};
 ghost use Rattle.dh_tables.specs.Calls.{HasOurTables};
-ghost use Rattle.dh_tables.specs.MetaTable.{meta_rows};
-ghost use Rattle.dh_schema.specs.Faults.{IsOfStore};
 ghost use Rattle.dh_schema.specs.Store.{IsReady};
 ghost use Rattle.dh_schema.specs.Tables.{IsSound};
-ghost use Rattle.dh_schema.specs.Version.{only_version};
 ghost use Rattle.dh_runs.specs.Problems.{IsFoundIn, IsTurnedAway};
 ghost use Rattle.dh_runs.specs.Taking.{IsFirstProblem, IsOurVersion, IsProblemOf, IsResting};
 
 use crate::problem::Problem;
 use dh_audit::audit;
 use dh_books::Books;
-use dh_catalog::has_our_tables;
 use dh_rows::VERSION;
-use dh_schema::{LoadFault, load_tables};
-use dh_tables::meta_rows_shown;
-use dh_types::{Fault, Refusal};
-use sqlite::types::ValueRef;
-use sqlite::{Alter, Connection, Row};
+use dh_schema::{load_tables, version};
+use dh_types::Refusal;
+use sqlite::{Alter, Connection};
 use std::alloc::Global;
-
-// The version that meta's rows give, where they give one.
-fn version_in(rows: &[Row]) -> Option<i64>
-    ensures { result ≡ only_version rows.now }
-{
-    match rows {
-        [row] => match row.get_ref(1) {
-            Ok(ValueRef::Int(version)) => Some(version),
-            _ => None,
-        },
-        _ => None,
-    }
-}
-
-// The version that meta gives, where it gives one. It turns tables away that are not ours.
-fn version_shown<S: Alter>(
-    alloc: Global,
-    conn: &mut Connection<S>,
-) -> Result<Option<i64>, LoadFault>
-    requires { HasCleanDisk (state S.Store conn.old) → IsResting (state S.Store conn.old) }
-    ensures others { ¬ HasOurTables (state S.Store conn.old) → OnErr result (conn.new ≡ conn.old) }
-    ensures ours { OnOk result (HasOurTables (state S.Store conn.old)) }
-    ensures found { HasCleanDisk (state S.Store conn.new) → IfOk result (λ found. found ≡ only_version (meta_rows (state S.Store conn.old).now.trees)) }
-    ensures cause { IfErr result IsOfStore }
-    ensures still { HasCleanDisk (state S.Store conn.new) → OnOk result (IsTrue (state S.Store conn.new).is_open) }
-    ensures same { HasCleanDisk (state S.Store conn.new) → IsTrue (state S.Store conn.new).is_open
-        → IsResting (state S.Store conn.new) × ((state S.Store conn.new).now ≡ (state S.Store conn.old).now) }
-    ensures crash { HasCleanDisk (state S.Store conn.new)
-        → (left : Trees) → (state S.Store conn.new).may_leave left → left ≡ (state S.Store conn.old).now.trees }
-    ensures was_clean { doubt (state S.Store conn.old).is_clean ≤ doubt (state S.Store conn.new).is_clean }
-{
-    if !has_our_tables(alloc, conn)? {
-        return Err(LoadFault::Fault(Fault::Store));
-    }
-    let rows = meta_rows_shown(conn)?;
-    Ok(version_in(&rows))
-}
 
 // Refuses tables of another version, or of none.
 fn check_version<S: Alter>(alloc: Global, conn: &mut Connection<S>) -> Result<(), Problem>
@@ -80,10 +37,11 @@ fn check_version<S: Alter>(alloc: Global, conn: &mut Connection<S>) -> Result<()
         → (left : Trees) → (state S.Store conn.new).may_leave left → left ≡ (state S.Store conn.old).now.trees }
     ensures was_clean { doubt (state S.Store conn.old).is_clean ≤ doubt (state S.Store conn.new).is_clean }
 {
-    match version_shown(alloc, conn)? {
-        Some(version) if version == i64::from(VERSION) => Ok(()),
-        Some(version) => Err(Problem::Refused(Refusal::Version(version))),
-        None => Err(Problem::Refused(Refusal::Damaged(0))),
+    let found = version(alloc, conn)?;
+    if found == i64::from(VERSION) {
+        Ok(())
+    } else {
+        Err(Problem::Refused(Refusal::Version(found)))
     }
 }
 

@@ -1,5 +1,5 @@
 -- One connection more.
-use Rattle.std.proofs.Common.{◌≡◌, ◌≢◌, ◌∙◌, ◌⊎◌, ◌++◌, [], ◌∷◌, ℕ, Bool, true, false, List, Option, Some, None, Result, Ok, Err, ap, append_assoc}
+use Rattle.std.proofs.Common.{◌≡◌, ◌∙◌, ◌⊎◌, ◌++◌, [], ◌∷◌, ℕ, Bool, true, false, List, Option, Some, None, Result, Ok, Err, ap, append_assoc}
 use Rattle.std.proofs.Common.{append-nil, inl, inr, refl, subst, sym}
 use Rattle.std.specs.Io.KnownBytes.{Appends}
 use Rattle.sqlite.specs.Store.{Ghosts}
@@ -8,10 +8,9 @@ use Rattle.dh_model.specs.Books.{State}
 use Rattle.dh_model.specs.Runs.{batch_size}
 use Rattle.dh_model.specs.Whole.{whole}
 use Rattle.dh_agency.specs.Seat.{Seat}
-use Rattle.dh_agency.specs.Agency.{IsClean, IsOpen, Leaves, LeavesItsTables, machine}
+use Rattle.dh_agency.specs.Agency.{IsOpen, Leaves, LeavesItsTables, machine, stand, stand_of}
+use Rattle.dh_agency.proofs.Standing.{leaves_more, leaves_what_holds}
 use Rattle.dh_fields.specs.declared.request.Request.TheVariants.{Command as Ordered, Question}
-use Rattle.dh_lines.specs.Batch.{stand}
-use Rattle.dh_lines.proofs.CrashLemmas.{leaves_more, leaves_what_holds, place}
 use Rattle.dh_requests.specs.declared.asked.Asked.{Asked}
 use Rattle.dh_requests.specs.declared.asked.Asked.TheVariants.{Turned, Fields}
 use Rattle.dh_http.specs.declared.fault.NetFault.{NetFault}
@@ -120,7 +119,7 @@ module _ {S : Type 0} (g : Ghosts S) (s : State) (before : List (Option ℕ)) (o
     by_result May a b (Err Closed) h stops = same_as h.1
     by_result May a b (Err Input) h stops = same_as h.1
     by_result May a b (Err (Memory true)) h stops = goes_on (Unheard h.0) None refl h.4 (stops ∙ live)
-    by_result May a b (Err (Memory false)) h stops = goes_on Lost None refl (ap place h.1) (stops ∙ live)
+    by_result May a b (Err (Memory false)) h stops = goes_on Lost None refl (ap stand_of h.1) (stops ∙ live)
 
 -- ---- from one connection to the next
 

@@ -1,10 +1,10 @@
 -- What is printed of the connections that are served.
-use Rattle.std.specs.Prelude.{◌≡◌, ◌≢◌, ◌⊎◌, ℕ, zero, suc, ◌<◌, ◌≤◌, List, [], ◌∷◌, ◌++◌, length, take, All, codes, decimal, Option, Some, None, Result, Ok}
+use Rattle.std.specs.Prelude.{◌≡◌, ◌≢◌, ℕ, zero, suc, ◌<◌, ◌≤◌, List, [], ◌∷◌, ◌++◌, length, take, All, codes, decimal, Option, Some, None, Result, Ok}
 use Rattle.std.specs.Prelude.{Err}
 use Rattle.std.specs.Io.KnownBytes.{Appends}
 use Rattle.http.specs.StatusCode.{code_digits}
 use Rattle.dh_types.specs.Output.{BreaksOff}
-use Rattle.dh_lines.specs.Session.{newline}
+use Rattle.dh_reports.specs.Columns.{newline}
 use Rattle.dh_service.specs.declared.listening.Service.{Service}
 use Rattle.dh_service.specs.declared.listening.Unserved.{Unserved}
 use Rattle.dh_service.specs.declared.listening.Unserved.TheVariants as unserved

@@ -5,8 +5,7 @@ use Rattle.dh_model.specs.Books.{State}
 use Rattle.dh_model.specs.Runs.{batch_size}
 use Rattle.dh_model.specs.Whole.{whole}
 use Rattle.dh_agency.specs.Seat.{Seat}
-use Rattle.dh_agency.specs.Agency.{IsClean, IsOpen, Leaves, LeavesItsTables, machine}
-use Rattle.dh_lines.specs.Batch.{stand}
+use Rattle.dh_agency.specs.Agency.{IsClean, IsOpen, Leaves, LeavesItsTables, machine, stand}
 use Rattle.dh_requests.specs.declared.asked.Asked.{Asked}
 use Rattle.dh_http.specs.Served.{served}
 

@@ -1,7 +1,8 @@
 //! The plain program over books in memory, and what differs of books.
 
 use dh_agency_scripts::compare;
-use dh_examples::{ToLine, all_lines, answer_text, command, january, question};
+use dh_examples::{ToLine, Unreadable, all_lines, answer_text, january, request};
+use dh_fields::Request;
 use dh_rules::{Books, answer, step};
 use dh_tally::Tally;
 use dh_types::{Command, Question};
@@ -21,26 +22,23 @@ fn replied(alloc: Global, books: &mut Books, command: &Command) -> Result<String
     stepped.reply.to_string(alloc)
 }
 
-fn answered(alloc: Global, books: &Books, question: &Question) -> Result<String, AllocError> {
+fn shown(alloc: Global, books: &Books, question: &Question) -> Result<String, AllocError> {
     let answer = answer(alloc, books, question)?;
     answer_text(alloc, &answer)
 }
 
-fn asked(alloc: Global, books: &Books, words: &str) -> Result<String, AllocError> {
-    match question(words) {
-        Ok(question) => answered(alloc, books, &question),
-        Err(_) => "not read".to_string(alloc),
+fn answered(alloc: Global, books: &mut Books, request: &Request) -> Result<String, AllocError> {
+    match request {
+        Request::Command(command) => replied(alloc, books, command),
+        Request::Question(question) => shown(alloc, books, question),
     }
 }
 
-/// What the plain program answers to the line: its reply to a command, and to `show,QUESTION` its answer.
+/// What the plain program answers to the line: its reply to a command, and its answer to a question.
 pub fn told(alloc: Global, books: &mut Books, line: &str) -> Result<String, AllocError> {
-    if let Some(words) = line.strip_prefix("show,") {
-        return asked(alloc, books, words);
-    }
-    match command(alloc, line) {
-        Ok(command) => replied(alloc, books, &command),
-        Err(_) => "not read".to_string(alloc),
+    match request(alloc, line) {
+        Ok(request) => answered(alloc, books, &request),
+        Err(Unreadable) => "not read".to_string(alloc),
     }
 }
 

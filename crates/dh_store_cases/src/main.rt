@@ -1,31 +1,52 @@
-//! Plays the cases of standard input over agencies in memory, from their tables up to requests of HTTP, and prints each that is answered
-//! otherwise, and then `N cases, M differ`. A block of cases has its kind in the first line: `play` has the kinds.
+//! Plays the cases of standard input over stores, from rows and tables in memory up to requests of HTTP and agencies on disks, and prints
+//! each that is answered otherwise, and then `N cases, M differ`. A block of cases has its kind in the first line: `play` has the kinds.
 #![tactic(auto)]
 
 mod blocks;
 mod books;
+mod disks;
 mod drawing;
 mod drawn;
+mod edited_tables;
 mod escapes;
 mod exchanges;
+mod made_tables;
 mod requests;
+mod rows;
 mod serving;
 mod sessions;
 mod short_reads;
-mod tables;
 
-use dh_agency_scripts::{play_in_memory, play_lives};
+use dh_agency_scripts::{compare, play_in_memory, play_lives};
 use dh_tally::Tally;
+use disks::Stops;
 use std::io;
+
+// Plays a block whose kind has words of its own behind it.
+fn play_named(rt: &HostRuntime, tally: &mut Tally, kind: &str, lines: &str) -> io::Result<()> {
+    if let Some(record) = kind.strip_prefix("rows of ") {
+        return rows::play_rows(rt, tally, record, lines);
+    }
+    if let Some(statements) = kind.strip_prefix("tables behind ") {
+        return edited_tables::play(rt, tally, statements, lines);
+    }
+    compare(rt, tally, kind, "no such kind", "a kind")
+}
 
 fn play(rt: &HostRuntime, tally: &mut Tally, kind: &str, lines: &str) -> io::Result<()> {
     match kind {
-        "tables made" => tables::play(rt, tally, lines),
+        "records" => rows::play_records(rt, tally, lines),
+        "tables made" => made_tables::play(rt, tally, lines),
         "agencies in memory" => play_in_memory(rt, tally, lines),
         "agencies taken anew" => play_lives(rt, tally, lines),
+        "agencies on disks" => disks::play(rt, tally, lines, Stops::None),
+        "agencies on disks that stop" => disks::play(rt, tally, lines, Stops::Once),
+        "agencies on disks that stop and are recovered" => {
+            disks::play(rt, tally, lines, Stops::Twice)
+        }
         "files of requests" => requests::play_files(rt, tally, lines),
         "files of drawn lines" => drawn::play_files(rt, tally, lines),
-        _ => println!(rt; "no such kind: {kind}"),
+        _ => play_named(rt, tally, kind, lines),
     }
 }
 

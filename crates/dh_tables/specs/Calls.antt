@@ -61,10 +61,6 @@ module _ {K X : Type 0} (it : Shape K X) (R : K → K → Ordering) where
   IsFound asks s found = (key : K) → AsksFor it asks key → found ≡ get (rows_in it {R = R} s.now.trees) key
 
   module _ (shelf : Shelf K X R) where
-    -- the books have what is asked for
-    abbrev pub HasFetched : (X → Bool) → State → machine.State → machine.State → Type 0
-    HasFetched asks s old new = new ≡ shelf.with old (asked_in asks s)
-
-    -- and beside it what they had of the table
+    -- the books have what is asked for, and beside it what they had of the table
     abbrev pub HasFetchedMore : (X → Bool) → State → machine.State → machine.State → Type 0
     HasFetchedMore asks s old new = (test : X → Bool) → shelf.held old ≡ asked_in test s → new ≡ shelf.with old (asked_in (λ x. test x || asks x) s)

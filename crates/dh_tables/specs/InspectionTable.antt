@@ -22,7 +22,6 @@ use Rattle.dh_sql.specs.Shape.{Shape}
 use Rattle.dh_sql.specs.Texts.{IsInsertText, IsSelectText}
 use Rattle.dh_sql.proofs.Casting.{cast_null, pass_each, row_stays}
 use Rattle.dh_tables.specs.declared.inspection.InspectionOf.{InspectionOf}
-use Rattle.dh_tables.specs.declared.inspection.InspectionsOf.{InspectionsOf}
 use Rattle.dh_tables.specs.Cells.{is_text as text_is, pass_both, pass_one, read_as, same_day, same_text, text_that}
 use Rattle.dh_tables.specs.Listing.{IsListing, Listing}
 use Rattle.dh_tables.specs.Questions.{Asking, IsAsking}
@@ -125,28 +124,4 @@ inspection_of_is = record {
       let cells = (pass_each inspection_cells true (inspection_columns r) good).1 in
       pass_both (same_text (column r 1) q.property (text_is is_id (column r 1) cells.0))
       (same_day (column r 2) q.day known cells.1.0);
-}
-
--- ---- the inspections of a property
-
-abbrev pub inspections_of : Asking
-inspections_of = record {
-  text = codes "SELECT property_no, day, staff_no, comment FROM inspection WHERE property_no = ?1";
-  tests = op2 (Compare Eq Binary) (col 1 1) (col 0 0) ∷ [];
-  project = inspection_project;
-  names = inspection_names;
-}
-
-inspections_of_selects : IsSelectText inspections_of.text our_schema 15 inspections_of.tests inspection_project [] inspection_names
-unfolding understood everything
-inspections_of_selects = record { command = refl; unlisted = refl; plain = (refl, refl); stored = λ db. refl }
-
-pub inspections_of_is : IsAsking inspection_shape inspections_of
-    (λ (q : InspectionsOf). Unit {0}) (λ q. Text q.property ∷ []) (λ q n. is_same_text n.property q.property)
-inspections_of_is = record {
-  selects = inspections_of_selects;
-  shows_columns = λ q r. refl;
-  passes = λ q r known good.
-      let cells = (pass_each inspection_cells true (inspection_columns r) good).1 in
-      pass_one (same_text (column r 1) q.property (text_is is_id (column r 1) cells.0));
 }

@@ -25,7 +25,6 @@ use Rattle.dh_sql.specs.Texts.{IsInsertText, IsSelectText}
 use Rattle.dh_sql.proofs.Casting.{cast_int, pass_each, row_stays}
 use Rattle.dh_tables.specs.declared.lease.LeaseNumbered.{LeaseNumbered}
 use Rattle.dh_tables.specs.declared.lease.LeasesOfProperty.{LeasesOfProperty}
-use Rattle.dh_tables.specs.declared.lease.LeasesOfClient.{LeasesOfClient}
 use Rattle.dh_tables.specs.declared.lease.LeasesOfClientFrom.{LeasesOfClientFrom}
 use Rattle.dh_tables.specs.Cells.{is_number, is_text as text_is, number_from, pass_both, pass_one}
 use Rattle.dh_tables.specs.Cells.{read_as, rowid_column, same_day, same_number, same_text, text_that}
@@ -159,30 +158,6 @@ leases_of_property_is = record {
   passes = λ q r known good.
       let cells = (pass_each lease_cells true (lease_columns r) good).1 in
       pass_one (same_text (column r 3) q.property (text_is is_id (column r 3) cells.1.1.0));
-}
-
--- ---- the leases of a client
-
-abbrev pub leases_of_client : Asking
-leases_of_client = record {
-  text = codes "SELECT lease_no, client_no, property_no, start_day, months, method, rent FROM lease WHERE client_no = ?1";
-  tests = op2 (Compare Eq Binary) (col 1 2) (col 0 0) ∷ [];
-  project = lease_project;
-  names = lease_names;
-}
-
-leases_of_client_selects : IsSelectText leases_of_client.text our_schema 17 leases_of_client.tests lease_project [] lease_names
-unfolding understood everything
-leases_of_client_selects = record { command = refl; unlisted = refl; plain = (refl, refl); stored = λ db. refl }
-
-pub leases_of_client_is : IsAsking lease_shape leases_of_client
-    (λ (q : LeasesOfClient). Unit {0}) (λ q. Text q.client ∷ []) (λ q l. is_same_text l.terms.client q.client)
-leases_of_client_is = record {
-  selects = leases_of_client_selects;
-  shows_columns = λ q r. refl;
-  passes = λ q r known good.
-      let cells = (pass_each lease_cells true (lease_columns r) good).1 in
-      pass_one (same_text (column r 2) q.client (text_is is_id (column r 2) cells.1.0));
 }
 
 -- ---- the leases of a client that begin on a day

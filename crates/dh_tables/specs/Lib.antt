@@ -15,7 +15,6 @@ pub mod LeaseTable
 pub mod ChargeTable
 pub mod ReceiptTable
 pub mod RunTable
-pub mod OpenRuns
 pub mod PartTable
 pub mod Amendments
 pub mod PropertyChanges

@@ -1,39 +1,16 @@
 //! Some rows of a table, put into books.
 
 ghost use Rattle.std.specs.Prelude.{◌≡◌, ◌||◌, Bool, true, IfOk, OnOk, OnErr};
-ghost use Rattle.std.specs.FinMap as fin;
 ghost use Rattle.sqlite.specs.State.{HasCleanDisk, IsUnchanged};
 ghost use Rattle.sqlite.specs.Held.{state};
 ghost use Rattle.dh_model.specs.Whole.{rows_where};
 ghost use Rattle.dh_sql.specs.Shape.{IsKept, rows_in};
-ghost use Rattle.dh_tables.specs.Calls.{CommitsNothing, HasFetched, HasFetchedMore, HasOurTables, IsUndone};
+ghost use Rattle.dh_tables.specs.Calls.{CommitsNothing, HasFetchedMore, HasOurTables, IsUndone};
 
 use crate::{Look, gather, rows_asked};
 use dh_books::Books;
 use sqlite::{Alter, Connection, Error};
 use std::alloc::Global;
-
-/// Puts the rows that are asked for into books that have none of the table; false where a row is no record.
-/// It changes no table.
-pub fn fetch<L: Look, S: Alter>(
-    alloc: Global,
-    conn: &mut Connection<S>,
-    question: &L,
-    books: &mut Books,
-) -> Result<bool, Error>
-    requires reading { HasCleanDisk (state S.Store conn.old) → HasOurTables (state S.Store conn.old) }
-    requires kept { HasCleanDisk (state S.Store conn.old) → IsKept L.Record.shape L.Record.order (state S.Store conn.old).now.trees }
-    requires none { HasCleanDisk (state S.Store conn.old) → L.Record.shelf.held books.old ≡ fin.empty }
-    ensures fetched { HasCleanDisk (state S.Store conn.new)
-        → IfOk result (λ done. done ≡ true
-        → HasFetched L.Record.shape L.Record.order L.Record.shelf (L.asks question.now) (state S.Store conn.old) books.old books.new) }
-    ensures same { HasCleanDisk (state S.Store conn.new) → OnOk result (IsUnchanged (state S.Store conn.old) (state S.Store conn.new)) }
-    ensures undone { HasCleanDisk (state S.Store conn.new) → OnErr result (IsUndone (state S.Store conn.old) (state S.Store conn.new)) }
-    ensures crash { CommitsNothing (state S.Store conn.old) (state S.Store conn.new) }
-{
-    let rows = rows_asked(alloc, conn, question)?;
-    Ok(gather::<L::Record>(alloc, &rows, books)?)
-}
 
 /// Puts the rows that are asked for beside those that the books have; false where a row is no record.
 /// It changes no table.

@@ -134,45 +134,6 @@ impl Look for LeasesOfProperty {
     ghost is_asking = { leases_of_property_is };
 }
 
-/// The leases of this client.
-#[derive(Drop)]
-pub struct LeasesOfClient {
-    pub client: Id,
-}
-
-impl Look for LeasesOfClient {
-    ghost use Rattle.std.specs.Prelude.{◌∷◌, []};
-    ghost use Rattle.sqlite_value.specs.declared.value.Value.TheVariants.{Text};
-    ghost use Rattle.dh_model.specs.Checks.{is_same_text};
-    ghost use Rattle.dh_tables.specs.LeaseTable.{leases_of_client, leases_of_client_is};
-
-    type Record = Lease;
-
-    ghost asks = { λ q l. is_same_text l.terms.client q.client };
-
-    ghost asking = { leases_of_client };
-
-    ghost given = { λ q. Text q.client ∷ [] };
-
-    fn text() -> &'static str {
-        "SELECT lease_no, client_no, property_no, start_day, months, method, rent FROM lease WHERE client_no = ?1"
-    }
-
-    fn day_bytes(&self, alloc: Global) -> Result<Vec<u8>, AllocError> {
-        Ok(Vec::new(alloc))
-    }
-
-    fn params<'a>(
-        &'a self,
-        alloc: Global,
-        _day: &'a [u8],
-    ) -> Result<Vec<ValueRef<'a>>, AllocError> {
-        [ValueRef::Text(self.client.as_str().as_bytes())].to_vec(alloc)
-    }
-
-    ghost is_asking = { leases_of_client_is };
-}
-
 /// The leases of this client that begin on this day.
 #[derive(Drop)]
 pub struct LeasesOfClientFrom {

@@ -27,9 +27,9 @@ fn has_rowids<R: Listed, S: Alter>(alloc: Global, conn: &mut Connection<S>) -> R
     Ok(are_numbered(alloc, &rows)?)
 }
 
-// Puts the records of the table into books that have none; false where a row is no record. It changes no table.
-// Where a key is there twice it answers that the database is corrupt.
-fn gather_all<R: Listed, S: Alter>(
+/// Puts the records of the table into books that have none; false where a row is no record. It changes no table.
+/// Where a key is there twice it answers that the database is corrupt.
+pub fn gather_all<R: Listed, S: Alter>(
     alloc: Global,
     conn: &mut Connection<S>,
     books: &mut Books,

@@ -15,6 +15,26 @@ use Rattle.dh_types.specs.declared.wording.Words.{Words}
 use Rattle.dh_types.specs.declared.wording.Value.{Value}
 use Rattle.dh_types.specs.declared.wording.Value.TheVariants as value
 
+abbrev pub refusal_number : Refusal → ℕ
+refusal_number refusal.Taken = 1
+refusal_number (refusal.Unknown field) = 2
+refusal_number refusal.WrongBranch = 3
+refusal_number refusal.TooMany = 4
+refusal_number (refusal.Overlap lease) = 5
+refusal_number (refusal.ClientStart lease) = 6
+refusal_number (refusal.MonthPosted next) = 7
+refusal_number (refusal.NotNextMonth next) = 8
+refusal_number refusal.KeyUsed = 9
+refusal_number (refusal.RunOpen month) = 10
+refusal_number (refusal.DepositAmount expected) = 11
+refusal_number refusal.DepositPaid = 12
+refusal_number refusal.NotRegistered = 13
+refusal_number refusal.NoRun = 14
+refusal_number (refusal.BadLine field) = 15
+refusal_number (refusal.Version found) = 16
+refusal_number (refusal.Damaged rule) = 17
+refusal_number refusal.Full = 18
+
 -- a refusal by its number, and the value that it carries
 abbrev pub refusal_text : Refusal → List ℕ
 refusal_text refusal.Taken = codes "refused 1"

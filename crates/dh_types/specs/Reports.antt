@@ -1,5 +1,5 @@
 -- What a question is answered, as contracts see it.
-use Rattle.std.specs.Prelude.{ℤ, List}
+use Rattle.std.specs.Prelude.{ℤ, List, Bool, true, false}
 use Rattle.dh_types.specs.declared.branch.Branch.{Branch}
 use Rattle.dh_types.specs.declared.property.Property.{Property}
 use Rattle.dh_types.specs.declared.lease.Lease.{Lease}
@@ -35,3 +35,8 @@ report_of (Statement it) = LeaseStatement it.lease it.charges.items it.receipts.
 report_of (Arrears it) = BranchArrears it.debts.items it.total
 report_of (Run it) = RunParts it.parts.items it.sum
 report_of (Refused refusal) = NoReport refusal
+
+-- the question was refused
+abbrev pub is_no_report : Report → Bool
+is_no_report (NoReport refusal) = true
+is_no_report _ = false

@@ -1,5 +1,8 @@
 //! What a question is answered.
 
+ghost use Rattle.std.specs.Prelude.{◌≡◌};
+ghost use Rattle.dh_types.specs.Reports.{is_no_report, report_of};
+
 use crate::{
     Balance, Branch, Charge, Id, Lease, LeaseNo, Part, Property, Receipt, Refusal, RunSum, Text60,
 };
@@ -18,6 +21,15 @@ pub enum Answer {
     Run(RunReport),
     /// The question can't be answered.
     Refused(Refusal),
+}
+
+impl Answer {
+    /// Whether the question was refused.
+    pub fn is_refusal(&self) -> bool
+        ensures { result ≡ is_no_report (report_of self.now) }
+    {
+        matches!(self, Answer::Refused(_))
+    }
 }
 
 /// A lease, its charges rising by index, its receipts rising by number, and its balance.

@@ -34,7 +34,7 @@ pub use owner::Owner;
 pub use property::Property;
 pub use question::{ClientDay, Question};
 pub use reply::{Fault, Progress, Refusal, Reply};
-pub use reply_text::{put_fault, put_refusal, put_reply};
+pub use reply_text::{put_fault, put_month, put_refusal, put_reply};
 pub use run::{Part, Run, RunSum};
 pub use staff::Staff;
 pub use viewing::{Inspection, Viewing};

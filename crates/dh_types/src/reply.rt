@@ -1,7 +1,7 @@
 //! What a command is answered, and what went wrong.
 
 ghost use Rattle.std.specs.Prelude.{◌≡◌, Some};
-ghost use Rattle.dh_types.specs.Replies.{fault_text, is_refusal, refusal_text, reply_text};
+ghost use Rattle.dh_types.specs.Replies.{fault_text, is_refusal, refusal_number, refusal_text, reply_text};
 
 use crate::wording::{words_of_fault, words_of_refusal, words_of_reply, words_of_sum};
 use crate::{EntryMonth, LeaseNo, Month, Pence, ReceiptNo, RunSum};
@@ -96,6 +96,34 @@ impl Reply {
         ensures { result ≡ is_refusal self.now }
     {
         matches!(self, Reply::Refused(_))
+    }
+}
+
+impl Refusal {
+    /// The number of the refusal, from 1 to 18.
+    pub fn number(&self) -> u8
+        ensures { result ≡ refusal_number self.now }
+    {
+        match self {
+            Refusal::Taken => 1,
+            Refusal::Unknown(_) => 2,
+            Refusal::WrongBranch => 3,
+            Refusal::TooMany => 4,
+            Refusal::Overlap(_) => 5,
+            Refusal::ClientStart(_) => 6,
+            Refusal::MonthPosted(_) => 7,
+            Refusal::NotNextMonth(_) => 8,
+            Refusal::KeyUsed => 9,
+            Refusal::RunOpen(_) => 10,
+            Refusal::DepositAmount(_) => 11,
+            Refusal::DepositPaid => 12,
+            Refusal::NotRegistered => 13,
+            Refusal::NoRun => 14,
+            Refusal::BadLine(_) => 15,
+            Refusal::Version(_) => 16,
+            Refusal::Damaged(_) => 17,
+            Refusal::Full => 18,
+        }
     }
 }
 

@@ -32,8 +32,8 @@ fn pence_behind(money: Pence) -> [u8; 3]
     [b'.', b'0' + (pence / 10) as u8, b'0' + (pence % 10) as u8]
 }
 
-// Writes the lead and then the month, as YYYY-MM.
-fn put_month<W: Write>(writer: &mut W, lead: &[u8], month: Month) -> Result<(), Output>
+/// Writes the lead and then the month, as YYYY-MM; at an `Output` a beginning of them was written.
+pub fn put_month<W: Write>(writer: &mut W, lead: &[u8], month: Month) -> Result<(), Output>
     ensures { Puts (W.contents writer.old) (W.contents writer.new) result (lead.now ++ month_text month) }
 {
     let mut digits = itoa::Buffer::new();

@@ -23,6 +23,17 @@ impl Run {
     {
         self.month
     }
+
+    /// What the run comes to.
+    pub fn sum(&self) -> RunSum
+        ensures { result ≡ record { month = self.now.month; count = self.now.count; total = self.now.total } }
+    {
+        RunSum {
+            month: self.month,
+            count: self.count,
+            total: self.total,
+        }
+    }
 }
 
 /// What a branch has of a run so far. There is one for a month and a branch.

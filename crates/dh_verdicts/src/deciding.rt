@@ -1,10 +1,10 @@
 //! Any command.
 
-ghost use Rattle.std.specs.Prelude.{◌≡◌, IfOk, Option};
+ghost use Rattle.std.specs.Prelude.{◌≡◌, if◌then◌else◌, IfOk, Option, option_map};
 ghost use Rattle.dh_types.specs.declared.reply.Refusal.TheVariants as refusal;
-ghost use Rattle.dh_model.specs.declared.rows.Verdict.TheVariants as verdict;
 ghost use Rattle.dh_model.specs.Books.{Books as Rows};
 ghost use Rattle.dh_model.specs.declared.open_run.OpenRun.{OpenRun as Run};
+ghost use Rattle.dh_model.specs.MachineLaws.{is_frozen};
 ghost use Rattle.dh_model.specs.Verdicts.{verdict_among, verdict_on};
 ghost use Rattle.dh_laws.specs.InOrder.{AreKeyed};
 ghost use Rattle.dh_laws.specs.Looks.{IsCutOf};
@@ -27,11 +27,49 @@ pub struct Facts {
     pub receipts: usize,
 }
 
-// What an open run says of what is frozen.
-fn frozen(run: &OpenRun) -> Verdict
-    ensures { result ≡ verdict.Refused (refusal.RunOpen run.now.month) }
+/// The refusal of a command that an open run puts off: while a run is open, branches, leases, receipts and runs are refused.
+pub fn open_refusal(run: &Option<OpenRun>, command: &Command) -> Option<Refusal>
+    ensures { result ≡ (if is_frozen command.now then option_map (λ at. refusal.RunOpen at.month) run.now else None) }
 {
-    Verdict::Refused(Refusal::RunOpen(run.month.month()))
+    match command {
+        Command::Branch(_)
+        | Command::Lease(_)
+        | Command::Receipt(_)
+        | Command::Run(_)
+        | Command::Open(_) => run.map(|at| Refusal::RunOpen(at.month.month())),
+        _ => None,
+    }
+}
+
+// What the books say of the command, where there are so many receipts, and where no run is open for what one would put off.
+fn decide_passed(
+    alloc: Global,
+    books: &Books,
+    receipts: usize,
+    command: &Command,
+) -> Result<Verdict, AllocError>
+    ensures { IfOk result (λ v. v ≡ verdict_among books.now.books receipts (if is_frozen command.now then None else books.now.open_run) command.now) }
+{
+    match command {
+        Command::Post(_) => match books.open_run() {
+            Some(_) => Ok(Verdict::Change(Change::Post)),
+            None => Ok(Verdict::Refused(Refusal::NoRun)),
+        },
+        Command::Branch(branch) => decide_branch(alloc, books, branch),
+        Command::Lease(terms) => Ok(decide_lease(books, terms)),
+        Command::Receipt(order) => Ok(decide_receipt(books, receipts, order)),
+        Command::Run(order) | Command::Open(order) => Ok(decide_run(books, order)),
+        Command::Staff(member) => decide_staff(alloc, books, member),
+        Command::Owner(owner) => decide_owner(alloc, books, owner),
+        Command::Property(property) => decide_property(alloc, books, property),
+        Command::Assign(assignment) => Ok(decide_assign(books, assignment)),
+        Command::Rent(change) => Ok(decide_rent(books, change)),
+        Command::Client(client) => decide_client(alloc, books, client),
+        Command::Register(registration) => Ok(decide_register(books, registration)),
+        Command::Viewing(viewing) => decide_viewing(alloc, books, viewing),
+        Command::Comment(comment) => decide_comment(alloc, books, comment),
+        Command::Inspection(inspection) => decide_inspection(alloc, books, inspection),
+    }
 }
 
 // What the books say of the command, where there are so many receipts.
@@ -43,31 +81,10 @@ fn decide_among(
 ) -> Result<Verdict, AllocError>
     ensures { IfOk result (λ v. v ≡ verdict_among books.now.books receipts books.now.open_run command.now) }
 {
-    match (command, books.open_run()) {
-        (
-            Command::Branch(_)
-            | Command::Lease(_)
-            | Command::Receipt(_)
-            | Command::Run(_)
-            | Command::Open(_),
-            Some(run),
-        ) => Ok(frozen(&run)),
-        (Command::Post(_), Some(_)) => Ok(Verdict::Change(Change::Post)),
-        (Command::Post(_), None) => Ok(Verdict::Refused(Refusal::NoRun)),
-        (Command::Branch(branch), None) => decide_branch(alloc, books, branch),
-        (Command::Lease(terms), None) => Ok(decide_lease(books, terms)),
-        (Command::Receipt(order), None) => Ok(decide_receipt(books, receipts, order)),
-        (Command::Run(order) | Command::Open(order), None) => Ok(decide_run(books, order)),
-        (Command::Staff(member), _) => decide_staff(alloc, books, member),
-        (Command::Owner(owner), _) => decide_owner(alloc, books, owner),
-        (Command::Property(property), _) => decide_property(alloc, books, property),
-        (Command::Assign(assignment), _) => Ok(decide_assign(books, assignment)),
-        (Command::Rent(change), _) => Ok(decide_rent(books, change)),
-        (Command::Client(client), _) => decide_client(alloc, books, client),
-        (Command::Register(registration), _) => Ok(decide_register(books, registration)),
-        (Command::Viewing(viewing), _) => decide_viewing(alloc, books, viewing),
-        (Command::Comment(comment), _) => decide_comment(alloc, books, comment),
-        (Command::Inspection(inspection), _) => decide_inspection(alloc, books, inspection),
+    let run = books.open_run();
+    match open_refusal(&run, command) {
+        Some(refusal) => Ok(Verdict::Refused(refusal)),
+        None => decide_passed(alloc, books, receipts, command),
     }
 }
 

@@ -13,7 +13,7 @@ pub use branches::{decide_branch, decide_owner, decide_staff};
 pub use clients::{
     decide_client, decide_comment, decide_inspection, decide_register, decide_viewing,
 };
-pub use deciding::{Facts, decide, decide_on};
+pub use deciding::{Facts, decide, decide_on, open_refusal};
 pub use leases::decide_lease;
 pub use properties::{decide_assign, decide_property, decide_rent};
 pub use receipts::{decide_receipt, decide_run};

@@ -6,14 +6,13 @@ ghost use Rattle.std.specs.FinMap as fin;
 ghost use Rattle.dh_values.specs.declared.receipt_kind.ReceiptKind.TheVariants.{Deposit};
 ghost use Rattle.dh_types.specs.Records.{is_same_receipt_kind};
 ghost use Rattle.dh_model.specs.Checks.{deposit_checks, first_failing, names, receipt_of_key, run_of_key};
-ghost use Rattle.dh_model.specs.Runs.{sum_of};
 ghost use Rattle.dh_model.specs.Verdicts.{receipt_verdict, run_verdict};
 
 use dh_books::Books;
 use dh_model::{Change, Verdict};
 use dh_types::{
     Key, LeaseNo, Payment, Pence, Receipt, ReceiptKind, ReceiptNo, ReceiptOrder, Refusal, Rent,
-    Reply, Run, RunOrder, RunSum, field,
+    Reply, Run, RunOrder, field,
 };
 use dh_values::limits::MOST_NUMBER;
 
@@ -97,24 +96,13 @@ pub fn decide_receipt(books: &Books, receipts: usize, order: &ReceiptOrder) -> V
     }))
 }
 
-// What the run comes to.
-fn sum_of(run: &Run) -> RunSum
-    ensures { result ≡ sum_of run.now }
-{
-    RunSum {
-        month: run.month,
-        count: run.count,
-        total: run.total,
-    }
-}
-
 /// What the books say of a month's rent run under a key that no receipt or other run has: the run's row, open.
 pub fn decide_run(books: &Books, order: &RunOrder) -> Verdict
     ensures { result ≡ run_verdict books.now.books order.now }
 {
     if let Some(run) = run_of_key(books, &order.key) {
         return if order.month == run.month {
-            Verdict::Already(Reply::AlreadyPosted(sum_of(run)))
+            Verdict::Already(Reply::AlreadyPosted(run.sum()))
         } else {
             Verdict::Refused(Refusal::KeyUsed)
         };

@@ -1,5 +1,5 @@
 use Rattle.std.proofs.Common.{length}
-use Rattle.dh_lines.proofs.PartLemmas.{broke, goes_on}
+use Rattle.dh_reports.proofs.PartLemmas.{broke, goes_on}
 use Rattle.dh_http.specs.Answers.{head_text}
 use Rattle.dh_http.proofs.answers.put_whole.Goals as goal
 

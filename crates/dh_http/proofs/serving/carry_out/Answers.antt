@@ -3,7 +3,7 @@ use Rattle.dh_fields.specs.declared.request.Request.TheVariants as request
 use Rattle.dh_laws.proofs.Carrying.{same_cut}
 use Rattle.dh_agency.specs.Agency.{machine}
 use Rattle.dh_agency.specs.Told.{IsCut}
-use Rattle.dh_lines.proofs.CrashLemmas.{cut_or_stopped}
+use Rattle.dh_agency.proofs.Standing.{cut_or_stopped}
 use Rattle.dh_requests.specs.declared.asked.Asked.TheVariants as asked
 use Rattle.dh_http.specs.Answers.{reply_answer}
 use Rattle.dh_http.proofs.ServedLemmas.{fault_of, serves_fault, serves_told}

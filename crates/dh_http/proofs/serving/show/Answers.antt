@@ -4,8 +4,8 @@ use Rattle.dh_model.specs.Books.{State}
 use Rattle.dh_model.specs.Runs.{batch_size}
 use Rattle.dh_laws.specs.StateTables.{AreInOrder}
 use Rattle.dh_fields.specs.declared.request.Request.TheVariants as request
-use Rattle.dh_agency.specs.Agency.{machine}
-use Rattle.dh_lines.proofs.CrashLemmas.{cut_or_stopped, place, reads_in_order, report_stands}
+use Rattle.dh_agency.specs.Agency.{machine, stand_of}
+use Rattle.dh_agency.proofs.Standing.{cut_or_stopped, reads_in_order, report_stands}
 use Rattle.dh_requests.specs.declared.asked.Asked.TheVariants as asked
 use Rattle.dh_http.specs.Answers.{report_answer}
 use Rattle.dh_http.proofs.ServedLemmas.{fault_of, serves_fault, serves_told}
@@ -22,7 +22,7 @@ returns-in-Ok-clause-serves g c clean =
     let shown = did.said clean
     ∙ report_stands (c.answers_pass_the_run.ensures batch_size) c.open_runs_refuse_put_off.ensures (machine g.S.Store old) c.args.question.now in_order in
     serves_told g.S.Store old new _ _ (λ x. x ≡ it) it refl false (report_answer (report_of c.in-Ok.answer)) c.put_shown-outcome.result c.told.result
-    c.told.ensures c.put_shown-outcome.ensures (ap report_answer shown) (ap place same) (λ e. cc) (λ e. same)
+    c.told.ensures c.put_shown-outcome.ensures (ap report_answer shown) (ap stand_of same) (λ e. cc) (λ e. same)
 
 pub returns-in-Err-clause-serves : goal.returns-in-Err-clause-serves
 returns-in-Err-clause-serves g c clean =

@@ -1,13 +1,14 @@
 use Rattle.std.proofs.Common.{◌≡◌, Ok, Some, ap, sym, refl, rules}
 use Rattle.csv.specs.Records.{fields_of}
-use Rattle.dh_agency.specs.Agency.{machine}
+use Rattle.dh_agency.specs.Agency.{machine, stand}
 use Rattle.dh_agency.specs.Told.{IsCut}
+use Rattle.dh_agency.proofs.Standing.{leaves_more, leaves_what_holds}
 use Rattle.dh_fields.specs.declared.request.Request.TheVariants as request
 use Rattle.dh_fields.specs.Lines.{request_of}
 use Rattle.dh_lines.specs.Session.{answered, answered_request}
-use Rattle.dh_lines.specs.Batch.{IsWithin, stand}
+use Rattle.dh_lines.specs.Batch.{IsWithin}
 use Rattle.dh_lines.proofs.OneRecord.{answers_fault, fault_first}
-use Rattle.dh_lines.proofs.CrashLemmas.{answers_so, cut_within, leaves_more, leaves_what_holds, same_within}
+use Rattle.dh_lines.proofs.CrashLemmas.{answers_so, cut_within, same_within}
 use Rattle.dh_lines.proofs.answering.answer.Goals as goal
 
 pub returns-in-Ok-Ok-Command-clause-answers : goal.returns-in-Ok-Ok-Command-clause-answers

@@ -2,12 +2,11 @@ use Rattle.std.proofs.Common.{inr, refl}
 use Rattle.dh_model.specs.Machine.{step}
 use Rattle.dh_model.specs.Runs.{batch_size}
 use Rattle.dh_laws.proofs.Carrying.{same_cut}
-use Rattle.dh_agency.specs.Agency.{machine}
+use Rattle.dh_agency.specs.Agency.{machine, stand}
 use Rattle.dh_agency.specs.Told.{IsCut}
+use Rattle.dh_agency.proofs.Standing.{cut_or_stopped}
 use Rattle.dh_lines.specs.Session.{replied}
-use Rattle.dh_lines.specs.Batch.{stand}
 use Rattle.dh_lines.proofs.OneRecord.{answers_fault, fault_first, fault_halts, replied_part, replied_whole}
-use Rattle.dh_lines.proofs.CrashLemmas.{cut_or_stopped}
 use Rattle.dh_lines.proofs.answering.answer_command.Goals as goal
 
 pub returns-in_ok-put_reply_line-in-Ok-clause-answers : goal.returns-in_ok-put_reply_line-in-Ok-clause-answers

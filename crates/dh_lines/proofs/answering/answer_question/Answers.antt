@@ -2,11 +2,10 @@ use Rattle.std.proofs.Common.{◌≡◌, inr, refl}
 use Rattle.dh_types.specs.Reports.{report_of}
 use Rattle.dh_model.specs.Answers.{report}
 use Rattle.dh_model.specs.Runs.{batch_size}
-use Rattle.dh_agency.specs.Agency.{machine}
+use Rattle.dh_agency.specs.Agency.{machine, stand}
+use Rattle.dh_agency.proofs.Standing.{cut_or_stopped}
 use Rattle.dh_lines.specs.Session.{reported}
-use Rattle.dh_lines.specs.Batch.{stand}
 use Rattle.dh_lines.proofs.OneRecord.{answers_fault, fault_first, fault_halts, reported_part, reported_whole}
-use Rattle.dh_lines.proofs.CrashLemmas.{cut_or_stopped}
 use Rattle.dh_lines.proofs.answering.answer_question.Goals as goal
 
 pub returns-in_ok-put_answer_line-in-Ok-clause-answers : goal.returns-in_ok-put_answer_line-in-Ok-clause-answers

@@ -1,8 +1,8 @@
 use Rattle.std.proofs.Common.{◌≡◌, ◌≤◌, IfSome, false}
 use Rattle.csv.specs.Reading.{Ready, default_config, reader_config, reader_trim}
 use Rattle.csv.specs.declared.reader.Trim.TheVariants as trim
-use Rattle.dh_agency.specs.Agency.{IsClean, LeavesItsTables, WasClean}
-use Rattle.dh_lines.specs.Batch.{WasAnswered, stand}
+use Rattle.dh_agency.specs.Agency.{IsClean, LeavesItsTables, WasClean, stand}
+use Rattle.dh_lines.specs.Batch.{WasAnswered}
 use Rattle.dh_lines.proofs.Following.{Follows}
 use Rattle.dh_lines.proofs.running.answer_records.Given as goal
 

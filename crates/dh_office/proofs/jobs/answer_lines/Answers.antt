@@ -1,8 +1,7 @@
 use Rattle.std.proofs.Common.{inl, inr, refl, sym, ap, arith}
 use Rattle.std.specs.Prelude.{nat_lt}
 use Rattle.std.proofs.lemmas.Option.{IfSome_then}
-use Rattle.dh_agency.specs.Agency.{shown_by}
-use Rattle.dh_lines.specs.Batch.{stand}
+use Rattle.dh_agency.specs.Agency.{shown_by, stand}
 use Rattle.dh_lines.specs.Session.{records_of}
 use Rattle.dh_office.specs.Jobs.{lines_answered}
 use Rattle.dh_office.proofs.AnswerLemmas.{stops}

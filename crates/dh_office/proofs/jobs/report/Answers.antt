@@ -1,13 +1,11 @@
 use Rattle.std.proofs.Common.{◌∙◌, refl, sym, ap, subst, arith, inl}
 use Rattle.std.specs.Io.KnownBytes.{Appends}
 use Rattle.dh_types.specs.Output.{BreaksOff}
-use Rattle.dh_types.specs.Reports.{report_of}
+use Rattle.dh_types.specs.Reports.{report_of, is_no_report}
 use Rattle.dh_model.specs.Runs.{batch_size}
-use Rattle.dh_agency.specs.Agency.{shown_by}
-use Rattle.dh_lines.specs.Batch.{stand}
-use Rattle.dh_lines.specs.Session.{is_no_report}
+use Rattle.dh_agency.specs.Agency.{shown_by, stand, stand_of}
 use Rattle.dh_office.specs.Ends.{Unheard}
-use Rattle.dh_office.specs.Jobs.{report_shown, stand_of}
+use Rattle.dh_office.specs.Jobs.{report_shown}
 use Rattle.dh_office.specs.Printed.{IsReportEnd}
 use Rattle.dh_office.specs.Texts.{report_lines}
 use Rattle.dh_office.proofs.AnswerLemmas.{shown_refused, shown_text}

@@ -1,7 +1,6 @@
 use Rattle.std.proofs.Common.{◌∙◌, refl, sym, arith, inl}
 use Rattle.dh_types.specs.Replies.{is_refusal}
-use Rattle.dh_agency.specs.Agency.{shown_by}
-use Rattle.dh_lines.specs.Batch.{stand}
+use Rattle.dh_agency.specs.Agency.{shown_by, stand}
 use Rattle.dh_office.specs.Jobs.{run_told}
 use Rattle.dh_office.specs.Printed.{IsRunEnd}
 use Rattle.dh_office.specs.Texts.{reply_line}

@@ -1,6 +1,6 @@
 use Rattle.std.proofs.Common.{◌∙◌, inl, ap, arith}
 use Rattle.dh_model.specs.Books.{start}
-use Rattle.dh_lines.proofs.CrashLemmas.{begins}
+use Rattle.dh_agency.proofs.Standing.{begins}
 use Rattle.dh_office.proofs.StoreLemmas.{lines_end, was_clean}
 use Rattle.dh_office.proofs.taking.begin.Goals as goal
 

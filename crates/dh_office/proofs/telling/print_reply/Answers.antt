@@ -1,6 +1,6 @@
 use Rattle.dh_types.specs.Replies.{reply_text}
-use Rattle.dh_lines.specs.Session.{newline}
-use Rattle.dh_lines.proofs.PartLemmas.{goes_on}
+use Rattle.dh_reports.specs.Columns.{newline}
+use Rattle.dh_reports.proofs.PartLemmas.{goes_on}
 use Rattle.dh_office.proofs.telling.print_reply.Goals as goal
 
 pub returns : goal.returns

@@ -1,4 +1,4 @@
-use Rattle.std.proofs.Common.{◌≡◌, ◌∙◌, ◌+◌, ◌*◌, ◌++◌, [], ◌∷◌, ap, arith, map, take}
+use Rattle.std.proofs.Common.{◌≡◌, ◌∙◌, ◌+◌, ◌*◌, ◌++◌, [], ◌∷◌, ap, arith, map, nat_lt, take}
 use Rattle.std.proofs.lemmas.List.{map-append}
 use Rattle.dh_model.specs.Runs.{batch_size}
 use Rattle.dh_leases.specs.Sums.{sum_of}
@@ -19,7 +19,7 @@ loop-number-preserved c =
     ∙ ap sum_of (cut_once batch_size dues number) in
     let part_is = c.part_of_sum-part.ensures (take ((number + 1) * batch_size) dues) sum_is in
     let is : rows_of rows ≡ rows_at batch_size c.args.month c.args.branch dues number =
-    c.in_ok-rows_with.ensures ∙ (λ i. (c.charges_at-batch.ensures i, part_is i)) in
+    c.in_ok-rows_with.ensures ∙ (λ i. (c.charges_at-batch.ensures i, part_is i, nat_lt 0 number)) in
     record {
       rows = ap (map rows_of) c.in_ok-push.ensures.items ∙ map-append rows_of before (rows ∷ [])
           ∙ ap (λ last. map rows_of before ++ last ∷ []) is

@@ -1,13 +1,17 @@
-use Rattle.std.proofs.Common.{arith}
+use Rattle.std.proofs.Common.{◌≡◌, sym, subst, arith, Some}
 use Rattle.sqlite.specs.State.{HasCleanDisk}
 use Rattle.sqlite.specs.Held.{state}
+use Rattle.dh_model.specs.Books.{State}
+use Rattle.dh_model.specs.Runs.{batch_size, batches}
 use Rattle.dh_schema.specs.Store.{tables}
-use Rattle.dh_posting.proofs.ClosedRun.{ready_in_order, sum_is_told}
+use Rattle.dh_posting.proofs.ClosedRun.{at_end_of, ready_in_order}
 use Rattle.dh_posting.proofs.closing.close_run.Goals as goal
 
-pub returns-clause-told : goal.returns-clause-told
-returns-clause-told g c clean =
+pub close_month-requires-clause-end : goal.close_month-requires-clause-end
+close_month-requires-clause-end g c mid =
     let old = state g.S.Store c.args.conn.now in
-    let mid : HasCleanDisk (state g.S.Store c.open_sum.new.conn) = omega (arith, c.close_with.ensures.was_clean, clean) in
-    let early : HasCleanDisk old = omega (arith, c.open_sum.ensures.crash.clean, mid) in
-    sum_is_told (tables old).books _ (c.in_ok-sum.ensures.told mid) (tables old).open_run (c.requires.end early) (ready_in_order old (c.requires.ready early))
+    let early : HasCleanDisk old = omega (arith, c.open_month.ensures.crash.clean, mid) in
+    let same = (c.in_ok-month.ensures.done mid).1 in
+    let t = tables old in
+    subst (λ (now : State). now.open_run ≡ Some (record { month = c.in_ok-month.month; done = batches batch_size now.books c.in_ok-month.month })) (sym same)
+    (at_end_of t.books t.open_run c.in_ok-month.month (c.in_ok-month.ensures.told mid) (c.requires.end early) (ready_in_order old (c.requires.ready early)))

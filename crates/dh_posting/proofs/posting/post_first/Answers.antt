@@ -3,7 +3,7 @@ use Rattle.sqlite.specs.State.{HasCleanDisk}
 use Rattle.sqlite.specs.Held.{state}
 use Rattle.dh_model.specs.Books as machine
 use Rattle.dh_schema.specs.Store.{IsReadyWith, Leaves, tables}
-use Rattle.dh_posting.proofs.NextRows.{first_is, rows_in_order, rows_new, rows_next}
+use Rattle.dh_posting.proofs.NextRows.{first_is, rows_in_order, rows_known, rows_new, rows_next}
 use Rattle.dh_posting.proofs.ClosedRun.{ready_in_order}
 use Rattle.dh_posting.proofs.posting.post_first.Goals as goal
 
@@ -18,6 +18,12 @@ post_rows-requires-clause-new g c clean =
     let old = state g.S.Store c.args.conn.now in
     let first = first_is _ _ _ c.deref.ensures.value c.first.ensures.value c.in-Some.is in
     rows_new c.args.plan.now (tables old) (ready_in_order old (c.requires.ready clean)) (c.requires.plan clean) c.in-Some.rows.now first.0 first.1
+
+pub post_rows-requires-clause-known : goal.post_rows-requires-clause-known
+post_rows-requires-clause-known g c clean =
+    let old = state g.S.Store c.args.conn.now in
+    let first = first_is _ _ _ c.deref.ensures.value c.first.ensures.value c.in-Some.is in
+    rows_known c.args.plan.now (tables old) (ready_in_order old (c.requires.ready clean)) (c.requires.plan clean) c.in-Some.rows.now first.0 first.1
 
 pub returns-in_err-post_rows-clause-crash : goal.returns-in_err-post_rows-clause-crash
 returns-in_err-post_rows-clause-crash g c clean =

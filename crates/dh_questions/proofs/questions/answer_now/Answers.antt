@@ -1,5 +1,4 @@
-use Rattle.std.proofs.Common.{◌∙◌, sym, ap, None, option_map, arith}
-use Rattle.sqlite.specs.State.{HasCleanDisk}
+use Rattle.std.proofs.Common.{◌∙◌, sym, ap, None, option_map}
 use Rattle.sqlite.specs.Held.{state}
 use Rattle.dh_model.specs.declared.open_run.OpenRun.{OpenRun}
 use Rattle.dh_model.specs.Answers.{report}
@@ -11,12 +10,11 @@ use Rattle.dh_questions.proofs.AskedBooks.{if_ok, on_err_all, on_ok_all}
 use Rattle.dh_questions.proofs.questions.answer_now.Goals as goal
 
 pub returns-clause-answer : goal.returns-clause-answer
-returns-clause-answer g c clean =
+returns-clause-answer g c clean free =
     let old = state g.S.Store c.args.conn.now in
     let question = c.args.question.now in
-    let early : HasCleanDisk old = omega (arith, c.gather.ensures.crash.clean, clean) in
     let answered = answered_by_its_rows (tables old).books (tables old).open_run None question (books_are_keyed old.now.trees)
-    (λ off. ap (option_map (λ (at : OpenRun). at.month)) (sym (c.requires.free early off))) in
+    (λ off. ap (option_map (λ (at : OpenRun). at.month)) (sym (free off))) in
     if_ok c.answer_on.result (λ a is. is ∙ ap (λ (s : State). report s question) (c.in_ok-gather.ensures.taken clean) ∙ answered) c.answer_on.ensures.answer
 
 pub returns-clause-done : goal.returns-clause-done

@@ -1,8 +1,8 @@
 use Rattle.std.proofs.Common.{◌-◌, ◌+◌, ◌≤◌, ◌<◌, ap, length, arith}
 use Rattle.std.proofs.lemmas.List.{length-take}
 use Rattle.sqlite.specs.Held.{state}
-use Rattle.dh_runs.proofs.Along.{ends}
-use Rattle.dh_runs.proofs.Stages.{in_front, planned_first, planned_next, progress, rows_are_new, rows_crash, rows_in_order}
+use Rattle.dh_runs.proofs.Along.{ends_at}
+use Rattle.dh_runs.proofs.Stages.{in_front, planned_first, planned_next, progress, rows_are_new, rows_begun, rows_crash, rows_in_order}
 use Rattle.dh_runs.proofs.running.post_planned.Goals as goal
 
 pub loop-rows-init : goal.loop-rows-init
@@ -24,6 +24,14 @@ post_rows-requires-clause-new g c =
     rows_are_new (state g.S.Store c.args.conn.now) c.args.plan.now (state g.S.Store c.loop-rows.conn) n c.loop-rows.invariant c.requires.ready rows here.1
     here.2
 
+pub post_rows-requires-clause-known : goal.post_rows-requires-clause-known
+post_rows-requires-clause-known g c =
+    let n = c.loop-rows.rows-index in
+    let rows = c.rows-item.result in
+    let here = in_front c.args.plan.now.batches.items c.deref.result.now c.min-count.result n rows c.deref.ensures.value c.loop-rows-test.true c.rows-item.is in
+    rows_begun (state g.S.Store c.args.conn.now) c.args.plan.now (state g.S.Store c.loop-rows.conn) n c.loop-rows.invariant c.requires.ready rows here.1
+    here.2
+
 pub returns-in_err-post_rows-clause-crash : goal.returns-in_err-post_rows-clause-crash
 returns-in_err-post_rows-clause-crash g c =
     let n = c.loop-rows.rows-index in
@@ -42,10 +50,10 @@ loop-rows-preserved g c =
     planned_next (state g.S.Store c.args.conn.now) c.args.plan.now (state g.S.Store c.loop-rows.conn) n c.loop-rows.invariant c.requires.ready rows here.1
     here.2 (state g.S.Store c.post_rows.new.conn) c.post_rows.ensures.was_clean c.in_ok-post_rows.ensures.done
 
-pub close_run-requires-clause-end : goal.close_run-requires-clause-end
-close_run-requires-clause-end g c =
+pub close_month-requires-clause-end : goal.close_month-requires-clause-end
+close_month-requires-clause-end g c =
     let plan = c.args.plan.now in
     let given = length-take c.min-count.result c.deref.result.now in
     let same = ap length c.deref.ensures.value in
     let all : plan.done + length plan.batches.items - plan.done ≤ c.loop-rows.rows-index = omega (arith, given, same) in
-    ends (state g.S.Store c.args.conn.now) (progress plan) (state g.S.Store c.loop-rows.conn) c.loop-rows.rows-index c.loop-rows.invariant.along all
+    ends_at (state g.S.Store c.args.conn.now) (progress plan) (state g.S.Store c.loop-rows.conn) c.loop-rows.rows-index c.loop-rows.invariant.along all

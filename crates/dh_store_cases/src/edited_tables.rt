@@ -1,0 +1,133 @@
+//! Tables that are not as they were made, or not by us. Each line `OLD ~> NEW; MORE -> WANT` is a case on a store of its own: our
+//! tables are made with OLD replaced by NEW in the texts that make them, and more statements are run; what stands before `; ` may be
+//! missing.
+
+use dh_agency_scripts::{compare, parted};
+use dh_books::Books;
+use dh_catalog::texts::TEXTS;
+use dh_schema::{LoadFault, load, version};
+use dh_tally::Tally;
+use sqlite::{Alter, Connection};
+use std::alloc::{AllocError, Global};
+use std::io;
+
+// Makes our tables, with some words of the texts replaced.
+fn make<S: Alter>(
+    alloc: Global,
+    conn: &mut Connection<S>,
+    old: &str,
+    new: &str,
+) -> Result<bool, AllocError> {
+    for text in &TEXTS {
+        let text = text.replace(alloc, old, new)?;
+        if conn.execute_batch(text.as_str()).is_err() {
+            return Ok(false);
+        }
+    }
+    Ok(true)
+}
+
+fn fault_text(alloc: Global, fault: LoadFault) -> Result<String, AllocError> {
+    match fault {
+        LoadFault::Damaged => "damaged".to_string(alloc),
+        LoadFault::Fault(fault) => format!(in alloc; "{fault}"),
+    }
+}
+
+fn sum(counts: &[usize]) -> usize {
+    let mut sum = 0usize;
+    for count in counts {
+        sum = sum.saturating_add(*count);
+    }
+    sum
+}
+
+fn people(books: &Books) -> usize {
+    sum(&[
+        books.branches().count(),
+        books.staff().count(),
+        books.owners().count(),
+        books.clients().count(),
+    ])
+}
+
+fn properties(books: &Books) -> usize {
+    sum(&[
+        books.properties().count(),
+        books.registrations().count(),
+        books.viewings().count(),
+        books.inspections().count(),
+    ])
+}
+
+fn leases(books: &Books) -> usize {
+    sum(&[
+        books.leases().count(),
+        books.charges().count(),
+        books.receipts().count(),
+        books.runs().count(),
+        books.parts().count(),
+    ])
+}
+
+fn load_text<S: Alter>(alloc: Global, conn: &mut Connection<S>) -> Result<String, AllocError> {
+    match load(alloc, conn) {
+        Ok(books) => {
+            let rows = sum(&[people(&books), properties(&books), leases(&books)]);
+            format!(in alloc; "{rows} rows")
+        }
+        Err(fault) => fault_text(alloc, fault),
+    }
+}
+
+fn version_text<S: Alter>(alloc: Global, conn: &mut Connection<S>) -> Result<String, AllocError> {
+    match version(alloc, conn) {
+        Ok(number) => format!(in alloc; "version {number}"),
+        Err(fault) => fault_text(alloc, fault),
+    }
+}
+
+// What is replaced, by what, and the statements.
+fn edit_of(case: &str) -> (&str, &str, &str) {
+    let Some((old, rest)) = case.split_once(" ~> ") else {
+        return ("no such words", "", case);
+    };
+    let (new, statements) = rest.split_once("; ").unwrap_or((rest, ""));
+    (old, new, statements)
+}
+
+// How the tables are read, once they are made and the statements are run.
+fn read<S: Alter>(
+    alloc: Global,
+    conn: &mut Connection<S>,
+    rows: &str,
+    case: &str,
+) -> Result<String, AllocError> {
+    let (old, new, statements) = edit_of(case);
+    if !make(alloc, conn, old, new)? {
+        return "not made".to_string(alloc);
+    }
+    if conn.execute_batch(rows).is_err() || conn.execute_batch(statements).is_err() {
+        return "not done".to_string(alloc);
+    }
+    let number = version_text(alloc, conn)?;
+    let books = load_text(alloc, conn)?;
+    format!(in alloc; "{number}, {books}")
+}
+
+fn answer(alloc: Global, rows: &str, case: &str) -> io::Result<String> {
+    let mut conn = Connection::open_in_memory(alloc)?;
+    let text = read(alloc, &mut conn, rows, case);
+    drop(conn);
+    Ok(text?)
+}
+
+/// Plays each line over tables in which the statements put rows: the version and how many rows are loaded, or why not.
+pub fn play(rt: &HostRuntime, tally: &mut Tally, rows: &str, lines: &str) -> io::Result<()> {
+    for line in lines.lines() {
+        let (case, want) = parted(line);
+        let got = answer(rt.alloc(), rows, case)?;
+        compare(rt, tally, case, got.as_str(), want)?;
+    }
+    Ok(())
+}
