@@ -1,7 +1,7 @@
 //! What questions are answered, as texts.
 
 use dh_books::Books;
-use dh_examples::{Fields, Unreadable, answer_text, numbers_of};
+use dh_examples::{Fields, Unreadable, answer_text, copy_of, numbers_of};
 use dh_rules::{answer, balance, matching, vacant};
 use dh_types::{Balance, Client, EntryDay, LeaseNo, Property, Question};
 use std::alloc::{AllocError, Global};
@@ -12,12 +12,12 @@ pub(crate) fn shown(
     books: &Books,
     question: &Question,
 ) -> Result<String, AllocError> {
-    let answer = answer(alloc, books, question)?;
+    let answer = answer(alloc, copy_of(alloc, books)?, question)?;
     answer_text(alloc, &answer)
 }
 
 fn vacant_on(alloc: Global, books: &Books, day: EntryDay) -> Result<Vec<Property>, AllocError> {
-    vacant(alloc, books, day.day())
+    vacant(alloc, copy_of(alloc, books)?, day.day())
 }
 
 /// `vacant,DAY`: the numbers of the vacant properties.
@@ -36,7 +36,7 @@ fn matching_on(
     client: &Client,
     day: EntryDay,
 ) -> Result<Vec<Property>, AllocError> {
-    matching(alloc, books, client, day.day())
+    matching(alloc, copy_of(alloc, books)?, client, day.day())
 }
 
 /// `matching,CLIENT,DAY`: the numbers of the properties that he would take.

@@ -3,13 +3,14 @@
 //!
 //! A line is words, an arrow ` -> `, and what is wanted: the reply to a command, or the answer to a question. The words are fields
 //! between commas, as `rent,P101,650.00` or `show,branches`, which `request` reads as an agency does; `row_of` reads those of a
-//! row of the books, which `to_line` writes again; `answer_text` is the answer to a question. `script` reads a whole text: blocks
+//! row of the books, which `to_line` writes again; `answer_text` is the answer to a question, which is asked of a `copy_of` the books. `script` reads a whole text: blocks
 //! of lines under headings. Read `Block` first.
 #![tactic(auto)]
 
 mod account_rows;
 mod answers;
 mod beginning;
+mod copies;
 mod fields;
 mod lists;
 mod requests;
@@ -19,6 +20,7 @@ mod scripts;
 
 pub use answers::{answer_text, numbers_of};
 pub use beginning::january;
+pub use copies::copy_of;
 pub use fields::{Fields, Unreadable};
 pub use lists::{add_part, all_lines, lines_of, or_none};
 pub use requests::{command, command_if_any, request, request_if_any};

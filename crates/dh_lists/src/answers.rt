@@ -13,13 +13,14 @@ use dh_types::{Answer, ClientDay, Question, Refusal, field};
 use std::alloc::{AllocError, Global};
 
 // The properties that match; refused 2 with field 3 where no client has the number.
-fn matching_report(alloc: Global, books: &Books, asked: ClientDay) -> Result<Answer, AllocError>
-    ensures { IfOk result (λ answer. report_of answer ≡ matching_report books.now.books (fin.get books.now.books.clients asked.client) asked.day) }
+fn matching_report(alloc: Global, books: Books, asked: ClientDay) -> Result<Answer, AllocError>
+    ensures { IfOk result (λ answer. report_of answer ≡ matching_report books.books (fin.get books.books.clients asked.client) asked.day) }
 {
-    let Some(client) = books.client(&asked.client) else {
-        return Ok(Answer::Refused(Refusal::Unknown(field::ASKED_ABOUT)));
+    let client = match books.client(&asked.client) {
+        Some(client) => client.try_clone(alloc)?,
+        None => return Ok(Answer::Refused(Refusal::Unknown(field::ASKED_ABOUT))),
     };
-    Ok(Answer::Matching(matching(alloc, books, client, asked.day.day())?))
+    Ok(Answer::Matching(matching(alloc, books, &client, asked.day.day())?))
 }
 
 /// Whether an open run puts the question off: its answer would show the run half made.
@@ -46,25 +47,25 @@ fn open_refusal(books: &Books, question: &Question) -> Option<Refusal>
 }
 
 // What the books answer where no run is open.
-fn answer_passed(alloc: Global, books: &Books, question: &Question) -> Result<Answer, AllocError>
-    ensures { IfOk result (λ answer. report_of answer ≡ report (record books.now { open_run = None }) question.now) }
+fn answer_passed(alloc: Global, books: Books, question: &Question) -> Result<Answer, AllocError>
+    ensures { IfOk result (λ answer. report_of answer ≡ report (record books { open_run = None }) question.now) }
 {
     match *question {
         Question::Branches => Ok(Answer::Branches(branches(alloc, books)?)),
         Question::Vacant(day) => Ok(Answer::Vacant(vacant(alloc, books, day.day())?)),
         Question::Matching(asked) => matching_report(alloc, books, asked),
-        Question::Statement(lease) => statement(alloc, books, lease),
-        Question::Arrears(branch) => arrears(alloc, books, &branch),
-        Question::Run(month) => run_report(alloc, books, month),
+        Question::Statement(lease) => statement(alloc, &books, lease),
+        Question::Arrears(branch) => arrears(alloc, &books, &branch),
+        Question::Run(month) => run_report(alloc, &books, month),
     }
 }
 
 /// What the books answer to the question. While a run is open, `statement`, `arrears` and `run` are refused 10 with its
-/// month. It fails where memory runs out.
-pub fn answer(alloc: Global, books: &Books, question: &Question) -> Result<Answer, AllocError>
-    ensures { IfOk result (λ answer. report_of answer ≡ report books.now question.now) }
+/// month. The books end here: rows that the answer lists are moved out of them. It fails where memory runs out.
+pub fn answer(alloc: Global, books: Books, question: &Question) -> Result<Answer, AllocError>
+    ensures { IfOk result (λ answer. report_of answer ≡ report books question.now) }
 {
-    match open_refusal(books, question) {
+    match open_refusal(&books, question) {
         Some(refusal) => Ok(Answer::Refused(refusal)),
         None => answer_passed(alloc, books, question),
     }

@@ -7,13 +7,12 @@ use dh_books::Books;
 use dh_types::Branch;
 use std::alloc::{AllocError, Global};
 
-/// All branches, rising by number. It fails where memory runs out.
-pub fn branches(alloc: Global, books: &Books) -> Result<Vec<Branch>, AllocError>
-    ensures { IfOk result (λ rows. rows.items ≡ fin.values books.now.books.branches) }
+/// All branches, rising by number, moved out of the books. It fails where memory runs out.
+pub fn branches(alloc: Global, books: Books) -> Result<Vec<Branch>, AllocError>
+    ensures { IfOk result (λ rows. rows.items ≡ fin.values books.books.branches) }
 {
-    let mut rows = Vec::new(alloc);
-    for branch in books.branches() {
-        rows.push(branch.try_clone(alloc)?)?;
-    }
-    Ok(rows)
+    books
+        .into_branches()
+        .map(|(_, branch)| branch)
+        .collect(alloc)
 }

@@ -33,15 +33,15 @@ fn covered(alloc: Global, books: &Books, day: Day) -> Result<BTreeSet<Id>, Alloc
     Ok(numbers)
 }
 
-/// The properties that no lease covers that day, rising by number. It fails where memory runs out.
-pub fn vacant(alloc: Global, books: &Books, day: Day) -> Result<Vec<Property>, AllocError>
-    ensures { IfOk result (λ rows. rows.items ≡ vacant books.now.books day) }
+/// The properties that no lease covers that day, rising by number, moved out of the books. It fails where memory runs out.
+pub fn vacant(alloc: Global, books: Books, day: Day) -> Result<Vec<Property>, AllocError>
+    ensures { IfOk result (λ rows. rows.items ≡ vacant books.books day) }
 {
-    let covered = covered(alloc, books, day)?;
+    let covered = covered(alloc, &books, day)?;
     let mut rows = Vec::new(alloc);
-    for property in books.properties() {
+    for (_, property) in books.into_properties() {
         if !covered.contains(&property.number) {
-            rows.push(property.try_clone(alloc)?)?;
+            rows.push(property)?;
         }
     }
     Ok(rows)
@@ -77,32 +77,32 @@ fn put_first(
 // The properties that match, by rent and number. Of two that share these it is the first.
 fn by_rent(
     alloc: Global,
-    books: &Books,
+    books: Books,
     client: &Client,
     day: Day,
 ) -> Result<BTreeMap<(Rent, Id), Property>, AllocError>
     ensures { IfOk result (λ found. fin.from_entries found.entries
-        ≡ by_rent books.now.books (filter (matches books.now.books client.now day) (fin.values books.now.books.properties))) }
+        ≡ by_rent books.books (filter (matches books.books client.now day) (fin.values books.books.properties))) }
 {
-    let covered = covered(alloc, books, day)?;
+    let covered = covered(alloc, &books, day)?;
     let mut found = BTreeMap::new(alloc);
-    for property in books.properties() {
-        if is_match(property, client, &covered) {
-            put_first(&mut found, property.try_clone(alloc)?)?;
+    for (_, property) in books.into_properties() {
+        if is_match(&property, client, &covered) {
+            put_first(&mut found, property)?;
         }
     }
     Ok(found)
 }
 
 /// The properties of the client's preferred type, at no more than his greatest rent, that no lease covers that day:
-/// rising by rent, and then by number. It fails where memory runs out.
+/// rising by rent, and then by number, moved out of the books. It fails where memory runs out.
 pub fn matching(
     alloc: Global,
-    books: &Books,
+    books: Books,
     client: &Client,
     day: Day,
 ) -> Result<Vec<Property>, AllocError>
-    ensures { IfOk result (λ rows. rows.items ≡ matching books.now.books client.now day) }
+    ensures { IfOk result (λ rows. rows.items ≡ matching books.books client.now day) }
 {
     let found = by_rent(alloc, books, client, day)?;
     found

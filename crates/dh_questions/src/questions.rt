@@ -317,8 +317,8 @@ fn gather<S: Alter>(
 }
 
 // What these books answer.
-fn answer_on(alloc: Global, books: &Books, question: &Question) -> Result<Answer, Fault>
-    ensures answer { IfOk result (λ a. report_of a ≡ report books.now question.now) }
+fn answer_on(alloc: Global, books: Books, question: &Question) -> Result<Answer, Fault>
+    ensures answer { IfOk result (λ a. report_of a ≡ report books question.now) }
     ensures cause { IfErr result IsFirstFault }
 {
     match answer(alloc, books, question) {
@@ -344,7 +344,7 @@ fn answer_now<S: Alter>(
 {
     let mut books = no_rows(alloc);
     gather(alloc, conn, question, &mut books)?;
-    answer_on(alloc, &books, question)
+    answer_on(alloc, books, question)
 }
 
 // The answer to a question that an open run puts off.

@@ -1,7 +1,7 @@
 //! The plain program over books in memory, and what differs of books.
 
 use dh_agency_scripts::compare;
-use dh_examples::{ToLine, Unreadable, all_lines, answer_text, january, request};
+use dh_examples::{ToLine, Unreadable, all_lines, answer_text, copy_of, january, request};
 use dh_fields::Request;
 use dh_rules::{Books, answer, step};
 use dh_tally::Tally;
@@ -23,7 +23,7 @@ fn replied(alloc: Global, books: &mut Books, command: &Command) -> Result<String
 }
 
 fn shown(alloc: Global, books: &Books, question: &Question) -> Result<String, AllocError> {
-    let answer = answer(alloc, books, question)?;
+    let answer = answer(alloc, copy_of(alloc, books)?, question)?;
     answer_text(alloc, &answer)
 }
 

@@ -5,8 +5,8 @@ ghost use Rattle.std.specs.FinMap as fin;
 
 use super::Books;
 use dh_types::{Branch, Client, Id, Owner, Staff};
-use std::alloc::AllocError;
-use std::collections::btree_map::{Keys, Values};
+use std::alloc::{AllocError, Global};
+use std::collections::btree_map::{IntoIter, Keys, Values};
 
 impl Books {
     /// The branch of this number.
@@ -32,6 +32,13 @@ impl Books {
         ensures { result ≡ fin.values self.now.books.branches }
     {
         self.branches.values()
+    }
+
+    /// All branches with their numbers, rising, moved out of the books.
+    pub fn into_branches(self) -> IntoIter<Id, Branch, Global>
+        ensures { result ≡ fin.entries self.books.branches }
+    {
+        self.branches.into_iter()
     }
 
     /// The numbers of all branches, rising.

@@ -5,8 +5,8 @@ ghost use Rattle.std.specs.FinMap as fin;
 
 use super::Books;
 use dh_types::{EntryDay, Id, Inspection, Property, Registration, Viewing};
-use std::alloc::AllocError;
-use std::collections::btree_map::Values;
+use std::alloc::{AllocError, Global};
+use std::collections::btree_map::{IntoIter, Values};
 
 impl Books {
     /// The property of this number.
@@ -32,6 +32,13 @@ impl Books {
         ensures { result ≡ fin.values self.now.books.properties }
     {
         self.properties.values()
+    }
+
+    /// All properties with their numbers, rising, moved out of the books.
+    pub fn into_properties(self) -> IntoIter<Id, Property, Global>
+        ensures { result ≡ fin.entries self.books.properties }
+    {
+        self.properties.into_iter()
     }
 
     /// The registration of this client and branch.

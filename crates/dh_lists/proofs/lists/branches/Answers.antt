@@ -1,10 +1,13 @@
-use Rattle.std.proofs.Common.{◌∙◌}
-use Rattle.std.specs.Map.Iter.{deref}
-use Rattle.std.proofs.lemmas.Map.Iter.{iter_end}
+use Rattle.std.proofs.Common.{◌≡◌, ap, map, rules, tests}
+use Rattle.std.specs.FinMap as fin
+use Rattle.std.proofs.lemmas.Result.{IfOk-weaker}
+use Rattle.std.proofs.lemmas.Iterator.{YieldsList-from_map, items_from_collect}
+use Rattle.std.proofs.lemmas.Iterator.Consumers.{YieldsList-at, YieldsList-from_rest}
 use Rattle.dh_lists.proofs.lists.branches.Goals as goal
 
 pub returns : goal.returns
 returns c =
-    c.loop-branch.invariant
-    ∙ (iter_end deref _ _ _ _ _ _ (c.into_iter-branch-iterator.ensures.into_iter_gives
-    ∙ c.branches-branch-items.ensures) c.loop-branch.yielded_by c.in-None.is c.next.ensures.steps).0
+    let es = fin.entries c.args.books.books.branches in
+    items_from_collect c.collect.result c.collect.ensures.ran
+    (YieldsList-from_map _ (λ e. e.1) (YieldsList-at c.map.ensures.source (YieldsList-from_rest es c.into_branches.ensures)) c.map.ensures.closure
+    (λ x r q k. search (rules, tests)))
