@@ -44,9 +44,9 @@ module _ (a b c : State) where
   undone_then x y still = either x (y still)
 
 -- the last commit stays what is shown
-kept_by : (a b : State) → IsUnchanged a b ⊎ IsRolledBack a b → IsTrue b.is_open → a.now ≡ a.committed → (b.now ≡ a.now) × (b.committed ≡ a.committed)
-kept_by a b (inl x) still settled = (x.0.now_is, x.0.committed_is)
-kept_by a b (inr x) still settled = ((x.undone still).0 ∙ sym settled, (x.undone still).1)
+kept_by : (a b : State) → IsUnchanged a b ⊎ IsRolledBack a b → Keeps a b
+kept_by a b (inl x) still settled = (x.0.now_is, x.0.committed_is, λ none. x.0.mode ∙ none)
+kept_by a b (inr x) still settled = ((x.undone still).0 ∙ sym settled, (x.undone still).1, λ none. x.autocommit)
 
 pub keeps : {X E : Type 0} (r : Result X E) (a b : State) → OnOk r (IsUnchanged a b) → OnErr r (IsUndone a b) → Keeps a b
 keeps (Ok x) a b same undone = kept_by a b (inl same)

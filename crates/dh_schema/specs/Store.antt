@@ -64,6 +64,8 @@ pub record IsBlank (s : State) : Type 0 where
   pub indexes : s.now.schema.indexes ≡ []
   pub views : s.now.schema.views ≡ []
 
--- While the store is open, tables that were the last commit are what they were, and still the last commit.
+-- While the store is open, tables that were the last commit are what they were, and still the last commit; and no transaction is
+-- open where none was.
 abbrev pub Keeps : State → State → Type 0
-Keeps old new = IsTrue new.is_open → old.now ≡ old.committed → (new.now ≡ old.now) × (new.committed ≡ old.committed)
+Keeps old new = IsTrue new.is_open → old.now ≡ old.committed
+    → (new.now ≡ old.now) × (new.committed ≡ old.committed) × (old.in_transaction ≡ false → new.in_transaction ≡ false)
