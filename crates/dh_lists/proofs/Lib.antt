@@ -1,3 +1,4 @@
 pub mod FirstWins
+pub mod Kept
 pub mod OpenRuns
 pub mod Owing

@@ -1,5 +1,5 @@
 -- What an open run says of a question.
-use Rattle.std.proofs.Common.{◌≡◌, refl, ap, Bool, true, false, if◌then◌else◌, Option, Some, None, option_map}
+use Rattle.std.proofs.Common.{◌≡◌, refl, ap, if◌then◌else◌, Option, Some, None, option_map}
 use Rattle.std.specs.FinMap.{get}
 use Rattle.dh_types.specs.declared.question.Question.{Question}
 use Rattle.dh_types.specs.declared.question.Question.TheVariants as asked

@@ -4,9 +4,9 @@ use Rattle.dh_lists.proofs.OpenRuns.{passed, refused}
 use Rattle.dh_lists.proofs.answers.answer.Goals as goal
 
 pub returns-in-Some : goal.returns-in-Some
-returns-in-Some c = refused c.args.books.now c.args.question.now c.in-Some.refusal (sym c.open_refusal.ensures ∙ c.in-Some.is)
+returns-in-Some c = refused c.args.books c.args.question.now c.in-Some.refusal (sym c.open_refusal.ensures ∙ c.in-Some.is)
 
 pub returns-in-None : goal.returns-in-None
 returns-in-None c =
     subst (λ (r : Report). IfOk c.answer_passed.result (λ a. report_of a ≡ r))
-    (passed c.args.books.now c.args.question.now (sym c.open_refusal.ensures ∙ c.in-None.is)) c.answer_passed.ensures
+    (passed c.args.books c.args.question.now (sym c.open_refusal.ensures ∙ c.in-None.is)) c.answer_passed.ensures

@@ -12,7 +12,6 @@ use Rattle.dh_types.specs.declared.lease.Lease.{Lease}
 use Rattle.dh_model.specs.Answers.{balance, debt, owed}
 use Rattle.dh_model.specs.Books.{Books}
 use Rattle.dh_model.specs.Runs.{is_property_of}
-use Rattle.dh_model.proofs.Among.{Among, is_among}
 use Rattle.dh_model.proofs.BranchDues.{leases_rise, number_of}
 use Rattle.dh_model.proofs.Rising.{Lesser, Rises}
 use Rattle.dh_lists.proofs.Owing.{above_more, is_here, is_later, none_more, none_yet, one_more, rest_rises}

@@ -1,6 +1,5 @@
-use Rattle.std.proofs.Common.{◌≡◌, ap, map, rules, tests}
+use Rattle.std.proofs.Common.{rules, tests}
 use Rattle.std.specs.FinMap as fin
-use Rattle.std.proofs.lemmas.Result.{IfOk-weaker}
 use Rattle.std.proofs.lemmas.Iterator.{YieldsList-from_map, items_from_collect}
 use Rattle.std.proofs.lemmas.Iterator.Consumers.{YieldsList-at, YieldsList-from_rest}
 use Rattle.dh_lists.proofs.lists.branches.Goals as goal

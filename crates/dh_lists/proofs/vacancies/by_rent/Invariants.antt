@@ -13,7 +13,7 @@ abbrev pub invariant-loop-property : goal.invariant-loop-property
 invariant-loop-property l = (key : ℕ × List ℕ) →
     option_or (get (pair_cmp nat_cmp text_cmp) l.found key)
     (lookup (is_at (pair_cmp nat_cmp text_cmp key))
-    (map (λ property. ((property.rent, property.number), property)) (filter (matches l.books.books l.client l.fn.day) l.property-iterator)))
+    (map (λ property. ((property.rent, property.number), property)) (filter (matches l.fn.books.books l.client l.fn.day) (map (λ e. e.1) l.property-iterator))))
     ≡ lookup (is_at (pair_cmp nat_cmp text_cmp key))
     (map (λ property. ((property.rent, property.number), property))
-    (filter (matches l.books.books l.client l.fn.day) (fin.values l.books.books.properties)))
+    (filter (matches l.fn.books.books l.client l.fn.day) (fin.values l.fn.books.books.properties)))

@@ -11,7 +11,7 @@ use Rattle.dh_lists.proofs.vacancies.matching.Goals as goal
 pub returns : goal.returns
 returns c =
     let es = c.in_ok-found.found.entries in
-    let listed : map (λ e. e.1) es ≡ matching c.args.books.now.books c.args.client.now c.args.day
+    let listed : map (λ e. e.1) es ≡ matching c.args.books.books c.args.client.now c.args.day
     = sym (ap (map (λ e. e.1)) (entries-made (pair_total nat_total text_total) es c.into_iter.ensures.into_iter_gives.5))
     ∙ ap fin.values c.in_ok-found.ensures in
     IfOk-weaker c.collect.result (λ rows. rows.items ≡ map (λ e. e.1) es) _ (λ rows is. is ∙ listed)
