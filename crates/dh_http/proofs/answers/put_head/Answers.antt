@@ -7,4 +7,4 @@ use Rattle.dh_http.proofs.answers.put_head.Goals as goal
 pub returns-in-Ok : goal.returns-in-Ok
 returns-in-Ok g c =
     gathered c.put.result _ _ _ _ (head_text c.args.status c.args.content c.args.length c.args.allow.now) c.new-head.ensures c.in-Ok.ensures
-    (subst (Puts (g.W.Write.contents c.args.writer.now) (g.W.Write.contents c.put.new.writer) c.put.result) c.deref.ensures.value c.put.ensures)
+    (subst (Puts (g.W.Write.contents c.args.writer.now) (g.W.Write.contents c.put.new.writer) c.put.result) c.deref.ensures.0 c.put.ensures)

@@ -7,4 +7,4 @@ use Rattle.dh_lines.proofs.replies.put_line.Goals as goal
 pub returns-in-Ok : goal.returns-in-Ok
 returns-in-Ok g c =
     gathered c.put.result _ _ _ _ (told_line c.args.number c.args.told.now) c.new-line.ensures c.in-Ok.ensures
-    (subst (Puts (g.W.Write.contents c.args.writer.now) (g.W.Write.contents c.put.new.writer) c.put.result) c.deref.ensures.value c.put.ensures)
+    (subst (Puts (g.W.Write.contents c.args.writer.now) (g.W.Write.contents c.put.new.writer) c.put.result) c.deref.ensures.0 c.put.ensures)
