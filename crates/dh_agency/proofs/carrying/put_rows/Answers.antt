@@ -41,5 +41,5 @@ pub returns-clause-said : goal.returns-clause-said
 returns-clause-said g c clean =
     let was : HasCleanDisk (state g.S.Store c.args.conn.now) = omega (arith, clean, c.apply.ensures.was_clean) in
     put_said c.args.command.now c.args.change.now (state g.S.Store c.args.conn.now) (c.requires.ready was) (c.requires.verdict was)
-    c.commands_are_entered.ensures (c.requires.plain was) c.accepted.result (tables (state g.S.Store c.apply.new.conn)) c.accepted.ensures
+    c.commands_are_entered.ensures (c.requires.plain was) c.reply.result (tables (state g.S.Store c.apply.new.conn)) c.reply.ensures
     (c.in_ok-apply.ensures.done clean).1
