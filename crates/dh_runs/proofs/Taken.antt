@@ -1,5 +1,5 @@
 -- Tables that were only looked at, as what a recovery may leave.
-use Rattle.std.proofs.Common.{◌≡◌, ◌∙◌, sym, ap, subst, IsTrue}
+use Rattle.std.proofs.Common.{◌≡◌, ◌∙◌, sym, ap, subst}
 use Rattle.sqlite_trees.specs.Tree.{Trees}
 use Rattle.sqlite.specs.Effect.{Database}
 use Rattle.sqlite.specs.State.{State}
@@ -7,7 +7,7 @@ use Rattle.dh_model.specs.Books as machine
 use Rattle.dh_laws.proofs.Carrying.{part_torn}
 use Rattle.dh_laws.proofs.Standing.{same_in_part}
 use Rattle.dh_tables.specs.Calls.{HasOurTables}
-use Rattle.dh_schema.specs.Store.{AreTables, IsReadyWith, Keeps, tables}
+use Rattle.dh_schema.specs.Store.{AreTables, IsReadyWith, tables}
 use Rattle.dh_schema.specs.Tables.{IsSound, state_in}
 use Rattle.dh_runs.specs.Taking.{IsResting}
 use Rattle.dh_runs.specs.Told.{IsTorn}
@@ -50,9 +50,3 @@ module _ (old new : State) where
     it.0.sound,
     it.1,
   )
-
-  -- a connection that rests still does, where a load kept what was there
-  pub rests_kept : Keeps old new → IsResting old → IsTrue new.is_open → IsResting new × (new.now ≡ old.now)
-  rests_kept kept rests still =
-      let it = kept still rests.settled in
-      (record { is_open = still; autocommit = it.2 rests.autocommit; settled = it.0 ∙ rests.settled ∙ sym it.1 }, it.0)
