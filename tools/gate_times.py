@@ -89,4 +89,5 @@ def main():
     return gate.returncode
 
 
-sys.exit(main())
+if __name__ == '__main__':
+    sys.exit(main())

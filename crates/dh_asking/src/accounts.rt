@@ -1,6 +1,6 @@
 //! What commands about leases, receipts and runs look at.
 
-ghost use Rattle.std.specs.Prelude.{◌≡◌, IsTrue, IfErr, OnOk};
+ghost use Rattle.std.specs.Prelude.{◌≡◌, OnOk};
 ghost use Rattle.std.specs.FinMap as fin;
 ghost use Rattle.sqlite.specs.State.{HasCleanDisk};
 ghost use Rattle.sqlite.specs.Held.{state};
@@ -8,10 +8,9 @@ ghost use Rattle.dh_types.specs.declared.command.Command.TheVariants as command;
 ghost use Rattle.dh_model.specs.Books.{State};
 ghost use Rattle.dh_model.specs.Checks.{is_same_text};
 ghost use Rattle.dh_model.specs.Whole.{rows_where};
-ghost use Rattle.dh_tables.specs.Calls.{CommitsNothing};
-ghost use Rattle.dh_schema.specs.Faults.{IsFirstFault};
-ghost use Rattle.dh_schema.specs.Store.{IsReady, StaysReady};
+ghost use Rattle.dh_schema.specs.Store.{IsReady};
 ghost use Rattle.dh_looks.specs.Looked.{AreBoth};
+ghost use Rattle.dh_looks.specs.Reading.{OnlyReads};
 ghost use Rattle.dh_asking.specs.Gathered.{Gathers, with_leases, with_registration};
 
 use dh_books::Books;
@@ -35,11 +34,7 @@ fn registration<S: Alter>(
     ensures gathered { (t b : State) → AreBoth t b (state S.Store conn.old) books.old → b.books.registrations ≡ fin.empty
         → b.books.properties ≡ rows_where (λ property. is_same_text property.number terms.now.property) t.books.properties
         → OnOk result (AreBoth t (with_registration terms.now t b) (state S.Store conn.new) books.new) }
-    ensures done { HasCleanDisk (state S.Store conn.new) → OnOk result (StaysReady (state S.Store conn.old) (state S.Store conn.new)) }
-    ensures kept { HasCleanDisk (state S.Store conn.new) → IsTrue (state S.Store conn.new).is_open
-        → StaysReady (state S.Store conn.old) (state S.Store conn.new) }
-    ensures cause { IfErr result IsFirstFault }
-    ensures crash { CommitsNothing (state S.Store conn.old) (state S.Store conn.new) }
+    ensures reads { OnlyReads (state S.Store conn.old) (state S.Store conn.new) result }
 {
     match books.property(&terms.property) {
         Some(property) => {
@@ -63,11 +58,7 @@ fn leases<S: Alter>(
     requires { HasCleanDisk (state S.Store conn.old) → IsReady (state S.Store conn.old) }
     ensures gathered { (t b : State) → AreBoth t b (state S.Store conn.old) books.old → b.books.leases ≡ fin.empty
         → OnOk result (AreBoth t (with_leases terms.now t b) (state S.Store conn.new) books.new) }
-    ensures done { HasCleanDisk (state S.Store conn.new) → OnOk result (StaysReady (state S.Store conn.old) (state S.Store conn.new)) }
-    ensures kept { HasCleanDisk (state S.Store conn.new) → IsTrue (state S.Store conn.new).is_open
-        → StaysReady (state S.Store conn.old) (state S.Store conn.new) }
-    ensures cause { IfErr result IsFirstFault }
-    ensures crash { CommitsNothing (state S.Store conn.old) (state S.Store conn.new) }
+    ensures reads { OnlyReads (state S.Store conn.old) (state S.Store conn.new) result }
 {
     look(
         alloc,
@@ -101,11 +92,7 @@ pub(crate) fn at_lease<S: Alter>(
 ) -> Result<(), Fault>
     requires { HasCleanDisk (state S.Store conn.old) → IsReady (state S.Store conn.old) }
     ensures gathered { Gathers (command.Lease terms.now) result (state S.Store conn.old) books.old (state S.Store conn.new) books.new }
-    ensures done { HasCleanDisk (state S.Store conn.new) → OnOk result (StaysReady (state S.Store conn.old) (state S.Store conn.new)) }
-    ensures kept { HasCleanDisk (state S.Store conn.new) → IsTrue (state S.Store conn.new).is_open
-        → StaysReady (state S.Store conn.old) (state S.Store conn.new) }
-    ensures cause { IfErr result IsFirstFault }
-    ensures crash { CommitsNothing (state S.Store conn.old) (state S.Store conn.new) }
+    ensures reads { OnlyReads (state S.Store conn.old) (state S.Store conn.new) result }
 {
     look(
         alloc,
@@ -136,11 +123,7 @@ pub(crate) fn at_receipt<S: Alter>(
 ) -> Result<(), Fault>
     requires { HasCleanDisk (state S.Store conn.old) → IsReady (state S.Store conn.old) }
     ensures gathered { Gathers (command.Receipt order.now) result (state S.Store conn.old) books.old (state S.Store conn.new) books.new }
-    ensures done { HasCleanDisk (state S.Store conn.new) → OnOk result (StaysReady (state S.Store conn.old) (state S.Store conn.new)) }
-    ensures kept { HasCleanDisk (state S.Store conn.new) → IsTrue (state S.Store conn.new).is_open
-        → StaysReady (state S.Store conn.old) (state S.Store conn.new) }
-    ensures cause { IfErr result IsFirstFault }
-    ensures crash { CommitsNothing (state S.Store conn.old) (state S.Store conn.new) }
+    ensures reads { OnlyReads (state S.Store conn.old) (state S.Store conn.new) result }
 {
     look(alloc, conn, &RunKeyed { key: order.key }, books)?;
     look(
@@ -171,11 +154,7 @@ pub(crate) fn at_run<S: Alter>(
 ) -> Result<(), Fault>
     requires { HasCleanDisk (state S.Store conn.old) → IsReady (state S.Store conn.old) }
     ensures gathered { Gathers (command.Run order.now) result (state S.Store conn.old) books.old (state S.Store conn.new) books.new }
-    ensures done { HasCleanDisk (state S.Store conn.new) → OnOk result (StaysReady (state S.Store conn.old) (state S.Store conn.new)) }
-    ensures kept { HasCleanDisk (state S.Store conn.new) → IsTrue (state S.Store conn.new).is_open
-        → StaysReady (state S.Store conn.old) (state S.Store conn.new) }
-    ensures cause { IfErr result IsFirstFault }
-    ensures crash { CommitsNothing (state S.Store conn.old) (state S.Store conn.new) }
+    ensures reads { OnlyReads (state S.Store conn.old) (state S.Store conn.new) result }
 {
     look(alloc, conn, &RunKeyed { key: order.key }, books)?;
     look(alloc, conn, &ReceiptKeyed { key: order.key }, books)

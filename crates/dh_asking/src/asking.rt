@@ -6,10 +6,10 @@ ghost use Rattle.sqlite.specs.State.{HasCleanDisk};
 ghost use Rattle.sqlite.specs.Held.{state};
 ghost use Rattle.dh_model.specs.Verdicts.{verdict_on};
 ghost use Rattle.dh_laws.specs.Looks.{month_open};
-ghost use Rattle.dh_tables.specs.Calls.{CommitsNothing};
 ghost use Rattle.dh_schema.specs.Faults.{IsFirstFault};
 ghost use Rattle.dh_schema.specs.Store.{IsReady, Leaves, StaysReady, tables};
 ghost use Rattle.dh_looks.specs.Months.{AreMonthsOf};
+ghost use Rattle.dh_looks.specs.Reading.{OnlyReads};
 
 use crate::gathering::{gather, open_month};
 use dh_looks::months_now;
@@ -34,11 +34,7 @@ fn ask_rows<S: Alter>(
     requires run { HasCleanDisk (state S.Store conn.old) → month_open run ≡ month_open (tables (state S.Store conn.old)).open_run }
     ensures verdict { HasCleanDisk (state S.Store conn.new)
         → IfOk result (λ v. v ≡ verdict_on (tables (state S.Store conn.old)).books (tables (state S.Store conn.old)).open_run command.now) }
-    ensures done { HasCleanDisk (state S.Store conn.new) → OnOk result (StaysReady (state S.Store conn.old) (state S.Store conn.new)) }
-    ensures kept { HasCleanDisk (state S.Store conn.new) → IsTrue (state S.Store conn.new).is_open
-        → StaysReady (state S.Store conn.old) (state S.Store conn.new) }
-    ensures cause { IfErr result IsFirstFault }
-    ensures crash { CommitsNothing (state S.Store conn.old) (state S.Store conn.new) }
+    ensures reads { OnlyReads (state S.Store conn.old) (state S.Store conn.new) result }
 {
     let facts = gather(alloc, conn, command, months, run)?;
     match decide_on(alloc, &facts, command) {
@@ -56,11 +52,7 @@ fn ask_tables<S: Alter>(
     requires { HasCleanDisk (state S.Store conn.old) → IsReady (state S.Store conn.old) }
     ensures verdict { HasCleanDisk (state S.Store conn.new)
         → IfOk result (λ v. v ≡ verdict_on (tables (state S.Store conn.old)).books (tables (state S.Store conn.old)).open_run command.now) }
-    ensures done { HasCleanDisk (state S.Store conn.new) → OnOk result (StaysReady (state S.Store conn.old) (state S.Store conn.new)) }
-    ensures kept { HasCleanDisk (state S.Store conn.new) → IsTrue (state S.Store conn.new).is_open
-        → StaysReady (state S.Store conn.old) (state S.Store conn.new) }
-    ensures cause { IfErr result IsFirstFault }
-    ensures crash { CommitsNothing (state S.Store conn.old) (state S.Store conn.new) }
+    ensures reads { OnlyReads (state S.Store conn.old) (state S.Store conn.new) result }
 {
     let months = months_now(alloc, conn)?;
     let run = open_month(alloc, conn, months)?;

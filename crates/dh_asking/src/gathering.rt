@@ -1,15 +1,14 @@
 //! The facts on which a command is decided.
 
-ghost use Rattle.std.specs.Prelude.{◌≡◌, IsTrue, IfOk, IfErr, OnOk};
+ghost use Rattle.std.specs.Prelude.{◌≡◌, IfOk, OnOk};
 ghost use Rattle.std.specs.FinMap as fin;
 ghost use Rattle.sqlite.specs.State.{HasCleanDisk};
 ghost use Rattle.sqlite.specs.Held.{state};
 ghost use Rattle.dh_laws.specs.Looks.{Counts, IsCutOf, month_open};
 ghost use Rattle.dh_verdicts.specs.Seen.{facts_of};
-ghost use Rattle.dh_tables.specs.Calls.{CommitsNothing};
-ghost use Rattle.dh_schema.specs.Faults.{IsFirstFault};
-ghost use Rattle.dh_schema.specs.Store.{IsReady, StaysReady, tables};
+ghost use Rattle.dh_schema.specs.Store.{IsReady, tables};
 ghost use Rattle.dh_looks.specs.Months.{AreMonthsOf};
+ghost use Rattle.dh_looks.specs.Reading.{OnlyReads};
 ghost use Rattle.dh_asking.specs.Gathered.{Gathers, bare};
 
 use crate::accounts::{at_lease, at_receipt, at_run};
@@ -35,11 +34,7 @@ pub(crate) fn open_month<S: Alter>(
     requires ready { HasCleanDisk (state S.Store conn.old) → IsReady (state S.Store conn.old) }
     requires months { HasCleanDisk (state S.Store conn.old) → AreMonthsOf months (tables (state S.Store conn.old)).books }
     ensures month { HasCleanDisk (state S.Store conn.new) → IfOk result (λ run. month_open run ≡ month_open (tables (state S.Store conn.old)).open_run) }
-    ensures done { HasCleanDisk (state S.Store conn.new) → OnOk result (StaysReady (state S.Store conn.old) (state S.Store conn.new)) }
-    ensures kept { HasCleanDisk (state S.Store conn.new) → IsTrue (state S.Store conn.new).is_open
-        → StaysReady (state S.Store conn.old) (state S.Store conn.new) }
-    ensures cause { IfErr result IsFirstFault }
-    ensures crash { CommitsNothing (state S.Store conn.old) (state S.Store conn.new) }
+    ensures reads { OnlyReads (state S.Store conn.old) (state S.Store conn.new) result }
 {
     match find_open_run(alloc, conn, months)? {
         Some(run) => Ok(Some(OpenRun {
@@ -54,11 +49,7 @@ pub(crate) fn open_month<S: Alter>(
 fn receipt_count<S: Alter>(alloc: Global, conn: &mut Connection<S>) -> Result<usize, Fault>
     requires { HasCleanDisk (state S.Store conn.old) → IsReady (state S.Store conn.old) }
     ensures counted { HasCleanDisk (state S.Store conn.new) → IfOk result (λ count. count ≡ fin.len (tables (state S.Store conn.old)).books.receipts) }
-    ensures done { HasCleanDisk (state S.Store conn.new) → OnOk result (StaysReady (state S.Store conn.old) (state S.Store conn.new)) }
-    ensures kept { HasCleanDisk (state S.Store conn.new) → IsTrue (state S.Store conn.new).is_open
-        → StaysReady (state S.Store conn.old) (state S.Store conn.new) }
-    ensures cause { IfErr result IsFirstFault }
-    ensures crash { CommitsNothing (state S.Store conn.old) (state S.Store conn.new) }
+    ensures reads { OnlyReads (state S.Store conn.old) (state S.Store conn.new) result }
 {
     match last_receipt(alloc, conn) {
         Ok(Some(last)) => Ok(last.number.number() as usize),
@@ -75,11 +66,7 @@ fn count_for<S: Alter>(
 ) -> Result<usize, Fault>
     requires { HasCleanDisk (state S.Store conn.old) → IsReady (state S.Store conn.old) }
     ensures counted { HasCleanDisk (state S.Store conn.new) → IfOk result (λ count. Counts command.now (tables (state S.Store conn.old)).books.receipts count) }
-    ensures done { HasCleanDisk (state S.Store conn.new) → OnOk result (StaysReady (state S.Store conn.old) (state S.Store conn.new)) }
-    ensures kept { HasCleanDisk (state S.Store conn.new) → IsTrue (state S.Store conn.new).is_open
-        → StaysReady (state S.Store conn.old) (state S.Store conn.new) }
-    ensures cause { IfErr result IsFirstFault }
-    ensures crash { CommitsNothing (state S.Store conn.old) (state S.Store conn.new) }
+    ensures reads { OnlyReads (state S.Store conn.old) (state S.Store conn.new) result }
 {
     match command {
         Command::Receipt(_) => receipt_count(alloc, conn),
@@ -96,11 +83,7 @@ fn gather_rows<S: Alter>(
 ) -> Result<(), Fault>
     requires { HasCleanDisk (state S.Store conn.old) → IsReady (state S.Store conn.old) }
     ensures gathered { Gathers command.now result (state S.Store conn.old) books.old (state S.Store conn.new) books.new }
-    ensures done { HasCleanDisk (state S.Store conn.new) → OnOk result (StaysReady (state S.Store conn.old) (state S.Store conn.new)) }
-    ensures kept { HasCleanDisk (state S.Store conn.new) → IsTrue (state S.Store conn.new).is_open
-        → StaysReady (state S.Store conn.old) (state S.Store conn.new) }
-    ensures cause { IfErr result IsFirstFault }
-    ensures crash { CommitsNothing (state S.Store conn.old) (state S.Store conn.new) }
+    ensures reads { OnlyReads (state S.Store conn.old) (state S.Store conn.new) result }
 {
     match command {
         Command::Branch(branch) => at_branch(alloc, conn, branch, books),
@@ -133,11 +116,7 @@ fn gather_into<S: Alter>(
     requires run { HasCleanDisk (state S.Store conn.old) → month_open run ≡ month_open (tables (state S.Store conn.old)).open_run }
     ensures cut { HasCleanDisk (state S.Store conn.new) → facts.old.books ≡ bare (tables (state S.Store conn.old))
         → OnOk result (IsCutOf (facts_of facts.new) (tables (state S.Store conn.old)).books (tables (state S.Store conn.old)).open_run command.now) }
-    ensures done { HasCleanDisk (state S.Store conn.new) → OnOk result (StaysReady (state S.Store conn.old) (state S.Store conn.new)) }
-    ensures kept { HasCleanDisk (state S.Store conn.new) → IsTrue (state S.Store conn.new).is_open
-        → StaysReady (state S.Store conn.old) (state S.Store conn.new) }
-    ensures cause { IfErr result IsFirstFault }
-    ensures crash { CommitsNothing (state S.Store conn.old) (state S.Store conn.new) }
+    ensures reads { OnlyReads (state S.Store conn.old) (state S.Store conn.new) result }
 {
     gather_rows(alloc, conn, command, &mut facts.books)?;
     facts.books.set_open_run(run);
@@ -158,11 +137,7 @@ pub(crate) fn gather<S: Alter>(
     requires run { HasCleanDisk (state S.Store conn.old) → month_open run ≡ month_open (tables (state S.Store conn.old)).open_run }
     ensures cut { HasCleanDisk (state S.Store conn.new)
         → IfOk result (λ facts. IsCutOf (facts_of facts) (tables (state S.Store conn.old)).books (tables (state S.Store conn.old)).open_run command.now) }
-    ensures done { HasCleanDisk (state S.Store conn.new) → OnOk result (StaysReady (state S.Store conn.old) (state S.Store conn.new)) }
-    ensures kept { HasCleanDisk (state S.Store conn.new) → IsTrue (state S.Store conn.new).is_open
-        → StaysReady (state S.Store conn.old) (state S.Store conn.new) }
-    ensures cause { IfErr result IsFirstFault }
-    ensures crash { CommitsNothing (state S.Store conn.old) (state S.Store conn.new) }
+    ensures reads { OnlyReads (state S.Store conn.old) (state S.Store conn.new) result }
 {
     let books = Books::new(alloc, months.first(), months.next());
     let mut facts = Facts { books, receipts: 0 };

@@ -1,12 +1,10 @@
 //! What commands about branches, staff, owners and clients look at.
 
-ghost use Rattle.std.specs.Prelude.{IsTrue, IfErr, OnOk};
 ghost use Rattle.sqlite.specs.State.{HasCleanDisk};
 ghost use Rattle.sqlite.specs.Held.{state};
 ghost use Rattle.dh_types.specs.declared.command.Command.TheVariants as command;
-ghost use Rattle.dh_tables.specs.Calls.{CommitsNothing};
-ghost use Rattle.dh_schema.specs.Faults.{IsFirstFault};
-ghost use Rattle.dh_schema.specs.Store.{IsReady, StaysReady};
+ghost use Rattle.dh_schema.specs.Store.{IsReady};
+ghost use Rattle.dh_looks.specs.Reading.{OnlyReads};
 ghost use Rattle.dh_asking.specs.Gathered.{Gathers};
 
 use dh_books::Books;
@@ -25,11 +23,7 @@ pub(crate) fn at_branch<S: Alter>(
 ) -> Result<(), Fault>
     requires { HasCleanDisk (state S.Store conn.old) → IsReady (state S.Store conn.old) }
     ensures gathered { Gathers (command.Branch branch.now) result (state S.Store conn.old) books.old (state S.Store conn.new) books.new }
-    ensures done { HasCleanDisk (state S.Store conn.new) → OnOk result (StaysReady (state S.Store conn.old) (state S.Store conn.new)) }
-    ensures kept { HasCleanDisk (state S.Store conn.new) → IsTrue (state S.Store conn.new).is_open
-        → StaysReady (state S.Store conn.old) (state S.Store conn.new) }
-    ensures cause { IfErr result IsFirstFault }
-    ensures crash { CommitsNothing (state S.Store conn.old) (state S.Store conn.new) }
+    ensures reads { OnlyReads (state S.Store conn.old) (state S.Store conn.new) result }
 {
     look(
         alloc,
@@ -50,11 +44,7 @@ pub(crate) fn at_staff<S: Alter>(
 ) -> Result<(), Fault>
     requires { HasCleanDisk (state S.Store conn.old) → IsReady (state S.Store conn.old) }
     ensures gathered { Gathers (command.Staff member.now) result (state S.Store conn.old) books.old (state S.Store conn.new) books.new }
-    ensures done { HasCleanDisk (state S.Store conn.new) → OnOk result (StaysReady (state S.Store conn.old) (state S.Store conn.new)) }
-    ensures kept { HasCleanDisk (state S.Store conn.new) → IsTrue (state S.Store conn.new).is_open
-        → StaysReady (state S.Store conn.old) (state S.Store conn.new) }
-    ensures cause { IfErr result IsFirstFault }
-    ensures crash { CommitsNothing (state S.Store conn.old) (state S.Store conn.new) }
+    ensures reads { OnlyReads (state S.Store conn.old) (state S.Store conn.new) result }
 {
     look(
         alloc,
@@ -83,11 +73,7 @@ pub(crate) fn at_owner<S: Alter>(
 ) -> Result<(), Fault>
     requires { HasCleanDisk (state S.Store conn.old) → IsReady (state S.Store conn.old) }
     ensures gathered { Gathers (command.Owner owner.now) result (state S.Store conn.old) books.old (state S.Store conn.new) books.new }
-    ensures done { HasCleanDisk (state S.Store conn.new) → OnOk result (StaysReady (state S.Store conn.old) (state S.Store conn.new)) }
-    ensures kept { HasCleanDisk (state S.Store conn.new) → IsTrue (state S.Store conn.new).is_open
-        → StaysReady (state S.Store conn.old) (state S.Store conn.new) }
-    ensures cause { IfErr result IsFirstFault }
-    ensures crash { CommitsNothing (state S.Store conn.old) (state S.Store conn.new) }
+    ensures reads { OnlyReads (state S.Store conn.old) (state S.Store conn.new) result }
 {
     look(
         alloc,
@@ -108,11 +94,7 @@ pub(crate) fn at_client<S: Alter>(
 ) -> Result<(), Fault>
     requires { HasCleanDisk (state S.Store conn.old) → IsReady (state S.Store conn.old) }
     ensures gathered { Gathers (command.Client client.now) result (state S.Store conn.old) books.old (state S.Store conn.new) books.new }
-    ensures done { HasCleanDisk (state S.Store conn.new) → OnOk result (StaysReady (state S.Store conn.old) (state S.Store conn.new)) }
-    ensures kept { HasCleanDisk (state S.Store conn.new) → IsTrue (state S.Store conn.new).is_open
-        → StaysReady (state S.Store conn.old) (state S.Store conn.new) }
-    ensures cause { IfErr result IsFirstFault }
-    ensures crash { CommitsNothing (state S.Store conn.old) (state S.Store conn.new) }
+    ensures reads { OnlyReads (state S.Store conn.old) (state S.Store conn.new) result }
 {
     look(
         alloc,
@@ -133,11 +115,7 @@ pub(crate) fn at_register<S: Alter>(
 ) -> Result<(), Fault>
     requires { HasCleanDisk (state S.Store conn.old) → IsReady (state S.Store conn.old) }
     ensures gathered { Gathers (command.Register it.now) result (state S.Store conn.old) books.old (state S.Store conn.new) books.new }
-    ensures done { HasCleanDisk (state S.Store conn.new) → OnOk result (StaysReady (state S.Store conn.old) (state S.Store conn.new)) }
-    ensures kept { HasCleanDisk (state S.Store conn.new) → IsTrue (state S.Store conn.new).is_open
-        → StaysReady (state S.Store conn.old) (state S.Store conn.new) }
-    ensures cause { IfErr result IsFirstFault }
-    ensures crash { CommitsNothing (state S.Store conn.old) (state S.Store conn.new) }
+    ensures reads { OnlyReads (state S.Store conn.old) (state S.Store conn.new) result }
 {
     look(alloc, conn, &BranchNumbered { number: it.branch }, books)?;
     look(alloc, conn, &MemberNumbered { number: it.staff }, books)?;

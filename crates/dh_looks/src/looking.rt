@@ -1,6 +1,6 @@
 //! A look at rows of one table.
 
-ghost use Rattle.std.specs.Prelude.{◌≡◌, ◌||◌, Bool, IsTrue, IfErr, OnOk};
+ghost use Rattle.std.specs.Prelude.{◌≡◌, ◌||◌, Bool, OnOk};
 ghost use Rattle.std.specs.FinMap as fin;
 ghost use Rattle.sqlite_trees.specs.Tree.{Trees};
 ghost use Rattle.sqlite.specs.State.{HasCleanDisk};
@@ -8,11 +8,11 @@ ghost use Rattle.sqlite.specs.Held.{state};
 ghost use Rattle.dh_model.specs.Books.{State};
 ghost use Rattle.dh_model.specs.Whole.{rows_where};
 ghost use Rattle.dh_sql.specs.Shape.{IsKept, rows_in};
-ghost use Rattle.dh_tables.specs.Calls.{CommitsNothing, HasFetchedMore};
-ghost use Rattle.dh_schema.specs.Faults.{IsFirstFault};
-ghost use Rattle.dh_schema.specs.Store.{IsReady, StaysReady};
+ghost use Rattle.dh_tables.specs.Calls.{HasFetchedMore};
+ghost use Rattle.dh_schema.specs.Store.{IsReady};
 ghost use Rattle.dh_schema.specs.Tables.{AreInOrder, state_in};
 ghost use Rattle.dh_looks.specs.Looked.{AreBoth};
+ghost use Rattle.dh_looks.specs.Reading.{OnlyReads};
 
 use dh_books::Books;
 use dh_schema::fault_of;
@@ -167,11 +167,7 @@ where
         (state S.Store conn.new) books.new) }
     ensures put { HasCleanDisk (state S.Store conn.new)
         → OnOk result (HasFetchedMore L.Record.shape L.Record.order L.Record.shelf (L.asks question.now) (state S.Store conn.old) books.old books.new) }
-    ensures done { HasCleanDisk (state S.Store conn.new) → OnOk result (StaysReady (state S.Store conn.old) (state S.Store conn.new)) }
-    ensures kept { HasCleanDisk (state S.Store conn.new) → IsTrue (state S.Store conn.new).is_open
-        → StaysReady (state S.Store conn.old) (state S.Store conn.new) }
-    ensures cause { IfErr result IsFirstFault }
-    ensures crash { CommitsNothing (state S.Store conn.old) (state S.Store conn.new) }
+    ensures reads { OnlyReads (state S.Store conn.old) (state S.Store conn.new) result }
 {
     match fetch_more(alloc, conn, question, books) {
         Ok(true) => Ok(()),
@@ -190,11 +186,7 @@ pub fn look_at_all<R: Listed, S: Alter>(
     requires none { HasCleanDisk (state S.Store conn.old) → R.shelf.held books.old ≡ fin.empty }
     ensures taken { HasCleanDisk (state S.Store conn.new)
         → OnOk result (books.new ≡ R.shelf.with books.old (rows_in R.shape (state S.Store conn.old).now.trees)) }
-    ensures done { HasCleanDisk (state S.Store conn.new) → OnOk result (StaysReady (state S.Store conn.old) (state S.Store conn.new)) }
-    ensures kept { HasCleanDisk (state S.Store conn.new) → IsTrue (state S.Store conn.new).is_open
-        → StaysReady (state S.Store conn.old) (state S.Store conn.new) }
-    ensures cause { IfErr result IsFirstFault }
-    ensures crash { CommitsNothing (state S.Store conn.old) (state S.Store conn.new) }
+    ensures reads { OnlyReads (state S.Store conn.old) (state S.Store conn.new) result }
 {
     match gather_all::<R, S>(alloc, conn, books) {
         Ok(true) => Ok(()),

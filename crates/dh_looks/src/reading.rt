@@ -1,6 +1,6 @@
 //! The rows that a command or a question looks at.
 
-ghost use Rattle.std.specs.Prelude.{◌≡◌, ◌-◌, IsTrue, IfOk, IfErr, OnOk, OnErr};
+ghost use Rattle.std.specs.Prelude.{◌≡◌, ◌-◌, IfOk};
 ghost use Rattle.std.specs.FinMap.{get};
 ghost use Rattle.sqlite.specs.State.{HasCleanDisk};
 ghost use Rattle.sqlite.specs.Held.{state};
@@ -8,10 +8,9 @@ ghost use Rattle.dh_days.specs.declared.limits.TheConstants.{FIRST_MONTH};
 ghost use Rattle.dh_model.specs.Books.{start};
 ghost use Rattle.dh_model.specs.Whole.{open_row};
 ghost use Rattle.dh_laws.specs.Looks.{unless_closed};
-ghost use Rattle.dh_tables.specs.Calls.{CommitsNothing};
-ghost use Rattle.dh_schema.specs.Faults.{IsFirstFault};
-ghost use Rattle.dh_schema.specs.Store.{IsReady, StaysReady, tables};
+ghost use Rattle.dh_schema.specs.Store.{IsReady, tables};
 ghost use Rattle.dh_looks.specs.Months.{AreMonthsOf};
+ghost use Rattle.dh_looks.specs.Reading.{OnlyReads};
 
 use dh_books::Books;
 use dh_days::limits::FIRST_MONTH;
@@ -34,11 +33,7 @@ pub fn no_rows(alloc: Global) -> Books
 pub fn months_now<S: Alter>(alloc: Global, conn: &mut Connection<S>) -> Result<Meta, Fault>
     requires { HasCleanDisk (state S.Store conn.old) → IsReady (state S.Store conn.old) }
     ensures found { HasCleanDisk (state S.Store conn.new) → IfOk result (λ months. AreMonthsOf months (tables (state S.Store conn.old)).books) }
-    ensures done { HasCleanDisk (state S.Store conn.new) → OnOk result (StaysReady (state S.Store conn.old) (state S.Store conn.new)) }
-    ensures undone { HasCleanDisk (state S.Store conn.new) → IsTrue (state S.Store conn.new).is_open
-        → OnErr result (StaysReady (state S.Store conn.old) (state S.Store conn.new)) }
-    ensures cause { IfErr result IsFirstFault }
-    ensures crash { CommitsNothing (state S.Store conn.old) (state S.Store conn.new) }
+    ensures reads { OnlyReads (state S.Store conn.old) (state S.Store conn.new) result }
 {
     match find_meta(alloc, conn) {
         Ok(Some(months)) => Ok(months),
@@ -57,11 +52,7 @@ fn last_run<S: Alter>(
     requires months { HasCleanDisk (state S.Store conn.old) → AreMonthsOf months (tables (state S.Store conn.old)).books }
     ensures found { HasCleanDisk (state S.Store conn.new)
         → IfOk result (λ run. run ≡ get (tables (state S.Store conn.old)).books.runs ((tables (state S.Store conn.old)).books.next - 1)) }
-    ensures done { HasCleanDisk (state S.Store conn.new) → OnOk result (StaysReady (state S.Store conn.old) (state S.Store conn.new)) }
-    ensures undone { HasCleanDisk (state S.Store conn.new) → IsTrue (state S.Store conn.new).is_open
-        → OnErr result (StaysReady (state S.Store conn.old) (state S.Store conn.new)) }
-    ensures cause { IfErr result IsFirstFault }
-    ensures crash { CommitsNothing (state S.Store conn.old) (state S.Store conn.new) }
+    ensures reads { OnlyReads (state S.Store conn.old) (state S.Store conn.new) result }
 {
     let next = months.next().number();
     if next <= months.first().number() {
@@ -94,11 +85,7 @@ pub fn find_open_run<S: Alter>(
     requires ready { HasCleanDisk (state S.Store conn.old) → IsReady (state S.Store conn.old) }
     requires months { HasCleanDisk (state S.Store conn.old) → AreMonthsOf months (tables (state S.Store conn.old)).books }
     ensures found { HasCleanDisk (state S.Store conn.new) → IfOk result (λ run. run ≡ open_row (tables (state S.Store conn.old)).books) }
-    ensures done { HasCleanDisk (state S.Store conn.new) → OnOk result (StaysReady (state S.Store conn.old) (state S.Store conn.new)) }
-    ensures undone { HasCleanDisk (state S.Store conn.new) → IsTrue (state S.Store conn.new).is_open
-        → OnErr result (StaysReady (state S.Store conn.old) (state S.Store conn.new)) }
-    ensures cause { IfErr result IsFirstFault }
-    ensures crash { CommitsNothing (state S.Store conn.old) (state S.Store conn.new) }
+    ensures reads { OnlyReads (state S.Store conn.old) (state S.Store conn.new) result }
 {
     let run = last_run(alloc, conn, months)?;
     Ok(unless_closed(run))

@@ -8,9 +8,9 @@ ghost use Rattle.sqlite_trees.specs.View.{doubt};
 ghost use Rattle.dh_model.specs.Rules.{parts_in};
 ghost use Rattle.dh_model.specs.Runs.{batch_size, batches};
 ghost use Rattle.dh_laws.specs.Batches.{IsAtItsEnd, closed_state, sum_told};
-ghost use Rattle.dh_tables.specs.Calls.{CommitsNothing};
 ghost use Rattle.dh_schema.specs.Faults.{IsFirstFault};
 ghost use Rattle.dh_schema.specs.Store.{Commits, IsReady, IsReadyWith, Leaves, StaysReady, tables};
+ghost use Rattle.dh_looks.specs.Reading.{OnlyReads};
 ghost use Rattle.dh_posting.specs.Closing.{IsOpenMonth, IsSumOfOpen, sum_of_parts};
 
 use dh_books::Books;
@@ -48,11 +48,7 @@ fn month_sum<S: Alter>(
     requires { HasCleanDisk (state S.Store conn.old) → IsReady (state S.Store conn.old) }
     ensures told { HasCleanDisk (state S.Store conn.new)
         → IfOk result (λ sum. sum ≡ sum_of_parts month (parts_in (tables (state S.Store conn.old)).books month)) }
-    ensures done { HasCleanDisk (state S.Store conn.new) → OnOk result (StaysReady (state S.Store conn.old) (state S.Store conn.new)) }
-    ensures undone { HasCleanDisk (state S.Store conn.new) → IsTrue (state S.Store conn.new).is_open
-        → OnErr result (StaysReady (state S.Store conn.old) (state S.Store conn.new)) }
-    ensures cause { IfErr result IsFirstFault }
-    ensures crash { CommitsNothing (state S.Store conn.old) (state S.Store conn.new) }
+    ensures reads { OnlyReads (state S.Store conn.old) (state S.Store conn.new) result }
 {
     let mut books = no_rows(alloc);
     look(alloc, conn, &PartsOfMonth { month }, &mut books)?;
@@ -135,11 +131,7 @@ pub fn close_month<S: Alter>(
 fn open_month<S: Alter>(alloc: Global, conn: &mut Connection<S>) -> Result<EntryMonth, Fault>
     requires { HasCleanDisk (state S.Store conn.old) → IsReady (state S.Store conn.old) }
     ensures told { HasCleanDisk (state S.Store conn.new) → IfOk result (IsOpenMonth (tables (state S.Store conn.old)).books) }
-    ensures done { HasCleanDisk (state S.Store conn.new) → OnOk result (StaysReady (state S.Store conn.old) (state S.Store conn.new)) }
-    ensures undone { HasCleanDisk (state S.Store conn.new) → IsTrue (state S.Store conn.new).is_open
-        → OnErr result (StaysReady (state S.Store conn.old) (state S.Store conn.new)) }
-    ensures cause { IfErr result IsFirstFault }
-    ensures crash { CommitsNothing (state S.Store conn.old) (state S.Store conn.new) }
+    ensures reads { OnlyReads (state S.Store conn.old) (state S.Store conn.new) result }
 {
     let months = months_now(alloc, conn)?;
     match find_open_run(alloc, conn, months)? {

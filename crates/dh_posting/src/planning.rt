@@ -11,9 +11,9 @@ ghost use Rattle.dh_model.specs.Books.{start};
 ghost use Rattle.dh_model.specs.Runs.{batch_size, batches_for};
 ghost use Rattle.dh_model.specs.Whole.{batches_shown};
 ghost use Rattle.dh_plans.specs.Plans.{HaveTheLeases, IsPlanOf, IsPlanned};
-ghost use Rattle.dh_tables.specs.Calls.{CommitsNothing};
 ghost use Rattle.dh_schema.specs.Faults.{IsFirstFault};
 ghost use Rattle.dh_schema.specs.Store.{IsReady, Leaves, StaysReady, tables};
+ghost use Rattle.dh_looks.specs.Reading.{OnlyReads};
 
 use dh_books::Books;
 use dh_leases::batches_for;
@@ -48,11 +48,7 @@ fn done_in<S: Alter>(
     requires { HasCleanDisk (state S.Store conn.old) → IsReady (state S.Store conn.old) }
     ensures told { HasCleanDisk (state S.Store conn.new)
         → IfOk result (λ done. done ≡ batches_shown batch_size (tables (state S.Store conn.old)).books month) }
-    ensures done { HasCleanDisk (state S.Store conn.new) → OnOk result (StaysReady (state S.Store conn.old) (state S.Store conn.new)) }
-    ensures undone { HasCleanDisk (state S.Store conn.new) → IsTrue (state S.Store conn.new).is_open
-        → OnErr result (StaysReady (state S.Store conn.old) (state S.Store conn.new)) }
-    ensures cause { IfErr result IsFirstFault }
-    ensures crash { CommitsNothing (state S.Store conn.old) (state S.Store conn.new) }
+    ensures reads { OnlyReads (state S.Store conn.old) (state S.Store conn.new) result }
 {
     let mut books = no_rows(alloc);
     look(alloc, conn, &PartsOfMonth { month }, &mut books)?;
@@ -63,11 +59,7 @@ fn done_in<S: Alter>(
 fn run_now<S: Alter>(alloc: Global, conn: &mut Connection<S>) -> Result<Option<OpenRun>, Fault>
     requires { HasCleanDisk (state S.Store conn.old) → IsReady (state S.Store conn.old) }
     ensures told { HasCleanDisk (state S.Store conn.new) → IfOk result (λ run. run ≡ (tables (state S.Store conn.old)).open_run) }
-    ensures done { HasCleanDisk (state S.Store conn.new) → OnOk result (StaysReady (state S.Store conn.old) (state S.Store conn.new)) }
-    ensures undone { HasCleanDisk (state S.Store conn.new) → IsTrue (state S.Store conn.new).is_open
-        → OnErr result (StaysReady (state S.Store conn.old) (state S.Store conn.new)) }
-    ensures cause { IfErr result IsFirstFault }
-    ensures crash { CommitsNothing (state S.Store conn.old) (state S.Store conn.new) }
+    ensures reads { OnlyReads (state S.Store conn.old) (state S.Store conn.new) result }
 {
     let months = months_now(alloc, conn)?;
     let Some(run) = find_open_run(alloc, conn, months)? else {
@@ -89,11 +81,7 @@ fn look_at_leases<S: Alter>(
     requires ready { HasCleanDisk (state S.Store conn.old) → IsReady (state S.Store conn.old) }
     requires none { books.old ≡ start FIRST_MONTH }
     ensures taken { HasCleanDisk (state S.Store conn.new) → OnOk result (HaveTheLeases books.new.books (tables (state S.Store conn.old)).books) }
-    ensures done { HasCleanDisk (state S.Store conn.new) → OnOk result (StaysReady (state S.Store conn.old) (state S.Store conn.new)) }
-    ensures undone { HasCleanDisk (state S.Store conn.new) → IsTrue (state S.Store conn.new).is_open
-        → OnErr result (StaysReady (state S.Store conn.old) (state S.Store conn.new)) }
-    ensures cause { IfErr result IsFirstFault }
-    ensures crash { CommitsNothing (state S.Store conn.old) (state S.Store conn.new) }
+    ensures reads { OnlyReads (state S.Store conn.old) (state S.Store conn.new) result }
 {
     look_at_all::<Branch, S>(alloc, conn, books)?;
     look_at_all::<Property, S>(alloc, conn, books)?;
@@ -105,11 +93,7 @@ fn plan_open<S: Alter>(alloc: Global, conn: &mut Connection<S>, run: OpenRun) ->
     requires ready { HasCleanDisk (state S.Store conn.old) → IsReady (state S.Store conn.old) }
     requires run { HasCleanDisk (state S.Store conn.old) → (tables (state S.Store conn.old)).open_run ≡ Some run }
     ensures told { HasCleanDisk (state S.Store conn.new) → IfOk result (λ plan. IsPlanOf plan (tables (state S.Store conn.old))) }
-    ensures done { HasCleanDisk (state S.Store conn.new) → OnOk result (StaysReady (state S.Store conn.old) (state S.Store conn.new)) }
-    ensures undone { HasCleanDisk (state S.Store conn.new) → IsTrue (state S.Store conn.new).is_open
-        → OnErr result (StaysReady (state S.Store conn.old) (state S.Store conn.new)) }
-    ensures cause { IfErr result IsFirstFault }
-    ensures crash { CommitsNothing (state S.Store conn.old) (state S.Store conn.new) }
+    ensures reads { OnlyReads (state S.Store conn.old) (state S.Store conn.new) result }
 {
     let mut books = no_rows(alloc);
     look_at_leases(alloc, conn, &mut books)?;

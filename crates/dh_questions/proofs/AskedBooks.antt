@@ -132,7 +132,3 @@ if_ok (Err e) f h = tt
 pub on_ok_all : {X E A : Type 0} (r : Result X E) → A → OnOk r A
 on_ok_all (Ok x) it = it
 on_ok_all (Err e) it = tt
-
-pub on_err_all : {X E A : Type 0} (r : Result X E) → A → OnErr r A
-on_err_all (Ok x) it = tt
-on_err_all (Err e) it = it

@@ -16,9 +16,9 @@ ghost use Rattle.dh_model.specs.Checks.{is_same_text};
 ghost use Rattle.dh_model.specs.MachineLaws.{is_put_off};
 ghost use Rattle.dh_model.specs.Whole.{rows_where};
 ghost use Rattle.dh_laws.specs.AskedAbout.{account_of, asked_about, leases_at, let_or_vacant, with_accounts};
-ghost use Rattle.dh_tables.specs.Calls.{CommitsNothing};
 ghost use Rattle.dh_schema.specs.Faults.{IsFirstFault};
 ghost use Rattle.dh_schema.specs.Store.{IsReady, Leaves, StaysReady, tables};
+ghost use Rattle.dh_looks.specs.Reading.{OnlyReads};
 
 use dh_books::Books;
 use dh_lists::{answer, is_put_off};
@@ -43,11 +43,7 @@ fn gather_lettings<S: Alter>(
     requires none { books.old ≡ start FIRST_MONTH }
     ensures taken { HasCleanDisk (state S.Store conn.new)
         → OnOk result (books.new ≡ record { books = let_or_vacant (tables (state S.Store conn.old)).books; open_run = None }) }
-    ensures done { HasCleanDisk (state S.Store conn.new) → OnOk result (StaysReady (state S.Store conn.old) (state S.Store conn.new)) }
-    ensures undone { HasCleanDisk (state S.Store conn.new) → IsTrue (state S.Store conn.new).is_open
-        → OnErr result (StaysReady (state S.Store conn.old) (state S.Store conn.new)) }
-    ensures cause { IfErr result IsFirstFault }
-    ensures crash { CommitsNothing (state S.Store conn.old) (state S.Store conn.new) }
+    ensures reads { OnlyReads (state S.Store conn.old) (state S.Store conn.new) result }
 {
     look_at_all::<Property, S>(alloc, conn, books)?;
     look_at_all::<Lease, S>(alloc, conn, books)?;
@@ -70,11 +66,7 @@ fn gather_matching<S: Alter>(
           };
           open_run = None;
         }) }
-    ensures done { HasCleanDisk (state S.Store conn.new) → OnOk result (StaysReady (state S.Store conn.old) (state S.Store conn.new)) }
-    ensures undone { HasCleanDisk (state S.Store conn.new) → IsTrue (state S.Store conn.new).is_open
-        → OnErr result (StaysReady (state S.Store conn.old) (state S.Store conn.new)) }
-    ensures cause { IfErr result IsFirstFault }
-    ensures crash { CommitsNothing (state S.Store conn.old) (state S.Store conn.new) }
+    ensures reads { OnlyReads (state S.Store conn.old) (state S.Store conn.new) result }
 {
     gather_lettings(alloc, conn, books)?;
     look(alloc, conn, &ClientNumbered { number: client }, books)?;
@@ -92,11 +84,7 @@ fn gather_account<S: Alter>(
     requires none { books.old ≡ start FIRST_MONTH }
     ensures taken { HasCleanDisk (state S.Store conn.new)
         → OnOk result (books.new ≡ record { books = account_of (tables (state S.Store conn.old)).books lease; open_run = None }) }
-    ensures done { HasCleanDisk (state S.Store conn.new) → OnOk result (StaysReady (state S.Store conn.old) (state S.Store conn.new)) }
-    ensures undone { HasCleanDisk (state S.Store conn.new) → IsTrue (state S.Store conn.new).is_open
-        → OnErr result (StaysReady (state S.Store conn.old) (state S.Store conn.new)) }
-    ensures cause { IfErr result IsFirstFault }
-    ensures crash { CommitsNothing (state S.Store conn.old) (state S.Store conn.new) }
+    ensures reads { OnlyReads (state S.Store conn.old) (state S.Store conn.new) result }
 {
     look(alloc, conn, &LeaseNumbered { number: lease }, books)?;
     look(alloc, conn, &ChargesOfLease { lease }, books)?;
@@ -115,11 +103,7 @@ fn gather_run<S: Alter>(
     requires none { books.old ≡ start FIRST_MONTH }
     ensures taken { HasCleanDisk (state S.Store conn.new)
         → OnOk result (books.new ≡ record { books = asked_about (tables (state S.Store conn.old)).books (asked.Run month); open_run = None }) }
-    ensures done { HasCleanDisk (state S.Store conn.new) → OnOk result (StaysReady (state S.Store conn.old) (state S.Store conn.new)) }
-    ensures undone { HasCleanDisk (state S.Store conn.new) → IsTrue (state S.Store conn.new).is_open
-        → OnErr result (StaysReady (state S.Store conn.old) (state S.Store conn.new)) }
-    ensures cause { IfErr result IsFirstFault }
-    ensures crash { CommitsNothing (state S.Store conn.old) (state S.Store conn.new) }
+    ensures reads { OnlyReads (state S.Store conn.old) (state S.Store conn.new) result }
 {
     look(alloc, conn, &RunOf { month }, books)?;
     look(alloc, conn, &PartsOfMonth { month }, books)?;
@@ -158,11 +142,7 @@ fn gather_leases<S: Alter>(
             leases = rows_where (λ lease. list_any (is_same_text lease.terms.property) properties.now) (tables (state S.Store conn.old)).books.leases;
           };
         }) }
-    ensures done { HasCleanDisk (state S.Store conn.new) → OnOk result (StaysReady (state S.Store conn.old) (state S.Store conn.new)) }
-    ensures undone { HasCleanDisk (state S.Store conn.new) → IsTrue (state S.Store conn.new).is_open
-        → OnErr result (StaysReady (state S.Store conn.old) (state S.Store conn.new)) }
-    ensures cause { IfErr result IsFirstFault }
-    ensures crash { CommitsNothing (state S.Store conn.old) (state S.Store conn.new) }
+    ensures reads { OnlyReads (state S.Store conn.old) (state S.Store conn.new) result }
 {
     for property in properties {
         let number = *property;
@@ -182,11 +162,7 @@ fn put_account<S: Alter>(
     ensures taken { HasCleanDisk (state S.Store conn.new) → OnOk result ((rows : books_model) (before : List lease_row)
         → books.old.books ≡ with_accounts (tables (state S.Store conn.old)).books rows before
         → books.new ≡ record books.old { books = with_accounts (tables (state S.Store conn.old)).books rows (before ++ lease.now ∷ []) }) }
-    ensures done { HasCleanDisk (state S.Store conn.new) → OnOk result (StaysReady (state S.Store conn.old) (state S.Store conn.new)) }
-    ensures undone { HasCleanDisk (state S.Store conn.new) → IsTrue (state S.Store conn.new).is_open
-        → OnErr result (StaysReady (state S.Store conn.old) (state S.Store conn.new)) }
-    ensures cause { IfErr result IsFirstFault }
-    ensures crash { CommitsNothing (state S.Store conn.old) (state S.Store conn.new) }
+    ensures reads { OnlyReads (state S.Store conn.old) (state S.Store conn.new) result }
 {
     let number = lease.terms.number;
     let client = lease.terms.client;
@@ -208,11 +184,7 @@ fn gather_accounts<S: Alter>(
         → books.old.books ≡ record books.old.books { clients = fin.empty; charges = fin.empty; receipts = fin.empty } }
     ensures taken { HasCleanDisk (state S.Store conn.new)
         → OnOk result (books.new ≡ record books.old { books = with_accounts (tables (state S.Store conn.old)).books books.old.books leases.now }) }
-    ensures done { HasCleanDisk (state S.Store conn.new) → OnOk result (StaysReady (state S.Store conn.old) (state S.Store conn.new)) }
-    ensures undone { HasCleanDisk (state S.Store conn.new) → IsTrue (state S.Store conn.new).is_open
-        → OnErr result (StaysReady (state S.Store conn.old) (state S.Store conn.new)) }
-    ensures cause { IfErr result IsFirstFault }
-    ensures crash { CommitsNothing (state S.Store conn.old) (state S.Store conn.new) }
+    ensures reads { OnlyReads (state S.Store conn.old) (state S.Store conn.new) result }
 {
     for lease in leases {
         put_account(alloc, conn, lease, books)?;
@@ -253,11 +225,7 @@ fn gather_branch<S: Alter>(
     requires none { books.old ≡ start FIRST_MONTH }
     ensures taken { HasCleanDisk (state S.Store conn.new)
         → OnOk result (books.new ≡ record { books = leases_at (tables (state S.Store conn.old)).books branch; open_run = None }) }
-    ensures done { HasCleanDisk (state S.Store conn.new) → OnOk result (StaysReady (state S.Store conn.old) (state S.Store conn.new)) }
-    ensures undone { HasCleanDisk (state S.Store conn.new) → IsTrue (state S.Store conn.new).is_open
-        → OnErr result (StaysReady (state S.Store conn.old) (state S.Store conn.new)) }
-    ensures cause { IfErr result IsFirstFault }
-    ensures crash { CommitsNothing (state S.Store conn.old) (state S.Store conn.new) }
+    ensures reads { OnlyReads (state S.Store conn.old) (state S.Store conn.new) result }
 {
     look(alloc, conn, &BranchNumbered { number: branch }, books)?;
     look_at_all::<Property, S>(alloc, conn, books)?;
@@ -277,11 +245,7 @@ fn gather_arrears<S: Alter>(
     requires none { books.old ≡ start FIRST_MONTH }
     ensures taken { HasCleanDisk (state S.Store conn.new)
         → OnOk result (books.new ≡ record { books = asked_about (tables (state S.Store conn.old)).books (asked.Arrears branch); open_run = None }) }
-    ensures done { HasCleanDisk (state S.Store conn.new) → OnOk result (StaysReady (state S.Store conn.old) (state S.Store conn.new)) }
-    ensures undone { HasCleanDisk (state S.Store conn.new) → IsTrue (state S.Store conn.new).is_open
-        → OnErr result (StaysReady (state S.Store conn.old) (state S.Store conn.new)) }
-    ensures cause { IfErr result IsFirstFault }
-    ensures crash { CommitsNothing (state S.Store conn.old) (state S.Store conn.new) }
+    ensures reads { OnlyReads (state S.Store conn.old) (state S.Store conn.new) result }
 {
     gather_branch(alloc, conn, branch, books)?;
     let leases = held_leases(alloc, books)?;
@@ -300,11 +264,7 @@ fn gather<S: Alter>(
     requires none { books.old ≡ start FIRST_MONTH }
     ensures taken { HasCleanDisk (state S.Store conn.new)
         → OnOk result (books.new ≡ record { books = asked_about (tables (state S.Store conn.old)).books question.now; open_run = None }) }
-    ensures done { HasCleanDisk (state S.Store conn.new) → OnOk result (StaysReady (state S.Store conn.old) (state S.Store conn.new)) }
-    ensures undone { HasCleanDisk (state S.Store conn.new) → IsTrue (state S.Store conn.new).is_open
-        → OnErr result (StaysReady (state S.Store conn.old) (state S.Store conn.new)) }
-    ensures cause { IfErr result IsFirstFault }
-    ensures crash { CommitsNothing (state S.Store conn.old) (state S.Store conn.new) }
+    ensures reads { OnlyReads (state S.Store conn.old) (state S.Store conn.new) result }
 {
     match *question {
         Question::Branches => look_at_all::<Branch, S>(alloc, conn, books),
@@ -336,11 +296,7 @@ fn answer_now<S: Alter>(
     requires ready { HasCleanDisk (state S.Store conn.old) → IsReady (state S.Store conn.old) }
     ensures answer { HasCleanDisk (state S.Store conn.new) → (is_put_off question.now ≡ true → (tables (state S.Store conn.old)).open_run ≡ None)
         → IfOk result (λ a. report_of a ≡ report (tables (state S.Store conn.old)) question.now) }
-    ensures done { HasCleanDisk (state S.Store conn.new) → OnOk result (StaysReady (state S.Store conn.old) (state S.Store conn.new)) }
-    ensures undone { HasCleanDisk (state S.Store conn.new) → IsTrue (state S.Store conn.new).is_open
-        → OnErr result (StaysReady (state S.Store conn.old) (state S.Store conn.new)) }
-    ensures cause { IfErr result IsFirstFault }
-    ensures crash { CommitsNothing (state S.Store conn.old) (state S.Store conn.new) }
+    ensures reads { OnlyReads (state S.Store conn.old) (state S.Store conn.new) result }
 {
     let mut books = no_rows(alloc);
     gather(alloc, conn, question, &mut books)?;
@@ -356,11 +312,7 @@ fn answer_put_off<S: Alter>(
     requires ready { HasCleanDisk (state S.Store conn.old) → IsReady (state S.Store conn.old) }
     requires off { is_put_off question.now ≡ true }
     ensures answer { HasCleanDisk (state S.Store conn.new) → IfOk result (λ a. report_of a ≡ report (tables (state S.Store conn.old)) question.now) }
-    ensures done { HasCleanDisk (state S.Store conn.new) → OnOk result (StaysReady (state S.Store conn.old) (state S.Store conn.new)) }
-    ensures undone { HasCleanDisk (state S.Store conn.new) → IsTrue (state S.Store conn.new).is_open
-        → OnErr result (StaysReady (state S.Store conn.old) (state S.Store conn.new)) }
-    ensures cause { IfErr result IsFirstFault }
-    ensures crash { CommitsNothing (state S.Store conn.old) (state S.Store conn.new) }
+    ensures reads { OnlyReads (state S.Store conn.old) (state S.Store conn.new) result }
 {
     let months = months_now(alloc, conn)?;
     let found = find_open_run(alloc, conn, months)?;
@@ -378,11 +330,7 @@ fn answer_question<S: Alter>(
 ) -> Result<Answer, Fault>
     requires ready { HasCleanDisk (state S.Store conn.old) → IsReady (state S.Store conn.old) }
     ensures answer { HasCleanDisk (state S.Store conn.new) → IfOk result (λ a. report_of a ≡ report (tables (state S.Store conn.old)) question.now) }
-    ensures done { HasCleanDisk (state S.Store conn.new) → OnOk result (StaysReady (state S.Store conn.old) (state S.Store conn.new)) }
-    ensures undone { HasCleanDisk (state S.Store conn.new) → IsTrue (state S.Store conn.new).is_open
-        → OnErr result (StaysReady (state S.Store conn.old) (state S.Store conn.new)) }
-    ensures cause { IfErr result IsFirstFault }
-    ensures crash { CommitsNothing (state S.Store conn.old) (state S.Store conn.new) }
+    ensures reads { OnlyReads (state S.Store conn.old) (state S.Store conn.new) result }
 {
     if is_put_off(question) {
         answer_put_off(alloc, conn, question)

@@ -13,7 +13,7 @@ returns-in-Some-clause-gathered g c t b both none among =
     let terms = c.args.terms.now in
     on_ok c.look.result
     (λ after clean.
-    let early : HasCleanDisk (state g.S.Store c.args.conn.now) = omega (arith, c.look.ensures.crash.clean, clean) in
+    let early : HasCleanDisk (state g.S.Store c.args.conn.now) = omega (arith, c.look.ensures.reads.crash.clean, clean) in
     let there = ap option_copied (sym c.in-Some.is) ∙ property_found (state g.S.Store c.args.conn.now).now.trees t b terms.property _ (both early).0 among
     (c.property.ensures ∙ ap (λ (s : State). get s.books.properties terms.property) (both early).1) in (
       (after clean).0,

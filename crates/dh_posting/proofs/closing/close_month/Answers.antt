@@ -12,16 +12,16 @@ use Rattle.dh_posting.proofs.closing.close_month.Goals as goal
 pub close_with-requires-clause-end : goal.close_with-requires-clause-end
 close_with-requires-clause-end g c mid =
     let old = state g.S.Store c.args.conn.now in
-    let early : HasCleanDisk old = omega (arith, c.month_sum.ensures.crash.clean, mid) in
-    let same = (c.in_ok-sum.ensures.done mid).1 in
+    let early : HasCleanDisk old = omega (arith, c.month_sum.ensures.reads.crash.clean, mid) in
+    let same = (c.in_ok-sum.ensures.reads.done mid).1 in
     subst (λ (t : State). IsAtItsEnd t.books t.open_run) (sym same)
     (subst (λ (run : Option OpenRun). IsAtItsEnd (tables old).books run) (sym (c.requires.end early)) refl)
 
 pub close_with-requires-clause-sum : goal.close_with-requires-clause-sum
 close_with-requires-clause-sum g c mid =
     let old = state g.S.Store c.args.conn.now in
-    let early : HasCleanDisk old = omega (arith, c.month_sum.ensures.crash.clean, mid) in
-    let same = (c.in_ok-sum.ensures.done mid).1 in
+    let early : HasCleanDisk old = omega (arith, c.month_sum.ensures.reads.crash.clean, mid) in
+    let same = (c.in_ok-sum.ensures.reads.done mid).1 in
     subst (λ (t : State). IsSumOfOpen c.in_ok-sum.sum t.books) (sym same)
     (sum_of_open (tables old) c.args.month c.in_ok-sum.sum (ready_in_order old (c.requires.ready early)) (c.requires.end early) (c.in_ok-sum.ensures.told mid))
 
@@ -29,7 +29,7 @@ pub returns-clause-told : goal.returns-clause-told
 returns-clause-told g c clean =
     let old = state g.S.Store c.args.conn.now in
     let mid : HasCleanDisk (state g.S.Store c.month_sum.new.conn) = omega (arith, c.close_with.ensures.was_clean, clean) in
-    let early : HasCleanDisk old = omega (arith, c.month_sum.ensures.crash.clean, mid) in
+    let early : HasCleanDisk old = omega (arith, c.month_sum.ensures.reads.crash.clean, mid) in
     let order = ready_in_order old (c.requires.ready early) in
     let end = c.requires.end early in
     let at_end = subst (λ (run : Option OpenRun). IsAtItsEnd (tables old).books run) (sym end) refl in

@@ -10,8 +10,8 @@ use Rattle.dh_posting.proofs.closing.close_run.Goals as goal
 pub close_month-requires-clause-end : goal.close_month-requires-clause-end
 close_month-requires-clause-end g c mid =
     let old = state g.S.Store c.args.conn.now in
-    let early : HasCleanDisk old = omega (arith, c.open_month.ensures.crash.clean, mid) in
-    let same = (c.in_ok-month.ensures.done mid).1 in
+    let early : HasCleanDisk old = omega (arith, c.open_month.ensures.reads.crash.clean, mid) in
+    let same = (c.in_ok-month.ensures.reads.done mid).1 in
     let t = tables old in
     subst (λ (now : State). now.open_run ≡ Some (record { month = c.in_ok-month.month; done = batches batch_size now.books c.in_ok-month.month })) (sym same)
     (at_end_of t.books t.open_run c.in_ok-month.month (c.in_ok-month.ensures.told mid) (c.requires.end early) (ready_in_order old (c.requires.ready early)))

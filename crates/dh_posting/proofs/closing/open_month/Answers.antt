@@ -5,4 +5,4 @@ use Rattle.dh_posting.proofs.closing.open_month.Goals as goal
 pub find_open_run-requires-clause-months : goal.find_open_run-requires-clause-months
 find_open_run-requires-clause-months g c mid =
     months_stay c.in_ok-months.months (state g.S.Store c.args.conn.now) (state g.S.Store c.months_now.new.conn) (c.in_ok-months.ensures.found mid)
-    (c.in_ok-months.ensures.done mid)
+    (c.in_ok-months.ensures.reads.done mid)

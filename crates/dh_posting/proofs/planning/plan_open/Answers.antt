@@ -8,5 +8,5 @@ use Rattle.dh_posting.proofs.planning.plan_open.Goals as goal
 pub returns-in-Ok-clause-told : goal.returns-in-Ok-clause-told
 returns-in-Ok-clause-told g c clean =
     let old = state g.S.Store c.args.conn.now in
-    let early : HasCleanDisk old = omega (arith, c.look_at_leases.ensures.crash.clean, clean) in
+    let early : HasCleanDisk old = omega (arith, c.look_at_leases.ensures.reads.crash.clean, clean) in
     c.in-Ok.ensures (tables old) (ready_in_order old (c.requires.ready early)) (c.requires.run early) (c.in_ok-look_at_leases.ensures.taken clean)

@@ -6,7 +6,7 @@ use Rattle.dh_model.specs.Books.{State}
 use Rattle.dh_laws.proofs.AskedRows.{answered_by_its_rows}
 use Rattle.dh_schema.specs.Store.{tables}
 use Rattle.dh_schema.proofs.Keyed.{books_are_keyed}
-use Rattle.dh_questions.proofs.AskedBooks.{if_ok, on_err_all, on_ok_all}
+use Rattle.dh_questions.proofs.AskedBooks.{if_ok, on_ok_all}
 use Rattle.dh_questions.proofs.questions.answer_now.Goals as goal
 
 pub returns-clause-answer : goal.returns-clause-answer
@@ -17,8 +17,12 @@ returns-clause-answer g c clean free =
     (λ off. ap (option_map (λ (at : OpenRun). at.month)) (sym (free off))) in
     if_ok c.answer_on.result (λ a is. is ∙ ap (λ (s : State). report s question) (c.in_ok-gather.ensures.taken clean) ∙ answered) c.answer_on.ensures.answer
 
-pub returns-clause-done : goal.returns-clause-done
-returns-clause-done g c clean = on_ok_all c.answer_on.result (c.in_ok-gather.ensures.done clean)
-
-pub returns-clause-undone : goal.returns-clause-undone
-returns-clause-undone g c clean still = on_err_all c.answer_on.result (c.in_ok-gather.ensures.done clean)
+pub returns-clause-reads : goal.returns-clause-reads
+returns-clause-reads g c =
+    let reads = c.in_ok-gather.ensures.reads in
+    record {
+      done = λ clean. on_ok_all c.answer_on.result (reads.done clean);
+      kept = λ clean still. reads.done clean;
+      cause = c.answer_on.ensures.cause;
+      crash = reads.crash;
+    }

@@ -18,8 +18,8 @@ pub returns-clause-taken : goal.returns-clause-taken
 returns-clause-taken g c clean =
     let old = state g.S.Store c.args.conn.now in
     let one = state g.S.Store c.gather_branch.new.conn in
-    let early : HasCleanDisk one = omega (arith, c.gather_accounts.ensures.crash.clean, clean) in
-    let same = (c.in_ok-gather_branch.ensures.done early).1 in
+    let early : HasCleanDisk one = omega (arith, c.gather_accounts.ensures.reads.crash.clean, clean) in
+    let same = (c.in_ok-gather_branch.ensures.reads.done early).1 in
     let branch = c.in_ok-gather_branch.ensures.taken early in
     let leases = c.deref.ensures.value ∙ c.in_ok-leases.ensures.leases ∙ ap (λ (s : State). values s.books.leases) branch
     ∙ listed_leases (tables old).books (books_are_keyed old.now.trees) c.args.branch in

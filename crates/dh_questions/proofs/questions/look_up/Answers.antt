@@ -8,8 +8,8 @@ pub returns-clause-crash : goal.returns-clause-crash
 returns-clause-crash g c clean =
     let old = state g.S.Store c.args.conn.now in
     let new = state g.S.Store c.answer_question.new.conn in
-    let early : HasCleanDisk old = omega (arith, c.answer_question.ensures.crash.clean, clean) in
-    unchanged_leaves old new (g.met.S.Store.settled c.args.conn.now.store) (c.requires early) clean c.answer_question.ensures.crash
+    let early : HasCleanDisk old = omega (arith, c.answer_question.ensures.reads.crash.clean, clean) in
+    unchanged_leaves old new (g.met.S.Store.settled c.args.conn.now.store) (c.requires early) clean c.answer_question.ensures.reads.crash
 
 pub returns-clause-was_clean : goal.returns-clause-was_clean
-returns-clause-was_clean g c = c.answer_question.ensures.crash.clean
+returns-clause-was_clean g c = c.answer_question.ensures.reads.crash.clean
