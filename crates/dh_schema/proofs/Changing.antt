@@ -41,6 +41,7 @@ module _ (k : Kind) (m : FinMap (order_of k) (record_of k)) (old new : State) (i
   -- the tables are in order after it
   pub in_order_after : AreInOrder old.now.trees → AreInOrder new.now.trees
   in_order_after before = record {
+    listed = is.listed;
     months = before.months;
     meta = subst (λ rows. AreMonths before.months (map meta_columns rows)) (sym meta_stays) before.meta;
     tables = each;
@@ -93,6 +94,7 @@ module _ (next : ℕ) (old new : State) (before : AreInOrder old.now.trees) (is 
   -- the tables are in order after it
   pub in_order_with_next : AreInOrder new.now.trees
   in_order_with_next = record {
+    listed = set.listed;
     months = months;
     meta = set.months_are;
     tables = λ j. record { kept = (as_it_was j).kept (before.tables j).kept; apart = (as_it_was j).apart (before.tables j).apart };

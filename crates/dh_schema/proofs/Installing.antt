@@ -58,6 +58,7 @@ module _ (months : Months) (before after : State) (bare : AreEmpty our_tables be
   new_in_order : AreInOrder after.now.trees × (state_in after.now.trees ≡ empty_over months)
   new_in_order = (
     record {
+      listed = set.listed;
       months = months;
       meta = set.months_are;
       tables = λ kind. record {

@@ -3,11 +3,13 @@ use Rattle.std.proofs.Common.{◌≡◌, ◌⊎◌, ◌∙◌, ◌++◌, inl, in
 use Rattle.std.specs.List.{AllByRecursion}
 use Rattle.sqlite_value.specs.Order.{Row}
 use Rattle.sqlite_trees.specs.Tree.{Trees}
+use Rattle.sqlite_catalog.specs.Listing as catalog
 use Rattle.sqlite.specs.Effect.{Database}
 use Rattle.sqlite.specs.State.{HasCleanDisk, IsRolledBack, IsUnchanged, State}
 use Rattle.sqlite.proofs.Callers.{unchanged_then}
 use Rattle.dh_model.specs.Books as machine
 use Rattle.dh_rows.specs.Months.{Months}
+use Rattle.dh_catalog.specs.Layout.{our_schema}
 use Rattle.dh_tables.specs.Calls.{HasOurTables, IsUndone}
 use Rattle.dh_tables.specs.Listing.{IsLoaded}
 use Rattle.dh_tables.specs.MetaTable.{HasMonths}
@@ -180,8 +182,8 @@ module _ (trees : Trees) (months : Months) (meta : HasMonths months trees) where
       let at : Months → machine.State = λ m. record all { books = record all.books { first = m.first; next = m.next } } in
       it.books ∙ ap (λ (rows : List Row). at (months_of rows)) (sym meta.rows_are)
 
-  pub loaded_order : (before books : machine.State) → AreLoaded all_kinds trees before books → AreInOrder trees
-  loaded_order before books it = record { months = months; meta = meta; tables = each_of (λ kind. IsTableInOrder kind trees) it.in_order }
+  pub loaded_order : (before books : machine.State) → catalog.IsSound our_schema trees → AreLoaded all_kinds trees before books → AreInOrder trees
+  loaded_order before books listed it = record { listed = listed; months = months; meta = meta; tables = each_of (λ kind. IsTableInOrder kind trees) it.in_order }
 
 -- damage in some rows is damage
 pub no_values : (kinds : List Kind) (trees : Trees) → (¬ AllAreRecords kinds trees) → ¬ HasValues trees

@@ -4,6 +4,7 @@ use Rattle.std.specs.List.{AllByRecursion}
 use Rattle.std.specs.FinMap.{FinMap}
 use Rattle.sqlite_value.specs.Order.{Row}
 use Rattle.sqlite_trees.specs.Tree.{Trees}
+use Rattle.sqlite_catalog.specs.Listing as catalog
 use Rattle.dh_model.specs.Books.{Books, empty_books}
 use Rattle.dh_model.specs.Books as machine
 use Rattle.dh_model.specs.Rules.{MeetsRules}
@@ -12,6 +13,7 @@ use Rattle.dh_model.specs.Whole.{run_shown}
 use Rattle.dh_laws.specs.Events.{Tables}
 use Rattle.dh_rows.specs.Months.{Months}
 use Rattle.dh_rows.specs.MetaRows.{months_in}
+use Rattle.dh_catalog.specs.Layout.{our_schema}
 use Rattle.dh_sql.specs.Shape.{AreApart, IsKept, IsStored, rows_in}
 use Rattle.dh_tables.specs.MetaTable.{HasMonths, meta_rows}
 use Rattle.dh_schema.specs.Kinds.{Kind, order_of, record_of, shape_of}
@@ -77,8 +79,9 @@ pub record IsTableInOrder (kind : Kind) (trees : Trees) : Type 0 where
   pub kept : IsKept (shape_of kind) (order_of kind) trees
   pub apart : AreApart (trees (shape_of kind).tree)
 
--- and in all tables
+-- So it is in all tables, and the catalog lists our tables and indexes and nothing else.
 pub record AreInOrder (trees : Trees) : Type 0 where
+  pub listed : catalog.IsSound our_schema trees
   pub months : Months
   pub meta : HasMonths months trees
   pub tables : (kind : Kind) → IsTableInOrder kind trees

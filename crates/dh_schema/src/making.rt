@@ -6,7 +6,7 @@ ghost use Rattle.sqlite.specs.Held.{state};
 ghost use Rattle.dh_days.specs.declared.limits.TheConstants.{LAST_ENTRY_MONTH};
 ghost use Rattle.dh_model.specs.Books.{start};
 ghost use Rattle.dh_schema.specs.Faults.{IsFirstFault};
-ghost use Rattle.dh_schema.specs.Store.{IsReady, IsBlank, LeavesItsTables, Commits, tables};
+ghost use Rattle.dh_schema.specs.Store.{IsReady, IsBlank, Keeps, LeavesItsTables, Commits, tables};
 
 use crate::fault::fault_of;
 use dh_catalog::create_all;
@@ -26,6 +26,7 @@ fn make_tables<S: Alter>(alloc: Global, conn: &mut Connection<S>, first: Month) 
     ensures left { HasCleanDisk (state S.Store conn.new) → OnOk result (LeavesItsTables (state S.Store conn.new)) }
     ensures undone { HasCleanDisk (state S.Store conn.new) → IsTrue (state S.Store conn.new).is_open
         → OnErr result ((state S.Store conn.new).committed ≡ (state S.Store conn.old).committed) }
+    ensures kept { HasCleanDisk (state S.Store conn.new) → OnErr result (Keeps (state S.Store conn.old) (state S.Store conn.new)) }
     ensures survives { Commits (state S.Store conn.old) (state S.Store conn.new) (λ t. t ≡ start first) }
 {
     let mut tx = conn.transaction();
@@ -43,6 +44,7 @@ pub fn install<S: Alter>(alloc: Global, conn: &mut Connection<S>, first: Month) 
     ensures left { HasCleanDisk (state S.Store conn.new) → OnOk result (LeavesItsTables (state S.Store conn.new)) }
     ensures undone { HasCleanDisk (state S.Store conn.new) → IsTrue (state S.Store conn.new).is_open
         → OnErr result ((state S.Store conn.new).committed ≡ (state S.Store conn.old).committed) }
+    ensures kept { HasCleanDisk (state S.Store conn.new) → OnErr result (Keeps (state S.Store conn.old) (state S.Store conn.new)) }
     ensures cause { IfErr result IsFirstFault }
     ensures occupied { ¬ IsBlank (state S.Store conn.old) → (result ≡ Err Fault.Store) × (conn.new ≡ conn.old) }
     ensures survives { Commits (state S.Store conn.old) (state S.Store conn.new) (λ t. t ≡ start first) }

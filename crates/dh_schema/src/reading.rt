@@ -77,6 +77,8 @@ pub fn load_tables<S: Alter>(alloc: Global, conn: &mut Connection<S>) -> Result<
     ensures undone { HasCleanDisk (state S.Store conn.new) → OnErr result (IsUndone (state S.Store conn.old) (state S.Store conn.new)) }
     ensures crash { CommitsNothing (state S.Store conn.old) (state S.Store conn.new) }
 {
+    // That the trees list the schema is what each connection keeps true of itself.
+    let _listed = conn.schema();
     let Some(months) = find_meta(alloc, conn)? else {
         return Err(LoadFault::Damaged);
     };

@@ -96,6 +96,7 @@ module _ {K X : Type 0} {R : K → K → Ordering} (o : IsTotalOrder R) (anti : 
       let grammar : IsStored it row = ap it.is_row back.columns ∙ back.grammar in
       record {
         schema_is = done.0;
+        listed = done.2;
         rows = rows_with it schema was new.now.trees kept row x puts read grammar back.keyed fresh;
         kept = kept_with it schema was new.now.trees kept row x puts read grammar back.keyed fresh;
         apart = still_apart it schema was new.now.trees kept row x puts read grammar back.keyed fresh;

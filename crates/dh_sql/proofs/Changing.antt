@@ -92,6 +92,7 @@ module _ {K X : Type 0} {R : K → K → Ordering} (o : IsTotalOrder R) (anti : 
         let put = updated o anti it old.now.trees kept new.now.trees r s x y rest before behind only.2 record_is (key ∙ sym same) in
         record {
           schema_is = did.schema_is;
+          listed = did.listed;
           rows = subst (λ q. rows_in it {R = R} new.now.trees ≡ insert (rows_in it old.now.trees) q y) same put;
           kept = kept_after o anti it old.now.trees kept new.now.trees r s x y rest before behind only.2 record_is (key ∙ sym same) grammar keyed;
           apart = λ _. apart_with rest (new.now.trees t.tree) s behind keyed ints free among;

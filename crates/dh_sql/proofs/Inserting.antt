@@ -9,6 +9,7 @@ use Rattle.sqlite.specs.Source.TheVariants.{Values}
 use Rattle.sqlite.specs.Command.TheVariants.{Insert}
 use Rattle.sqlite_schema.specs.declared.schema.Keys.TheVariants.{Enforced}
 use Rattle.sqlite_rules.specs.Action.{works}
+use Rattle.sqlite_catalog.specs.Listing.{IsSound}
 use Rattle.sqlite.specs.Edit.{Edit, edit_of, is_taken, put_all, with_rowid}
 use Rattle.sqlite.specs.Cast.{cast_row}
 use Rattle.sqlite.specs.Rowids.TheVariants.{Chosen, Above}
@@ -33,6 +34,7 @@ module _ (text : List ℕ) (schema : Schema) (at : ℕ) (table : Table) (terms :
   pub inserts : (old new : State) (count : ℕ) → old.now.schema ≡ schema → Executes text params old new (Ok count)
       → (new.now.schema ≡ schema)
       × Puts schema table.tree (with_rowid Chosen (old.now.trees table.tree) (cast_row table source)) old.now.trees new.now.trees
+      × IsSound schema new.now.trees
   inserts old new count has h =
       let db = old.now.trees in
       let command = Insert at (Values terms width) in
@@ -58,11 +60,13 @@ module _ (text : List ℕ) (schema : Schema) (at : ℕ) (table : Table) (terms :
       let news : edit.news ≡ row ∷ [] =
       ap (λ k. (edit_of db table [] k 0 given.0).news) chosen ∙ ap (λ all. (edit_of db table [] Chosen 0 all).news) (given.1.1 ∙ is.value) in
       let none = ap (works schema Enforced 0 table.tree []) news ∙ quiet table.tree [] (row ∷ []) in
-      let applied = one_step schema Enforced db written.0 edit none written.1 in (
-        ap (λ (d : Database). d.schema) now,
+      let applied = one_step schema Enforced db written.0 edit none written.1 in
+      let schema_is = ap (λ (d : Database). d.schema) now in (
+        schema_is,
         record {
           fresh = not_true _ (and_first _ _ (rw news at applied.fresh));
           rows = rw after (applied.rows ∙ ap (put_all (db table.tree)) news);
           others = rw after applied.tables;
         },
+        subst (λ s. IsSound s new.now.trees) schema_is w.sound,
       )

@@ -7,6 +7,7 @@ use Rattle.sqlite.specs.Command.TheVariants.{Update}
 use Rattle.sqlite_schema.specs.declared.program.Program.{Program}
 use Rattle.sqlite_schema.specs.declared.schema.Keys.TheVariants.{Enforced}
 use Rattle.sqlite_rules.specs.Action.{Writes as Carries}
+use Rattle.sqlite_catalog.specs.Listing.{IsSound}
 use Rattle.sqlite_rules.specs.Calls.{ids_of}
 use Rattle.sqlite.specs.Edit.{Applies, Edit, edit_of, taken_by}
 use Rattle.sqlite.specs.Rowids.TheVariants.{Given}
@@ -24,6 +25,7 @@ pub record Updates (schema : Schema) (old new : Database) (table : Table) (query
   pub shown : List Row
   pub answer : Answers (record { schema = schema; trees = old.trees }) query params shown
   pub schema_is : new.schema ≡ schema
+  pub listed : IsSound schema new.trees
   pub applied : Applies schema Enforced old.trees (edit_of old.trees (uncounted table) (ids_of shown) Given 1 shown) new.trees
 
 module _ (schema : Schema) (quiet : IsQuiet schema) (at : ℕ) (t : Table) (is : slice_get schema.tables at ≡ Some (uncounted t)) (old new : State)
@@ -45,5 +47,6 @@ module _ (schema : Schema) (quiet : IsQuiet schema) (at : ℕ) (t : Table) (is :
         shown = given.0;
         answer = given.1;
         schema_is = ap (λ (d : Database). d.schema) now;
+        listed = subst (λ s. IsSound s new.now.trees) (ap (λ (d : Database). d.schema) now) w.sound;
         applied = one_step schema Enforced db new.now.trees edit (quiet edit.table.tree (taken_by db edit) edit.news) carried;
       }

@@ -7,6 +7,7 @@ use Rattle.sqlite_schema.specs.declared.schema.Table.{Table}
 use Rattle.sqlite_value.specs.Order.{Row}
 use Rattle.sqlite_rules.specs.Cast.{cast_row}
 use Rattle.sqlite_trees.specs.Tree.{Trees, rowid}
+use Rattle.sqlite_catalog.specs.Listing as catalog
 use Rattle.sqlite.specs.State.{State}
 use Rattle.dh_sql.specs.Shape.{AreApart, IsKept, IsStored, Shape, rows_in, stored_in}
 
@@ -28,9 +29,10 @@ module _ {K X : Type 0} (it : Shape K X) (R : K → K → Ordering) where
     pub kept : IsKept it R old → IsKept it R new
     pub apart : AreApart (old it.tree) → AreApart (new it.tree)
 
-  -- The table is in order and has these records now. All else is as it was.
+  -- The table is in order and has these records now. All else is as it was, and the catalog lists the schema.
   pub record Becomes (schema : Schema) (records : FinMap R X) (old new : State) : Type 0 where
     pub schema_is : new.now.schema ≡ schema
+    pub listed : catalog.IsSound schema new.now.trees
     pub rows : rows_in it {R = R} new.now.trees ≡ records
     pub kept : IsKept it R new.now.trees
     pub apart : AreApart (old.now.trees it.tree) → AreApart (new.now.trees it.tree)

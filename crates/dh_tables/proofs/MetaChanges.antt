@@ -39,6 +39,7 @@ adds_meta old new m count has empty good h =
     let rows = it.1.rows ∙ ap (λ (r : Row). put_row r (old.now.trees 0)) row ∙ ap (put_row (stored m)) empty in
     record {
       schema_is = it.0;
+      listed = it.2;
       months_are = record { rows_are = ap (map meta_columns) rows; grammar = good };
       others = others_stay our_schema 0 old.now.trees new.now.trees it.1.others;
     }

@@ -137,6 +137,7 @@ sets_next old new next count schema from to h m has =
     ∙ get_new nat_total nat_ties (rows_in meta_shape was) 1 y in
     record {
       schema_is = done.schema_is;
+      listed = done.listed;
       months_are = months_there y (now 0) done.kept.values done.kept.keys found;
       others = done.others;
     }

@@ -2,6 +2,7 @@
 use Rattle.std.specs.Prelude.{◌≡◌, ℕ, true, List, [], ◌∷◌, map, Option, Some, None}
 use Rattle.sqlite_value.specs.Order.{Row, column}
 use Rattle.sqlite_trees.specs.Tree.{Trees}
+use Rattle.sqlite_catalog.specs.Listing as catalog
 use Rattle.sqlite.specs.State.{State}
 use Rattle.dh_rows.specs.Months.{Months}
 use Rattle.dh_rows.specs.MetaRows.{meta_row, is_meta_row}
@@ -31,6 +32,7 @@ AreFound rows (Some m) = AreMonths m rows
 -- the table has these months now, and all else is as it was
 pub record SetsMonths (months : Months) (old new : State) : Type 0 where
   pub schema_is : new.now.schema ≡ our_schema
+  pub listed : catalog.IsSound our_schema new.now.trees
   pub months_are : HasMonths months new.now.trees
   pub others : OthersStay our_schema 0 old.now.trees new.now.trees
 
