@@ -58,6 +58,7 @@ mod RunTold
 mod RunSteps
 mod RunStays
 mod RepeatAgain
+pub mod StandingTells
 pub mod MovingBatches
 pub mod TellingWhole
 pub mod TellingMeanwhile

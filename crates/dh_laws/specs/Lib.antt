@@ -11,6 +11,7 @@ pub mod Shown
 pub mod Asking
 pub mod AskedAbout
 pub mod Repeating
+pub mod Standings
 pub mod EachLife
 pub mod StateTables
 pub mod Telling

@@ -14,3 +14,4 @@ pub mod passing;
 pub mod posting;
 pub mod repeating;
 pub mod shown;
+pub mod standings;
