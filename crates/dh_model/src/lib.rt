@@ -10,6 +10,8 @@ pub mod machine_laws;
 mod open_run;
 mod rows;
 
-pub use limits::{BATCH_SIZE, MANAGED_AT_MOST, limits_in_figures};
+pub use limits::{
+    BATCH_SIZE, MANAGED_AT_MOST, day_limits_in_figures, limits_in_figures, value_limits_in_figures,
+};
 pub use open_run::OpenRun;
 pub use rows::{Change, Verdict};

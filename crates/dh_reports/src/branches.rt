@@ -16,4 +16,9 @@ impl Line for Branch {
             &[left(8, self.number.as_str()), plain(self.city.as_str())],
         )
     }
+
+    fn look(&self) {
+        let _number = self.number.as_str();
+        let _city = self.city.as_str();
+    }
 }

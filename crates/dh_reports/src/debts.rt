@@ -30,6 +30,13 @@ impl Line for Debt {
             ],
         )
     }
+
+    fn look(&self) {
+        let _client = self.client.as_str();
+        if let Some(name) = &self.name {
+            let _name = name.as_str();
+        }
+    }
 }
 
 /// Writes the debts and their sum; at an `Output` a beginning of their lines was written.

@@ -10,6 +10,7 @@ mod branches;
 mod columns;
 mod debts;
 mod figures;
+pub mod laws;
 mod listing;
 mod properties;
 mod run_reports;

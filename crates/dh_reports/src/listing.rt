@@ -8,13 +8,18 @@ use std::io::Write;
 
 /// A record that has a line in a report.
 pub trait Line {
-    ghost use Rattle.std.specs.Prelude.{ℕ, List};
+    ghost use Rattle.std.specs.Prelude.{ℕ, List, ◌≡◌};
+    ghost use Rattle.dh_reports.specs.Columns.{line_feeds};
 
     ghost line: { Self → List ℕ };
 
     /// Writes the line; at an `Output` a beginning of it was written.
     fn put<W: Write>(&self, writer: &mut W) -> Result<(), Output>
         ensures { Puts (W.contents writer.old) (W.contents writer.new) result (line self.now) };
+
+    /// Looks at the record's texts. None has a line feed, so the line has the one at its end.
+    fn look(&self)
+        ensures { line_feeds (line self.now) ≡ 1 };
 }
 
 /// Writes the line of each record; at an `Output` a beginning of them was written.

@@ -24,4 +24,9 @@ impl Line for Property {
             ],
         )
     }
+
+    fn look(&self) {
+        let _number = self.number.as_str();
+        let _city = self.city.as_str();
+    }
 }

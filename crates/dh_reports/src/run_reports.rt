@@ -30,6 +30,10 @@ impl Line for Part {
     fn put<W: Write>(&self, writer: &mut W) -> Result<(), Output> {
         put_count(writer, self.branch.as_str(), self.count, self.total)
     }
+
+    fn look(&self) {
+        let _branch = self.branch.as_str();
+    }
 }
 
 /// Writes the parts of the run and what it comes to; at an `Output` a beginning of their lines was written.

@@ -32,6 +32,8 @@ impl Line for Charge {
     fn put<W: Write>(&self, writer: &mut W) -> Result<(), Output> {
         put_entry(writer, "charge", self.day, self.amount.pence())
     }
+
+    fn look(&self) {}
 }
 
 impl Line for Receipt {
@@ -46,6 +48,8 @@ impl Line for Receipt {
             payment.amount.pence(),
         )
     }
+
+    fn look(&self) {}
 }
 
 impl Line for Lease {
@@ -62,6 +66,11 @@ impl Line for Lease {
                 right(12, pence_text(u64::from(self.rent.pence())).as_str()),
             ],
         )
+    }
+
+    fn look(&self) {
+        let _client = self.terms.client.as_str();
+        let _property = self.terms.property.as_str();
     }
 }
 

@@ -9,4 +9,5 @@ mod questions;
 mod words;
 
 pub use kinds::{BadWords, Job};
+pub use ports::most_port_in_figures;
 pub use words::job;

@@ -11,6 +11,11 @@ use dh_values::{Bounded, Bounds, Spelled};
 /// The greatest port.
 pub(crate) const MOST_PORT: u32 = 65_535;
 
+/// The greatest port in figures, which no definition says.
+pub fn most_port_in_figures()
+    ensures { MOST_PORT ≡ 65_535 }
+{}
+
 // The kind of a port but 0.
 #[derive(Clone, Copy)]
 struct PortNumber;
