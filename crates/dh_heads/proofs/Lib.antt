@@ -1,3 +1,4 @@
+pub mod Taking
 pub mod HeadLemmas
 pub mod BodyLemmas
 pub mod LineLemmas

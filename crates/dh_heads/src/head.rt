@@ -1,10 +1,11 @@
 //! The head of a request.
 
-ghost use Rattle.std.specs.Prelude.{◌≡◌, ◌≤◌, ◌<◌, IfOk, length, List, ℕ};
+ghost use Rattle.std.specs.Prelude.{◌≡◌, ◌≤◌, ◌<◌, IfOk, IsTrue, OnErr, length, List, ℕ};
 ghost use Rattle.httparse.specs.Grammar.{RequestHead};
 ghost use Rattle.dh_heads.specs.Heads.{HeadOf, JudgedAs, IfFound, IsInBuffer, IsHead, IsBadHead, IsLargeHead};
-ghost use Rattle.dh_heads.specs.Known.{IfBoth};
+ghost use Rattle.dh_heads.specs.Known.{IfBoth, TakesAtMost};
 
+use crate::failure::Failure;
 use crate::filling::read_more;
 use crate::limits::{HEAD_BYTES, HEADER_LINES, ROOM};
 use httparse::spans::{HeaderSpan, RequestSpans, parse_request};
@@ -54,9 +55,11 @@ fn judge(front: &[u8], headers: &mut [HeaderSpan]) -> Judged
     }
 }
 
-/// Reads until a head is complete or refused, a limit is passed, or the input ends. An error is the reader's.
+/// Reads until a head is complete or refused, a limit is passed, or the input ends, and no more than the buffer holds. An error is
+/// the reader's.
 pub fn read_head<R: Read>(
     reader: &mut R,
+    failure: &mut Failure,
     buffer: &mut [u8],
     headers: &mut [HeaderSpan],
 ) -> io::Result<HeadRead>
@@ -65,10 +68,12 @@ pub fn read_head<R: Read>(
     ensures found { IfOk result (λ read. IfFound read (IsInBuffer buffer.new headers.new)) }
     ensures input { IfOk result (λ read. IfBoth (R.remaining reader.old) (R.remaining reader.new)
         (λ input after. HeadOf input after buffer.new headers.new read)) }
+    ensures taken { TakesAtMost ROOM (R.remaining reader.old) (R.remaining reader.new) }
+    ensures lost { OnErr result (IsTrue failure.new.noted) }
 {
     let mut filled = 0usize;
     while filled < ROOM {
-        let total = read_more(reader, buffer, filled)?;
+        let total = read_more(reader, failure, buffer, filled)?;
         if total == filled {
             return Ok(if filled == 0 {
                 HeadRead::Closed

@@ -1,7 +1,8 @@
 -- What the bytes of a connection ask for: the first line of the order of judgement that applies.
-use Rattle.std.specs.Prelude.{◌≡◌, ◌≢◌, ◌⊎◌, ℕ, ◌<◌, ◌≤◌, ◌&&◌, ◌==◌, Bool, not, nat_lt, if◌then◌else◌, List, [], ◌∷◌, length, map, take, codes, bytes_eq}
-use Rattle.std.specs.Prelude.{Option, Some, None, MatchOption, Result, Err}
-use Rattle.httparse.specs.Grammar.{RequestHead}
+use Rattle.std.specs.Prelude.{◌≡◌, ◌≢◌, ◌⊎◌, ℕ, ◌+◌, ◌<◌, ◌≤◌, ◌&&◌, ◌==◌, Bool, not, nat_lt, if◌then◌else◌, List, [], ◌∷◌, length, map, take, codes, bytes_eq}
+use Rattle.std.specs.Prelude.{Option, Some, None, IfSome, MatchOption, Result, Err}
+use Rattle.std.specs.Io.KnownBytes.{Consumes}
+use Rattle.httparse.specs.Grammar.{RequestHead, print_request}
 use Rattle.httparse.specs.Spans.{name_and_value}
 use Rattle.dh_types.specs.declared.reply.Refusal.{Refusal}
 use Rattle.dh_types.specs.declared.reply.Refusal.TheVariants.{BadLine}
@@ -9,6 +10,7 @@ use Rattle.dh_fields.specs.declared.request.Request.{Request}
 use Rattle.dh_fields.specs.Lines.{Fields, field, request_of}
 use Rattle.dh_heads.specs.Heads.{IsHead, IsBadHead, IsLargeHead}
 use Rattle.dh_heads.specs.HeaderLines.{body_length, values_of}
+use Rattle.dh_heads.specs.declared.limits.TheConstants.{ROOM}
 use Rattle.dh_heads.specs.declared.lines.BodyLength.{BodyLength}
 use Rattle.dh_heads.specs.declared.lines.BodyLength.TheVariants.{Absent, Invalid, TooLarge, Bytes}
 use Rattle.dh_routes.specs.Targets.{HasPieces, IsTarget}
@@ -95,3 +97,27 @@ abbrev pub MayAsk : List ℕ → Asked → Type 0
 MayAsk input it =
     (IsBadHead input × (it ≡ asked.Turned turned.BadRequest)) ⊎ (IsLargeHead input × (it ≡ asked.Turned turned.HeadTooLarge))
     ⊎ ((h : RequestHead) × (rest : List ℕ) × IsHead input h rest × IsOfHead h rest it)
+
+-- ---- what is read, and what takes memory
+
+-- a command whose body is announced to have so many bytes
+pub record IsAnnounced (h : RequestHead) (n : ℕ) : Type 0 where
+  pub target : IsTarget route.Commands h.target
+  pub method : h.method ≡ codes "POST"
+  pub bytes : body_length (values_in (codes "content-length") h) ≡ Bytes n
+
+-- How much of a connection is read: no more than the buffer of heads holds; or no byte behind the body that a command announces.
+pub record TakesRequest (old new : Option (List ℕ)) : Type 0 where
+  pub taken : List ℕ
+  pub consumed : Consumes old new taken
+  pub few : (length taken ≤ ROOM) ⊎ IfSome old (λ input. (h : RequestHead) × (rest : List ℕ) × (n : ℕ) × IsHead input h rest × IsAnnounced h n
+      × (length taken ≤ length (print_request h) + n))
+
+-- a request of this route takes memory: a question asked by GET, or a command whose body is announced
+abbrev pub NeedsMemory : Route → RequestHead → Type 0
+NeedsMemory route.Commands h = (h.method ≡ codes "POST") × ((n : ℕ) × (body_length (values_in (codes "content-length") h) ≡ Bytes n))
+NeedsMemory other h = h.method ≡ codes "GET"
+
+-- the bytes begin with a head within the limits, whose lines do not turn it away
+abbrev pub MayNeedMemory : List ℕ → Type 0
+MayNeedMemory input = (h : RequestHead) × (rest : List ℕ) × IsHead input h rest × (turned_by_lines h ≡ None)

@@ -1,10 +1,15 @@
 -- Words of the steps to what a request asks for.
-use Rattle.std.specs.Prelude.{◌≡◌, ◌≢◌, ◌⊎◌, ℕ, List, ◌++◌, Option, IfSome}
+use Rattle.std.specs.Prelude.{◌≡◌, ◌≢◌, ◌⊎◌, ℕ, ◌-◌, ◌≤◌, List, ◌++◌, length, take, codes, Option, IfSome}
 use Rattle.serde_json.specs.Data.{array}
 use Rattle.serde_json.specs.View.{items_view}
 use Rattle.serde_json.specs.declared.value.Value.{Value}
-use Rattle.dh_bodies.specs.Texts.{list_of}
-use Rattle.dh_requests.specs.Requests.{posted}
+use Rattle.httparse.specs.Grammar.{RequestHead}
+use Rattle.dh_heads.specs.HeaderLines.{body_length}
+use Rattle.dh_heads.specs.Known.{TakesAtMost}
+use Rattle.dh_heads.specs.declared.lines.BodyLength.{BodyLength}
+use Rattle.dh_heads.specs.declared.lines.BodyLength.TheVariants.{Absent, Invalid, TooLarge, Bytes}
+use Rattle.dh_bodies.specs.Texts.{AreTexts, list_of}
+use Rattle.dh_requests.specs.Requests.{IsAnnounced, posted, values_in}
 use Rattle.dh_requests.specs.declared.asked.Asked.{Asked}
 use Rattle.dh_requests.specs.declared.asked.Asked.TheVariants as asked
 use Rattle.dh_requests.specs.declared.asked.Turned.TheVariants as turned
@@ -18,3 +23,24 @@ IsListed items it =
 -- P of what follows the head, where the reader's bytes are known: what was read already, and what is left
 abbrev pub Behind : List ℕ → Option (List ℕ) → (List ℕ → Type 0) → Type 0
 Behind front remaining P = IfSome remaining (λ after. P (front ++ after))
+
+-- the body of so many bytes is all there, and is a list of texts
+abbrev pub IsTextsOf : ℕ → List ℕ → Type 0
+IsTextsOf n rest = (n ≤ length rest) × ((texts : List (List ℕ)) × AreTexts (take n rest) texts)
+
+-- what is read behind front: as much as it lacks of the body that is announced so
+abbrev pub TakesLength : BodyLength → List ℕ → Option (List ℕ) → Option (List ℕ) → Type 0
+TakesLength Absent front old new = TakesAtMost 0 old new
+TakesLength Invalid front old new = TakesAtMost 0 old new
+TakesLength TooLarge front old new = TakesAtMost 0 old new
+TakesLength (Bytes n) front old new = TakesAtMost (n - length front) old new
+
+-- the same of a request to the route of commands: as much as front lacks of the body of a POST
+abbrev pub TakesOrder : RequestHead → List ℕ → Option (List ℕ) → Option (List ℕ) → Type 0
+TakesOrder h front old new =
+    TakesAtMost 0 old new
+    ⊎ ((n : ℕ) × (h.method ≡ codes "POST") × (body_length (values_in (codes "content-length") h) ≡ Bytes n) × TakesAtMost (n - length front) old new)
+
+-- the same of any request: nothing but the body of a command
+abbrev pub TakesBody : RequestHead → List ℕ → Option (List ℕ) → Option (List ℕ) → Type 0
+TakesBody h front old new = TakesAtMost 0 old new ⊎ ((n : ℕ) × IsAnnounced h n × TakesAtMost (n - length front) old new)

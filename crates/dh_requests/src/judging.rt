@@ -1,18 +1,18 @@
 //! Judging a request by its head.
 
-ghost use Rattle.std.specs.Prelude.{◌≡◌, ◌↔◌, ◌≢◌, ℕ, map, length, drop, All, IsTrue, IfOk, IfSome, codes};
+ghost use Rattle.std.specs.Prelude.{◌≡◌, ◌↔◌, ◌≢◌, ℕ, map, length, drop, All, IsTrue, IfOk, IfSome, Err, codes};
 ghost use Rattle.httparse.specs.Grammar.{RequestHead};
 ghost use Rattle.httparse.specs.Spans.{IsHeaderWithin, IsRequestAt, IsRequestWithin};
 ghost use Rattle.dh_routes.specs.Targets.{IsTarget};
 ghost use Rattle.dh_routes.specs.declared.routing.Route.{Route as AnyRoute};
-ghost use Rattle.dh_requests.specs.Requests.{IsByMethod, IsOfHead, IsOfRoute, IsOfTarget, IsQuestionOf, turned_by_lines};
-ghost use Rattle.dh_requests.specs.Steps.{Behind};
+ghost use Rattle.dh_requests.specs.Requests.{IsByMethod, IsOfHead, IsOfRoute, IsOfTarget, IsQuestionOf, NeedsMemory, turned_by_lines};
+ghost use Rattle.dh_requests.specs.Steps.{Behind, TakesBody, TakesOrder};
 
 use crate::asked::{Asked, Turned};
 use crate::posting::judge_command;
 use crate::unread::Unread;
 use dh_fields::{Request, read_fields};
-use dh_heads::{body_length, count};
+use dh_heads::{Failure, body_length, count};
 use dh_routes::{Route, pieces_of, route_of, router};
 use dh_types::Refusal;
 use httparse::spans::{HeaderSpan, RequestSpans};
@@ -66,6 +66,7 @@ fn target_of<'a>(found: &Found<'a>) -> &'a str
 fn find_route(alloc: Global, target: &str) -> Result<Option<Route>, Unread>
     ensures found { IfOk result (λ route. IfSome route (λ it. IsTarget it target.now)) }
     ensures none { IfOk result (λ route. route ≡ None → (any : AnyRoute) → ¬ IsTarget any target.now) }
+    ensures lost { result ≢ Err Unread.Input }
 {
     let router = router(alloc)?;
     Ok(route_of(&router, target))
@@ -102,7 +103,9 @@ fn judge_question(
 ) -> Result<Asked, Unread>
     requires target { IsTarget route target.now }
     requires asks { route ≢ Route.Commands }
-    ensures { IfOk result (λ asked. IsByMethod (codes "GET") method.now Turned.OnlyByGet asked (IsQuestionOf route target.now asked)) }
+    ensures asks { IfOk result (λ asked. IsByMethod (codes "GET") method.now Turned.OnlyByGet asked (IsQuestionOf route target.now asked)) }
+    ensures memory { result ≡ Err Unread.Memory → method.now ≡ codes "GET" }
+    ensures lost { result ≢ Err Unread.Input }
 {
     if !is_method(method, b"GET") {
         return Ok(Asked::Turned(Turned::OnlyByGet));
@@ -112,34 +115,56 @@ fn judge_question(
 }
 
 // What a request asks for whose target is the route of commands.
-fn judge_order<R: Read>(alloc: Global, reader: &mut R, found: &Found) -> Result<Asked, Unread>
+fn judge_order<R: Read>(
+    alloc: Global,
+    reader: &mut R,
+    failure: &mut Failure,
+    found: &Found,
+) -> Result<Asked, Unread>
     requires { IsRequestWithin found.now.front.now found.now.headers.now found.now.spans }
-    ensures { (h : RequestHead) → IsRequestAt found.now.front.now found.now.headers.now found.now.spans h
+    ensures asks { (h : RequestHead) → IsRequestAt found.now.front.now found.now.headers.now found.now.spans h
         → IfOk result (λ asked. Behind (drop found.now.spans.len found.now.front.now) (R.remaining reader.old)
         (λ rest. IsOfRoute Route.Commands h rest asked)) }
+    ensures taken { (h : RequestHead) → IsRequestAt found.now.front.now found.now.headers.now found.now.spans h
+        → TakesOrder h (drop found.now.spans.len found.now.front.now) (R.remaining reader.old) (R.remaining reader.new) }
+    ensures memory { result ≡ Err Unread.Memory → (h : RequestHead) → IsRequestAt found.now.front.now found.now.headers.now found.now.spans h
+        → NeedsMemory Route.Commands h }
+    ensures lost { result ≡ Err Unread.Input → IsTrue failure.new.noted }
 {
     if !is_method(found.spans.method.of(found.front), b"POST") {
         return Ok(Asked::Turned(Turned::OnlyByPost));
     }
     let length = body_length(found.front, &found.headers[..found.spans.headers]);
-    judge_command(alloc, reader, &found.front[found.spans.len..], length)
+    judge_command(
+        alloc,
+        reader,
+        failure,
+        &found.front[found.spans.len..],
+        length,
+    )
 }
 
 // What a request asks for whose target has this route.
 fn judge_route<R: Read>(
     alloc: Global,
     reader: &mut R,
+    failure: &mut Failure,
     found: &Found,
     route: Route,
     target: &str,
 ) -> Result<Asked, Unread>
     requires within { IsRequestWithin found.now.front.now found.now.headers.now found.now.spans }
     requires target { IsTarget route target.now }
-    ensures { (h : RequestHead) → IsRequestAt found.now.front.now found.now.headers.now found.now.spans h → target.now ≡ h.target
+    ensures asks { (h : RequestHead) → IsRequestAt found.now.front.now found.now.headers.now found.now.spans h → target.now ≡ h.target
         → IfOk result (λ asked. Behind (drop found.now.spans.len found.now.front.now) (R.remaining reader.old) (λ rest. IsOfRoute route h rest asked)) }
+    ensures taken { (h : RequestHead) → IsRequestAt found.now.front.now found.now.headers.now found.now.spans h → target.now ≡ h.target
+        → TakesBody h (drop found.now.spans.len found.now.front.now) (R.remaining reader.old) (R.remaining reader.new) }
+    ensures memory { result ≡ Err Unread.Memory → (h : RequestHead) → IsRequestAt found.now.front.now found.now.headers.now found.now.spans h
+        → target.now ≡ h.target → NeedsMemory route h }
+    ensures lost { result ≡ Err Unread.Input → IsTrue failure.new.noted }
 {
     match route {
-        Route::Commands => judge_order(alloc, reader, found),
+        Route::Commands => judge_order(alloc, reader, failure, found),
         _ => {
             let method = found.spans.method.of(found.front);
             judge_question(alloc, method, route, target.as_bytes())
@@ -148,28 +173,46 @@ fn judge_route<R: Read>(
 }
 
 // What a request asks for whose header lines do not turn it away.
-fn judge_target<R: Read>(alloc: Global, reader: &mut R, found: &Found) -> Result<Asked, Unread>
+fn judge_target<R: Read>(
+    alloc: Global,
+    reader: &mut R,
+    failure: &mut Failure,
+    found: &Found,
+) -> Result<Asked, Unread>
     requires at { (h : RequestHead) × IsRequestAt found.now.front.now found.now.headers.now found.now.spans h }
     requires within { IsRequestWithin found.now.front.now found.now.headers.now found.now.spans }
-    ensures { (h : RequestHead) → IsRequestAt found.now.front.now found.now.headers.now found.now.spans h
+    ensures asks { (h : RequestHead) → IsRequestAt found.now.front.now found.now.headers.now found.now.spans h
         → IfOk result (λ asked. Behind (drop found.now.spans.len found.now.front.now) (R.remaining reader.old) (λ rest. IsOfTarget h rest asked)) }
+    ensures taken { (h : RequestHead) → IsRequestAt found.now.front.now found.now.headers.now found.now.spans h
+        → TakesBody h (drop found.now.spans.len found.now.front.now) (R.remaining reader.old) (R.remaining reader.new) }
+    ensures lost { result ≡ Err Unread.Input → IsTrue failure.new.noted }
 {
     let target = target_of(found);
     match find_route(alloc, target)? {
-        Some(route) => judge_route(alloc, reader, found, route, target),
+        Some(route) => judge_route(alloc, reader, failure, found, route, target),
         None => Ok(Asked::Turned(Turned::NotFound)),
     }
 }
 
 /// What a request with a head within the limits asks for.
-pub(crate) fn judge<R: Read>(alloc: Global, reader: &mut R, found: &Found) -> Result<Asked, Unread>
+pub(crate) fn judge<R: Read>(
+    alloc: Global,
+    reader: &mut R,
+    failure: &mut Failure,
+    found: &Found,
+) -> Result<Asked, Unread>
     requires at { (h : RequestHead) × IsRequestAt found.now.front.now found.now.headers.now found.now.spans h }
     requires within { IsRequestWithin found.now.front.now found.now.headers.now found.now.spans }
-    ensures { (h : RequestHead) → IsRequestAt found.now.front.now found.now.headers.now found.now.spans h
+    ensures asks { (h : RequestHead) → IsRequestAt found.now.front.now found.now.headers.now found.now.spans h
         → IfOk result (λ asked. Behind (drop found.now.spans.len found.now.front.now) (R.remaining reader.old) (λ rest. IsOfHead h rest asked)) }
+    ensures taken { (h : RequestHead) → IsRequestAt found.now.front.now found.now.headers.now found.now.spans h
+        → TakesBody h (drop found.now.spans.len found.now.front.now) (R.remaining reader.old) (R.remaining reader.new) }
+    ensures memory { result ≡ Err Unread.Memory → (h : RequestHead) → IsRequestAt found.now.front.now found.now.headers.now found.now.spans h
+        → turned_by_lines h ≡ None }
+    ensures lost { result ≡ Err Unread.Input → IsTrue failure.new.noted }
 {
     match turned_by_lines(found) {
         Some(why) => Ok(Asked::Turned(why)),
-        None => judge_target(alloc, reader, found),
+        None => judge_target(alloc, reader, failure, found),
     }
 }

@@ -1,4 +1,4 @@
-//! What the bytes of a connection ask for. Read [`read_request`] and `specs/Requests.antt` first.
+//! What the bytes of a connection ask for. Read [`read_noting`] and `specs/Requests.antt` first.
 #![tactic(auto)]
 
 mod asked;
@@ -8,5 +8,5 @@ mod reading;
 mod unread;
 
 pub use asked::{Asked, Turned};
-pub use reading::read_request;
+pub use reading::{read_noting, read_request};
 pub use unread::Unread;

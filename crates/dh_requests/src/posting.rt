@@ -1,15 +1,19 @@
 //! The body of a command.
 
-ghost use Rattle.std.specs.Prelude.{◌≡◌, map, IfOk};
+ghost use Rattle.std.specs.Prelude.{◌≡◌, ◌≢◌, ◌≤◌, ◌-◌, ◌⊎◌, ℕ, List, length, map, IfOk, IsTrue, Err};
+ghost use Rattle.json.specs.Scratch.{room};
+ghost use Rattle.dh_heads.specs.Known.{TakesAtMost};
+ghost use Rattle.dh_bodies.specs.Texts.{AreTexts};
 ghost use Rattle.dh_requests.specs.Requests.{IsBodyOf, IsPosted, is_question, posted};
-ghost use Rattle.dh_requests.specs.Steps.{Behind, IsListed};
+ghost use Rattle.dh_requests.specs.Steps.{Behind, IsListed, IsTextsOf, TakesLength};
 
 use crate::asked::{Asked, Turned};
 use crate::unread::Unread;
 use dh_bodies::{NoTexts, list_in, texts_of};
 use dh_fields::{Request, read_fields};
-use dh_heads::{BodyFault, BodyLength, read_body};
+use dh_heads::{BodyFault, BodyLength, Failure, read_body};
 use dh_types::Refusal;
+use json::Scratch;
 use serde_json::Value;
 use std::alloc::{AllocError, Global};
 use std::io::Read;
@@ -36,7 +40,8 @@ fn request_of(alloc: Global, texts: &[&[u8]]) -> Result<Result<Request, Refusal>
 
 // What the values of a posted list ask for.
 fn judge_list(alloc: Global, items: &[Value]) -> Result<Asked, Unread>
-    ensures { IfOk result (λ asked. IsListed items.now asked) }
+    ensures asks { IfOk result (λ asked. IsListed items.now asked) }
+    ensures lost { result ≢ Err Unread.Input }
 {
     match texts_of(alloc, items)? {
         Some(texts) => Ok(Asked::Fields(request_of(alloc, &texts)?)),
@@ -44,28 +49,38 @@ fn judge_list(alloc: Global, items: &[Value]) -> Result<Asked, Unread>
     }
 }
 
-// What a body asks for.
-fn judge_body(alloc: Global, body: &[u8]) -> Result<Asked, Unread>
-    ensures { IfOk result (λ asked. IsPosted body.now asked) }
+// What a body asks for. Want of memory is told of a list of texts alone.
+fn judge_body(alloc: Global, scratch: &mut Scratch, body: &[u8]) -> Result<Asked, Unread>
+    requires { length body.now ≤ room scratch.old }
+    ensures asks { IfOk result (λ asked. IsPosted body.now asked) }
+    ensures memory { result ≡ Err Unread.Memory → (texts : List (List ℕ)) × AreTexts body.now texts }
+    ensures lost { result ≢ Err Unread.Input }
 {
-    match list_in(alloc, body) {
+    match list_in(alloc, scratch, body) {
         Ok(items) => judge_list(alloc, &items),
         Err(NoTexts::NotTexts) => Ok(Asked::Turned(Turned::BadRequest)),
         Err(NoTexts::Memory) => Err(Unread::Memory),
     }
 }
 
-// What a body of so many bytes asks for, whose beginning is `front`, with what may follow it.
+// What a body of so many bytes asks for, whose beginning is `front`, with what may follow it. Memory for the body, and to tell whether
+// it is a list of texts, is taken before a byte of it is read.
 fn read_posted<R: Read>(
     alloc: Global,
     reader: &mut R,
+    failure: &mut Failure,
     front: &[u8],
     bytes: u32,
 ) -> Result<Asked, Unread>
-    ensures { IfOk result (λ asked. Behind front.now (R.remaining reader.old) (λ rest. IsBodyOf (BodyLength.Bytes bytes) rest asked)) }
+    ensures asks { IfOk result (λ asked. Behind front.now (R.remaining reader.old) (λ rest. IsBodyOf (BodyLength.Bytes bytes) rest asked)) }
+    ensures taken { TakesAtMost (bytes - length front.now) (R.remaining reader.old) (R.remaining reader.new) }
+    ensures memory { result ≡ Err Unread.Memory → (reader.new ≡ reader.old) ⊎ Behind front.now (R.remaining reader.old) (IsTextsOf bytes) }
+    ensures lost { result ≡ Err Unread.Input → IsTrue failure.new.noted }
 {
-    match read_body(alloc, reader, front, bytes as usize) {
-        Ok(Some(body)) => judge_body(alloc, &body),
+    let mut scratch = Scratch::new(alloc);
+    scratch.reserve(bytes as usize)?;
+    match read_body(alloc, reader, failure, front, bytes as usize) {
+        Ok(Some(body)) => judge_body(alloc, &mut scratch, &body),
         Ok(None) => Ok(Asked::Turned(Turned::BadRequest)),
         Err(BodyFault::Memory) => Err(Unread::Memory),
         Err(BodyFault::Input) => Err(Unread::Input),
@@ -76,15 +91,19 @@ fn read_posted<R: Read>(
 pub(crate) fn judge_command<R: Read>(
     alloc: Global,
     reader: &mut R,
+    failure: &mut Failure,
     front: &[u8],
     length: BodyLength,
 ) -> Result<Asked, Unread>
-    ensures { IfOk result (λ asked. Behind front.now (R.remaining reader.old) (λ rest. IsBodyOf length rest asked)) }
+    ensures asks { IfOk result (λ asked. Behind front.now (R.remaining reader.old) (λ rest. IsBodyOf length rest asked)) }
+    ensures taken { TakesLength length front.now (R.remaining reader.old) (R.remaining reader.new) }
+    ensures memory { result ≡ Err Unread.Memory → (n : ℕ) × (length ≡ BodyLength.Bytes n) }
+    ensures lost { result ≡ Err Unread.Input → IsTrue failure.new.noted }
 {
     match length {
         BodyLength::Absent => Ok(Asked::Turned(Turned::NoLength)),
         BodyLength::Invalid => Ok(Asked::Turned(Turned::BadRequest)),
         BodyLength::TooLarge => Ok(Asked::Turned(Turned::BodyTooLarge)),
-        BodyLength::Bytes(bytes) => read_posted(alloc, reader, front, bytes),
+        BodyLength::Bytes(bytes) => read_posted(alloc, reader, failure, front, bytes),
     }
 }

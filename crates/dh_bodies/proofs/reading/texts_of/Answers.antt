@@ -16,7 +16,7 @@ not_texts (v ∷ vs) (t ∷ ts) zero d h none e =
     cc
 not_texts (v ∷ vs) (t ∷ ts) (suc i) d h none e = not_texts vs ts i d (omega arith) none (cc)
 
-pub returns-in-None : goal.returns-in-None
-returns-in-None c texts e =
+pub returns-in-None-clause-texts : goal.returns-in-None-clause-texts
+returns-in-None-clause-texts c texts e =
     not_texts c.args.items.now texts c.loop-item.item-index c.item-item.result c.loop-item-test.true
     (ap (λ v. as_str (view v)) (sym c.item-item.is) ∙ sym c.in-None.ensures) (cc)
