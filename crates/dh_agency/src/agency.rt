@@ -135,6 +135,13 @@ impl<S: Alter> Agency<S> {
         }
     }
 
+    /// Whether a call met fault 21 or 22, so that each further call answers 23. It takes no memory.
+    pub fn is_stopped(&self) -> bool
+        ensures { result ≡ self.now.is_stopped }
+    {
+        self.is_stopped
+    }
+
     /// The store, as it is. It takes no memory.
     pub fn into_store(self) -> Connection<S>
         ensures { result ≡ self.conn }

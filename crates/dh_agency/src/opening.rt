@@ -7,7 +7,7 @@ ghost use Rattle.dh_days.specs.declared.limits.TheConstants.{LAST_ENTRY_MONTH};
 ghost use Rattle.dh_types.specs.declared.reply.Fault.TheVariants as fault;
 ghost use Rattle.dh_model.specs.Books.{start};
 ghost use Rattle.dh_schema.specs.Faults.{IsFirstFault};
-ghost use Rattle.dh_schema.specs.Store.{IsBlank, Commits};
+ghost use Rattle.dh_schema.specs.Store.{IsBlank, Keeps, Commits};
 ghost use Rattle.dh_agency.specs.Agency.{IsClean, LeavesItsTables, machine, shown_by};
 
 use crate::Agency;
@@ -36,6 +36,7 @@ pub fn create<S: Alter>(
     ensures occupied { ¬ IsBlank (state S.Store conn) → result ≡ Err (record { cause = fault.Store; conn = conn }) }
     ensures undone { IfErr result (λ e. HasCleanDisk (state S.Store e.conn) → IsTrue (state S.Store e.conn).is_open
         → (state S.Store e.conn).committed ≡ (state S.Store conn).committed) }
+    ensures kept { IfErr result (λ e. HasCleanDisk (state S.Store e.conn) → Keeps (state S.Store conn) (state S.Store e.conn)) }
     ensures made { IfOk result (λ a. Commits (state S.Store conn) (shown_by S.Store a) (λ t. t ≡ start first)) }
     ensures crash { IfErr result (λ e. Commits (state S.Store conn) (state S.Store e.conn) (λ t. t ≡ start first)) }
 {

@@ -17,39 +17,41 @@ use Rattle.dh_http.specs.declared.fault.NetFault.TheVariants.{Closed, Input, Out
 use Rattle.dh_http.specs.declared.answers.Unsent.{Unsent}
 use Rattle.dh_http.specs.declared.answers.Unsent.TheVariants as unsent
 use Rattle.dh_http.specs.Answers.{Answer, Sends, Writes, fault_answer}
-use Rattle.dh_http.specs.Served.{Hears, IsFaultOf, IsLeftBy, IsOrder, IsServed, LeavesServed, Serves, StopsBy, Tells, served}
+use Rattle.dh_http.specs.Served.{Hears, IsFaultOf, IsLeftBy, IsOrder, IsPut, IsServed, LeavesServed, Serves, StopsBy, Tells, served}
 
 module _ {S : Type 0} (g : Ghosts S) (old new : Seat S) (a b : Option (List ℕ)) (May : Asked → Type 0) (asked : Asked) (may : May asked) where
   -- an answer without memory
   pub serves_heard : (outcome : Result ℕ Written) (result : Result ℕ NetFault) → Hears outcome result
-      → Writes a b (served (stand g old) asked).answer outcome → stand g new ≡ (served (stand g old) asked).state → Serves g old new May a b result
-  serves_heard (Ok status) result heard written state =
-      subst (Serves g old new May a b) (sym heard) (asked, may, IsServed.Told written.0 state written.1)
-  serves_heard (Err e) result heard broken state =
-      subst (Serves g old new May a b) (sym heard) (asked, (served (stand g old) asked).answer.status, may, IsServed.Told broken state refl)
+      → Writes a b (served (stand g old) asked).answer outcome → stand g new ≡ (served (stand g old) asked).state → (¬ IsPut asked → new ≡ old)
+      → Serves g old new May a b result
+  serves_heard (Ok status) result heard written state kept =
+      subst (Serves g old new May a b) (sym heard) (asked, may, IsServed.Told written.0 state kept written.1)
+  serves_heard (Err e) result heard broken state kept =
+      subst (Serves g old new May a b) (sym heard) (asked, (served (stand g old) asked).answer.status, may, IsServed.Told broken state kept refl)
 
   -- an answer that may want memory; before that the machine's step was made or not
   pub serves_told : (acted : Bool) (it : Answer) (outcome : Result ℕ Unsent) (result : Result ℕ NetFault) → Tells acted outcome result
       → Sends a b it outcome → it ≡ (served (stand g old) asked).answer → stand g new ≡ (served (stand g old) asked).state
-      → (acted ≡ true → IsOrder asked) → (acted ≡ false → machine g new ≡ machine g old) → Serves g old new May a b result
-  serves_told acted it (Ok status) result told sends is state order same =
+      → (acted ≡ true → IsOrder asked) → (acted ≡ false → machine g new ≡ machine g old) → (¬ IsPut asked → new ≡ old)
+      → Serves g old new May a b result
+  serves_told acted it (Ok status) result told sends is state order same kept =
       let sends_it = subst (λ x. Sends a b x (Ok status)) is sends in
-      subst (Serves g old new May a b) (sym told) (asked, may, IsServed.Told sends_it.0 state sends_it.1)
-  serves_told acted it (Err unsent.Output) result told sends is state order same =
+      subst (Serves g old new May a b) (sym told) (asked, may, IsServed.Told sends_it.0 state kept sends_it.1)
+  serves_told acted it (Err unsent.Output) result told sends is state order same kept =
       let broken = subst (λ x. Sends a b x (Err unsent.Output)) is sends in
-      subst (Serves g old new May a b) (sym told) (asked, (served (stand g old) asked).answer.status, may, IsServed.Told broken state refl)
-  serves_told true it (Err unsent.Memory) result told sends is state order same =
+      subst (Serves g old new May a b) (sym told) (asked, (served (stand g old) asked).answer.status, may, IsServed.Told broken state kept refl)
+  serves_told true it (Err unsent.Memory) result told sends is state order same kept =
       subst (Serves g old new May a b) (sym told) (asked, may, sends, order refl, state)
-  serves_told false it (Err unsent.Memory) result told sends is state order same =
+  serves_told false it (Err unsent.Memory) result told sends is state order same kept =
       subst (Serves g old new May a b) (sym told) (sends, same refl)
 
   -- a fault
-  pub serves_fault : (fault : Fault) (outcome : Result ℕ Written) (result : Result ℕ NetFault) → Hears outcome result → Writes a b (fault_answer fault) outcome
+  pub serves_fault : IsPut asked → (fault : Fault) (outcome : Result ℕ Written) (result : Result ℕ NetFault) → Hears outcome result → Writes a b (fault_answer fault) outcome
       → IsFaultOf old fault → new.is_stopped ≡ true → (IsOpen g new → IsLeftBy asked (machine g old) (machine g new)) → Serves g old new May a b result
-  serves_fault fault (Ok status) result heard written is stopped left =
-      subst (Serves g old new May a b) (sym heard) (asked, may, IsServed.Faulted fault written.0 is stopped left written.1)
-  serves_fault fault (Err e) result heard broken is stopped left =
-      subst (Serves g old new May a b) (sym heard) (asked, 503, may, IsServed.Faulted fault broken is stopped left refl)
+  serves_fault put fault (Ok status) result heard written is stopped left =
+      subst (Serves g old new May a b) (sym heard) (asked, may, IsServed.Faulted fault put written.0 is stopped left written.1)
+  serves_fault put fault (Err e) result heard broken is stopped left =
+      subst (Serves g old new May a b) (sym heard) (asked, 503, may, IsServed.Faulted fault put broken is stopped left refl)
 
 -- ---- whether the agency has stopped
 module _ {S : Type 0} (old new : Seat S) where

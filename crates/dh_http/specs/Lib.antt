@@ -1,2 +1,3 @@
 pub mod Answers
 pub mod Served
+pub mod FirstLines

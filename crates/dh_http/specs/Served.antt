@@ -49,6 +49,12 @@ IsOrder (Fields (Ok (Question question))) = ⊥
 IsOrder (Fields (Err why)) = ⊥
 IsOrder (Turned why) = ⊥
 
+-- it is put to the agency: a command or a question, and no request that is turned away or refused for a field
+abbrev pub IsPut : Asked → Type 0
+IsPut (Fields (Ok request)) = ⊤
+IsPut (Fields (Err why)) = ⊥
+IsPut (Turned why) = ⊥
+
 -- The tables that a fault leaves: those of a command that was cut, or the same where nothing was to be changed.
 abbrev pub IsLeftBy : Asked → State → State → Type 0
 IsLeftBy (Fields (Ok (Ordered command))) before left = IsCut command before left
@@ -76,11 +82,12 @@ Hears (Ok status) it = it ≡ Ok status
 Hears (Err e) it = it ≡ Err Output
 
 module _ {S : Type 0} (g : Ghosts S) (old new : Seat S) where
-  -- The request was answered, and the machine stands where the answer says; or a fault was told, and the agency has stopped.
+  -- The request was answered, and the machine stands where the answer says: one that was not put to the agency leaves it as it is. Or it was put
+  -- to the agency, a fault was told, and the agency has stopped.
   pub data IsServed (asked : Asked) (status : ℕ) (Writes : List ℕ → Type 0) : Type 0 where
     Told : Writes (answer_text (served (stand g old) asked).answer) → stand g new ≡ (served (stand g old) asked).state
-        → status ≡ (served (stand g old) asked).answer.status → IsServed asked status Writes
-    Faulted : (fault : Fault) → Writes (answer_text (fault_answer fault)) → IsFaultOf old fault → new.is_stopped ≡ true
+        → (¬ IsPut asked → new ≡ old) → status ≡ (served (stand g old) asked).answer.status → IsServed asked status Writes
+    Faulted : (fault : Fault) → IsPut asked → Writes (answer_text (fault_answer fault)) → IsFaultOf old fault → new.is_stopped ≡ true
         → (IsOpen g new → IsLeftBy asked (machine g old) (machine g new)) → status ≡ 503 → IsServed asked status Writes
 
   -- What the result says, where requests may be asked so. After `Memory` nothing is written, and it tells whether the machine's step

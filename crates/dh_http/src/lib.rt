@@ -3,6 +3,7 @@
 
 mod answers;
 mod fault;
+pub mod laws;
 mod serving;
 
 pub use fault::NetFault;

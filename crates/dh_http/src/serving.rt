@@ -4,7 +4,7 @@ ghost use Rattle.std.specs.Prelude.{◌≡◌, ◌≢◌, true, false, [], Err, 
 ghost use Rattle.dh_agency.specs.Agency.{IsClean, LeavesItsTables, WasClean};
 ghost use Rattle.dh_fields.specs.declared.request.Request.TheVariants as request;
 ghost use Rattle.dh_http.specs.Answers.{Sends};
-ghost use Rattle.dh_requests.specs.Requests.{MayAsk};
+ghost use Rattle.dh_requests.specs.Requests.{MayAsk, TakesRequest};
 ghost use Rattle.dh_http.specs.Served.{Hears, LeavesServed, Serves, StopsBy, Tells};
 
 use crate::answers::{Unsent, put_fault, put_refused, put_replied, put_shown, put_turned};
@@ -106,6 +106,7 @@ pub fn serve_one<S: Alter, R: Read, W: Write>(
     ensures serves { IsClean S.Store agency.new → Serves S.Store agency.old agency.new
         (λ asked. IfSome (R.remaining reader.old) (λ input. MayAsk input asked)) (W.contents writer.old) (W.contents writer.new) result }
     ensures closed { result ≡ Err NetFault.Closed → IfSome (R.remaining reader.old) (λ input. input ≡ []) }
+    ensures taken { TakesRequest (R.remaining reader.old) (R.remaining reader.new) }
     ensures crash { IsClean S.Store agency.new → agency.old.is_stopped ≡ false → LeavesItsTables S.Store agency.old
         → LeavesServed S.Store agency.old agency.new (λ asked. IfSome (R.remaining reader.old) (λ input. MayAsk input asked)) }
     ensures left { IsClean S.Store agency.new → LeavesItsTables S.Store agency.old → agency.new.is_stopped ≡ false → LeavesItsTables S.Store agency.new }

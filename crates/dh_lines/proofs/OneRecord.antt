@@ -1,6 +1,6 @@
 -- What one record is answered, from what the agency's call and the writing of its line give.
 use Rattle.std.proofs.Common.{◌≡◌, ◌∙◌, ℕ, Bool, Option, List, ◌++◌, Result, Ok, Err, refl, sym, ap, subst}
-use Rattle.std.specs.Prelude.{IsErrAnd}
+use Rattle.std.specs.Prelude.{IfErr, IsErrAnd}
 use Rattle.std.specs.Io.KnownBytes.{Appends}
 use Rattle.sqlite.specs.Store.{Ghosts}
 use Rattle.dh_types.specs.Output.{BreaksOff, Puts}
@@ -8,6 +8,7 @@ use Rattle.dh_types.specs.Replies.{is_refusal, reply_text}
 use Rattle.dh_types.specs.Reports.{Report, is_no_report}
 use Rattle.dh_types.specs.declared.question.Question.{Question}
 use Rattle.dh_types.specs.declared.reply.Fault.{Fault}
+use Rattle.dh_types.specs.declared.reply.Fault.TheVariants as faults
 use Rattle.dh_types.specs.declared.reply.Reply.{Reply}
 use Rattle.dh_model.specs.Answers.{report}
 use Rattle.dh_model.specs.Books.{State}
@@ -22,7 +23,7 @@ use Rattle.dh_lines.specs.declared.outcome.Halt.{Halt}
 use Rattle.dh_lines.specs.declared.outcome.Halt.TheVariants as halt
 use Rattle.dh_reports.specs.Columns.{newline}
 use Rattle.dh_lines.specs.Session.{Answered, fault_line, numbered, replied, reported, reported_text}
-use Rattle.dh_lines.specs.Batch.{Answers, HaltsByFault, IsFirst, TellsFault, batch_fault}
+use Rattle.dh_lines.specs.Batch.{Answers, HaltsByFault, IsFirst, IsStoreFault, TellsFault, batch_fault}
 
 -- a fault that was told
 pub fault_first : (a b : Option (List ℕ)) (n : ℕ) (fault : Fault) (h : Halt) → TellsFault a b n fault h → IsFirstFault fault → IsFirst (batch_fault h)
@@ -34,6 +35,18 @@ pub fault_halts : (a b : Option (List ℕ)) (n : ℕ) (fault : Fault) (h : Halt)
 fault_halts a b n fault (halt.Fault found outcome) told = tt
 fault_halts a b n fault halt.Input told = absurd told
 fault_halts a b n fault halt.Output told = absurd told
+
+-- want of memory is no fault of the store
+pub no_store_fault : (a b : Option (List ℕ)) (n : ℕ) (h : Halt) → TellsFault a b n faults.Memory h → ¬ IsStoreFault (batch_fault h)
+no_store_fault a b n (halt.Fault found outcome) told is = cc (told.0)
+no_store_fault a b n halt.Input told is = is
+no_store_fault a b n halt.Output told is = is
+
+-- an error that is handed on is the one that was met
+pub store_handed : {T : Type 0} (Stops : Type 0) (r : Result T Halt) (e : Halt) → IsErrAnd r (λ y. y ≡ e) → (IsStoreFault (batch_fault e) → Stops)
+    → IfErr r (λ it. IsStoreFault (batch_fault it) → Stops)
+store_handed Stops (Ok value) e is h = tt
+store_handed Stops (Err y) e is h = λ store. h (subst (λ z. IsStoreFault (batch_fault z)) is store)
 
 module _ {S : Type 0} (g : Ghosts S) (old new : Seat S) (a b : Option (List ℕ)) (n : ℕ) where
   pub answers_fault : (it : Answered) (P : State → Type 0) (fault : Fault) (h : Halt) → TellsFault a b n fault h → (IsOpen g new → P (machine g new))

@@ -56,6 +56,12 @@ IsFirst (ended.Agency it) = IsFirstFault it
 IsFirst ended.Input = ⊤
 IsFirst ended.Output = ⊤
 
+-- fault 22, which only the agency answers: the batch itself can want memory alone
+abbrev pub IsStoreFault : BatchFault → Type 0
+IsStoreFault (ended.Agency it) = it ≡ faults.Store
+IsStoreFault ended.Input = ⊥
+IsStoreFault ended.Output = ⊥
+
 -- this fault, whose line was written as the outcome of that says: the whole, or some of it
 abbrev pub TellsFault : Option (List ℕ) → Option (List ℕ) → ℕ → Fault → Halt → Type 0
 TellsFault a b n it (halt.Fault found outcome) = (found ≡ it) × Puts a b outcome (fault_line n it)

@@ -9,7 +9,7 @@ ghost use Rattle.dh_model.specs.Runs.{batch_size};
 ghost use Rattle.dh_agency.specs.Agency.{IsClean, Leaves, LeavesItsTables, WasClean, machine, stand};
 ghost use Rattle.dh_agency.specs.Told.{IsCut};
 ghost use Rattle.dh_lines.specs.Session.{answered, replied, reported};
-ghost use Rattle.dh_lines.specs.Batch.{Answers, HaltsByFault, IsFirst, IsWithin, TellsFault, TellsReading, batch_fault};
+ghost use Rattle.dh_lines.specs.Batch.{Answers, HaltsByFault, IsFirst, IsStoreFault, IsWithin, TellsFault, TellsReading, batch_fault};
 
 use crate::outcome::Halt;
 use crate::replies::{put_answer_line, put_fault_line, put_refused_line, put_reply_line};
@@ -55,6 +55,8 @@ fn answer_command<S: Alter, W: Write>(
     ensures left { IsClean S.Store agency.new → agency.new.is_stopped ≡ false → LeavesItsTables S.Store agency.new }
     ensures cause { agency.old.is_stopped ≡ false → IfErr result (λ it. IsFirst (batch_fault it)) }
     ensures stops { (agency.new.is_stopped ≡ agency.old.is_stopped) ⊎ (HaltsByFault result × (agency.new.is_stopped ≡ true)) }
+    ensures store { IfErr result (λ it. IsStoreFault (batch_fault it) → agency.new.is_stopped ≡ true) }
+    ensures stopped { agency.old.is_stopped ≡ true → agency.new ≡ agency.old }
     ensures was_clean { WasClean S.Store agency.old agency.new }
 {
     match agency.step(alloc, command) {
@@ -81,6 +83,8 @@ fn answer_question<S: Alter, W: Write>(
     ensures left { IsClean S.Store agency.new → agency.new.is_stopped ≡ false → LeavesItsTables S.Store agency.new }
     ensures cause { agency.old.is_stopped ≡ false → IfErr result (λ it. IsFirst (batch_fault it)) }
     ensures stops { (agency.new.is_stopped ≡ agency.old.is_stopped) ⊎ (HaltsByFault result × (agency.new.is_stopped ≡ true)) }
+    ensures store { IfErr result (λ it. IsStoreFault (batch_fault it) → agency.new.is_stopped ≡ true) }
+    ensures stopped { agency.old.is_stopped ≡ true → agency.new ≡ agency.old }
     ensures was_clean { WasClean S.Store agency.old agency.new }
 {
     // A question is answered alike by the tables and by their whole.
@@ -112,6 +116,8 @@ pub fn answer<S: Alter, W: Write>(
     ensures left { IsClean S.Store agency.new → LeavesItsTables S.Store agency.old → agency.new.is_stopped ≡ false → LeavesItsTables S.Store agency.new }
     ensures cause { agency.old.is_stopped ≡ false → IfErr result (λ it. IsFirst (batch_fault it)) }
     ensures stops { (agency.new.is_stopped ≡ agency.old.is_stopped) ⊎ (HaltsByFault result × (agency.new.is_stopped ≡ true)) }
+    ensures store { IfErr result (λ it. IsStoreFault (batch_fault it) → agency.new.is_stopped ≡ true) }
+    ensures stopped { agency.old.is_stopped ≡ true → agency.new ≡ agency.old }
     ensures was_clean { WasClean S.Store agency.old agency.new }
 {
     match read_line(alloc, row) {

@@ -15,6 +15,7 @@ returns-in-Ok-clause-serves g c clean =
     let said = sym (c.in-Ok.ensures.said clean) in
     serves_told g.S.Store c.args.agency.now c.step.new.self _ _ (λ x. x ≡ it) it refl true (reply_answer c.in-Ok.reply) c.put_replied.result c.told.result
     c.told.ensures c.put_replied.ensures (ap (λ z. reply_answer z.1) said) (ap (λ z. z.0) said) (λ e. tt) (λ e. cc)
+    (λ no. absurd (no tt))
 
 pub returns-in-Err-clause-serves : goal.returns-in-Err-clause-serves
 returns-in-Err-clause-serves g c clean =
@@ -23,6 +24,6 @@ returns-in-Err-clause-serves g c clean =
     let told = c.args.command.now in
     let before = machine g.S.Store old in
     let it = asked.Fields (Ok (request.Command told)) in
-    serves_fault g.S.Store old new _ _ (λ x. x ≡ it) it refl c.in-Err.fault c.put_fault.result c.heard.result c.heard.ensures c.put_fault.ensures
+    serves_fault g.S.Store old new _ _ (λ x. x ≡ it) it refl tt c.in-Err.fault c.put_fault.result c.heard.result c.heard.ensures c.put_fault.ensures
     (fault_of old new c.in-Err.fault c.in-Err.ensures.cause c.in-Err.ensures.stopped) c.in-Err.ensures.stops
     (cut_or_stopped g.S.Store old new (IsCut told before) _ (c.in-Err.ensures.halted clean) c.in-Err.ensures.stopped (same_cut told before before refl))

@@ -23,6 +23,7 @@ returns-in-Ok-clause-serves g c clean =
     ∙ report_stands (c.answers_pass_the_run.ensures batch_size) c.open_runs_refuse_put_off.ensures (machine g.S.Store old) c.args.question.now in_order in
     serves_told g.S.Store old new _ _ (λ x. x ≡ it) it refl false (report_answer (report_of c.in-Ok.answer)) c.put_shown-outcome.result c.told.result
     c.told.ensures c.put_shown-outcome.ensures (ap report_answer shown) (ap stand_of same) (λ e. cc) (λ e. same)
+    (λ no. absurd (no tt))
 
 pub returns-in-Err-clause-serves : goal.returns-in-Err-clause-serves
 returns-in-Err-clause-serves g c clean =
@@ -30,6 +31,6 @@ returns-in-Err-clause-serves g c clean =
     let new = c.show.new.self in
     let before = machine g.S.Store old in
     let it = asked.Fields (Ok (request.Question c.args.question.now)) in
-    serves_fault g.S.Store old new _ _ (λ x. x ≡ it) it refl c.in-Err.fault c.put_fault.result c.heard.result c.heard.ensures c.put_fault.ensures
+    serves_fault g.S.Store old new _ _ (λ x. x ≡ it) it refl tt c.in-Err.fault c.put_fault.result c.heard.result c.heard.ensures c.put_fault.ensures
     (fault_of old new c.in-Err.fault c.in-Err.ensures.cause c.in-Err.ensures.stopped) c.in-Err.ensures.stops
     (cut_or_stopped g.S.Store old new (λ now. now ≡ before) _ (c.in-Err.ensures.halted clean) c.in-Err.ensures.stopped refl)

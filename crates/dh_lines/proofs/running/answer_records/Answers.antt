@@ -27,6 +27,7 @@ loop-n-preserved g c =
       config = on.0 ∙ inv.config;
       few = omega (arith, inv.few, small);
       was_clean = omega (arith, inv.was_clean, did.was_clean);
+      unmoved = λ dead. did.stopped (inv.stopped ∙ dead) ∙ inv.unmoved dead;
       stopped = stays ∙ inv.stopped;
       left = λ clean h live. did.left clean (inv.left (was clean) h (sym stays ∙ live)) live;
       answered = λ clean. answered_next g.S.Store c.args.agency.now c.loop-n.agency c.answer.new.agency f (inv.answered (was clean)) (did.answers clean).1;
@@ -109,3 +110,8 @@ returns-in_err-is_refused-clause-left g c clean h live =
     let was : IsClean g.S.Store c.loop-n.agency = omega (arith, did.was_clean, clean) in
     let on : c.loop-n.agency.is_stopped ≡ false = still_on c.in_err-is_refused.field-0.0 did.stops live in
     did.left clean (inv.left was h on) live
+
+pub returns-in_err-is_refused-clause-stopped : goal.returns-in_err-is_refused-clause-stopped
+returns-in_err-is_refused-clause-stopped g c dead =
+    let inv = c.loop-n.invariant in
+    c.in_err-is_refused.ensures.stopped (inv.stopped ∙ dead) ∙ inv.unmoved dead

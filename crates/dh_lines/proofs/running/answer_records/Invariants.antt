@@ -1,4 +1,4 @@
-use Rattle.std.proofs.Common.{◌≡◌, ◌≤◌, IfSome, false}
+use Rattle.std.proofs.Common.{◌≡◌, ◌≤◌, IfSome, false, true}
 use Rattle.csv.specs.Reading.{Ready, default_config, reader_config, reader_trim}
 use Rattle.csv.specs.declared.reader.Trim.TheVariants as trim
 use Rattle.dh_agency.specs.Agency.{IsClean, LeavesItsTables, WasClean, stand}
@@ -13,6 +13,7 @@ invariant-loop-n g l = record {
   config : reader_config l.records ≡ default_config;
   few : l.refused ≤ l.n;
   was_clean : WasClean g.S.Store l.initial.agency l.agency;
+  unmoved : l.initial.agency.is_stopped ≡ true → l.agency ≡ l.initial.agency;
   stopped : l.agency.is_stopped ≡ l.initial.agency.is_stopped;
   left : IsClean g.S.Store l.agency → LeavesItsTables g.S.Store l.initial.agency → l.agency.is_stopped ≡ false → LeavesItsTables g.S.Store l.agency;
   answered : IsClean g.S.Store l.agency → WasAnswered g.S.Store l.initial.agency l.agency;
