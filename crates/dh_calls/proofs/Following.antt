@@ -2,15 +2,19 @@
 use Rattle.std.proofs.Common.{◌≡◌, ◌⊎◌, inl, inr, refl, sym, ap, subst, IsTrue, List, [], ◌∷◌, Option, Some, None}
 use Rattle.sqlite.specs.Store.{Ghosts}
 use Rattle.sqlite.specs.State.{State, HasCleanDisk}
-use Rattle.sqlite.specs.Effect.{Database}
+use Rattle.sqlite.specs.Effect.{Database, IsDatabase}
 use Rattle.sqlite.specs.Held.{Held, state}
 use Rattle.sqlite_trees.specs.Tree.{Trees}
+use Rattle.sqlite_trees.specs.Objects.{catalog_tree}
+use Rattle.sqlite_catalog.proofs.ReadLemmas.{lists_once}
 use Rattle.dh_types.specs.declared.command.Command.TheVariants as command
 use Rattle.dh_model.specs.Books as machine
 use Rattle.dh_model.specs.Runs.{batch_size}
 use Rattle.dh_laws.specs.Batches.{IsPostedInPart}
 use Rattle.dh_laws.specs.Events.{Event, Follow, Happens, Tables}
 use Rattle.dh_laws.specs.StateTables as tabled
+use Rattle.dh_catalog.specs.Layout.{our_schema}
+use Rattle.dh_tables.specs.Calls.{HasOurTables}
 use Rattle.dh_schema.specs.Store.{AreTables, tables}
 use Rattle.dh_schema.specs.Tables.{IsSound, state_in}
 use Rattle.dh_schema.proofs.Keyed.{sound_tables_show_their_run}
@@ -92,9 +96,13 @@ module _ {S : Type 0} (g : Ghosts S) where
   joined None before found events sound same later = subst (λ (t : Tables). Follow batch_size t events) (ap tabled.tables same) later
   joined (Some event) before found events sound it later = (sound_tables_show_their_run (state g found).now.trees sound, it, later)
 
+  -- sound tables are listed by our schema, and a list tells one schema
+  ours : (it : Held S) → IsSoundIn g it → IsDatabase (state g it).now → HasOurTables (state g it)
+  ours it sound lists = lists_once ((state g it).now.trees catalog_tree) (state g it).now.schema our_schema lists.lists sound.in_order.listed.lists
+
   pub histories_are_events : HistoriesAreEvents g
   histories_are_events start [] sound so = (tt, tt)
   histories_are_events start (it ∷ later) sound so =
       let here = found_after start it sound so.0 in
       let next = histories_are_events it.found later here.0 so.1 in
-      (joined (event_of it.call) start it.found (events_of g later) here.0 here.1 next.0, (here.0, next.1))
+      (joined (event_of it.call) start it.found (events_of g later) here.0 here.1 next.0, (here.0, ours it.found here.0 so.0.lists, next.1))

@@ -3,3 +3,4 @@ pub mod Taken
 pub mod Ending
 pub mod Moving
 pub mod Reopened
+pub mod Unchanged

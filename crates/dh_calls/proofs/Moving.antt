@@ -3,9 +3,11 @@ use Rattle.std.proofs.Common.{◌≡◌, ◌∙◌, refl, sym, ap, subst, ℕ, �
 use Rattle.std.proofs.Common.{Bool, true, false, nat_eq, [], ◌∷◌, Option, Some, None, if◌then◌else◌, arith}
 use Rattle.std.proofs.lemmas.Bool.{false≢true}
 use Rattle.std.specs.FinMap.{len}
+use Rattle.std.specs.Option.{option_map}
 use Rattle.sqlite_trees.specs.Tree.{Trees}
 use Rattle.dh_types.specs.declared.lease.Receipt.{Receipt}
 use Rattle.dh_types.specs.declared.run.Run.{Run}
+use Rattle.dh_types.specs.declared.run.RunSum.{RunSum}
 use Rattle.dh_types.specs.declared.command.Command.{Command}
 use Rattle.dh_types.specs.declared.command.Command.TheVariants as command
 use Rattle.dh_types.specs.declared.command.ReceiptOrder.{ReceiptOrder}
@@ -28,6 +30,7 @@ use Rattle.dh_model.specs.Runs.{batch_size, sum_of}
 use Rattle.dh_model.specs.Rules.{IsLawful}
 use Rattle.dh_model.specs.Verdicts.{judged, opened_run, receipt_checks, receipt_verdict, rows_unless, run_verdict, unless_open, unless_paid, unless_posted}
 use Rattle.dh_model.specs.Verdicts.{unless_receipt, unless_run, verdict_on}
+use Rattle.dh_model.specs.Whole.{open_row}
 use Rattle.dh_laws.specs.Balances as owed
 use Rattle.dh_laws.specs.Balances.{BalancesMoveAsTold, moved}
 use Rattle.dh_laws.specs.Events.{state_of}
@@ -37,8 +40,9 @@ use Rattle.dh_laws.specs.Repeating as repeated
 use Rattle.dh_laws.specs.Repeating.{is_of_nothing_new, with_no_run}
 use Rattle.dh_laws.proofs.VerdictCases.{assign_case, branch_case, client_case, comment_case, inspection_case, lease_case, owner_case, post_case, property_case}
 use Rattle.dh_laws.proofs.VerdictCases.{receipt_case, register_case, rent_case, run_case, staff_case, viewing_case}
-use Rattle.dh_schema.specs.Tables.{IsSound, books_in, tables_in}
-use Rattle.dh_calls.specs.Answered.{AnswersKeepTheRules, AnswersMoveBalances, ChargesAreDues, SentAgainIsToldTheSame, added, whole_in}
+use Rattle.dh_laws.proofs.TellingWhole.{own_state}
+use Rattle.dh_schema.specs.Tables.{IsSound, books_in, state_in, tables_in}
+use Rattle.dh_calls.specs.Answered.{AnswersKeepTheRules, AnswersMoveBalances, ChargesAreDues, SentAgainIsToldTheSame, StandAlike, added, whole_in}
 use Rattle.dh_calls.proofs.Ending.{sound_in_order}
 
 -- ---- what was carried out before is told as nothing new
@@ -151,6 +155,29 @@ module _ (s : State) (lease : ℕ) where
   told_so told (verdict.Already kept) e = kept_so told kept e
   told_so told (verdict.Refused why) e = sym (none_added s.books told (reply.Refused why) lease refl)
 
+-- ---- where no run is open
+
+-- none is where a receipt, or a run, is told what it came to
+shut_receipt : (s after : State) (run : Option OpenRun) (order : ReceiptOrder) (number : ℕ) → s.open_run ≡ run
+    → step batch_size s (command.Receipt order) ≡ (after, reply.AlreadyReceipt number) → run ≡ None
+shut_receipt s after None order number is e = refl
+shut_receipt s after (Some run) order number is e =
+    let told = ap (λ (now : Option OpenRun). (step batch_size (record s { open_run = now }) (command.Receipt order)).1) (sym is)
+    ∙ ap (λ (r : State × Reply). r.1) e in
+    cc
+
+shut_run : (s after : State) (run : Option OpenRun) (order : RunOrder) (sum : RunSum) → s.open_run ≡ run
+    → step batch_size s (command.Run order) ≡ (after, reply.AlreadyPosted sum) → run ≡ None
+shut_run s after None order sum is e = refl
+shut_run s after (Some run) order sum is e =
+    let told = ap (λ (now : Option OpenRun). (step batch_size (record s { open_run = now }) (command.Run order)).1) (sym is)
+    ∙ ap (λ (r : State × Reply). r.1) e in
+    cc
+
+none_mapped : {X Y : Type 0} (f : X → Y) (found : Option X) → option_map f found ≡ None → found ≡ None
+none_mapped f None e = refl
+none_mapped f (Some x) e = cc
+
 -- ---- the laws
 
 module _ (lawful : WholeIsLawful batch_size) where
@@ -180,6 +207,15 @@ module _ (lawful : WholeIsLawful batch_size) where
   one_outcome : (r : State × Reply) (t u : State) (kept told : Reply) → r ≡ (t, kept) → r ≡ (u, told) → (told ≡ kept) × (u ≡ t)
   one_outcome r t u kept told e f = (ap (λ (x : State × Reply). x.1) (sym f ∙ e), ap (λ (x : State × Reply). x.0) (sym f ∙ e))
 
+  -- where no run is open the machine stands at the tables themselves
+  own : (trees : Trees) → (state_in trees).open_run ≡ None → state_of batch_size (tables_in trees) ≡ state_in trees
+  own trees none = own_state batch_size (state_in trees) (none_mapped _ (open_row (books_in trees)) none)
+
+  same_tables : (after again : Trees) → (state_in after).open_run ≡ None → StandAlike after again → state_in again ≡ state_in after
+  same_tables after again none alike =
+      let also : (state_in again).open_run ≡ None = ap (λ (s : State). s.open_run) alike ∙ none in
+      sym (own again also) ∙ alike ∙ own after none
+
   pub sent_again_is_told_the_same : repeated.SentAgainIsToldTheSame batch_size → SentAgainIsToldTheSame
   sent_again_is_told_the_same again_so before after again told sound none =
       let all = whole_lawful before sound in
@@ -190,9 +226,11 @@ module _ (lawful : WholeIsLawful batch_size) where
       let u = state_of batch_size (tables_in again) in
       let shut : s ≡ with_no_run books = ap (λ (run : Option OpenRun). record { books = books; open_run = run }) none in (
         λ order number first next.
-            one_outcome (step batch_size t (command.Receipt order)) t u (reply.AlreadyReceipt number) told
-            (repeats.0 order t number (subst (λ (x : State). step batch_size x (command.Receipt order) ≡ (t, reply.Receipt number)) shut first)) next,
+            let kept = repeats.0 order t number (subst (λ (x : State). step batch_size x (command.Receipt order) ≡ (t, reply.Receipt number)) shut first) in
+            let out = one_outcome (step batch_size t (command.Receipt order)) t u (reply.AlreadyReceipt number) told kept next in
+            (out.0, same_tables after again (shut_receipt t t t.open_run order number refl kept) out.1),
         λ order sum first next.
-            one_outcome (step batch_size t (command.Run order)) t u (reply.AlreadyPosted sum) told
-            (repeats.1 order t sum (subst (λ (x : State). step batch_size x (command.Run order) ≡ (t, reply.Posted sum)) shut first)).0 next,
+            let kept = (repeats.1 order t sum (subst (λ (x : State). step batch_size x (command.Run order) ≡ (t, reply.Posted sum)) shut first)).0 in
+            let out = one_outcome (step batch_size t (command.Run order)) t u (reply.AlreadyPosted sum) told kept next in
+            (out.0, same_tables after again (shut_run t t t.open_run order sum refl kept) out.1),
       )

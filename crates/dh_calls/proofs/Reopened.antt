@@ -1,6 +1,7 @@
 -- What is found after a call and a crash.
 use Rattle.std.proofs.Common.{◌≤◌, inr, Result, Ok, Err, IfOk, IfErr, OnErr, arith}
 use Rattle.sqlite.specs.Store.{Ghosts}
+use Rattle.sqlite.specs.Effect.{IsDatabase}
 use Rattle.sqlite.specs.State.{HasCleanDisk}
 use Rattle.sqlite.specs.Held.{Held, state}
 use Rattle.sqlite_trees.specs.View.{doubt}
@@ -31,10 +32,13 @@ if_err_both (Err e) P Q R f p q = f e p q
 
 module _ {S : Type 0} (g : Ghosts S) (before : Held S) where
   -- the call ended so, and its files were opened anew
-  pub opened_anew : (ended found : Held S) → IsOpenedAnew g ended found → doubt (state g ended).is_clean ≤ doubt (state g found).is_clean
+  pub opened_anew : (ended found : Held S) → IsOpenedAnew g ended found → (HasCleanDisk (state g found) → IsDatabase (state g found).now)
+      → doubt (state g ended).is_clean ≤ doubt (state g found).is_clean
       → HasCleanDisk (state g found) → (call : Call) → IsOfALine call → Tells call (state g before) (state g ended) → IsFoundAfter g before call found
-  opened_anew ended found anew was_clean clean call line tells =
-      record { ended = ended; happened = record { tells = tells; line = line; finds = inr anew; clean = (omega (arith, was_clean, clean), clean) } }
+  opened_anew ended found anew lists was_clean clean call line tells = record {
+    ended = ended;
+    happened = record { tells = tells; line = line; finds = inr anew; lists = lists clean; clean = (omega (arith, was_clean, clean), clean) };
+  }
 
   module _ (found : Held S) where
     abbrev Finds : (machine.State → machine.State → Type 0) → Type 0

@@ -32,7 +32,7 @@ sound_is_taken trees _ sound it = it
 module _ {S : Type 0} (g : Ghosts S) where
   last_sound : (history : List (Moment S)) (last : Moment S) → AreFoundSound g (history ++ last ∷ []) → IsSoundIn g last.found
   last_sound [] last all = all.0
-  last_sound (it ∷ later) last all = last_sound later last all.1
+  last_sound (it ∷ later) last all = last_sound later last all.2
 
   pub none_is_refused : NoneIsRefused g
   none_is_refused first history last why sound so =

@@ -1,5 +1,5 @@
 -- What a command that was answered moves and keeps. The books are the whole ones, with the open run made to its end.
-use Rattle.std.specs.Prelude.{◌≡◌, ◌↔◌, ℕ, ℤ, pos, ◌+ℤ◌, ◌-ℤ◌, nat_eq, if◌then◌else◌, None}
+use Rattle.std.specs.Prelude.{◌≡◌, ◌↔◌, ℕ, ℤ, pos, ◌+ℤ◌, ◌-ℤ◌, true, nat_eq, if◌then◌else◌, None}
 use Rattle.std.specs.List.{IsAmong}
 use Rattle.std.specs.FinMap.{values}
 use Rattle.sqlite_trees.specs.Tree.{Trees}
@@ -22,6 +22,7 @@ use Rattle.dh_model.specs.Whole.{whole}
 use Rattle.dh_laws.specs.Balances.{due_on}
 use Rattle.dh_laws.specs.Events.{state_of}
 use Rattle.dh_laws.specs.InOrder.{AreKeyed, IsEntered}
+use Rattle.dh_laws.specs.Repeating.{is_of_nothing_new}
 use Rattle.dh_schema.specs.Tables.{IsSound, books_in, state_in, tables_in}
 use Rattle.dh_runs.specs.Told.{IsSaid}
 
@@ -59,10 +60,19 @@ AnswersKeepTheRules = (before after : Trees) (told : Command) (reply : Reply) �
 abbrev pub StandAlike : Trees → Trees → Type 0
 StandAlike before after = state_of batch_size (tables_in after) ≡ state_of batch_size (tables_in before)
 
--- a receipt or a run that was accepted while no run was open, and is sent again next, is told the same, and nothing moves
+-- sound tables with which it stands alike are the same, row for row; while a run is open too
+abbrev pub StandingTellsTheTables : Type 0
+StandingTellsTheTables = (before after : Trees) → IsSound before → IsSound after → StandAlike before after → state_in after ≡ state_in before
+
+-- so are those before and after a command that was refused, or that was carried out before
+abbrev pub NothingNewLeavesTheTables : Type 0
+NothingNewLeavesTheTables = (before after : Trees) (told : Command) (reply : Reply) → IsSound before → IsSound after
+    → IsSaid told reply (state_in before) (state_in after) → is_of_nothing_new reply ≡ true → state_in after ≡ state_in before
+
+-- a receipt or a run that was accepted while no run was open, and is sent again next, is told the same, and no row moves
 abbrev pub SentAgainIsToldTheSame : Type 0
 SentAgainIsToldTheSame = (before after again : Trees) (told : Reply) → IsSound before → (state_in before).open_run ≡ None
     → ((order : ReceiptOrder) (number : ℕ) → IsSaid (command.Receipt order) (reply.Receipt number) (state_in before) (state_in after)
-    → IsSaid (command.Receipt order) told (state_in after) (state_in again) → (told ≡ reply.AlreadyReceipt number) × StandAlike after again)
+    → IsSaid (command.Receipt order) told (state_in after) (state_in again) → (told ≡ reply.AlreadyReceipt number) × (state_in again ≡ state_in after))
     × ((order : RunOrder) (sum : RunSum) → IsSaid (command.Run order) (reply.Posted sum) (state_in before) (state_in after)
-    → IsSaid (command.Run order) told (state_in after) (state_in again) → (told ≡ reply.AlreadyPosted sum) × StandAlike after again)
+    → IsSaid (command.Run order) told (state_in after) (state_in again) → (told ≡ reply.AlreadyPosted sum) × (state_in again ≡ state_in after))

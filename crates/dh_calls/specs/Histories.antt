@@ -1,11 +1,15 @@
 -- Any number of calls on an agency's tables, one after the other, with stops between and within them.
-use Rattle.std.specs.Prelude.{◌≡◌, ◌⊎◌, IsTrue, List, [], ◌∷◌, Option, Some, None}
+use Rattle.std.specs.Prelude.{◌≡◌, ◌⊎◌, Bool, true, false, IsTrue, List, [], ◌∷◌, Option, Some, None}
 use Rattle.sqlite.specs.Store.{Ghosts}
+use Rattle.sqlite.specs.Effect.{IsDatabase}
 use Rattle.sqlite.specs.State.{HasCleanDisk}
 use Rattle.sqlite.specs.Held.{Held, state}
 use Rattle.dh_types.specs.declared.command.Command.TheVariants as command
 use Rattle.dh_laws.specs.Events.{Event, Said, Cut, Taken, Torn, Mended, Tables}
 use Rattle.dh_laws.specs.InOrder.{IsEntered}
+use Rattle.dh_laws.specs.Repeating.{is_of_nothing_new}
+use Rattle.dh_tables.specs.Calls.{HasOurTables}
+use Rattle.dh_schema.specs.Store.{tables}
 use Rattle.dh_schema.specs.Tables.{IsSound, tables_in}
 use Rattle.dh_runs.specs.Told.{reply_of}
 use Rattle.dh_calls.specs.Calls.{Call, Stepped, StepCut, Resumed, ResumeCut, Shown, ShowCut, Attached, AttachCut, Recovered, RecoveryCut, Tells}
@@ -35,6 +39,20 @@ event_of AttachCut = None
 event_of Recovered = Some Mended
 event_of RecoveryCut = Some Torn
 
+-- Nothing new came of the call: the command was refused, or carried out before; a question was asked, or files were taken as they are,
+-- answered or cut.
+abbrev pub is_of_no_news : Call → Bool
+is_of_no_news (Stepped told reply) = is_of_nothing_new reply
+is_of_no_news (StepCut told) = false
+is_of_no_news (Resumed most it) = is_of_nothing_new (reply_of it)
+is_of_no_news (ResumeCut most) = false
+is_of_no_news Shown = true
+is_of_no_news ShowCut = true
+is_of_no_news Attached = true
+is_of_no_news AttachCut = true
+is_of_no_news Recovered = false
+is_of_no_news RecoveryCut = false
+
 abbrev pub with_event : Option Event → Tables → List (Event × Tables) → List (Event × Tables)
 with_event None found events = events
 with_event (Some event) found events = (event, found) ∷ events
@@ -53,6 +71,8 @@ module _ {S : Type 0} (g : Ghosts S) where
     pub tells : Tells it.call (state g before) (state g it.ended)
     pub line : IsOfALine it.call
     pub finds : GoesOn it.ended it.found ⊎ IsOpenedAnew it.ended it.found
+    -- the trees list the schema that the connection has, as each connection keeps true of itself
+    pub lists : IsDatabase (state g it.found).now
     -- the premise Clean store
     pub clean : HasCleanDisk (state g it.ended) × HasCleanDisk (state g it.found)
 
@@ -73,12 +93,18 @@ module _ {S : Type 0} (g : Ghosts S) where
   abbrev pub IsSoundIn : Held S → Type 0
   IsSoundIn it = IsSound (state g it).now.trees
 
-  -- so is each that was found
+  -- so is each that was found, and its tables and indexes are ours and no others
   abbrev pub AreFoundSound : List (Moment S) → Type 0
   AreFoundSound [] = Unit {0}
-  AreFoundSound (it ∷ later) = IsSoundIn it.found × AreFoundSound later
+  AreFoundSound (it ∷ later) = IsSoundIn it.found × HasOurTables (state g it.found) × AreFoundSound later
 
   -- the events that the calls are, each with the tables that were found after it
   abbrev pub events_of : List (Moment S) → List (Event × Tables)
   events_of [] = []
   events_of (it ∷ later) = with_event (event_of it.call) (tables_of it.found) (events_of later)
+
+  -- where nothing new comes of a call, the tables that are found after it are those before it, row for row
+  abbrev pub StayWithoutNews : Held S → List (Moment S) → Type 0
+  StayWithoutNews before [] = Unit {0}
+  StayWithoutNews before (it ∷ later) =
+      (is_of_no_news it.call ≡ true → tables (state g it.found) ≡ tables (state g before)) × StayWithoutNews it.found later

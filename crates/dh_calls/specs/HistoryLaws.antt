@@ -27,11 +27,11 @@ use Rattle.dh_schema.specs.Store.{tables}
 use Rattle.dh_schema.specs.Tables.{books_in}
 use Rattle.dh_runs.specs.Taking.{IsRefusedFor}
 use Rattle.dh_calls.specs.Calls.{Recovered, Stepped}
-use Rattle.dh_calls.specs.Histories.{AreFoundSound, IsHistory, IsSoundIn, Moment, events_of, tables_of}
+use Rattle.dh_calls.specs.Histories.{AreFoundSound, IsHistory, IsSoundIn, Moment, StayWithoutNews, events_of, tables_of}
 
 module _ {S : Type 0} (g : Ghosts S) where
   -- From sound tables the calls are such events as the law of all lives speaks of, and the tables that are found after each are sound:
-  -- no rule of the audit is broken.
+  -- no rule of the audit is broken, and the file has our tables and indexes and no others.
   abbrev pub HistoriesAreEvents : Type 0
   HistoriesAreEvents = (first : Held S) (history : List (Moment S)) → IsSoundIn g first → IsHistory g first history
       → Follow batch_size (tables_of g first) (events_of g history) × AreFoundSound g history
@@ -40,6 +40,11 @@ module _ {S : Type 0} (g : Ghosts S) where
   abbrev pub NoneIsRefused : Type 0
   NoneIsRefused = (first : Held S) (history : List (Moment S)) (last : Moment S) (why : Refusal) → IsSoundIn g first
       → IsHistory g first (history ++ last ∷ []) → ¬ IsRefusedFor (state g last.found).now.trees why
+
+  -- A refusal, a reply that a command was carried out before and a question leave the tables row for row, while a run is open too; so
+  -- do files that are taken as they are, and a question that was cut.
+  abbrev pub TablesStayWithoutNews : Type 0
+  TablesStayWithoutNews = (first : Held S) (history : List (Moment S)) → IsSoundIn g first → IsHistory g first history → StayWithoutNews g first history
 
   -- a history from sound tables whose last call is a recovery that was answered
   pub record EndsRecovered (first : Held S) (history : List (Moment S)) (last : Moment S) : Type 0 where

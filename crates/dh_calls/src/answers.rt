@@ -1,9 +1,10 @@
 //! Laws of answered commands. Each function does nothing but name the laws that it follows from, and its clause is the law.
 //! Read `answers_move_balances` first.
 
-ghost use Rattle.dh_calls.specs.Answered.{AnswersKeepTheRules, AnswersMoveBalances, ChargesAreDues, SentAgainIsToldTheSame};
+ghost use Rattle.dh_calls.specs.Answered.{AnswersKeepTheRules, AnswersMoveBalances, ChargesAreDues, NothingNewLeavesTheTables};
+ghost use Rattle.dh_calls.specs.Answered.{SentAgainIsToldTheSame, StandingTellsTheTables};
 
-use dh_laws::{balances, keeping, repeating};
+use dh_laws::{balances, keeping, repeating, standings};
 
 /// An accepted run raises what each lease owes by its due, an accepted rent receipt lowers what its lease owes by its amount, and
 /// nothing else moves it.
@@ -30,10 +31,24 @@ pub fn answers_keep_the_rules()
     keeping::steps_keep_the_law();
 }
 
-/// A receipt or a run that was accepted and is sent again is told the same, and nothing moves.
+/// A receipt or a run that was accepted and is sent again is told the same, and no row moves.
 pub fn sent_again_is_told_the_same()
     ensures { SentAgainIsToldTheSame }
 {
     keeping::whole_is_lawful();
     repeating::sent_again_is_told_the_same();
+}
+
+/// Sound tables with the same whole books and the same open run are the same, row for row.
+pub fn standing_tells_the_tables()
+    ensures { StandingTellsTheTables }
+{
+    standings::standing_tells_the_tables();
+}
+
+/// A refusal, and a reply that the command was carried out before, leave the tables as they were, row for row; while a run is open too.
+pub fn nothing_new_leaves_the_tables()
+    ensures { NothingNewLeavesTheTables }
+{
+    standings::nothing_new_leaves_the_tables();
 }

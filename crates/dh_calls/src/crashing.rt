@@ -1,6 +1,7 @@
 //! From one life to the next, over stores that can be made to crash.
 
 ghost use Rattle.std.specs.Prelude.{◌≡◌, ◌≤◌, false, IfSome, IfOk, OnOk, OnErr};
+ghost use Rattle.sqlite.specs.Effect.{IsDatabase};
 ghost use Rattle.sqlite.specs.State.{HasCleanDisk};
 ghost use Rattle.sqlite.specs.Held.{state};
 ghost use Rattle.sqlite_trees.specs.View.{doubt};
@@ -25,6 +26,7 @@ pub fn next_life<S: Alter + Reopen + Drop>(
     conn: Connection<S>,
 ) -> Option<Connection<S>>
     ensures found { IfSome result (λ again. IsOpenedAnew S.Store conn again) }
+    ensures lists { IfSome result (λ again. HasCleanDisk (state S.Store again) → IsDatabase (state S.Store again).now) }
     ensures resting { IfSome result (λ again. HasCleanDisk (state S.Store again) → IsResting (state S.Store again)) }
     ensures was_clean { IfSome result (λ again. doubt (state S.Store conn).is_clean ≤ doubt (state S.Store again).is_clean) }
 {

@@ -3,8 +3,9 @@
 
 ghost use Rattle.dh_calls.specs.HistoryLaws.{AcknowledgedReceiptsStay, AcknowledgedRunsStay, EachLifeKeepsABeginning, FromTheBeginning};
 ghost use Rattle.dh_calls.specs.HistoryLaws.{HistoriesAreEvents, MonthsAreChargedOnce, NoneIsRefused, RecoveredBooksAreLawful, TablesAreTheMachines};
+ghost use Rattle.dh_calls.specs.HistoryLaws.{TablesStayWithoutNews};
 
-use dh_laws::lives;
+use dh_laws::{lives, standings};
 use sqlite::Alter;
 
 /// The calls on an agency's tables, answered or cut, on one connection or on files opened anew after a stop, are events of which
@@ -17,6 +18,14 @@ pub fn histories_are_events<S: Alter>()
 pub fn none_is_refused<S: Alter>()
     ensures { NoneIsRefused S.Store }
 {}
+
+/// A refusal, a reply that the command was carried out before and a question leave the tables as they were, row for row; while a run is
+/// open too.
+pub fn tables_stay_without_news<S: Alter>()
+    ensures { TablesStayWithoutNews S.Store }
+{
+    standings::nothing_new_leaves_the_tables();
+}
 
 /// Whatever was called, and wherever power was cut: once a recovery has come to its end, the tables are the machine's after a list
 /// of commands that keeps the order of the calls, holds every one that was answered, and of the others only such as were cut, each

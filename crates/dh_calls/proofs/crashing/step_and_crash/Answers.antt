@@ -14,7 +14,7 @@ returns-clause-answered g c clean going =
     let told = c.args.command.now in
     if_ok c.step_tells-told.result (λ (reply : Reply). Tells (Stepped told reply) (state g.S.Store old) (state g.S.Store c.step_tells-told.new.agency.conn))
     (λ (reply : Reply). IsFoundAfter g.S.Store old (Stepped told reply) again)
-    (λ reply tells. opened_anew g.S.Store old ended again c.in_ok-again.ensures.found c.in_ok-again.ensures.was_clean clean
+    (λ reply tells. opened_anew g.S.Store old ended again c.in_ok-again.ensures.found c.in_ok-again.ensures.lists c.in_ok-again.ensures.was_clean clean
     (Stepped told reply) c.step_tells-told.ensures.line
     (subst (λ (h : Held g.row.S.Denot). Tells (Stepped told reply) (state g.S.Store old) (state g.S.Store h)) (sym c.into_store.ensures) tells))
     (c.step_tells-told.ensures.answered going)
@@ -27,7 +27,7 @@ returns-clause-broken g c clean going =
     let told = c.args.command.now in
     on_err c.step_tells-told.result (Tells (StepCut told) (state g.S.Store old) (state g.S.Store c.step_tells-told.new.agency.conn))
     (IsFoundAfter g.S.Store old (StepCut told) again)
-    (λ tells. opened_anew g.S.Store old ended again c.in_ok-again.ensures.found c.in_ok-again.ensures.was_clean clean
+    (λ tells. opened_anew g.S.Store old ended again c.in_ok-again.ensures.found c.in_ok-again.ensures.lists c.in_ok-again.ensures.was_clean clean
     (StepCut told) c.step_tells-told.ensures.line
     (subst (λ (h : Held g.row.S.Denot). Tells (StepCut told) (state g.S.Store old) (state g.S.Store h)) (sym c.into_store.ensures) tells))
     (c.step_tells-told.ensures.cut going)
