@@ -1,6 +1,7 @@
 -- The line of one connection more.
 use Rattle.std.proofs.Common.{◌≡◌, ◌≢◌, ◌∙◌, ◌++◌, ◌+◌, ◌<◌, [], ◌∷◌, ℕ, List, Option, Some, Result, Ok, Err, ap, append_assoc, append-nil, arith, length}
-use Rattle.std.proofs.Common.{length-append, refl, subst, sym, take}
+use Rattle.std.proofs.Common.{None, false, inl, inr, length-append, refl, subst, sym, take, true}
+use Rattle.std.proofs.lemmas.Bool.{false≢true}
 use Rattle.std.specs.Io.KnownBytes.{Appends}
 use Rattle.std.specs.Prelude.{IsErrAnd}
 use Rattle.std.proofs.KnownBytes.{Appends-nil, Appends-trans}
@@ -10,8 +11,8 @@ use Rattle.dh_types.specs.Output.{BreaksOff}
 use Rattle.dh_agency.specs.Seat.{Seat}
 use Rattle.dh_service.specs.declared.listening.Unserved.{Unserved}
 use Rattle.dh_service.specs.declared.listening.Unserved.TheVariants as unserved
-use Rattle.dh_service.specs.Service.{ServesOn}
-use Rattle.dh_service.specs.Printed.{BreaksAt, EndsWith, GoOn, PrintsBehind, outcome_line, outcome_lines}
+use Rattle.dh_service.specs.Service.{IsHalt, ServesOn, StopsWith}
+use Rattle.dh_service.specs.Printed.{BreaksAt, EndsHalted, EndsWith, GoOn, PrintsBehind, outcome_line, outcome_lines}
 use Rattle.dh_service.proofs.ServingLemmas.{serves_both, serves_none}
 
 lines_more : (outcomes : List (Option ℕ)) (it : Option ℕ) → outcome_lines (outcomes ++ it ∷ []) ≡ outcome_lines outcomes ++ outcome_line it
@@ -38,6 +39,21 @@ served_none g seat a = record {
   count_is = refl;
   going = λ k d below. absurd (omega arith);
 }
+
+-- ---- whether the agency has stopped
+
+-- no answer of an agency that goes on is 503
+pub goes_on_told : {S : Type 0} (old new : Seat S) (outcome : Option ℕ) → StopsWith old new outcome → new.is_stopped ≡ false → outcome ≢ Some 503
+goes_on_told old new None stops live = λ is. cc
+goes_on_told old new (Some status) (inl goes) live = λ is. goes.0 (cc)
+goes_on_told old new (Some status) (inr halts) live = λ is. false≢true (sym live ∙ halts.1)
+
+-- where an agency stops, 503 is answered, or the answer was lost
+pub halt_told : {S : Type 0} (old new : Seat S) (outcome : Option ℕ) → StopsWith old new outcome → old.is_stopped ≡ false → new.is_stopped ≡ true
+    → IsHalt outcome
+halt_told old new None stops live stopped = tt
+halt_told old new (Some status) (inl goes) live stopped = absurd (false≢true (sym live ∙ sym goes.1 ∙ stopped))
+halt_told old new (Some status) (inr halts) live stopped = halts.0
 
 -- the writer that failed is told as such
 pub is_output : (r : Result (Unit {0}) Unserved) → IsErrAnd r (λ e. e ≡ unserved.Output) → r ≡ Err unserved.Output
@@ -68,11 +84,11 @@ module _ {S : Type 0} (g : Ghosts S) (old mid new : Seat S) (a m b : Option (Lis
   ends : (most : ℕ) → count < most → EndsWith most (was.outcomes ++ outcome ∷ []) outcome
   ends most within = record { before = was.outcomes; is = refl; going = was.going; few = omega (arith, one_more, within) }
 
-  -- the last answer was 503
-  pub served_to_halt : (most : ℕ) → count < most → Appends m b (outcome_line outcome) → outcome ≡ Some 503
+  -- the agency stopped at the last one
+  pub served_to_halt : (most : ℕ) → count < most → Appends m b (outcome_line outcome) → IsHalt outcome
       → (outcomes : List (Option ℕ)) × ServesOn g old new outcomes × PrintsBehind most [] outcomes a b (Err unserved.Stopped)
-  served_to_halt most within h is =
-      (was.outcomes ++ outcome ∷ [], all_on, (subst (EndsWith most (was.outcomes ++ outcome ∷ [])) is (ends most within), all_written h))
+  served_to_halt most within h halts =
+      (was.outcomes ++ outcome ∷ [], all_on, (record { last = outcome; halts = halts; ends = ends most within }, all_written h))
 
   -- the writer failed in the last line
   pub served_to_break : (most : ℕ) → count < most → BreaksOff m b (outcome_line outcome)

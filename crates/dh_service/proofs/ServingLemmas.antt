@@ -15,9 +15,10 @@ use Rattle.dh_requests.specs.declared.asked.Asked.{Asked}
 use Rattle.dh_requests.specs.declared.asked.Asked.TheVariants.{Turned, Fields}
 use Rattle.dh_http.specs.declared.fault.NetFault.{NetFault}
 use Rattle.dh_http.specs.declared.fault.NetFault.TheVariants.{Closed, Input, Output, Memory}
+use Rattle.dh_http.specs.Answers.{fault_answer}
 use Rattle.dh_http.specs.Served.{IsLeftBy, IsServed, LeavesServed, Serves, StopsBy, served}
-use Rattle.dh_service.specs.Service.{Answered, AreTold, Contact, IsAfterSome, IsHalt, IsServing, Lost, ServesOn, Unheard, outcome_of, outcomes_of}
-use Rattle.dh_service.specs.Service.{state_after, state_behind}
+use Rattle.dh_service.specs.Service.{Answered, AreTold, Contact, IsAfterSome, IsHalt, IsServing, Lost, ServesOn, Unheard, WritesAnswer, outcome_of}
+use Rattle.dh_service.specs.Service.{outcomes_of, state_after, state_behind}
 
 -- ---- one contact more
 
@@ -29,6 +30,12 @@ pub outcomes_more : (s : State) (contacts : List Contact) (it : Contact)
     → outcomes_of s (contacts ++ it ∷ []) ≡ outcomes_of s contacts ++ outcome_of (state_after s contacts) it ∷ []
 outcomes_more s [] it = refl
 outcomes_more s (first ∷ contacts) it = ap (λ l. outcome_of s first ∷ l) (outcomes_more (state_behind s first) contacts it)
+
+-- an answer that was told, or a fault, has the status that is told of it
+pub written_answer : {S : Type 0} {g : Ghosts S} {old new : Seat S} (asked : Asked) (status : ℕ) (a b : Option (List ℕ))
+    → IsServed g old new asked status (Appends a b) → WritesAnswer a b (Some status)
+written_answer {S} {g} {old} asked status a b (IsServed.Told written state kept is) = ((served (stand g old) asked).answer, sym is, written)
+written_answer asked status a b (IsServed.Faulted fault put written is stopped reads told) = (fault_answer fault, sym told, written)
 
 -- what is told of a connection that ended so
 abbrev pub told_of : Result ℕ NetFault → Option ℕ
@@ -95,18 +102,18 @@ module _ {S : Type 0} (g : Ghosts S) (s : State) (before : List (Option ℕ)) (o
 
     by_answer : (it : Asked) (status : ℕ) (Writes : List ℕ → Type 0) → IsServed g old new it status Writes → StopsBy old new (Ok status)
         → IsServing g s (before ++ Some status ∷ []) new
-    by_answer it status Writes (IsServed.Told written state is) (inl on) = goes_on (Answered it) (Some status) (ap Some is) state (on.1 ∙ live)
-    by_answer it status Writes (IsServed.Told written state is) (inr at) = halts (Some status) at.0 at.1 (λ is_open. reads_on it state)
-    by_answer it status Writes (IsServed.Faulted fault written is stopped reads told) stops =
+    by_answer it status Writes (IsServed.Told written state kept is) (inl on) = goes_on (Answered it) (Some status) (ap Some is) state (on.1 ∙ live)
+    by_answer it status Writes (IsServed.Told written state kept is) (inr at) = halts (Some status) at.0 at.1 (λ is_open. reads_on it state)
+    by_answer it status Writes (IsServed.Faulted fault put written is stopped reads told) stops =
         halts (Some status) told stopped (λ is_open. left_some it (machine g new) (reads is_open))
 
     by_lost_answer : (it : Asked) (status : ℕ) (Writes : List ℕ → Type 0) → IsServed g old new it status Writes → IsServing g s (before ++ None ∷ []) new
-    by_lost_answer it status Writes (IsServed.Told written state is) = by new.is_stopped refl
+    by_lost_answer it status Writes (IsServed.Told written state kept is) = by new.is_stopped refl
       where
         by : (v : Bool) → new.is_stopped ≡ v → IsServing g s (before ++ None ∷ []) new
         by false goes = goes_on (Unheard it) None refl state goes
         by true stopped = halts None tt stopped (λ is_open. reads_on it state)
-    by_lost_answer it status Writes (IsServed.Faulted fault written is stopped reads told) =
+    by_lost_answer it status Writes (IsServed.Faulted fault put written is stopped reads told) =
         halts None tt stopped (λ is_open. left_some it (machine g new) (reads is_open))
 
     same_as : new ≡ old → IsServing g s (before ++ None ∷ []) new

@@ -5,6 +5,7 @@ use Rattle.std.specs.Io.KnownBytes.{Appends}
 use Rattle.http.specs.StatusCode.{code_digits}
 use Rattle.dh_types.specs.Output.{BreaksOff}
 use Rattle.dh_reports.specs.Columns.{newline}
+use Rattle.dh_service.specs.Service.{IsHalt}
 use Rattle.dh_service.specs.declared.listening.Service.{Service}
 use Rattle.dh_service.specs.declared.listening.Unserved.{Unserved}
 use Rattle.dh_service.specs.declared.listening.Unserved.TheVariants as unserved
@@ -51,10 +52,16 @@ pub record BreaksAt (count : ℕ) (text : List ℕ) (outcomes : List (Option ℕ
   pub part : cut < length (outcome_line last)
   pub written : Appends a b (text ++ outcome_lines ends.before ++ take cut (outcome_line last))
 
--- A line for each connection was printed: for all; or up to the first answer 503; or up to one in whose line the writer failed.
+-- Connections were served up to the one at which the agency stopped, as an answer 503 tells, or one that was lost.
+pub record EndsHalted (count : ℕ) (outcomes : List (Option ℕ)) : Type 0 where
+  pub last : Option ℕ
+  pub halts : IsHalt last
+  pub ends : EndsWith count outcomes last
+
+-- A line for each connection was printed: for all; or up to the one at which the agency stopped; or up to one in whose line the writer failed.
 abbrev pub PrintsBehind : ℕ → List ℕ → List (Option ℕ) → Option (List ℕ) → Option (List ℕ) → Result (Unit {0}) Unserved → Type 0
 PrintsBehind count text outcomes a b (Ok done) = AreAll count outcomes × Appends a b (text ++ outcome_lines outcomes)
-PrintsBehind count text outcomes a b (Err unserved.Stopped) = EndsWith count outcomes (Some 503) × Appends a b (text ++ outcome_lines outcomes)
+PrintsBehind count text outcomes a b (Err unserved.Stopped) = EndsHalted count outcomes × Appends a b (text ++ outcome_lines outcomes)
 PrintsBehind count text outcomes a b (Err unserved.Output) = BreaksAt count text outcomes a b
 PrintsBehind count text outcomes a b (Err unserved.NoListener) = ⊥
 

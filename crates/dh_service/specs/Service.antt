@@ -1,5 +1,11 @@
 -- What serving connections leaves, whatever peers send and whenever a crash comes, and what is told of each connection.
-use Rattle.std.specs.Prelude.{◌≡◌, ℕ, Bool, true, false, ⊤, List, [], ◌∷◌, ◌++◌, Option, Some, None}
+use Rattle.std.specs.Prelude.{◌≡◌, ℕ, Bool, true, false, ⊤, List, [], ◌∷◌, ◌++◌, Option, Some, None, Ok}
+use Rattle.std.specs.Io.KnownBytes.{Appends}
+use Rattle.std.specs.Net.Addr.{ipv4_octets}
+use Rattle.std.specs.Net.Socket.{socket_ip}
+use Rattle.std.specs.declared.net.ip_addr.IpAddr.TheVariants.{V4}
+use Rattle.std.specs.declared.net.ipv4_addr.Ipv4Addr.{Ipv4Addr}
+use Rattle.std.specs.declared.net.socket_addr.SocketAddr.{SocketAddr}
 use Rattle.sqlite.specs.Store.{Ghosts}
 use Rattle.dh_model.specs.Books.{State}
 use Rattle.dh_model.specs.Runs.{batch_size}
@@ -7,7 +13,8 @@ use Rattle.dh_model.specs.Whole.{whole}
 use Rattle.dh_agency.specs.Seat.{Seat}
 use Rattle.dh_agency.specs.Agency.{IsClean, IsOpen, Leaves, LeavesItsTables, machine, stand}
 use Rattle.dh_requests.specs.declared.asked.Asked.{Asked}
-use Rattle.dh_http.specs.Served.{served}
+use Rattle.dh_http.specs.Answers.{Answer, answer_text}
+use Rattle.dh_http.specs.Served.{StopsBy, served}
 
 -- What became of a connection: what was asked was answered; or it was dealt with, and its answer was lost; or nothing was dealt with.
 pub data Contact : Type 0 where
@@ -64,3 +71,17 @@ pub record IsServing {S : Type 0} (g : Ghosts S) (s : State) (outcomes : List (O
 abbrev pub ServesOn : {S : Type 0} → Ghosts S → Seat S → Seat S → List (Option ℕ) → Type 0
 ServesOn g old new outcomes =
     (s : State) (before : List (Option ℕ)) → (IsClean g old → IsServing g s before old) → IsClean g new → IsServing g s (before ++ outcomes) new
+
+-- An answer tells whether the agency has stopped: 503 exactly then. Of a connection that was lost nothing is told.
+abbrev pub StopsWith : {S : Type 0} → Seat S → Seat S → Option ℕ → Type 0
+StopsWith old new (Some status) = StopsBy old new (Ok status)
+StopsWith old new None = ⊤
+
+-- a status is told of an answer that was written whole, and that has it
+abbrev pub WritesAnswer : Option (List ℕ) → Option (List ℕ) → Option ℕ → Type 0
+WritesAnswer a b (Some status) = (answer : Answer) × (answer.status ≡ status) × Appends a b (answer_text answer)
+WritesAnswer a b None = ⊤
+
+-- the address is 127.0.0.1, which no other machine can reach
+abbrev pub IsOfThisMachine : SocketAddr → Type 0
+IsOfThisMachine address = (ip : Ipv4Addr) × (socket_ip address ≡ V4 ip) × (ipv4_octets ip ≡ 127 ∷ 0 ∷ 0 ∷ 1 ∷ [])

@@ -1,10 +1,11 @@
 //! Listening at a port.
 
-ghost use Rattle.std.specs.Prelude.{◌≡◌, ℕ, List, Option};
+ghost use Rattle.std.specs.Prelude.{◌≡◌, ℕ, List, Option, Err, OnOk, false, true};
+ghost use Rattle.std.specs.Net.Socket.{socket_port};
 ghost use Rattle.dh_agency.specs.Agency.{WasClean};
 ghost use Rattle.dh_types.specs.Output.{Puts};
 ghost use Rattle.dh_service.specs.Printed.{IsPortText, PrintsServed};
-ghost use Rattle.dh_service.specs.Service.{ServesOn};
+ghost use Rattle.dh_service.specs.Service.{IsOfThisMachine, ServesOn};
 ghost use Rattle.dh_service.specs.declared.listening.Unserved.TheVariants as unserved;
 
 use crate::serving::serve_connections;
@@ -14,7 +15,7 @@ use dh_types::{BatchCount, Output};
 use itoa::Buffer;
 use sqlite::Alter;
 use std::io::Write;
-use std::net::{Ipv4Addr, SocketAddr, SocketAddrV4, TcpListener};
+use std::net::{IpAddr, Ipv4Addr, SocketAddr, TcpListener};
 
 /// The port of 127.0.0.1 where requests are listened for, and on how many connections they are served. With port 0 the system picks one.
 #[derive(Clone, Copy)]
@@ -30,7 +31,7 @@ pub enum Unserved {
     NoListener,
     /// The writer failed.
     Output,
-    /// The agency has stopped, behind an answer 503.
+    /// The agency has stopped, behind an answer 503 or one that was lost.
     Stopped,
 }
 
@@ -42,10 +43,17 @@ impl From<Output> for Unserved {
     }
 }
 
+// This port of 127.0.0.1.
+fn address_of(port: u16) -> SocketAddr
+    ensures machine { IsOfThisMachine result }
+    ensures port { socket_port result ≡ port }
+{
+    SocketAddr::new(IpAddr::V4(Ipv4Addr::new(127, 0, 0, 1)), port)
+}
+
 // The listener at this port of 127.0.0.1, and the port that it has.
 fn listen(rt: &HostRuntime, port: u16) -> Option<(TcpListener, u16)> {
-    let address = SocketAddr::V4(SocketAddrV4::new(Ipv4Addr::LOCALHOST, port));
-    let listener = TcpListener::bind(rt, address).ok()?;
+    let listener = TcpListener::bind(rt, address_of(port)).ok()?;
     let port = listener.local_addr().ok()?.port();
     Some((listener, port))
 }
@@ -62,27 +70,24 @@ fn print_port<W: Write>(writer: &mut W, asked: u16, port: u16) -> Result<(), Out
 }
 
 /// Listens at the service's port, answers its connections one after the other, and prints the status of each, or `lost`; before them
-/// `port P` where the system picks the port. `NoListener` where the port can't be had, `Stopped` behind an answer 503, `Output` where
-/// the writer failed.
+/// `port P` where the system picks the port. `NoListener` where the port can't be had, `Stopped` behind the connection at which the agency
+/// stopped, whether its answer was lost or not, `Output` where the writer failed.
 pub fn serve<S: Alter, W: Write>(
     rt: &HostRuntime,
     agency: &mut Agency<S>,
     service: Service,
     writer: &mut W,
 ) -> Result<(), Unserved>
+    requires { agency.old.is_stopped ≡ false }
     ensures served { (outcomes : List (Option ℕ)) × ServesOn S.Store agency.old agency.new outcomes
         × PrintsServed service outcomes (W.contents writer.old) (W.contents writer.new) result }
+    ensures going { OnOk result (agency.new.is_stopped ≡ false) }
+    ensures stopped { result ≡ Err unserved.Stopped → agency.new.is_stopped ≡ true }
     ensures was_clean { WasClean S.Store agency.old agency.new }
 {
     let Some((listener, port)) = listen(rt, service.port) else {
         return Err(Unserved::NoListener);
     };
     print_port(writer, service.port, port)?;
-    serve_connections(
-        rt.alloc(),
-        agency,
-        &listener,
-        service.count.number(),
-        writer,
-    )
+    serve_connections(rt, agency, &listener, service.count.number(), writer)
 }

@@ -1,13 +1,13 @@
 //! Serving connections, one after the other.
 
-ghost use Rattle.std.specs.Prelude.{◌≡◌, ℕ, List, [], ◌∷◌, Option, Some, IsTrue, ◌↔◌};
-ghost use Rattle.dh_agency.specs.Agency.{WasClean};
+ghost use Rattle.std.specs.Prelude.{◌≡◌, ℕ, List, [], ◌∷◌, Option, false, true, Err, OnOk};
+ghost use Rattle.dh_agency.specs.Agency.{IsClean, WasClean};
 ghost use Rattle.dh_types.specs.Output.{Puts};
 ghost use Rattle.dh_service.specs.Printed.{PrintsBehind, outcome_line};
-ghost use Rattle.dh_service.specs.Service.{ServesOn};
+ghost use Rattle.dh_service.specs.Service.{ServesOn, StopsWith, WritesAnswer};
 
 use crate::listening::Unserved;
-use crate::streams::{end_answered, limit_waits};
+use crate::streams::{PEER_SECONDS, TimedStream, accept, end_answered};
 use dh_agency::Agency;
 use dh_http::serve_one;
 use dh_types::Output;
@@ -18,7 +18,7 @@ use std::alloc::Global;
 use std::io::{Read, Write};
 use std::net::{TcpListener, TcpStream};
 
-// Answers a request: the status, if it was answered.
+// Answers a request: the status, if a whole answer was written.
 fn serve_over<S: Alter, R: Read, W: Write>(
     alloc: Global,
     agency: &mut Agency<S>,
@@ -26,6 +26,8 @@ fn serve_over<S: Alter, R: Read, W: Write>(
     writer: &mut W,
 ) -> Option<StatusCode>
     ensures on { ServesOn S.Store agency.old agency.new (result ∷ []) }
+    ensures written { IsClean S.Store agency.new → WritesAnswer (W.contents writer.old) (W.contents writer.new) result }
+    ensures stops { StopsWith agency.old agency.new result }
     ensures was_clean { WasClean S.Store agency.old agency.new }
 {
     match serve_one(alloc, agency, reader, writer) {
@@ -36,34 +38,35 @@ fn serve_over<S: Alter, R: Read, W: Write>(
 
 // Answers a connection: the status, if it was answered.
 fn serve_connection<S: Alter>(
-    alloc: Global,
+    rt: &HostRuntime,
     agency: &mut Agency<S>,
     stream: &TcpStream,
 ) -> Option<StatusCode>
     ensures on { ServesOn S.Store agency.old agency.new (result ∷ []) }
+    ensures stops { StopsWith agency.old agency.new result }
     ensures was_clean { WasClean S.Store agency.old agency.new }
 {
-    if !limit_waits(stream) {
-        return None;
+    let mut reader = TimedStream::new(rt, stream, PEER_SECONDS);
+    let mut writer = TimedStream::new(rt, stream, PEER_SECONDS);
+    let status = serve_over(rt.alloc(), agency, &mut reader, &mut writer);
+    if status.is_some() {
+        end_answered(rt, stream);
     }
-    let mut reader = stream;
-    let mut writer = stream;
-    let status = serve_over(alloc, agency, &mut reader, &mut writer)?;
-    end_answered(stream);
-    Some(status)
+    status
 }
 
 // Answers the next connection: the status, if it was answered.
 fn serve_next<S: Alter>(
-    alloc: Global,
+    rt: &HostRuntime,
     agency: &mut Agency<S>,
     listener: &TcpListener,
 ) -> Option<StatusCode>
     ensures on { ServesOn S.Store agency.old agency.new (result ∷ []) }
+    ensures stops { StopsWith agency.old agency.new result }
     ensures was_clean { WasClean S.Store agency.old agency.new }
 {
-    match listener.accept() {
-        Ok((stream, _)) => serve_connection(alloc, agency, &stream),
+    match accept(listener) {
+        Ok(stream) => serve_connection(rt, agency, &stream),
         Err(_) => None,
     }
 }
@@ -78,33 +81,26 @@ fn print_outcome<W: Write>(writer: &mut W, outcome: &Option<StatusCode>) -> Resu
     }
 }
 
-// The answer said that the agency has stopped.
-fn says_stopped(outcome: &Option<StatusCode>) -> bool
-    ensures { IsTrue result ↔ (outcome.now ≡ Some 503) }
-{
-    match outcome {
-        Some(status) => status.as_u16() == 503,
-        None => false,
-    }
-}
-
-/// Answers so many connections and prints the status of each, or `lost`. `Stopped` behind an answer 503, `Output` where the writer
-/// failed.
+/// Answers so many connections and prints the status of each, or `lost`. `Stopped` behind the one at which the agency stopped, whether its
+/// answer was lost or not, `Output` where the writer failed.
 pub(crate) fn serve_connections<S: Alter, W: Write>(
-    alloc: Global,
+    rt: &HostRuntime,
     agency: &mut Agency<S>,
     listener: &TcpListener,
     count: u32,
     writer: &mut W,
 ) -> Result<(), Unserved>
+    requires { agency.old.is_stopped ≡ false }
     ensures served { (outcomes : List (Option ℕ)) × ServesOn S.Store agency.old agency.new outcomes
         × PrintsBehind count [] outcomes (W.contents writer.old) (W.contents writer.new) result }
+    ensures going { OnOk result (agency.new.is_stopped ≡ false) }
+    ensures stopped { result ≡ Err Unserved.Stopped → agency.new.is_stopped ≡ true }
     ensures was_clean { WasClean S.Store agency.old agency.new }
 {
     for _served in 0..count {
-        let outcome = serve_next(alloc, agency, listener);
+        let outcome = serve_next(rt, agency, listener);
         print_outcome(writer, &outcome)?;
-        if says_stopped(&outcome) {
+        if agency.is_stopped() {
             return Err(Unserved::Stopped);
         }
     }

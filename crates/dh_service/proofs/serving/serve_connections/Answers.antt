@@ -1,24 +1,26 @@
-use Rattle.std.proofs.Common.{◌≡◌, ◌≢◌, ◌∙◌, [], ℕ, List, Option, Some, arith, rules, subst, sym}
-use Rattle.std.proofs.lemmas.Bool.{false≢true}
+use Rattle.std.proofs.Common.{◌≡◌, ◌∙◌, [], ℕ, List, Option, arith, false, rules, subst, sym, true}
 use Rattle.dh_service.specs.Printed.{PrintsBehind}
 use Rattle.dh_service.specs.Service.{ServesOn}
-use Rattle.dh_service.proofs.PrintedLemmas.{is_output, served_more, served_none, served_to_break, served_to_halt}
+use Rattle.dh_service.proofs.PrintedLemmas.{goes_on_told, halt_told, is_output, served_more, served_none, served_to_break, served_to_halt}
 use Rattle.dh_service.proofs.serving.serve_connections.Goals as goal
 
 pub loop-served-init : goal.loop-served-init
 loop-served-init g c = record {
   served = served_none g.S.Store c.args.agency.now (g.W.Write.contents c.args.writer.now);
+  live = c.requires;
   was_clean = search rules;
 }
 
 pub loop-served-preserved : goal.loop-served-preserved
 loop-served-preserved g c =
-    let goes : c.serve_next-outcome.result ≢ Some 503 = λ is. false≢true (sym c.if-says_stopped.false ∙ c.says_stopped.ensures.1 is) in
+    let live : c.serve_next-outcome.new.agency.is_stopped ≡ false = sym c.is_stopped.ensures ∙ c.if-is_stopped.false in
+    let goes = goes_on_told c.loop-served.agency c.serve_next-outcome.new.agency c.serve_next-outcome.result c.serve_next-outcome.ensures.stops live in
     record {
       served =
           served_more g.S.Store c.args.agency.now c.loop-served.agency c.serve_next-outcome.new.agency (g.W.Write.contents c.args.writer.now)
           (g.W.Write.contents c.loop-served.writer) (g.W.Write.contents c.print_outcome.new.writer) c.loop-served._served c.serve_next-outcome.result
           c.loop-served.invariant.served c.serve_next-outcome.ensures.on c.in_ok-print_outcome.ensures goes;
+      live = live;
       was_clean = omega (arith, c.loop-served.invariant.was_clean, c.serve_next-outcome.ensures.was_clean);
     }
 
@@ -35,12 +37,14 @@ returns-in_err-print_outcome-clause-served g c =
 pub returns-in_err-print_outcome-clause-was_clean : goal.returns-in_err-print_outcome-clause-was_clean
 returns-in_err-print_outcome-clause-was_clean g c = omega (arith, c.loop-served.invariant.was_clean, c.serve_next-outcome.ensures.was_clean)
 
-pub returns-then-says_stopped-clause-served : goal.returns-then-says_stopped-clause-served
-returns-then-says_stopped-clause-served g c =
+pub returns-then-is_stopped-clause-served : goal.returns-then-is_stopped-clause-served
+returns-then-is_stopped-clause-served g c =
+    let stopped : c.serve_next-outcome.new.agency.is_stopped ≡ true = sym c.is_stopped.ensures ∙ c.if-is_stopped.true in
     served_to_halt g.S.Store c.args.agency.now c.loop-served.agency c.serve_next-outcome.new.agency (g.W.Write.contents c.args.writer.now)
     (g.W.Write.contents c.loop-served.writer) (g.W.Write.contents c.print_outcome.new.writer) c.loop-served._served c.serve_next-outcome.result
     c.loop-served.invariant.served c.serve_next-outcome.ensures.on c.args.count c.loop-served-test.true c.in_ok-print_outcome.ensures
-    (c.if-says_stopped.ensures.0 (search rules))
+    (halt_told c.loop-served.agency c.serve_next-outcome.new.agency c.serve_next-outcome.result c.serve_next-outcome.ensures.stops
+    c.loop-served.invariant.live stopped)
 
 pub returns-clause-served : goal.returns-clause-served
 returns-clause-served g c =

@@ -1,5 +1,5 @@
 use Rattle.std.proofs.Common.{arith, Ok, Err}
-use Rattle.dh_service.proofs.ServingLemmas.{serves_on}
+use Rattle.dh_service.proofs.ServingLemmas.{serves_on, written_answer}
 use Rattle.dh_service.proofs.serving.serve_over.Goals as goal
 
 pub returns-in-Ok-clause-on : goal.returns-in-Ok-clause-on
@@ -15,3 +15,6 @@ returns-in-Err-clause-on g c s before was clean =
     serves_on g.S.Store s before c.args.agency.now c.serve_one.new.agency _ (g.W.Write.contents c.args.writer.now)
     (g.W.Write.contents c.serve_one.new.writer) (Err c.in-Err.field-0) (did.serves clean) (did.crash clean) (did.left clean) did.stops did.stopped
     (was (omega (arith, did.was_clean, clean)))
+
+pub returns-in-Ok-clause-written : goal.returns-in-Ok-clause-written
+returns-in-Ok-clause-written g c clean = let it = c.in-Ok.ensures.serves clean in written_answer it.0 c.in-Ok.status _ _ it.2
