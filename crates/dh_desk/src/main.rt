@@ -1,48 +1,25 @@
-//! `letting`: the daily system of a property letting agency. Read `run` first.
+//! `letting`: the daily system of a property letting agency. Its words are carried out by `run_words`.
 #![tactic(auto)]
 
-ghost use Rattle.std.specs.Prelude.{◌≡◌, map, string_bytes, IfOk};
-
-use dh_office::{Status, desk};
-use std::alloc::{AllocError, Global};
+use dh_office::{refuse_words, run_words};
 use std::process::ExitCode;
 use std::{env, io};
 
-// The texts of the words.
-fn texts_of<'a>(alloc: Global, words: &'a [String]) -> Result<Vec<&'a str>, AllocError>
-    ensures { IfOk result (λ texts. map (λ text. text.now) texts.items ≡ map string_bytes words.now) }
-{
-    let mut texts = Vec::new(alloc);
-    for word in words {
-        texts.push(word.as_str())?;
-    }
-    Ok(texts)
-}
-
-// The words behind the program's name, carried out from standard input to standard output.
-fn run(rt: &HostRuntime) -> io::Result<Status> {
+// The words of the process, the program's name first.
+fn words_of(rt: &HostRuntime) -> io::Result<Vec<String>> {
     let mut words = Vec::new(rt.alloc());
-    for word in env::args(rt)?.skip(1) {
+    for word in env::args(rt)? {
         words.push(word)?;
     }
-    let texts = texts_of(rt.alloc(), &words)?;
-    Ok(desk(rt, &texts, &mut rt.reader(), &mut io::writer(rt)))
+    Ok(words)
 }
 
-// Says why the words can't be had: one of them is no text, or memory ran out.
-fn refuse(rt: &HostRuntime, error: &io::Error) -> Status {
-    if error.kind() == io::ErrorKind::InvalidData {
-        let _ = println!(rt; "error: invalid UTF-8 was detected in one or more arguments");
-        return Status::BadWords;
-    }
-    let _ = println!(rt; "fault 21");
-    Status::Failed
-}
-
+// What is done with them, `run_words` says, and why they can't be had, `refuse_words`.
 fn main(rt: HostRuntime) -> ExitCode {
-    let status = match run(&rt) {
-        Ok(status) => status,
-        Err(error) => refuse(&rt, &error),
+    let mut writer = io::writer(&rt);
+    let code = match words_of(&rt) {
+        Ok(words) => run_words(&rt, &words, &mut rt.reader(), &mut writer),
+        Err(error) => refuse_words(&error, &mut writer),
     };
-    ExitCode::from(status.code())
+    ExitCode::from(code)
 }

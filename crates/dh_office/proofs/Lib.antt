@@ -3,3 +3,4 @@ pub mod FinishLemmas
 pub mod AnswerLemmas
 pub mod StoreLemmas
 pub mod WordLemmas
+pub mod ProcessLemmas

@@ -16,7 +16,7 @@ use Rattle.dh_office.specs.declared.taking.FileJob.TheVariants as job
 use Rattle.dh_office.specs.declared.status.Status.{Status}
 use Rattle.dh_office.specs.declared.status.Status.TheVariants as status
 use Rattle.dh_office.specs.Texts.{fault_line, refusal_line}
-use Rattle.dh_office.specs.Printed.{IsOfLines, PrintsJob, PutsAs}
+use Rattle.dh_office.specs.Printed.{IsOfLines, PrintsJob, PutsAs, Tries}
 use Rattle.dh_office.specs.Ends.{MemoryLinesEnd}
 
 -- help is all that was asked for, and else the words are bad
@@ -25,9 +25,9 @@ message_status DisplayHelp = status.Done
 message_status DisplayVersion = status.Done
 message_status _ = status.BadWords
 
--- what `clap` says of the words was printed, or that failed
+-- What `clap` says of the words was printed, or that failed. Bad words stay bad where it failed, and help is a failure then.
 abbrev pub MessagePrints : Error → Status → Type 0
-MessagePrints error it = (it ≡ message_status (kind_of error)) ⊎ (it ≡ status.Failed)
+MessagePrints error it = (it ≡ message_status (kind_of error)) ⊎ ((message_status (kind_of error) ≡ status.Done) × (it ≡ status.Failed))
 
 -- the option whose value is bad
 abbrev pub value_line : List ℕ → List ℕ
@@ -35,8 +35,8 @@ value_line option = codes "bad " ++ option ++ newline
 
 abbrev pub BadPrints : BadWords → Option (List ℕ) → Option (List ℕ) → Status → Type 0
 BadPrints (bad.Refused error) a b it = MessagePrints error it
-BadPrints (bad.Value option) a b it = PutsAs (value_line option.now) status.BadWords a b it
-BadPrints (bad.Question refusal) a b it = PutsAs (refusal_line refusal) status.BadWords a b it
+BadPrints (bad.Value option) a b it = Tries (value_line option.now) a b × (it ≡ status.BadWords)
+BadPrints (bad.Question refusal) a b it = Tries (refusal_line refusal) a b × (it ≡ status.BadWords)
 BadPrints bad.Memory a b it = PutsAs (fault_line fault.Memory) status.Failed a b it
 
 -- lines are answered on a file, or in memory where none is named

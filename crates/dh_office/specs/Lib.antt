@@ -4,4 +4,6 @@ pub mod Printed
 pub mod Jobs
 pub mod Ends
 pub mod Leaving
+pub mod OnFile
 pub mod Desk
+pub mod Process

@@ -26,6 +26,10 @@ abbrev pub heard : {T E : Type 0} → Result T E → Status → Status
 heard (Ok it) wanted = wanted
 heard (Err e) wanted = Failed
 
+-- the text was printed, or it broke off
+abbrev pub Tries : List ℕ → Option (List ℕ) → Option (List ℕ) → Type 0
+Tries text a b = Appends a b text ⊎ BreaksOff a b text
+
 -- the text was printed, and the status is the one wanted; or it broke off, and that is a failure
 abbrev pub PutsAs : List ℕ → Status → Option (List ℕ) → Option (List ℕ) → Status → Type 0
 PutsAs text wanted a b status = ((status ≡ wanted) × Appends a b text) ⊎ ((status ≡ Failed) × BreaksOff a b text)

@@ -4,11 +4,13 @@
 mod asking;
 mod files;
 mod jobs;
+mod process;
 mod serving;
 mod status;
 mod taking;
 mod telling;
 mod wording;
 
+pub use process::{refuse_words, run_words};
 pub use status::Status;
 pub use wording::desk;

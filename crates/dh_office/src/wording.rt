@@ -13,22 +13,34 @@ use crate::telling::{heard, print_refusal, tell_fault};
 use clap::Error;
 use dh_service::Service;
 use dh_types::writing::put_parts;
-use dh_types::{EntryMonth, Fault};
+use dh_types::{EntryMonth, Fault, Output};
 use dh_words::{BadWords, Job, job};
 use std::alloc::Global;
 use std::io::{Read, Write};
 
-// Prints what `clap` says of the words, with one line feed at its end.
+/// Words that ask for nothing are bad, whether it could be written why or not.
+pub(crate) fn refused(_outcome: Result<(), Output>) -> Status
+    ensures { result ≡ Status.BadWords }
+{
+    Status::BadWords
+}
+
+// Prints what `clap` says of the words, with one line feed at its end, or that there was no memory for it.
 fn print_message<W: Write>(alloc: Global, error: &Error, writer: &mut W) -> Status
     ensures { MessagePrints error.now result }
 {
-    let Ok(text) = error.to_string(alloc) else {
-        return tell_fault(writer, Fault::Memory);
+    let outcome = match error.to_string(alloc) {
+        Ok(text) => {
+            let message = text.as_str().trim_end_matches('\n');
+            put_parts(writer, &[message.as_bytes(), b"\n"])
+        }
+        Err(_) => {
+            tell_fault(writer, Fault::Memory);
+            Err(Output)
+        }
     };
-    let message = text.as_str().trim_end_matches('\n');
-    let outcome = put_parts(writer, &[message.as_bytes(), b"\n"]);
     if error.use_stderr() {
-        heard(outcome, Status::BadWords)
+        refused(outcome)
     } else {
         heard(outcome, Status::Done)
     }
@@ -40,11 +52,10 @@ fn refuse<W: Write>(alloc: Global, bad: &BadWords, writer: &mut W) -> Status
 {
     match bad {
         BadWords::Refused(error) => print_message(alloc, error, writer),
-        BadWords::Value(option) => heard(
-            put_parts(writer, &[b"bad ", option.as_bytes(), b"\n"]),
-            Status::BadWords,
-        ),
-        BadWords::Question(refusal) => heard(print_refusal(writer, *refusal), Status::BadWords),
+        BadWords::Value(option) => {
+            refused(put_parts(writer, &[b"bad ", option.as_bytes(), b"\n"]))
+        }
+        BadWords::Question(refusal) => refused(print_refusal(writer, *refusal)),
         BadWords::Memory => tell_fault(writer, Fault::Memory),
     }
 }

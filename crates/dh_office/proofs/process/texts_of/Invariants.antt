@@ -1,6 +1,6 @@
 use Rattle.std.proofs.Common.{◌≡◌, map, take}
 use Rattle.std.specs.Prelude.{string_bytes}
-use Rattle.dh_desk.proofs.texts_of.Given as goal
+use Rattle.dh_office.proofs.process.texts_of.Given as goal
 
 -- the texts so far are those of the words so far
 abbrev pub invariant-loop-word : goal.invariant-loop-word

@@ -1,0 +1,83 @@
+//! The words of the process, the program's name first, and its exit status.
+
+ghost use Rattle.std.specs.Prelude.{◌≡◌, IfOk, map, string_bytes};
+ghost use Rattle.std.specs.IoError.{error_kind};
+ghost use Rattle.dh_office.specs.Process.{ProcessEnds, UnreadPrints, WordsEnd, WordsRefused, behind_name};
+
+use crate::status::Status;
+use crate::telling::tell_fault;
+use crate::wording::{desk, refused};
+use dh_types::Fault;
+use dh_types::writing::put;
+use std::alloc::{AllocError, Global};
+use std::io;
+use std::io::{ErrorKind, Read, Write};
+
+// The words behind the program's name.
+fn behind_name(words: &[String]) -> &[String]
+    ensures { result.now ≡ behind_name words.now }
+{
+    match words.split_first() {
+        Some((_, behind)) => behind,
+        None => words,
+    }
+}
+
+// The texts of the words.
+fn texts_of<'a>(alloc: Global, words: &'a [String]) -> Result<Vec<&'a str>, AllocError>
+    ensures { IfOk result (λ texts. map (λ text. text.now) texts.items ≡ map string_bytes words.now) }
+{
+    let mut texts = Vec::new(alloc);
+    for word in words {
+        texts.push(word.as_str())?;
+    }
+    Ok(texts)
+}
+
+// Does what the words behind the program's name ask for.
+fn do_words<R: Read, W: Write>(
+    rt: &HostRuntime,
+    words: &[String],
+    reader: &mut R,
+    writer: &mut W,
+) -> Status
+    ensures { WordsEnd (map string_bytes words.now) (R.remaining reader.old) (W.contents writer.old) (W.contents writer.new) result }
+{
+    match texts_of(rt.alloc(), behind_name(words)) {
+        Ok(texts) => desk(rt, &texts, reader, writer),
+        Err(_) => tell_fault(writer, Fault::Memory),
+    }
+}
+
+/// Does what the words of a process ask for, of which the first is the program's name, with these as its input and output. Returns the
+/// exit status of the process, 0 to 5.
+pub fn run_words<R: Read, W: Write>(
+    rt: &HostRuntime,
+    words: &[String],
+    reader: &mut R,
+    writer: &mut W,
+) -> u8
+    ensures { ProcessEnds (map string_bytes words.now) (R.remaining reader.old) (W.contents writer.old) (W.contents writer.new) result }
+{
+    do_words(rt, words, reader, writer).code()
+}
+
+// Says why the words can't be had.
+fn tell_unread<W: Write>(error: &io::Error, writer: &mut W) -> Status
+    ensures { UnreadPrints (error_kind error.now) (W.contents writer.old) (W.contents writer.new) result }
+{
+    if error.kind() == ErrorKind::InvalidData {
+        return refused(put(
+            writer,
+            b"error: invalid UTF-8 was detected in one or more arguments\n",
+        ));
+    }
+    tell_fault(writer, Fault::Memory)
+}
+
+/// Says why the words of a process can't be had. Returns its exit status: 2 where one of the words is no text, and 3 where memory ran out.
+pub fn refuse_words<W: Write>(error: &io::Error, writer: &mut W) -> u8
+    ensures { WordsRefused error.now (W.contents writer.old) (W.contents writer.new) result }
+{
+    tell_unread(error, writer).code()
+}
