@@ -3,7 +3,8 @@
 use dh_agency::{Agency, NotOpened, create};
 use dh_examples::{Unreadable, answer_text, january, request};
 use dh_fields::Request;
-use dh_types::{Command, Question};
+use dh_runs::RunState;
+use dh_types::{Command, Question, Reply};
 use sqlite::{Alter, Connection, MemStore};
 use std::alloc::{AllocError, Global};
 
@@ -48,12 +49,29 @@ fn answered<S: Alter>(
     }
 }
 
-/// What the agency answers to the line: its reply to a command, and its answer to a question.
+// What a run comes to that is resumed, in a reply's words.
+fn resumed<S: Alter>(
+    alloc: Global,
+    agency: &mut Agency<S>,
+    most: u32,
+) -> Result<String, AllocError> {
+    match agency.resume(alloc, most) {
+        Ok(RunState::NoRun) => "no run".to_string(alloc),
+        Ok(RunState::Part(progress)) => format!(in alloc; "{}", Reply::Part(progress)),
+        Ok(RunState::Posted(sum)) => format!(in alloc; "{}", Reply::Posted(sum)),
+        Err(fault) => format!(in alloc; "{fault}"),
+    }
+}
+
+/// What the agency answers to the line: its reply to a command, and its answer to a question. Behind `resume,N` the open run is resumed.
 pub fn told<S: Alter>(
     alloc: Global,
     agency: &mut Agency<S>,
     line: &str,
 ) -> Result<String, AllocError> {
+    if let Some(most) = line.strip_prefix("resume,") {
+        return resumed(alloc, agency, most.parse().unwrap_or(0));
+    }
     match request(alloc, line) {
         Ok(request) => answered(alloc, agency, &request),
         Err(Unreadable) => "not read".to_string(alloc),

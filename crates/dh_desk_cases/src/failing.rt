@@ -44,10 +44,11 @@ pub fn play_reader(rt: &HostRuntime, tally: &mut Tally, line: &str) -> io::Resul
     Ok(())
 }
 
-// A run whose writer takes so many bytes and then fails: status 3, and a beginning of the output that is wanted.
+// A run whose writer takes so many bytes and then fails: this status, and a beginning of the output that is wanted.
 fn play_writes(
     rt: &HostRuntime,
     tally: &mut Tally,
+    code: u8,
     told: &str,
     whole: &str,
     writes: usize,
@@ -63,7 +64,8 @@ fn play_writes(
     let is_beginning = whole.as_bytes().get(..writes) == Some(writer.inner.as_slice());
     let got = format!(in rt.alloc(); "{} {is_beginning}", status.code())?;
     let case = format!(in rt.alloc(); "{words} after {writes} writes")?;
-    compare(rt, tally, case.as_str(), got.as_str(), "3 true")
+    let wanted = format!(in rt.alloc(); "{code} true")?;
+    compare(rt, tally, case.as_str(), got.as_str(), wanted.as_str())
 }
 
 // The bytes of the file, none where there is no file.
@@ -83,13 +85,13 @@ fn put_back(rt: &HostRuntime, bytes: &[u8]) -> io::Result<()> {
 }
 
 // Plays a line with each failing writer, on the file as it stands, and then once whole.
-fn play_line(rt: &HostRuntime, tally: &mut Tally, line: &str) -> io::Result<()> {
+fn play_line(rt: &HostRuntime, tally: &mut Tally, code: u8, line: &str) -> io::Result<()> {
     let (told, whole) = parted(line);
     let whole = whole.replace(rt.alloc(), "\\n", "\n")?;
     let bytes = kept(rt)?;
     for writes in 0..whole.len() {
         put_back(rt, &bytes)?;
-        play_writes(rt, tally, told, whole.as_str(), writes)?;
+        play_writes(rt, tally, code, told, whole.as_str(), writes)?;
     }
     put_back(rt, &bytes)?;
     let (words, input) = told.split_once(" < ").unwrap_or((told, ""));
@@ -97,11 +99,12 @@ fn play_line(rt: &HostRuntime, tally: &mut Tally, line: &str) -> io::Result<()> 
     Ok(())
 }
 
-/// Plays each line `WORDS -> TEXT` or `WORDS < INPUT -> TEXT` behind those above it, with a writer that takes a byte a write and fails at each write in turn.
-pub fn play_writer(rt: &HostRuntime, tally: &mut Tally, lines: &str) -> io::Result<()> {
+/// Plays each line `WORDS -> TEXT` or `WORDS < INPUT -> TEXT` behind those above it, with a writer that takes a byte a write and fails at
+/// each write in turn. Each run then ends with this status.
+pub fn play_writer(rt: &HostRuntime, tally: &mut Tally, code: u8, lines: &str) -> io::Result<()> {
     clear(rt);
     for line in lines.lines() {
-        play_line(rt, tally, line)?;
+        play_line(rt, tally, code, line)?;
     }
     clear(rt);
     Ok(())

@@ -1,7 +1,8 @@
-//! Lives of a path. A line `letting WORDS -> STATUS TEXT` is a run, and so is `letting WORDS < INPUT -> STATUS TEXT` with an input; of a run
-//! behind `help` the first line is compared. `answer` has what else a line may be.
+//! Lives of a path. A line `letting WORDS -> STATUS TEXT` is a run, and so is `letting WORDS < INPUT -> STATUS TEXT` with an input; a run
+//! behind `crack` has a file that can't be closed. `answer` has what else a line may be.
 
-use crate::runs::{PATH, clear, ran, standing};
+use crate::cracks::cracked;
+use crate::runs::{LOG, PATH, clear, ran, standing};
 use dh_agency_scripts::{all_rows, compare, parted, rows_of};
 use dh_tally::Tally;
 use sqlite::Connection;
@@ -33,29 +34,25 @@ fn run(rt: &HostRuntime, words: &str) -> Result<String, AllocError> {
     ran(rt, words, input)
 }
 
+// Makes a folder at the path or at its log's, or a file with this text.
+fn made(rt: &HostRuntime, kind: &str, text: &str) -> io::Result<&'static str> {
+    match kind {
+        "folder" => fs::create_dir(rt, PATH)?,
+        "folder-for-log" => fs::create_dir(rt, LOG)?,
+        _ => fs::write(rt, PATH, text)?,
+    }
+    Ok("done")
+}
+
 // What a line comes to, where the file was as it is kept.
 fn answer(rt: &HostRuntime, kept: &mut Vec<u8>, kind: &str, rest: &str) -> io::Result<String> {
     let alloc = rt.alloc();
     let text = match kind {
         "letting" => return Ok(run(rt, rest)?),
-        "help" => return Ok(
-            run(rt, rest)?
-                .as_str()
-                .split("\\n")
-                .next()
-                .unwrap_or("")
-                .to_string(alloc)?,
-        ),
+        "crack" => return cracked(rt, rest),
         "rows" => return Ok(rows_of(tables(rt)?.as_str(), rest).to_string(alloc)?),
         "sql" => edited(rt, rest).unwrap_or("not done"),
-        "write" => {
-            fs::write(rt, PATH, rest)?;
-            "done"
-        }
-        "folder" => {
-            fs::create_dir(rt, PATH)?;
-            "done"
-        }
+        "write" | "folder" | "folder-for-log" => made(rt, kind, rest)?,
         "keep" => {
             *kept = fs::read(rt, PATH)?;
             "done"

@@ -5,6 +5,7 @@
 #![tactic(auto)]
 
 mod consoles;
+mod cracks;
 mod edits;
 mod failing;
 mod imports;
@@ -24,7 +25,8 @@ fn play(rt: &HostRuntime, tally: &mut Tally, kind: &str, lines: &str) -> io::Res
         "the manual and the examples" => manual::play(rt, tally, lines),
         "peers" => peers::play(rt, tally, lines),
         "a reader that fails" => failing::play_reader(rt, tally, lines),
-        "a writer that fails" => failing::play_writer(rt, tally, lines),
+        "a writer that fails" => failing::play_writer(rt, tally, 3, lines),
+        "bad words to a writer that fails" => failing::play_writer(rt, tally, 2, lines),
         _ => lives::play(rt, tally, lines),
     }
 }

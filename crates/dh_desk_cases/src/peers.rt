@@ -1,7 +1,8 @@
 //! Peers of `letting serve`. Behind the lines of a life, a line `ask REQUEST -> STATUS BODY` is a request, in which `\r` and `\n` are bytes,
-//! and what its peer is answered: `-> nothing` where it gets no byte. A line `serve WORDS -> STATUS TEXT` sends the requests above it, one
-//! connection each, as soon as it is told the port, and compares the rest of the text; `spoil WORDS` does so over a file that is emptied
-//! then; `busy WORDS` names a port that is taken.
+//! and what its peer is answered: `-> nothing` where it gets no byte. A line `hold REQUEST` is one whose peer doesn't end its input. A line
+//! `serve WORDS -> STATUS TEXT` sends the requests above it, one connection each, as soon as it is told the port, and compares the rest of
+//! the text; it also tries the same port of 127.0.0.2, where nobody listens. `spoil WORDS` does so over a file that is emptied then; `busy
+//! WORDS` names a port that is taken.
 
 ghost use Rattle.std.specs.Prelude.{◌≡◌, Some};
 
@@ -19,11 +20,14 @@ use std::{fs, io, str};
 struct Ask {
     request: String,
     wanted: String,
+    // Whether the peer ends its input.
+    ends: bool,
 }
 
 impl Ask {
-    fn new(alloc: Global, request: &str, wanted: &str) -> Result<Ask, AllocError> {
+    fn new(alloc: Global, request: &str, wanted: &str, ends: bool) -> Result<Ask, AllocError> {
         Ok(Ask {
+            ends,
             request: request
                 .replace(alloc, "\\r", "\r")?
                 .as_str()
@@ -39,12 +43,26 @@ fn port_in(line: &[u8]) -> Option<u16> {
     text.strip_prefix("port ")?.trim_end().parse().ok()
 }
 
-fn connected(rt: &HostRuntime, port: u16, request: &str) -> io::Result<TcpStream> {
+fn connected(rt: &HostRuntime, port: u16, ask: &Ask) -> io::Result<TcpStream> {
     let address = SocketAddr::V4(SocketAddrV4::new(Ipv4Addr::LOCALHOST, port));
     let mut peer = TcpStream::connect(rt, address)?;
-    peer.write_all(request.as_bytes())?;
-    peer.shutdown(Shutdown::Write)?;
+    peer.write_all(ask.request.as_bytes())?;
+    if ask.ends {
+        peer.shutdown(Shutdown::Write)?;
+    }
     Ok(peer)
+}
+
+// Who listens at that port of another address than 127.0.0.1.
+fn listener_elsewhere(rt: &HostRuntime, told: &[u8]) -> &'static str {
+    let Some(port) = port_in(told) else {
+        return "nobody";
+    };
+    let address = SocketAddr::V4(SocketAddrV4::new(Ipv4Addr::new(127, 0, 0, 2), port));
+    match TcpStream::connect(rt, address) {
+        Ok(_) => "somebody",
+        Err(_) => "nobody",
+    }
 }
 
 // A peer for each request, which it has sent.
@@ -54,7 +72,7 @@ fn peers_of(rt: &HostRuntime, told: &[u8], asks: &[Ask]) -> io::Result<Vec<TcpSt
         return Ok(peers);
     };
     for ask in asks {
-        peers.push(connected(rt, port, ask.request.as_str())?)?;
+        peers.push(connected(rt, port, ask)?)?;
     }
     Ok(peers)
 }
@@ -67,6 +85,7 @@ struct Caller<'a> {
     spoils: bool,
     told: Vec<u8>,
     peers: Vec<TcpStream>,
+    elsewhere: &'static str,
 }
 
 impl<'a> Caller<'a> {
@@ -77,6 +96,7 @@ impl<'a> Caller<'a> {
             spoils,
             told: Vec::new(rt.alloc()),
             peers: Vec::new(rt.alloc()),
+            elsewhere: "not asked",
         }
     }
 
@@ -93,6 +113,7 @@ impl<'a> Caller<'a> {
         if let Ok(peers) = peers_of(self.rt, &self.told, self.asks) {
             self.peers = peers;
         }
+        self.elsewhere = listener_elsewhere(self.rt, &self.told);
     }
 }
 
@@ -160,7 +181,9 @@ fn served(
         spoils: _,
         told,
         mut peers,
+        elsewhere,
     } = caller;
+    compare(rt, tally, "the port at 127.0.0.2", elsewhere, "nobody")?;
     judge(rt, tally, asks, &mut peers)?;
     let told = shown(rt.alloc(), &told)?;
     let text = told.as_str();
@@ -186,7 +209,8 @@ fn play_line(
     let (told, wanted) = parted(line);
     let (kind, words) = told.split_once(' ').unwrap_or((told, ""));
     let got = match kind {
-        "ask" => return Ok(asks.push(Ask::new(rt.alloc(), words, wanted)?)?),
+        "ask" => return Ok(asks.push(Ask::new(rt.alloc(), words, wanted, true)?)?),
+        "hold" => return Ok(asks.push(Ask::new(rt.alloc(), words, wanted, false)?)?),
         "busy" => refused(rt, words)?,
         "serve" | "spoil" => {
             let got = served(rt, tally, asks, words, kind == "spoil")?;

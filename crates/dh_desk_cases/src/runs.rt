@@ -94,6 +94,7 @@ pub fn clear(rt: &HostRuntime) {
     let _ = fs::remove_file(rt, PATH);
     let _ = fs::remove_file(rt, LOG);
     let _ = fs::remove_dir(rt, PATH);
+    let _ = fs::remove_dir(rt, LOG);
 }
 
 /// What stands at the path and at its log's.

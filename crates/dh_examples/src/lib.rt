@@ -3,8 +3,8 @@
 //!
 //! A line is words, an arrow ` -> `, and what is wanted: the reply to a command, or the answer to a question. The words are fields
 //! between commas, as `rent,P101,650.00` or `show,branches`, which `request` reads as an agency does; `row_of` reads those of a
-//! row of the books, which `to_line` writes again; `answer_text` is the answer to a question, which is asked of a `copy_of` the books. `script` reads a whole text: blocks
-//! of lines under headings. Read `Block` first.
+//! row of the books, which `to_line` writes again; `answer_text` is the answer to a question, which is asked of a `copy_of` the
+//! books. `script` reads a whole text: blocks of lines under headings. Read `Block` first.
 #![tactic(auto)]
 
 mod account_rows;
