@@ -3,8 +3,8 @@
 
     tools/gate_times.py [LOG]     runs `rt ci` at the top of the repository, with its output in LOG (gate.log beside the repository)
 
-Twice a second it looks at the toolchain's processes. So a time may lack the last half second of each process; the sum over all,
-in the last line, is the system's own. The status is that of `rt ci`.
+Twice a second it looks at the toolchain's processes that this run began, and at no others. So a time may lack the last half second of
+each process; the sum over all, in the last line, is the system's own. The status is that of `rt ci`.
 """
 import os
 import re
@@ -24,6 +24,28 @@ def read(path, mode='r'):
 
 def words_of(pid):
     return read(f'/proc/{pid}/cmdline', 'rb').decode(errors='replace').split('\0')
+
+
+def parents():
+    """The parent of each process."""
+    found = {}
+    for pid in filter(str.isdigit, os.listdir('/proc')):
+        try:
+            found[int(pid)] = int(read(f'/proc/{pid}/stat').rpartition(') ')[2].split()[1])
+        except OSError:
+            pass
+    return found
+
+
+def below(first, parent_of):
+    """The processes that this one began, and those that they began."""
+    found = {first}
+    grown = True
+    while grown:
+        more = {pid for pid, parent in parent_of.items() if parent in found} - found
+        found |= more
+        grown = bool(more)
+    return found - {first}
 
 
 def process(pid):
@@ -60,7 +82,7 @@ def main():
         gate = subprocess.Popen(['rt', 'ci'], cwd=top, stdin=subprocess.DEVNULL, stdout=out, stderr=subprocess.STDOUT)
         while gate.poll() is None:
             now = {}
-            for pid in filter(str.isdigit, os.listdir('/proc')):
+            for pid in below(gate.pid, parents()):
                 seen = process(pid)
                 if seen:
                     crate, work, taken, memory = seen
