@@ -1,7 +1,8 @@
 #!/usr/bin/env python3
 """Runs the gate and tells what each crate took of it: processor seconds and the most memory of its proof, its tests and its edits.
 
-    tools/gate_times.py [LOG]     runs `rt ci` at the top of the repository, with its output in LOG (gate.log beside the repository)
+    tools/gate_times.py [LOG] [NAME..]     runs `rt ci` at the top of the repository, of these crates alone where some are named, with its
+                                           output in LOG (gate.log beside the repository)
 
 Twice a second it looks at the toolchain's processes that this run began, and at no others. So a time may lack the last half second of
 each process; the sum over all, in the last line, is the system's own. The status is that of `rt ci`.
@@ -79,7 +80,7 @@ def main():
     begun = time.monotonic()
     seconds, peaks = {}, {}
     with open(log, 'w') as out:
-        gate = subprocess.Popen(['rt', 'ci'], cwd=top, stdin=subprocess.DEVNULL, stdout=out, stderr=subprocess.STDOUT)
+        gate = subprocess.Popen(['rt', 'ci', *sys.argv[2:]], cwd=top, stdin=subprocess.DEVNULL, stdout=out, stderr=subprocess.STDOUT)
         while gate.poll() is None:
             now = {}
             for pid in below(gate.pid, parents()):

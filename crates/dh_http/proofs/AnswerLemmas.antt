@@ -8,7 +8,7 @@ use Rattle.dh_types.specs.declared.reply.Reply.{Reply}
 use Rattle.dh_types.specs.declared.reply.Reply.TheVariants as reply
 use Rattle.dh_types.specs.declared.reply.Refusal.{Refusal}
 use Rattle.dh_types.specs.Replies.{reply_text}
-use Rattle.dh_types.specs.declared.writing.Output.{Output}
+use Rattle.dh_types.specs.declared.output.Output.{Output}
 use Rattle.dh_http.specs.Answers.{Answer, Passes, Sends, Writes, json_answer, reply_answer, report_answer}
 use Rattle.dh_http.specs.declared.answers.Content.TheVariants.{Report as Text}
 use Rattle.dh_http.specs.declared.answers.Unsent.{Unsent}

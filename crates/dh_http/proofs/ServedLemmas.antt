@@ -4,7 +4,7 @@ use Rattle.std.specs.Prelude.{MatchOption}
 use Rattle.sqlite.specs.Store.{Ghosts}
 use Rattle.dh_types.specs.declared.reply.Fault.{Fault}
 use Rattle.dh_types.specs.declared.reply.Fault.TheVariants as faults
-use Rattle.dh_types.specs.declared.writing.Output.{Output as Written}
+use Rattle.dh_types.specs.declared.output.Output.{Output as Written}
 use Rattle.dh_model.specs.Books.{State}
 use Rattle.dh_schema.specs.Faults.{IsFirstFault}
 use Rattle.dh_agency.specs.Seat.{Seat}

@@ -6,7 +6,7 @@ use Rattle.dh_types.specs.Output.{BreaksOff}
 use Rattle.dh_types.specs.declared.reply.Fault.{Fault}
 use Rattle.dh_types.specs.declared.reply.Fault.TheVariants as fault
 use Rattle.dh_types.specs.declared.reply.Refusal.{Refusal}
-use Rattle.dh_types.specs.declared.writing.Output.{Output as Written}
+use Rattle.dh_types.specs.declared.output.Output.{Output as Written}
 use Rattle.dh_model.specs.Answers.{report}
 use Rattle.dh_model.specs.Books.{State}
 use Rattle.dh_model.specs.Machine.{step}

@@ -11,7 +11,7 @@ use Rattle.sqlite.specs.Store.{Ghosts}
 use Rattle.dh_types.specs.Output.{BreaksOff, Puts}
 use Rattle.dh_types.specs.declared.reply.Fault.{Fault}
 use Rattle.dh_types.specs.declared.reply.Fault.TheVariants as faults
-use Rattle.dh_types.specs.declared.writing.Output as writing
+use Rattle.dh_types.specs.declared.output.Output as writing
 use Rattle.dh_model.specs.Books.{State}
 use Rattle.dh_agency.specs.Seat.{Seat}
 use Rattle.dh_agency.specs.Agency.{Leaves, LeavesItsTables, machine, stand}

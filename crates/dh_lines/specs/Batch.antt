@@ -9,7 +9,7 @@ use Rattle.dh_types.specs.Output.{BreaksOff, Puts}
 use Rattle.dh_types.specs.declared.command.Command as told
 use Rattle.dh_types.specs.declared.reply.Fault.{Fault}
 use Rattle.dh_types.specs.declared.reply.Fault.TheVariants as faults
-use Rattle.dh_types.specs.declared.writing.Output as writing
+use Rattle.dh_types.specs.declared.output.Output as writing
 use Rattle.dh_model.specs.Books.{State}
 use Rattle.dh_model.specs.Runs.{batch_size}
 use Rattle.dh_model.specs.Verdicts.{verdict_on}

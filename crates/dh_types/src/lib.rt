@@ -9,6 +9,7 @@ mod command;
 pub mod field;
 pub mod laws;
 mod lease;
+mod output;
 mod owner;
 mod property;
 mod question;
@@ -30,6 +31,7 @@ pub use dh_values::{
     PaymentMethod, Pence, Position, PropertyType, ReceiptKind, ReceiptNo, Rent, Rooms, Text60,
 };
 pub use lease::{Charge, Lease, LeaseTerms, Payment, Receipt};
+pub use output::Output;
 pub use owner::Owner;
 pub use property::Property;
 pub use question::{ClientDay, Question};
@@ -38,4 +40,3 @@ pub use reply_text::{put_fault, put_month, put_refusal, put_reply};
 pub use run::{Part, Run, RunSum};
 pub use staff::Staff;
 pub use viewing::{Inspection, Viewing};
-pub use writing::Output;

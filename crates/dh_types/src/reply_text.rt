@@ -6,9 +6,10 @@ ghost use Rattle.dh_days.specs.Months.{IsMonth, month_text};
 ghost use Rattle.dh_types.specs.Output.{Puts};
 ghost use Rattle.dh_types.specs.Replies.{fault_text, progress_text, refusal_text, reply_text, sum_text, value_text};
 
+use crate::output::Output;
 use crate::reply::Progress;
 use crate::wording::{Value, words_of_fault, words_of_refusal, words_of_reply};
-use crate::writing::{Output, put, put_parts};
+use crate::writing::{put, put_parts};
 use crate::{Fault, Month, Pence, Refusal, Reply, RunSum};
 use std::io::Write;
 
