@@ -15,11 +15,12 @@ ghost use Rattle.dh_asking.specs.Gathered.{Gathers, with_leases, with_registrati
 
 use dh_books::Books;
 use dh_looks::look;
+use dh_schema::StoreFault;
 use dh_tables::{
     ClientNumbered, DepositsOfLease, LeaseNumbered, LeasesOfClientFrom, LeasesOfProperty,
     PropertyNumbered, ReceiptKeyed, RegistrationAt, RunKeyed,
 };
-use dh_types::{Fault, LeaseTerms, ReceiptOrder, RunOrder};
+use dh_types::{LeaseTerms, ReceiptOrder, RunOrder};
 use sqlite::{Alter, Connection};
 use std::alloc::Global;
 
@@ -29,7 +30,7 @@ fn registration<S: Alter>(
     conn: &mut Connection<S>,
     terms: &LeaseTerms,
     books: &mut Books,
-) -> Result<(), Fault>
+) -> Result<(), StoreFault>
     requires { HasCleanDisk (state S.Store conn.old) → IsReady (state S.Store conn.old) }
     ensures gathered { (t b : State) → AreBoth t b (state S.Store conn.old) books.old → b.books.registrations ≡ fin.empty
         → b.books.properties ≡ rows_where (λ property. is_same_text property.number terms.now.property) t.books.properties
@@ -54,7 +55,7 @@ fn leases<S: Alter>(
     conn: &mut Connection<S>,
     terms: &LeaseTerms,
     books: &mut Books,
-) -> Result<(), Fault>
+) -> Result<(), StoreFault>
     requires { HasCleanDisk (state S.Store conn.old) → IsReady (state S.Store conn.old) }
     ensures gathered { (t b : State) → AreBoth t b (state S.Store conn.old) books.old → b.books.leases ≡ fin.empty
         → OnOk result (AreBoth t (with_leases terms.now t b) (state S.Store conn.new) books.new) }
@@ -89,7 +90,7 @@ pub(crate) fn at_lease<S: Alter>(
     conn: &mut Connection<S>,
     terms: &LeaseTerms,
     books: &mut Books,
-) -> Result<(), Fault>
+) -> Result<(), StoreFault>
     requires { HasCleanDisk (state S.Store conn.old) → IsReady (state S.Store conn.old) }
     ensures gathered { Gathers (command.Lease terms.now) result (state S.Store conn.old) books.old (state S.Store conn.new) books.new }
     ensures reads { OnlyReads (state S.Store conn.old) (state S.Store conn.new) result }
@@ -120,7 +121,7 @@ pub(crate) fn at_receipt<S: Alter>(
     conn: &mut Connection<S>,
     order: &ReceiptOrder,
     books: &mut Books,
-) -> Result<(), Fault>
+) -> Result<(), StoreFault>
     requires { HasCleanDisk (state S.Store conn.old) → IsReady (state S.Store conn.old) }
     ensures gathered { Gathers (command.Receipt order.now) result (state S.Store conn.old) books.old (state S.Store conn.new) books.new }
     ensures reads { OnlyReads (state S.Store conn.old) (state S.Store conn.new) result }
@@ -151,7 +152,7 @@ pub(crate) fn at_run<S: Alter>(
     conn: &mut Connection<S>,
     order: &RunOrder,
     books: &mut Books,
-) -> Result<(), Fault>
+) -> Result<(), StoreFault>
     requires { HasCleanDisk (state S.Store conn.old) → IsReady (state S.Store conn.old) }
     ensures gathered { Gathers (command.Run order.now) result (state S.Store conn.old) books.old (state S.Store conn.new) books.new }
     ensures reads { OnlyReads (state S.Store conn.old) (state S.Store conn.new) result }

@@ -15,7 +15,8 @@ use crate::gathering::{gather, open_month};
 use dh_looks::months_now;
 use dh_model::{OpenRun, Verdict};
 use dh_rows::Meta;
-use dh_types::{Command, Fault};
+use dh_schema::StoreFault;
+use dh_types::Command;
 use dh_verdicts::{decide_on, open_refusal};
 use sqlite::{Alter, Connection};
 use std::alloc::Global;
@@ -28,7 +29,7 @@ fn ask_rows<S: Alter>(
     command: &Command,
     months: Meta,
     run: Option<OpenRun>,
-) -> Result<Verdict, Fault>
+) -> Result<Verdict, StoreFault>
     requires ready { HasCleanDisk (state S.Store conn.old) → IsReady (state S.Store conn.old) }
     requires months { HasCleanDisk (state S.Store conn.old) → AreMonthsOf months (tables (state S.Store conn.old)).books }
     requires run { HasCleanDisk (state S.Store conn.old) → month_open run ≡ month_open (tables (state S.Store conn.old)).open_run }
@@ -39,7 +40,7 @@ fn ask_rows<S: Alter>(
     let facts = gather(alloc, conn, command, months, run)?;
     match decide_on(alloc, &facts, command) {
         Ok(verdict) => Ok(verdict),
-        Err(_) => Err(Fault::Memory),
+        Err(error) => Err(error.into()),
     }
 }
 
@@ -48,7 +49,7 @@ fn ask_tables<S: Alter>(
     alloc: Global,
     conn: &mut Connection<S>,
     command: &Command,
-) -> Result<Verdict, Fault>
+) -> Result<Verdict, StoreFault>
     requires { HasCleanDisk (state S.Store conn.old) → IsReady (state S.Store conn.old) }
     ensures verdict { HasCleanDisk (state S.Store conn.new)
         → IfOk result (λ v. v ≡ verdict_on (tables (state S.Store conn.old)).books (tables (state S.Store conn.old)).open_run command.now) }
@@ -68,7 +69,7 @@ pub fn ask<S: Alter>(
     alloc: Global,
     conn: &mut Connection<S>,
     command: &Command,
-) -> Result<Verdict, Fault>
+) -> Result<Verdict, StoreFault>
     requires { HasCleanDisk (state S.Store conn.old) → IsReady (state S.Store conn.old) }
     ensures verdict { HasCleanDisk (state S.Store conn.new)
         → IfOk result (λ v. v ≡ verdict_on (tables (state S.Store conn.old)).books (tables (state S.Store conn.old)).open_run command.now) }

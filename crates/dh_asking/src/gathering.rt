@@ -18,9 +18,9 @@ use dh_books::Books;
 use dh_looks::find_open_run;
 use dh_model::OpenRun;
 use dh_rows::Meta;
-use dh_schema::fault_of;
+use dh_schema::StoreFault;
 use dh_tables::last_receipt;
-use dh_types::{Command, Fault};
+use dh_types::Command;
 use dh_verdicts::Facts;
 use sqlite::{Alter, Connection};
 use std::alloc::Global;
@@ -30,7 +30,7 @@ pub(crate) fn open_month<S: Alter>(
     alloc: Global,
     conn: &mut Connection<S>,
     months: Meta,
-) -> Result<Option<OpenRun>, Fault>
+) -> Result<Option<OpenRun>, StoreFault>
     requires ready { HasCleanDisk (state S.Store conn.old) → IsReady (state S.Store conn.old) }
     requires months { HasCleanDisk (state S.Store conn.old) → AreMonthsOf months (tables (state S.Store conn.old)).books }
     ensures month { HasCleanDisk (state S.Store conn.new) → IfOk result (λ run. month_open run ≡ month_open (tables (state S.Store conn.old)).open_run) }
@@ -46,7 +46,7 @@ pub(crate) fn open_month<S: Alter>(
 }
 
 // How many receipts there are: the last one's number.
-fn receipt_count<S: Alter>(alloc: Global, conn: &mut Connection<S>) -> Result<usize, Fault>
+fn receipt_count<S: Alter>(alloc: Global, conn: &mut Connection<S>) -> Result<usize, StoreFault>
     requires { HasCleanDisk (state S.Store conn.old) → IsReady (state S.Store conn.old) }
     ensures counted { HasCleanDisk (state S.Store conn.new) → IfOk result (λ count. count ≡ fin.len (tables (state S.Store conn.old)).books.receipts) }
     ensures reads { OnlyReads (state S.Store conn.old) (state S.Store conn.new) result }
@@ -54,7 +54,7 @@ fn receipt_count<S: Alter>(alloc: Global, conn: &mut Connection<S>) -> Result<us
     match last_receipt(alloc, conn) {
         Ok(Some(last)) => Ok(last.number.number() as usize),
         Ok(None) => Ok(0),
-        Err(error) => Err(fault_of(error)),
+        Err(error) => Err(error.into()),
     }
 }
 
@@ -63,7 +63,7 @@ fn count_for<S: Alter>(
     alloc: Global,
     conn: &mut Connection<S>,
     command: &Command,
-) -> Result<usize, Fault>
+) -> Result<usize, StoreFault>
     requires { HasCleanDisk (state S.Store conn.old) → IsReady (state S.Store conn.old) }
     ensures counted { HasCleanDisk (state S.Store conn.new) → IfOk result (λ count. Counts command.now (tables (state S.Store conn.old)).books.receipts count) }
     ensures reads { OnlyReads (state S.Store conn.old) (state S.Store conn.new) result }
@@ -80,7 +80,7 @@ fn gather_rows<S: Alter>(
     conn: &mut Connection<S>,
     command: &Command,
     books: &mut Books,
-) -> Result<(), Fault>
+) -> Result<(), StoreFault>
     requires { HasCleanDisk (state S.Store conn.old) → IsReady (state S.Store conn.old) }
     ensures gathered { Gathers command.now result (state S.Store conn.old) books.old (state S.Store conn.new) books.new }
     ensures reads { OnlyReads (state S.Store conn.old) (state S.Store conn.new) result }
@@ -111,7 +111,7 @@ fn gather_into<S: Alter>(
     command: &Command,
     run: Option<OpenRun>,
     facts: &mut Facts,
-) -> Result<(), Fault>
+) -> Result<(), StoreFault>
     requires ready { HasCleanDisk (state S.Store conn.old) → IsReady (state S.Store conn.old) }
     requires run { HasCleanDisk (state S.Store conn.old) → month_open run ≡ month_open (tables (state S.Store conn.old)).open_run }
     ensures cut { HasCleanDisk (state S.Store conn.new) → facts.old.books ≡ bare (tables (state S.Store conn.old))
@@ -131,7 +131,7 @@ pub(crate) fn gather<S: Alter>(
     command: &Command,
     months: Meta,
     run: Option<OpenRun>,
-) -> Result<Facts, Fault>
+) -> Result<Facts, StoreFault>
     requires ready { HasCleanDisk (state S.Store conn.old) → IsReady (state S.Store conn.old) }
     requires months { HasCleanDisk (state S.Store conn.old) → AreMonthsOf months (tables (state S.Store conn.old)).books }
     requires run { HasCleanDisk (state S.Store conn.old) → month_open run ≡ month_open (tables (state S.Store conn.old)).open_run }

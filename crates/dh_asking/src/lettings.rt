@@ -13,11 +13,12 @@ ghost use Rattle.dh_asking.specs.Gathered.{Gathers, with_managed};
 
 use dh_books::Books;
 use dh_looks::look;
+use dh_schema::StoreFault;
 use dh_tables::{
     BranchNumbered, ClientNumbered, InspectionOf, MemberNumbered, OwnerNumbered, PropertiesManaged,
     PropertyNumbered, ViewingOf,
 };
-use dh_types::{Assignment, Fault, Id, Inspection, Property, RentChange, Viewing, ViewingComment};
+use dh_types::{Assignment, Id, Inspection, Property, RentChange, Viewing, ViewingComment};
 use sqlite::{Alter, Connection};
 use std::alloc::Global;
 
@@ -28,7 +29,7 @@ fn managed<S: Alter>(
     property: Id,
     manager: Option<Id>,
     books: &mut Books,
-) -> Result<(), Fault>
+) -> Result<(), StoreFault>
     requires { HasCleanDisk (state S.Store conn.old) → IsReady (state S.Store conn.old) }
     ensures gathered { (t b : State) → AreBoth t b (state S.Store conn.old) books.old → b.books.staff ≡ fin.empty → b.books.properties ≡ fin.empty
         → OnOk result (AreBoth t (with_managed property manager t b) (state S.Store conn.new) books.new) }
@@ -50,7 +51,7 @@ pub(crate) fn at_property<S: Alter>(
     conn: &mut Connection<S>,
     property: &Property,
     books: &mut Books,
-) -> Result<(), Fault>
+) -> Result<(), StoreFault>
     requires { HasCleanDisk (state S.Store conn.old) → IsReady (state S.Store conn.old) }
     ensures gathered { Gathers (command.Property property.now) result (state S.Store conn.old) books.old (state S.Store conn.new) books.new }
     ensures reads { OnlyReads (state S.Store conn.old) (state S.Store conn.new) result }
@@ -80,7 +81,7 @@ pub(crate) fn at_assign<S: Alter>(
     conn: &mut Connection<S>,
     it: &Assignment,
     books: &mut Books,
-) -> Result<(), Fault>
+) -> Result<(), StoreFault>
     requires { HasCleanDisk (state S.Store conn.old) → IsReady (state S.Store conn.old) }
     ensures gathered { Gathers (command.Assign it.now) result (state S.Store conn.old) books.old (state S.Store conn.new) books.new }
     ensures reads { OnlyReads (state S.Store conn.old) (state S.Store conn.new) result }
@@ -94,7 +95,7 @@ pub(crate) fn at_rent<S: Alter>(
     conn: &mut Connection<S>,
     change: &RentChange,
     books: &mut Books,
-) -> Result<(), Fault>
+) -> Result<(), StoreFault>
     requires { HasCleanDisk (state S.Store conn.old) → IsReady (state S.Store conn.old) }
     ensures gathered { Gathers (command.Rent change.now) result (state S.Store conn.old) books.old (state S.Store conn.new) books.new }
     ensures reads { OnlyReads (state S.Store conn.old) (state S.Store conn.new) result }
@@ -115,7 +116,7 @@ pub(crate) fn at_viewing<S: Alter>(
     conn: &mut Connection<S>,
     it: &Viewing,
     books: &mut Books,
-) -> Result<(), Fault>
+) -> Result<(), StoreFault>
     requires { HasCleanDisk (state S.Store conn.old) → IsReady (state S.Store conn.old) }
     ensures gathered { Gathers (command.Viewing it.now) result (state S.Store conn.old) books.old (state S.Store conn.new) books.new }
     ensures reads { OnlyReads (state S.Store conn.old) (state S.Store conn.new) result }
@@ -146,7 +147,7 @@ pub(crate) fn at_comment<S: Alter>(
     conn: &mut Connection<S>,
     it: &ViewingComment,
     books: &mut Books,
-) -> Result<(), Fault>
+) -> Result<(), StoreFault>
     requires { HasCleanDisk (state S.Store conn.old) → IsReady (state S.Store conn.old) }
     ensures gathered { Gathers (command.Comment it.now) result (state S.Store conn.old) books.old (state S.Store conn.new) books.new }
     ensures reads { OnlyReads (state S.Store conn.old) (state S.Store conn.new) result }
@@ -168,7 +169,7 @@ pub(crate) fn at_inspection<S: Alter>(
     conn: &mut Connection<S>,
     it: &Inspection,
     books: &mut Books,
-) -> Result<(), Fault>
+) -> Result<(), StoreFault>
     requires { HasCleanDisk (state S.Store conn.old) → IsReady (state S.Store conn.old) }
     ensures gathered { Gathers (command.Inspection it.now) result (state S.Store conn.old) books.old (state S.Store conn.new) books.new }
     ensures reads { OnlyReads (state S.Store conn.old) (state S.Store conn.new) result }

@@ -9,8 +9,9 @@ ghost use Rattle.dh_asking.specs.Gathered.{Gathers};
 
 use dh_books::Books;
 use dh_looks::look;
+use dh_schema::StoreFault;
 use dh_tables::{BranchNumbered, ClientNumbered, MemberNumbered, OwnerNumbered, RegistrationAt};
-use dh_types::{Branch, Client, Fault, Owner, Registration, Staff};
+use dh_types::{Branch, Client, Owner, Registration, Staff};
 use sqlite::{Alter, Connection};
 use std::alloc::Global;
 
@@ -20,7 +21,7 @@ pub(crate) fn at_branch<S: Alter>(
     conn: &mut Connection<S>,
     branch: &Branch,
     books: &mut Books,
-) -> Result<(), Fault>
+) -> Result<(), StoreFault>
     requires { HasCleanDisk (state S.Store conn.old) → IsReady (state S.Store conn.old) }
     ensures gathered { Gathers (command.Branch branch.now) result (state S.Store conn.old) books.old (state S.Store conn.new) books.new }
     ensures reads { OnlyReads (state S.Store conn.old) (state S.Store conn.new) result }
@@ -41,7 +42,7 @@ pub(crate) fn at_staff<S: Alter>(
     conn: &mut Connection<S>,
     member: &Staff,
     books: &mut Books,
-) -> Result<(), Fault>
+) -> Result<(), StoreFault>
     requires { HasCleanDisk (state S.Store conn.old) → IsReady (state S.Store conn.old) }
     ensures gathered { Gathers (command.Staff member.now) result (state S.Store conn.old) books.old (state S.Store conn.new) books.new }
     ensures reads { OnlyReads (state S.Store conn.old) (state S.Store conn.new) result }
@@ -70,7 +71,7 @@ pub(crate) fn at_owner<S: Alter>(
     conn: &mut Connection<S>,
     owner: &Owner,
     books: &mut Books,
-) -> Result<(), Fault>
+) -> Result<(), StoreFault>
     requires { HasCleanDisk (state S.Store conn.old) → IsReady (state S.Store conn.old) }
     ensures gathered { Gathers (command.Owner owner.now) result (state S.Store conn.old) books.old (state S.Store conn.new) books.new }
     ensures reads { OnlyReads (state S.Store conn.old) (state S.Store conn.new) result }
@@ -91,7 +92,7 @@ pub(crate) fn at_client<S: Alter>(
     conn: &mut Connection<S>,
     client: &Client,
     books: &mut Books,
-) -> Result<(), Fault>
+) -> Result<(), StoreFault>
     requires { HasCleanDisk (state S.Store conn.old) → IsReady (state S.Store conn.old) }
     ensures gathered { Gathers (command.Client client.now) result (state S.Store conn.old) books.old (state S.Store conn.new) books.new }
     ensures reads { OnlyReads (state S.Store conn.old) (state S.Store conn.new) result }
@@ -112,7 +113,7 @@ pub(crate) fn at_register<S: Alter>(
     conn: &mut Connection<S>,
     it: &Registration,
     books: &mut Books,
-) -> Result<(), Fault>
+) -> Result<(), StoreFault>
     requires { HasCleanDisk (state S.Store conn.old) → IsReady (state S.Store conn.old) }
     ensures gathered { Gathers (command.Register it.now) result (state S.Store conn.old) books.old (state S.Store conn.new) books.new }
     ensures reads { OnlyReads (state S.Store conn.old) (state S.Store conn.new) result }

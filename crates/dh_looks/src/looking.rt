@@ -15,13 +15,13 @@ ghost use Rattle.dh_looks.specs.Looked.{AreBoth};
 ghost use Rattle.dh_looks.specs.Reading.{OnlyReads};
 
 use dh_books::Books;
-use dh_schema::fault_of;
+use dh_schema::StoreFault;
 use dh_tables::{Listed, Look, Tabled, fetch_more, gather_all};
 use dh_types::{
-    Branch, Charge, Client, Fault, Inspection, Lease, Owner, Part, Property, Receipt, Registration,
-    Run, Staff, Viewing,
+    Branch, Charge, Client, Inspection, Lease, Owner, Part, Property, Receipt, Registration, Run,
+    Staff, Viewing,
 };
-use sqlite::{Alter, Connection};
+use sqlite::{Alter, Connection, Error, ErrorCode};
 use std::alloc::Global;
 
 /// A kind of record of which the agency has a table.
@@ -155,7 +155,7 @@ pub fn look<L: Look, S: Alter>(
     conn: &mut Connection<S>,
     question: &L,
     books: &mut Books,
-) -> Result<(), Fault>
+) -> Result<(), StoreFault>
 where
     L::Record: Kept,
     requires { HasCleanDisk (state S.Store conn.old) → IsReady (state S.Store conn.old) }
@@ -171,8 +171,8 @@ where
 {
     match fetch_more(alloc, conn, question, books) {
         Ok(true) => Ok(()),
-        Ok(false) => Err(Fault::Store),
-        Err(error) => Err(fault_of(error)),
+        Ok(false) => Err(Error::SqliteFailure(ErrorCode::DatabaseCorrupt).into()),
+        Err(error) => Err(error.into()),
     }
 }
 
@@ -181,7 +181,7 @@ pub fn look_at_all<R: Listed, S: Alter>(
     alloc: Global,
     conn: &mut Connection<S>,
     books: &mut Books,
-) -> Result<(), Fault>
+) -> Result<(), StoreFault>
     requires ready { HasCleanDisk (state S.Store conn.old) → IsReady (state S.Store conn.old) }
     requires none { HasCleanDisk (state S.Store conn.old) → R.shelf.held books.old ≡ fin.empty }
     ensures taken { HasCleanDisk (state S.Store conn.new)
@@ -190,7 +190,7 @@ pub fn look_at_all<R: Listed, S: Alter>(
 {
     match gather_all::<R, S>(alloc, conn, books) {
         Ok(true) => Ok(()),
-        Ok(false) => Err(Fault::Store),
-        Err(error) => Err(fault_of(error)),
+        Ok(false) => Err(Error::SqliteFailure(ErrorCode::DatabaseCorrupt).into()),
+        Err(error) => Err(error.into()),
     }
 }

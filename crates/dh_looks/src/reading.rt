@@ -15,9 +15,9 @@ ghost use Rattle.dh_looks.specs.Reading.{OnlyReads};
 use dh_books::Books;
 use dh_days::limits::FIRST_MONTH;
 use dh_rows::Meta;
-use dh_schema::fault_of;
+use dh_schema::StoreFault;
 use dh_tables::{RunOf, find, find_meta};
-use dh_types::{EntryMonth, Fault, Month, Run};
+use dh_types::{EntryMonth, Month, Run};
 use sqlite::{Alter, Connection};
 use std::alloc::Global;
 
@@ -30,15 +30,14 @@ pub fn no_rows(alloc: Global) -> Books
 }
 
 /// The months of the tables. That they have none comes only from a store that is not clean.
-pub fn months_now<S: Alter>(alloc: Global, conn: &mut Connection<S>) -> Result<Meta, Fault>
+pub fn months_now<S: Alter>(alloc: Global, conn: &mut Connection<S>) -> Result<Meta, StoreFault>
     requires { HasCleanDisk (state S.Store conn.old) → IsReady (state S.Store conn.old) }
     ensures found { HasCleanDisk (state S.Store conn.new) → IfOk result (λ months. AreMonthsOf months (tables (state S.Store conn.old)).books) }
     ensures reads { OnlyReads (state S.Store conn.old) (state S.Store conn.new) result }
 {
-    match find_meta(alloc, conn) {
-        Ok(Some(months)) => Ok(months),
-        Ok(None) => Err(Fault::Store),
-        Err(error) => Err(fault_of(error)),
+    match find_meta(alloc, conn)? {
+        Some(months) => Ok(months),
+        None => Err(StoreFault::unclean(conn)),
     }
 }
 
@@ -47,7 +46,7 @@ fn last_run<S: Alter>(
     alloc: Global,
     conn: &mut Connection<S>,
     months: Meta,
-) -> Result<Option<Run>, Fault>
+) -> Result<Option<Run>, StoreFault>
     requires ready { HasCleanDisk (state S.Store conn.old) → IsReady (state S.Store conn.old) }
     requires months { HasCleanDisk (state S.Store conn.old) → AreMonthsOf months (tables (state S.Store conn.old)).books }
     ensures found { HasCleanDisk (state S.Store conn.new)
@@ -59,12 +58,9 @@ fn last_run<S: Alter>(
         return Ok(None);
     }
     let Some(month) = EntryMonth::try_of_number(i64::from(next) - 1) else {
-        return Err(Fault::Store);
+        return Err(StoreFault::unclean(conn));
     };
-    match find(alloc, conn, &RunOf { month }) {
-        Ok(run) => Ok(run),
-        Err(error) => Err(fault_of(error)),
-    }
+    Ok(find(alloc, conn, &RunOf { month })?)
 }
 
 fn unless_closed(run: Option<Run>) -> Option<Run>
@@ -81,7 +77,7 @@ pub fn find_open_run<S: Alter>(
     alloc: Global,
     conn: &mut Connection<S>,
     months: Meta,
-) -> Result<Option<Run>, Fault>
+) -> Result<Option<Run>, StoreFault>
     requires ready { HasCleanDisk (state S.Store conn.old) → IsReady (state S.Store conn.old) }
     requires months { HasCleanDisk (state S.Store conn.old) → AreMonthsOf months (tables (state S.Store conn.old)).books }
     ensures found { HasCleanDisk (state S.Store conn.new) → IfOk result (λ run. run ≡ open_row (tables (state S.Store conn.old)).books) }

@@ -23,13 +23,12 @@ ghost use Rattle.dh_looks.specs.Reading.{OnlyReads};
 use dh_books::Books;
 use dh_lists::{answer, is_put_off};
 use dh_looks::{find_open_run, look, look_at_all, months_now, no_rows};
+use dh_schema::StoreFault;
 use dh_tables::{
     BranchNumbered, ChargesOfLease, ClientNumbered, LeaseNumbered, LeasesOfProperty, PartsOfMonth,
     ReceiptsOfLease, RunOf,
 };
-use dh_types::{
-    Answer, Branch, EntryMonth, Fault, Id, Lease, LeaseNo, Property, Question, Refusal,
-};
+use dh_types::{Answer, Branch, EntryMonth, Id, Lease, LeaseNo, Property, Question, Refusal};
 use sqlite::{Alter, Connection};
 use std::alloc::{AllocError, Global};
 
@@ -38,7 +37,7 @@ fn gather_lettings<S: Alter>(
     alloc: Global,
     conn: &mut Connection<S>,
     books: &mut Books,
-) -> Result<(), Fault>
+) -> Result<(), StoreFault>
     requires ready { HasCleanDisk (state S.Store conn.old) → IsReady (state S.Store conn.old) }
     requires none { books.old ≡ start FIRST_MONTH }
     ensures taken { HasCleanDisk (state S.Store conn.new)
@@ -56,7 +55,7 @@ fn gather_matching<S: Alter>(
     conn: &mut Connection<S>,
     client: Id,
     books: &mut Books,
-) -> Result<(), Fault>
+) -> Result<(), StoreFault>
     requires ready { HasCleanDisk (state S.Store conn.old) → IsReady (state S.Store conn.old) }
     requires none { books.old ≡ start FIRST_MONTH }
     ensures taken { HasCleanDisk (state S.Store conn.new)
@@ -79,7 +78,7 @@ fn gather_account<S: Alter>(
     conn: &mut Connection<S>,
     lease: LeaseNo,
     books: &mut Books,
-) -> Result<(), Fault>
+) -> Result<(), StoreFault>
     requires ready { HasCleanDisk (state S.Store conn.old) → IsReady (state S.Store conn.old) }
     requires none { books.old ≡ start FIRST_MONTH }
     ensures taken { HasCleanDisk (state S.Store conn.new)
@@ -98,7 +97,7 @@ fn gather_run<S: Alter>(
     conn: &mut Connection<S>,
     month: EntryMonth,
     books: &mut Books,
-) -> Result<(), Fault>
+) -> Result<(), StoreFault>
     requires ready { HasCleanDisk (state S.Store conn.old) → IsReady (state S.Store conn.old) }
     requires none { books.old ≡ start FIRST_MONTH }
     ensures taken { HasCleanDisk (state S.Store conn.new)
@@ -111,7 +110,7 @@ fn gather_run<S: Alter>(
 }
 
 // The numbers of the branch's properties that the books have.
-fn numbers_at(alloc: Global, books: &Books, branch: Id) -> Result<Vec<Id>, Fault>
+fn numbers_at(alloc: Global, books: &Books, branch: Id) -> Result<Vec<Id>, StoreFault>
     ensures numbers { IfOk result (λ numbers. numbers.items
         ≡ map (λ property. property.number) (filter (λ property. is_same_text property.branch branch) (fin.values books.now.books.properties))) }
     ensures cause { IfErr result IsFirstFault }
@@ -123,7 +122,7 @@ fn numbers_at(alloc: Global, books: &Books, branch: Id) -> Result<Vec<Id>, Fault
         .collect(alloc);
     match numbers {
         Ok(numbers) => Ok(numbers),
-        Err(_) => Err(Fault::Memory),
+        Err(error) => Err(error.into()),
     }
 }
 
@@ -133,7 +132,7 @@ fn gather_leases<S: Alter>(
     conn: &mut Connection<S>,
     properties: &[Id],
     books: &mut Books,
-) -> Result<(), Fault>
+) -> Result<(), StoreFault>
     requires ready { HasCleanDisk (state S.Store conn.old) → IsReady (state S.Store conn.old) }
     requires none { HasCleanDisk (state S.Store conn.old) → books.old.books.leases ≡ fin.empty }
     ensures taken { HasCleanDisk (state S.Store conn.new)
@@ -157,7 +156,7 @@ fn put_account<S: Alter>(
     conn: &mut Connection<S>,
     lease: &Lease,
     books: &mut Books,
-) -> Result<(), Fault>
+) -> Result<(), StoreFault>
     requires ready { HasCleanDisk (state S.Store conn.old) → IsReady (state S.Store conn.old) }
     ensures taken { HasCleanDisk (state S.Store conn.new) → OnOk result ((rows : books_model) (before : List lease_row)
         → books.old.books ≡ with_accounts (tables (state S.Store conn.old)).books rows before
@@ -178,7 +177,7 @@ fn gather_accounts<S: Alter>(
     conn: &mut Connection<S>,
     leases: &[Lease],
     books: &mut Books,
-) -> Result<(), Fault>
+) -> Result<(), StoreFault>
     requires ready { HasCleanDisk (state S.Store conn.old) → IsReady (state S.Store conn.old) }
     requires none { HasCleanDisk (state S.Store conn.old)
         → books.old.books ≡ record books.old.books { clients = fin.empty; charges = fin.empty; receipts = fin.empty } }
@@ -204,13 +203,13 @@ fn listed_leases(alloc: Global, books: &Books) -> Result<Vec<Lease>, AllocError>
 }
 
 // The same, where want of memory is told as the fault that it is.
-fn held_leases(alloc: Global, books: &Books) -> Result<Vec<Lease>, Fault>
+fn held_leases(alloc: Global, books: &Books) -> Result<Vec<Lease>, StoreFault>
     ensures leases { IfOk result (λ leases. leases.items ≡ fin.values books.now.books.leases) }
     ensures cause { IfErr result IsFirstFault }
 {
     match listed_leases(alloc, books) {
         Ok(leases) => Ok(leases),
-        Err(_) => Err(Fault::Memory),
+        Err(error) => Err(error.into()),
     }
 }
 
@@ -220,7 +219,7 @@ fn gather_branch<S: Alter>(
     conn: &mut Connection<S>,
     branch: Id,
     books: &mut Books,
-) -> Result<(), Fault>
+) -> Result<(), StoreFault>
     requires ready { HasCleanDisk (state S.Store conn.old) → IsReady (state S.Store conn.old) }
     requires none { books.old ≡ start FIRST_MONTH }
     ensures taken { HasCleanDisk (state S.Store conn.new)
@@ -240,7 +239,7 @@ fn gather_arrears<S: Alter>(
     conn: &mut Connection<S>,
     branch: Id,
     books: &mut Books,
-) -> Result<(), Fault>
+) -> Result<(), StoreFault>
     requires ready { HasCleanDisk (state S.Store conn.old) → IsReady (state S.Store conn.old) }
     requires none { books.old ≡ start FIRST_MONTH }
     ensures taken { HasCleanDisk (state S.Store conn.new)
@@ -259,7 +258,7 @@ fn gather<S: Alter>(
     conn: &mut Connection<S>,
     question: &Question,
     books: &mut Books,
-) -> Result<(), Fault>
+) -> Result<(), StoreFault>
     requires ready { HasCleanDisk (state S.Store conn.old) → IsReady (state S.Store conn.old) }
     requires none { books.old ≡ start FIRST_MONTH }
     ensures taken { HasCleanDisk (state S.Store conn.new)
@@ -277,13 +276,13 @@ fn gather<S: Alter>(
 }
 
 // What these books answer.
-fn answer_on(alloc: Global, books: Books, question: &Question) -> Result<Answer, Fault>
+fn answer_on(alloc: Global, books: Books, question: &Question) -> Result<Answer, StoreFault>
     ensures answer { IfOk result (λ a. report_of a ≡ report books question.now) }
     ensures cause { IfErr result IsFirstFault }
 {
     match answer(alloc, books, question) {
         Ok(answer) => Ok(answer),
-        Err(_) => Err(Fault::Memory),
+        Err(error) => Err(error.into()),
     }
 }
 
@@ -292,7 +291,7 @@ fn answer_now<S: Alter>(
     alloc: Global,
     conn: &mut Connection<S>,
     question: &Question,
-) -> Result<Answer, Fault>
+) -> Result<Answer, StoreFault>
     requires ready { HasCleanDisk (state S.Store conn.old) → IsReady (state S.Store conn.old) }
     ensures answer { HasCleanDisk (state S.Store conn.new) → (is_put_off question.now ≡ true → (tables (state S.Store conn.old)).open_run ≡ None)
         → IfOk result (λ a. report_of a ≡ report (tables (state S.Store conn.old)) question.now) }
@@ -308,7 +307,7 @@ fn answer_put_off<S: Alter>(
     alloc: Global,
     conn: &mut Connection<S>,
     question: &Question,
-) -> Result<Answer, Fault>
+) -> Result<Answer, StoreFault>
     requires ready { HasCleanDisk (state S.Store conn.old) → IsReady (state S.Store conn.old) }
     requires off { is_put_off question.now ≡ true }
     ensures answer { HasCleanDisk (state S.Store conn.new) → IfOk result (λ a. report_of a ≡ report (tables (state S.Store conn.old)) question.now) }
@@ -327,7 +326,7 @@ fn answer_question<S: Alter>(
     alloc: Global,
     conn: &mut Connection<S>,
     question: &Question,
-) -> Result<Answer, Fault>
+) -> Result<Answer, StoreFault>
     requires ready { HasCleanDisk (state S.Store conn.old) → IsReady (state S.Store conn.old) }
     ensures answer { HasCleanDisk (state S.Store conn.new) → IfOk result (λ a. report_of a ≡ report (tables (state S.Store conn.old)) question.now) }
     ensures reads { OnlyReads (state S.Store conn.old) (state S.Store conn.new) result }
@@ -345,7 +344,7 @@ pub fn look_up<S: Alter>(
     alloc: Global,
     conn: &mut Connection<S>,
     question: &Question,
-) -> Result<Answer, Fault>
+) -> Result<Answer, StoreFault>
     requires { HasCleanDisk (state S.Store conn.old) → IsReady (state S.Store conn.old) }
     ensures answer { HasCleanDisk (state S.Store conn.new) → IfOk result (λ a. report_of a ≡ report (tables (state S.Store conn.old)) question.now) }
     ensures done { HasCleanDisk (state S.Store conn.new) → OnOk result (StaysReady (state S.Store conn.old) (state S.Store conn.new)) }

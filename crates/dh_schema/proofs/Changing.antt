@@ -81,10 +81,10 @@ module _ (k : Kind) (m : FinMap (order_of k) (record_of k)) (old new : State) (i
 
 module _ (next : ℕ) (old new : State) (before : AreInOrder old.now.trees) (is : SetsNext next old new) where
   abbrev months : Months
-  months = record before.months { next = next }
+  months = record is.0 { next = next }
 
   set : SetsMonths months old new
-  set = is before.months before.meta
+  set = is.2
 
   as_it_was : (j : Kind) → IsSame (shape_of j) (order_of j) old.now.trees new.now.trees
   as_it_was j =
@@ -104,7 +104,7 @@ module _ (next : ℕ) (old new : State) (before : AreInOrder old.now.trees) (is 
   pub books_with_next : books_in new.now.trees ≡ record (books_in old.now.trees) { next = next }
   books_with_next =
       let first = ap (λ (rows : List Row). (months_of rows).first) set.months_are.rows_are
-      ∙ sym (ap (λ (rows : List Row). (months_of rows).first) before.meta.rows_are) in
+      ∙ sym (ap (λ (rows : List Row). (months_of rows).first) is.1.rows_are) in
       let later = ap (λ (rows : List Row). (months_of rows).next) set.months_are.rows_are in
       λ i. record {
         branches = (as_it_was Branches).rows i;

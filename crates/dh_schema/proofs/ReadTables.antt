@@ -13,7 +13,7 @@ use Rattle.dh_catalog.specs.Layout.{our_schema}
 use Rattle.dh_tables.specs.Calls.{HasOurTables, IsUndone}
 use Rattle.dh_tables.specs.Listing.{IsLoaded}
 use Rattle.dh_tables.specs.MetaTable.{HasMonths}
-use Rattle.dh_schema.specs.declared.fault.LoadFault.{LoadFault}
+use Rattle.dh_schema.specs.declared.load_fault.LoadFault.{LoadFault}
 use Rattle.dh_schema.specs.Kinds.{Kind, order_of, shape_of, shelf_of}
 use Rattle.dh_schema.specs.Kinds.{Branches, Staff, Owners, Properties, Clients, Registrations, Viewings, Inspections, Leases, Charges, Receipts, Runs, Parts}
 use Rattle.dh_schema.specs.Loaded.{AllAreRecords, AreLoaded, HasNone, Loads, Reads, all_kinds, with_records}

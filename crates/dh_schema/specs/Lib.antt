@@ -4,4 +4,5 @@ pub mod Version
 pub mod Loaded
 pub mod Store
 pub mod Faults
+pub mod LoadFaults
 pub mod TableLaws

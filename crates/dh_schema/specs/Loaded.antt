@@ -6,9 +6,9 @@ use Rattle.sqlite_trees.specs.Tree.{Trees}
 use Rattle.sqlite.specs.State.{HasCleanDisk, IsUnchanged, State}
 use Rattle.dh_model.specs.Books as machine
 use Rattle.dh_tables.specs.Calls.{CommitsNothing, IsUndone}
-use Rattle.dh_schema.specs.declared.fault.LoadFault.{LoadFault}
-use Rattle.dh_schema.specs.declared.fault.LoadFault.TheVariants.{Damaged}
-use Rattle.dh_schema.specs.Faults.{IsLoadFault}
+use Rattle.dh_schema.specs.declared.load_fault.LoadFault.{LoadFault}
+use Rattle.dh_schema.specs.declared.load_fault.LoadFault.TheVariants.{Damaged}
+use Rattle.dh_schema.specs.LoadFaults.{IsLoadFault}
 use Rattle.dh_schema.specs.Kinds.{Kind, shelf_of}
 use Rattle.dh_schema.specs.Kinds.{Branches, Staff, Owners, Properties, Clients, Registrations, Viewings, Inspections, Leases, Charges, Receipts, Runs, Parts}
 use Rattle.dh_schema.specs.Tables.{AreRecords, IsTableInOrder, records_in}

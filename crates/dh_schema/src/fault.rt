@@ -1,11 +1,14 @@
 //! Faults of the store.
 
 ghost use Rattle.std.specs.Prelude.{◌≡◌};
+ghost use Rattle.sqlite.specs.State.{HasCleanDisk};
+ghost use Rattle.sqlite.specs.Held.{state};
 ghost use Rattle.dh_schema.specs.Faults.{fault_of, IsFirstFault};
 
 use dh_types::Fault;
-use sqlite::{Error, ErrorCode};
+use sqlite::{Alter, Connection, Error, ErrorCode};
 use std::alloc::AllocError;
+use std::marker::Model;
 
 /// What an error of the store is told as: want of memory as that, and all else as a fault of the store.
 pub fn fault_of(error: Error) -> Fault
@@ -18,35 +21,81 @@ pub fn fault_of(error: Error) -> Fault
     }
 }
 
-/// Why tables are not loaded.
+/// Why a call over the store gave no answer: fault 21 or 22. It is made of an error that the store answered, of a growth that was
+/// refused, of tables that are not ours, or over a store that is not clean, and of nothing else. So no call may give up and call that
+/// a fault.
 #[derive(Clone, Copy, Debug, PartialEq, Eq)]
-pub enum LoadFault {
-    /// A column does not hold a value of its kind, or meta has not exactly one row: rule 0 of the audit.
-    Damaged,
-    /// The store could not answer.
-    Fault(Fault),
+pub struct StoreFault {
+    fault: Fault,
 }
 
-impl From<Error> for LoadFault {
-    ghost use Rattle.std.specs.Prelude.{◌≡◌};
-    ghost use Rattle.dh_schema.specs.Faults.{fault_of, IsLoadFault};
-    ghost use Rattle.dh_schema.specs.declared.fault.LoadFault.TheVariants as load;
+impl Model for StoreFault {
+    ghost use Rattle.dh_types.specs.declared.reply.Fault.{Fault};
+    ghost use Rattle.dh_schema.specs.Faults.{IsFirstFault};
 
-    ghost from_gives = { λ e f. (f ≡ load.Fault (fault_of e)) × IsLoadFault f };
+    ghost Value = { Fault };
 
-    fn from(error: Error) -> LoadFault {
-        LoadFault::Fault(fault_of(error))
+    ghost view = { λ f. f.fault };
+
+    ghost invariant = { λ f. IsFirstFault f.fault };
+
+    ghost inverse = { λ fault. record { fault = fault } };
+}
+
+impl StoreFault {
+    /// The fault of a store that shows what a clean one can't.
+    pub fn unclean<S: Alter>(_conn: &Connection<S>) -> StoreFault
+        requires { ¬ HasCleanDisk (state S.Store _conn.now) }
+        ensures told { result ≡ Fault.Store }
+        ensures first { IsFirstFault result }
+    {
+        StoreFault {
+            fault: Fault::Store,
+        }
+    }
+
+    /// The fault of a file whose tables are not ours, or which has an object where there should be none.
+    pub(crate) fn of_tables() -> StoreFault
+        ensures told { result ≡ Fault.Store }
+        ensures first { IsFirstFault result }
+    {
+        StoreFault {
+            fault: Fault::Store,
+        }
+    }
+
+    /// The fault that the agency answers.
+    pub fn fault(self) -> Fault
+        ensures told { result ≡ self }
+        ensures first { IsFirstFault result }
+    {
+        self.fault
     }
 }
 
-impl From<AllocError> for LoadFault {
+impl From<Error> for StoreFault {
+    ghost use Rattle.std.specs.Prelude.{◌≡◌};
+    ghost use Rattle.dh_schema.specs.Faults.{fault_of, IsFirstFault};
+
+    ghost from_gives = { λ e f. (f ≡ fault_of e) × IsFirstFault f };
+
+    fn from(error: Error) -> StoreFault {
+        StoreFault {
+            fault: fault_of(error),
+        }
+    }
+}
+
+impl From<AllocError> for StoreFault {
     ghost use Rattle.std.specs.Prelude.{◌≡◌};
     ghost use Rattle.dh_types.specs.declared.reply.Fault.TheVariants.{Memory};
-    ghost use Rattle.dh_schema.specs.declared.fault.LoadFault.TheVariants as load;
+    ghost use Rattle.dh_schema.specs.Faults.{IsFirstFault};
 
-    ghost from_gives = { λ _ f. f ≡ load.Fault Memory };
+    ghost from_gives = { λ _ f. (f ≡ Memory) × IsFirstFault f };
 
-    fn from(_error: AllocError) -> LoadFault {
-        LoadFault::Fault(Fault::Memory)
+    fn from(_error: AllocError) -> StoreFault {
+        StoreFault {
+            fault: Fault::Memory,
+        }
     }
 }

@@ -2,12 +2,18 @@
 #![tactic(auto)]
 
 mod fault;
+mod finding;
+mod keys;
 mod laws;
+mod load_fault;
 mod loading;
 mod making;
+mod open_run;
 mod reading;
 
-pub use fault::{LoadFault, fault_of};
+pub use fault::{StoreFault, fault_of};
+pub use finding::{KeyedRecord, find};
 pub use laws::{books_are_keyed, order_has_values, sound_tables_show_their_run};
+pub use load_fault::LoadFault;
 pub use making::install;
 pub use reading::{load, load_tables, version};

@@ -8,10 +8,10 @@ ghost use Rattle.sqlite.specs.Held.{state};
 ghost use Rattle.dh_sql.specs.Shape.{IsStored};
 ghost use Rattle.dh_tables.specs.Calls.{HasOurTables};
 ghost use Rattle.dh_tables.specs.Listing.{IsLoaded};
-ghost use Rattle.dh_schema.specs.Faults.{told_as};
+ghost use Rattle.dh_schema.specs.LoadFaults.{told_as};
 ghost use Rattle.dh_schema.specs.Loaded.{HasNone, Loads, Reads, accounts, all_kinds, lettings, people, rent_runs};
 
-use crate::fault::{LoadFault, fault_of};
+use crate::load_fault::LoadFault;
 use dh_books::Books;
 use dh_tables::{Listed, load_all};
 use dh_types::{
@@ -28,7 +28,7 @@ fn told(read: Result<bool, Error>) -> Result<(), LoadFault>
     match read {
         Ok(true) => Ok(()),
         Ok(false) => Err(LoadFault::Damaged),
-        Err(error) => Err(LoadFault::Fault(fault_of(error))),
+        Err(error) => Err(error.into()),
     }
 }
 

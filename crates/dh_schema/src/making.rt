@@ -4,15 +4,16 @@ ghost use Rattle.std.specs.Prelude.{◌≡◌, ◌≤◌, false, IsTrue, Err, If
 ghost use Rattle.sqlite.specs.State.{HasCleanDisk};
 ghost use Rattle.sqlite.specs.Held.{state};
 ghost use Rattle.dh_days.specs.declared.limits.TheConstants.{LAST_ENTRY_MONTH};
+ghost use Rattle.dh_types.specs.declared.reply.Fault.TheVariants as fault;
 ghost use Rattle.dh_model.specs.Books.{start};
 ghost use Rattle.dh_schema.specs.Faults.{IsFirstFault};
 ghost use Rattle.dh_schema.specs.Store.{IsReady, IsBlank, Keeps, LeavesItsTables, Commits, tables};
 
-use crate::fault::fault_of;
+use crate::fault::StoreFault;
 use dh_catalog::create_all;
 use dh_rows::Meta;
 use dh_tables::insert_meta;
-use dh_types::{Fault, Month};
+use dh_types::Month;
 use sqlite::{Alter, Connection, Error};
 use std::alloc::Global;
 
@@ -38,7 +39,11 @@ fn make_tables<S: Alter>(alloc: Global, conn: &mut Connection<S>, first: Month) 
 
 /// Makes the tables of empty books that begin with this month, in one transaction.
 /// A file that has an object already is refused as a fault of the store, and nothing changes.
-pub fn install<S: Alter>(alloc: Global, conn: &mut Connection<S>, first: Month) -> Result<(), Fault>
+pub fn install<S: Alter>(
+    alloc: Global,
+    conn: &mut Connection<S>,
+    first: Month,
+) -> Result<(), StoreFault>
     requires { first ≤ LAST_ENTRY_MONTH }
     ensures done { HasCleanDisk (state S.Store conn.new) → OnOk result (IsReady (state S.Store conn.new) × (tables (state S.Store conn.new) ≡ start first)) }
     ensures left { HasCleanDisk (state S.Store conn.new) → OnOk result (LeavesItsTables (state S.Store conn.new)) }
@@ -46,13 +51,14 @@ pub fn install<S: Alter>(alloc: Global, conn: &mut Connection<S>, first: Month) 
         → OnErr result ((state S.Store conn.new).committed ≡ (state S.Store conn.old).committed) }
     ensures kept { HasCleanDisk (state S.Store conn.new) → OnErr result (Keeps (state S.Store conn.old) (state S.Store conn.new)) }
     ensures cause { IfErr result IsFirstFault }
-    ensures occupied { ¬ IsBlank (state S.Store conn.old) → (result ≡ Err Fault.Store) × (conn.new ≡ conn.old) }
+    ensures occupied { ¬ IsBlank (state S.Store conn.old) → (result ≡ Err fault.Store) × (conn.new ≡ conn.old) }
     ensures survives { Commits (state S.Store conn.old) (state S.Store conn.new) (λ t. t ≡ start first) }
 {
     let schema = conn.schema();
     let is_blank = schema.tables.is_empty() & schema.indexes.is_empty() & schema.views.is_empty();
     if !is_blank || !conn.is_autocommit() {
-        return Err(Fault::Store);
+        return Err(StoreFault::of_tables());
     }
-    make_tables(alloc, conn, first).map_err(fault_of)
+    make_tables(alloc, conn, first)?;
+    Ok(())
 }

@@ -5,30 +5,31 @@ ghost use Rattle.sqlite.specs.State.{HasCleanDisk, IsUnchanged};
 ghost use Rattle.sqlite.specs.Held.{state};
 ghost use Rattle.dh_tables.specs.Calls.{CommitsNothing, HasOurTables, IsUndone};
 ghost use Rattle.dh_tables.specs.MetaTable.{meta_rows};
-ghost use Rattle.dh_schema.specs.Faults.{IsLoadFault, IsOfStore, IsTurnedAway};
-ghost use Rattle.dh_schema.specs.Store.{Keeps};
+ghost use Rattle.dh_schema.specs.LoadFaults.{IsLoadFault, IsOfStore, IsTurnedAway};
+ghost use Rattle.dh_schema.specs.Store.{Keeps, tables};
 ghost use Rattle.dh_schema.specs.Tables.{AreInOrder, HasValues, loaded_from};
 ghost use Rattle.dh_schema.specs.Version.{only_version};
 
-use crate::fault::LoadFault;
+use crate::fault::StoreFault;
+use crate::load_fault::LoadFault;
 use crate::loading::load_records;
+use crate::open_run::run_shown;
 use dh_books::Books;
 use dh_catalog::has_our_tables;
 use dh_tables::{find_meta, meta_rows_shown};
-use dh_types::Fault;
 use sqlite::types::ValueRef;
 use sqlite::{Alter, Connection, Row};
 use std::alloc::Global;
 
 // Turns tables away that are not ours. It does not touch them.
-fn check_tables<S: Alter>(alloc: Global, conn: &Connection<S>) -> Result<(), LoadFault>
+pub(crate) fn check_tables<S: Alter>(alloc: Global, conn: &Connection<S>) -> Result<(), LoadFault>
     ensures ours { OnOk result (HasOurTables (state S.Store conn.now)) }
     ensures cause { IfErr result IsOfStore }
 {
     if has_our_tables(alloc, conn)? {
         Ok(())
     } else {
-        Err(LoadFault::Fault(Fault::Store))
+        Err(LoadFault::Fault(StoreFault::of_tables()))
     }
 }
 
@@ -65,8 +66,8 @@ pub fn version<S: Alter>(alloc: Global, conn: &mut Connection<S>) -> Result<i64,
     version_of(&rows)
 }
 
-/// Our tables as books. `Damaged` comes exactly where a column does not hold a value of its kind, or meta has not exactly
-/// one row of this version. It changes nothing.
+/// Our tables as books, without the open run that they show. `Damaged` comes exactly where a column does not hold a value of
+/// its kind, or meta has not exactly one row of this version. It changes nothing.
 pub fn load_tables<S: Alter>(alloc: Global, conn: &mut Connection<S>) -> Result<Books, LoadFault>
     requires reading { HasCleanDisk (state S.Store conn.old) → HasOurTables (state S.Store conn.old) }
     ensures books { HasCleanDisk (state S.Store conn.new) → IfOk result (λ books. books ≡ loaded_from (state S.Store conn.old).now.trees) }
@@ -87,11 +88,11 @@ pub fn load_tables<S: Alter>(alloc: Global, conn: &mut Connection<S>) -> Result<
     Ok(books)
 }
 
-/// The tables as books, where they are ours; others are a fault of the store. `Damaged` comes exactly where a column does
-/// not hold a value of its kind, or meta has not exactly one row of this version. It changes nothing.
+/// The tables as books, with the open run that they show, where they are ours; others are a fault of the store. `Damaged` comes
+/// exactly where a column does not hold a value of its kind, or meta has not exactly one row of this version. It changes nothing.
 pub fn load<S: Alter>(alloc: Global, conn: &mut Connection<S>) -> Result<Books, LoadFault>
     ensures ours { OnOk result (HasOurTables (state S.Store conn.old)) }
-    ensures books { HasCleanDisk (state S.Store conn.new) → IfOk result (λ books. books ≡ loaded_from (state S.Store conn.old).now.trees) }
+    ensures books { HasCleanDisk (state S.Store conn.new) → IfOk result (λ books. books ≡ tables (state S.Store conn.old)) }
     ensures in_order { HasCleanDisk (state S.Store conn.new) → OnOk result (AreInOrder (state S.Store conn.old).now.trees) }
     ensures cause { IfErr result IsLoadFault }
     ensures damaged { HasCleanDisk (state S.Store conn.new) → result ≡ Err LoadFault.Damaged
@@ -102,5 +103,8 @@ pub fn load<S: Alter>(alloc: Global, conn: &mut Connection<S>) -> Result<Books, 
     ensures crash { CommitsNothing (state S.Store conn.old) (state S.Store conn.new) }
 {
     check_tables(alloc, conn)?;
-    load_tables(alloc, conn)
+    let mut books = load_tables(alloc, conn)?;
+    let run = run_shown(&books);
+    books.set_open_run(run);
+    Ok(books)
 }

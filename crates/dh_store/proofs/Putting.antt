@@ -19,6 +19,7 @@ use Rattle.dh_sql.specs.Changes.{Becomes}
 use Rattle.dh_tables.specs.Calls.{Adds, Amends, CommitsNothing, GoesOn, IsUndone}
 use Rattle.dh_tables.specs.MetaTable.{SetsNext}
 use Rattle.dh_tables.specs.RunTable.{run_shape}
+use Rattle.dh_tables.proofs.AmendedRecord.{becomes_there}
 use Rattle.dh_schema.specs.Kinds.{Kind, key_of, order_of, record_of, shape_of, shelf_of}
 use Rattle.dh_schema.specs.Kinds.{Properties, Runs, Viewings}
 use Rattle.dh_schema.specs.Store.{IsWriting, tables}
@@ -89,7 +90,8 @@ module _ (kind : Kind) (key : key_of kind) (turned : record_of kind → record_o
       → OnOk r (Amends (shape_of kind) (order_of kind) key turned old new)
       → OnOk r (IsWriting new × ((tables new).books ≡ changed rows (tables old).books))
   on_ok_there rows (Ok x) order it on done =
-      let here = put_in kind (insert held key (turned it.0)) old new order on (done it.0 it.1) in (here.0, here.1 ∙ it.2)
+      let becomes = becomes_there (shape_of kind) (order_of kind) key turned old new in
+      let here = put_in kind (insert held key (turned it.0)) old new order on (becomes done it.0 it.1) in (here.0, here.1 ∙ it.2)
   on_ok_there rows (Err e) order it on done = tt
 
   -- a record was changed
@@ -138,7 +140,7 @@ module _ (run : Run) (old mid new : State) where
       let records = insert (records_in Runs old.now.trees) run.month run in
       let first = put_in Runs records old mid order on added in
       let in_order = first.0.in_order in
-      let moved = set in_order.months in_order.meta in (
+      let moved = set.2 in (
         record {
           is_open = on_next.is_open;
           inside = on_next.mode;

@@ -14,9 +14,9 @@ ghost use Rattle.dh_schema.specs.Store.{IsReady, IsWriting, LeavesItsTables, Lea
 ghost use Rattle.dh_store.specs.Putting.{Puts};
 
 use dh_model::Change;
-use dh_schema::fault_of;
+use dh_schema::StoreFault;
 use dh_tables::{insert, set_next_month, update};
-use dh_types::{Fault, Month, Run};
+use dh_types::{Month, Run};
 use sqlite::{Alter, Connection, Error, Transaction};
 use std::alloc::Global;
 
@@ -97,7 +97,7 @@ pub fn apply<S: Alter>(
     alloc: Global,
     conn: &mut Connection<S>,
     change: &Change,
-) -> Result<(), Fault>
+) -> Result<(), StoreFault>
     requires ready { HasCleanDisk (state S.Store conn.old) → IsReady (state S.Store conn.old) }
     requires order { HasCleanDisk (state S.Store conn.old) → AreInOrder (with_change change.now (tables (state S.Store conn.old))) }
     requires fits { HasCleanDisk (state S.Store conn.old) → FitsIn change.now (tables (state S.Store conn.old)).books }
@@ -112,10 +112,8 @@ pub fn apply<S: Alter>(
     ensures was_clean { doubt (state S.Store conn.old).is_clean ≤ doubt (state S.Store conn.new).is_clean }
 {
     if !conn.is_autocommit() {
-        return Err(Fault::Store);
+        return Err(StoreFault::unclean(conn));
     }
-    match commit_change(alloc, conn, change) {
-        Ok(()) => Ok(()),
-        Err(error) => Err(fault_of(error)),
-    }
+    commit_change(alloc, conn, change)?;
+    Ok(())
 }

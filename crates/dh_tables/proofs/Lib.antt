@@ -7,3 +7,5 @@ pub mod LastReceipt
 pub mod MetaTexts
 pub mod MetaChanges
 pub mod MetaNext
+pub mod AmendedRecord
+pub mod ByKey

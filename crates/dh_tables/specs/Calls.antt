@@ -43,10 +43,14 @@ module _ {K X : Type 0} (it : Shape K X) (R : K → K → Ordering) where
   abbrev pub Adds : X → State → State → Type 0
   Adds x old new = Becomes it R our_schema (insert (rows_in it old.now.trees) (it.key x) x) old new
 
+  -- a record of the table has this key
+  abbrev pub IsThere : K → State → Type 0
+  IsThere key s = (x : X) × (get (rows_in it {R = R} s.now.trees) key ≡ Some x)
+
   -- the record that has the key has become another
   abbrev pub Amends : K → (X → X) → State → State → Type 0
   Amends key amended old new =
-      (x : X) → get (rows_in it {R = R} old.now.trees) key ≡ Some x → Becomes it R our_schema (insert (rows_in it old.now.trees) key (amended x)) old new
+      (x : X) × (get (rows_in it {R = R} old.now.trees) key ≡ Some x) × Becomes it R our_schema (insert (rows_in it old.now.trees) key (amended x)) old new
 
   -- the records that are asked for
   abbrev pub asked_in : (X → Bool) → State → FinMap R X

@@ -1,5 +1,5 @@
 -- The table charge.
-use Rattle.std.specs.Prelude.{refl, ℕ, List, [], ◌∷◌, codes, true, pos, nat_eq}
+use Rattle.std.specs.Prelude.{refl, ℕ, List, [], ◌∷◌, ◌&&◌, codes, true, pos, nat_eq}
 use Rattle.std.specs.Ordering.{nat_cmp}
 use Rattle.sqlite_value.specs.declared.value.Value.TheVariants.{Int, Null}
 use Rattle.sqlite_value.specs.declared.keys.Collation.TheVariants.{Binary}
@@ -21,9 +21,10 @@ use Rattle.dh_sql.specs.Cells.{Cell}
 use Rattle.dh_sql.specs.Shape.{Shape}
 use Rattle.dh_sql.specs.Texts.{IsInsertText, IsSelectText}
 use Rattle.dh_sql.proofs.Casting.{cast_null, pass_each, row_stays}
+use Rattle.dh_tables.specs.declared.charge.ChargeOf.{ChargeOf}
 use Rattle.dh_tables.specs.declared.charge.ChargesOfLease.{ChargesOfLease}
 use Rattle.dh_tables.specs.declared.charge.ChargesOfMonth.{ChargesOfMonth}
-use Rattle.dh_tables.specs.Cells.{is_number, number_from, pass_one, read_as, same_number}
+use Rattle.dh_tables.specs.Cells.{is_number, number_from, pass_both, pass_one, read_as, same_number}
 use Rattle.dh_tables.specs.Listing.{IsListing, Listing}
 use Rattle.dh_tables.specs.Questions.{Asking, IsAsking}
 use Rattle.dh_tables.specs.Tables.{Adding, IsAdding, Shelf, without_rowid}
@@ -99,6 +100,31 @@ charge_is_listing = record {
   selects = record { command = refl; unlisted = refl; plain = (refl, refl); stored = λ db. refl };
   shows_columns = λ r. refl;
   selects_rowid = record { command = refl; unlisted = refl; plain = (refl, refl); stored = λ db. refl };
+}
+
+-- ---- the charge of a lease with an index
+
+abbrev pub charge_of : Asking
+charge_of = record {
+  text = codes "SELECT lease_no, k, month, day, amount FROM charge WHERE lease_no = ?1 AND k = ?2";
+  tests = op2 (Compare Eq Binary) (col 1 1) (col 0 0) ∷ op2 (Compare Eq Binary) (col 1 2) (col 0 1) ∷ [];
+  project = charge_project;
+  names = charge_names;
+}
+
+charge_of_selects : IsSelectText charge_of.text our_schema 18 charge_of.tests charge_project [] charge_names
+unfolding understood everything
+charge_of_selects = record { command = refl; unlisted = refl; plain = (refl, refl); stored = λ db. refl }
+
+pub charge_of_is : IsAsking charge_shape charge_of
+    (λ (q : ChargeOf). Unit {0}) (λ q. Int (pos q.lease) ∷ Int (pos q.index) ∷ []) (λ q c. nat_eq c.lease q.lease && nat_eq c.index q.index)
+charge_of_is = record {
+  selects = charge_of_selects;
+  shows_columns = λ q r. refl;
+  passes = λ q r known good.
+      let cells = (pass_each charge_cells true (charge_columns r) good).1 in
+      pass_both (same_number (column r 1) q.lease (is_number 1 MOST_NUMBER (column r 1) cells.0))
+      (same_number (column r 2) q.index (is_number 0 MOST_CHARGE_INDEX (column r 2) cells.1.0));
 }
 
 -- ---- the charges of a lease

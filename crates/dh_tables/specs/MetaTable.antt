@@ -36,6 +36,10 @@ pub record SetsMonths (months : Months) (old new : State) : Type 0 where
   pub months_are : HasMonths months new.now.trees
   pub others : OthersStay our_schema 0 old.now.trees new.now.trees
 
--- the month to be run next is this one, in a table that has its row
+-- the table has its row
+abbrev pub HasItsRow : Trees → Type 0
+HasItsRow trees = (m : Months) × HasMonths m trees
+
+-- the month to be run next is this one, and the first month what it was
 abbrev pub SetsNext : ℕ → State → State → Type 0
-SetsNext next old new = (m : Months) → HasMonths m old.now.trees → SetsMonths (record m { next = next }) old new
+SetsNext next old new = (m : Months) × HasMonths m old.now.trees × SetsMonths (record m { next = next }) old new

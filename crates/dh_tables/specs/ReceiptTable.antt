@@ -34,6 +34,7 @@ use Rattle.dh_sql.proofs.Casting.{cast_int, pass_each, row_stays}
 use Rattle.dh_sql.proofs.Comparing.{texts_same}
 use Rattle.dh_tables.specs.declared.receipt.DepositsOfLease.{DepositsOfLease}
 use Rattle.dh_tables.specs.declared.receipt.ReceiptKeyed.{ReceiptKeyed}
+use Rattle.dh_tables.specs.declared.receipt.ReceiptNumbered.{ReceiptNumbered}
 use Rattle.dh_tables.specs.declared.receipt.ReceiptsOfLease.{ReceiptsOfLease}
 use Rattle.dh_tables.specs.Cells.{is_number, is_text as text_is, number_from, pass_both, pass_one, read_as, rowid_column, same_number, same_text, text_that}
 use Rattle.dh_tables.specs.Listing.{IsListing, Listing}
@@ -118,6 +119,30 @@ receipt_is_listing = record {
   selects = record { command = refl; unlisted = refl; plain = (refl, refl); stored = λ db. refl };
   shows_columns = λ r. refl;
   selects_rowid = record { command = refl; unlisted = refl; plain = (refl, refl); stored = λ db. refl };
+}
+
+-- ---- the receipt with a number
+
+abbrev pub receipt_numbered : Asking
+receipt_numbered = record {
+  text = codes "SELECT receipt_no, req_key, lease_no, kind, amount, day FROM receipt WHERE receipt_no = ?1";
+  tests = op2 (Compare Eq Binary) (col 1 0) (col 0 0) ∷ [];
+  project = receipt_project;
+  names = receipt_names;
+}
+
+receipt_numbered_selects : IsSelectText receipt_numbered.text our_schema 20 receipt_numbered.tests receipt_project [] receipt_names
+unfolding understood everything
+receipt_numbered_selects = record { command = refl; unlisted = refl; plain = (refl, refl); stored = λ db. refl }
+
+pub receipt_numbered_is : IsAsking receipt_shape receipt_numbered
+    (λ (q : ReceiptNumbered). Unit {0}) (λ q. Int (pos q.number) ∷ []) (λ q r. nat_eq r.number q.number)
+receipt_numbered_is = record {
+  selects = receipt_numbered_selects;
+  shows_columns = λ q r. refl;
+  passes = λ q r known good.
+      let cells = (pass_each receipt_cells true (receipt_columns r) good).1 in
+      pass_one (same_number (column r 0) q.number (is_number 1 MOST_NUMBER (column r 0) cells.0));
 }
 
 -- ---- the receipt with a request key

@@ -11,7 +11,7 @@ ghost use Rattle.dh_catalog.specs.Making.{IsWritingOn};
 ghost use Rattle.dh_sql.specs.Shape.{AreApart, IsKept, rows_in};
 ghost use Rattle.dh_sql.specs.Changes.{Becomes};
 ghost use Rattle.dh_tables.specs.Amendments.{Amending, IsAmending};
-ghost use Rattle.dh_tables.specs.Calls.{Amends, CommitsNothing, GoesOn, IsUndone};
+ghost use Rattle.dh_tables.specs.Calls.{Amends, CommitsNothing, GoesOn, IsThere, IsUndone};
 
 use crate::Tabled;
 use sqlite::types::ValueRef;
@@ -48,7 +48,7 @@ pub trait Amend {
     ghost is_amending: { IsAmending Self.Record.shape amending can_amend given key amended };
 }
 
-/// Changes the record that has the key. An error has changed nothing or ended the
+/// Changes the record that has the key, which is there. An error has changed nothing or ended the
 /// transaction, where the store is still open.
 pub fn update<A: Amend, S: Alter>(
     alloc: Global,
@@ -58,6 +58,8 @@ pub fn update<A: Amend, S: Alter>(
     requires writing { HasCleanDisk (state S.Store tx.old.conn.now) → IsWritingOn our_schema (state S.Store tx.old.conn.now) }
     requires kept { HasCleanDisk (state S.Store tx.old.conn.now) → IsKept A.Record.shape A.Record.order (state S.Store tx.old.conn.now).now.trees }
     requires apart { HasCleanDisk (state S.Store tx.old.conn.now) → AreApart ((state S.Store tx.old.conn.now).now.trees A.Record.shape.tree) }
+    requires there { HasCleanDisk (state S.Store tx.old.conn.now)
+        → IsThere A.Record.shape A.Record.order (A.key change.now) (state S.Store tx.old.conn.now) }
     ensures same_reference { tx.new.conn.ghost_name ≡ tx.old.conn.ghost_name }
     ensures amended { HasCleanDisk (state S.Store tx.new.conn.now)
         → OnOk result (Amends A.Record.shape A.Record.order (A.key change.now) (A.amended change.now)

@@ -2,7 +2,7 @@
 
 use crate::{Listed, Look, Tabled};
 use dh_books::Books;
-use dh_types::{Charge, EntryMonth, LeaseNo};
+use dh_types::{Charge, ChargeIndex, EntryMonth, LeaseNo};
 use sqlite::types::ValueRef;
 use std::alloc::{AllocError, Global};
 
@@ -56,6 +56,49 @@ impl Listed for Charge {
     }
 
     ghost is_listing = { charge_is_listing };
+}
+
+/// The charge of this lease that has this index.
+#[derive(Drop)]
+pub struct ChargeOf {
+    pub lease: LeaseNo,
+    pub index: ChargeIndex,
+}
+
+impl Look for ChargeOf {
+    ghost use Rattle.std.specs.Prelude.{◌∷◌, [], nat_eq, pos, ◌&&◌};
+    ghost use Rattle.sqlite_value.specs.declared.value.Value.TheVariants.{Int};
+    ghost use Rattle.dh_tables.specs.ChargeTable.{charge_of, charge_of_is};
+
+    type Record = Charge;
+
+    ghost asks = { λ q c. nat_eq c.lease q.lease && nat_eq c.index q.index };
+
+    ghost asking = { charge_of };
+
+    ghost given = { λ q. Int (pos q.lease) ∷ Int (pos q.index) ∷ [] };
+
+    fn text() -> &'static str {
+        "SELECT lease_no, k, month, day, amount FROM charge WHERE lease_no = ?1 AND k = ?2"
+    }
+
+    fn day_bytes(&self, alloc: Global) -> Result<Vec<u8>, AllocError> {
+        Ok(Vec::new(alloc))
+    }
+
+    fn params<'a>(
+        &'a self,
+        alloc: Global,
+        _day: &'a [u8],
+    ) -> Result<Vec<ValueRef<'a>>, AllocError> {
+        [
+            ValueRef::Int(i64::from(self.lease.number())),
+            ValueRef::Int(i64::from(self.index.number())),
+        ]
+        .to_vec(alloc)
+    }
+
+    ghost is_asking = { charge_of_is };
 }
 
 /// The charges of this lease.

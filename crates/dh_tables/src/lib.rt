@@ -31,7 +31,7 @@ mod viewing_changes;
 
 pub use amend::{Amend, update};
 pub use branch::BranchNumbered;
-pub use charge::{ChargesOfLease, ChargesOfMonth};
+pub use charge::{ChargeOf, ChargesOfLease, ChargesOfMonth};
 pub use client::ClientNumbered;
 pub use fetching::fetch_more;
 pub use finding::find;
@@ -46,7 +46,7 @@ pub use meta::{find_meta, insert_meta, meta_rows_shown, set_next_month};
 pub use owner::OwnerNumbered;
 pub use part::{PartOf, PartsOfMonth};
 pub use property::{PropertiesManaged, PropertyNumbered};
-pub use receipt::{DepositsOfLease, ReceiptKeyed, ReceiptsOfLease};
+pub use receipt::{DepositsOfLease, ReceiptKeyed, ReceiptNumbered, ReceiptsOfLease};
 pub use registration::RegistrationAt;
 pub use rowids::are_numbered;
 pub use run::{RunKeyed, RunOf};

@@ -10,7 +10,7 @@ ghost use Rattle.dh_days.specs.declared.limits.TheConstants.{FIRST_MONTH, LAST_N
 ghost use Rattle.dh_catalog.specs.Layout.{our_schema};
 ghost use Rattle.dh_catalog.specs.Making.{IsWritingOn};
 ghost use Rattle.dh_tables.specs.Calls.{CommitsNothing, GoesOn, HasOurTables, IsUndone, IsWriting};
-ghost use Rattle.dh_tables.specs.MetaTable.{AreFound, SetsMonths, SetsNext, meta_rows};
+ghost use Rattle.dh_tables.specs.MetaTable.{AreFound, HasItsRow, SetsMonths, SetsNext, meta_rows};
 
 use dh_rows::{Meta, Record};
 use dh_types::Month;
@@ -90,6 +90,7 @@ fn number(month: Month) -> ValueRef<'static>
 /// the transaction, where the store is still open.
 pub fn set_next_month<S: Alter>(tx: &mut Transaction<'_, S>, next: Month) -> Result<(), Error>
     requires writing { HasCleanDisk (state S.Store tx.old.conn.now) → IsWritingOn our_schema (state S.Store tx.old.conn.now) }
+    requires there { HasCleanDisk (state S.Store tx.old.conn.now) → HasItsRow (state S.Store tx.old.conn.now).now.trees }
     requires range { next ≤ LAST_NEXT_MONTH }
     ensures same_reference { tx.new.conn.ghost_name ≡ tx.old.conn.ghost_name }
     ensures set { HasCleanDisk (state S.Store tx.new.conn.now)

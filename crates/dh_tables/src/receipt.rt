@@ -2,7 +2,7 @@
 
 use crate::{Listed, Look, Tabled};
 use dh_books::Books;
-use dh_types::{Key, LeaseNo, Receipt};
+use dh_types::{Key, LeaseNo, Receipt, ReceiptNo};
 use sqlite::types::ValueRef;
 use std::alloc::{AllocError, Global};
 
@@ -55,6 +55,44 @@ impl Listed for Receipt {
     }
 
     ghost is_listing = { receipt_is_listing };
+}
+
+/// The receipt with this number.
+#[derive(Drop)]
+pub struct ReceiptNumbered {
+    pub number: ReceiptNo,
+}
+
+impl Look for ReceiptNumbered {
+    ghost use Rattle.std.specs.Prelude.{◌∷◌, [], nat_eq, pos};
+    ghost use Rattle.sqlite_value.specs.declared.value.Value.TheVariants.{Int};
+    ghost use Rattle.dh_tables.specs.ReceiptTable.{receipt_numbered, receipt_numbered_is};
+
+    type Record = Receipt;
+
+    ghost asks = { λ q r. nat_eq r.number q.number };
+
+    ghost asking = { receipt_numbered };
+
+    ghost given = { λ q. Int (pos q.number) ∷ [] };
+
+    fn text() -> &'static str {
+        "SELECT receipt_no, req_key, lease_no, kind, amount, day FROM receipt WHERE receipt_no = ?1"
+    }
+
+    fn day_bytes(&self, alloc: Global) -> Result<Vec<u8>, AllocError> {
+        Ok(Vec::new(alloc))
+    }
+
+    fn params<'a>(
+        &'a self,
+        alloc: Global,
+        _day: &'a [u8],
+    ) -> Result<Vec<ValueRef<'a>>, AllocError> {
+        [ValueRef::Int(i64::from(self.number.number()))].to_vec(alloc)
+    }
+
+    ghost is_asking = { receipt_numbered_is };
 }
 
 /// The receipt with this request key.

@@ -159,6 +159,10 @@ update-requires-clause-kept g c clean = ((c.requires.writing clean).in_order.tab
 pub update-requires-clause-apart : goal.update-requires-clause-apart
 update-requires-clause-apart g c clean = ((c.requires.writing clean).in_order.tables Properties).apart
 
+pub update-requires-clause-there : goal.update-requires-clause-there
+update-requires-clause-there g c clean =
+    subst (λ (rows : Change). FitsIn rows (tables (state g.S.Store c.args.tx.now.conn.now)).books) c.in-Assign.is (c.requires.fits clean)
+
 pub returns-in-Assign-clause-puts : goal.returns-in-Assign-clause-puts
 returns-in-Assign-clause-puts g c =
     let old = state g.S.Store c.args.tx.now.conn.now in
@@ -174,6 +178,10 @@ update-requires-in-Rent-clause-kept g c clean = ((c.requires.writing clean).in_o
 pub update-requires-in-Rent-clause-apart : goal.update-requires-in-Rent-clause-apart
 update-requires-in-Rent-clause-apart g c clean = ((c.requires.writing clean).in_order.tables Properties).apart
 
+pub update-requires-in-Rent-clause-there : goal.update-requires-in-Rent-clause-there
+update-requires-in-Rent-clause-there g c clean =
+    subst (λ (rows : Change). FitsIn rows (tables (state g.S.Store c.args.tx.now.conn.now)).books) c.in-Rent.is (c.requires.fits clean)
+
 pub returns-in-Rent-clause-puts : goal.returns-in-Rent-clause-puts
 returns-in-Rent-clause-puts g c =
     let old = state g.S.Store c.args.tx.now.conn.now in
@@ -188,6 +196,10 @@ update-requires-in-Comment-clause-kept g c clean = ((c.requires.writing clean).i
 
 pub update-requires-in-Comment-clause-apart : goal.update-requires-in-Comment-clause-apart
 update-requires-in-Comment-clause-apart g c clean = ((c.requires.writing clean).in_order.tables Viewings).apart
+
+pub update-requires-in-Comment-clause-there : goal.update-requires-in-Comment-clause-there
+update-requires-in-Comment-clause-there g c clean =
+    subst (λ (rows : Change). FitsIn rows (tables (state g.S.Store c.args.tx.now.conn.now)).books) c.in-Comment.is (c.requires.fits clean)
 
 pub returns-in-Comment-clause-puts : goal.returns-in-Comment-clause-puts
 returns-in-Comment-clause-puts g c =

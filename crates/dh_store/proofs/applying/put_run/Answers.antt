@@ -1,11 +1,11 @@
-use Rattle.std.proofs.Common.{ℕ, OnOk, subst}
+use Rattle.std.proofs.Common.{ℕ, OnOk, subst, arith}
 use Rattle.std.proofs.lemmas.Result.{err_from_is_err_and}
 use Rattle.sqlite.specs.State.{HasCleanDisk}
 use Rattle.sqlite.specs.Held.{state}
 use Rattle.dh_model.specs.declared.rows.Change.TheVariants as change
 use Rattle.dh_tables.specs.MetaTable.{SetsNext}
 use Rattle.dh_schema.specs.Kinds.{Runs}
-use Rattle.dh_store.proofs.Putting.{failed, opened}
+use Rattle.dh_store.proofs.Putting.{failed, opened, put_in}
 use Rattle.dh_store.proofs.applying.put_run.Goals as goal
 
 pub insert-requires-clause-kept : goal.insert-requires-clause-kept
@@ -18,6 +18,15 @@ pub set_next_month-requires-clause-writing : goal.set_next_month-requires-clause
 set_next_month-requires-clause-writing g c clean =
     let it = c.in_ok-insert.ensures.writing clean in
     record { inside = it.inside; schema_is = it.schema }
+
+pub set_next_month-requires-clause-there : goal.set_next_month-requires-clause-there
+set_next_month-requires-clause-there g c clean =
+    let old = state g.S.Store c.args.tx.now.conn.now in
+    let mid = state g.S.Store c.insert.new.tx.conn.now in
+    let early : HasCleanDisk old = omega (arith, c.insert.ensures.crash.clean, clean) in
+    let row = c.in_ok-insert.ensures in
+    let done = put_in Runs _ old mid (c.requires.writing early).in_order (row.shown clean) (row.added clean) in
+    (done.0.in_order.months, done.0.in_order.meta)
 
 pub returns-in_err-insert-clause-puts : goal.returns-in_err-insert-clause-puts
 returns-in_err-insert-clause-puts g c =

@@ -11,7 +11,7 @@ use Rattle.dh_tables.proofs.Quiet.{quiet}
 use Rattle.dh_tables.proofs.amend.update.Goals as goal
 
 pub returns-clause-amended : goal.returns-clause-amended
-returns-clause-amended g c clean x there =
+returns-clause-amended g c clean =
     let old = state g.S.Store c.args.tx.now.conn.now in
     let new = state g.S.Store c.execute.new.self.conn.now in
     let early : HasCleanDisk old = omega (arith, c.execute.ensures.survives.clean, clean) in
@@ -26,11 +26,16 @@ returns-clause-amended g c clean x there =
     let known = c.in_ok-params.ensures.known in
     let one = rw (c.deref.ensures.value, c.in_ok-params.ensures.values) at ran.0 in
     let told = subst (λ (t : List ℕ). Executes t given old new (Ok c.in_ok-execute.field-0)) c.text.ensures one in
+    let is_there = c.requires.there early in
+    let x = is_there.0 in
+    let there = is_there.1 in
     let becomes : Row → Row = λ r. drop 1 (shows how.project given r) in
     let key = keyed_rows table.total table.ties it old.now.trees (g.A.Amend.key q) x there in
+    let done =
     amends table.total table.ties it how.text our_schema quiet how.place how.table how.tests how.project law.means law.tree_is old new given
     c.in_ok-execute.field-0 (g.A.Amend.key q) x (g.A.Amend.amended q x) was.schema_is (c.requires.kept early) (c.requires.apart early) (law.finds q)
     (law.keeps_rowid q)
     (λ r stored own is.
     subst (λ y. IsTurnedInto it how.table r (becomes r) (g.A.Amend.amended q y)) is (law.turns q r known stored own))
-    there (law.keeps_key q x ∙ key) told
+    there (law.keeps_key q x ∙ key) told in
+    (x, there, done)

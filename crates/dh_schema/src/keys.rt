@@ -1,0 +1,260 @@
+//! The thirteen kinds of record by their keys.
+
+use crate::finding::KeyedRecord;
+use dh_tables::{
+    BranchNumbered, ChargeOf, ClientNumbered, InspectionOf, LeaseNumbered, MemberNumbered,
+    OwnerNumbered, PartOf, PropertyNumbered, ReceiptNumbered, RegistrationAt, RunOf, ViewingOf,
+};
+use dh_types::{
+    Branch, Charge, ChargeIndex, Client, EntryDay, EntryMonth, Id, Inspection, Lease, LeaseNo,
+    Owner, Part, Property, Receipt, ReceiptNo, Registration, Run, Staff, Viewing,
+};
+
+impl KeyedRecord for Branch {
+    ghost use Rattle.dh_tables.specs.BranchTable.{branch_shape};
+    ghost use Rattle.dh_schema.specs.Kinds.{Branches};
+    ghost use Rattle.dh_tables.proofs.ByKey.{by_text};
+
+    type ByKey = BranchNumbered;
+
+    ghost question = { λ key. record { number = key } };
+
+    fn by_key(key: &Id) -> BranchNumbered {
+        BranchNumbered { number: *key }
+    }
+
+    ghost asks_for = { by_text branch_shape };
+
+    ghost is_kept = { λ trees order. (order.tables Branches).kept };
+}
+
+impl KeyedRecord for Staff {
+    ghost use Rattle.dh_tables.specs.StaffTable.{staff_shape};
+    ghost use Rattle.dh_schema.specs.Kinds.{Staff};
+    ghost use Rattle.dh_tables.proofs.ByKey.{by_text};
+
+    type ByKey = MemberNumbered;
+
+    ghost question = { λ key. record { number = key } };
+
+    fn by_key(key: &Id) -> MemberNumbered {
+        MemberNumbered { number: *key }
+    }
+
+    ghost asks_for = { by_text staff_shape };
+
+    ghost is_kept = { λ trees order. (order.tables Staff).kept };
+}
+
+impl KeyedRecord for Owner {
+    ghost use Rattle.dh_tables.specs.OwnerTable.{owner_shape};
+    ghost use Rattle.dh_schema.specs.Kinds.{Owners};
+    ghost use Rattle.dh_tables.proofs.ByKey.{by_text};
+
+    type ByKey = OwnerNumbered;
+
+    ghost question = { λ key. record { number = key } };
+
+    fn by_key(key: &Id) -> OwnerNumbered {
+        OwnerNumbered { number: *key }
+    }
+
+    ghost asks_for = { by_text owner_shape };
+
+    ghost is_kept = { λ trees order. (order.tables Owners).kept };
+}
+
+impl KeyedRecord for Property {
+    ghost use Rattle.dh_tables.specs.PropertyTable.{property_shape};
+    ghost use Rattle.dh_schema.specs.Kinds.{Properties};
+    ghost use Rattle.dh_tables.proofs.ByKey.{by_text};
+
+    type ByKey = PropertyNumbered;
+
+    ghost question = { λ key. record { number = key } };
+
+    fn by_key(key: &Id) -> PropertyNumbered {
+        PropertyNumbered { number: *key }
+    }
+
+    ghost asks_for = { by_text property_shape };
+
+    ghost is_kept = { λ trees order. (order.tables Properties).kept };
+}
+
+impl KeyedRecord for Client {
+    ghost use Rattle.dh_tables.specs.ClientTable.{client_shape};
+    ghost use Rattle.dh_schema.specs.Kinds.{Clients};
+    ghost use Rattle.dh_tables.proofs.ByKey.{by_text};
+
+    type ByKey = ClientNumbered;
+
+    ghost question = { λ key. record { number = key } };
+
+    fn by_key(key: &Id) -> ClientNumbered {
+        ClientNumbered { number: *key }
+    }
+
+    ghost asks_for = { by_text client_shape };
+
+    ghost is_kept = { λ trees order. (order.tables Clients).kept };
+}
+
+impl KeyedRecord for Registration {
+    ghost use Rattle.dh_tables.specs.RegistrationTable.{registration_shape};
+    ghost use Rattle.dh_schema.specs.Kinds.{Registrations};
+    ghost use Rattle.dh_tables.proofs.ByKey.{by_texts};
+
+    type ByKey = RegistrationAt;
+
+    ghost question = { λ key. record { client = key.0; branch = key.1 } };
+
+    fn by_key(key: &(Id, Id)) -> RegistrationAt {
+        RegistrationAt {
+            client: key.0,
+            branch: key.1,
+        }
+    }
+
+    ghost asks_for = { by_texts registration_shape };
+
+    ghost is_kept = { λ trees order. (order.tables Registrations).kept };
+}
+
+impl KeyedRecord for Viewing {
+    ghost use Rattle.dh_tables.specs.ViewingTable.{viewing_shape};
+    ghost use Rattle.dh_schema.specs.Kinds.{Viewings};
+    ghost use Rattle.dh_tables.proofs.ByKey.{by_texts};
+
+    type ByKey = ViewingOf;
+
+    ghost question = { λ key. record { client = key.0; property = key.1 } };
+
+    fn by_key(key: &(Id, Id)) -> ViewingOf {
+        ViewingOf {
+            client: key.0,
+            property: key.1,
+        }
+    }
+
+    ghost asks_for = { by_texts viewing_shape };
+
+    ghost is_kept = { λ trees order. (order.tables Viewings).kept };
+}
+
+impl KeyedRecord for Inspection {
+    ghost use Rattle.dh_tables.specs.InspectionTable.{inspection_shape};
+    ghost use Rattle.dh_schema.specs.Kinds.{Inspections};
+    ghost use Rattle.dh_tables.proofs.ByKey.{by_text_and_number};
+
+    type ByKey = InspectionOf;
+
+    ghost question = { λ key. record { property = key.0; day = key.1 } };
+
+    fn by_key(key: &(Id, EntryDay)) -> InspectionOf {
+        InspectionOf {
+            property: key.0,
+            day: key.1,
+        }
+    }
+
+    ghost asks_for = { by_text_and_number inspection_shape };
+
+    ghost is_kept = { λ trees order. (order.tables Inspections).kept };
+}
+
+impl KeyedRecord for Lease {
+    ghost use Rattle.dh_tables.specs.LeaseTable.{lease_shape};
+    ghost use Rattle.dh_schema.specs.Kinds.{Leases};
+    ghost use Rattle.dh_tables.proofs.ByKey.{by_number};
+
+    type ByKey = LeaseNumbered;
+
+    ghost question = { λ key. record { number = key } };
+
+    fn by_key(key: &LeaseNo) -> LeaseNumbered {
+        LeaseNumbered { number: *key }
+    }
+
+    ghost asks_for = { by_number lease_shape };
+
+    ghost is_kept = { λ trees order. (order.tables Leases).kept };
+}
+
+impl KeyedRecord for Charge {
+    ghost use Rattle.dh_tables.specs.ChargeTable.{charge_shape};
+    ghost use Rattle.dh_schema.specs.Kinds.{Charges};
+    ghost use Rattle.dh_tables.proofs.ByKey.{by_numbers};
+
+    type ByKey = ChargeOf;
+
+    ghost question = { λ key. record { lease = key.0; index = key.1 } };
+
+    fn by_key(key: &(LeaseNo, ChargeIndex)) -> ChargeOf {
+        ChargeOf {
+            lease: key.0,
+            index: key.1,
+        }
+    }
+
+    ghost asks_for = { by_numbers charge_shape };
+
+    ghost is_kept = { λ trees order. (order.tables Charges).kept };
+}
+
+impl KeyedRecord for Receipt {
+    ghost use Rattle.dh_tables.specs.ReceiptTable.{receipt_shape};
+    ghost use Rattle.dh_schema.specs.Kinds.{Receipts};
+    ghost use Rattle.dh_tables.proofs.ByKey.{by_number};
+
+    type ByKey = ReceiptNumbered;
+
+    ghost question = { λ key. record { number = key } };
+
+    fn by_key(key: &ReceiptNo) -> ReceiptNumbered {
+        ReceiptNumbered { number: *key }
+    }
+
+    ghost asks_for = { by_number receipt_shape };
+
+    ghost is_kept = { λ trees order. (order.tables Receipts).kept };
+}
+
+impl KeyedRecord for Run {
+    ghost use Rattle.dh_tables.specs.RunTable.{run_shape};
+    ghost use Rattle.dh_schema.specs.Kinds.{Runs};
+    ghost use Rattle.dh_tables.proofs.ByKey.{by_number};
+
+    type ByKey = RunOf;
+
+    ghost question = { λ key. record { month = key } };
+
+    fn by_key(key: &EntryMonth) -> RunOf {
+        RunOf { month: *key }
+    }
+
+    ghost asks_for = { by_number run_shape };
+
+    ghost is_kept = { λ trees order. (order.tables Runs).kept };
+}
+
+impl KeyedRecord for Part {
+    ghost use Rattle.dh_tables.specs.PartTable.{part_shape};
+    ghost use Rattle.dh_schema.specs.Kinds.{Parts};
+    ghost use Rattle.dh_tables.proofs.ByKey.{by_number_and_text};
+
+    type ByKey = PartOf;
+
+    ghost question = { λ key. record { month = key.0; branch = key.1 } };
+
+    fn by_key(key: &(EntryMonth, Id)) -> PartOf {
+        PartOf {
+            month: key.0,
+            branch: key.1,
+        }
+    }
+
+    ghost asks_for = { by_number_and_text part_shape };
+
+    ghost is_kept = { λ trees order. (order.tables Parts).kept };
+}
