@@ -76,7 +76,7 @@ impl<S: Alter> Agency<S> {
             Ok(reply) => Ok(reply),
             Err(fault) => {
                 self.is_stopped = true;
-                Err(fault)
+                Err(fault.fault())
             }
         }
     }
@@ -104,7 +104,7 @@ impl<S: Alter> Agency<S> {
             Ok(state) => Ok(state),
             Err(fault) => {
                 self.is_stopped = true;
-                Err(fault)
+                Err(fault.fault())
             }
         }
     }
@@ -130,7 +130,7 @@ impl<S: Alter> Agency<S> {
             Ok(answer) => Ok(answer),
             Err(fault) => {
                 self.is_stopped = true;
-                Err(fault)
+                Err(fault.fault())
             }
         }
     }

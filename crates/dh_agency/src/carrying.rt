@@ -17,8 +17,9 @@ use dh_laws::entering::commands_are_entered;
 use dh_laws::looking::accepted_changes_fit;
 use dh_model::{Change, Verdict};
 use dh_runs::{RunState, open_run, post_some, run_all};
+use dh_schema::StoreFault;
 use dh_store::apply;
-use dh_types::{Command, Fault, Refusal, Reply};
+use dh_types::{Command, Refusal, Reply};
 use sqlite::{Alter, Connection};
 use std::alloc::Global;
 
@@ -39,7 +40,7 @@ fn put_rows<S: Alter>(
     conn: &mut Connection<S>,
     command: &Command,
     change: &Change,
-) -> Result<Reply, Fault>
+) -> Result<Reply, StoreFault>
     requires ready { HasCleanDisk (state S.Store conn.old) → IsReady (state S.Store conn.old) }
     requires plain { HasCleanDisk (state S.Store conn.old) → is_plain change.now ≡ true }
     requires verdict { HasCleanDisk (state S.Store conn.old)
@@ -65,7 +66,7 @@ fn accept<S: Alter>(
     conn: &mut Connection<S>,
     command: &Command,
     change: &Change,
-) -> Result<Reply, Fault>
+) -> Result<Reply, StoreFault>
     requires ready { HasCleanDisk (state S.Store conn.old) → IsReady (state S.Store conn.old) }
     requires other { is_post command.now ≡ false }
     requires verdict { HasCleanDisk (state S.Store conn.old)
@@ -95,7 +96,7 @@ pub(crate) fn carry_out<S: Alter>(
     alloc: Global,
     conn: &mut Connection<S>,
     command: &Command,
-) -> Result<Reply, Fault>
+) -> Result<Reply, StoreFault>
     requires { HasCleanDisk (state S.Store conn.old) → IsReady (state S.Store conn.old) }
     ensures ready { HasCleanDisk (state S.Store conn.new) → OnOk result (IsReady (state S.Store conn.new)) }
     ensures said { HasCleanDisk (state S.Store conn.new)

@@ -43,6 +43,9 @@ pub fn create<S: Alter>(
     let mut conn = conn;
     match install(alloc, &mut conn, first) {
         Ok(()) => Ok(Agency::over(conn)),
-        Err(cause) => Err(NotOpened { cause, conn }),
+        Err(fault) => Err(NotOpened {
+            cause: fault.fault(),
+            conn,
+        }),
     }
 }

@@ -6,3 +6,4 @@ pub mod BatchCharges
 pub mod BatchParts
 pub mod Counted
 pub mod Planned
+pub mod InTime

@@ -1,7 +1,9 @@
 -- The rows of a run's batches, and the tables that they lead to.
-use Rattle.std.specs.Prelude.{◌≡◌, ◌<◌, ℕ, ◌+◌, List, [], ◌∷◌, length, slice_index_or, is_some, Option, Some, None}
+use Rattle.std.specs.Prelude.{◌≡◌, ◌<◌, ◌≤◌, ℕ, ◌+◌, All, List, [], ◌∷◌, length, slice_index_or, is_some, Option, Some, None}
 use Rattle.std.specs.FinMap.{FinMap, get, insert}
 use Rattle.std.specs.Ordering.{nat_cmp}
+use Rattle.dh_days.specs.Days.{month_of_day}
+use Rattle.dh_days.specs.declared.limits.TheConstants.{LAST_ENTRY_MONTH}
 use Rattle.dh_types.specs.declared.lease.Charge.{Charge}
 use Rattle.dh_model.specs.declared.open_run.OpenRun.{OpenRun}
 use Rattle.dh_model.specs.Books.{Books, State, pair_cmp, with_rows}
@@ -32,6 +34,10 @@ AreNew (charge ∷ charges) held = (get held (charge_key charge) ≡ None) × Ar
 -- it is known whether the branch of the batch has a part row of the run
 abbrev pub HasItsPart : BatchRows → State → Type 0
 HasItsPart rows s = rows.has_part ≡ is_some (get s.books.parts (part_key rows.part))
+
+-- each of the charges falls due in a month that lines know
+abbrev pub FallsInTime : BatchRows → Type 0
+FallsInTime rows = All (λ charge. month_of_day charge.day ≤ LAST_ENTRY_MONTH) rows.charges.items
 
 abbrev pub begins_at : Plan → OpenRun
 begins_at plan = record { month = plan.month; done = plan.done }

@@ -1,14 +1,15 @@
 //! What the batches of a rent run are.
 
-ghost use Rattle.std.specs.Prelude.{◌≡◌, ◌<◌, ◌≤◌, ◌+◌, ◌++◌, Some, IfOk, OnOk, length, map};
+ghost use Rattle.std.specs.Prelude.{◌≡◌, ◌<◌, ◌≤◌, ◌+◌, ◌++◌, All, Some, IfOk, OnOk, length, map};
 ghost use Rattle.dh_values.specs.declared.limits.TheConstants.{MOST_NUMBER};
 ghost use Rattle.dh_model.specs.Books.{State};
 ghost use Rattle.dh_model.specs.Runs.{batch_size};
 ghost use Rattle.dh_laws.specs.StateTables.{AreInOrder};
-ghost use Rattle.dh_plans.specs.Plans.{HaveTheLeases, IsPlanOf};
+ghost use Rattle.dh_plans.specs.Plans.{FallsInTime, HaveTheLeases, IsPlanOf};
 ghost use Rattle.dh_plans.specs.Rows.{charges_at, rows_after, rows_of};
 
 use dh_books::Books;
+use dh_days::limits::LAST_ENTRY_MONTH;
 use dh_leases::{
     batches_for, dues_by_branch, first_batches, of_branch, part_of_sum, sum_of, sum_with,
 };
@@ -85,10 +86,14 @@ fn put_batches(
     Ok(())
 }
 
-/// The batches that the open run lacks, over the branches, the properties and the leases of books. It fails where memory runs out.
+/// The batches that the open run lacks, over the branches, the properties and the leases of books. Each of their charges falls due
+/// in a month that lines know. It fails where memory runs out.
 pub fn plan_of(alloc: Global, books: &Books, run: OpenRun) -> Result<Plan, AllocError>
-    ensures { IfOk result (λ plan. (t : State) → AreInOrder t → t.open_run ≡ Some run → HaveTheLeases books.now.books t.books → IsPlanOf plan t) }
+    ensures plan { IfOk result (λ plan. (t : State) → AreInOrder t → t.open_run ≡ Some run → HaveTheLeases books.now.books t.books → IsPlanOf plan t) }
+    ensures done { IfOk result (λ plan. plan.done ≡ run.done) }
+    ensures in_time { IfOk result (λ plan. All FallsInTime plan.batches.items) }
 {
+    prove!(run.month.number() <= LAST_ENTRY_MONTH);
     let dues = dues_by_branch(alloc, books, run.month)?;
     let mut batches = Vec::new(alloc);
     let mut left = run.done;

@@ -16,7 +16,7 @@ use Rattle.dh_model.specs.Runs.{batch_size, batches, closed_run}
 use Rattle.dh_model.specs.Whole.{whole}
 use Rattle.dh_model.proofs.KeyOrders.{nat_ties, nat_total}
 use Rattle.dh_model.proofs.MapRows.{get_new, inside}
-use Rattle.dh_laws.specs.Batches.{IsAtItsEnd, closed_state, sum_told}
+use Rattle.dh_laws.specs.Batches.{IsAtItsEnd, IsUnderWay, closed_state, sum_told}
 use Rattle.dh_laws.specs.InOrder.{IsInOrder}
 use Rattle.dh_laws.specs.Posting.{closed}
 use Rattle.dh_laws.specs.StateTables as office
@@ -24,6 +24,7 @@ use Rattle.dh_laws.proofs.MovingBatches.{at_the_end}
 use Rattle.dh_laws.proofs.PostClosing.{closing_makes_whole}
 use Rattle.dh_laws.proofs.PostWhole.{is_open}
 use Rattle.dh_sql.specs.Shape.{AreApart, IsKept}
+use Rattle.dh_tables.specs.Calls as calls
 use Rattle.dh_tables.specs.Calls.{Amends, CommitsNothing, GoesOn}
 use Rattle.dh_tables.specs.RunTable.{run_shape}
 use Rattle.dh_schema.specs.Kinds.{Runs}
@@ -34,6 +35,11 @@ use Rattle.dh_posting.specs.Closing.{IsOpenMonth, IsSumOfOpen, sum_of_parts, sum
 use Rattle.dh_posting.specs.Putting.{Puts}
 use Rattle.dh_posting.proofs.PartSums.{parts_are_charges}
 use Rattle.dh_posting.proofs.Putting.{IsThere, changed}
+
+-- a run of which no batch is left is open
+pub under_way : (books : Books) (run : Option OpenRun) → IsAtItsEnd books run → IsUnderWay run
+under_way books None h = h
+under_way books (Some run) h = tt
 
 -- ready tables are those that an office works on
 pub ready_in_order : (s : State) → IsReady s → office.AreInOrder (tables s)
@@ -133,6 +139,10 @@ module _ {S : Type 0} (g : Ghosts S) (old begun last : Held S) (is : begun ≡ r
       let was = early clean in
       subst (λ (h : Held S). IsThere Runs sum.month (with_sum sum) (state g h) (state g last) made) (sym is)
       (run_there (state g old) (ready was) (end was) sum (state g last) (of was))
+
+  -- so the row that is closed is there
+  pub row_there : HasCleanDisk (state g begun) → calls.IsThere run_shape nat_cmp sum.month (state g begun)
+  row_there clean = let it = there clean in (it.0, it.1)
 
   pub sum_put : (x : Unit {0}) → (HasCleanDisk (state g last) → GoesOn (state g begun) (state g last))
       → (HasCleanDisk (state g last) → Amends run_shape nat_cmp sum.month (with_sum sum) (state g begun) (state g last))

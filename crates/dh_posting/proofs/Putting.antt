@@ -14,6 +14,7 @@ use Rattle.dh_model.proofs.KeyOrders.{nat_text_ties, nat_text_total, nats_tie, n
 use Rattle.dh_catalog.specs.Layout.{our_schema}
 use Rattle.dh_sql.specs.Changes.{Becomes}
 use Rattle.dh_tables.specs.Calls.{Amends, CommitsNothing, GoesOn, IsUndone}
+use Rattle.dh_tables.proofs.AmendedRecord.{becomes_there}
 use Rattle.dh_schema.specs.Kinds.{Kind, key_of, order_of, record_of, shape_of, shelf_of}
 use Rattle.dh_schema.specs.Kinds.{Parts}
 use Rattle.dh_schema.specs.Store.{IsWriting, tables}
@@ -69,7 +70,8 @@ module _ (kind : Kind) (key : key_of kind) (amended : record_of kind → record_
       → OnOk r (Amends (shape_of kind) (order_of kind) key amended old new)
       → OnOk r (IsWriting new × ((tables new).books ≡ turned (tables old).books))
   on_ok_there turned (Ok x) order it on done =
-      let here = put_in kind (insert held key (amended it.0)) old new order on (done it.0 it.1) in (here.0, here.1 ∙ it.2)
+      let becomes = becomes_there (shape_of kind) (order_of kind) key amended old new in
+      let here = put_in kind (insert held key (amended it.0)) old new order on (becomes done it.0 it.1) in (here.0, here.1 ∙ it.2)
   on_ok_there turned (Err e) order it on done = tt
 
   -- a record was changed

@@ -7,7 +7,7 @@ ghost use Rattle.sqlite.specs.Held.{state};
 ghost use Rattle.sqlite_trees.specs.View.{doubt};
 ghost use Rattle.dh_model.specs.Rules.{parts_in};
 ghost use Rattle.dh_model.specs.Runs.{batch_size, batches};
-ghost use Rattle.dh_laws.specs.Batches.{IsAtItsEnd, closed_state, sum_told};
+ghost use Rattle.dh_laws.specs.Batches.{IsAtItsEnd, IsUnderWay, closed_state, sum_told};
 ghost use Rattle.dh_schema.specs.Faults.{IsFirstFault};
 ghost use Rattle.dh_schema.specs.Store.{Commits, IsReady, IsReadyWith, Leaves, StaysReady, tables};
 ghost use Rattle.dh_looks.specs.Reading.{OnlyReads};
@@ -15,10 +15,10 @@ ghost use Rattle.dh_posting.specs.Closing.{IsOpenMonth, IsSumOfOpen, sum_of_part
 
 use dh_books::Books;
 use dh_looks::{find_open_run, look, months_now, no_rows};
-use dh_schema::fault_of;
+use dh_schema::StoreFault;
 use dh_tables::{PartsOfMonth, update};
-use dh_types::{EntryMonth, Fault, Pence, RunSum};
-use sqlite::{Alter, Connection, Error};
+use dh_types::{EntryMonth, Pence, RunSum};
+use sqlite::{Alter, Connection, Error, ErrorCode};
 use std::alloc::Global;
 
 // What the part rows of the books come to, in a run of this month. `None` where they are more than a run can have.
@@ -44,7 +44,7 @@ fn month_sum<S: Alter>(
     alloc: Global,
     conn: &mut Connection<S>,
     month: EntryMonth,
-) -> Result<RunSum, Fault>
+) -> Result<RunSum, StoreFault>
     requires { HasCleanDisk (state S.Store conn.old) → IsReady (state S.Store conn.old) }
     ensures told { HasCleanDisk (state S.Store conn.new)
         → IfOk result (λ sum. sum ≡ sum_of_parts month (parts_in (tables (state S.Store conn.old)).books month)) }
@@ -54,7 +54,7 @@ fn month_sum<S: Alter>(
     look(alloc, conn, &PartsOfMonth { month }, &mut books)?;
     match sum_of(month, &books) {
         Some(sum) => Ok(sum),
-        None => Err(Fault::Store),
+        None => Err(Error::SqliteFailure(ErrorCode::DatabaseCorrupt).into()),
     }
 }
 
@@ -77,7 +77,11 @@ fn commit_sum<S: Alter>(alloc: Global, conn: &mut Connection<S>, sum: &RunSum) -
 }
 
 // Closes the open run with what it comes to.
-fn close_with<S: Alter>(alloc: Global, conn: &mut Connection<S>, sum: &RunSum) -> Result<(), Fault>
+fn close_with<S: Alter>(
+    alloc: Global,
+    conn: &mut Connection<S>,
+    sum: &RunSum,
+) -> Result<(), StoreFault>
     requires ready { HasCleanDisk (state S.Store conn.old) → IsReady (state S.Store conn.old) }
     requires end { HasCleanDisk (state S.Store conn.old) → IsAtItsEnd (tables (state S.Store conn.old)).books (tables (state S.Store conn.old)).open_run }
     requires sum { HasCleanDisk (state S.Store conn.old) → IsSumOfOpen sum.now (tables (state S.Store conn.old)).books }
@@ -91,12 +95,10 @@ fn close_with<S: Alter>(alloc: Global, conn: &mut Connection<S>, sum: &RunSum) -
     ensures was_clean { doubt (state S.Store conn.old).is_clean ≤ doubt (state S.Store conn.new).is_clean }
 {
     if !conn.is_autocommit() {
-        return Err(Fault::Store);
+        return Err(StoreFault::unclean(conn));
     }
-    match commit_sum(alloc, conn, sum) {
-        Ok(()) => Ok(()),
-        Err(error) => Err(fault_of(error)),
-    }
+    commit_sum(alloc, conn, sum)?;
+    Ok(())
 }
 
 /// Closes the open run of this month, of which no batch is left, in one transaction: its row gets the count and the total of its
@@ -106,7 +108,7 @@ pub fn close_month<S: Alter>(
     alloc: Global,
     conn: &mut Connection<S>,
     month: EntryMonth,
-) -> Result<RunSum, Fault>
+) -> Result<RunSum, StoreFault>
     requires ready { HasCleanDisk (state S.Store conn.old) → IsReady (state S.Store conn.old) }
     requires end { HasCleanDisk (state S.Store conn.old)
         → (tables (state S.Store conn.old)).open_run
@@ -127,21 +129,22 @@ pub fn close_month<S: Alter>(
     Ok(sum)
 }
 
-// The month of the open run. That none is open comes only from a store that is not clean.
-fn open_month<S: Alter>(alloc: Global, conn: &mut Connection<S>) -> Result<EntryMonth, Fault>
-    requires { HasCleanDisk (state S.Store conn.old) → IsReady (state S.Store conn.old) }
+// The month of the open run.
+fn open_month<S: Alter>(alloc: Global, conn: &mut Connection<S>) -> Result<EntryMonth, StoreFault>
+    requires ready { HasCleanDisk (state S.Store conn.old) → IsReady (state S.Store conn.old) }
+    requires run { HasCleanDisk (state S.Store conn.old) → IsUnderWay (tables (state S.Store conn.old)).open_run }
     ensures told { HasCleanDisk (state S.Store conn.new) → IfOk result (IsOpenMonth (tables (state S.Store conn.old)).books) }
     ensures reads { OnlyReads (state S.Store conn.old) (state S.Store conn.new) result }
 {
     let months = months_now(alloc, conn)?;
     match find_open_run(alloc, conn, months)? {
         Some(run) => Ok(run.month),
-        None => Err(Fault::Store),
+        None => Err(StoreFault::unclean(conn)),
     }
 }
 
 /// Closes the open run, of which no batch is left, as [`close_month`] does.
-pub fn close_run<S: Alter>(alloc: Global, conn: &mut Connection<S>) -> Result<RunSum, Fault>
+pub fn close_run<S: Alter>(alloc: Global, conn: &mut Connection<S>) -> Result<RunSum, StoreFault>
     requires ready { HasCleanDisk (state S.Store conn.old) → IsReady (state S.Store conn.old) }
     requires end { HasCleanDisk (state S.Store conn.old) → IsAtItsEnd (tables (state S.Store conn.old)).books (tables (state S.Store conn.old)).open_run }
     ensures told { HasCleanDisk (state S.Store conn.new)

@@ -13,8 +13,9 @@ ghost use Rattle.dh_schema.specs.Store.{IsReady, IsReadyWith, Leaves, StaysReady
 
 use dh_laws::looking::accepted_changes_fit;
 use dh_model::Change;
+use dh_schema::StoreFault;
 use dh_store::apply;
-use dh_types::{Fault, Pence, Run, RunOrder};
+use dh_types::{Pence, Run, RunOrder};
 use sqlite::{Alter, Connection};
 use std::alloc::Global;
 
@@ -24,7 +25,7 @@ pub fn open_run<S: Alter>(
     alloc: Global,
     conn: &mut Connection<S>,
     order: &RunOrder,
-) -> Result<(), Fault>
+) -> Result<(), StoreFault>
     requires ready { HasCleanDisk (state S.Store conn.old) → IsReady (state S.Store conn.old) }
     requires none { HasCleanDisk (state S.Store conn.old) → (tables (state S.Store conn.old)).open_run ≡ None }
     requires verdict { HasCleanDisk (state S.Store conn.old)

@@ -6,16 +6,15 @@ ghost use Rattle.sqlite.specs.Held.{state};
 ghost use Rattle.sqlite_trees.specs.View.{doubt};
 ghost use Rattle.dh_laws.specs.Batches.{IsUnderWay, next_batch};
 ghost use Rattle.dh_laws.specs.StateTables.{AreInOrder};
-ghost use Rattle.dh_plans.specs.Plans.{AreNew, HasItsPart, IsPlanOf, with_batch_rows};
+ghost use Rattle.dh_plans.specs.Plans.{AreNew, FallsInTime, HasItsPart, IsPlanOf, with_batch_rows};
 ghost use Rattle.dh_schema.specs.Faults.{IsFirstFault};
 ghost use Rattle.dh_schema.specs.Store.{Commits, IsReady, IsReadyWith, Leaves, StaysReady, tables};
-ghost use Rattle.dh_posting.specs.Batches.{batch_told};
+ghost use Rattle.dh_posting.specs.Batches.{CanBePosted, batch_told};
 
 use crate::planning::plan_run;
 use crate::rows::put_rows;
 use dh_plans::{BatchRows, Plan};
-use dh_schema::fault_of;
-use dh_types::Fault;
+use dh_schema::StoreFault;
 use sqlite::{Alter, Connection, Error};
 use std::alloc::Global;
 
@@ -39,6 +38,7 @@ fn commit_rows<S: Alter>(
     requires order { HasCleanDisk (state S.Store conn.old) → AreInOrder (with_batch_rows rows.now (tables (state S.Store conn.old))) }
     requires new { HasCleanDisk (state S.Store conn.old) → AreNew rows.now.charges.items (tables (state S.Store conn.old)).books.charges }
     requires known { HasCleanDisk (state S.Store conn.old) → HasItsPart rows.now (tables (state S.Store conn.old)) }
+    requires in_time { FallsInTime rows.now }
     ensures done { HasCleanDisk (state S.Store conn.new)
         → OnOk result (IsReadyWith (state S.Store conn.new) (λ t. t ≡ with_batch_rows rows.now (tables (state S.Store conn.old)))) }
     ensures undone { HasCleanDisk (state S.Store conn.new) → IsTrue (state S.Store conn.new).is_open
@@ -52,17 +52,18 @@ fn commit_rows<S: Alter>(
 }
 
 /// Puts the rows of a batch into the tables, in one transaction: charges that are new, and the part row of their branch in the place
-/// of what the branch had of the run. They must leave the books in order. At a fault the tables are these or those before, and
+/// of what the branch had of the run. They must leave the books in order, and fall due in months that lines know. At a fault the tables are these or those before, and
 /// while the store is open those before.
 pub fn post_rows<S: Alter>(
     alloc: Global,
     conn: &mut Connection<S>,
     rows: &BatchRows,
-) -> Result<(), Fault>
+) -> Result<(), StoreFault>
     requires ready { HasCleanDisk (state S.Store conn.old) → IsReady (state S.Store conn.old) }
     requires order { HasCleanDisk (state S.Store conn.old) → AreInOrder (with_batch_rows rows.now (tables (state S.Store conn.old))) }
     requires new { HasCleanDisk (state S.Store conn.old) → AreNew rows.now.charges.items (tables (state S.Store conn.old)).books.charges }
     requires known { HasCleanDisk (state S.Store conn.old) → HasItsPart rows.now (tables (state S.Store conn.old)) }
+    requires in_time { FallsInTime rows.now }
     ensures done { HasCleanDisk (state S.Store conn.new)
         → OnOk result (IsReadyWith (state S.Store conn.new) (λ t. t ≡ with_batch_rows rows.now (tables (state S.Store conn.old)))) }
     ensures undone { HasCleanDisk (state S.Store conn.new) → IsTrue (state S.Store conn.new).is_open
@@ -73,22 +74,21 @@ pub fn post_rows<S: Alter>(
     ensures was_clean { doubt (state S.Store conn.old).is_clean ≤ doubt (state S.Store conn.new).is_clean }
 {
     if !conn.is_autocommit() {
-        return Err(Fault::Store);
+        return Err(StoreFault::unclean(conn));
     }
-    match commit_rows(alloc, conn, rows) {
-        Ok(()) => Ok(()),
-        Err(error) => Err(fault_of(error)),
-    }
+    commit_rows(alloc, conn, rows)?;
+    Ok(())
 }
 
-// Posts the first batch of the plan, if it has one. More batches than can be counted come only from a store that is not clean.
+// Posts the first batch of the plan, if it has one.
 fn post_first<S: Alter>(
     alloc: Global,
     conn: &mut Connection<S>,
     plan: &Plan,
-) -> Result<Batch, Fault>
+) -> Result<Batch, StoreFault>
     requires ready { HasCleanDisk (state S.Store conn.old) → IsReady (state S.Store conn.old) }
     requires plan { HasCleanDisk (state S.Store conn.old) → IsPlanOf plan.now (tables (state S.Store conn.old)) }
+    requires postable { CanBePosted plan.now }
     ensures told { HasCleanDisk (state S.Store conn.new)
         → IfOk result (λ it. it ≡ batch_told (tables (state S.Store conn.old)).books (tables (state S.Store conn.old)).open_run) }
     ensures done { HasCleanDisk (state S.Store conn.new)
@@ -103,18 +103,15 @@ fn post_first<S: Alter>(
     let Some(rows) = plan.batches.first() else {
         return Ok(Batch::NoneLeft);
     };
-    let Some(of) = plan.done.checked_add(plan.batches.len() as u128) else {
-        return Err(Fault::Store);
-    };
     post_rows(alloc, conn, rows)?;
     Ok(Batch::Posted {
         done: plan.done + 1,
-        of,
+        of: plan.done + plan.batches.len() as u128,
     })
 }
 
 /// Posts the next batch of the open run, in one transaction, where one is left; it has at most fifty charges.
-pub fn post_batch<S: Alter>(alloc: Global, conn: &mut Connection<S>) -> Result<Batch, Fault>
+pub fn post_batch<S: Alter>(alloc: Global, conn: &mut Connection<S>) -> Result<Batch, StoreFault>
     requires ready { HasCleanDisk (state S.Store conn.old) → IsReady (state S.Store conn.old) }
     requires run { HasCleanDisk (state S.Store conn.old) → IsUnderWay (tables (state S.Store conn.old)).open_run }
     ensures told { HasCleanDisk (state S.Store conn.new)
@@ -130,6 +127,6 @@ pub fn post_batch<S: Alter>(alloc: Global, conn: &mut Connection<S>) -> Result<B
 {
     match plan_run(alloc, conn)? {
         Some(plan) => post_first(alloc, conn, &plan),
-        None => Err(Fault::Store),
+        None => Err(StoreFault::unclean(conn)),
     }
 }

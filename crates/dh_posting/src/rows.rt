@@ -1,22 +1,23 @@
 //! The rows of a batch put into their tables, within a transaction.
 
-ghost use Rattle.std.specs.Prelude.{◌≡◌, None, is_some};
+ghost use Rattle.std.specs.Prelude.{◌≡◌, ◌≤◌, All, None, is_some};
 ghost use Rattle.std.specs.FinMap.{get};
 ghost use Rattle.sqlite.specs.State.{HasCleanDisk};
 ghost use Rattle.sqlite.specs.Held.{state};
+ghost use Rattle.dh_days.specs.Days.{month_of_day};
+ghost use Rattle.dh_days.specs.declared.limits.TheConstants.{LAST_ENTRY_MONTH};
 ghost use Rattle.dh_model.specs.Runs.{charge_key, part_key};
-ghost use Rattle.dh_plans.specs.Plans.{AreNew, HasItsPart};
+ghost use Rattle.dh_plans.specs.Plans.{AreNew, FallsInTime, HasItsPart};
 ghost use Rattle.dh_schema.specs.Store.{IsWriting, tables};
 ghost use Rattle.dh_posting.specs.Putting.{Puts, with_charge, with_charges, with_part, with_rows_of};
 
-use dh_days::limits::LAST_ENTRY_MONTH;
 use dh_plans::BatchRows;
 use dh_tables::{insert, update};
 use dh_types::{Charge, Part};
-use sqlite::{Alter, Error, ErrorCode, Transaction};
+use sqlite::{Alter, Error, Transaction};
 use std::alloc::Global;
 
-// Puts a charge that is new. Rent that falls due past the months of lines comes only from a store that is not clean.
+// Puts a charge that is new.
 fn put_charge<S: Alter>(
     alloc: Global,
     tx: &mut Transaction<'_, S>,
@@ -25,12 +26,10 @@ fn put_charge<S: Alter>(
     requires writing { HasCleanDisk (state S.Store tx.old.conn.now) → IsWriting (state S.Store tx.old.conn.now) }
     requires fresh { HasCleanDisk (state S.Store tx.old.conn.now)
         → get (tables (state S.Store tx.old.conn.now)).books.charges (charge_key charge.now) ≡ None }
+    requires in_time { month_of_day charge.now.day ≤ LAST_ENTRY_MONTH }
     ensures same_reference { tx.new.conn.ghost_name ≡ tx.old.conn.ghost_name }
     ensures puts { Puts (with_charge charge.now) result (state S.Store tx.old.conn.now) (state S.Store tx.new.conn.now) }
 {
-    if charge.day.month().number() > LAST_ENTRY_MONTH {
-        return Err(Error::SqliteFailure(ErrorCode::DatabaseCorrupt));
-    }
     insert(alloc, tx, charge)
 }
 
@@ -42,6 +41,7 @@ fn put_charges<S: Alter>(
 ) -> Result<(), Error>
     requires writing { HasCleanDisk (state S.Store tx.old.conn.now) → IsWriting (state S.Store tx.old.conn.now) }
     requires new { HasCleanDisk (state S.Store tx.old.conn.now) → AreNew charges.now (tables (state S.Store tx.old.conn.now)).books.charges }
+    requires in_time { All (λ charge. month_of_day charge.day ≤ LAST_ENTRY_MONTH) charges.now }
     ensures same_reference { tx.new.conn.ghost_name ≡ tx.old.conn.ghost_name }
     ensures puts { Puts (with_charges charges.now) result (state S.Store tx.old.conn.now) (state S.Store tx.new.conn.now) }
 {
@@ -80,6 +80,7 @@ pub(crate) fn put_rows<S: Alter>(
     requires writing { HasCleanDisk (state S.Store tx.old.conn.now) → IsWriting (state S.Store tx.old.conn.now) }
     requires new { HasCleanDisk (state S.Store tx.old.conn.now) → AreNew rows.now.charges.items (tables (state S.Store tx.old.conn.now)).books.charges }
     requires known { HasCleanDisk (state S.Store tx.old.conn.now) → HasItsPart rows.now (tables (state S.Store tx.old.conn.now)) }
+    requires in_time { FallsInTime rows.now }
     ensures same_reference { tx.new.conn.ghost_name ≡ tx.old.conn.ghost_name }
     ensures puts { Puts (with_rows_of rows.now) result (state S.Store tx.old.conn.now) (state S.Store tx.new.conn.now) }
 {

@@ -2,3 +2,4 @@ pub mod Along
 pub mod Stages
 pub mod Carried
 pub mod Taken
+pub mod RunFound

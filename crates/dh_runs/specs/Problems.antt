@@ -5,8 +5,8 @@ use Rattle.dh_types.specs.declared.reply.Refusal.TheVariants as refusal
 use Rattle.dh_model.specs.Books.{Books}
 use Rattle.dh_model.specs.Runs.{batch_size}
 use Rattle.dh_audit.specs.Audit.{IsLeastBroken}
-use Rattle.dh_schema.specs.declared.fault.LoadFault.{LoadFault}
-use Rattle.dh_schema.specs.declared.fault.LoadFault.TheVariants as load
+use Rattle.dh_schema.specs.declared.load_fault.LoadFault.{LoadFault}
+use Rattle.dh_schema.specs.declared.load_fault.LoadFault.TheVariants as load
 use Rattle.dh_schema.specs.Faults.{IsFirstFault}
 use Rattle.dh_runs.specs.declared.problem.Problem.{Problem}
 use Rattle.dh_runs.specs.declared.problem.Problem.TheVariants as problem

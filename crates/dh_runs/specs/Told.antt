@@ -16,6 +16,12 @@ reply_of run.NoRun = reply.Refused refusal.NoRun
 reply_of (run.Part progress) = reply.Part progress
 reply_of (run.Posted sum) = reply.Posted sum
 
+-- no batch is left
+abbrev pub IsAtEnd : RunState → Type 0
+IsAtEnd run.NoRun = Unit {0}
+IsAtEnd (run.Part progress) = ⊥
+IsAtEnd (run.Posted sum) = Unit {0}
+
 -- the command was answered so
 abbrev pub IsSaid : Command → Reply → State → State → Type 0
 IsSaid told reply before after = Happens batch_size (Said told reply) (tables before) (tables after)

@@ -1,6 +1,6 @@
 //! Why tables are not taken.
 
-use dh_schema::LoadFault;
+use dh_schema::{LoadFault, StoreFault};
 use dh_types::{Fault, Refusal};
 use std::alloc::AllocError;
 
@@ -13,14 +13,15 @@ pub enum Problem {
     Fault(Fault),
 }
 
-impl From<Fault> for Problem {
+impl From<StoreFault> for Problem {
     ghost use Rattle.std.specs.Prelude.{◌≡◌};
+    ghost use Rattle.dh_schema.specs.Faults.{IsFirstFault};
     ghost use Rattle.dh_runs.specs.declared.problem.Problem.TheVariants as problem;
 
-    ghost from_gives = { λ fault told. told ≡ problem.Fault fault };
+    ghost from_gives = { λ fault told. (told ≡ problem.Fault fault) × IsFirstFault fault };
 
-    fn from(fault: Fault) -> Problem {
-        Problem::Fault(fault)
+    fn from(fault: StoreFault) -> Problem {
+        Problem::Fault(fault.fault())
     }
 }
 
@@ -45,7 +46,7 @@ impl From<LoadFault> for Problem {
     fn from(fault: LoadFault) -> Problem {
         match fault {
             LoadFault::Damaged => Problem::Refused(Refusal::Damaged(0)),
-            LoadFault::Fault(fault) => Problem::Fault(fault),
+            LoadFault::Fault(fault) => Problem::Fault(fault.fault()),
         }
     }
 }

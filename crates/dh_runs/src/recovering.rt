@@ -16,12 +16,12 @@ ghost use Rattle.dh_runs.specs.Told.{IsMended, IsTorn};
 use crate::problem::Problem;
 use crate::running::{RunState, post_some};
 use crate::taking::check;
-use dh_types::Fault;
+use dh_schema::StoreFault;
 use sqlite::{Alter, Connection};
 use std::alloc::Global;
 
 // Makes the open run to its end, where one is open.
-fn finish<S: Alter>(alloc: Global, conn: &mut Connection<S>) -> Result<(), Fault>
+fn finish<S: Alter>(alloc: Global, conn: &mut Connection<S>) -> Result<(), StoreFault>
     requires { HasCleanDisk (state S.Store conn.old) → IsReady (state S.Store conn.old) }
     ensures mended { HasCleanDisk (state S.Store conn.new)
         → OnOk result (IsReadyWith (state S.Store conn.new) (IsMended (tables (state S.Store conn.old)))) }
@@ -33,7 +33,7 @@ fn finish<S: Alter>(alloc: Global, conn: &mut Connection<S>) -> Result<(), Fault
 {
     match post_some(alloc, conn, u128::MAX)? {
         RunState::NoRun | RunState::Posted(_) => Ok(()),
-        RunState::Part(_) => Err(Fault::Store),
+        RunState::Part(_) => unreachable!(),
     }
 }
 

@@ -11,13 +11,15 @@ ghost use Rattle.dh_model.specs.declared.rows.Verdict.TheVariants as verdict;
 ghost use Rattle.dh_model.specs.Verdicts.{opened_run, run_verdict};
 ghost use Rattle.dh_laws.specs.Batches.{IsPostedInPart};
 ghost use Rattle.dh_plans.specs.Plans.{IsPlanOf};
+ghost use Rattle.dh_posting.specs.Batches.{CanBePosted};
 ghost use Rattle.dh_schema.specs.Faults.{IsFirstFault};
 ghost use Rattle.dh_schema.specs.Store.{IsReady, IsReadyWith, Leaves, tables};
-ghost use Rattle.dh_runs.specs.Told.{IsCut, IsSaid, reply_of};
+ghost use Rattle.dh_runs.specs.Told.{IsAtEnd, IsCut, IsSaid, reply_of};
 
 use dh_plans::Plan;
 use dh_posting::{close_month, open_run, plan_run, post_rows};
-use dh_types::{Fault, Progress, RunOrder, RunSum};
+use dh_schema::StoreFault;
+use dh_types::{Progress, RunOrder, RunSum};
 use sqlite::{Alter, Connection};
 use std::alloc::Global;
 
@@ -38,12 +40,14 @@ fn post_planned<S: Alter>(
     conn: &mut Connection<S>,
     plan: &Plan,
     most: u128,
-) -> Result<RunState, Fault>
+) -> Result<RunState, StoreFault>
     requires ready { HasCleanDisk (state S.Store conn.old) → IsReady (state S.Store conn.old) }
     requires planned { HasCleanDisk (state S.Store conn.old) → IsPlanOf plan.now (tables (state S.Store conn.old)) }
+    requires postable { CanBePosted plan.now }
     ensures ready { HasCleanDisk (state S.Store conn.new) → OnOk result (IsReady (state S.Store conn.new)) }
     ensures said { HasCleanDisk (state S.Store conn.new)
         → IfOk result (λ it. IsSaid (command.Post most) (reply_of it) (tables (state S.Store conn.old)) (tables (state S.Store conn.new))) }
+    ensures end { most ≡ u128.MAX → IfOk result IsAtEnd }
     ensures crash { HasCleanDisk (state S.Store conn.new) → Leaves (state S.Store conn.new) (IsPostedInPart most (tables (state S.Store conn.old))) }
     ensures halted { HasCleanDisk (state S.Store conn.new) → IsTrue (state S.Store conn.new).is_open
         → OnErr result (IsReadyWith (state S.Store conn.new) (IsPostedInPart most (tables (state S.Store conn.old)))) }
@@ -56,11 +60,10 @@ fn post_planned<S: Alter>(
         post_rows(alloc, conn, rows)?;
     }
     if count < left {
-        let of = plan.done.checked_add(left as u128).ok_or(Fault::Store)?;
         return Ok(RunState::Part(Progress {
             month: plan.month,
             done: plan.done + count as u128,
-            of,
+            of: plan.done + left as u128,
         }));
     }
     Ok(RunState::Posted(close_month(alloc, conn, plan.month)?))
@@ -73,11 +76,12 @@ pub fn post_some<S: Alter>(
     alloc: Global,
     conn: &mut Connection<S>,
     most: u128,
-) -> Result<RunState, Fault>
+) -> Result<RunState, StoreFault>
     requires { HasCleanDisk (state S.Store conn.old) → IsReady (state S.Store conn.old) }
     ensures ready { HasCleanDisk (state S.Store conn.new) → OnOk result (IsReady (state S.Store conn.new)) }
     ensures said { HasCleanDisk (state S.Store conn.new)
         → IfOk result (λ it. IsSaid (command.Post most) (reply_of it) (tables (state S.Store conn.old)) (tables (state S.Store conn.new))) }
+    ensures end { most ≡ u128.MAX → IfOk result IsAtEnd }
     ensures crash { HasCleanDisk (state S.Store conn.new) → Leaves (state S.Store conn.new) (IsPostedInPart most (tables (state S.Store conn.old))) }
     ensures halted { HasCleanDisk (state S.Store conn.new) → IsTrue (state S.Store conn.new).is_open
         → OnErr result (IsReadyWith (state S.Store conn.new) (IsPostedInPart most (tables (state S.Store conn.old)))) }
@@ -97,7 +101,7 @@ pub fn run_all<S: Alter>(
     alloc: Global,
     conn: &mut Connection<S>,
     order: &RunOrder,
-) -> Result<RunSum, Fault>
+) -> Result<RunSum, StoreFault>
     requires ready { HasCleanDisk (state S.Store conn.old) → IsReady (state S.Store conn.old) }
     requires none { HasCleanDisk (state S.Store conn.old) → (tables (state S.Store conn.old)).open_run ≡ None }
     requires verdict { HasCleanDisk (state S.Store conn.old)
@@ -115,6 +119,7 @@ pub fn run_all<S: Alter>(
     open_run(alloc, conn, order)?;
     match post_some(alloc, conn, u128::MAX)? {
         RunState::Posted(sum) => Ok(sum),
-        RunState::NoRun | RunState::Part(_) => Err(Fault::Store),
+        RunState::NoRun => Err(StoreFault::unclean(conn)),
+        RunState::Part(_) => unreachable!(),
     }
 }

@@ -1,4 +1,4 @@
-use Rattle.std.proofs.Common.{◌∙◌, ◌-◌, ◌++◌, [], ◌∷◌, ap, arith, length, map, sym, append-nil}
+use Rattle.std.proofs.Common.{◌∙◌, ◌-◌, ◌++◌, [], ◌∷◌, ap, arith, length, map, refl, sym, append-nil}
 use Rattle.std.specs.List.{flat_map}
 use Rattle.std.specs.Map.Iter.{deref}
 use Rattle.std.proofs.lemmas.Grind.{flat_map-append}
@@ -8,6 +8,8 @@ use Rattle.dh_model.specs.Runs.{batch_size, dues_of_branch}
 use Rattle.dh_leases.proofs.FewLemmas.{few_dues}
 use Rattle.dh_leases.proofs.PostedLemmas.{left_after, left_before, left_next}
 use Rattle.dh_plans.specs.Rows.{rows_after, rows_left}
+use Rattle.dh_plans.specs.declared.planning.Plan.{Plan}
+use Rattle.dh_plans.proofs.InTime.{in_time}
 use Rattle.dh_plans.proofs.Planned.{is_plan}
 use Rattle.dh_plans.proofs.planning.plan_of.Goals as goal
 
@@ -55,4 +57,5 @@ returns c =
     let given = c.into_iter-branch-iterator.ensures.into_iter_gives ∙ c.branch_numbers-branch-items.ensures in
     let all = (iter_end deref _ _ _ _ _ _ given c.loop-branch.yielded_by c.in-None.is c.next.ensures.steps).0 in
     let rows = c.loop-branch.invariant.rows ∙ ap (flat_map (rows_left batch_size b c.args.run.month c.args.run.done)) all in
-    λ t order shown have. is_plan b (record { month = c.args.run.month; done = c.args.run.done; batches = c.loop-branch.batches }) rows t order shown have
+    let plan : Plan = record { month = c.args.run.month; done = c.args.run.done; batches = c.loop-branch.batches } in
+    record { plan = λ t order shown have. is_plan b plan rows t order shown have; done = refl; in_time = in_time b plan c.number.ensures.range.1 rows }

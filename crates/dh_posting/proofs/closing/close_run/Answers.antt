@@ -4,7 +4,7 @@ use Rattle.sqlite.specs.Held.{state}
 use Rattle.dh_model.specs.Books.{State}
 use Rattle.dh_model.specs.Runs.{batch_size, batches}
 use Rattle.dh_schema.specs.Store.{tables}
-use Rattle.dh_posting.proofs.ClosedRun.{at_end_of, ready_in_order}
+use Rattle.dh_posting.proofs.ClosedRun.{at_end_of, ready_in_order, under_way}
 use Rattle.dh_posting.proofs.closing.close_run.Goals as goal
 
 pub close_month-requires-clause-end : goal.close_month-requires-clause-end
@@ -15,3 +15,8 @@ close_month-requires-clause-end g c mid =
     let t = tables old in
     subst (λ (now : State). now.open_run ≡ Some (record { month = c.in_ok-month.month; done = batches batch_size now.books c.in_ok-month.month })) (sym same)
     (at_end_of t.books t.open_run c.in_ok-month.month (c.in_ok-month.ensures.told mid) (c.requires.end early) (ready_in_order old (c.requires.ready early)))
+
+pub open_month-requires-clause-run : goal.open_month-requires-clause-run
+open_month-requires-clause-run g c clean =
+    let t = tables (state g.S.Store c.args.conn.now) in
+    under_way t.books t.open_run (c.requires.end clean)

@@ -4,7 +4,7 @@ use Rattle.sqlite.specs.Held.{state}
 use Rattle.dh_model.specs.Books.{Books}
 use Rattle.dh_laws.specs.Batches.{closed_state}
 use Rattle.dh_schema.specs.Store.{Commits, IsReadyWith, tables}
-use Rattle.dh_posting.proofs.ClosedRun.{begun_apart, begun_kept, closed_in_order, sum_put}
+use Rattle.dh_posting.proofs.ClosedRun.{begun_apart, begun_kept, closed_in_order, row_there, sum_put}
 use Rattle.dh_posting.proofs.Committing.{committed, ready_with}
 use Rattle.dh_posting.proofs.closing.commit_sum.Goals as goal
 
@@ -15,6 +15,11 @@ update-requires-clause-kept g c =
 pub update-requires-clause-apart : goal.update-requires-clause-apart
 update-requires-clause-apart g c =
     begun_apart g.S.Store c.args.conn.now c.transaction-tx.result.conn.now c.transaction-tx.ensures.begun c.requires.ready
+
+pub update-requires-clause-there : goal.update-requires-clause-there
+update-requires-clause-there g c =
+    row_there g.S.Store c.args.conn.now c.transaction-tx.result.conn.now c.transaction-tx.result.conn.now c.transaction-tx.ensures.begun c.requires.ready
+    c.requires.end c.args.sum.now c.requires.sum
 
 pub returns-clause-done : goal.returns-clause-done
 returns-clause-done g c clean =

@@ -5,15 +5,15 @@ use Rattle.dh_schema.specs.Store.{tables}
 use Rattle.dh_store.proofs.Committing.{leaves_either}
 use Rattle.dh_posting.proofs.posting.post_rows.Goals as goal
 
-pub returns-in-Ok-clause-crash : goal.returns-in-Ok-clause-crash
-returns-in-Ok-clause-crash g c clean =
+pub returns-clause-crash : goal.returns-clause-crash
+returns-clause-crash g c clean =
     let old = c.args.conn.now in
     let survives = c.commit_rows.ensures.survives in
     leaves_either (state g.S.Store old) (state g.S.Store c.commit_rows.new.conn) (with_batch_rows c.args.rows.now (tables (state g.S.Store old)))
     (g.met.S.Store.settled old.store) (c.requires.ready (omega (arith, survives.clean, clean))) clean survives
 
-pub returns-in-Err-clause-crash : goal.returns-in-Err-clause-crash
-returns-in-Err-clause-crash g c clean =
+pub returns-in_err-commit_rows-clause-crash : goal.returns-in_err-commit_rows-clause-crash
+returns-in_err-commit_rows-clause-crash g c clean =
     let old = c.args.conn.now in
     let survives = c.commit_rows.ensures.survives in
     leaves_either (state g.S.Store old) (state g.S.Store c.commit_rows.new.conn) (with_batch_rows c.args.rows.now (tables (state g.S.Store old)))

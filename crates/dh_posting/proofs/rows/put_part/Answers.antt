@@ -13,6 +13,12 @@ update-requires-clause-kept g c clean = ((c.requires.writing clean).in_order.tab
 pub update-requires-clause-apart : goal.update-requires-clause-apart
 update-requires-clause-apart g c clean = ((c.requires.writing clean).in_order.tables Parts).apart
 
+pub update-requires-clause-there : goal.update-requires-clause-there
+update-requires-clause-there g c clean =
+    let old = state g.S.Store c.args.tx.now.conn.now in
+    let it = part_there c.args.part.now old old (sym (c.requires.known clean) ∙ c.if-has_part.true) in
+    (it.0, it.1)
+
 pub returns-then-has_part-clause-puts : goal.returns-then-has_part-clause-puts
 returns-then-has_part-clause-puts g c =
     let old = state g.S.Store c.args.tx.now.conn.now in

@@ -1,8 +1,10 @@
-use Rattle.std.proofs.Common.{arith}
+use Rattle.std.proofs.Common.{ap, arith}
 use Rattle.sqlite.specs.State.{HasCleanDisk}
 use Rattle.sqlite.specs.Held.{state}
+use Rattle.dh_model.specs.Books.{State}
 use Rattle.dh_laws.proofs.Carrying.{run_cut}
 use Rattle.dh_schema.specs.Store.{tables}
+use Rattle.dh_runs.proofs.RunFound.{run_is_found}
 use Rattle.dh_runs.proofs.Along.{in_order}
 use Rattle.dh_runs.proofs.Carried.{on_err, opening_crash, posted_said, posting_crash}
 use Rattle.dh_runs.proofs.running.run_all.Goals as goal
@@ -53,3 +55,11 @@ returns-in-Posted-clause-said g c clean =
     posted_said c.args.order.now (tables old) (c.requires.none was) (in_order old (c.requires.ready was)) (c.requires.verdict was) _ c.in_ok-sum.field-0
     c.in-Posted.sum (tables (state g.S.Store c.open_run.new.conn)) (tables (state g.S.Store c.post_some.new.conn))
     (c.in_ok-open_run.ensures.done between).1 c.in-Posted.is (c.in_ok-sum.ensures.said clean)
+
+pub unclean-requires : goal.unclean-requires
+unclean-requires g c clean =
+    let opened = c.open_run.new.conn in
+    let between : HasCleanDisk (state g.S.Store opened) = omega (arith, clean, c.post_some.ensures.was_clean) in
+    let is = ap (λ (t : State). t.open_run) (c.in_ok-open_run.ensures.done between).1 in
+    run_is_found _ (tables (state g.S.Store opened)) (tables (state g.S.Store c.post_some.new.conn)) _ c.in_ok-sum.field-0 is c.in-NoRun.is
+    (c.in_ok-sum.ensures.said clean)
