@@ -37,8 +37,8 @@ module _ {S : Type 0} (g : Ghosts S) (old new : Seat S) (a b : Option (List ℕ)
   serves_told acted it (Ok status) result told sends is state order same kept =
       let sends_it = subst (λ x. Sends a b x (Ok status)) is sends in
       subst (Serves g old new May a b) (sym told) (asked, may, IsServed.Told sends_it.0 state kept sends_it.1)
-  serves_told acted it (Err unsent.Output) result told sends is state order same kept =
-      let broken = subst (λ x. Sends a b x (Err unsent.Output)) is sends in
+  serves_told acted it (Err (unsent.Output failed)) result told sends is state order same kept =
+      let broken = subst (λ x. Sends a b x (Err (unsent.Output failed))) is sends in
       subst (Serves g old new May a b) (sym told) (asked, (served (stand g old) asked).answer.status, may, IsServed.Told broken state kept refl)
   serves_told true it (Err unsent.Memory) result told sends is state order same kept =
       subst (Serves g old new May a b) (sym told) (asked, may, sends, order refl, state)
@@ -64,7 +64,7 @@ module _ {S : Type 0} (old new : Seat S) where
 module _ {S : Type 0} (g : Ghosts S) (old new : Seat S) (P Q : Asked → Type 0) (f : (asked : Asked) → P asked → Q asked) where
   pub serves_more : (a b : Option (List ℕ)) (r : Result ℕ NetFault) → Serves g old new P a b r → Serves g old new Q a b r
   serves_more a b (Ok status) h = (h.0, f h.0 h.1, h.2)
-  serves_more a b (Err Output) h = (h.0, h.1, f h.0 h.2, h.3)
+  serves_more a b (Err (Output failed)) h = (h.0, h.1, f h.0 h.2, h.3)
   serves_more a b (Err Closed) h = h
   serves_more a b (Err Input) h = h
   serves_more a b (Err (Memory true)) h = (h.0, f h.0 h.1, h.2, h.3, h.4)

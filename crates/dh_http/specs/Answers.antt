@@ -100,9 +100,9 @@ Writes old new it (Err e) = BreaksOff old new (answer_text it)
 -- the same, or memory ran out before any of it
 abbrev pub Sends : Option (List ℕ) → Option (List ℕ) → Answer → Result ℕ Unsent → Type 0
 Sends old new it (Ok status) = Appends old new (answer_text it) × (status ≡ it.status)
-Sends old new it (Err unsent.Output) = BreaksOff old new (answer_text it)
+Sends old new it (Err (unsent.Output failed)) = BreaksOff old new (answer_text it)
 Sends old new it (Err unsent.Memory) = new ≡ old
 
 abbrev pub Passes : Result ℕ Output → Result ℕ Unsent → Type 0
 Passes (Ok status) it = it ≡ Ok status
-Passes (Err e) it = it ≡ Err unsent.Output
+Passes (Err failed) it = it ≡ Err (unsent.Output failed)

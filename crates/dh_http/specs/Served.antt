@@ -74,12 +74,12 @@ unread_fault unread.Memory = Memory false
 -- what came of an answer is told; want of memory with whether the machine's step was made
 abbrev pub Tells : Bool → Result ℕ Unsent → Result ℕ NetFault → Type 0
 Tells acted (Ok status) it = it ≡ Ok status
-Tells acted (Err unsent.Output) it = it ≡ Err Output
+Tells acted (Err (unsent.Output failed)) it = it ≡ Err (Output failed)
 Tells acted (Err unsent.Memory) it = it ≡ Err (Memory acted)
 
 abbrev pub Hears : Result ℕ Written → Result ℕ NetFault → Type 0
 Hears (Ok status) it = it ≡ Ok status
-Hears (Err e) it = it ≡ Err Output
+Hears (Err failed) it = it ≡ Err (Output failed)
 
 module _ {S : Type 0} (g : Ghosts S) (old new : Seat S) where
   -- The request was answered, and the machine stands where the answer says: one that was not put to the agency leaves it as it is. Or it was put
@@ -94,7 +94,7 @@ module _ {S : Type 0} (g : Ghosts S) (old new : Seat S) where
   -- was made.
   abbrev pub Serves : (Asked → Type 0) → Option (List ℕ) → Option (List ℕ) → Result ℕ NetFault → Type 0
   Serves May a b (Ok status) = (asked : Asked) × May asked × IsServed asked status (Appends a b)
-  Serves May a b (Err Output) = (asked : Asked) × (status : ℕ) × May asked × IsServed asked status (BreaksOff a b)
+  Serves May a b (Err (Output failed)) = (asked : Asked) × (status : ℕ) × May asked × IsServed asked status (BreaksOff a b)
   Serves May a b (Err Closed) = (b ≡ a) × (new ≡ old)
   Serves May a b (Err Input) = (b ≡ a) × (new ≡ old)
   Serves May a b (Err (Memory true)) =
@@ -109,7 +109,7 @@ module _ {S : Type 0} (g : Ghosts S) (old new : Seat S) where
 module _ {S : Type 0} (old new : Seat S) where
   abbrev pub StopsBy : Result ℕ NetFault → Type 0
   StopsBy (Ok status) = ((status ≢ 503) × (new.is_stopped ≡ old.is_stopped)) ⊎ ((status ≡ 503) × (new.is_stopped ≡ true))
-  StopsBy (Err Output) = (new.is_stopped ≡ old.is_stopped) ⊎ (new.is_stopped ≡ true)
+  StopsBy (Err (Output failed)) = (new.is_stopped ≡ old.is_stopped) ⊎ (new.is_stopped ≡ true)
   StopsBy (Err Closed) = new.is_stopped ≡ old.is_stopped
   StopsBy (Err Input) = new.is_stopped ≡ old.is_stopped
   StopsBy (Err (Memory acted)) = new.is_stopped ≡ old.is_stopped

@@ -35,7 +35,7 @@ pub(crate) enum Unsent {
     /// Memory ran out, and nothing was written.
     Memory,
     /// The writer failed.
-    Output,
+    Output(Output),
 }
 
 impl From<AllocError> for Unsent {
@@ -148,7 +148,7 @@ fn passed(outcome: Result<StatusCode, Output>) -> Result<StatusCode, Unsent>
 {
     match outcome {
         Ok(status) => Ok(status),
-        Err(_) => Err(Unsent::Output),
+        Err(output) => Err(Unsent::Output(output)),
     }
 }
 

@@ -4,6 +4,7 @@ ghost use Rattle.std.specs.Prelude.{◌≡◌};
 ghost use Rattle.dh_http.specs.Served.{unread_fault};
 
 use dh_requests::Unread;
+use dh_types::Output;
 
 /// Why a request got no answer.
 #[derive(Clone, Copy, Debug, PartialEq, Eq)]
@@ -13,7 +14,7 @@ pub enum NetFault {
     /// The reader failed; nothing was done.
     Input,
     /// The writer failed, and has a beginning of the answer; what was asked for stands.
-    Output,
+    Output(Output),
     /// Memory for the request or its answer ran out, and nothing was written. The command was carried out where `acted`, and
     /// else nothing was done.
     Memory { acted: bool },

@@ -26,7 +26,7 @@ fn told(outcome: Result<StatusCode, Unsent>, acted: bool) -> Result<StatusCode, 
     match outcome {
         Ok(status) => Ok(status),
         Err(Unsent::Memory) => Err(NetFault::Memory { acted }),
-        Err(Unsent::Output) => Err(NetFault::Output),
+        Err(Unsent::Output(output)) => Err(NetFault::Output(output)),
     }
 }
 
@@ -36,7 +36,7 @@ fn heard(outcome: Result<StatusCode, Output>) -> Result<StatusCode, NetFault>
 {
     match outcome {
         Ok(status) => Ok(status),
-        Err(_) => Err(NetFault::Output),
+        Err(output) => Err(NetFault::Output(output)),
     }
 }
 

@@ -6,6 +6,7 @@ use Rattle.sqlite.specs.Store.{Ghosts}
 use Rattle.dh_types.specs.Output.{BreaksOff, Puts}
 use Rattle.dh_types.specs.Replies.{is_refusal, reply_text}
 use Rattle.dh_types.specs.Reports.{Report, is_no_report}
+use Rattle.dh_types.specs.declared.output.Output as writing
 use Rattle.dh_types.specs.declared.question.Question.{Question}
 use Rattle.dh_types.specs.declared.reply.Fault.{Fault}
 use Rattle.dh_types.specs.declared.reply.Fault.TheVariants as faults
@@ -23,24 +24,44 @@ use Rattle.dh_lines.specs.declared.outcome.Halt.{Halt}
 use Rattle.dh_lines.specs.declared.outcome.Halt.TheVariants as halt
 use Rattle.dh_reports.specs.Columns.{newline}
 use Rattle.dh_lines.specs.Session.{Answered, fault_line, numbered, replied, reported, reported_text}
-use Rattle.dh_lines.specs.Batch.{Answers, HaltsByFault, IsFirst, IsStoreFault, TellsFault, batch_fault}
+use Rattle.dh_lines.specs.Batch.{Answers, HaltsByFault, IsFirst, IsStoreFault, OnlyOfRequests, TellsFault, batch_fault}
+use Rattle.dh_fields.specs.declared.request.Request.{Request}
+use Rattle.dh_fields.specs.Lines.{Fields, request_of}
 
 -- a fault that was told
 pub fault_first : (a b : Option (List ℕ)) (n : ℕ) (fault : Fault) (h : Halt) → TellsFault a b n fault h → IsFirstFault fault → IsFirst (batch_fault h)
 fault_first a b n fault (halt.Fault found outcome) told first = subst IsFirstFault (sym told.0) first
-fault_first a b n fault halt.Input told first = absurd told
-fault_first a b n fault halt.Output told first = absurd told
+fault_first a b n fault (halt.Input cause) told first = absurd told
+fault_first a b n fault (halt.Output failed) told first = absurd told
 
 pub fault_halts : (a b : Option (List ℕ)) (n : ℕ) (fault : Fault) (h : Halt) → TellsFault a b n fault h → HaltsByFault {T = Bool} (Err h)
 fault_halts a b n fault (halt.Fault found outcome) told = tt
-fault_halts a b n fault halt.Input told = absurd told
-fault_halts a b n fault halt.Output told = absurd told
+fault_halts a b n fault (halt.Input cause) told = absurd told
+fault_halts a b n fault (halt.Output failed) told = absurd told
 
 -- want of memory is no fault of the store
 pub no_store_fault : (a b : Option (List ℕ)) (n : ℕ) (h : Halt) → TellsFault a b n faults.Memory h → ¬ IsStoreFault (batch_fault h)
 no_store_fault a b n (halt.Fault found outcome) told is = cc (told.0)
-no_store_fault a b n halt.Input told is = is
-no_store_fault a b n halt.Output told is = is
+no_store_fault a b n (halt.Input cause) told is = is
+no_store_fault a b n (halt.Output failed) told is = is
+
+-- want of memory may end the batch at any record
+pub memory_of_any : (fields : Fields) (a b : Option (List ℕ)) (n : ℕ) (h : Halt) → TellsFault a b n faults.Memory h → OnlyOfRequests fields h
+memory_of_any fields a b n (halt.Fault found outcome) told = λ other. absurd (other told.0)
+memory_of_any fields a b n (halt.Input cause) told = tt
+memory_of_any fields a b n (halt.Output failed) told = tt
+
+-- of fields that ask something any fault may come
+pub of_request : (fields : Fields) (it : Request) (r : Result Bool Halt) → request_of fields ≡ Ok it → IfErr r (OnlyOfRequests fields)
+of_request fields it (Ok value) asked = tt
+of_request fields it (Err (halt.Fault fault outcome)) asked = λ other. (fields, it, refl, asked)
+of_request fields it (Err (halt.Input cause)) asked = tt
+of_request fields it (Err (halt.Output failed)) asked = tt
+
+-- a writer that failed is no fault
+pub of_output : (fields : Fields) (failed : writing.Output) (r : Result Bool Halt) → IsErrAnd r (λ y. y ≡ halt.Output failed) → IfErr r (OnlyOfRequests fields)
+of_output fields failed (Ok value) is = tt
+of_output fields failed (Err e) is = subst (OnlyOfRequests fields) (sym is) tt
 
 -- an error that is handed on is the one that was met
 pub store_handed : {T : Type 0} (Stops : Type 0) (r : Result T Halt) (e : Halt) → IsErrAnd r (λ y. y ≡ e) → (IsStoreFault (batch_fault e) → Stops)
@@ -52,14 +73,14 @@ module _ {S : Type 0} (g : Ghosts S) (old new : Seat S) (a b : Option (List ℕ)
   pub answers_fault : (it : Answered) (P : State → Type 0) (fault : Fault) (h : Halt) → TellsFault a b n fault h → (IsOpen g new → P (machine g new))
       → Answers g old new a b n it P (Err h)
   answers_fault it P fault (halt.Fault found outcome) told reads = (subst (λ f. Puts a b outcome (fault_line n f)) (sym told.0) told.1, reads)
-  answers_fault it P fault halt.Input told reads = absurd told
-  answers_fault it P fault halt.Output told reads = absurd told
+  answers_fault it P fault (halt.Input cause) told reads = absurd told
+  answers_fault it P fault (halt.Output failed) told reads = absurd told
 
   -- the writer failed in the line
-  pub answers_part : (it : Answered) (P : State → Type 0) (r : Result Bool Halt) → IsErrAnd r (λ y. y ≡ halt.Output) → BreaksOff a b (numbered n it.text)
+  pub answers_part : (it : Answered) (P : State → Type 0) (failed : writing.Output) (r : Result Bool Halt) → IsErrAnd r (λ y. y ≡ halt.Output failed) → BreaksOff a b (numbered n it.text)
       → stand g new ≡ it.state → Answers g old new a b n it P r
-  answers_part it P (Ok value) is broken state = absurd is
-  answers_part it P (Err e) is broken state = subst (λ z. Answers g old new a b n it P (Err z)) (sym is) (broken, state)
+  answers_part it P failed (Ok value) is broken state = absurd is
+  answers_part it P failed (Err e) is broken state = subst (λ z. Answers g old new a b n it P (Err z)) (sym is) (broken, state)
 
   -- ---- a command
 
@@ -68,9 +89,9 @@ module _ {S : Type 0} (g : Ghosts S) (old new : Seat S) (a b : Option (List ℕ)
         → Answers g old new a b n (replied after) P (Ok is_refused)
     replied_whole put is_refused same = subst (λ z. Answers g old new a b n (replied z) P (Ok is_refused)) (sym is) (put, refl, same)
 
-    pub replied_part : (r : Result Bool Halt) → IsErrAnd r (λ y. y ≡ halt.Output) → BreaksOff a b (numbered n (reply_text answer ++ newline))
+    pub replied_part : (failed : writing.Output) (r : Result Bool Halt) → IsErrAnd r (λ y. y ≡ halt.Output failed) → BreaksOff a b (numbered n (reply_text answer ++ newline))
         → Answers g old new a b n (replied after) P r
-    replied_part r broke put = subst (λ z. Answers g old new a b n (replied z) P r) (sym is) (answers_part (replied (stand g new, answer)) P r broke put refl)
+    replied_part failed r broke put = subst (λ z. Answers g old new a b n (replied z) P r) (sym is) (answers_part (replied (stand g new, answer)) P failed r broke put refl)
 
   -- ---- a question
 
@@ -89,7 +110,7 @@ module _ {S : Type 0} (g : Ghosts S) (old new : Seat S) (a b : Option (List ℕ)
         → Answers g old new a b n (reported (stand g old) (report (stand g old) question)) P (Ok is_refused)
     reported_whole put is_refused same_answer = subst (λ z. Answers g old new a b n z P (Ok is_refused)) is (put, refl, same_answer)
 
-    pub reported_part : (r : Result Bool Halt) → IsErrAnd r (λ y. y ≡ halt.Output) → BreaksOff a b (numbered n (reported_text shown))
+    pub reported_part : (failed : writing.Output) (r : Result Bool Halt) → IsErrAnd r (λ y. y ≡ halt.Output failed) → BreaksOff a b (numbered n (reported_text shown))
         → Answers g old new a b n (reported (stand g old) (report (stand g old) question)) P r
-    reported_part r broke put =
-        subst (λ z. Answers g old new a b n z P r) is (answers_part (reported (stand g new) shown) P r broke put refl)
+    reported_part failed r broke put =
+        subst (λ z. Answers g old new a b n z P r) is (answers_part (reported (stand g new) shown) P failed r broke put refl)

@@ -1,7 +1,8 @@
 -- From what one record does to what a batch does.
 use Rattle.std.proofs.Common.{◌≡◌, ◌∙◌, ◌⊎◌, inl, inr, ℕ, zero, suc, ◌+◌, ◌≤◌, Bool, true, false, Option, Some, List, [], ◌∷◌}
-use Rattle.std.proofs.Common.{length, take, slice_get, Result, Ok, Err, sym, ap, subst, arith, add-one}
-use Rattle.std.specs.Prelude.{IsErrAnd, if◌then◌else◌}
+use Rattle.std.proofs.Common.{length, take, slice_get, Result, Ok, Err, refl, sym, ap, subst, arith, add-one}
+use Rattle.std.specs.Prelude.{◌-◌, ◌^◌, IfSome, IsErrAnd, None, if◌then◌else◌}
+use Rattle.std.proofs.lemmas.Bool.{false≢true}
 use Rattle.std.specs.Io.KnownBytes.{Appends}
 use Rattle.std.proofs.KnownBytes.{Appends-trans}
 use Rattle.csv.specs.declared.error.ErrorKind.{ErrorKind}
@@ -18,8 +19,9 @@ use Rattle.dh_agency.specs.Agency.{Leaves, LeavesItsTables, machine, stand}
 use Rattle.dh_agency.proofs.Standing.{leaves_more, leaves_what_holds}
 use Rattle.dh_fields.specs.Lines.{Fields}
 use Rattle.dh_lines.specs.Session.{answered, fault_line, line, records_of, state_after}
-use Rattle.dh_lines.specs.Batch.{Answers, AnsweredAll, AnsweredFirst, EndsSo, Faulted, HaltsByFault, HaltsSo, IsAgencyFault, IsAtRest, IsFirst, IsWithin}
-use Rattle.dh_lines.specs.Batch.{PutsBehind, TellsFault, TellsReading, batch_fault}
+use Rattle.dh_lines.specs.Batch.{Answers, AnsweredAll, AnsweredFirst, EndsSo, Faulted, HaltsByFault, HaltsSo, IsAgencyFault, IsAtRest, IsFirst, IsAsked, IsWithin}
+use Rattle.dh_lines.specs.Batch.{OnlyOfRequests, PutsBehind, TellsFault, TellsReading, batch_fault}
+use Rattle.dh_lines.specs.declared.watching.Input.{Input}
 use Rattle.dh_lines.specs.declared.outcome.Summary.{Summary}
 use Rattle.dh_lines.specs.declared.outcome.BatchFault.{BatchFault}
 use Rattle.dh_lines.specs.declared.outcome.Halt.{Halt}
@@ -44,62 +46,74 @@ module _ {S : Type 0} (g : Ghosts S) (old new : Seat S) (a b : Option (List ℕ)
 
 module _ {S R : Type 0} (g : Ghosts S) (old new : Seat S) (a b : Option (List ℕ)) (rem : R → Option (List ℕ)) (records : Reader R) (n r : ℕ) (input : List ℕ)
     (w : Follows rem records a b (stand g old) (stand g new) n r input) where
-  pub first_answered : AnsweredFirst g old new a b input
-  first_answered = record { count = n; few = few (records_of input) n w.count; written = w.written; state = w.state }
+  pub first_answered : (cause : Input) → (cause.is_full ≡ true → n ≡ 2 ^ 64 - 1) → AnsweredFirst g old new a b cause input
+  first_answered cause full = record { count = n; few = few (records_of input) n w.count; full = full; written = w.written; state = w.state }
 
-  faulted : (c : Option (List ℕ)) (fault : Fault) (outcome : Result (Unit {0}) writing.Output) → Puts b c outcome (fault_line (n + 1) fault)
-      → (IsAtRest g old → LeavesItsTables g new) → Faulted g old new a c fault outcome input
-  faulted c fault outcome put left = record {
+  wanted_memory : (c : Option (List ℕ)) (fault : Fault) (outcome : Result (Unit {0}) writing.Output) → fault ≡ faults.Memory
+      → Puts b c outcome (fault_line (n + 1) fault) → (IsAtRest g old → LeavesItsTables g new) → Faulted g old new a c fault outcome input
+  wanted_memory c fault outcome memory put left = record {
     count = n;
     few = few (records_of input) n w.count;
+    asked = λ other. absurd (other memory);
     written = puts_behind a b c _ _ outcome w.written put;
     state = λ is_open. inl w.state;
     left = λ rests. leaves_what_holds g new (IsWithin (state_after (stand g old) (take n (records_of input))) (slice_get (records_of input) n))
         (left rests) (inl w.state);
   }
 
-  ends_by_fault : (c : Option (List ℕ)) (fault : Fault) (h : Halt) → TellsFault b c (n + 1) fault h → (IsAtRest g old → LeavesItsTables g new)
+  ends_by_want : (c : Option (List ℕ)) (h : Halt) → TellsFault b c (n + 1) faults.Memory h → (IsAtRest g old → LeavesItsTables g new)
       → HaltsSo g old new a c (Err h) input
-  ends_by_fault c fault (halt.Fault found outcome) told left =
-      faulted c found outcome (subst (λ f. Puts b c outcome (fault_line (n + 1) f)) (sym told.0) told.1) left
-  ends_by_fault c fault halt.Input told left = absurd told
-  ends_by_fault c fault halt.Output told left = absurd told
+  ends_by_want c (halt.Fault found outcome) told left =
+      wanted_memory c found outcome told.0 (subst (λ f. Puts b c outcome (fault_line (n + 1) f)) (sym told.0) told.1) left
+  ends_by_want c (halt.Input cause) told left = absurd told
+  ends_by_want c (halt.Output failed) told left = absurd told
 
   -- the next record was not read
-  pub ends_unread : {W : Type 0} (held : W → Option (List ℕ)) (one two : W) (k : ErrorKind) (h : Halt) → b ≡ held one → TellsReading held one two (n + 1) k h
-      → (IsAtRest g old → LeavesItsTables g new) → HaltsSo g old new a (held two) (Err h) input
-  ends_unread {W} held one two k h is told left = by k told
+  pub ends_unread : {W : Type 0} (held : W → Option (List ℕ)) (one two : W) (k : ErrorKind) (noted : Option Input) (h : Halt) → b ≡ held one
+      → IfSome noted (λ cause. cause.is_full ≡ false) → TellsReading held one two (n + 1) k noted h → (IsAtRest g old → LeavesItsTables g new)
+      → HaltsSo g old new a (held two) (Err h) input
+  ends_unread {W} held one two k noted h is of_reader told left = by k noted of_reader told
     where
-      other : TellsFault (held one) (held two) (n + 1) faults.Memory h → HaltsSo g old new a (held two) (Err h) input
-      other told = ends_by_fault (held two) faults.Memory h (subst (λ o. TellsFault o (held two) (n + 1) faults.Memory h) (sym is) told) left
+      want : TellsFault (held one) (held two) (n + 1) faults.Memory h → HaltsSo g old new a (held two) (Err h) input
+      want told = ends_by_want (held two) h (subst (λ o. TellsFault o (held two) (n + 1) faults.Memory h) (sym is) told) left
 
-      by : (k : ErrorKind) → TellsReading held one two (n + 1) k h → HaltsSo g old new a (held two) (Err h) input
-      by (kind.Io e) told =
+      by : (k : ErrorKind) (noted : Option Input) → IfSome noted (λ cause. cause.is_full ≡ false) → TellsReading held one two (n + 1) k noted h
+          → HaltsSo g old new a (held two) (Err h) input
+      by (kind.Io e) (Some cause) of_reader told =
           let same : b ≡ held two = is ∙ ap held (sym told.1) in
-          subst (λ z. HaltsSo g old new a (held two) (Err z) input) (sym told.0) (subst (λ o. AnsweredFirst g old new a o input) same first_answered)
-      by (kind.Utf8 pos e) told = other told
-      by (kind.UnequalLengths pos expected len) told = other told
-      by (kind.Serialize text) told = other told
-      by (kind.Deserialize pos e) told = other told
-      by kind.OutOfMemory told = other told
+          subst (λ z. HaltsSo g old new a (held two) (Err z) input) (sym told.0)
+          (subst (λ o. AnsweredFirst g old new a o cause input) same (first_answered cause (λ full. absurd (false≢true (sym of_reader ∙ full)))))
+      by (kind.Io e) None of_reader told = want told
+      by (kind.Utf8 pos e) noted of_reader told = absurd told
+      by (kind.UnequalLengths pos expected len) noted of_reader told = absurd told
+      by (kind.Serialize text) noted of_reader told = absurd told
+      by (kind.Deserialize pos e) noted of_reader told = absurd told
+      by kind.OutOfMemory noted of_reader told = want told
 
 -- such an end comes first
-pub first_unread : {W : Type 0} (held : W → Option (List ℕ)) (one two : W) (n : ℕ) (k : ErrorKind) (h : Halt) → TellsReading held one two n k h
-    → IsFirst (batch_fault h)
-first_unread {W} held one two n k h told = by k told
+pub first_unread : {W : Type 0} (held : W → Option (List ℕ)) (one two : W) (n : ℕ) (k : ErrorKind) (noted : Option Input) (h : Halt)
+    → TellsReading held one two n k noted h → IsFirst (batch_fault h)
+first_unread {W} held one two n k noted h told = by k noted told
   where
     memory : (h : Halt) → TellsFault (held one) (held two) n faults.Memory h → IsFirst (batch_fault h)
     memory (halt.Fault found outcome) told = subst (λ f. IsFirst (batch_fault (halt.Fault f outcome))) (sym told.0) tt
-    memory halt.Input told = absurd told
-    memory halt.Output told = absurd told
+    memory (halt.Input cause) told = absurd told
+    memory (halt.Output failed) told = absurd told
 
-    by : (k : ErrorKind) → TellsReading held one two n k h → IsFirst (batch_fault h)
-    by (kind.Io e) told = subst (λ z. IsFirst (batch_fault z)) (sym told.0) tt
-    by (kind.Utf8 pos e) told = memory h told
-    by (kind.UnequalLengths pos expected len) told = memory h told
-    by (kind.Serialize text) told = memory h told
-    by (kind.Deserialize pos e) told = memory h told
-    by kind.OutOfMemory told = memory h told
+    by : (k : ErrorKind) (noted : Option Input) → TellsReading held one two n k noted h → IsFirst (batch_fault h)
+    by (kind.Io e) (Some cause) told = subst (λ z. IsFirst (batch_fault z)) (sym told.0) tt
+    by (kind.Io e) None told = memory h told
+    by (kind.Utf8 pos e) noted told = absurd told
+    by (kind.UnequalLengths pos expected len) noted told = absurd told
+    by (kind.Serialize text) noted told = absurd told
+    by (kind.Deserialize pos e) noted told = absurd told
+    by kind.OutOfMemory noted told = memory h told
+
+-- a reader that was noted to fail is not the count that is full
+pub noted_of_reader : (has_failed : Bool) (noted : Option Input) → noted ≡ (if has_failed then Some (record { is_full = false }) else None)
+    → IfSome noted (λ cause. cause.is_full ≡ false)
+noted_of_reader true noted is = subst (λ (o : Option Input). IfSome o (λ cause. cause.is_full ≡ false)) (sym is) refl
+noted_of_reader false noted is = subst (λ (o : Option Input). IfSome o (λ cause. cause.is_full ≡ false)) (sym is) tt
 
 module _ {S R : Type 0} (g : Ghosts S) (old mid new : Seat S) (a b c : Option (List ℕ)) (rem : R → Option (List ℕ)) (records : Reader R) (n r : ℕ) (f : Fields)
     (input : List ℕ)
@@ -118,17 +132,18 @@ module _ {S R : Type 0} (g : Ghosts S) (old mid new : Seat S) (a b c : Option (L
       (subst (λ s. IsWithin s (Some f) t) w.state h)
 
   -- the next record ended the batch
-  pub ends_early : (e : Halt) → Answers g mid new b c (n + 1) (answered (stand g mid) f) (IsWithin (stand g mid) (Some f)) (Err e)
+  pub ends_early : (e : Halt) → Answers g mid new b c (n + 1) (answered (stand g mid) f) (IsWithin (stand g mid) (Some f)) (Err e) → OnlyOfRequests f e
       → (IsAtRest g old → Leaves g new (IsWithin (stand g mid) (Some f))) → HaltsSo g old new a c (Err e) input
-  ends_early (halt.Fault fault outcome) h left = record {
+  ends_early (halt.Fault fault outcome) h asked left = record {
     count = n;
     few = few (records_of input) n w.next.count;
+    asked = λ other. subst IsAsked (sym w.next.here) (asked other);
     written = puts_behind a b c _ _ outcome w.written h.0;
     state = λ is_open. moved (machine g new) (h.1 is_open);
     left = λ rests. leaves_more g new (IsWithin (stand g mid) (Some f)) _ moved (left rests);
   }
-  ends_early halt.Input h left = absurd h
-  ends_early halt.Output h left =
+  ends_early (halt.Input cause) h asked left = absurd h
+  ends_early (halt.Output failed) h asked left =
       let broken = subst (BreaksOff b c) same_line h.0 in
       record {
         count = n;
@@ -154,8 +169,8 @@ ends_told g old new a b (Err y) e input is h = subst (λ z. EndsSo g old new a b
   where
     by : (e : Halt) → HaltsSo g old new a b (Err e) input → EndsSo g old new a b (Err (batch_fault e)) input
     by (halt.Fault fault outcome) h = (outcome, h)
-    by halt.Input h = h
-    by halt.Output h = h
+    by (halt.Input cause) h = h
+    by (halt.Output failed) h = h
 
 pub stops_told : {T : Type 0} (r : Result T BatchFault) (e : Halt) → IsErrAnd r (λ y. y ≡ batch_fault e) → HaltsByFault {T = T} (Err e) → IsAgencyFault r
 stops_told {T} (Ok s) e is h = absurd is
@@ -163,8 +178,8 @@ stops_told {T} (Err y) e is h = subst (λ z. IsAgencyFault {T = T} (Err z)) (sym
   where
     by : (e : Halt) → HaltsByFault {T = T} (Err e) → IsAgencyFault {T = T} (Err (batch_fault e))
     by (halt.Fault fault outcome) h = tt
-    by halt.Input h = absurd h
-    by halt.Output h = absurd h
+    by (halt.Input cause) h = absurd h
+    by (halt.Output failed) h = absurd h
 
 pub one_at_most : (is_refused : Bool) (k : ℕ) → k ≡ (if is_refused then 1 else 0) → k ≤ 1
 one_at_most true k h = omega arith

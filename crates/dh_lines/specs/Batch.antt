@@ -1,6 +1,6 @@
 -- What a batch does to the tables, and what of its lines was written.
-use Rattle.std.specs.Prelude.{◌≡◌, ◌⊎◌, ◌≤◌, ◌<◌, ℕ, ◌+◌, Bool, false, List, ◌++◌, length, take, slice_get, Option, Some, MatchResult, Result}
-use Rattle.std.specs.Prelude.{Ok, Err, ⊤}
+use Rattle.std.specs.Prelude.{◌≡◌, ◌≢◌, ◌⊎◌, ◌≤◌, ◌<◌, ℕ, ◌+◌, ◌-◌, ◌^◌, Bool, true, false, List, ◌++◌, length, take, slice_get, Option, None, Some}
+use Rattle.std.specs.Prelude.{MatchResult, Result, Ok, Err, ⊤}
 use Rattle.std.specs.Io.KnownBytes.{Appends}
 use Rattle.csv.specs.declared.error.ErrorKind.{ErrorKind}
 use Rattle.csv.specs.declared.error.ErrorKind.TheVariants as kind
@@ -23,6 +23,8 @@ use Rattle.dh_lines.specs.declared.outcome.BatchFault.{BatchFault}
 use Rattle.dh_lines.specs.declared.outcome.BatchFault.TheVariants as ended
 use Rattle.dh_lines.specs.declared.outcome.Halt.{Halt}
 use Rattle.dh_lines.specs.declared.outcome.Halt.TheVariants as halt
+use Rattle.dh_lines.specs.declared.watching.Input.{Input}
+use Rattle.dh_fields.specs.declared.request.Request.{Request}
 use Rattle.dh_fields.specs.declared.request.Request.TheVariants as request
 use Rattle.dh_fields.specs.Lines.{Fields, request_of}
 use Rattle.dh_lines.specs.Session.{Answered, answered, fault_line, line, lines_from, numbered, records_of, refused_in, state_after}
@@ -32,13 +34,13 @@ use Rattle.dh_lines.specs.Session.{Answered, answered, fault_line, line, lines_f
 -- the same, as it is told to the caller
 abbrev pub batch_fault : Halt → BatchFault
 batch_fault (halt.Fault it outcome) = ended.Agency it
-batch_fault halt.Input = ended.Input
-batch_fault halt.Output = ended.Output
+batch_fault (halt.Input cause) = ended.Input cause
+batch_fault (halt.Output failed) = ended.Output failed
 
 abbrev pub IsFaultHalt : Halt → Type 0
 IsFaultHalt (halt.Fault it outcome) = ⊤
-IsFaultHalt halt.Input = ⊥
-IsFaultHalt halt.Output = ⊥
+IsFaultHalt (halt.Input cause) = ⊥
+IsFaultHalt (halt.Output failed) = ⊥
 
 abbrev pub HaltsByFault : {T : Type 0} → Result T Halt → Type 0
 HaltsByFault (Ok value) = ⊥
@@ -47,31 +49,34 @@ HaltsByFault (Err it) = IsFaultHalt it
 abbrev pub IsAgencyFault : {T : Type 0} → Result T BatchFault → Type 0
 IsAgencyFault (Ok value) = ⊥
 IsAgencyFault (Err (ended.Agency it)) = ⊤
-IsAgencyFault (Err ended.Input) = ⊥
-IsAgencyFault (Err ended.Output) = ⊥
+IsAgencyFault (Err (ended.Input cause)) = ⊥
+IsAgencyFault (Err (ended.Output failed)) = ⊥
 
 -- a fault that ends the batch of an agency that had not stopped before
 abbrev pub IsFirst : BatchFault → Type 0
 IsFirst (ended.Agency it) = IsFirstFault it
-IsFirst ended.Input = ⊤
-IsFirst ended.Output = ⊤
+IsFirst (ended.Input cause) = ⊤
+IsFirst (ended.Output failed) = ⊤
 
 -- fault 22, which only the agency answers: the batch itself can want memory alone
 abbrev pub IsStoreFault : BatchFault → Type 0
 IsStoreFault (ended.Agency it) = it ≡ faults.Store
-IsStoreFault ended.Input = ⊥
-IsStoreFault ended.Output = ⊥
+IsStoreFault (ended.Input cause) = ⊥
+IsStoreFault (ended.Output failed) = ⊥
 
 -- this fault, whose line was written as the outcome of that says: the whole, or some of it
 abbrev pub TellsFault : Option (List ℕ) → Option (List ℕ) → ℕ → Fault → Halt → Type 0
 TellsFault a b n it (halt.Fault found outcome) = (found ≡ it) × Puts a b outcome (fault_line n it)
-TellsFault a b n it halt.Input = ⊥
-TellsFault a b n it halt.Output = ⊥
+TellsFault a b n it (halt.Input cause) = ⊥
+TellsFault a b n it (halt.Output failed) = ⊥
 
--- a failing reader is told as that, and nothing is written; else memory ran out, which is the agency's fault of that
-abbrev pub TellsReading : {W : Type 0} → (W → Option (List ℕ)) → W → W → ℕ → ErrorKind → Halt → Type 0
-TellsReading held old new n (kind.Io error) it = (it ≡ halt.Input) × (new ≡ old)
-TellsReading held old new n _ it = TellsFault (held old) (held new) n faults.Memory it
+-- A reader that was noted to fail is told as that, and nothing is written. Want of memory is the agency's fault of that, and so is an error
+-- of a reader that never failed. There is no other error.
+abbrev pub TellsReading : {W : Type 0} → (W → Option (List ℕ)) → W → W → ℕ → ErrorKind → Option Input → Halt → Type 0
+TellsReading held old new n (kind.Io error) (Some cause) it = (it ≡ halt.Input cause) × (new ≡ old)
+TellsReading held old new n (kind.Io error) None it = TellsFault (held old) (held new) n faults.Memory it
+TellsReading held old new n kind.OutOfMemory noted it = TellsFault (held old) (held new) n faults.Memory it
+TellsReading held old new n _ noted it = ⊥
 
 -- ---- where the machine stands
 
@@ -91,7 +96,17 @@ abbrev pub IsWithin : State → Option Fields → State → Type 0
 IsWithin s next left = (stand_of left ≡ s)
     ⊎ ((fields : Fields) × (it : told.Command) × (next ≡ Some fields) × (request_of fields ≡ Ok (request.Command it)) × IsCutAt s fields it left)
 
+-- the next record asks something of the agency: it is a command or a question, and no line that is refused for a field
+abbrev pub IsAsked : Option Fields → Type 0
+IsAsked next = (fields : Fields) × (it : Request) × (next ≡ Some fields) × (request_of fields ≡ Ok it)
+
 -- ---- one record
+
+-- a fault that only the agency answers is of fields that ask something of it
+abbrev pub OnlyOfRequests : Fields → Halt → Type 0
+OnlyOfRequests fields (halt.Fault fault outcome) = fault ≢ faults.Memory → IsAsked (Some fields)
+OnlyOfRequests fields (halt.Input cause) = ⊤
+OnlyOfRequests fields (halt.Output failed) = ⊤
 
 -- Record n was answered so, as far as the result says. At a fault that was told, this holds of the tables that can be read;
 -- where the writer failed in the answer, what was asked for was done.
@@ -99,8 +114,8 @@ abbrev pub Answers : {S : Type 0} → Ghosts S → Seat S → Seat S → Option 
     → Type 0
 Answers g old new a b n it P (Ok is_refused) = Appends a b (numbered n it.text) × (stand g new ≡ it.state) × (is_refused ≡ it.is_refused)
 Answers g old new a b n it P (Err (halt.Fault fault outcome)) = Puts a b outcome (fault_line n fault) × (IsOpen g new → P (machine g new))
-Answers g old new a b n it P (Err halt.Input) = ⊥
-Answers g old new a b n it P (Err halt.Output) = BreaksOff a b (numbered n it.text) × (stand g new ≡ it.state)
+Answers g old new a b n it P (Err (halt.Input cause)) = ⊥
+Answers g old new a b n it P (Err (halt.Output failed)) = BreaksOff a b (numbered n it.text) × (stand g new ≡ it.state)
 
 -- ---- all records
 
@@ -136,19 +151,22 @@ module _ {S : Type 0} (g : Ghosts S) (old new : Seat S) where
       pub refused : summary.refused ≡ refused_in (stand g old) (records_of input)
 
     -- The first records were answered, and the fault's line was written behind their lines as the outcome says. The tables that can
-    -- be read, and those that a crash leaves, are those behind these records, or the next one was cut.
+    -- be read, and those that a crash leaves, are those behind these records, or the next one was cut. But for want of memory the next one
+    -- asks something of the agency.
     pub record Faulted (fault : Fault) (outcome : Result (Unit {0}) writing.Output) (input : List ℕ) : Type 0 where
       pub count : ℕ
       pub few : count ≤ length (records_of input)
+      pub asked : fault ≢ faults.Memory → IsAsked (slice_get (records_of input) count)
       pub written : PutsBehind a b (lines_from 1 (stand g old) (take count (records_of input))) outcome (fault_line (count + 1) fault)
       pub state : IsOpen g new → IsWithin (state_after (stand g old) (take count (records_of input))) (slice_get (records_of input) count) (machine g new)
       pub left : IsAtRest g old
           → Leaves g new (IsWithin (state_after (stand g old) (take count (records_of input))) (slice_get (records_of input) count))
 
-    -- the first records were answered
-    pub record AnsweredFirst (input : List ℕ) : Type 0 where
+    -- The first records were answered. If no reader failed, they are as many as can be counted.
+    pub record AnsweredFirst (cause : Input) (input : List ℕ) : Type 0 where
       pub count : ℕ
       pub few : count ≤ length (records_of input)
+      pub full : cause.is_full ≡ true → count ≡ 2 ^ 64 - 1
       pub written : Appends a b (lines_from 1 (stand g old) (take count (records_of input)))
       pub state : stand g new ≡ state_after (stand g old) (take count (records_of input))
 
@@ -167,12 +185,12 @@ module _ {S : Type 0} (g : Ghosts S) (old new : Seat S) where
     abbrev pub HaltsSo : Result Summary Halt → List ℕ → Type 0
     HaltsSo (Ok summary) input = AnsweredAll summary input
     HaltsSo (Err (halt.Fault fault outcome)) input = Faulted fault outcome input
-    HaltsSo (Err halt.Input) input = AnsweredFirst input
-    HaltsSo (Err halt.Output) input = BrokeOff input
+    HaltsSo (Err (halt.Input cause)) input = AnsweredFirst cause input
+    HaltsSo (Err (halt.Output failed)) input = BrokeOff input
 
     -- what the result of a batch says, which does not tell whether the fault's line was written whole
     abbrev pub EndsSo : Result Summary BatchFault → List ℕ → Type 0
     EndsSo (Ok summary) input = AnsweredAll summary input
     EndsSo (Err (ended.Agency fault)) input = (outcome : Result (Unit {0}) writing.Output) × Faulted fault outcome input
-    EndsSo (Err ended.Input) input = AnsweredFirst input
-    EndsSo (Err ended.Output) input = BrokeOff input
+    EndsSo (Err (ended.Input cause)) input = AnsweredFirst cause input
+    EndsSo (Err (ended.Output failed)) input = BrokeOff input

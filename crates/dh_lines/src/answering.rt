@@ -1,7 +1,7 @@
 //! Answering one record: the command is carried out or the question is asked, and then its line is written.
 
 ghost use Rattle.std.specs.Prelude.{◌≡◌, ◌⊎◌, Some, true, false, IfErr};
-ghost use Rattle.csv.specs.Reading.{error_kind};
+ghost use Rattle.csv.specs.Reading.{error_kind, stops_reader};
 ghost use Rattle.csv.specs.Records.{fields_of};
 ghost use Rattle.dh_model.specs.Answers.{report};
 ghost use Rattle.dh_model.specs.Machine.{step};
@@ -9,10 +9,11 @@ ghost use Rattle.dh_model.specs.Runs.{batch_size};
 ghost use Rattle.dh_agency.specs.Agency.{IsClean, Leaves, LeavesItsTables, WasClean, machine, stand};
 ghost use Rattle.dh_agency.specs.Told.{IsCut};
 ghost use Rattle.dh_lines.specs.Session.{answered, replied, reported};
-ghost use Rattle.dh_lines.specs.Batch.{Answers, HaltsByFault, IsFirst, IsStoreFault, IsWithin, TellsFault, TellsReading, batch_fault};
+ghost use Rattle.dh_lines.specs.Batch.{Answers, HaltsByFault, IsFirst, IsStoreFault, IsWithin, OnlyOfRequests, TellsFault, TellsReading, batch_fault};
 
 use crate::outcome::Halt;
 use crate::replies::{put_answer_line, put_fault_line, put_refused_line, put_reply_line};
+use crate::watching::Input;
 use csv::{ByteRecord, Error};
 use dh_agency::Agency;
 use dh_fields::{Request, read_line};
@@ -30,14 +31,21 @@ fn end_by_fault<W: Write>(writer: &mut W, number: u64, fault: Fault) -> Halt
     Halt::Fault(fault, outcome)
 }
 
-/// What this error of the reading of a record is: the reader failed, or memory ran out, which is told as a fault of the agency.
-pub fn end_by_reading<W: Write>(writer: &mut W, number: u64, error: &Error) -> Halt
-    ensures { TellsReading W.contents writer.old writer.new number (error_kind error.now) result }
+/// What this error of the reading of a record is, where the reader failed so or did not: a failing reader is told as that. Else memory
+/// ran out, or `csv` had an error of a reader that never failed, and both are told as a fault of the agency.
+pub fn end_by_reading<W: Write>(
+    writer: &mut W,
+    number: u64,
+    error: &Error,
+    failure: Option<Input>,
+) -> Halt
+    requires { stops_reader (error_kind error.now) ≡ true }
+    ensures { TellsReading W.contents writer.old writer.new number (error_kind error.now) failure result }
 {
-    if error.is_io_error() {
-        return Halt::Input;
+    match failure {
+        Some(input) if error.is_io_error() => Halt::Input(input),
+        _ => end_by_fault(writer, number, Fault::Memory),
     }
-    end_by_fault(writer, number, Fault::Memory)
 }
 
 fn answer_command<S: Alter, W: Write>(
@@ -111,6 +119,7 @@ pub fn answer<S: Alter, W: Write>(
     ensures answers { IsClean S.Store agency.new
         → Answers S.Store agency.old agency.new (W.contents writer.old) (W.contents writer.new) number
         (answered (stand S.Store agency.old) (fields_of row.now)) (IsWithin (stand S.Store agency.old) (Some (fields_of row.now))) result }
+    ensures asked { IfErr result (λ it. OnlyOfRequests (fields_of row.now) it) }
     ensures crash { IsClean S.Store agency.new → agency.old.is_stopped ≡ false → LeavesItsTables S.Store agency.old
         → Leaves S.Store agency.new (IsWithin (stand S.Store agency.old) (Some (fields_of row.now))) }
     ensures left { IsClean S.Store agency.new → LeavesItsTables S.Store agency.old → agency.new.is_stopped ≡ false → LeavesItsTables S.Store agency.new }

@@ -6,7 +6,9 @@ pub mod ends;
 mod outcome;
 mod replies;
 mod running;
+mod watching;
 
 pub use outcome::{BatchFault, Summary};
 pub use replies::{put_answer_line, put_fault_line, put_refused_line, put_reply_line};
 pub use running::batch;
+pub use watching::Input;

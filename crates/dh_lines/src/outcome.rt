@@ -1,5 +1,6 @@
 //! How a batch ends.
 
+use crate::watching::Input;
 use dh_types::{Fault, Output};
 
 /// How many records were answered, and how many of them by a refusal.
@@ -12,12 +13,12 @@ pub struct Summary {
 /// Why a batch ended early.
 #[derive(Clone, Copy, Debug, PartialEq, Eq)]
 pub enum BatchFault {
-    /// The agency answered this fault, or memory for reading ran out.
+    /// The agency answered this fault, or reading wanted memory or met an error that is none of the reader's.
     Agency(Fault),
-    /// The reader failed.
-    Input,
+    /// The reader failed, or 2^64 - 1 records were answered.
+    Input(Input),
     /// The writer failed.
-    Output,
+    Output(Output),
 }
 
 /// The same, and what came of writing the fault's line.
@@ -25,20 +26,20 @@ pub enum BatchFault {
 pub enum Halt {
     /// The fault, and whether its line was written whole.
     Fault(Fault, Result<(), Output>),
-    /// The reader failed.
-    Input,
+    /// The reader failed, or 2^64 - 1 records were answered.
+    Input(Input),
     /// The writer failed in an answer's line.
-    Output,
+    Output(Output),
 }
 
 impl From<Output> for Halt {
     ghost use Rattle.std.specs.Prelude.{◌≡◌};
     ghost use Rattle.dh_lines.specs.declared.outcome.Halt.TheVariants as halt;
 
-    ghost from_gives = { λ _ e. e ≡ halt.Output };
+    ghost from_gives = { λ output e. e ≡ halt.Output output };
 
-    fn from(_: Output) -> Halt {
-        Halt::Output
+    fn from(output: Output) -> Halt {
+        Halt::Output(output)
     }
 }
 
@@ -51,8 +52,8 @@ impl From<Halt> for BatchFault {
     fn from(it: Halt) -> BatchFault {
         match it {
             Halt::Fault(fault, _) => BatchFault::Agency(fault),
-            Halt::Input => BatchFault::Input,
-            Halt::Output => BatchFault::Output,
+            Halt::Input(input) => BatchFault::Input(input),
+            Halt::Output(output) => BatchFault::Output(output),
         }
     }
 }

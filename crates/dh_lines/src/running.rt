@@ -6,6 +6,7 @@ ghost use Rattle.dh_lines.specs.Batch.{EndsSo, HaltsByFault, HaltsSo, IsAgencyFa
 
 use crate::answering::{answer, end_by_reading};
 use crate::outcome::{BatchFault, Halt, Summary};
+use crate::watching::{Input, Watching};
 use csv::{ByteRecord, ReaderBuilder};
 use dh_agency::Agency;
 use sqlite::Alter;
@@ -40,7 +41,7 @@ fn answer_records<S: Alter, R: Read, W: Write>(
     let mut records = ReaderBuilder::new()
         .has_headers(false)
         .flexible(true)
-        .from_reader(alloc, reader);
+        .from_reader(alloc, Watching::new(reader));
     let mut row = ByteRecord::new(alloc);
     let mut refused = 0;
     for n in 0..u64::MAX {
@@ -50,19 +51,22 @@ fn answer_records<S: Alter, R: Read, W: Write>(
                 records: n,
                 refused,
             }),
-            Err(error) => return Err(end_by_reading(writer, n + 1, &error)),
+            Err(error) => {
+                let failure = records.get_ref().failure();
+                return Err(end_by_reading(writer, n + 1, &error, failure));
+            }
         }
         let is_refused = answer(alloc, agency, n + 1, &row, writer)?;
         refused += count_of(is_refused);
     }
-    Err(Halt::Input)
+    Err(Halt::Input(Input::full()))
 }
 
 /// Answers each record of the input by its line, which is written before the next record is read, and gives the counts
 /// of records and refusals.
 ///
-/// At an `Agency` fault the agency answered it or memory for reading ran out; the fault's line was written, as far as the
-/// writer took it. At `Input` the reader failed, or 2^64 - 1 records were answered; what was written are whole lines. At
+/// At an `Agency` fault the agency answered it, or memory for reading ran out, or `csv` could not read on though the reader never failed;
+/// the fault's line was written, as far as the writer took it. At `Input` the reader failed, or 2^64 - 1 records were answered; what was written are whole lines. At
 /// `Output` the writer failed in a line, whose command was carried out.
 pub fn batch<S: Alter, R: Read, W: Write>(
     alloc: Global,

@@ -8,6 +8,7 @@ use Rattle.std.proofs.KnownBytes.{Appends-nil, Appends-trans}
 use Rattle.std.proofs.lemmas.List.Elements.{All-push}
 use Rattle.sqlite.specs.Store.{Ghosts}
 use Rattle.dh_types.specs.Output.{BreaksOff}
+use Rattle.dh_types.specs.declared.output.Output.{Output}
 use Rattle.dh_agency.specs.Seat.{Seat}
 use Rattle.dh_service.specs.declared.listening.Unserved.{Unserved}
 use Rattle.dh_service.specs.declared.listening.Unserved.TheVariants as unserved
@@ -56,9 +57,9 @@ halt_told old new (Some status) (inl goes) live stopped = absurd (false≢true (
 halt_told old new (Some status) (inr halts) live stopped = halts.0
 
 -- the writer that failed is told as such
-pub is_output : (r : Result (Unit {0}) Unserved) → IsErrAnd r (λ e. e ≡ unserved.Output) → r ≡ Err unserved.Output
-is_output (Ok done) h = absurd h
-is_output (Err why) h = ap Err h
+pub is_output : (failed : Output) (r : Result (Unit {0}) Unserved) → IsErrAnd r (λ e. e ≡ unserved.Output failed) → r ≡ Err (unserved.Output failed)
+is_output failed (Ok done) h = absurd h
+is_output failed (Err why) h = ap Err h
 
 module _ {S : Type 0} (g : Ghosts S) (old mid new : Seat S) (a m b : Option (List ℕ)) (count : ℕ) (outcome : Option ℕ) (was : HasServed g old mid a m count)
     (on : ServesOn g mid new (outcome ∷ [])) where
@@ -91,10 +92,10 @@ module _ {S : Type 0} (g : Ghosts S) (old mid new : Seat S) (a m b : Option (Lis
       (was.outcomes ++ outcome ∷ [], all_on, (record { last = outcome; halts = halts; ends = ends most within }, all_written h))
 
   -- the writer failed in the last line
-  pub served_to_break : (most : ℕ) → count < most → BreaksOff m b (outcome_line outcome)
-      → (outcomes : List (Option ℕ)) × ServesOn g old new outcomes × PrintsBehind most [] outcomes a b (Err unserved.Output)
+  pub served_to_break : (failed : Output) (most : ℕ) → count < most → BreaksOff m b (outcome_line outcome)
+      → (outcomes : List (Option ℕ)) × ServesOn g old new outcomes × PrintsBehind most [] outcomes a b (Err (unserved.Output failed))
   unfolding ends
-  served_to_break most within h = (
+  served_to_break failed most within h = (
     was.outcomes ++ outcome ∷ [],
     all_on,
     record {
@@ -111,7 +112,7 @@ pub prints_behind : (count : ℕ) (text : List ℕ) (outcomes : List (Option ℕ
     → Appends a m text → PrintsBehind count [] outcomes m b r → PrintsBehind count text outcomes a b r
 prints_behind count text outcomes a m b (Ok done) first h = (h.0, Appends-trans a m b text (outcome_lines outcomes) first h.1)
 prints_behind count text outcomes a m b (Err unserved.Stopped) first h = (h.0, Appends-trans a m b text (outcome_lines outcomes) first h.1)
-prints_behind count text outcomes a m b (Err unserved.Output) first h = record {
+prints_behind count text outcomes a m b (Err (unserved.Output failed)) first h = record {
   last = h.last;
   ends = h.ends;
   cut = h.cut;

@@ -4,6 +4,7 @@ use Rattle.std.specs.Prelude.{Err}
 use Rattle.std.specs.Io.KnownBytes.{Appends}
 use Rattle.http.specs.StatusCode.{code_digits}
 use Rattle.dh_types.specs.Output.{BreaksOff}
+use Rattle.dh_types.specs.declared.output.Output.{Output}
 use Rattle.dh_reports.specs.Columns.{newline}
 use Rattle.dh_service.specs.Service.{IsHalt}
 use Rattle.dh_service.specs.declared.listening.Service.{Service}
@@ -62,13 +63,13 @@ pub record EndsHalted (count : ℕ) (outcomes : List (Option ℕ)) : Type 0 wher
 abbrev pub PrintsBehind : ℕ → List ℕ → List (Option ℕ) → Option (List ℕ) → Option (List ℕ) → Result (Unit {0}) Unserved → Type 0
 PrintsBehind count text outcomes a b (Ok done) = AreAll count outcomes × Appends a b (text ++ outcome_lines outcomes)
 PrintsBehind count text outcomes a b (Err unserved.Stopped) = EndsHalted count outcomes × Appends a b (text ++ outcome_lines outcomes)
-PrintsBehind count text outcomes a b (Err unserved.Output) = BreaksAt count text outcomes a b
+PrintsBehind count text outcomes a b (Err (unserved.Output failed)) = BreaksAt count text outcomes a b
 PrintsBehind count text outcomes a b (Err unserved.NoListener) = ⊥
 
 -- The same behind the port; or the writer failed in that, or there is no listener, and no connection was served.
 pub data PrintsServed (service : Service) (outcomes : List (Option ℕ)) (a b : Option (List ℕ)) (result : Result (Unit {0}) Unserved) : Type 0 where
   Listened : (text : List ℕ) → IsPortText service.port text → PrintsBehind service.count text outcomes a b result
       → PrintsServed service outcomes a b result
-  Untold : (text : List ℕ) → IsPortText service.port text → BreaksOff a b text → outcomes ≡ [] → result ≡ Err unserved.Output
+  Untold : (text : List ℕ) → IsPortText service.port text → BreaksOff a b text → outcomes ≡ [] → (failed : Output) → result ≡ Err (unserved.Output failed)
       → PrintsServed service outcomes a b result
   Unlistened : b ≡ a → outcomes ≡ [] → result ≡ Err unserved.NoListener → PrintsServed service outcomes a b result

@@ -30,16 +30,16 @@ pub enum Unserved {
     /// There is no listener at that port.
     NoListener,
     /// The writer failed.
-    Output,
+    Output(Output),
     /// The agency has stopped, behind an answer 503 or one that was lost.
     Stopped,
 }
 
 impl From<Output> for Unserved {
-    ghost from_gives = { λ _ e. e ≡ unserved.Output };
+    ghost from_gives = { λ output e. e ≡ unserved.Output output };
 
-    fn from(_: Output) -> Unserved {
-        Unserved::Output
+    fn from(output: Output) -> Unserved {
+        Unserved::Output(output)
     }
 }
 

@@ -7,7 +7,7 @@ use Rattle.dh_fields.specs.declared.request.Request.TheVariants as request
 use Rattle.dh_fields.specs.Lines.{request_of}
 use Rattle.dh_lines.specs.Session.{answered, answered_request}
 use Rattle.dh_lines.specs.Batch.{IsWithin}
-use Rattle.dh_lines.proofs.OneRecord.{answers_fault, fault_first}
+use Rattle.dh_lines.proofs.OneRecord.{answers_fault, fault_first, memory_of_any, of_output, of_request}
 use Rattle.dh_lines.proofs.CrashLemmas.{answers_so, cut_within, same_within}
 use Rattle.dh_lines.proofs.answering.answer.Goals as goal
 
@@ -76,3 +76,20 @@ returns-in-Err-clause-answers g c clean =
 
 pub returns-in-Err-clause-cause : goal.returns-in-Err-clause-cause
 returns-in-Err-clause-cause g c live = fault_first _ _ _ _ c.end_by_fault.result c.end_by_fault.ensures tt
+
+pub returns-in-Ok-Ok-Command-clause-asked : goal.returns-in-Ok-Ok-Command-clause-asked
+returns-in-Ok-Ok-Command-clause-asked g c =
+    let asked : request_of (fields_of c.args.row.now) ≡ Ok (request.Command c.in-Ok-Ok-Command.command) = search rules in
+    of_request (fields_of c.args.row.now) _ c.answer_command-answered.result asked
+
+pub returns-in-Ok-Ok-Question-clause-asked : goal.returns-in-Ok-Ok-Question-clause-asked
+returns-in-Ok-Ok-Question-clause-asked g c =
+    let asked : request_of (fields_of c.args.row.now) ≡ Ok (request.Question c.in-Ok-Ok-Question.question) = search rules in
+    of_request (fields_of c.args.row.now) _ c.answer_question.result asked
+
+pub returns-in_err-put_refused_line-in-Ok-Err-clause-asked : goal.returns-in_err-put_refused_line-in-Ok-Err-clause-asked
+returns-in_err-put_refused_line-in-Ok-Err-clause-asked g c =
+    of_output (fields_of c.args.row.now) _ c.from_residual.result c.from_residual.ensures.1
+
+pub returns-in-Err-clause-asked : goal.returns-in-Err-clause-asked
+returns-in-Err-clause-asked g c = memory_of_any (fields_of c.args.row.now) _ _ _ c.end_by_fault.result c.end_by_fault.ensures

@@ -25,7 +25,7 @@ returns-in_err-put_reply_line-in-Ok-clause-answers g c clean =
     let told = c.args.command.now in
     replied_part g.S.Store old new _ _ c.args.number (IsCut told (machine g.S.Store old)) (step batch_size (stand g.S.Store old) told) c.in-Ok.reply
     (c.in-Ok.ensures.said clean)
-    c.from_residual.result c.from_residual.ensures.1 c.in_err-put_reply_line-in-Ok.ensures
+    c.in_err-put_reply_line-in-Ok.field-0.0 c.from_residual.result c.from_residual.ensures.1 c.in_err-put_reply_line-in-Ok.ensures
 
 pub returns-in-Err-clause-answers : goal.returns-in-Err-clause-answers
 returns-in-Err-clause-answers g c clean =

@@ -23,8 +23,8 @@ returns-in_err-put_answer_line-in-Ok-clause-answers g c clean =
     let new = c.show.new.self in
     let said = c.in-Ok.ensures in
     reported_part g.S.Store old new _ _ c.args.number (λ now. now ≡ machine g.S.Store old) c.args.question (report_of c.in-Ok.answer) (said.same clean)
-    (said.left clean) (said.said clean) (c.answers_pass_the_run.ensures batch_size) c.open_runs_refuse_put_off.ensures c.from_residual.result
-    c.from_residual.ensures.1 c.in_err-put_answer_line-in-Ok.ensures
+    (said.left clean) (said.said clean) (c.answers_pass_the_run.ensures batch_size) c.open_runs_refuse_put_off.ensures
+    c.in_err-put_answer_line-in-Ok.field-0.0 c.from_residual.result c.from_residual.ensures.1 c.in_err-put_answer_line-in-Ok.ensures
 
 pub returns-in-Err-clause-answers : goal.returns-in-Err-clause-answers
 returns-in-Err-clause-answers g c clean =

@@ -1,12 +1,13 @@
-use Rattle.std.proofs.Common.{◌≡◌, ◌∙◌, ◌+◌, ◌≤◌, MutBor, Option, List, ℕ, inl, inr, false, sym, ap, refl, arith}
+use Rattle.std.proofs.Common.{◌≡◌, ◌∙◌, ◌+◌, ◌≤◌, Option, List, ℕ, inl, inr, false, sym, ap, refl, arith}
 use Rattle.std.specs.Prelude.{if◌then◌else◌}
 use Rattle.std.proofs.lemmas.Option.{IfSome_then}
 use Rattle.csv.specs.Reading.{error_kind}
 use Rattle.csv.specs.Records.{fields_of}
 use Rattle.dh_agency.specs.Agency.{IsClean}
+use Rattle.dh_lines.specs.declared.watching.Watching.{Watching}
 use Rattle.dh_lines.proofs.CrashLemmas.{answered_next, leaves_between, leaves_within}
 use Rattle.dh_lines.proofs.Following.{goes_on, ends, found}
-use Rattle.dh_lines.proofs.RunningLemmas.{all_answered, first_answered, first_unread, ends_early, ends_handed, ends_unread, one_at_most, still_on}
+use Rattle.dh_lines.proofs.RunningLemmas.{all_answered, first_answered, first_unread, ends_early, ends_handed, ends_unread, noted_of_reader, one_at_most, still_on}
 use Rattle.dh_lines.proofs.running.answer_records.Goals as goal
 
 pub loop-n-preserved : goal.loop-n-preserved
@@ -15,7 +16,7 @@ loop-n-preserved g c =
     let did = c.in_ok-is_refused.ensures in
     let read = rw c.in-Ok-true.field-0-test at (c.in-Ok-true.ensures.reads inv.plain inv.ready) in
     let on = c.in-Ok-true.ensures.reads_on c.in-Ok-true.field-0-test in
-    let rem : MutBor g.row.R.Denot → Option (List ℕ) = λ r. g.R.Read.remaining r.now in
+    let rem : Watching g.row.R.Denot → Option (List ℕ) = λ w. g.R.Read.remaining w.inner.now in
     let known : Option (List ℕ) = g.R.Read.remaining c.args.reader.now in
     let f = fields_of c.read_byte_record.new.row in
     let small : c.count_of-refused.result ≤ 1 = one_at_most c.in_ok-is_refused.is_refused c.count_of-refused.result c.count_of-refused.ensures in
@@ -25,6 +26,7 @@ loop-n-preserved g c =
       plain = on.1 ∙ inv.plain;
       ready = (on.4 inv.ready).0;
       config = on.0 ∙ inv.config;
+      flexible = on.2 ∙ inv.flexible;
       few = omega (arith, inv.few, small);
       was_clean = omega (arith, inv.was_clean, did.was_clean);
       unmoved = λ dead. did.stopped (inv.stopped ∙ dead) ∙ inv.unmoved dead;
@@ -42,7 +44,7 @@ pub returns-in-Ok-false-clause-ends : goal.returns-in-Ok-false-clause-ends
 returns-in-Ok-false-clause-ends g c clean =
     let inv = c.loop-n.invariant in
     let read = rw c.in-Ok-false.field-0-test at (c.in-Ok-false.ensures.reads inv.plain inv.ready) in
-    let rem : MutBor g.row.R.Denot → Option (List ℕ) = λ r. g.R.Read.remaining r.now in
+    let rem : Watching g.row.R.Denot → Option (List ℕ) = λ w. g.R.Read.remaining w.inner.now in
     let known : Option (List ℕ) = g.R.Read.remaining c.args.reader.now in
     let all = ends rem known c.loop-n.records c.read_byte_record.new.self _ _ _ _ c.loop-n.n c.loop-n.refused
     (fields_of c.read_byte_record.new.row) inv.config read (inv.follows clean) in
@@ -58,7 +60,7 @@ returns-in-Err-clause-ends g c clean =
     let inv = c.loop-n.invariant in
     IfSome_then (g.R.Read.remaining c.args.reader.now) (inv.follows clean)
     (λ input w. ends_unread g.S.Store c.args.agency.now c.loop-n.agency _ _ _ _ _ _ input w g.W.Write.contents _ _ (error_kind c.in-Err.error)
-    c.end_by_reading.result refl c.end_by_reading.ensures (λ rests. inv.left clean rests.1 (inv.stopped ∙ rests.0)))
+    c.failure-failure.result c.end_by_reading.result refl (noted_of_reader _ _ c.failure-failure.ensures) c.end_by_reading.ensures (λ rests. inv.left clean rests.1 (inv.stopped ∙ rests.0)))
 
 pub returns-in-Err-clause-crash : goal.returns-in-Err-clause-crash
 returns-in-Err-clause-crash g c clean live h =
@@ -66,12 +68,13 @@ returns-in-Err-clause-crash g c clean live h =
     leaves_between g.S.Store c.args.agency.now c.loop-n.agency (inv.answered clean) (inv.left clean h (inv.stopped ∙ live))
 
 pub returns-in-Err-clause-cause : goal.returns-in-Err-clause-cause
-returns-in-Err-clause-cause g c live = first_unread g.W.Write.contents _ _ _ (error_kind c.in-Err.error) c.end_by_reading.result c.end_by_reading.ensures
+returns-in-Err-clause-cause g c live = first_unread g.W.Write.contents _ _ _ (error_kind c.in-Err.error) c.failure-failure.result c.end_by_reading.result
+    c.end_by_reading.ensures
 
 pub returns-clause-ends : goal.returns-clause-ends
 returns-clause-ends g c clean =
     IfSome_then (g.R.Read.remaining c.args.reader.now) (c.loop-n.invariant.follows clean)
-    (λ input w. first_answered g.S.Store c.args.agency.now c.loop-n.agency _ _ _ _ _ _ input w)
+    (λ input w. first_answered g.S.Store c.args.agency.now c.loop-n.agency _ _ _ _ _ _ input w c.full.result (λ full. omega (arith, c.loop-n-test.false)))
 
 pub returns-clause-crash : goal.returns-clause-crash
 returns-clause-crash g c clean live h =
@@ -83,7 +86,7 @@ returns-in_err-is_refused-clause-ends g c clean =
     let inv = c.loop-n.invariant in
     let did = c.in_err-is_refused.ensures in
     let read = rw c.in-Ok-true.field-0-test at (c.in-Ok-true.ensures.reads inv.plain inv.ready) in
-    let rem : MutBor g.row.R.Denot → Option (List ℕ) = λ r. g.R.Read.remaining r.now in
+    let rem : Watching g.row.R.Denot → Option (List ℕ) = λ w. g.R.Read.remaining w.inner.now in
     let known : Option (List ℕ) = g.R.Read.remaining c.args.reader.now in
     let f = fields_of c.read_byte_record.new.row in
     let was : IsClean g.S.Store c.loop-n.agency = omega (arith, did.was_clean, clean) in
@@ -91,7 +94,7 @@ returns-in_err-is_refused-clause-ends g c clean =
     IfSome_then known next (λ input w.
     ends_handed g.S.Store c.args.agency.now c.answer.new.agency _ _ c.from_residual.result _ input c.from_residual.ensures.1
     (ends_early g.S.Store c.args.agency.now c.loop-n.agency c.answer.new.agency _ _ _ rem c.read_byte_record.new.self c.loop-n.n c.loop-n.refused f input w
-    c.in_err-is_refused.field-0.0 (did.answers clean)
+    c.in_err-is_refused.field-0.0 (did.answers clean) did.asked
     (λ rests. did.crash clean (inv.stopped ∙ rests.0) (inv.left was rests.1 (inv.stopped ∙ rests.0)))))
 
 pub returns-in_err-is_refused-clause-crash : goal.returns-in_err-is_refused-clause-crash
