@@ -1,7 +1,7 @@
 //! `letting`: the daily system of a property letting agency. Its words are carried out by `run_words`.
 #![tactic(auto)]
 
-use dh_office::{refuse_words, run_words};
+use dh_office::{Unknown, refuse_words, run_words};
 use std::process::ExitCode;
 use std::{env, io};
 
@@ -18,7 +18,7 @@ fn words_of(rt: &HostRuntime) -> io::Result<Vec<String>> {
 fn main(rt: HostRuntime) -> ExitCode {
     let mut writer = io::writer(&rt);
     let code = match words_of(&rt) {
-        Ok(words) => run_words(&rt, &words, &mut rt.reader(), &mut writer),
+        Ok(words) => run_words(&rt, Unknown, &words, &mut rt.reader(), &mut writer),
         Err(error) => refuse_words(&error, &mut writer),
     };
     ExitCode::from(code)

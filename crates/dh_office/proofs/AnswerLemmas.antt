@@ -36,8 +36,8 @@ pub stops : {S : Type 0} (g : Ghosts S) (old new : Seat S) (a b : Option (List â
 stops g old new a b (ended.Agency fault) input (outcome, h) =
     let told = behind a b (lines_from 1 (stand g old) (take h.count (records_of input))) (session.fault_line (h.count + 1) fault) outcome h.written in
     AtFault h.count fault told.0 h.few told.1 h.state
-stops g old new a b ended.Input input h = AtReading h.count h.few h.written h.state
-stops g old new a b ended.Output input h = AtWriting h.count h.fields h.cut h.here h.part h.written h.state
+stops g old new a b (ended.Input cause) input h = AtReading h.count h.few h.written h.state
+stops g old new a b (ended.Output failed) input h = AtWriting h.count h.fields h.cut h.here h.part h.written h.state
 
 -- ---- a question
 

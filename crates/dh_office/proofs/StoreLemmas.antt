@@ -84,10 +84,10 @@ serving_prints service outcomes a m b (Err unserved.NoListener) status h told = 
   where
     by : PrintsServed service outcomes a m (Err unserved.NoListener) → PrintsEnd service outcomes a b (Err unserved.NoListener) status
     by (Listened text port never) = absurd never
-    by (Untold text port broken none is) = cc
+    by (Untold text port broken none failed is) = cc
     by (Unlistened same none is) = (none, subst (λ o. PutsAs no_listener_line Failed o b status) same told)
-serving_prints service outcomes a m b (Err unserved.Output) status h (same, is) =
-    (subst (λ o. PrintsServed service outcomes a o (Err unserved.Output)) (sym same) h, is)
+serving_prints service outcomes a m b (Err (unserved.Output failed)) status h (same, is) =
+    (subst (λ o. PrintsServed service outcomes a o (Err (unserved.Output failed))) (sym same) h, is)
 serving_prints service outcomes a m b (Err unserved.Stopped) status h (same, is) =
     (subst (λ o. PrintsServed service outcomes a o (Err unserved.Stopped)) (sym same) h, is)
 
@@ -95,12 +95,12 @@ module _ (service : Service) (outcomes : List (Option ℕ)) (a m b : Option (Lis
   failed_end : (why : Unserved) → PrintsEnd service outcomes a m (Err why) before → before ≡ Failed
   failed_end unserved.NoListener (none, inl h) = h.0
   failed_end unserved.NoListener (none, inr h) = h.0
-  failed_end unserved.Output h = h.1
+  failed_end (unserved.Output failed) h = h.1
   failed_end unserved.Stopped h = h.1
 
   unclosed : (done : Unit {0}) → PrintsServed service outcomes a m (Ok done) → TellsFault m b [] → after ≡ Failed → PrintsService service outcomes a b after
   unclosed done (Listened text port h) told failed = Unclosed text port h.0 (told_behind a m b (text ++ outcome_lines outcomes) h.1 told) failed
-  unclosed done (Untold text port broken none is) told failed = cc
+  unclosed done (Untold text port broken none cause is) told failed = cc
   unclosed done (Unlistened same none is) told failed = cc
 
   service_closed : PrintsService service outcomes a m before → Closes m b before after → PrintsService service outcomes a b after

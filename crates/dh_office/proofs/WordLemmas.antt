@@ -1,7 +1,9 @@
 -- From words to how the program ends.
-use Rattle.std.proofs.Common.{◌≡◌, ◌≢◌, ◌∙◌, inl, inr, ℕ, Option, Some, None, List, [], ◌∷◌, refl, sym, ap, subst, arith}
+use Rattle.std.proofs.Common.{◌≡◌, ◌≢◌, ◌∙◌, inr, ℕ, Option, Some, None, List, [], ◌∷◌, refl, sym, ap, subst, arith}
 use Rattle.std.specs.Prelude.{codes, option_map, slice_index}
 use Rattle.std.specs.Borrow.{Bor}
+use Rattle.sqlite_disk.specs.declared.Disk as disk
+use Rattle.sqlite_wal.specs.Recovery.{Image}
 use Rattle.clap.specs.Faults.{defaults_fault, walk_fault}
 use Rattle.clap.specs.Kinds.{IsAmong}
 use Rattle.clap.specs.declared.error.kind.ErrorKind.{ErrorKind}
@@ -11,12 +13,13 @@ use Rattle.clap.specs.Words.{Row, Text, fault_of, subcommand_of}
 use Rattle.dh_types.specs.declared.reply.Fault.TheVariants as fault
 use Rattle.dh_words.specs.Table.{letting}
 use Rattle.dh_words.specs.Options.{first_bad}
-use Rattle.dh_words.specs.Jobs.{Asks}
+use Rattle.dh_words.specs.Jobs.{Asks, IsBadFor, IsJobOf}
+use Rattle.dh_words.specs.declared.kinds.BadWords.{BadWords}
 use Rattle.dh_words.specs.declared.kinds.BadWords.TheVariants as bad
 use Rattle.dh_words.specs.declared.kinds.Job.{Job}
 use Rattle.dh_words.specs.declared.kinds.Job.TheVariants.{Init, Batch, Run, Recover, Report, Serve}
 use Rattle.dh_office.specs.declared.status.Status.{Status}
-use Rattle.dh_office.specs.Desk.{AskedEnds, BatchEnds, DeskEnds}
+use Rattle.dh_office.specs.Desk.{AskedEnds, BadPrints, BatchEnds}
 use Rattle.dh_office.specs.Ends.{MemoryLinesEnd}
 use Rattle.dh_office.proofs.TextLemmas.{fault_as}
 
@@ -38,34 +41,43 @@ other_text : {A : Type 0} (a b : Text) → slice_index a 0 ≢ slice_index b 0 �
 other_text a b other is = absurd (other (ap (λ t. slice_index t 0) is))
 
 module _ (a b input : Option (List ℕ)) (it : Status) where
-  batch_job : (asked : Job) → Asks (codes "batch") [] asked → AskedEnds asked input a b it → MemoryLinesEnd a b 24300 input it
-  batch_job (Init file first) asks ends = other_text (codes "batch") (codes "init") (λ is. omega (arith, is)) asks.0
-  batch_job (Run file order batches) asks ends = other_text (codes "batch") (codes "run") (λ is. omega (arith, is)) asks.0
-  batch_job (Recover file) asks ends = other_text (codes "batch") (codes "recover") (λ is. omega (arith, is)) asks.0
-  batch_job (Report file question) asks ends = other_text (codes "batch") (codes "report") (λ is. omega (arith, is)) asks.0
-  batch_job (Serve file port count) asks ends = other_text (codes "batch") (codes "serve") (λ is. omega (arith, is)) asks.0
-  batch_job (Batch file first) asks ends = by file asks.1 ends
-    where
-      by : (file : Option (Bor Text)) → None ≡ option_map (λ text. text.now) file → BatchEnds file first input a b it → MemoryLinesEnd a b 24300 input it
-      by None none ends = subst (λ m. MemoryLinesEnd a b m input it) (asks.2) ends.1
-      by (Some path) none ends = cc
+  module _ {D : Type 0} (g : disk.Ghosts D) (held : Image) where
+    batch_job : (asked : Job) → Asks (codes "batch") [] asked → AskedEnds g held asked input a b it → MemoryLinesEnd a b 24300 input it
+    batch_job (Init file first) asks ends = other_text (codes "batch") (codes "init") (λ is. omega (arith, is)) asks.0
+    batch_job (Run file order batches) asks ends = other_text (codes "batch") (codes "run") (λ is. omega (arith, is)) asks.0
+    batch_job (Recover file) asks ends = other_text (codes "batch") (codes "recover") (λ is. omega (arith, is)) asks.0
+    batch_job (Report file question) asks ends = other_text (codes "batch") (codes "report") (λ is. omega (arith, is)) asks.0
+    batch_job (Serve file port count) asks ends = other_text (codes "batch") (codes "serve") (λ is. omega (arith, is)) asks.0
+    batch_job (Batch file first) asks ends = by file asks.1 ends
+      where
+        by : (file : Option (Bor Text)) → None ≡ option_map (λ text. text.now) file → BatchEnds g held file first input a b it
+            → MemoryLinesEnd a b 24300 input it
+        by None none ends = subst (λ m. MemoryLinesEnd a b m input it) (asks.2) ends.1
+        by (Some path) none ends = cc
 
-  batch_alone : DeskEnds (codes "batch" ∷ []) input a b it → MemoryLinesEnd a b 24300 input it
-  batch_alone (inl (asked, is, ends)) =
-      let same : Some (codes "batch", []) ≡ Some is.0 = sym batch_found ∙ is.1.1 in
-      let here : (codes "batch", []) ≡ is.0 = cc in
-      batch_job asked (subst (λ (sub : Text × List Row). Asks sub.0 sub.1 asked) (sym here) is.3) ends
-  batch_alone (inr (bad.Refused error, why, said)) = absurd (none_among (kind_of error) _ batch_taken why)
-  batch_alone (inr (bad.Value option, why, said)) =
+    batch_asked : (asked : Job) → IsJobOf (codes "batch" ∷ []) asked → AskedEnds g held asked input a b it → MemoryLinesEnd a b 24300 input it
+    batch_asked asked is ends =
+        let same : Some (codes "batch", []) ≡ Some is.0 = sym batch_found ∙ is.1.1 in
+        let here : (codes "batch", []) ≡ is.0 = cc in
+        batch_job asked (subst (λ (sub : Text × List Row). Asks sub.0 sub.1 asked) (sym here) is.3) ends
+
+    pub asked_ends : (words : List Text) → words ≡ codes "batch" ∷ [] → (asked : Job) → IsJobOf words asked → AskedEnds g held asked input a b it
+        → MemoryLinesEnd a b 24300 input it
+    asked_ends words is asked job ends = batch_asked asked (subst (λ w. IsJobOf w asked) is job) ends
+
+  batch_bad : (why : BadWords) → IsBadFor (codes "batch" ∷ []) why → BadPrints why a b it → MemoryLinesEnd a b 24300 input it
+  batch_bad (bad.Refused error) why said = absurd (none_among (kind_of error) _ batch_taken why)
+  batch_bad (bad.Value option) why said =
       let same : Some (codes "batch", []) ≡ Some why.0 = sym batch_found ∙ why.1.1 in
       let here : (codes "batch", []) ≡ why.0 = cc in
       let none : None ≡ Some option.now = subst (λ (sub : Text × List Row). first_bad sub.1 ≡ Some option.now) (sym here) why.2 in
       cc
-  batch_alone (inr (bad.Question refusal, why, said)) =
+  batch_bad (bad.Question refusal) why said =
       let same : Some (codes "batch", []) ≡ Some why.0 = sym batch_found ∙ why.1.1 in
       let here : (codes "batch", []) ≡ why.0 = cc in
       other_text (codes "batch") (codes "report") (λ is. omega (arith, is)) (ap (λ (sub : Text × List Row). sub.0) here ∙ why.3)
-  batch_alone (inr (bad.Memory, why, said)) = let told = fault_as a b fault.Memory it tt said in inr (told.0, told.1)
+  batch_bad bad.Memory why said = let told = fault_as a b fault.Memory it tt said in inr (told.0, told.1)
 
-  pub batch_ends : (words : List Text) → words ≡ codes "batch" ∷ [] → DeskEnds words input a b it → MemoryLinesEnd a b 24300 input it
-  batch_ends words is ends = batch_alone (subst (λ w. DeskEnds w input a b it) is ends)
+  pub bad_ends : (words : List Text) → words ≡ codes "batch" ∷ [] → (why : BadWords) → IsBadFor words why → BadPrints why a b it
+      → MemoryLinesEnd a b 24300 input it
+  bad_ends words is why bad said = batch_bad why (subst (λ w. IsBadFor w why) is bad) said

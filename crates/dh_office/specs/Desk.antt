@@ -1,5 +1,7 @@
 -- What comes of the words behind the program's name.
 use Rattle.std.specs.Prelude.{◌≡◌, ◌⊎◌, ℕ, List, ◌++◌, Option, Some, None, codes}
+use Rattle.sqlite_disk.specs.declared.Disk as disk
+use Rattle.sqlite_wal.specs.Recovery.{Image}
 use Rattle.clap.specs.Values.{kind_of}
 use Rattle.clap.specs.declared.error.Error.{Error}
 use Rattle.clap.specs.declared.error.kind.ErrorKind.{ErrorKind}
@@ -16,8 +18,9 @@ use Rattle.dh_office.specs.declared.taking.FileJob.TheVariants as job
 use Rattle.dh_office.specs.declared.status.Status.{Status}
 use Rattle.dh_office.specs.declared.status.Status.TheVariants as status
 use Rattle.dh_office.specs.Texts.{fault_line, refusal_line}
-use Rattle.dh_office.specs.Printed.{IsOfLines, PrintsJob, PutsAs, Tries}
+use Rattle.dh_office.specs.Printed.{IsOfLines, PutsAs, Tries}
 use Rattle.dh_office.specs.Ends.{MemoryLinesEnd}
+use Rattle.dh_office.specs.OnFile.{DoneOnFile}
 
 -- help is all that was asked for, and else the words are bad
 abbrev pub message_status : ErrorKind → Status
@@ -39,20 +42,22 @@ BadPrints (bad.Value option) a b it = Tries (value_line option.now) a b × (it �
 BadPrints (bad.Question refusal) a b it = Tries (refusal_line refusal) a b × (it ≡ status.BadWords)
 BadPrints bad.Memory a b it = PutsAs (fault_line fault.Memory) status.Failed a b it
 
--- lines are answered on a file, or in memory where none is named
-abbrev pub BatchEnds : {T : Type 0} → Option T → ℕ → Option (List ℕ) → Option (List ℕ) → Option (List ℕ) → Status → Type 0
-BatchEnds None first input a b it = IsOfLines it × MemoryLinesEnd a b first input it
-BatchEnds (Some file) first input a b it = PrintsJob (job.Work work.Lines) a b it
+-- on a disk of these ghosts, whose files held this as they were opened
+module _ {D : Type 0} (g : disk.Ghosts D) (held : Image) where
+  -- lines are answered on a file, or in memory where none is named
+  abbrev pub BatchEnds : {T : Type 0} → Option T → ℕ → Option (List ℕ) → Option (List ℕ) → Option (List ℕ) → Status → Type 0
+  BatchEnds None first input a b it = IsOfLines it × MemoryLinesEnd a b first input it
+  BatchEnds (Some file) first input a b it = DoneOnFile g held (job.Work work.Lines) input a b it
 
-abbrev pub AskedEnds : Job → Option (List ℕ) → Option (List ℕ) → Option (List ℕ) → Status → Type 0
-AskedEnds (Init file first) input a b it = PrintsJob (job.Make first) a b it
-AskedEnds (Batch file first) input a b it = BatchEnds file first input a b it
-AskedEnds (Run file order batches) input a b it = PrintsJob (job.Work (work.Run order batches)) a b it
-AskedEnds (Recover file) input a b it = PrintsJob job.Recover a b it
-AskedEnds (Report file question) input a b it = PrintsJob (job.Work (work.Report question)) a b it
-AskedEnds (Serve file port count) input a b it = PrintsJob (job.Serve (record { port = port; count = count })) a b it
+  abbrev pub AskedEnds : Job → Option (List ℕ) → Option (List ℕ) → Option (List ℕ) → Status → Type 0
+  AskedEnds (Init file first) input a b it = DoneOnFile g held (job.Make first) input a b it
+  AskedEnds (Batch file first) input a b it = BatchEnds file first input a b it
+  AskedEnds (Run file order batches) input a b it = DoneOnFile g held (job.Work (work.Run order batches)) input a b it
+  AskedEnds (Recover file) input a b it = DoneOnFile g held job.Recover input a b it
+  AskedEnds (Report file question) input a b it = DoneOnFile g held (job.Work (work.Report question)) input a b it
+  AskedEnds (Serve file port count) input a b it = DoneOnFile g held (job.Serve (record { port = port; count = count })) input a b it
 
--- The words ask for a job, and it was done; or they ask for none, and that was said.
-abbrev pub DeskEnds : List (List ℕ) → Option (List ℕ) → Option (List ℕ) → Option (List ℕ) → Status → Type 0
-DeskEnds words input a b it =
-    ((asked : Job) × IsJobOf words asked × AskedEnds asked input a b it) ⊎ ((why : BadWords) × IsBadFor words why × BadPrints why a b it)
+  -- The words ask for a job, and it was done; or they ask for none, and that was said.
+  abbrev pub DeskEnds : List (List ℕ) → Option (List ℕ) → Option (List ℕ) → Option (List ℕ) → Status → Type 0
+  DeskEnds words input a b it =
+      ((asked : Job) × IsJobOf words asked × AskedEnds asked input a b it) ⊎ ((why : BadWords) × IsBadFor words why × BadPrints why a b it)

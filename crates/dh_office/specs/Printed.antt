@@ -79,14 +79,14 @@ PrintsWork (work.Report question) a b status = Prints IsReportEnd a b status
 abbrev pub TellsServed : Result (Unit {0}) Unserved → Option (List ℕ) → Option (List ℕ) → Status → Type 0
 TellsServed (Ok done) a b status = (b ≡ a) × (status ≡ Done)
 TellsServed (Err unserved.NoListener) a b status = PutsAs no_listener_line Failed a b status
-TellsServed (Err unserved.Output) a b status = (b ≡ a) × (status ≡ Failed)
+TellsServed (Err (unserved.Output failed)) a b status = (b ≡ a) × (status ≡ Failed)
 TellsServed (Err unserved.Stopped) a b status = (b ≡ a) × (status ≡ Failed)
 
 -- the same, with the lines of the connections
 abbrev pub PrintsEnd : Service → List (Option ℕ) → Option (List ℕ) → Option (List ℕ) → Result (Unit {0}) Unserved → Status → Type 0
 PrintsEnd service outcomes a b (Ok done) status = PrintsServed service outcomes a b (Ok done) × (status ≡ Done)
 PrintsEnd service outcomes a b (Err unserved.NoListener) status = (outcomes ≡ []) × PutsAs no_listener_line Failed a b status
-PrintsEnd service outcomes a b (Err unserved.Output) status = PrintsServed service outcomes a b (Err unserved.Output) × (status ≡ Failed)
+PrintsEnd service outcomes a b (Err (unserved.Output failed)) status = PrintsServed service outcomes a b (Err (unserved.Output failed)) × (status ≡ Failed)
 PrintsEnd service outcomes a b (Err unserved.Stopped) status = PrintsServed service outcomes a b (Err unserved.Stopped) × (status ≡ Failed)
 
 -- Connections were served, and these outcomes told; or all were, and a fault was told behind them, as the store was closed.

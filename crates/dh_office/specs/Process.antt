@@ -4,6 +4,8 @@ use Rattle.std.specs.IoError.{error_kind}
 use Rattle.std.specs.declared.io.Error.{Error}
 use Rattle.std.specs.declared.io.ErrorKind.{ErrorKind}
 use Rattle.std.specs.declared.io.ErrorKind.TheVariants.{InvalidData}
+use Rattle.sqlite_disk.specs.declared.Disk as disk
+use Rattle.sqlite_wal.specs.Recovery.{Image}
 use Rattle.dh_reports.specs.Columns.{newline}
 use Rattle.dh_office.specs.declared.status.Status.{Status}
 use Rattle.dh_office.specs.declared.status.Status.TheVariants.{BadWords, Failed}
@@ -16,13 +18,15 @@ abbrev pub behind_name : {A : Type 0} → List A → List A
 behind_name [] = []
 behind_name (name ∷ words) = words
 
--- What the words behind the program's name ask for was done; or there was no memory to look at them.
-abbrev pub WordsEnd : List (List ℕ) → Option (List ℕ) → Option (List ℕ) → Option (List ℕ) → Status → Type 0
-WordsEnd words input a b status = DeskEnds (behind_name words) input a b status ⊎ (TellsFault a b [] × (status ≡ Failed))
+-- on a disk of these ghosts, whose files held this as they were opened
+module _ {D : Type 0} (g : disk.Ghosts D) (held : Image) where
+  -- What the words behind the program's name ask for was done; or there was no memory to look at them.
+  abbrev pub WordsEnd : List (List ℕ) → Option (List ℕ) → Option (List ℕ) → Option (List ℕ) → Status → Type 0
+  WordsEnd words input a b status = DeskEnds g held (behind_name words) input a b status ⊎ (TellsFault a b [] × (status ≡ Failed))
 
--- The exit status says how that ended.
-abbrev pub ProcessEnds : List (List ℕ) → Option (List ℕ) → Option (List ℕ) → Option (List ℕ) → ℕ → Type 0
-ProcessEnds words input a b code = (status : Status) × (code ≡ status_code status) × WordsEnd words input a b status
+  -- The exit status says how that ended.
+  abbrev pub ProcessEnds : List (List ℕ) → Option (List ℕ) → Option (List ℕ) → Option (List ℕ) → ℕ → Type 0
+  ProcessEnds words input a b code = (status : Status) × (code ≡ status_code status) × WordsEnd words input a b status
 
 abbrev pub no_text_line : List ℕ
 no_text_line = codes "error: invalid UTF-8 was detected in one or more arguments" ++ newline

@@ -2,12 +2,13 @@
 
 ghost use Rattle.std.specs.Prelude.{◌≡◌, ◌≢◌, ℕ, take, IfErr};
 ghost use Rattle.std.specs.Io.KnownBytes.{Appends};
+ghost use Rattle.sqlite_wal.specs.Files.{image_at};
 ghost use Rattle.sqlite.specs.Files.{file_state};
 ghost use Rattle.sqlite.specs.State.{HasCleanDisk};
 ghost use Rattle.dh_runs.specs.Taking.{IsResting};
 ghost use Rattle.dh_schema.specs.Faults.{IsFirstFault, fault_of};
 ghost use Rattle.dh_office.specs.Ends.{MemoryLinesEnd};
-ghost use Rattle.dh_office.specs.OnFile.{EndsOnFile, HasItsFiles};
+ghost use Rattle.dh_office.specs.OnFile.{DoneOnFile, EndsOnFile, HasItsFiles};
 ghost use Rattle.dh_office.specs.Printed.{Closes, IsOfLines, PrintsJob};
 ghost use Rattle.dh_office.specs.Texts.{fault_line};
 
@@ -16,7 +17,7 @@ use crate::taking::{FileJob, begin, do_job};
 use crate::telling::tell_fault;
 use dh_schema::fault_of;
 use dh_types::{EntryMonth, Fault};
-use sqlite::{Connection, Error, FileStore};
+use sqlite::{Connection, Error, FileFrom, FileStore, Start};
 use sqlite_disk::Disk;
 use std::alloc::{AllocError, Global};
 use std::fs;
@@ -94,22 +95,28 @@ fn do_and_close<D: Disk + Drop, R: Read, W: Write>(
 }
 
 // Does the job on the file at this path, and closes it.
-fn open_and_do<R: Read, W: Write>(
+fn open_and_do<S: Start, R: Read, W: Write>(
     rt: &HostRuntime,
+    start: S,
     path: &str,
     job: FileJob,
     reader: &mut R,
     writer: &mut W,
 ) -> Status
-    ensures { PrintsJob job (W.contents writer.old) (W.contents writer.new) result }
+    ensures { DoneOnFile ⟦<FileFrom<S> as Disk>⟧ (image_at S.Start) job (R.remaining reader.old) (W.contents writer.old) (W.contents writer.new) result }
 {
     if let Err(fault) = look(rt, path, &job) {
         return tell_fault(writer, fault);
     }
-    match Connection::open(rt, path) {
+    match Connection::open_from(rt, path, false, start) {
         Ok(conn) => do_and_close(rt, conn, job, reader, writer),
-        Err(error) => tell_fault(writer, fault_of(error)),
+        Err((error, _)) => tell_fault(writer, fault_of(error)),
     }
+}
+
+// Whether nothing stands at the path, not even a link that leads nowhere.
+fn is_free(rt: &HostRuntime, path: &str) -> bool {
+    matches!(fs::symlink_metadata(rt, path), Err(error) if error.kind() == ErrorKind::NotFound)
 }
 
 // How many bytes the file at the path has: 0 where there is none.
@@ -120,30 +127,38 @@ fn size_at(rt: &HostRuntime, path: &str) -> u64 {
     }
 }
 
+// Takes away the file at the path. A link stays, as no open makes one.
+fn remove(rt: &HostRuntime, path: &str) {
+    if matches!(fs::symlink_metadata(rt, path), Ok(found) if found.is_file()) {
+        let _ = fs::remove_file(rt, path);
+    }
+}
+
 // Takes away what is left of a file in which no tables were made.
 fn take_away(rt: &HostRuntime, path: &str) -> Result<(), AllocError> {
     let log = format!(in rt.alloc(); "{path}-wal")?;
     if size_at(rt, path) <= EMPTY_BYTES && size_at(rt, log.as_str()) == 0 {
-        let _ = fs::remove_file(rt, path);
-        let _ = fs::remove_file(rt, log.as_str());
+        remove(rt, path);
+        remove(rt, log.as_str());
     }
     Ok(())
 }
 
 /// Does the job on the file at this path. Fault 21 where an open or a look wants memory, and fault 22 where there is no file, nothing or
 /// no database in it, or it can't be opened or closed. The file is closed whatever came of the job, so that it has all that was committed.
-/// Where no tables could be made in a new file, none is left.
-pub(crate) fn do_on_file<R: Read, W: Write>(
+/// Where nothing stood at the path and no tables could be made there, nothing is left there.
+pub(crate) fn do_on_file<S: Start, R: Read, W: Write>(
     rt: &HostRuntime,
+    start: S,
     path: &str,
     job: FileJob,
     reader: &mut R,
     writer: &mut W,
 ) -> Status
-    ensures { PrintsJob job (W.contents writer.old) (W.contents writer.new) result }
+    ensures { DoneOnFile ⟦<FileFrom<S> as Disk>⟧ (image_at S.Start) job (R.remaining reader.old) (W.contents writer.old) (W.contents writer.new) result }
 {
-    let is_new = matches!(job, FileJob::Make(_)) && matches!(fs::exists(rt, path), Ok(false));
-    let status = open_and_do(rt, path, job, reader, writer);
+    let is_new = matches!(job, FileJob::Make(_)) && is_free(rt, path);
+    let status = open_and_do(rt, start, path, job, reader, writer);
     if is_new && matches!(status, Status::Failed) {
         let _ = take_away(rt, path);
     }

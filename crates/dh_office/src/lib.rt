@@ -1,4 +1,4 @@
-//! What each subcommand of `letting` does, over any store and on files. Read [`desk`] first.
+//! What each subcommand of `letting` does, over any store and on files. Read [`desk_from`] first.
 #![tactic(auto)]
 
 mod asking;
@@ -12,5 +12,6 @@ mod telling;
 mod wording;
 
 pub use process::{refuse_words, run_words};
+pub use sqlite::{Start, Unknown};
 pub use status::Status;
-pub use wording::desk;
+pub use wording::{desk, desk_from};

@@ -2,13 +2,16 @@
 
 ghost use Rattle.std.specs.Prelude.{◌≡◌, IfOk, map, string_bytes};
 ghost use Rattle.std.specs.IoError.{error_kind};
+ghost use Rattle.sqlite_wal.specs.Files.{image_at};
 ghost use Rattle.dh_office.specs.Process.{ProcessEnds, UnreadPrints, WordsEnd, WordsRefused, behind_name};
 
 use crate::status::Status;
 use crate::telling::tell_fault;
-use crate::wording::{desk, refused};
+use crate::wording::{desk_from, refused};
 use dh_types::Fault;
 use dh_types::writing::put;
+use sqlite::{FileFrom, Start};
+use sqlite_disk::Disk;
 use std::alloc::{AllocError, Global};
 use std::io;
 use std::io::{ErrorKind, Read, Write};
@@ -35,31 +38,35 @@ fn texts_of<'a>(alloc: Global, words: &'a [String]) -> Result<Vec<&'a str>, Allo
 }
 
 // Does what the words behind the program's name ask for.
-fn do_words<R: Read, W: Write>(
+fn do_words<S: Start, R: Read, W: Write>(
     rt: &HostRuntime,
+    start: S,
     words: &[String],
     reader: &mut R,
     writer: &mut W,
 ) -> Status
-    ensures { WordsEnd (map string_bytes words.now) (R.remaining reader.old) (W.contents writer.old) (W.contents writer.new) result }
+    ensures { WordsEnd ⟦<FileFrom<S> as Disk>⟧ (image_at S.Start) (map string_bytes words.now) (R.remaining reader.old) (W.contents writer.old)
+        (W.contents writer.new) result }
 {
     match texts_of(rt.alloc(), behind_name(words)) {
-        Ok(texts) => desk(rt, &texts, reader, writer),
+        Ok(texts) => desk_from(rt, start, &texts, reader, writer),
         Err(_) => tell_fault(writer, Fault::Memory),
     }
 }
 
 /// Does what the words of a process ask for, of which the first is the program's name, with these as its input and output. Returns the
-/// exit status of the process, 0 to 5.
-pub fn run_words<R: Read, W: Write>(
+/// exit status of the process, 0 to 5. `start` stands for what the file holds as it is opened: a program passes `Unknown`.
+pub fn run_words<S: Start, R: Read, W: Write>(
     rt: &HostRuntime,
+    start: S,
     words: &[String],
     reader: &mut R,
     writer: &mut W,
 ) -> u8
-    ensures { ProcessEnds (map string_bytes words.now) (R.remaining reader.old) (W.contents writer.old) (W.contents writer.new) result }
+    ensures { ProcessEnds ⟦<FileFrom<S> as Disk>⟧ (image_at S.Start) (map string_bytes words.now) (R.remaining reader.old) (W.contents writer.old)
+        (W.contents writer.new) result }
 {
-    do_words(rt, words, reader, writer).code()
+    do_words(rt, start, words, reader, writer).code()
 }
 
 // Says why the words can't be had.

@@ -22,7 +22,7 @@ fn tell_served<W: Write>(outcome: Result<(), Unserved>, writer: &mut W) -> Statu
     match outcome {
         Ok(()) => Status::Done,
         Err(Unserved::NoListener) => heard(print_no_listener(writer), Status::Failed),
-        Err(Unserved::Output | Unserved::Stopped) => Status::Failed,
+        Err(Unserved::Output(_) | Unserved::Stopped) => Status::Failed,
     }
 }
 
@@ -39,6 +39,7 @@ pub(crate) fn answer_requests<S: Alter, W: Write>(
     ensures ends { HasCleanDisk (state S.Store result.1)
         → ServingEnds (state S.Store conn) (state S.Store result.1) (W.contents writer.old) (W.contents writer.new) service result.0 }
     ensures crash { ServingLeaves (state S.Store conn) (state S.Store result.1) }
+    ensures was_clean { HasCleanDisk (state S.Store result.1) → HasCleanDisk (state S.Store conn) }
 {
     match attach(rt.alloc(), conn) {
         Ok(mut agency) => {

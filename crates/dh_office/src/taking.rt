@@ -46,6 +46,7 @@ fn make<S: Alter, W: Write>(
     ensures ends { HasCleanDisk (state S.Store result.1)
         → MakingEnds (state S.Store conn) (state S.Store result.1) (W.contents writer.old) (W.contents writer.new) first result.0 }
     ensures crash { JobLeaves (state S.Store conn) (state S.Store result.1) (FileJob.Make first) }
+    ensures was_clean { HasCleanDisk (state S.Store result.1) → HasCleanDisk (state S.Store conn) }
     ensures occupied { ¬ IsBlank (state S.Store conn)
         → PutsAs (fault_line fault.Store) Status.Failed (W.contents writer.old) (W.contents writer.new) result.0 × (result.1 ≡ conn) }
 {
@@ -69,6 +70,7 @@ fn mend<S: Alter, W: Write>(
     ensures ends { HasCleanDisk (state S.Store result.1)
         → RecoveryEnds (state S.Store conn) (state S.Store result.1) (W.contents writer.old) (W.contents writer.new) result.0 }
     ensures crash { JobLeaves (state S.Store conn) (state S.Store result.1) FileJob.Recover }
+    ensures was_clean { HasCleanDisk (state S.Store result.1) → HasCleanDisk (state S.Store conn) }
 {
     match recover(alloc, conn) {
         Ok(agency) => (
@@ -92,6 +94,7 @@ fn take<S: Alter, R: Read, W: Write>(
     ensures ends { HasCleanDisk (state S.Store result.1)
         → TakingEnds (state S.Store conn) (state S.Store result.1) (W.contents writer.old) (W.contents writer.new) (R.remaining reader.old) work result.0 }
     ensures crash { JobLeaves (state S.Store conn) (state S.Store result.1) (FileJob.Work work) }
+    ensures was_clean { HasCleanDisk (state S.Store result.1) → HasCleanDisk (state S.Store conn) }
 {
     match attach(alloc, conn) {
         Ok(mut agency) => {
@@ -136,6 +139,7 @@ pub(crate) fn do_job<S: Alter, R: Read, W: Write>(
     ensures ends { HasCleanDisk (state S.Store result.1)
         → JobEnds (state S.Store conn) (state S.Store result.1) (W.contents writer.old) (W.contents writer.new) (R.remaining reader.old) job result.0 }
     ensures crash { JobLeaves (state S.Store conn) (state S.Store result.1) job }
+    ensures was_clean { HasCleanDisk (state S.Store result.1) → HasCleanDisk (state S.Store conn) }
 {
     match job {
         FileJob::Make(first) => make(rt.alloc(), conn, first, writer),

@@ -1,6 +1,7 @@
 //! What the words behind the program's name ask for, done.
 
-ghost use Rattle.std.specs.Prelude.{◌≡◌, [], ◌∷◌, codes, map};
+ghost use Rattle.std.specs.Prelude.{◌≡◌, ◌⊎◌, [], ◌∷◌, codes, map};
+ghost use Rattle.sqlite_wal.specs.Files.{image_at};
 ghost use Rattle.dh_words.specs.Jobs.{IsBadFor};
 ghost use Rattle.dh_office.specs.Desk.{AskedEnds, BadPrints, BatchEnds, DeskEnds, MessagePrints};
 ghost use Rattle.dh_office.specs.Ends.{MemoryLinesEnd};
@@ -15,6 +16,8 @@ use dh_service::Service;
 use dh_types::writing::put_parts;
 use dh_types::{EntryMonth, Fault, Output};
 use dh_words::{BadWords, Job, job};
+use sqlite::{FileFrom, Start, Unknown};
+use sqlite_disk::Disk;
 use std::alloc::Global;
 use std::io::{Read, Write};
 
@@ -25,25 +28,29 @@ pub(crate) fn refused(_outcome: Result<(), Output>) -> Status
     Status::BadWords
 }
 
-// Prints what `clap` says of the words, with one line feed at its end, or that there was no memory for it.
+// Prints what `clap` says of the words, with one line feed at its end, or that there was no memory for it. It is done where all was written.
+fn put_message<W: Write>(alloc: Global, error: &Error, writer: &mut W) -> Status
+    ensures { (result ≡ Status.Done) ⊎ (result ≡ Status.Failed) }
+{
+    let Ok(text) = error.to_string(alloc) else {
+        return tell_fault(writer, Fault::Memory);
+    };
+    let message = text.as_str().trim_end_matches('\n');
+    heard(
+        put_parts(writer, &[message.as_bytes(), b"\n"]),
+        Status::Done,
+    )
+}
+
+// Prints what `clap` says of the words: that they are bad, or help.
 fn print_message<W: Write>(alloc: Global, error: &Error, writer: &mut W) -> Status
     ensures { MessagePrints error.now result }
 {
-    let outcome = match error.to_string(alloc) {
-        Ok(text) => {
-            let message = text.as_str().trim_end_matches('\n');
-            put_parts(writer, &[message.as_bytes(), b"\n"])
-        }
-        Err(_) => {
-            tell_fault(writer, Fault::Memory);
-            Err(Output)
-        }
-    };
+    let status = put_message(alloc, error, writer);
     if error.use_stderr() {
-        refused(outcome)
-    } else {
-        heard(outcome, Status::Done)
+        return Status::BadWords;
     }
+    status
 }
 
 // Says why the words ask for no job.
@@ -61,47 +68,59 @@ fn refuse<W: Write>(alloc: Global, bad: &BadWords, writer: &mut W) -> Status
 }
 
 // Answers lines on a file, or in memory where none is named.
-fn do_batch<R: Read, W: Write>(
+fn do_batch<S: Start, R: Read, W: Write>(
     rt: &HostRuntime,
+    start: S,
     file: Option<&str>,
     first: EntryMonth,
     reader: &mut R,
     writer: &mut W,
 ) -> Status
-    ensures { BatchEnds file.entry first (R.remaining reader.old) (W.contents writer.old) (W.contents writer.new) result }
+    ensures { BatchEnds ⟦<FileFrom<S> as Disk>⟧ (image_at S.Start) file.entry first (R.remaining reader.old)
+        (W.contents writer.old) (W.contents writer.new) result }
 {
     match file {
-        Some(file) => do_on_file(rt, file, FileJob::Work(Work::Lines), reader, writer),
+        Some(file) => do_on_file(rt, start, file, FileJob::Work(Work::Lines), reader, writer),
         None => begin_in_memory(rt.alloc(), first, reader, writer),
     }
 }
 
 // Does the job.
-fn do_asked<R: Read, W: Write>(
+fn do_asked<S: Start, R: Read, W: Write>(
     rt: &HostRuntime,
+    start: S,
     job: &Job<'_>,
     reader: &mut R,
     writer: &mut W,
 ) -> Status
-    ensures { AskedEnds job.now (R.remaining reader.old) (W.contents writer.old) (W.contents writer.new) result }
+    ensures { AskedEnds ⟦<FileFrom<S> as Disk>⟧ (image_at S.Start) job.now (R.remaining reader.old) (W.contents writer.old) (W.contents writer.new) result }
 {
     match job {
-        Job::Init { file, first } => do_on_file(rt, file, FileJob::Make(*first), reader, writer),
-        Job::Batch { file, first } => do_batch(rt, *file, *first, reader, writer),
+        Job::Init { file, first } => do_on_file(
+            rt,
+            start,
+            file,
+            FileJob::Make(*first),
+            reader,
+            writer,
+        ),
+        Job::Batch { file, first } => do_batch(rt, start, *file, *first, reader, writer),
         Job::Run {
             file,
             order,
             batches,
         } => do_on_file(
             rt,
+            start,
             file,
             FileJob::Work(Work::Run(*order, *batches)),
             reader,
             writer,
         ),
-        Job::Recover { file } => do_on_file(rt, file, FileJob::Recover, reader, writer),
+        Job::Recover { file } => do_on_file(rt, start, file, FileJob::Recover, reader, writer),
         Job::Report { file, question } => do_on_file(
             rt,
+            start,
             file,
             FileJob::Work(Work::Report(*question)),
             reader,
@@ -112,27 +131,45 @@ fn do_asked<R: Read, W: Write>(
                 port: *port,
                 count: *count,
             };
-            do_on_file(rt, file, FileJob::Serve(service), reader, writer)
+            do_on_file(rt, start, file, FileJob::Serve(service), reader, writer)
         }
     }
 }
 
 /// Does what the words behind the program's name ask for, with these as its input and output, and tells how the program ends. The words
-/// are judged first; help and what is said of bad words goes to the output too.
-pub fn desk<R: Read, W: Write>(
+/// are judged first; help and what is said of bad words goes to the output too. `start` stands for what the file holds as it is opened.
+pub fn desk_from<S: Start, R: Read, W: Write>(
     rt: &HostRuntime,
+    start: S,
     words: &[&str],
     reader: &mut R,
     writer: &mut W,
 ) -> Status
-    ensures ends { DeskEnds (map (λ word. word.now) words.now) (R.remaining reader.old) (W.contents writer.old) (W.contents writer.new) result }
+    ensures ends { DeskEnds ⟦<FileFrom<S> as Disk>⟧ (image_at S.Start)
+        (map (λ word. word.now) words.now) (R.remaining reader.old) (W.contents writer.old) (W.contents writer.new) result }
     // The lines are answered in memory, from 2025-01 on.
     ensures batch { map (λ word. word.now) words.now ≡ codes "batch" ∷ []
         → MemoryLinesEnd (W.contents writer.old) (W.contents writer.new) 24300 (R.remaining reader.old) result }
     ensures bad_words { result ≡ Status.BadWords → (why : BadWords) × IsBadFor (map (λ word. word.now) words.now) why }
 {
     match job(rt.alloc(), words) {
-        Ok(job) => do_asked(rt, &job, reader, writer),
+        Ok(job) => do_asked(rt, start, &job, reader, writer),
         Err(bad) => refuse(rt.alloc(), &bad, writer),
     }
+}
+
+/// The same, for code that states nothing of what the file held: of a file that is not empty only what is printed is said.
+pub fn desk<R: Read, W: Write>(
+    rt: &HostRuntime,
+    words: &[&str],
+    reader: &mut R,
+    writer: &mut W,
+) -> Status
+    ensures ends { DeskEnds ⟦<FileFrom<Unknown> as Disk>⟧ (image_at ⟦<Unknown as Start>⟧)
+        (map (λ word. word.now) words.now) (R.remaining reader.old) (W.contents writer.old) (W.contents writer.new) result }
+    ensures batch { map (λ word. word.now) words.now ≡ codes "batch" ∷ []
+        → MemoryLinesEnd (W.contents writer.old) (W.contents writer.new) 24300 (R.remaining reader.old) result }
+    ensures bad_words { result ≡ Status.BadWords → (why : BadWords) × IsBadFor (map (λ word. word.now) words.now) why }
+{
+    desk_from(rt, Unknown, words, reader, writer)
 }

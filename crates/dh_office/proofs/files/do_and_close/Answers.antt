@@ -10,6 +10,7 @@ returns-clause-ends g c = record {
   last = c.do_job-status.result.1;
   done = c.do_job-status.result.0;
   told = _;
+  was_clean = c.do_job-status.ensures.was_clean;
   ends = c.do_job-status.ensures.ends;
   left = c.do_job-status.ensures.crash;
   closes = c.close_files.ensures.closes;
