@@ -4,7 +4,7 @@ use dh_agency::{Agency, NotOpened, create};
 use dh_examples::{Unreadable, answer_text, january, request};
 use dh_fields::Request;
 use dh_runs::RunState;
-use dh_types::{Command, Question, Reply};
+use dh_types::{Command, Fault, Question, Reply};
 use sqlite::{Alter, Connection, MemStore};
 use std::alloc::{AllocError, Global};
 
@@ -16,15 +16,20 @@ pub fn in_memory(alloc: Global) -> Result<Option<Agency<MemStore>>, AllocError> 
     }
 }
 
+/// The text of what a command is answered.
+pub(crate) fn reply_text(alloc: Global, reply: Result<Reply, Fault>) -> Result<String, AllocError> {
+    match reply {
+        Ok(reply) => format!(in alloc; "{reply}"),
+        Err(fault) => format!(in alloc; "{fault}"),
+    }
+}
+
 fn replied<S: Alter>(
     alloc: Global,
     agency: &mut Agency<S>,
     command: &Command,
 ) -> Result<String, AllocError> {
-    match agency.step(alloc, command) {
-        Ok(reply) => format!(in alloc; "{reply}"),
-        Err(fault) => format!(in alloc; "{fault}"),
-    }
+    reply_text(alloc, agency.step(alloc, command))
 }
 
 fn shown<S: Alter>(

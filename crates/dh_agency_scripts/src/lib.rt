@@ -10,6 +10,6 @@ mod scripts;
 
 pub use agencies::{in_memory, told};
 pub use comparing::compare;
-pub use lives::play_lives;
+pub use lives::{Lived, play_lives, problem_text, told_anew};
 pub use rows::{all_rows, found, rows_of};
 pub use scripts::{compare_tables, parted, play_in_memory, table_of};

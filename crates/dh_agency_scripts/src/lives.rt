@@ -1,45 +1,35 @@
-//! Scripts of one store whose power is cut before each line: it is opened anew, and an agency takes its tables as they are, or
-//! recovers them. A line `sql,STATEMENT` is what another program does to the store.
+//! Scripts of one store whose power is cut before each line and behind each command and recovery: it is opened anew, and an agency
+//! takes its tables as they are, or recovers them. A line `sql,STATEMENT` is what another program does to the store.
 
-ghost use Rattle.std.specs.Prelude.{IfSome};
 ghost use Rattle.sqlite.specs.State.{HasCleanDisk};
 ghost use Rattle.sqlite.specs.Held.{state};
 ghost use Rattle.dh_runs.specs.Taking.{IsResting};
 
-use crate::agencies::{in_memory, told};
+use crate::agencies::{in_memory, reply_text, told};
 use crate::comparing::compare;
 use crate::rows::all_rows;
 use crate::scripts::{compare_tables, parted, table_of};
 use dh_agency::{Agency, NotOpened, Problem, attach, recover};
-use dh_examples::{Block, script};
+use dh_calls::crashing::{next_life, recovery_and_crash, step_and_crash};
+use dh_examples::{Block, request, script};
+use dh_fields::Request;
 use dh_tally::Tally;
+use dh_types::Command;
 use sqlite::{Alter, Connection};
 use sqlite_trees::store::Reopen;
 use std::alloc::{AllocError, Global};
 use std::io;
 
-// The store after a power cut, opened anew, where it can be.
-fn reopened<S: Alter + Reopen + Drop>(alloc: Global, conn: Connection<S>) -> Option<Connection<S>>
-    ensures { IfSome result (λ again. HasCleanDisk (state S.Store again) → IsResting (state S.Store again)) }
-{
-    let mut store = conn.into_store();
-    if store.crash_and_reopen().is_err() {
-        return None;
-    }
-    match Connection::over(alloc, store) {
-        Ok(again) => Some(again),
-        Err(_) => None,
-    }
-}
-
-fn problem_text(alloc: Global, problem: Problem) -> Result<String, AllocError> {
+/// The text of why tables are not taken.
+pub fn problem_text(alloc: Global, problem: Problem) -> Result<String, AllocError> {
     match problem {
         Problem::Refused(refusal) => format!(in alloc; "{refusal}"),
         Problem::Fault(fault) => format!(in alloc; "{fault}"),
     }
 }
 
-type Lived<S> = (Result<String, AllocError>, Connection<S>);
+/// What a line came to, and the store.
+pub type Lived<S> = (Result<String, AllocError>, Connection<S>);
 
 // What came of taking the tables, and the store.
 fn given_up<S: Alter>(
@@ -78,19 +68,62 @@ fn edited<S: Alter>(alloc: Global, mut conn: Connection<S>, statement: &str) -> 
     (done.to_string(alloc), conn)
 }
 
+/// One line over tables that were just opened: `attach` and `recover` say what they are, and for every other line an agency takes the
+/// tables as they are.
+pub fn told_anew<S: Alter>(alloc: Global, conn: Connection<S>, line: &str) -> Lived<S>
+    requires { HasCleanDisk (state S.Store conn) → IsResting (state S.Store conn) }
+{
+    match (line, line.strip_prefix("sql,")) {
+        (_, Some(statement)) => edited(alloc, conn, statement),
+        ("recover", None) => given_up(alloc, recover(alloc, conn), "recovered"),
+        ("attach", None) => given_up(alloc, attach(alloc, conn), "attached"),
+        _ => told_once(alloc, attach(alloc, conn), line),
+    }
+}
+
+// The command, told to an agency that takes the tables for it alone, and a power cut.
+fn stepped<S: Alter + Reopen + Drop>(
+    alloc: Global,
+    conn: Connection<S>,
+    command: &Command,
+) -> Option<Lived<S>>
+    requires { HasCleanDisk (state S.Store conn) → IsResting (state S.Store conn) }
+{
+    match attach(alloc, conn) {
+        Ok(agency) => {
+            let (reply, again) = step_and_crash(alloc, agency, command)?;
+            Some((reply_text(alloc, reply), again))
+        }
+        Err(NotOpened { cause, conn }) => Some((problem_text(alloc, cause), conn)),
+    }
+}
+
+// A recovery, and a power cut.
+fn recovered<S: Alter + Reopen + Drop>(alloc: Global, conn: Connection<S>) -> Option<Lived<S>>
+    requires { HasCleanDisk (state S.Store conn) → IsResting (state S.Store conn) }
+{
+    let (done, again) = recovery_and_crash(alloc, conn)?;
+    let text = match done {
+        Ok(()) => "recovered".to_string(alloc),
+        Err(problem) => problem_text(alloc, problem),
+    };
+    Some((text, again))
+}
+
 // One line, before which the power was cut.
 fn live<S: Alter + Reopen + Drop>(
     alloc: Global,
     conn: Connection<S>,
     line: &str,
 ) -> Option<Lived<S>> {
-    let conn = reopened(alloc, conn)?;
-    Some(match (line, line.strip_prefix("sql,")) {
-        (_, Some(statement)) => edited(alloc, conn, statement),
-        ("recover", None) => given_up(alloc, recover(alloc, conn), "recovered"),
-        ("attach", None) => given_up(alloc, attach(alloc, conn), "attached"),
-        _ => told_once(alloc, attach(alloc, conn), line),
-    })
+    let conn = next_life(alloc, conn)?;
+    if line == "recover" {
+        return recovered(alloc, conn);
+    }
+    match request(alloc, line) {
+        Ok(Request::Command(command)) => stepped(alloc, conn, &command),
+        _ => Some(told_anew(alloc, conn, line)),
+    }
 }
 
 // The lines before those of the block, without a look at the replies.

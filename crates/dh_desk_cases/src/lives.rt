@@ -7,6 +7,7 @@ use dh_agency_scripts::{all_rows, compare, parted, rows_of};
 use dh_tally::Tally;
 use sqlite::Connection;
 use std::alloc::AllocError;
+use std::os::unix::fs::symlink;
 use std::{fs, io};
 
 /// Runs statements on the file, as another program would.
@@ -34,11 +35,12 @@ fn run(rt: &HostRuntime, words: &str) -> Result<String, AllocError> {
     ran(rt, words, input)
 }
 
-// Makes a folder at the path or at its log's, or a file with this text.
+// Makes a folder at the path or at its log's, or a link to this place, or a file with this text.
 fn made(rt: &HostRuntime, kind: &str, text: &str) -> io::Result<&'static str> {
     match kind {
         "folder" => fs::create_dir(rt, PATH)?,
         "folder-for-log" => fs::create_dir(rt, LOG)?,
+        "link" => symlink(rt, text, PATH)?,
         _ => fs::write(rt, PATH, text)?,
     }
     Ok("done")
@@ -50,9 +52,10 @@ fn answer(rt: &HostRuntime, kept: &mut Vec<u8>, kind: &str, rest: &str) -> io::R
     let text = match kind {
         "letting" => return Ok(run(rt, rest)?),
         "crack" => return cracked(rt, rest),
+        "leads" => return Ok(fs::read_link(rt, PATH)?.into_string()),
         "rows" => return Ok(rows_of(tables(rt)?.as_str(), rest).to_string(alloc)?),
         "sql" => edited(rt, rest).unwrap_or("not done"),
-        "write" | "folder" | "folder-for-log" => made(rt, kind, rest)?,
+        "write" | "folder" | "folder-for-log" | "link" => made(rt, kind, rest)?,
         "keep" => {
             *kept = fs::read(rt, PATH)?;
             "done"

@@ -11,6 +11,7 @@ mod failing;
 mod imports;
 mod lives;
 mod manual;
+mod many;
 mod pages;
 mod peers;
 mod runs;
@@ -22,6 +23,7 @@ fn play(rt: &HostRuntime, tally: &mut Tally, kind: &str, lines: &str) -> io::Res
     match kind {
         "edited files" => edits::play(rt, tally, lines),
         "an import" => imports::play(rt, tally, lines),
+        "long inputs" => many::play(rt, tally, lines),
         "the manual and the examples" => manual::play(rt, tally, lines),
         "peers" => peers::play(rt, tally, lines),
         "a reader that fails" => failing::play_reader(rt, tally, lines),

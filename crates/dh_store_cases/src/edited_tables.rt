@@ -30,7 +30,7 @@ fn make<S: Alter>(
 fn fault_text(alloc: Global, fault: LoadFault) -> Result<String, AllocError> {
     match fault {
         LoadFault::Damaged => "damaged".to_string(alloc),
-        LoadFault::Fault(fault) => format!(in alloc; "{fault}"),
+        LoadFault::Fault(fault) => format!(in alloc; "{}", fault.fault()),
     }
 }
 
@@ -70,7 +70,8 @@ fn leases(books: &Books) -> usize {
     ])
 }
 
-fn load_text<S: Alter>(alloc: Global, conn: &mut Connection<S>) -> Result<String, AllocError> {
+/// How many rows the tables have, or why they are not loaded.
+pub fn load_text<S: Alter>(alloc: Global, conn: &mut Connection<S>) -> Result<String, AllocError> {
     match load(alloc, conn) {
         Ok(books) => {
             let rows = sum(&[people(&books), properties(&books), leases(&books)]);
@@ -80,7 +81,11 @@ fn load_text<S: Alter>(alloc: Global, conn: &mut Connection<S>) -> Result<String
     }
 }
 
-fn version_text<S: Alter>(alloc: Global, conn: &mut Connection<S>) -> Result<String, AllocError> {
+/// The version that the tables give, or why there is none.
+pub fn version_text<S: Alter>(
+    alloc: Global,
+    conn: &mut Connection<S>,
+) -> Result<String, AllocError> {
     match version(alloc, conn) {
         Ok(number) => format!(in alloc; "version {number}"),
         Err(fault) => fault_text(alloc, fault),

@@ -1,35 +1,40 @@
 //! The tables made.
 
+ghost use Rattle.std.specs.Prelude.{◌≤◌};
+ghost use Rattle.dh_days.specs.declared.limits.TheConstants.{LAST_ENTRY_MONTH};
+
 use dh_agency_scripts::{compare, found, parted};
 use dh_examples::january;
 use dh_schema::{install, version};
 use dh_tally::Tally;
-use dh_types::{Fault, Month};
+use dh_types::Month;
 use sqlite::{Alter, Connection};
 use std::alloc::{AllocError, Global};
 use std::io;
 
-fn outcome(alloc: Global, done: Result<(), Fault>) -> Result<String, AllocError> {
-    match done {
+/// How making the tables ends.
+pub fn install_text<S: Alter>(
+    alloc: Global,
+    conn: &mut Connection<S>,
+    first: Month,
+) -> Result<String, AllocError>
+    requires { first ≤ LAST_ENTRY_MONTH }
+{
+    match install(alloc, conn, first) {
         Ok(()) => "ok".to_string(alloc),
-        Err(fault) => format!(in alloc; "{fault}"),
+        Err(fault) => format!(in alloc; "{}", fault.fault()),
     }
 }
 
 // The version of the tables that are made.
 fn version_made<S: Alter>(alloc: Global, conn: &mut Connection<S>) -> Result<String, AllocError> {
     if let Err(fault) = install(alloc, conn, january()) {
-        return format!(in alloc; "{fault}");
+        return format!(in alloc; "{}", fault.fault());
     }
     match version(alloc, conn) {
         Ok(number) => format!(in alloc; "version {number}"),
         Err(_) => "no version".to_string(alloc),
     }
-}
-
-fn made_again<S: Alter>(alloc: Global, conn: &mut Connection<S>) -> Result<String, AllocError> {
-    let again = install(alloc, conn, Month::of_number(24301));
-    outcome(alloc, again)
 }
 
 fn made_over<S: Alter>(
@@ -41,7 +46,7 @@ fn made_over<S: Alter>(
         return "not done".to_string(alloc);
     }
     let first = version_made(alloc, conn)?;
-    let again = made_again(alloc, conn)?;
+    let again = install_text(alloc, conn, Month::of_number(24301))?;
     let objects = found(
         alloc,
         conn,

@@ -4,6 +4,7 @@
 
 mod blocks;
 mod books;
+mod calls;
 mod disks;
 mod drawing;
 mod drawn;
@@ -39,6 +40,7 @@ fn play(rt: &HostRuntime, tally: &mut Tally, kind: &str, lines: &str) -> io::Res
         "tables made" => made_tables::play(rt, tally, lines),
         "agencies in memory" => play_in_memory(rt, tally, lines),
         "agencies taken anew" => play_lives(rt, tally, lines),
+        "calls of each layer" => calls::play(rt, tally, lines),
         "agencies on disks" => disks::play(rt, tally, lines, Stops::None),
         "agencies on disks that stop" => disks::play(rt, tally, lines, Stops::Once),
         "agencies on disks that stop and are recovered" => {
