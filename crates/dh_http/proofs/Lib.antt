@@ -1,3 +1,5 @@
 pub mod AnswerLemmas
 pub mod ServedLemmas
 mod FirstLineLemmas
+pub mod ServingLemmas
+pub mod PrintedLemmas

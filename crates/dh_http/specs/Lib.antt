@@ -1,3 +1,5 @@
 pub mod Answers
 pub mod Served
 pub mod FirstLines
+pub mod Service
+pub mod Printed

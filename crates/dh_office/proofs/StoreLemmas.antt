@@ -14,11 +14,11 @@ use Rattle.dh_types.specs.declared.command.RunOrder.{RunOrder}
 use Rattle.dh_agency.specs.Taken.{LeavesAsTheyWere, TakesAsTheyAre}
 use Rattle.dh_lines.specs.Batch.{AreAfter}
 use Rattle.dh_office.specs.Jobs.{IsRunCut, stand_in}
-use Rattle.dh_service.specs.declared.listening.Service.{Service}
-use Rattle.dh_service.specs.declared.listening.Unserved.{Unserved}
-use Rattle.dh_service.specs.declared.listening.Unserved.TheVariants as unserved
-use Rattle.dh_service.specs.Printed.{Listened, PrintsServed, Unlistened, Untold, outcome_lines}
-use Rattle.dh_service.specs.Service.{AreTold, IsAfterSome, IsServing}
+use Rattle.dh_http.specs.declared.listening.Service.{Service}
+use Rattle.dh_http.specs.declared.listening.Unserved.{Unserved}
+use Rattle.dh_http.specs.declared.listening.Unserved.TheVariants as unserved
+use Rattle.dh_http.specs.Printed.{Listened, PrintsServed, Unlistened, Untold, outcome_lines}
+use Rattle.dh_http.specs.Service.{AreTold, IsAfterSome, IsServing}
 use Rattle.dh_office.specs.Leaving.{ServingLeaves, TakingLeaves, WorkLeaves}
 use Rattle.dh_agency.specs.Seat.{Seat}
 use Rattle.dh_agency.specs.Agency.{IsClean, machine, shown_by, stand, stand_of}

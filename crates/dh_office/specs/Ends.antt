@@ -29,8 +29,8 @@ use Rattle.dh_office.specs.declared.status.Status.{Status}
 use Rattle.dh_office.specs.declared.status.Status.TheVariants.{Done, Failed}
 use Rattle.dh_office.specs.Statuses.{IsEnding, ending, problem_status, status_of}
 use Rattle.dh_office.specs.Texts.{created_line, problem_line, recovered_line}
-use Rattle.dh_service.specs.declared.listening.Service.{Service}
-use Rattle.dh_service.specs.Service.{AreTold, IsAfterSome}
+use Rattle.dh_http.specs.declared.listening.Service.{Service}
+use Rattle.dh_http.specs.Service.{AreTold, IsAfterSome}
 use Rattle.dh_office.specs.Printed.{PrintsService, PutsAs, TellsFault}
 use Rattle.dh_office.specs.Jobs.{IsRunCut, lines_answered, report_shown, run_told, stand_in}
 

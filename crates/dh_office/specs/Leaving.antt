@@ -9,7 +9,7 @@ use Rattle.dh_agency.specs.Taken.{LeavesAsTheyWere, TakesForward}
 use Rattle.dh_agency.specs.Agency.{stand_of}
 use Rattle.dh_fields.specs.Lines.{Fields}
 use Rattle.dh_lines.specs.Batch.{AreAfter}
-use Rattle.dh_service.specs.Service.{IsAfterSome}
+use Rattle.dh_http.specs.Service.{IsAfterSome}
 use Rattle.dh_office.specs.declared.jobs.Work.{Work}
 use Rattle.dh_office.specs.declared.jobs.Work.TheVariants as work
 use Rattle.dh_office.specs.declared.taking.FileJob.{FileJob}

@@ -9,10 +9,10 @@ use Rattle.dh_types.specs.Replies.{is_refusal}
 use Rattle.dh_types.specs.Reports.{Report, is_no_report}
 use Rattle.dh_schema.specs.Faults.{IsFirstFault}
 use Rattle.dh_runs.specs.Taking.{IsOfTables}
-use Rattle.dh_service.specs.declared.listening.Service.{Service}
-use Rattle.dh_service.specs.declared.listening.Unserved.{Unserved}
-use Rattle.dh_service.specs.declared.listening.Unserved.TheVariants as unserved
-use Rattle.dh_service.specs.Printed.{AreAll, IsPortText, PrintsServed, outcome_lines}
+use Rattle.dh_http.specs.declared.listening.Service.{Service}
+use Rattle.dh_http.specs.declared.listening.Unserved.{Unserved}
+use Rattle.dh_http.specs.declared.listening.Unserved.TheVariants as unserved
+use Rattle.dh_http.specs.Printed.{AreAll, IsPortText, PrintsServed, outcome_lines}
 use Rattle.dh_office.specs.declared.jobs.Work.{Work}
 use Rattle.dh_office.specs.declared.jobs.Work.TheVariants as work
 use Rattle.dh_office.specs.declared.taking.FileJob.{FileJob}

@@ -11,7 +11,7 @@ ghost use Rattle.dh_office.specs.Printed.{IsRefusedEnd, Prints, PrintsService, T
 use crate::status::Status;
 use crate::telling::{heard, print_no_listener, tell_problem};
 use dh_agency::{NotOpened, attach};
-use dh_service::{Service, Unserved, serve};
+use dh_http::{Service, Unserved, serve};
 use sqlite::{Alter, Connection};
 use std::io::Write;
 

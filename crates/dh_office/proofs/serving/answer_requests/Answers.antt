@@ -2,7 +2,7 @@ use Rattle.std.proofs.Common.{[], arith, inl, inr, subst}
 use Rattle.sqlite.specs.Held.{state}
 use Rattle.dh_schema.specs.Tables.{IsSound}
 use Rattle.dh_agency.specs.Agency.{IsClean, shown_by, stand}
-use Rattle.dh_service.proofs.ServingLemmas.{begins}
+use Rattle.dh_http.proofs.ServingLemmas.{begins}
 use Rattle.dh_office.specs.Printed.{Served}
 use Rattle.dh_office.proofs.StoreLemmas.{kept_serving, problem_prints, serving_ends, serving_leaves, serving_prints, was_clean}
 use Rattle.dh_office.proofs.serving.answer_requests.Goals as goal

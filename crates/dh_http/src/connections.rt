@@ -3,13 +3,13 @@
 ghost use Rattle.std.specs.Prelude.{◌≡◌, ℕ, List, [], ◌∷◌, Option, false, true, Err, OnOk};
 ghost use Rattle.dh_agency.specs.Agency.{IsClean, WasClean};
 ghost use Rattle.dh_types.specs.Output.{Puts};
-ghost use Rattle.dh_service.specs.Printed.{PrintsBehind, outcome_line};
-ghost use Rattle.dh_service.specs.Service.{ServesOn, StopsWith, WritesAnswer};
+ghost use Rattle.dh_http.specs.Printed.{PrintsBehind, outcome_line};
+ghost use Rattle.dh_http.specs.Service.{ServesOn, StopsWith, WritesAnswer};
 
 use crate::listening::Unserved;
 use crate::streams::{PEER_SECONDS, TimedStream, accept, end_answered};
 use dh_agency::Agency;
-use dh_http::serve_one;
+use crate::connections::{serve_one};
 use dh_types::Output;
 use dh_types::writing::{put, put_parts};
 use http::StatusCode;

@@ -6,10 +6,10 @@ use Rattle.http.specs.StatusCode.{code_digits}
 use Rattle.dh_types.specs.Output.{BreaksOff}
 use Rattle.dh_types.specs.declared.output.Output.{Output}
 use Rattle.dh_reports.specs.Columns.{newline}
-use Rattle.dh_service.specs.Service.{IsHalt}
-use Rattle.dh_service.specs.declared.listening.Service.{Service}
-use Rattle.dh_service.specs.declared.listening.Unserved.{Unserved}
-use Rattle.dh_service.specs.declared.listening.Unserved.TheVariants as unserved
+use Rattle.dh_http.specs.Service.{IsHalt}
+use Rattle.dh_http.specs.declared.listening.Service.{Service}
+use Rattle.dh_http.specs.declared.listening.Unserved.{Unserved}
+use Rattle.dh_http.specs.declared.listening.Unserved.TheVariants as unserved
 
 -- the status of the answer, or that there was none
 abbrev pub outcome_line : Option ℕ → List ℕ

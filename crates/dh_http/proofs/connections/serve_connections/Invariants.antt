@@ -1,7 +1,7 @@
 use Rattle.std.proofs.Common.{◌≡◌, false}
 use Rattle.dh_agency.specs.Agency.{WasClean}
-use Rattle.dh_service.proofs.PrintedLemmas.{HasServed}
-use Rattle.dh_service.proofs.serving.serve_connections.Given as goal
+use Rattle.dh_http.proofs.PrintedLemmas.{HasServed}
+use Rattle.dh_http.proofs.connections.serve_connections.Given as goal
 
 abbrev pub invariant-loop-served : goal.invariant-loop-served
 invariant-loop-served g l = record {

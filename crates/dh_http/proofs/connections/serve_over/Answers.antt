@@ -1,6 +1,6 @@
 use Rattle.std.proofs.Common.{arith, Ok, Err}
-use Rattle.dh_service.proofs.ServingLemmas.{serves_on, written_answer}
-use Rattle.dh_service.proofs.serving.serve_over.Goals as goal
+use Rattle.dh_http.proofs.ServingLemmas.{serves_on, written_answer}
+use Rattle.dh_http.proofs.connections.serve_over.Goals as goal
 
 pub returns-in-Ok-clause-on : goal.returns-in-Ok-clause-on
 returns-in-Ok-clause-on g c s before was clean =

@@ -1,8 +1,8 @@
 use Rattle.std.proofs.Common.{[], refl, subst}
-use Rattle.dh_service.specs.Printed.{Listened, PrintsBehind, Untold}
-use Rattle.dh_service.proofs.ServingLemmas.{serves_none}
-use Rattle.dh_service.proofs.PrintedLemmas.{is_output, prints_behind}
-use Rattle.dh_service.proofs.listening.serve.Goals as goal
+use Rattle.dh_http.specs.Printed.{Listened, PrintsBehind, Untold}
+use Rattle.dh_http.proofs.ServingLemmas.{serves_none}
+use Rattle.dh_http.proofs.PrintedLemmas.{is_output, prints_behind}
+use Rattle.dh_http.proofs.listening.serve.Goals as goal
 
 pub returns-in_err-print_port-clause-served : goal.returns-in_err-print_port-clause-served
 returns-in_err-print_port-clause-served g c =

@@ -17,8 +17,8 @@ use Rattle.dh_http.specs.declared.fault.NetFault.{NetFault}
 use Rattle.dh_http.specs.declared.fault.NetFault.TheVariants.{Closed, Input, Output, Memory}
 use Rattle.dh_http.specs.Answers.{fault_answer}
 use Rattle.dh_http.specs.Served.{IsLeftBy, IsServed, LeavesServed, Serves, StopsBy, served}
-use Rattle.dh_service.specs.Service.{Answered, AreTold, Contact, IsAfterSome, IsHalt, IsServing, Lost, ServesOn, Unheard, WritesAnswer, outcome_of}
-use Rattle.dh_service.specs.Service.{outcomes_of, state_after, state_behind}
+use Rattle.dh_http.specs.Service.{Answered, AreTold, Contact, IsAfterSome, IsHalt, IsServing, Lost, ServesOn, Unheard, WritesAnswer, outcome_of}
+use Rattle.dh_http.specs.Service.{outcomes_of, state_after, state_behind}
 
 -- ---- one contact more
 

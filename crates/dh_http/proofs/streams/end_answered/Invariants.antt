@@ -1,4 +1,4 @@
-use Rattle.dh_service.proofs.streams.end_answered.Given as goal
+use Rattle.dh_http.proofs.streams.end_answered.Given as goal
 
 abbrev pub decreases-loop-left : goal.decreases-loop-left
 decreases-loop-left l = l.left

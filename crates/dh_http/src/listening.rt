@@ -4,11 +4,11 @@ ghost use Rattle.std.specs.Prelude.{◌≡◌, ℕ, List, Option, Err, OnOk, fal
 ghost use Rattle.std.specs.Net.Socket.{socket_port};
 ghost use Rattle.dh_agency.specs.Agency.{WasClean};
 ghost use Rattle.dh_types.specs.Output.{Puts};
-ghost use Rattle.dh_service.specs.Printed.{IsPortText, PrintsServed};
-ghost use Rattle.dh_service.specs.Service.{IsOfThisMachine, ServesOn};
-ghost use Rattle.dh_service.specs.declared.listening.Unserved.TheVariants as unserved;
+ghost use Rattle.dh_http.specs.Printed.{IsPortText, PrintsServed};
+ghost use Rattle.dh_http.specs.Service.{IsOfThisMachine, ServesOn};
+ghost use Rattle.dh_http.specs.declared.listening.Unserved.TheVariants as unserved;
 
-use crate::serving::serve_connections;
+use crate::connections::serve_connections;
 use dh_agency::Agency;
 use dh_types::writing::put_parts;
 use dh_types::{BatchCount, Output};

@@ -1,8 +1,8 @@
 use Rattle.std.proofs.Common.{◌≡◌, ◌∙◌, [], ℕ, List, Option, arith, false, rules, subst, sym, true}
-use Rattle.dh_service.specs.Printed.{PrintsBehind}
-use Rattle.dh_service.specs.Service.{ServesOn}
-use Rattle.dh_service.proofs.PrintedLemmas.{goes_on_told, halt_told, is_output, served_more, served_none, served_to_break, served_to_halt}
-use Rattle.dh_service.proofs.serving.serve_connections.Goals as goal
+use Rattle.dh_http.specs.Printed.{PrintsBehind}
+use Rattle.dh_http.specs.Service.{ServesOn}
+use Rattle.dh_http.proofs.PrintedLemmas.{goes_on_told, halt_told, is_output, served_more, served_none, served_to_break, served_to_halt}
+use Rattle.dh_http.proofs.connections.serve_connections.Goals as goal
 
 pub loop-served-init : goal.loop-served-init
 loop-served-init g c = record {
