@@ -10,7 +10,7 @@ ghost use Rattle.dh_http.specs.declared.answers.Unsent.TheVariants as unsent;
 
 use arrayvec::ArrayVec;
 use dh_reports::write;
-use dh_requests::Turned;
+use dh_requests::{Turned};
 use dh_types::writing::{put, put_parts};
 use dh_types::{Answer, Fault, Output, Refusal, Reply};
 use http::StatusCode;

@@ -4,13 +4,13 @@ use Rattle.std.proofs.KnownBytes.{Consumes-trans}
 use Rattle.httparse.specs.Grammar.{RequestHead, print_request}
 use Rattle.httparse.specs.Spans.{IsRequestAt}
 use Rattle.httparse.specs.declared.spans.HeaderSpan.{HeaderSpan}
-use Rattle.dh_heads.specs.declared.head.Head.{Head}
-use Rattle.dh_heads.specs.declared.head.HeadRead.{HeadRead}
-use Rattle.dh_heads.specs.declared.head.HeadRead.TheVariants.{Found}
-use Rattle.dh_heads.specs.declared.limits.TheConstants.{ROOM}
-use Rattle.dh_heads.specs.Heads.{HeadOf, IsHead}
-use Rattle.dh_heads.specs.Known.{IfBoth, TakesAtMost}
-use Rattle.dh_heads.proofs.Taking.{takes_both}
+use Rattle.dh_requests.specs.declared.head.Head.{Head}
+use Rattle.dh_requests.specs.declared.head.HeadRead.{HeadRead}
+use Rattle.dh_requests.specs.declared.head.HeadRead.TheVariants.{Found}
+use Rattle.dh_requests.specs.declared.limits.TheConstants.{ROOM}
+use Rattle.dh_requests.specs.Heads.{HeadOf, IsHead}
+use Rattle.dh_requests.specs.Known.{IfBoth, TakesAtMost}
+use Rattle.dh_requests.proofs.Taking.{takes_both}
 use Rattle.dh_requests.specs.Requests.{IsAnnounced, MayNeedMemory, TakesRequest, turned_by_lines}
 use Rattle.dh_requests.specs.Steps.{TakesBody}
 

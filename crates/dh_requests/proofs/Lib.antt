@@ -1,2 +1,10 @@
+pub mod Taking
+pub mod HeadLemmas
+pub mod BodyLemmas
+pub mod LineLemmas
+pub mod Seeking
+pub mod Found
+pub mod Parting
+pub mod TextTokens
 pub mod Orders
 pub mod Amounts

@@ -6,15 +6,15 @@ use Rattle.std.specs.Cmp.Lexicographic.{pointwise}
 use Rattle.httparse.specs.Spans.{IsRequestAt}
 use Rattle.httparse.specs.declared.spans.HeaderSpan.{HeaderSpan}
 use Rattle.dh_fields.specs.Lines.{field}
-use Rattle.dh_heads.specs.Heads.{HeadOf}
-use Rattle.dh_heads.specs.Known.{IfBoth}
-use Rattle.dh_heads.specs.declared.head.Head.{Head}
-use Rattle.dh_heads.specs.declared.head.HeadRead.{HeadRead}
-use Rattle.dh_heads.specs.declared.head.HeadRead.TheVariants.{Found}
-use Rattle.dh_routes.specs.Targets.{IsTarget}
+use Rattle.dh_requests.specs.Heads.{HeadOf}
+use Rattle.dh_requests.specs.Known.{IfBoth}
+use Rattle.dh_requests.specs.declared.head.Head.{Head}
+use Rattle.dh_requests.specs.declared.head.HeadRead.{HeadRead}
+use Rattle.dh_requests.specs.declared.head.HeadRead.TheVariants.{Found}
+use Rattle.dh_requests.specs.Targets.{IsTarget}
 use Rattle.httparse.specs.Grammar.{RequestHead}
-use Rattle.dh_routes.specs.declared.routing.Route.{Route}
-use Rattle.dh_routes.specs.declared.routing.Route.TheVariants as route
+use Rattle.dh_requests.specs.declared.routing.Route.{Route}
+use Rattle.dh_requests.specs.declared.routing.Route.TheVariants as route
 use Rattle.dh_requests.specs.declared.asked.Asked.{Asked}
 use Rattle.dh_requests.specs.declared.asked.Asked.TheVariants as asked
 use Rattle.dh_requests.specs.declared.asked.Turned.TheVariants as turned

@@ -1,2 +1,10 @@
+pub mod Heads
+pub mod Known
+pub mod Bodies
+pub mod HeaderLines
+pub mod Routes
+pub mod Targets
+pub mod Pieces
+pub mod Texts
 pub mod Requests
 pub mod Steps

@@ -8,15 +8,15 @@ use Rattle.dh_types.specs.declared.reply.Refusal.{Refusal}
 use Rattle.dh_types.specs.declared.reply.Refusal.TheVariants.{BadLine}
 use Rattle.dh_fields.specs.declared.request.Request.{Request}
 use Rattle.dh_fields.specs.Lines.{Fields, field, request_of}
-use Rattle.dh_heads.specs.Heads.{IsHead, IsBadHead, IsLargeHead}
-use Rattle.dh_heads.specs.HeaderLines.{body_length, values_of}
-use Rattle.dh_heads.specs.declared.limits.TheConstants.{ROOM}
-use Rattle.dh_heads.specs.declared.lines.BodyLength.{BodyLength}
-use Rattle.dh_heads.specs.declared.lines.BodyLength.TheVariants.{Absent, Invalid, TooLarge, Bytes}
-use Rattle.dh_routes.specs.Targets.{HasPieces, IsTarget}
-use Rattle.dh_routes.specs.declared.routing.Route.{Route}
-use Rattle.dh_routes.specs.declared.routing.Route.TheVariants as route
-use Rattle.dh_bodies.specs.Texts.{AreTexts}
+use Rattle.dh_requests.specs.Heads.{IsHead, IsBadHead, IsLargeHead}
+use Rattle.dh_requests.specs.HeaderLines.{body_length, values_of}
+use Rattle.dh_requests.specs.declared.limits.TheConstants.{ROOM}
+use Rattle.dh_requests.specs.declared.header_lines.BodyLength.{BodyLength}
+use Rattle.dh_requests.specs.declared.header_lines.BodyLength.TheVariants.{Absent, Invalid, TooLarge, Bytes}
+use Rattle.dh_requests.specs.Targets.{HasPieces, IsTarget}
+use Rattle.dh_requests.specs.declared.routing.Route.{Route}
+use Rattle.dh_requests.specs.declared.routing.Route.TheVariants as route
+use Rattle.dh_requests.specs.Texts.{AreTexts}
 use Rattle.dh_requests.specs.declared.asked.Asked.{Asked}
 use Rattle.dh_requests.specs.declared.asked.Asked.TheVariants as asked
 use Rattle.dh_requests.specs.declared.asked.Turned.{Turned}

@@ -4,11 +4,11 @@ use Rattle.serde_json.specs.Data.{array}
 use Rattle.serde_json.specs.View.{items_view}
 use Rattle.serde_json.specs.declared.value.Value.{Value}
 use Rattle.httparse.specs.Grammar.{RequestHead}
-use Rattle.dh_heads.specs.HeaderLines.{body_length}
-use Rattle.dh_heads.specs.Known.{TakesAtMost}
-use Rattle.dh_heads.specs.declared.lines.BodyLength.{BodyLength}
-use Rattle.dh_heads.specs.declared.lines.BodyLength.TheVariants.{Absent, Invalid, TooLarge, Bytes}
-use Rattle.dh_bodies.specs.Texts.{AreTexts, list_of}
+use Rattle.dh_requests.specs.HeaderLines.{body_length}
+use Rattle.dh_requests.specs.Known.{TakesAtMost}
+use Rattle.dh_requests.specs.declared.header_lines.BodyLength.{BodyLength}
+use Rattle.dh_requests.specs.declared.header_lines.BodyLength.TheVariants.{Absent, Invalid, TooLarge, Bytes}
+use Rattle.dh_requests.specs.Texts.{AreTexts, list_of}
 use Rattle.dh_requests.specs.Requests.{IsAnnounced, posted, values_in}
 use Rattle.dh_requests.specs.declared.asked.Asked.{Asked}
 use Rattle.dh_requests.specs.declared.asked.Asked.TheVariants as asked

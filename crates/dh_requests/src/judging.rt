@@ -3,8 +3,8 @@
 ghost use Rattle.std.specs.Prelude.{◌≡◌, ◌↔◌, ◌≢◌, ℕ, map, length, drop, All, IsTrue, IfOk, IfSome, Err, codes};
 ghost use Rattle.httparse.specs.Grammar.{RequestHead};
 ghost use Rattle.httparse.specs.Spans.{IsHeaderWithin, IsRequestAt, IsRequestWithin};
-ghost use Rattle.dh_routes.specs.Targets.{IsTarget};
-ghost use Rattle.dh_routes.specs.declared.routing.Route.{Route as AnyRoute};
+ghost use Rattle.dh_requests.specs.Targets.{IsTarget};
+ghost use Rattle.dh_requests.specs.declared.routing.Route.{Route as AnyRoute};
 ghost use Rattle.dh_requests.specs.Requests.{IsByMethod, IsOfHead, IsOfRoute, IsOfTarget, IsQuestionOf, NeedsMemory, turned_by_lines};
 ghost use Rattle.dh_requests.specs.Steps.{Behind, TakesBody, TakesOrder};
 
@@ -12,8 +12,10 @@ use crate::asked::{Asked, Turned};
 use crate::posting::judge_command;
 use crate::unread::Unread;
 use dh_fields::{Request, read_fields};
-use dh_heads::{Failure, body_length, count};
-use dh_routes::{Route, pieces_of, route_of, router};
+use crate::failure::{Failure};
+use crate::header_lines::{body_length, count};
+use crate::pieces::{pieces_of};
+use crate::routing::{Route, route_of, router};
 use dh_types::Refusal;
 use httparse::spans::{HeaderSpan, RequestSpans};
 use std::alloc::{AllocError, Global};

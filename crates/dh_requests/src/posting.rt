@@ -2,16 +2,18 @@
 
 ghost use Rattle.std.specs.Prelude.{◌≡◌, ◌≢◌, ◌≤◌, ◌-◌, ◌⊎◌, ℕ, List, length, map, IfOk, IsTrue, Err};
 ghost use Rattle.json.specs.Scratch.{room};
-ghost use Rattle.dh_heads.specs.Known.{TakesAtMost};
-ghost use Rattle.dh_bodies.specs.Texts.{AreTexts};
+ghost use Rattle.dh_requests.specs.Known.{TakesAtMost};
+ghost use Rattle.dh_requests.specs.Texts.{AreTexts};
 ghost use Rattle.dh_requests.specs.Requests.{IsBodyOf, IsPosted, is_question, posted};
 ghost use Rattle.dh_requests.specs.Steps.{Behind, IsListed, IsTextsOf, TakesLength};
 
 use crate::asked::{Asked, Turned};
 use crate::unread::Unread;
-use dh_bodies::{NoTexts, list_in, texts_of};
+use crate::body_texts::{NoTexts, list_in, texts_of};
 use dh_fields::{Request, read_fields};
-use dh_heads::{BodyFault, BodyLength, Failure, read_body};
+use crate::body::{BodyFault, read_body};
+use crate::failure::{Failure};
+use crate::header_lines::{BodyLength};
 use dh_types::Refusal;
 use json::Scratch;
 use serde_json::Value;

@@ -1,6 +1,6 @@
 use Rattle.std.proofs.Common.{IfSome, inr, refl, subst, sym}
 use Rattle.std.proofs.lemmas.Result.{IfOk-weaker}
-use Rattle.dh_routes.specs.Targets.{IsTarget}
+use Rattle.dh_requests.specs.Targets.{IsTarget}
 use Rattle.dh_requests.specs.Requests.{IsOfRoute, IsOfTarget}
 use Rattle.dh_requests.proofs.Orders.{behind_weaker, not_found}
 use Rattle.dh_requests.proofs.judging.judge_target.Goals as goal

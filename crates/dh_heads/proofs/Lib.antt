@@ -1,4 +1,0 @@
-pub mod Taking
-pub mod HeadLemmas
-pub mod BodyLemmas
-pub mod LineLemmas

@@ -1,4 +1,0 @@
-pub mod Heads
-pub mod Known
-pub mod Bodies
-pub mod HeaderLines

@@ -1,0 +1,113 @@
+//! A body that is a list of texts.
+
+ghost use Rattle.std.specs.Prelude.{◌≡◌, ◌≢◌, ◌≤◌, ◌<◌, ◌↔◌, List, [], ◌∷◌, ℕ, length, map, Some, false};
+ghost use Rattle.std.specs.Prelude.{IfOk, IfErr, IsTrue, OnErr, OnOk, MatchBool, MatchOption};
+ghost use Rattle.json.specs.Scratch.{room};
+ghost use Rattle.json.specs.Token.{Token as JsonToken};
+ghost use Rattle.serde_json.specs.Data.{array};
+ghost use Rattle.serde_json.specs.View.{items_view};
+ghost use Rattle.dh_requests.specs.Texts.{AreTexts, list_of};
+ghost use Rattle.serde_json.specs.Read.{read};
+ghost use Rattle.dh_requests.specs.declared.body_texts.NoTexts.TheVariants.{NotTexts, Memory};
+
+use json::{Reader, Scratch, Token};
+use serde_json::Value;
+use std::alloc::{AllocError, Global};
+use std::str;
+
+/// The texts that the values of a list are; `None` where one is no text. An error comes only for want of memory, and never for a
+/// list of none.
+pub fn texts_of<'a>(alloc: Global, items: &'a [Value]) -> Result<Option<Vec<&'a [u8]>>, AllocError>
+    ensures some { OnErr result (0 < length items.now) }
+    ensures texts { IfOk result (λ found. MatchOption found
+        ((texts : List (List ℕ)) → array (items_view items.now) ≢ list_of texts)
+        (λ v. array (items_view items.now) ≡ list_of (map (λ s. s.now) v.items))) }
+{
+    let mut texts = Vec::new(alloc);
+    for item in items {
+        match item.as_str() {
+            Some(text) => texts.push(text.as_bytes())?,
+            None => return Ok(None),
+        }
+    }
+    Ok(Some(texts))
+}
+
+/// Why a body gives no list.
+#[derive(Clone, Copy, Debug, PartialEq, Eq)]
+pub enum NoTexts {
+    /// The body is no JSON list.
+    NotTexts,
+    /// Memory ran out.
+    Memory,
+}
+
+// Takes the bracket that opens a list, if it is next, and else whatever is.
+fn take_list(reader: &mut Reader) -> bool
+    ensures list { IsTrue result → reader.old ≡ JsonToken.begin_array ∷ reader.new }
+    ensures other { result ≡ false → (rest : List JsonToken) → reader.old ≢ JsonToken.begin_array ∷ rest }
+{
+    matches!(reader.next(), Some(Token::BeginArray))
+}
+
+// Takes a text, if it is next, and else whatever is.
+fn take_text(reader: &mut Reader) -> bool
+    ensures text { IsTrue result → (text : List ℕ) × (reader.old ≡ JsonToken.string text ∷ reader.new) }
+    ensures other { result ≡ false → (text : List ℕ) (rest : List JsonToken) → reader.old ≢ JsonToken.string text ∷ rest }
+{
+    matches!(reader.next(), Some(Token::String(_)))
+}
+
+// Whether nothing is left.
+fn is_at_end(reader: &mut Reader) -> bool
+    ensures { IsTrue result ↔ (reader.old ≡ []) }
+{
+    reader.next().is_none()
+}
+
+// Whether a text is a list of texts. It takes no memory but the room that it is given.
+fn is_list(text: &str, scratch: &mut Scratch) -> bool
+    requires { length text.now ≤ room scratch.old }
+    ensures texts { IsTrue result → (texts : List (List ℕ)) × (read text.now ≡ Some (list_of texts)) }
+    ensures none { result ≡ false → (texts : List (List ℕ)) → read text.now ≢ Some (list_of texts) }
+{
+    let Ok(mut reader) = Reader::new(text, scratch) else {
+        unreachable!();
+    };
+    if !take_list(&mut reader) {
+        return false;
+    }
+    'texts: while !reader.take_end_array() {
+        if !take_text(&mut reader) {
+            return false;
+        }
+    }
+    is_at_end(&mut reader)
+}
+
+/// The values of the list that the body is. Want of memory is told of a list of texts alone.
+pub fn list_in(alloc: Global, scratch: &mut Scratch, body: &[u8]) -> Result<Vec<Value>, NoTexts>
+    requires { length body.now ≤ room scratch.old }
+    ensures ok { IfOk result (λ v. (texts : List (List ℕ)) → array (items_view v.items) ≡ list_of texts → AreTexts body.now texts) }
+    ensures only { IfOk result (λ v. (texts : List (List ℕ)) → AreTexts body.now texts → array (items_view v.items) ≡ list_of texts) }
+    ensures texts { OnOk result ((texts : List (List ℕ)) × AreTexts body.now texts) }
+    ensures err { IfErr result (λ e. e ≡ NotTexts → (texts : List (List ℕ)) → ¬ AreTexts body.now texts) }
+    ensures memory { IfErr result (λ e. e ≡ Memory → (texts : List (List ℕ)) × AreTexts body.now texts) }
+{
+    let Ok(text) = str::from_utf8(body) else {
+        return Err(NoTexts::NotTexts);
+    };
+    if !is_list(text, scratch) {
+        return Err(NoTexts::NotTexts);
+    }
+    match Value::from_str(alloc, text) {
+        Ok(Value::Array(items)) => Ok(items),
+        Ok(_) => unreachable!(),
+        Err(error) => {
+            if !error.is_memory() {
+                unreachable!();
+            }
+            Err(NoTexts::Memory)
+        }
+    }
+}

@@ -1,0 +1,55 @@
+//! The routes, and the route of a target.
+
+ghost use Rattle.std.specs.Prelude.{◌≡◌, IfOk, IfSome, IfNone};
+ghost use Rattle.dh_requests.specs.Routes.{routes};
+ghost use Rattle.dh_requests.specs.Targets.{IsTarget};
+ghost use Rattle.dh_requests.specs.declared.routing.Route.{Route as AnyRoute};
+
+use matchit::{InsertError, Router};
+use std::alloc::Global;
+
+/// What a target names.
+#[derive(Clone, Copy, Debug, PartialEq, Eq)]
+pub enum Route {
+    /// `/commands`
+    Commands,
+    /// `/branches`
+    Branches,
+    /// `/vacant/{day}`
+    Vacant,
+    /// `/matching/{client}/{day}`
+    Matching,
+    /// `/statement/{lease}`
+    Statement,
+    /// `/arrears/{branch}`
+    Arrears,
+    /// `/run/{month}`
+    Run,
+}
+
+/// A router of all routes. An error comes only for want of memory.
+pub fn router(alloc: Global) -> Result<Router<Route>, InsertError>
+    ensures { IfOk result (λ router. router ≡ routes) }
+{
+    let mut router = Router::new(alloc);
+    router.insert("/commands", Route::Commands)?;
+    router.insert("/branches", Route::Branches)?;
+    router.insert("/vacant/{day}", Route::Vacant)?;
+    router.insert("/matching/{client}/{day}", Route::Matching)?;
+    router.insert("/statement/{lease}", Route::Statement)?;
+    router.insert("/arrears/{branch}", Route::Arrears)?;
+    router.insert("/run/{month}", Route::Run)?;
+    Ok(router)
+}
+
+/// The route that a target names, if it names one.
+pub fn route_of(router: &Router<Route>, target: &str) -> Option<Route>
+    requires { router.now ≡ routes }
+    ensures found { IfSome result (λ route. IsTarget route target.now) }
+    ensures none { IfNone result ((route : AnyRoute) → ¬ IsTarget route target.now) }
+{
+    match router.at(target) {
+        Ok(found) => Some(*found.value),
+        Err(_) => None,
+    }
+}

@@ -1,3 +1,0 @@
-pub mod Seeking
-pub mod Found
-pub mod Parting

@@ -1,3 +1,0 @@
-pub mod Routes
-pub mod Targets
-pub mod Pieces
