@@ -1,7 +1,7 @@
 //! Agencies that are told lines.
 
 use dh_agency::{Agency, NotOpened, create};
-use dh_examples::{Unreadable, answer_text, january, request};
+use dh_scripts::{Unreadable, answer_text, january, request};
 use dh_fields::Request;
 use dh_runs::RunState;
 use dh_types::{Command, Fault, Question, Reply};

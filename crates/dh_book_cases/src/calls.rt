@@ -3,7 +3,7 @@
 ghost use Rattle.std.specs.Prelude.{◌≡◌};
 
 use dh_books::Books;
-use dh_examples::{Row, Unreadable, january};
+use dh_scripts::{Row, Unreadable, january};
 use dh_leases::{whole, with_posted, with_run};
 use dh_player::{Reach, cut_done, cut_undone, mended, said, torn};
 use dh_rules::step;

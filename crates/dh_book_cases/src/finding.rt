@@ -1,7 +1,7 @@
 //! Rows, found under their keys.
 
 use dh_books::Books;
-use dh_examples::{Fields, ToLine, Unreadable};
+use dh_scripts::{Fields, ToLine, Unreadable};
 use std::alloc::Global;
 
 fn line_of<T: ToLine>(alloc: Global, row: Option<&T>) -> Result<String, Unreadable> {

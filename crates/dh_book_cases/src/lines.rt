@@ -10,7 +10,7 @@ use crate::runs::{
 };
 use crate::terms::{covered, due, dues_of, end, overlapping};
 use dh_books::Books;
-use dh_examples::{Fields, Unreadable, command, request_if_any, row_of};
+use dh_scripts::{Fields, Unreadable, command, request_if_any, row_of};
 use dh_fields::Request;
 use dh_model::Verdict;
 use dh_rules::decide;

@@ -1,7 +1,7 @@
 //! All rows of a kind.
 
 use dh_books::Books;
-use dh_examples::{ToLine, Unreadable, add_part, all_lines, or_none};
+use dh_scripts::{ToLine, Unreadable, add_part, all_lines, or_none};
 use std::alloc::Global;
 use std::collections::btree_map::{Keys, Values};
 use std::fmt::Display;

@@ -24,8 +24,7 @@ mod terms;
 mod values;
 mod writers;
 
-use dh_examples::script;
-use dh_tally::Tally;
+use dh_scripts::{Tally, script};
 use std::io;
 
 fn play_scripts(rt: &HostRuntime, tally: &mut Tally) -> io::Result<()> {

@@ -5,8 +5,7 @@ use crate::cuts::play_with_cuts;
 use crate::happenings::play_list;
 use crate::lines::{Teller, answered};
 use dh_books::Books;
-use dh_examples::{Block, Manner, Unreadable};
-use dh_tally::Tally;
+use dh_scripts::{Block, Manner, Tally, Unreadable};
 use std::alloc::{AllocError, Global};
 use std::io;
 

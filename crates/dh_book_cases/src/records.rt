@@ -1,7 +1,7 @@
 //! Records with texts: the line of a copy.
 
 use crate::values::Said;
-use dh_examples::{Row, ToLine, Unreadable, row_of};
+use dh_scripts::{Row, ToLine, Unreadable, row_of};
 use std::alloc::{AllocError, Global};
 
 // The line of a copy of the row, for a kind that has copies.

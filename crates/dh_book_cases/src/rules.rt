@@ -6,7 +6,7 @@ use dh_audit::{
     one_start_a_day, open_months_are_in_order, runs_in_order, staff_of_the_branch,
 };
 use dh_books::Books;
-use dh_examples::Unreadable;
+use dh_scripts::{Unreadable};
 use dh_rules::audit;
 use std::alloc::{AllocError, Global};
 

@@ -1,7 +1,7 @@
 //! Rent runs and their batches.
 
 use dh_books::Books;
-use dh_examples::{Fields, Unreadable, add_part, lines_of};
+use dh_scripts::{Fields, Unreadable, add_part, lines_of};
 use dh_leases::{branch_parts, posted_charges, posted_parts};
 use dh_model::OpenRun;
 use dh_rules::batches;

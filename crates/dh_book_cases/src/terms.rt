@@ -1,7 +1,7 @@
 //! What leases cover, and what falls due on them.
 
 use dh_books::Books;
-use dh_examples::{Fields, Unreadable, lines_of};
+use dh_scripts::{Fields, Unreadable, lines_of};
 use dh_leases::{covers, due_in, end_of, overlap};
 use dh_rules::dues;
 use dh_types::Lease;

@@ -16,13 +16,12 @@ use dh_agency_scripts::{
 };
 use dh_asking::ask;
 use dh_calls::crashing::next_life;
-use dh_examples::{Block, january, request, script};
+use dh_scripts::{Block, Tally, january, request, script};
 use dh_fields::Request;
 use dh_model::{Change, Verdict};
 use dh_plans::Plan;
 use dh_posting::plan_run;
 use dh_runs::{Batch, Problem, check, close_run, open_run, post_batch};
-use dh_tally::Tally;
 use dh_types::{Command, Reply, RunSum};
 use sqlite::{Alter, Connection};
 use sqlite_trees::store::Reopen;

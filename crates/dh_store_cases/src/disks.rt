@@ -7,8 +7,7 @@ ghost use Rattle.dh_runs.specs.Taking.{IsResting};
 
 use dh_agency::{Agency, NotOpened, create, recover};
 use dh_agency_scripts::{all_rows, compare, compare_tables, in_memory, parted, table_of, told};
-use dh_examples::{Block, january, script};
-use dh_tally::Tally;
+use dh_scripts::{Block, Tally, january, script};
 use sqlite::{Alter, Connection, FileStore, Files, Options};
 use sqlite_disk::{Crash, Disk, Fuse, Memory};
 use std::alloc::{AllocError, Global};

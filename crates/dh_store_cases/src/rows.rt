@@ -1,9 +1,8 @@
 //! Rows and the records that they are.
 
 use dh_agency_scripts::{compare, parted};
-use dh_examples::{Row as Words, ToLine, Unreadable, row_of};
+use dh_scripts::{Row, Tally, ToLine, Unreadable, Words, as, row_of};
 use dh_rows::{Meta, Record};
-use dh_tally::Tally;
 use dh_types::{
     Branch, Charge, Client, Inspection, Lease, Owner, Part, Property, Receipt, Registration, Run,
     Staff, Viewing,

@@ -7,7 +7,7 @@ use dh_agency_scripts::{compare, in_memory, told};
 use dh_leases::whole;
 use dh_rules::Books;
 use dh_schema::load;
-use dh_tally::Tally;
+use dh_scripts::{Tally};
 use sqlite::{Alter, Connection};
 use std::alloc::{AllocError, Global};
 use std::io;

@@ -2,9 +2,8 @@
 
 use dh_agency::{Agency, NotOpened, create};
 use dh_agency_scripts::{compare, told};
-use dh_examples::january;
+use dh_scripts::{Tally, january};
 use dh_schema::{install, load};
-use dh_tally::Tally;
 use sqlite::{Alter, Connection, MemStore, params};
 use std::alloc::{AllocError, Global};
 use std::io;

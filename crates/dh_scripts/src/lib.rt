@@ -1,3 +1,4 @@
+//! How many cases were played, and how many of them differ: for the programs of cases. Read `Tally` first.
 //! The lines of worked examples: what an office tells its agency, line by line, and what it is answered. Programs over each
 //! layer play the same scripts.
 //!
@@ -17,7 +18,9 @@ mod requests;
 mod row_lines;
 mod rows;
 mod scripts;
+mod tally;
 
+pub use tally::Tally;
 pub use answers::{answer_text, numbers_of};
 pub use beginning::january;
 pub use copies::copy_of;
