@@ -15,7 +15,7 @@ use dh_agency_scripts::{
     Lived, all_rows, compare, compare_tables, parted, problem_text, table_of, told_anew,
 };
 use dh_asking::ask;
-use dh_calls::crashing::next_life;
+use dh_histories::crashing::next_life;
 use dh_scripts::{Block, Tally, january, request, script};
 use dh_fields::Request;
 use dh_model::{Change, Verdict};

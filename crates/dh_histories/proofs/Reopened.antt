@@ -1,0 +1,69 @@
+-- What is found after a call and a crash.
+use Rattle.std.proofs.Common.{◌≤◌, inr, Result, Ok, Err, IfOk, IfErr, OnErr, arith}
+use Rattle.sqlite.specs.Store.{Ghosts}
+use Rattle.sqlite.specs.Effect.{IsDatabase}
+use Rattle.sqlite.specs.State.{HasCleanDisk}
+use Rattle.sqlite.specs.Held.{Held, state}
+use Rattle.sqlite_trees.specs.View.{doubt}
+use Rattle.dh_types.specs.declared.command.Command.{Command}
+use Rattle.dh_types.specs.declared.reply.Reply.{Reply}
+use Rattle.dh_model.specs.Books as machine
+use Rattle.dh_schema.specs.Store.{AreTables, tables}
+use Rattle.dh_runs.specs.Told.{IsCut, IsMended, IsSaid, IsTorn}
+use Rattle.dh_histories.specs.Calls.{Call, Recovered, RecoveryCut, StepCut, Stepped, Tells}
+use Rattle.dh_histories.specs.Histories.{IsFoundAfter, IsOfALine, IsOpenedAnew, IsSoundIn}
+use Rattle.dh_histories.proofs.Following.{answered, broken, found_so, torn}
+
+pub if_ok : {A E : Type 0} (r : Result A E) (P Q : A → Type 0) → ((a : A) → P a → Q a) → IfOk r P → IfOk r Q
+if_ok (Ok a) P Q f h = f a h
+if_ok (Err e) P Q f h = tt
+
+pub on_err : {A E : Type 0} (r : Result A E) (P Q : Type 0) → (P → Q) → OnErr r P → OnErr r Q
+on_err (Ok a) P Q f h = tt
+on_err (Err e) P Q f h = f h
+
+pub if_ok_both : {A E : Type 0} (r : Result A E) (P Q R : A → Type 0) → ((a : A) → P a → Q a → R a) → IfOk r P → IfOk r Q → IfOk r R
+if_ok_both (Ok a) P Q R f p q = f a p q
+if_ok_both (Err e) P Q R f p q = tt
+
+pub if_err_both : {A E : Type 0} (r : Result A E) (P Q R : E → Type 0) → ((e : E) → P e → Q e → R e) → IfErr r P → IfErr r Q → IfErr r R
+if_err_both (Ok a) P Q R f p q = tt
+if_err_both (Err e) P Q R f p q = f e p q
+
+module _ {S : Type 0} (g : Ghosts S) (before : Held S) where
+  -- the call ended so, and its files were opened anew
+  pub opened_anew : (ended found : Held S) → IsOpenedAnew g ended found → (HasCleanDisk (state g found) → IsDatabase (state g found).now)
+      → doubt (state g ended).is_clean ≤ doubt (state g found).is_clean
+      → HasCleanDisk (state g found) → (call : Call) → IsOfALine call → Tells call (state g before) (state g ended) → IsFoundAfter g before call found
+  opened_anew ended found anew lists was_clean clean call line tells = record {
+    ended = ended;
+    happened = record { tells = tells; line = line; finds = inr anew; lists = lists clean; clean = (omega (arith, was_clean, clean), clean) };
+  }
+
+  module _ (found : Held S) where
+    abbrev Finds : (machine.State → machine.State → Type 0) → Type 0
+    Finds P = AreTables (P (tables (state g before))) (state g found).now.trees
+
+    pub said_found : (told : Command) (reply : Reply) → IsFoundAfter g before (Stepped told reply) found → Finds (IsSaid told reply)
+    said_found told reply it =
+        let so = it.happened in
+        found_so g it.ended found (AreTables (IsSaid told reply (tables (state g before))))
+        (answered (state g before) (state g it.ended) so.clean.0 (IsSaid told reply) so.tells) so.finds so.clean.1
+
+    pub cut_found : (told : Command) → IsFoundAfter g before (StepCut told) found → Finds (IsCut told)
+    cut_found told it =
+        let so = it.happened in
+        found_so g it.ended found (AreTables (IsCut told (tables (state g before))))
+        (broken (state g before) (state g it.ended) so.clean.0 (IsCut told) so.tells) so.finds so.clean.1
+
+    pub mended_found : IsFoundAfter g before Recovered found → Finds IsMended
+    mended_found it =
+        let so = it.happened in
+        found_so g it.ended found (AreTables (IsMended (tables (state g before))))
+        (answered (state g before) (state g it.ended) so.clean.0 IsMended so.tells) so.finds so.clean.1
+
+    pub torn_found : IsSoundIn g before → IsFoundAfter g before RecoveryCut found → Finds IsTorn
+    torn_found sound it =
+        let so = it.happened in
+        found_so g it.ended found (AreTables (IsTorn (tables (state g before))))
+        (torn (state g before) (state g it.ended) so.clean.0 sound so.tells) so.finds so.clean.1
