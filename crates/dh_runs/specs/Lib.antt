@@ -1,3 +1,9 @@
+pub mod Batches
+pub mod Closing
+pub mod Putting
+pub use Rattle.dh_types.specs.Records
+pub use Rattle.dh_types.specs.Reports
+pub use Rattle.dh_types.specs.Replies
 pub mod Told
 pub mod Taking
 pub mod Problems

@@ -1,0 +1,55 @@
+-- Rows that were put and committed, or not.
+use Rattle.std.proofs.Common.{◌≡◌, ◌∙◌, ◌≤◌, sym, subst, true, false, Option, Ok, arith}
+use Rattle.sqlite_trees.specs.Tree.{Trees}
+use Rattle.sqlite_trees.specs.View.{doubt}
+use Rattle.sqlite.specs.State.{HasCleanDisk, Shows, Survives}
+use Rattle.sqlite.specs.Store.{Ghosts}
+use Rattle.sqlite.specs.Held.{Held, state}
+use Rattle.dh_model.specs.declared.open_run.OpenRun.{OpenRun}
+use Rattle.dh_model.specs.Books.{Books}
+use Rattle.dh_model.specs.Books as machine
+use Rattle.dh_model.specs.Rules.{MeetsRules}
+use Rattle.dh_model.specs.Runs.{batch_size}
+use Rattle.dh_model.specs.Whole.{IsOpenAt}
+use Rattle.dh_laws.specs.StateTables as office
+use Rattle.dh_laws.proofs.ShownRun.{run_shown_is_reckoned}
+use Rattle.dh_schema.specs.Store.{AreTables, Commits, IsReady, tables}
+use Rattle.dh_schema.specs.Tables.{AreInOrder, books_in}
+use Rattle.dh_schema.proofs.Crashing.{survives_committed}
+use Rattle.dh_schema.proofs.Installing.{ready_after}
+use Rattle.dh_schema.proofs.Keyed.{books_are_keyed}
+use Rattle.dh_runs.specs.Putting.{Puts}
+
+-- tables in order with the books of tables that an office works on are sound, and show their run
+pub sound_after : (after : machine.State) (trees : Trees) → office.AreInOrder after → AreInOrder trees → books_in trees ≡ after.books
+    → AreTables (λ t. t ≡ after) trees
+sound_after after trees order in_order is =
+    let run : Option OpenRun = after.open_run in
+    let shown : IsOpenAt batch_size (books_in trees) run = subst (λ (books : Books). IsOpenAt batch_size books run) (sym is) order.shown in
+    let reckoned = run_shown_is_reckoned batch_size (books_in trees) run (omega arith) (books_are_keyed trees) shown in (
+      record { in_order = in_order; rules = subst (λ (books : Books). MeetsRules books batch_size) (sym is) order.rules },
+      λ i. record { books = is i; open_run = reckoned i },
+    )
+
+-- a transaction is begun, rows are put, and it is committed: the tables are these then
+module _ {S : Type 0} (g : Ghosts S) (turned : Books → Books) (after : machine.State) (x : Unit {0}) (old begun last new : Held S)
+    (is : begun ≡ record old { in_transaction = true }) (order : HasCleanDisk (state g old) → office.AreInOrder after)
+    (made : turned (tables (state g old)).books ≡ after.books) (puts : Puts turned (Ok x) (state g begun) (state g last))
+  where
+    abbrev After : machine.State → Type 0
+    After t = t ≡ after
+
+    sound : HasCleanDisk (state g last) → AreTables After (state g last).now.trees
+    sound clean =
+        let moved : Puts turned (Ok x) (state g (record old { in_transaction = true })) (state g last) =
+        subst (λ (h : Held S). Puts turned (Ok x) (state g h) (state g last)) is puts in
+        let below : doubt (state g old).is_clean ≤ doubt (state g last).is_clean = moved.crash.clean in
+        let done = moved.put clean in
+        sound_after after (state g last).now.trees (order (omega (arith, below, clean))) done.0.in_order (done.1 ∙ made)
+
+    pub committed : Survives (state g last) (state g new) (λ db. db ≡ (state g last).now.trees) → Commits (state g old) (state g new) After
+    committed commit = survives_committed g old begun last new (AreTables After) is puts.crash sound commit
+
+    pub ready_with : HasCleanDisk (state g last) → Shows (state g last) (state g new) (state g last).now (state g last).now false
+        → IsReady (state g new) × After (tables (state g new))
+    ready_with clean shown = ready_after After (state g last) (state g new) (puts.put clean).0.schema shown (sound clean)

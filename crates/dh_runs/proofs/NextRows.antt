@@ -1,0 +1,97 @@
+-- The first rows of a plan are the next batch.
+use Rattle.std.proofs.Common.{◌≡◌, ◌∙◌, sym, ap, subst, ℕ, ◌+◌, ◌<◌, Bool, true, false, nat_lt, if◌then◌else◌, List, length, Some, arith}
+use Rattle.std.specs.Prelude.{slice_index_or, option_copied, slice_get, Option}
+use Rattle.std.specs.Borrow.{Bor}
+use Rattle.std.proofs.lemmas.Option.{get_or_from_slice_get, slice_get_within}
+use Rattle.std.proofs.lemmas.Bool.Decides.{nat_tests}
+use Rattle.dh_model.specs.declared.open_run.OpenRun.{OpenRun}
+use Rattle.dh_model.specs.Books.{Books, State}
+use Rattle.dh_model.specs.Runs.{batch_size, batches, charge_key, part_key, posted_charges, posted_parts}
+use Rattle.dh_model.specs.Whole.{with_posted}
+use Rattle.dh_model.proofs.KeyOrders.{nat_text_ties, nat_text_total, nats_tie, nats_total}
+use Rattle.dh_laws.specs.Batches.{next_batch, next_of, with_batch}
+use Rattle.dh_laws.specs.InOrder.{IsInOrder}
+use Rattle.dh_laws.specs.StateTables.{AreInOrder}
+use Rattle.dh_laws.proofs.MovingBatches.{with_batches}
+use Rattle.dh_laws.proofs.PostCharged.{charge_month, charges_fit, part_month, parts_fit}
+use Rattle.dh_laws.proofs.PostMonth.{stays}
+use Rattle.dh_plans.specs.declared.planning.BatchRows.{BatchRows}
+use Rattle.dh_plans.specs.declared.planning.Plan.{Plan}
+use Rattle.dh_plans.specs.Plans.{AreNew, HasItsPart, IsPlanOf, begins_at, stage, with_batch_rows}
+use Rattle.dh_runs.specs.declared.posting.Batch.TheVariants.{Posted, NoneLeft}
+use Rattle.dh_runs.specs.Batches.{batch_told}
+
+-- with the batches that are done, books are as they were
+pub own_stage : (books : Books) (run : OpenRun) → IsInOrder batch_size books (Some run) → with_posted batch_size books run.month run.done ≡ books
+own_stage books run order =
+    let shown = order.shown.3 in
+    let charges = stays charge_key charge_month nats_total nats_tie books.charges run.month (posted_charges batch_size books run.month run.done)
+    (charges_fit batch_size books order.keyed order.rules run.month run.done) shown.charges in
+    let parts = stays part_key part_month nat_text_total nat_text_ties books.parts run.month (posted_parts batch_size books run.month run.done)
+    (parts_fit batch_size books order.keyed order.rules run.month run.done) shown.parts in
+    λ i. record books { charges = charges i; parts = parts i }
+
+-- the first of a list that is there
+pub first_is : (rows : List BatchRows) (view : List BatchRows) (found : Option (Bor BatchRows)) {row : Bor BatchRows} → view ≡ rows
+    → option_copied found ≡ slice_get view 0 → found ≡ Some row → (0 < length rows) × (row.now ≡ slice_index_or rows 0 row.now)
+first_is rows view found {row = row} same value is =
+    let at : slice_get rows 0 ≡ Some row.now = ap (λ (list : List BatchRows). slice_get list 0) (sym same) ∙ sym value ∙ ap option_copied is in
+    (slice_get_within rows 0 row.now at, sym (get_or_from_slice_get rows 0 row.now row.now at))
+
+module _ (plan : Plan) (s : State) (order : AreInOrder s) (is : IsPlanOf plan s) where
+  abbrev run : OpenRun
+  run = begins_at plan
+
+  abbrev all : ℕ
+  all = batches batch_size s.books plan.month
+
+  here : IsInOrder batch_size s.books (Some run)
+  here = subst (λ it. IsInOrder batch_size s.books it) is.shown order
+
+  first_stage : s ≡ stage s.books run 0
+  first_stage =
+      let none : plan.done ≡ plan.done + 0 = omega arith in
+      (λ i. record { books = sym (own_stage s.books run here) i; open_run = is.shown i })
+      ∙ ap (λ (m : ℕ). record { books = with_posted batch_size s.books plan.month m; open_run = Some (record { month = plan.month; done = m }) }) none
+
+  next_by : (b : Bool) → nat_lt plan.done all ≡ b → next_batch s ≡ (if b then with_batch s.books run else record { books = s.books; open_run = Some run })
+  next_by b e = ap (next_of s.books) is.shown ∙ ap (λ (b : Bool). if b then with_batch s.books run else record { books = s.books; open_run = Some run }) e
+
+  told_by : (b : Bool) → nat_lt plan.done all ≡ b → batch_told s.books s.open_run ≡ (if b then Posted (plan.done + 1) all else NoneLeft)
+  told_by b e = ap (batch_told s.books) is.shown ∙ ap (λ (b : Bool). if b then Posted (plan.done + 1) all else NoneLeft) e
+
+  -- where the plan has no rows, no batch is left
+  module _ (none : length plan.batches.items ≡ 0) where
+    at_the_last : nat_lt plan.done all ≡ false
+    at_the_last = let counted = is.counted in grind (arith, nat_tests, counted, none)
+
+    pub none_told : NoneLeft ≡ batch_told s.books s.open_run
+    none_told = sym (told_by false at_the_last)
+
+    pub none_next : s ≡ next_batch s
+    none_next = (λ i. record { books = s.books; open_run = is.shown i }) ∙ sym (next_by false at_the_last)
+
+  -- the first of its rows are the next batch
+  module _ (rows : BatchRows) (some : 0 < length plan.batches.items) (at : rows ≡ slice_index_or plan.batches.items 0 rows) where
+    before_the_last : nat_lt plan.done all ≡ true
+    before_the_last = let counted = is.counted in grind (arith, nat_tests, counted, some)
+
+    pub posted_told : Posted (plan.done + 1) (plan.done + length plan.batches.items) ≡ batch_told s.books s.open_run
+    posted_told = ap (λ (of : ℕ). Posted (plan.done + 1) of) is.counted ∙ sym (told_by true before_the_last)
+
+    to_first : with_batch_rows rows s ≡ stage s.books run 1
+    to_first = ap (with_batch_rows rows) first_stage ∙ is.goes 0 rows some at
+
+    pub rows_next : with_batch_rows rows s ≡ next_batch s
+    rows_next = to_first ∙ sym (next_by true before_the_last)
+
+    pub rows_in_order : AreInOrder (with_batch_rows rows s)
+    rows_in_order =
+        let led = with_batches batch_size s.books run (plan.done + 1) here (let counted = is.counted in omega (arith, counted, some)) in
+        subst (λ (it : State). AreInOrder it) (sym to_first) led.order
+
+    pub rows_new : AreNew rows.charges.items s.books.charges
+    rows_new = subst (λ (it : State). AreNew rows.charges.items it.books.charges) (sym first_stage) (is.new 0 rows some at)
+
+    pub rows_known : HasItsPart rows s
+    rows_known = subst (HasItsPart rows) (sym first_stage) (is.begun 0 rows some at)

@@ -1,0 +1,176 @@
+-- Rows that were put into their tables, as what becomes of the books.
+use Rattle.std.proofs.Common.{◌≡◌, ◌∙◌, refl, sym, ap, subst, inl, true, false, [], ◌∷◌, Option, Some, None, is_some, Result, Ok, Err, OnErr, OnOk, arith}
+use Rattle.std.proofs.lemmas.Bool.{false≢true}
+use Rattle.std.specs.declared.cmp.Ordering.{Ordering}
+use Rattle.std.specs.Cmp.{IsTotalOrder}
+use Rattle.std.specs.FinMap.{FinMap, IsAntisymmetric, entries, get, get-entries, get-from_entries, insert, same_map}
+use Rattle.sqlite.specs.declared.error.Error.{Error}
+use Rattle.sqlite.specs.State.{HasCleanDisk, State}
+use Rattle.dh_types.specs.declared.lease.Charge.{Charge}
+use Rattle.dh_types.specs.declared.run.Part.{Part}
+use Rattle.dh_model.specs.Books.{Books, with_rows}
+use Rattle.dh_model.specs.Runs.{charge_key, part_key}
+use Rattle.dh_model.proofs.KeyOrders.{nat_text_ties, nat_text_total, nats_tie, nats_total}
+use Rattle.dh_catalog.specs.Layout.{our_schema}
+use Rattle.dh_sql.specs.Changes.{Becomes}
+use Rattle.dh_tables.specs.Calls.{Amends, CommitsNothing, GoesOn, IsUndone}
+use Rattle.dh_tables.proofs.AmendedRecord.{becomes_there}
+use Rattle.dh_schema.specs.Kinds.{Kind, key_of, order_of, record_of, shape_of, shelf_of}
+use Rattle.dh_schema.specs.Kinds.{Parts}
+use Rattle.dh_schema.specs.Store.{IsWriting, tables}
+use Rattle.dh_schema.specs.Tables.{AreInOrder, loaded_from, records_in}
+use Rattle.dh_schema.proofs.Crashing.{survives_both}
+use Rattle.dh_schema.proofs.Keyed.{keyed}
+use Rattle.dh_store.proofs.Putting.{keeps_both, keeps_commit, put_in}
+use Rattle.dh_runs.specs.Putting.{Puts, with_charges, with_part}
+
+-- ---- rows of a map
+
+module _ {K X : Type 0} {R : K → K → Ordering} (o : IsTotalOrder R) (anti : IsAntisymmetric R) (key : X → K) where
+  pub with_none : (m : FinMap R X) → with_rows key [] m ≡ m
+  with_none m = same_map o anti (with_rows key [] m) m (λ q. get-from_entries o (entries m) q ∙ sym (get-entries m q))
+
+  pub with_one : (row : X) (m : FinMap R X) → with_rows key (row ∷ []) m ≡ insert m (key row) row
+  with_one row m = ap (λ (n : FinMap R X). insert n (key row) row) (with_none m)
+
+-- ---- one table
+
+module _ (kind : Kind) (records : FinMap (order_of kind) (record_of kind)) (old new : State) where
+  abbrev Turns : Type 0
+  Turns = Becomes (shape_of kind) (order_of kind) our_schema records old new
+
+  -- the books with these records are what this makes of them
+  abbrev pub Means : (Books → Books) → Type 0
+  Means turned = ((shelf_of kind).with (loaded_from old.now.trees) records).books ≡ turned (tables old).books
+
+  on_ok : {X E : Type 0} (turned : Books → Books) (r : Result X E) → AreInOrder old.now.trees → Means turned → OnOk r (GoesOn old new) → OnOk r Turns
+      → OnOk r (IsWriting new × ((tables new).books ≡ turned (tables old).books))
+  on_ok turned (Ok x) order means on done = let here = put_in kind records old new order on done in (here.0, here.1 ∙ means)
+  on_ok turned (Err e) order means on done = tt
+
+  -- a record was added
+  pub added : (turned : Books → Books) (r : Result (Unit {0}) Error) → (HasCleanDisk old → IsWriting old) → Means turned
+      → (HasCleanDisk new → OnOk r (GoesOn old new)) → (HasCleanDisk new → OnOk r Turns) → (HasCleanDisk new → OnErr r (IsUndone old new))
+      → CommitsNothing old new → Puts turned r old new
+  added turned r writing means on done undone crash = record {
+    put = λ clean. on_ok turned r (writing (omega (arith, crash.clean, clean))).in_order means (on clean) (done clean);
+    kept = λ clean. keeps_commit r old new (on clean) (undone clean);
+    crash = crash;
+  }
+
+module _ (kind : Kind) (key : key_of kind) (amended : record_of kind → record_of kind) (old new : State) where
+  abbrev held : FinMap (order_of kind) (record_of kind)
+  held = records_in kind old.now.trees
+
+  -- the record is there, and with what it becomes the books are what this makes of them
+  abbrev pub IsThere : (Books → Books) → Type 0
+  IsThere turned = (there : record_of kind) × (get held key ≡ Some there) × Means kind (insert held key (amended there)) old new turned
+
+  on_ok_there : {X E : Type 0} (turned : Books → Books) (r : Result X E) → AreInOrder old.now.trees → IsThere turned → OnOk r (GoesOn old new)
+      → OnOk r (Amends (shape_of kind) (order_of kind) key amended old new)
+      → OnOk r (IsWriting new × ((tables new).books ≡ turned (tables old).books))
+  on_ok_there turned (Ok x) order it on done =
+      let becomes = becomes_there (shape_of kind) (order_of kind) key amended old new in
+      let here = put_in kind (insert held key (amended it.0)) old new order on (becomes done it.0 it.1) in (here.0, here.1 ∙ it.2)
+  on_ok_there turned (Err e) order it on done = tt
+
+  -- a record was changed
+  pub changed : (turned : Books → Books) (r : Result (Unit {0}) Error) → (HasCleanDisk old → IsWriting old) → (HasCleanDisk old → IsThere turned)
+      → (HasCleanDisk new → OnOk r (GoesOn old new)) → (HasCleanDisk new → OnOk r (Amends (shape_of kind) (order_of kind) key amended old new))
+      → (HasCleanDisk new → OnErr r (IsUndone old new)) → CommitsNothing old new → Puts turned r old new
+  changed turned r writing is_there on done undone crash = record {
+    put = λ clean.
+        let early : HasCleanDisk old = omega (arith, crash.clean, clean) in
+        on_ok_there turned r (writing early).in_order (is_there early) (on clean) (done clean);
+    kept = λ clean. keeps_commit r old new (on clean) (undone clean);
+    crash = crash;
+  }
+
+-- ---- one after the other
+
+module _ (first later : Books → Books) (a b c : State) where
+  then_put : {X E : Type 0} (r : Result X E) → (tables b).books ≡ first (tables a).books → OnOk r (IsWriting c × ((tables c).books ≡ later (tables b).books))
+      → OnOk r (IsWriting c × ((tables c).books ≡ later (first (tables a).books)))
+  then_put (Ok x) was done = (done.0, done.1 ∙ ap later was)
+  then_put (Err e) was done = tt
+
+  -- what was put, and then this
+  pub puts_both : {x : Unit {0}} (r : Result (Unit {0}) Error) → Puts first (Ok x) a b → Puts later r b c → Puts (λ books. later (first books)) r a c
+  puts_both r one two = record {
+    put = λ clean.
+        let half : HasCleanDisk b = omega (arith, two.crash.clean, clean) in
+        then_put r (one.put half).1 (two.put clean);
+    kept = λ clean.
+        let half : HasCleanDisk b = omega (arith, two.crash.clean, clean) in
+        keeps_both a b c (one.kept half) (two.kept clean);
+    crash = survives_both a b c one.crash two.crash;
+  }
+
+-- where a call failed, nothing is said of the books
+pub puts_none : (turned other : Books → Books) (r : Result (Unit {0}) Error) (e f : Error) (old new : State) → r ≡ Err e → Puts turned (Err f) old new
+    → Puts other r old new
+puts_none turned other r e f old new is puts = record {
+  put = λ clean. subst (λ (it : Result (Unit {0}) Error). OnOk it (IsWriting new × ((tables new).books ≡ other (tables old).books))) (sym is) tt;
+  kept = puts.kept;
+  crash = puts.crash;
+}
+
+-- and so at first
+pub nothing_put : (turned : Books → Books) (s : State) → (HasCleanDisk s → IsWriting s) → turned (tables s).books ≡ (tables s).books → Puts turned (Ok tt) s s
+nothing_put turned s writing same = record {
+  put = λ clean. (writing clean, sym same);
+  kept = λ clean. record { was_open = λ still. still; committed = λ _. refl };
+  crash = record {
+    clean = omega arith;
+    shield = λ shielded. shielded;
+    counts = omega arith;
+    limit = refl;
+    closes = λ _ still. inl still;
+    crash = λ _ left may. inl may;
+  };
+}
+
+-- ---- charges
+
+pub no_charges : (books : Books) → with_charges [] books ≡ books
+no_charges books =
+    ap (λ (charges : FinMap _ Charge). let it : Books = record books { charges = charges } in it)
+    (with_none nats_total nats_tie charge_key books.charges)
+
+-- ---- a part row
+
+part_is : (there part : Part) → part_key there ≡ part_key part → record there { through = part.through; count = part.count; total = part.total } ≡ part
+part_is there part same = λ i. record {
+  month = (same i).0;
+  branch = (same i).1;
+  through = part.through;
+  count = part.count;
+  total = part.total;
+}
+
+pub with_new_part : (part : Part) (books : Books)
+    → (let it : Books = record books { parts = insert books.parts (part_key part) part } in it) ≡ with_part part books
+with_new_part part books =
+    ap (λ (parts : FinMap _ Part). let it : Books = record books { parts = parts } in it)
+    (sym (with_one nat_text_total nat_text_ties part_key part books.parts))
+
+found : {X : Type 0} (it : Option X) → is_some it ≡ true → (x : X) × (it ≡ Some x)
+found None h = absurd (false≢true h)
+found (Some x) h = (x, refl)
+
+-- what its branch has of the run becomes this
+pub part_there : (part : Part) (old new : State) → is_some (get (tables old).books.parts (part_key part)) ≡ true
+    → IsThere Parts (part_key part) (λ it. record it { through = part.through; count = part.count; total = part.total }) old new (with_part part)
+part_there part old new some =
+    let books = (tables old).books in
+    let it = found (get books.parts (part_key part)) some in
+    let own = part_is it.0 part (keyed Parts old.now.trees (part_key part) it.0 it.1) in (
+      it.0,
+      it.1,
+      ap (λ (row : Part). let after : Books = record books { parts = insert books.parts (part_key part) row } in after) own ∙ with_new_part part books,
+    )
+
+-- or it has nothing of it
+pub part_new : {X : Type 0} (it : Option X) → is_some it ≡ false → it ≡ None
+part_new None h = refl
+part_new (Some x) h = absurd (false≢true (sym h))

@@ -1,0 +1,36 @@
+use Rattle.std.proofs.Common.{refl, sym, subst, arith, Option}
+use Rattle.sqlite.specs.State.{HasCleanDisk}
+use Rattle.sqlite.specs.Held.{state}
+use Rattle.dh_model.specs.declared.open_run.OpenRun.{OpenRun}
+use Rattle.dh_model.specs.Books.{State}
+use Rattle.dh_laws.specs.Batches.{IsAtItsEnd}
+use Rattle.dh_schema.specs.Store.{tables}
+use Rattle.dh_runs.specs.Closing.{IsSumOfOpen}
+use Rattle.dh_runs.proofs.ClosedRun.{ready_in_order, sum_is_told, sum_of_open}
+use Rattle.dh_runs.proofs.closing.close_month.Goals as goal
+
+pub close_with-requires-clause-end : goal.close_with-requires-clause-end
+close_with-requires-clause-end g c mid =
+    let old = state g.S.Store c.args.conn.now in
+    let early : HasCleanDisk old = omega (arith, c.month_sum.ensures.reads.crash.clean, mid) in
+    let same = (c.in_ok-sum.ensures.reads.done mid).1 in
+    subst (λ (t : State). IsAtItsEnd t.books t.open_run) (sym same)
+    (subst (λ (run : Option OpenRun). IsAtItsEnd (tables old).books run) (sym (c.requires.end early)) refl)
+
+pub close_with-requires-clause-sum : goal.close_with-requires-clause-sum
+close_with-requires-clause-sum g c mid =
+    let old = state g.S.Store c.args.conn.now in
+    let early : HasCleanDisk old = omega (arith, c.month_sum.ensures.reads.crash.clean, mid) in
+    let same = (c.in_ok-sum.ensures.reads.done mid).1 in
+    subst (λ (t : State). IsSumOfOpen c.in_ok-sum.sum t.books) (sym same)
+    (sum_of_open (tables old) c.args.month c.in_ok-sum.sum (ready_in_order old (c.requires.ready early)) (c.requires.end early) (c.in_ok-sum.ensures.told mid))
+
+pub returns-clause-told : goal.returns-clause-told
+returns-clause-told g c clean =
+    let old = state g.S.Store c.args.conn.now in
+    let mid : HasCleanDisk (state g.S.Store c.month_sum.new.conn) = omega (arith, c.close_with.ensures.was_clean, clean) in
+    let early : HasCleanDisk old = omega (arith, c.month_sum.ensures.reads.crash.clean, mid) in
+    let order = ready_in_order old (c.requires.ready early) in
+    let end = c.requires.end early in
+    let at_end = subst (λ (run : Option OpenRun). IsAtItsEnd (tables old).books run) (sym end) refl in
+    sum_is_told (tables old).books _ (sum_of_open (tables old) c.args.month _ order end (c.in_ok-sum.ensures.told mid)) (tables old).open_run at_end order

@@ -1,0 +1,163 @@
+//! The end of a run in one transaction.
+
+ghost use Rattle.std.specs.Prelude.{◌≡◌, ◌≤◌, ◌⊎◌, Some, false, IsTrue, IfOk, IfErr, IfSome, OnOk, OnErr};
+ghost use Rattle.std.specs.FinMap.{values};
+ghost use Rattle.sqlite.specs.State.{HasCleanDisk};
+ghost use Rattle.sqlite.specs.Held.{state};
+ghost use Rattle.sqlite_trees.specs.View.{doubt};
+ghost use Rattle.dh_model.specs.Rules.{parts_in};
+ghost use Rattle.dh_model.specs.Runs.{batch_size, batches};
+ghost use Rattle.dh_laws.specs.Batches.{IsAtItsEnd, IsUnderWay, closed_state, sum_told};
+ghost use Rattle.dh_schema.specs.Faults.{IsFirstFault};
+ghost use Rattle.dh_schema.specs.Store.{Commits, IsReady, IsReadyWith, Leaves, StaysReady, tables};
+ghost use Rattle.dh_looks.specs.Reading.{OnlyReads};
+ghost use Rattle.dh_runs.specs.Closing.{IsOpenMonth, IsSumOfOpen, sum_of_parts};
+
+use dh_books::Books;
+use dh_looks::{find_open_run, look, months_now, no_rows};
+use dh_schema::StoreFault;
+use dh_tables::{PartsOfMonth, update};
+use dh_types::{EntryMonth, Pence, RunSum};
+use sqlite::{Alter, Connection, Error, ErrorCode};
+use std::alloc::Global;
+
+// What the part rows of the books come to, in a run of this month. `None` where they are more than a run can have.
+fn sum_of(month: EntryMonth, books: &Books) -> Option<RunSum>
+    ensures { IfSome result (λ sum. sum ≡ sum_of_parts month (values books.now.books.parts)) }
+{
+    let mut count = 0u32;
+    let mut total = 0u64;
+    for part in books.parts() {
+        count = count.checked_add(part.count)?;
+        total = total.checked_add(part.total.pence())?;
+    }
+    let total = Pence::try_of_pence(i64::try_from(total).ok()?)?;
+    Some(RunSum {
+        month,
+        count,
+        total,
+    })
+}
+
+// What the part rows of the month come to. More than a run can have come only from a store that is not clean.
+fn month_sum<S: Alter>(
+    alloc: Global,
+    conn: &mut Connection<S>,
+    month: EntryMonth,
+) -> Result<RunSum, StoreFault>
+    requires { HasCleanDisk (state S.Store conn.old) → IsReady (state S.Store conn.old) }
+    ensures told { HasCleanDisk (state S.Store conn.new)
+        → IfOk result (λ sum. sum ≡ sum_of_parts month (parts_in (tables (state S.Store conn.old)).books month)) }
+    ensures reads { OnlyReads (state S.Store conn.old) (state S.Store conn.new) result }
+{
+    let mut books = no_rows(alloc);
+    look(alloc, conn, &PartsOfMonth { month }, &mut books)?;
+    match sum_of(month, &books) {
+        Some(sum) => Ok(sum),
+        None => Err(Error::SqliteFailure(ErrorCode::DatabaseCorrupt).into()),
+    }
+}
+
+// Puts the sum into the row of the open run, which is closed by it, and commits it.
+fn commit_sum<S: Alter>(alloc: Global, conn: &mut Connection<S>, sum: &RunSum) -> Result<(), Error>
+    requires autocommit { (state S.Store conn.old).in_transaction ≡ false }
+    requires ready { HasCleanDisk (state S.Store conn.old) → IsReady (state S.Store conn.old) }
+    requires end { HasCleanDisk (state S.Store conn.old) → IsAtItsEnd (tables (state S.Store conn.old)).books (tables (state S.Store conn.old)).open_run }
+    requires sum { HasCleanDisk (state S.Store conn.old) → IsSumOfOpen sum.now (tables (state S.Store conn.old)).books }
+    ensures done { HasCleanDisk (state S.Store conn.new)
+        → OnOk result (IsReadyWith (state S.Store conn.new) (λ t. t ≡ closed_state (tables (state S.Store conn.old)))) }
+    ensures undone { HasCleanDisk (state S.Store conn.new) → IsTrue (state S.Store conn.new).is_open
+        → OnErr result (StaysReady (state S.Store conn.old) (state S.Store conn.new)) }
+    ensures survives { Commits (state S.Store conn.old) (state S.Store conn.new) (λ t. t ≡ closed_state (tables (state S.Store conn.old))) }
+{
+    let mut tx = conn.transaction();
+    update(alloc, &mut tx, sum)?;
+    tx.commit()?;
+    Ok(())
+}
+
+// Closes the open run with what it comes to.
+fn close_with<S: Alter>(
+    alloc: Global,
+    conn: &mut Connection<S>,
+    sum: &RunSum,
+) -> Result<(), StoreFault>
+    requires ready { HasCleanDisk (state S.Store conn.old) → IsReady (state S.Store conn.old) }
+    requires end { HasCleanDisk (state S.Store conn.old) → IsAtItsEnd (tables (state S.Store conn.old)).books (tables (state S.Store conn.old)).open_run }
+    requires sum { HasCleanDisk (state S.Store conn.old) → IsSumOfOpen sum.now (tables (state S.Store conn.old)).books }
+    ensures done { HasCleanDisk (state S.Store conn.new)
+        → OnOk result (IsReadyWith (state S.Store conn.new) (λ t. t ≡ closed_state (tables (state S.Store conn.old)))) }
+    ensures undone { HasCleanDisk (state S.Store conn.new) → IsTrue (state S.Store conn.new).is_open
+        → OnErr result (StaysReady (state S.Store conn.old) (state S.Store conn.new)) }
+    ensures cause { IfErr result IsFirstFault }
+    ensures crash { HasCleanDisk (state S.Store conn.new)
+        → Leaves (state S.Store conn.new) (λ t. (t ≡ tables (state S.Store conn.old)) ⊎ (t ≡ closed_state (tables (state S.Store conn.old)))) }
+    ensures was_clean { doubt (state S.Store conn.old).is_clean ≤ doubt (state S.Store conn.new).is_clean }
+{
+    if !conn.is_autocommit() {
+        return Err(StoreFault::unclean(conn));
+    }
+    commit_sum(alloc, conn, sum)?;
+    Ok(())
+}
+
+/// Closes the open run of this month, of which no batch is left, in one transaction: its row gets the count and the total of its
+/// charges, which are answered. They are summed up from the month's part rows. At a fault the tables are these or those before, and
+/// while the store is open those before.
+pub fn close_month<S: Alter>(
+    alloc: Global,
+    conn: &mut Connection<S>,
+    month: EntryMonth,
+) -> Result<RunSum, StoreFault>
+    requires ready { HasCleanDisk (state S.Store conn.old) → IsReady (state S.Store conn.old) }
+    requires end { HasCleanDisk (state S.Store conn.old)
+        → (tables (state S.Store conn.old)).open_run
+        ≡ Some (record { month = month; done = batches batch_size (tables (state S.Store conn.old)).books month }) }
+    ensures told { HasCleanDisk (state S.Store conn.new)
+        → IfOk result (λ sum. sum ≡ sum_told (tables (state S.Store conn.old)).books (tables (state S.Store conn.old)).open_run) }
+    ensures done { HasCleanDisk (state S.Store conn.new)
+        → OnOk result (IsReadyWith (state S.Store conn.new) (λ t. t ≡ closed_state (tables (state S.Store conn.old)))) }
+    ensures undone { HasCleanDisk (state S.Store conn.new) → IsTrue (state S.Store conn.new).is_open
+        → OnErr result (StaysReady (state S.Store conn.old) (state S.Store conn.new)) }
+    ensures cause { IfErr result IsFirstFault }
+    ensures crash { HasCleanDisk (state S.Store conn.new)
+        → Leaves (state S.Store conn.new) (λ t. (t ≡ tables (state S.Store conn.old)) ⊎ (t ≡ closed_state (tables (state S.Store conn.old)))) }
+    ensures was_clean { doubt (state S.Store conn.old).is_clean ≤ doubt (state S.Store conn.new).is_clean }
+{
+    let sum = month_sum(alloc, conn, month)?;
+    close_with(alloc, conn, &sum)?;
+    Ok(sum)
+}
+
+// The month of the open run.
+fn open_month<S: Alter>(alloc: Global, conn: &mut Connection<S>) -> Result<EntryMonth, StoreFault>
+    requires ready { HasCleanDisk (state S.Store conn.old) → IsReady (state S.Store conn.old) }
+    requires run { HasCleanDisk (state S.Store conn.old) → IsUnderWay (tables (state S.Store conn.old)).open_run }
+    ensures told { HasCleanDisk (state S.Store conn.new) → IfOk result (IsOpenMonth (tables (state S.Store conn.old)).books) }
+    ensures reads { OnlyReads (state S.Store conn.old) (state S.Store conn.new) result }
+{
+    let months = months_now(alloc, conn)?;
+    match find_open_run(alloc, conn, months)? {
+        Some(run) => Ok(run.month),
+        None => Err(StoreFault::unclean(conn)),
+    }
+}
+
+/// Closes the open run, of which no batch is left, as [`close_month`] does.
+pub fn close_run<S: Alter>(alloc: Global, conn: &mut Connection<S>) -> Result<RunSum, StoreFault>
+    requires ready { HasCleanDisk (state S.Store conn.old) → IsReady (state S.Store conn.old) }
+    requires end { HasCleanDisk (state S.Store conn.old) → IsAtItsEnd (tables (state S.Store conn.old)).books (tables (state S.Store conn.old)).open_run }
+    ensures told { HasCleanDisk (state S.Store conn.new)
+        → IfOk result (λ sum. sum ≡ sum_told (tables (state S.Store conn.old)).books (tables (state S.Store conn.old)).open_run) }
+    ensures done { HasCleanDisk (state S.Store conn.new)
+        → OnOk result (IsReadyWith (state S.Store conn.new) (λ t. t ≡ closed_state (tables (state S.Store conn.old)))) }
+    ensures undone { HasCleanDisk (state S.Store conn.new) → IsTrue (state S.Store conn.new).is_open
+        → OnErr result (StaysReady (state S.Store conn.old) (state S.Store conn.new)) }
+    ensures cause { IfErr result IsFirstFault }
+    ensures crash { HasCleanDisk (state S.Store conn.new)
+        → Leaves (state S.Store conn.new) (λ t. (t ≡ tables (state S.Store conn.old)) ⊎ (t ≡ closed_state (tables (state S.Store conn.old)))) }
+    ensures was_clean { doubt (state S.Store conn.old).is_clean ≤ doubt (state S.Store conn.new).is_clean }
+{
+    let month = open_month(alloc, conn)?;
+    close_month(alloc, conn, month)
+}

@@ -1,0 +1,137 @@
+//! The batches that the open run lacks, from the rows that they are counted out of.
+
+ghost use Rattle.std.specs.Prelude.{◌≡◌, ◌≤◌, Some, IsTrue, IfOk, IfErr, IfSome, OnOk, OnErr};
+ghost use Rattle.std.specs.List.{sum_by};
+ghost use Rattle.std.specs.FinMap as fin;
+ghost use Rattle.sqlite.specs.State.{HasCleanDisk};
+ghost use Rattle.sqlite.specs.Held.{state};
+ghost use Rattle.sqlite_trees.specs.View.{doubt};
+ghost use Rattle.dh_days.specs.declared.limits.TheConstants.{FIRST_MONTH};
+ghost use Rattle.dh_model.specs.Books.{start};
+ghost use Rattle.dh_model.specs.Runs.{batch_size, batches_for};
+ghost use Rattle.dh_model.specs.Whole.{batches_shown};
+ghost use Rattle.dh_plans.specs.Plans.{HaveTheLeases, IsPlanOf, IsPlanned};
+ghost use Rattle.dh_schema.specs.Faults.{IsFirstFault};
+ghost use Rattle.dh_schema.specs.Store.{IsReady, Leaves, StaysReady, tables};
+ghost use Rattle.dh_looks.specs.Reading.{OnlyReads};
+ghost use Rattle.dh_runs.specs.Batches.{CanBePosted, HasRoom};
+
+use dh_books::Books;
+use dh_leases::batches_for;
+use dh_looks::{find_open_run, look, look_at_all, months_now, no_rows};
+use dh_model::OpenRun;
+use dh_plans::{Plan, plan_of};
+use dh_schema::StoreFault;
+use dh_tables::PartsOfMonth;
+use dh_types::{Branch, EntryMonth, Lease, Property};
+use sqlite::{Alter, Connection};
+use std::alloc::Global;
+
+// The batches that the parts of the books stand for: each those that its charges take.
+fn batches_done(books: &Books) -> u128
+    ensures told { result ≡ sum_by (λ part. batches_for batch_size part.count) (fin.values books.now.books.parts) }
+    ensures room { HasRoom result }
+{
+    let parts = books.parts();
+    // No more than this many, so that their sum fits.
+    let _count = parts.len();
+    let mut done = 0u128;
+    for part in parts {
+        done += batches_for(u64::from(part.count));
+    }
+    done
+}
+
+// The batches that the parts of the month's run stand for.
+fn done_in<S: Alter>(
+    alloc: Global,
+    conn: &mut Connection<S>,
+    month: EntryMonth,
+) -> Result<u128, StoreFault>
+    requires { HasCleanDisk (state S.Store conn.old) → IsReady (state S.Store conn.old) }
+    ensures told { HasCleanDisk (state S.Store conn.new)
+        → IfOk result (λ done. done ≡ batches_shown batch_size (tables (state S.Store conn.old)).books month) }
+    ensures room { IfOk result HasRoom }
+    ensures reads { OnlyReads (state S.Store conn.old) (state S.Store conn.new) result }
+{
+    let mut books = no_rows(alloc);
+    look(alloc, conn, &PartsOfMonth { month }, &mut books)?;
+    Ok(batches_done(&books))
+}
+
+// How far the open run is.
+fn run_now<S: Alter>(alloc: Global, conn: &mut Connection<S>) -> Result<Option<OpenRun>, StoreFault>
+    requires { HasCleanDisk (state S.Store conn.old) → IsReady (state S.Store conn.old) }
+    ensures told { HasCleanDisk (state S.Store conn.new) → IfOk result (λ run. run ≡ (tables (state S.Store conn.old)).open_run) }
+    ensures room { IfOk result (λ run. IfSome run (λ it. HasRoom it.done)) }
+    ensures reads { OnlyReads (state S.Store conn.old) (state S.Store conn.new) result }
+{
+    let months = months_now(alloc, conn)?;
+    let Some(run) = find_open_run(alloc, conn, months)? else {
+        return Ok(None);
+    };
+    let done = done_in(alloc, conn, run.month)?;
+    Ok(Some(OpenRun {
+        month: run.month,
+        done,
+    }))
+}
+
+// Puts the branches, the properties and the leases into books that have no row.
+fn look_at_leases<S: Alter>(
+    alloc: Global,
+    conn: &mut Connection<S>,
+    books: &mut Books,
+) -> Result<(), StoreFault>
+    requires ready { HasCleanDisk (state S.Store conn.old) → IsReady (state S.Store conn.old) }
+    requires none { books.old ≡ start FIRST_MONTH }
+    ensures taken { HasCleanDisk (state S.Store conn.new) → OnOk result (HaveTheLeases books.new.books (tables (state S.Store conn.old)).books) }
+    ensures reads { OnlyReads (state S.Store conn.old) (state S.Store conn.new) result }
+{
+    look_at_all::<Branch, S>(alloc, conn, books)?;
+    look_at_all::<Property, S>(alloc, conn, books)?;
+    look_at_all::<Lease, S>(alloc, conn, books)
+}
+
+// The batches that the run lacks, which is the open one.
+fn plan_open<S: Alter>(
+    alloc: Global,
+    conn: &mut Connection<S>,
+    run: OpenRun,
+) -> Result<Plan, StoreFault>
+    requires ready { HasCleanDisk (state S.Store conn.old) → IsReady (state S.Store conn.old) }
+    requires run { HasCleanDisk (state S.Store conn.old) → (tables (state S.Store conn.old)).open_run ≡ Some run }
+    requires room { HasRoom run.done }
+    ensures told { HasCleanDisk (state S.Store conn.new) → IfOk result (λ plan. IsPlanOf plan (tables (state S.Store conn.old))) }
+    ensures postable { IfOk result CanBePosted }
+    ensures reads { OnlyReads (state S.Store conn.old) (state S.Store conn.new) result }
+{
+    let mut books = no_rows(alloc);
+    look_at_leases(alloc, conn, &mut books)?;
+    match plan_of(alloc, &books, run) {
+        Ok(plan) => Ok(plan),
+        Err(error) => Err(error.into()),
+    }
+}
+
+/// The batches that the open run lacks, or `None` where no run is open. It reads the branches, the properties, the leases and what
+/// the run has so far, once, and changes nothing, at a fault too.
+pub fn plan_run<S: Alter>(
+    alloc: Global,
+    conn: &mut Connection<S>,
+) -> Result<Option<Plan>, StoreFault>
+    requires { HasCleanDisk (state S.Store conn.old) → IsReady (state S.Store conn.old) }
+    ensures told { HasCleanDisk (state S.Store conn.new) → IfOk result (IsPlanned (tables (state S.Store conn.old))) }
+    ensures postable { IfOk result (λ plan. IfSome plan CanBePosted) }
+    ensures done { HasCleanDisk (state S.Store conn.new) → OnOk result (StaysReady (state S.Store conn.old) (state S.Store conn.new)) }
+    ensures undone { HasCleanDisk (state S.Store conn.new) → IsTrue (state S.Store conn.new).is_open
+        → OnErr result (StaysReady (state S.Store conn.old) (state S.Store conn.new)) }
+    ensures cause { IfErr result IsFirstFault }
+    ensures crash { HasCleanDisk (state S.Store conn.new) → Leaves (state S.Store conn.new) (λ t. t ≡ tables (state S.Store conn.old)) }
+    ensures was_clean { doubt (state S.Store conn.old).is_clean ≤ doubt (state S.Store conn.new).is_clean }
+{
+    match run_now(alloc, conn)? {
+        Some(run) => Ok(Some(plan_open(alloc, conn, run)?)),
+        None => Ok(None),
+    }
+}
