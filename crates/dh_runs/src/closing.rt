@@ -10,11 +10,11 @@ ghost use Rattle.dh_model.specs.Runs.{batch_size, batches};
 ghost use Rattle.dh_laws.specs.Batches.{IsAtItsEnd, IsUnderWay, closed_state, sum_told};
 ghost use Rattle.dh_schema.specs.Faults.{IsFirstFault};
 ghost use Rattle.dh_schema.specs.Store.{Commits, IsReady, IsReadyWith, Leaves, StaysReady, tables};
-ghost use Rattle.dh_looks.specs.Reading.{OnlyReads};
+ghost use Rattle.dh_store.specs.Reading.{OnlyReads};
 ghost use Rattle.dh_runs.specs.Closing.{IsOpenMonth, IsSumOfOpen, sum_of_parts};
 
 use dh_books::Books;
-use dh_looks::{find_open_run, look, months_now, no_rows};
+use dh_store::{find_open_run, look, months_now, no_rows};
 use dh_schema::StoreFault;
 use dh_tables::{PartsOfMonth, update};
 use dh_types::{EntryMonth, Pence, RunSum};

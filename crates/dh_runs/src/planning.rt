@@ -13,12 +13,12 @@ ghost use Rattle.dh_model.specs.Whole.{batches_shown};
 ghost use Rattle.dh_plans.specs.Plans.{HaveTheLeases, IsPlanOf, IsPlanned};
 ghost use Rattle.dh_schema.specs.Faults.{IsFirstFault};
 ghost use Rattle.dh_schema.specs.Store.{IsReady, Leaves, StaysReady, tables};
-ghost use Rattle.dh_looks.specs.Reading.{OnlyReads};
+ghost use Rattle.dh_store.specs.Reading.{OnlyReads};
 ghost use Rattle.dh_runs.specs.Batches.{CanBePosted, HasRoom};
 
 use dh_books::Books;
 use dh_leases::batches_for;
-use dh_looks::{find_open_run, look, look_at_all, months_now, no_rows};
+use dh_store::{find_open_run, look, look_at_all, months_now, no_rows};
 use dh_model::OpenRun;
 use dh_plans::{Plan, plan_of};
 use dh_schema::StoreFault;

@@ -1,1 +1,5 @@
+pub mod Reading
+pub mod Months
+pub mod Looked
+pub mod Gathered
 pub mod Putting

@@ -14,7 +14,7 @@ use crate::made_tables::install_text;
 use dh_agency_scripts::{
     Lived, all_rows, compare, compare_tables, parted, problem_text, table_of, told_anew,
 };
-use dh_asking::ask;
+use dh_store::{ask};
 use dh_histories::crashing::next_life;
 use dh_scripts::{Block, Tally, january, request, script};
 use dh_fields::Request;

@@ -8,7 +8,7 @@ use Rattle.dh_model.specs.Runs.{batch_size}
 use Rattle.dh_model.specs.Whole.{batches_shown, open_row}
 use Rattle.dh_laws.specs.Batches.{IsUnderWay}
 use Rattle.dh_schema.specs.Store.{tables}
-use Rattle.dh_looks.proofs.MonthsStay.{months_stay}
+use Rattle.dh_store.proofs.MonthsStay.{months_stay}
 use Rattle.dh_runs.proofs.closing.open_month.Goals as goal
 
 pub find_open_run-requires-clause-months : goal.find_open_run-requires-clause-months

@@ -1,5 +1,5 @@
 use Rattle.sqlite.specs.Held.{state}
-use Rattle.dh_looks.proofs.MonthsStay.{months_stay}
+use Rattle.dh_store.proofs.MonthsStay.{months_stay}
 use Rattle.dh_runs.proofs.planning.run_now.Goals as goal
 
 pub find_open_run-requires-clause-months : goal.find_open_run-requires-clause-months

@@ -1,3 +1,0 @@
-pub mod LastRun
-pub mod MonthsStay
-pub mod Taken

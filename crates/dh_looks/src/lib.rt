@@ -1,8 +1,0 @@
-//! Looks at the tables: rows of one table put into books, and the run that is open. Read [`look`] first.
-#![tactic(auto)]
-
-mod looking;
-mod reading;
-
-pub use looking::{Kept, look, look_at_all};
-pub use reading::{find_open_run, months_now, no_rows};

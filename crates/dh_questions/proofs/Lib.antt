@@ -1,2 +1,0 @@
-pub mod AskedBooks
-pub mod PutOff

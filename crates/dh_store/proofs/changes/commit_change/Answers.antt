@@ -1,0 +1,36 @@
+use Rattle.std.proofs.Common.{◌≡◌, rules, sym, subst, arith}
+use Rattle.sqlite.specs.State.{HasCleanDisk}
+use Rattle.sqlite.specs.Held.{state}
+use Rattle.dh_schema.specs.Store.{Commits, IsReady, tables, with_change}
+use Rattle.dh_store.proofs.Committing.{committed, ready_with}
+use Rattle.dh_store.proofs.changes.commit_change.Goals as goal
+
+pub returns-clause-done : goal.returns-clause-done
+returns-clause-done g c clean =
+    let old = c.args.conn.now in
+    let last = c.put_rows.new.tx.conn.now in
+    let new = c.commit.new.self.0 in
+    let same : new ≡ c.conn-2-1.given.0 = search rules in
+    let done : HasCleanDisk (state g.S.Store new) = subst (λ h. HasCleanDisk (state g.S.Store h)) (sym same) clean in
+    let early : HasCleanDisk (state g.S.Store last) = omega (arith, c.commit.ensures.survives.clean, done) in
+    let ready = ready_with g.S.Store c.args.change.now _ old c.transaction-tx.result.conn.now last new c.transaction-tx.ensures.begun c.requires.order
+    c.in_ok-put_rows.ensures.puts early (c.in_ok-commit.ensures.ok done).1 in
+    subst (λ h. IsReady (state g.S.Store h) × (tables (state g.S.Store h) ≡ with_change c.args.change.now (tables (state g.S.Store old)))) same ready
+
+pub returns-clause-survives : goal.returns-clause-survives
+returns-clause-survives g c =
+    let old = c.args.conn.now in
+    let new = c.commit.new.self.0 in
+    let same : new ≡ c.conn-2-1.given.0 = search rules in
+    let whole = committed g.S.Store c.args.change.now _ old c.transaction-tx.result.conn.now c.put_rows.new.tx.conn.now new c.transaction-tx.ensures.begun
+    c.requires.order c.in_ok-put_rows.ensures.puts c.commit.ensures.survives in
+    subst (λ h. Commits (state g.S.Store old) (state g.S.Store h) (λ t. t ≡ with_change c.args.change.now (tables (state g.S.Store old)))) same whole
+
+pub returns-in_err-commit-clause-survives : goal.returns-in_err-commit-clause-survives
+returns-in_err-commit-clause-survives g c =
+    let old = c.args.conn.now in
+    let new = c.commit.new.self.0 in
+    let same : new ≡ c.conn-2-1.given.0 = search rules in
+    let whole = committed g.S.Store c.args.change.now _ old c.transaction-tx.result.conn.now c.put_rows.new.tx.conn.now new c.transaction-tx.ensures.begun
+    c.requires.order c.in_ok-put_rows.ensures.puts c.commit.ensures.survives in
+    subst (λ h. Commits (state g.S.Store old) (state g.S.Store h) (λ t. t ≡ with_change c.args.change.now (tables (state g.S.Store old)))) same whole

@@ -1,0 +1,18 @@
+use Rattle.std.proofs.Common.{◌≤◌, sym, arith}
+use Rattle.sqlite.specs.Held.{state}
+use Rattle.dh_model.specs.Rules as rule
+use Rattle.dh_schema.specs.Kinds.{Runs}
+use Rattle.dh_schema.specs.Store.{tables}
+use Rattle.dh_store.proofs.LastRun.{none_before}
+use Rattle.dh_store.proofs.looks.reading.last_run.Goals as goal
+
+pub find-requires-clause-kept : goal.find-requires-clause-kept
+find-requires-clause-kept g c clean = ((c.requires.ready clean).sound.in_order.tables Runs).kept
+
+pub returns-then-next-number-clause-found : goal.returns-then-next-number-clause-found
+returns-then-next-number-clause-found g c clean =
+    let months = c.requires.months clean in
+    let books = (tables (state g.S.Store c.args.conn.now)).books in
+    let few : books.next ≤ books.first =
+    omega (arith, c.if-next-number.true, c.number.ensures.value, c.first.ensures, c.number-next.ensures.value, c.next.ensures, months.0, months.1) in
+    sym (none_before books ((c.requires.ready clean).sound.rules rule.Runs) few)

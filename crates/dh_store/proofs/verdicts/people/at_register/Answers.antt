@@ -1,0 +1,7 @@
+use Rattle.std.proofs.Common.{refl}
+use Rattle.dh_store.proofs.verdicts.people.at_register.Goals as goal
+
+pub returns-clause-gathered : goal.returns-clause-gathered
+returns-clause-gathered g c t at =
+    let staffed = c.in_ok-look-2.ensures.first t _ (c.in_ok-look.ensures.first t _ at refl) refl in
+    c.look-4.ensures.first t _ (c.in_ok-look-3.ensures.first t _ staffed refl) refl

@@ -1,0 +1,358 @@
+//! The answer to a question, from the rows that it is about.
+
+ghost use Rattle.std.specs.Prelude.{◌≡◌, ◌≤◌, ◌++◌, List, ◌∷◌, [], map, true, IsTrue, None, IfOk, IfErr, OnOk, OnErr};
+ghost use Rattle.std.specs.List.{filter, list_any};
+ghost use Rattle.std.specs.FinMap as fin;
+ghost use Rattle.sqlite_trees.specs.View.{doubt};
+ghost use Rattle.sqlite.specs.State.{HasCleanDisk};
+ghost use Rattle.sqlite.specs.Held.{state};
+ghost use Rattle.dh_days.specs.declared.limits.TheConstants.{FIRST_MONTH};
+ghost use Rattle.dh_types.specs.declared.lease.Lease.{Lease as lease_row};
+ghost use Rattle.dh_types.specs.declared.question.Question.TheVariants as asked;
+ghost use Rattle.dh_types.specs.Reports.{report_of};
+ghost use Rattle.dh_model.specs.Answers.{report};
+ghost use Rattle.dh_model.specs.Books.{Books as books_model, start};
+ghost use Rattle.dh_model.specs.Checks.{is_same_text};
+ghost use Rattle.dh_model.specs.MachineLaws.{is_put_off};
+ghost use Rattle.dh_model.specs.Whole.{rows_where};
+ghost use Rattle.dh_laws.specs.AskedAbout.{account_of, asked_about, leases_at, let_or_vacant, with_accounts};
+ghost use Rattle.dh_schema.specs.Faults.{IsFirstFault};
+ghost use Rattle.dh_schema.specs.Store.{IsReady, Leaves, StaysReady, tables};
+ghost use Rattle.dh_store.specs.Reading.{OnlyReads};
+
+use dh_books::Books;
+use dh_lists::{answer, is_put_off};
+use crate::looks::{find_open_run, look, look_at_all, months_now, no_rows};
+use dh_schema::StoreFault;
+use dh_tables::{
+    BranchNumbered, ChargesOfLease, ClientNumbered, LeaseNumbered, LeasesOfProperty, PartsOfMonth,
+    ReceiptsOfLease, RunOf,
+};
+use dh_types::{Answer, Branch, EntryMonth, Id, Lease, LeaseNo, Property, Question, Refusal};
+use sqlite::{Alter, Connection};
+use std::alloc::{AllocError, Global};
+
+// The properties, and the leases on them.
+fn gather_lettings<S: Alter>(
+    alloc: Global,
+    conn: &mut Connection<S>,
+    books: &mut Books,
+) -> Result<(), StoreFault>
+    requires ready { HasCleanDisk (state S.Store conn.old) → IsReady (state S.Store conn.old) }
+    requires none { books.old ≡ start FIRST_MONTH }
+    ensures taken { HasCleanDisk (state S.Store conn.new)
+        → OnOk result (books.new ≡ record { books = let_or_vacant (tables (state S.Store conn.old)).books; open_run = None }) }
+    ensures reads { OnlyReads (state S.Store conn.old) (state S.Store conn.new) result }
+{
+    look_at_all::<Property, S>(alloc, conn, books)?;
+    look_at_all::<Lease, S>(alloc, conn, books)?;
+    Ok(())
+}
+
+// These, and the client.
+fn gather_matching<S: Alter>(
+    alloc: Global,
+    conn: &mut Connection<S>,
+    client: Id,
+    books: &mut Books,
+) -> Result<(), StoreFault>
+    requires ready { HasCleanDisk (state S.Store conn.old) → IsReady (state S.Store conn.old) }
+    requires none { books.old ≡ start FIRST_MONTH }
+    ensures taken { HasCleanDisk (state S.Store conn.new)
+        → OnOk result (books.new ≡ record {
+          books = record (let_or_vacant (tables (state S.Store conn.old)).books) {
+            clients = rows_where (λ it. is_same_text it.number client) (tables (state S.Store conn.old)).books.clients;
+          };
+          open_run = None;
+        }) }
+    ensures reads { OnlyReads (state S.Store conn.old) (state S.Store conn.new) result }
+{
+    gather_lettings(alloc, conn, books)?;
+    look(alloc, conn, &ClientNumbered { number: client }, books)?;
+    Ok(())
+}
+
+// The lease, and what was charged and paid on it.
+fn gather_account<S: Alter>(
+    alloc: Global,
+    conn: &mut Connection<S>,
+    lease: LeaseNo,
+    books: &mut Books,
+) -> Result<(), StoreFault>
+    requires ready { HasCleanDisk (state S.Store conn.old) → IsReady (state S.Store conn.old) }
+    requires none { books.old ≡ start FIRST_MONTH }
+    ensures taken { HasCleanDisk (state S.Store conn.new)
+        → OnOk result (books.new ≡ record { books = account_of (tables (state S.Store conn.old)).books lease; open_run = None }) }
+    ensures reads { OnlyReads (state S.Store conn.old) (state S.Store conn.new) result }
+{
+    look(alloc, conn, &LeaseNumbered { number: lease }, books)?;
+    look(alloc, conn, &ChargesOfLease { lease }, books)?;
+    look(alloc, conn, &ReceiptsOfLease { lease }, books)?;
+    Ok(())
+}
+
+// The run of the month, and its parts.
+fn gather_run<S: Alter>(
+    alloc: Global,
+    conn: &mut Connection<S>,
+    month: EntryMonth,
+    books: &mut Books,
+) -> Result<(), StoreFault>
+    requires ready { HasCleanDisk (state S.Store conn.old) → IsReady (state S.Store conn.old) }
+    requires none { books.old ≡ start FIRST_MONTH }
+    ensures taken { HasCleanDisk (state S.Store conn.new)
+        → OnOk result (books.new ≡ record { books = asked_about (tables (state S.Store conn.old)).books (asked.Run month); open_run = None }) }
+    ensures reads { OnlyReads (state S.Store conn.old) (state S.Store conn.new) result }
+{
+    look(alloc, conn, &RunOf { month }, books)?;
+    look(alloc, conn, &PartsOfMonth { month }, books)?;
+    Ok(())
+}
+
+// The numbers of the branch's properties that the books have.
+fn numbers_at(alloc: Global, books: &Books, branch: Id) -> Result<Vec<Id>, StoreFault>
+    ensures numbers { IfOk result (λ numbers. numbers.items
+        ≡ map (λ property. property.number) (filter (λ property. is_same_text property.branch branch) (fin.values books.now.books.properties))) }
+    ensures cause { IfErr result IsFirstFault }
+{
+    let numbers = books
+        .properties()
+        .filter(|property| property.branch == branch)
+        .map(|property| property.number)
+        .collect(alloc);
+    match numbers {
+        Ok(numbers) => Ok(numbers),
+        Err(error) => Err(error.into()),
+    }
+}
+
+// The leases on the properties of these numbers.
+fn gather_leases<S: Alter>(
+    alloc: Global,
+    conn: &mut Connection<S>,
+    properties: &[Id],
+    books: &mut Books,
+) -> Result<(), StoreFault>
+    requires ready { HasCleanDisk (state S.Store conn.old) → IsReady (state S.Store conn.old) }
+    requires none { HasCleanDisk (state S.Store conn.old) → books.old.books.leases ≡ fin.empty }
+    ensures taken { HasCleanDisk (state S.Store conn.new)
+        → OnOk result (books.new ≡ record books.old {
+          books = record books.old.books {
+            leases = rows_where (λ lease. list_any (is_same_text lease.terms.property) properties.now) (tables (state S.Store conn.old)).books.leases;
+          };
+        }) }
+    ensures reads { OnlyReads (state S.Store conn.old) (state S.Store conn.new) result }
+{
+    for property in properties {
+        let number = *property;
+        look(alloc, conn, &LeasesOfProperty { property: number }, books)?;
+    }
+    Ok(())
+}
+
+// The client of the lease, and what was charged and paid on it, beside those of other leases.
+fn put_account<S: Alter>(
+    alloc: Global,
+    conn: &mut Connection<S>,
+    lease: &Lease,
+    books: &mut Books,
+) -> Result<(), StoreFault>
+    requires ready { HasCleanDisk (state S.Store conn.old) → IsReady (state S.Store conn.old) }
+    ensures taken { HasCleanDisk (state S.Store conn.new) → OnOk result ((rows : books_model) (before : List lease_row)
+        → books.old.books ≡ with_accounts (tables (state S.Store conn.old)).books rows before
+        → books.new ≡ record books.old { books = with_accounts (tables (state S.Store conn.old)).books rows (before ++ lease.now ∷ []) }) }
+    ensures reads { OnlyReads (state S.Store conn.old) (state S.Store conn.new) result }
+{
+    let number = lease.terms.number;
+    let client = lease.terms.client;
+    look(alloc, conn, &ClientNumbered { number: client }, books)?;
+    look(alloc, conn, &ChargesOfLease { lease: number }, books)?;
+    look(alloc, conn, &ReceiptsOfLease { lease: number }, books)?;
+    Ok(())
+}
+
+// So for each of these leases.
+fn gather_accounts<S: Alter>(
+    alloc: Global,
+    conn: &mut Connection<S>,
+    leases: &[Lease],
+    books: &mut Books,
+) -> Result<(), StoreFault>
+    requires ready { HasCleanDisk (state S.Store conn.old) → IsReady (state S.Store conn.old) }
+    requires none { HasCleanDisk (state S.Store conn.old)
+        → books.old.books ≡ record books.old.books { clients = fin.empty; charges = fin.empty; receipts = fin.empty } }
+    ensures taken { HasCleanDisk (state S.Store conn.new)
+        → OnOk result (books.new ≡ record books.old { books = with_accounts (tables (state S.Store conn.old)).books books.old.books leases.now }) }
+    ensures reads { OnlyReads (state S.Store conn.old) (state S.Store conn.new) result }
+{
+    for lease in leases {
+        put_account(alloc, conn, lease, books)?;
+    }
+    Ok(())
+}
+
+// The leases that the books have.
+fn listed_leases(alloc: Global, books: &Books) -> Result<Vec<Lease>, AllocError>
+    ensures { IfOk result (λ leases. leases.items ≡ fin.values books.now.books.leases) }
+{
+    let mut leases = Vec::new(alloc);
+    for lease in books.leases() {
+        leases.push(*lease)?;
+    }
+    Ok(leases)
+}
+
+// The same, where want of memory is told as the fault that it is.
+fn held_leases(alloc: Global, books: &Books) -> Result<Vec<Lease>, StoreFault>
+    ensures leases { IfOk result (λ leases. leases.items ≡ fin.values books.now.books.leases) }
+    ensures cause { IfErr result IsFirstFault }
+{
+    match listed_leases(alloc, books) {
+        Ok(leases) => Ok(leases),
+        Err(error) => Err(error.into()),
+    }
+}
+
+// The branch, all properties, and the leases of the branch's properties.
+fn gather_branch<S: Alter>(
+    alloc: Global,
+    conn: &mut Connection<S>,
+    branch: Id,
+    books: &mut Books,
+) -> Result<(), StoreFault>
+    requires ready { HasCleanDisk (state S.Store conn.old) → IsReady (state S.Store conn.old) }
+    requires none { books.old ≡ start FIRST_MONTH }
+    ensures taken { HasCleanDisk (state S.Store conn.new)
+        → OnOk result (books.new ≡ record { books = leases_at (tables (state S.Store conn.old)).books branch; open_run = None }) }
+    ensures reads { OnlyReads (state S.Store conn.old) (state S.Store conn.new) result }
+{
+    look(alloc, conn, &BranchNumbered { number: branch }, books)?;
+    look_at_all::<Property, S>(alloc, conn, books)?;
+    let numbers = numbers_at(alloc, books, branch)?;
+    gather_leases(alloc, conn, &numbers, books)?;
+    Ok(())
+}
+
+// These, and for each of the leases its client and what was charged and paid on it.
+fn gather_arrears<S: Alter>(
+    alloc: Global,
+    conn: &mut Connection<S>,
+    branch: Id,
+    books: &mut Books,
+) -> Result<(), StoreFault>
+    requires ready { HasCleanDisk (state S.Store conn.old) → IsReady (state S.Store conn.old) }
+    requires none { books.old ≡ start FIRST_MONTH }
+    ensures taken { HasCleanDisk (state S.Store conn.new)
+        → OnOk result (books.new ≡ record { books = asked_about (tables (state S.Store conn.old)).books (asked.Arrears branch); open_run = None }) }
+    ensures reads { OnlyReads (state S.Store conn.old) (state S.Store conn.new) result }
+{
+    gather_branch(alloc, conn, branch, books)?;
+    let leases = held_leases(alloc, books)?;
+    gather_accounts(alloc, conn, &leases, books)?;
+    Ok(())
+}
+
+// The rows that the question is about.
+fn gather<S: Alter>(
+    alloc: Global,
+    conn: &mut Connection<S>,
+    question: &Question,
+    books: &mut Books,
+) -> Result<(), StoreFault>
+    requires ready { HasCleanDisk (state S.Store conn.old) → IsReady (state S.Store conn.old) }
+    requires none { books.old ≡ start FIRST_MONTH }
+    ensures taken { HasCleanDisk (state S.Store conn.new)
+        → OnOk result (books.new ≡ record { books = asked_about (tables (state S.Store conn.old)).books question.now; open_run = None }) }
+    ensures reads { OnlyReads (state S.Store conn.old) (state S.Store conn.new) result }
+{
+    match *question {
+        Question::Branches => look_at_all::<Branch, S>(alloc, conn, books),
+        Question::Vacant(_) => gather_lettings(alloc, conn, books),
+        Question::Matching(asked) => gather_matching(alloc, conn, asked.client, books),
+        Question::Statement(lease) => gather_account(alloc, conn, lease, books),
+        Question::Arrears(branch) => gather_arrears(alloc, conn, branch, books),
+        Question::Run(month) => gather_run(alloc, conn, month, books),
+    }
+}
+
+// What these books answer.
+fn answer_on(alloc: Global, books: Books, question: &Question) -> Result<Answer, StoreFault>
+    ensures answer { IfOk result (λ a. report_of a ≡ report books question.now) }
+    ensures cause { IfErr result IsFirstFault }
+{
+    match answer(alloc, books, question) {
+        Ok(answer) => Ok(answer),
+        Err(error) => Err(error.into()),
+    }
+}
+
+// The answer to a question that no open run puts off.
+fn answer_now<S: Alter>(
+    alloc: Global,
+    conn: &mut Connection<S>,
+    question: &Question,
+) -> Result<Answer, StoreFault>
+    requires ready { HasCleanDisk (state S.Store conn.old) → IsReady (state S.Store conn.old) }
+    ensures answer { HasCleanDisk (state S.Store conn.new) → (is_put_off question.now ≡ true → (tables (state S.Store conn.old)).open_run ≡ None)
+        → IfOk result (λ a. report_of a ≡ report (tables (state S.Store conn.old)) question.now) }
+    ensures reads { OnlyReads (state S.Store conn.old) (state S.Store conn.new) result }
+{
+    let mut books = no_rows(alloc);
+    gather(alloc, conn, question, &mut books)?;
+    answer_on(alloc, books, question)
+}
+
+// The answer to a question that an open run puts off.
+fn answer_put_off<S: Alter>(
+    alloc: Global,
+    conn: &mut Connection<S>,
+    question: &Question,
+) -> Result<Answer, StoreFault>
+    requires ready { HasCleanDisk (state S.Store conn.old) → IsReady (state S.Store conn.old) }
+    requires off { is_put_off question.now ≡ true }
+    ensures answer { HasCleanDisk (state S.Store conn.new) → IfOk result (λ a. report_of a ≡ report (tables (state S.Store conn.old)) question.now) }
+    ensures reads { OnlyReads (state S.Store conn.old) (state S.Store conn.new) result }
+{
+    let months = months_now(alloc, conn)?;
+    let found = find_open_run(alloc, conn, months)?;
+    match found {
+        Some(run) => Ok(Answer::Refused(Refusal::RunOpen(run.month.month()))),
+        None => answer_now(alloc, conn, question),
+    }
+}
+
+// The answer to any question.
+fn answer_question<S: Alter>(
+    alloc: Global,
+    conn: &mut Connection<S>,
+    question: &Question,
+) -> Result<Answer, StoreFault>
+    requires ready { HasCleanDisk (state S.Store conn.old) → IsReady (state S.Store conn.old) }
+    ensures answer { HasCleanDisk (state S.Store conn.new) → IfOk result (λ a. report_of a ≡ report (tables (state S.Store conn.old)) question.now) }
+    ensures reads { OnlyReads (state S.Store conn.old) (state S.Store conn.new) result }
+{
+    if is_put_off(question) {
+        answer_put_off(alloc, conn, question)
+    } else {
+        answer_now(alloc, conn, question)
+    }
+}
+
+/// The answer to the question; it changes nothing, at a fault too. While a run is open, `statement`, `arrears` and `run` are
+/// refused 10 with its month. A fault comes where memory runs out or the store fails.
+pub fn look_up<S: Alter>(
+    alloc: Global,
+    conn: &mut Connection<S>,
+    question: &Question,
+) -> Result<Answer, StoreFault>
+    requires { HasCleanDisk (state S.Store conn.old) → IsReady (state S.Store conn.old) }
+    ensures answer { HasCleanDisk (state S.Store conn.new) → IfOk result (λ a. report_of a ≡ report (tables (state S.Store conn.old)) question.now) }
+    ensures done { HasCleanDisk (state S.Store conn.new) → OnOk result (StaysReady (state S.Store conn.old) (state S.Store conn.new)) }
+    ensures undone { HasCleanDisk (state S.Store conn.new) → IsTrue (state S.Store conn.new).is_open
+        → OnErr result (StaysReady (state S.Store conn.old) (state S.Store conn.new)) }
+    ensures cause { IfErr result IsFirstFault }
+    ensures crash { HasCleanDisk (state S.Store conn.new) → Leaves (state S.Store conn.new) (λ t. t ≡ tables (state S.Store conn.old)) }
+    ensures was_clean { doubt (state S.Store conn.old).is_clean ≤ doubt (state S.Store conn.new).is_clean }
+{
+    answer_question(alloc, conn, question)
+}

@@ -1,0 +1,196 @@
+//! A look at rows of one table.
+
+ghost use Rattle.std.specs.Prelude.{◌≡◌, ◌||◌, Bool, OnOk};
+ghost use Rattle.std.specs.FinMap as fin;
+ghost use Rattle.sqlite_trees.specs.Tree.{Trees};
+ghost use Rattle.sqlite.specs.State.{HasCleanDisk};
+ghost use Rattle.sqlite.specs.Held.{state};
+ghost use Rattle.dh_model.specs.Books.{State};
+ghost use Rattle.dh_model.specs.Whole.{rows_where};
+ghost use Rattle.dh_sql.specs.Shape.{IsKept, rows_in};
+ghost use Rattle.dh_tables.specs.Calls.{HasFetchedMore};
+ghost use Rattle.dh_schema.specs.Store.{IsReady};
+ghost use Rattle.dh_schema.specs.Tables.{AreInOrder, state_in};
+ghost use Rattle.dh_store.specs.Looked.{AreBoth};
+ghost use Rattle.dh_store.specs.Reading.{OnlyReads};
+
+use dh_books::Books;
+use dh_schema::StoreFault;
+use dh_tables::{Listed, Look, Tabled, fetch_more, gather_all};
+use dh_types::{
+    Branch, Charge, Client, Inspection, Lease, Owner, Part, Property, Receipt, Registration, Run,
+    Staff, Viewing,
+};
+use sqlite::{Alter, Connection, Error, ErrorCode};
+use std::alloc::Global;
+
+/// A kind of record of which the agency has a table.
+pub trait Kept: Tabled {
+    ghost is_kept: { (trees : Trees) → AreInOrder trees → IsKept Self.Tabled.shape Self.Tabled.order trees };
+
+    ghost holds: { (trees : Trees) → Self.Tabled.shelf.held (state_in trees) ≡ rows_in Self.Tabled.shape trees };
+}
+
+impl Kept for Branch {
+    ghost use Rattle.std.specs.Prelude.{refl};
+    ghost use Rattle.dh_schema.specs.Kinds.{Branches};
+
+    ghost is_kept = { λ trees order. (order.tables Branches).kept };
+
+    ghost holds = { λ trees. refl };
+}
+
+impl Kept for Staff {
+    ghost use Rattle.std.specs.Prelude.{refl};
+    ghost use Rattle.dh_schema.specs.Kinds.{Staff};
+
+    ghost is_kept = { λ trees order. (order.tables Staff).kept };
+
+    ghost holds = { λ trees. refl };
+}
+
+impl Kept for Owner {
+    ghost use Rattle.std.specs.Prelude.{refl};
+    ghost use Rattle.dh_schema.specs.Kinds.{Owners};
+
+    ghost is_kept = { λ trees order. (order.tables Owners).kept };
+
+    ghost holds = { λ trees. refl };
+}
+
+impl Kept for Property {
+    ghost use Rattle.std.specs.Prelude.{refl};
+    ghost use Rattle.dh_schema.specs.Kinds.{Properties};
+
+    ghost is_kept = { λ trees order. (order.tables Properties).kept };
+
+    ghost holds = { λ trees. refl };
+}
+
+impl Kept for Client {
+    ghost use Rattle.std.specs.Prelude.{refl};
+    ghost use Rattle.dh_schema.specs.Kinds.{Clients};
+
+    ghost is_kept = { λ trees order. (order.tables Clients).kept };
+
+    ghost holds = { λ trees. refl };
+}
+
+impl Kept for Registration {
+    ghost use Rattle.std.specs.Prelude.{refl};
+    ghost use Rattle.dh_schema.specs.Kinds.{Registrations};
+
+    ghost is_kept = { λ trees order. (order.tables Registrations).kept };
+
+    ghost holds = { λ trees. refl };
+}
+
+impl Kept for Viewing {
+    ghost use Rattle.std.specs.Prelude.{refl};
+    ghost use Rattle.dh_schema.specs.Kinds.{Viewings};
+
+    ghost is_kept = { λ trees order. (order.tables Viewings).kept };
+
+    ghost holds = { λ trees. refl };
+}
+
+impl Kept for Inspection {
+    ghost use Rattle.std.specs.Prelude.{refl};
+    ghost use Rattle.dh_schema.specs.Kinds.{Inspections};
+
+    ghost is_kept = { λ trees order. (order.tables Inspections).kept };
+
+    ghost holds = { λ trees. refl };
+}
+
+impl Kept for Lease {
+    ghost use Rattle.std.specs.Prelude.{refl};
+    ghost use Rattle.dh_schema.specs.Kinds.{Leases};
+
+    ghost is_kept = { λ trees order. (order.tables Leases).kept };
+
+    ghost holds = { λ trees. refl };
+}
+
+impl Kept for Charge {
+    ghost use Rattle.std.specs.Prelude.{refl};
+    ghost use Rattle.dh_schema.specs.Kinds.{Charges};
+
+    ghost is_kept = { λ trees order. (order.tables Charges).kept };
+
+    ghost holds = { λ trees. refl };
+}
+
+impl Kept for Receipt {
+    ghost use Rattle.std.specs.Prelude.{refl};
+    ghost use Rattle.dh_schema.specs.Kinds.{Receipts};
+
+    ghost is_kept = { λ trees order. (order.tables Receipts).kept };
+
+    ghost holds = { λ trees. refl };
+}
+
+impl Kept for Run {
+    ghost use Rattle.std.specs.Prelude.{refl};
+    ghost use Rattle.dh_schema.specs.Kinds.{Runs};
+
+    ghost is_kept = { λ trees order. (order.tables Runs).kept };
+
+    ghost holds = { λ trees. refl };
+}
+
+impl Kept for Part {
+    ghost use Rattle.std.specs.Prelude.{refl};
+    ghost use Rattle.dh_schema.specs.Kinds.{Parts};
+
+    ghost is_kept = { λ trees order. (order.tables Parts).kept };
+
+    ghost holds = { λ trees. refl };
+}
+
+/// Puts the rows that are asked for beside those that the books have. Rows that are no record come only from a store that
+/// is not clean.
+pub fn look<L: Look, S: Alter>(
+    alloc: Global,
+    conn: &mut Connection<S>,
+    question: &L,
+    books: &mut Books,
+) -> Result<(), StoreFault>
+where
+    L::Record: Kept,
+    requires { HasCleanDisk (state S.Store conn.old) → IsReady (state S.Store conn.old) }
+    ensures first { (t b : State) → AreBoth t b (state S.Store conn.old) books.old → L.Record.shelf.held b ≡ fin.empty
+        → OnOk result (AreBoth t (L.Record.shelf.with b (rows_where (L.asks question.now) (L.Record.shelf.held t))) (state S.Store conn.new) books.new) }
+    ensures more { (t b : State) (test : L.Record → Bool) → AreBoth t b (state S.Store conn.old) books.old
+        → L.Record.shelf.held b ≡ rows_where test (L.Record.shelf.held t)
+        → OnOk result (AreBoth t (L.Record.shelf.with b (rows_where (λ x. test x || L.asks question.now x) (L.Record.shelf.held t)))
+        (state S.Store conn.new) books.new) }
+    ensures put { HasCleanDisk (state S.Store conn.new)
+        → OnOk result (HasFetchedMore L.Record.shape L.Record.order L.Record.shelf (L.asks question.now) (state S.Store conn.old) books.old books.new) }
+    ensures reads { OnlyReads (state S.Store conn.old) (state S.Store conn.new) result }
+{
+    match fetch_more(alloc, conn, question, books) {
+        Ok(true) => Ok(()),
+        Ok(false) => Err(Error::SqliteFailure(ErrorCode::DatabaseCorrupt).into()),
+        Err(error) => Err(error.into()),
+    }
+}
+
+/// Puts a whole table into books that have none of it. Rows that are no record come only from a store that is not clean.
+pub fn look_at_all<R: Listed, S: Alter>(
+    alloc: Global,
+    conn: &mut Connection<S>,
+    books: &mut Books,
+) -> Result<(), StoreFault>
+    requires ready { HasCleanDisk (state S.Store conn.old) → IsReady (state S.Store conn.old) }
+    requires none { HasCleanDisk (state S.Store conn.old) → R.shelf.held books.old ≡ fin.empty }
+    ensures taken { HasCleanDisk (state S.Store conn.new)
+        → OnOk result (books.new ≡ R.shelf.with books.old (rows_in R.shape (state S.Store conn.old).now.trees)) }
+    ensures reads { OnlyReads (state S.Store conn.old) (state S.Store conn.new) result }
+{
+    match gather_all::<R, S>(alloc, conn, books) {
+        Ok(true) => Ok(()),
+        Ok(false) => Err(Error::SqliteFailure(ErrorCode::DatabaseCorrupt).into()),
+        Err(error) => Err(error.into()),
+    }
+}

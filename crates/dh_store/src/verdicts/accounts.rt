@@ -1,0 +1,162 @@
+//! What commands about leases, receipts and runs look at.
+
+ghost use Rattle.std.specs.Prelude.{◌≡◌, OnOk};
+ghost use Rattle.std.specs.FinMap as fin;
+ghost use Rattle.sqlite.specs.State.{HasCleanDisk};
+ghost use Rattle.sqlite.specs.Held.{state};
+ghost use Rattle.dh_types.specs.declared.command.Command.TheVariants as command;
+ghost use Rattle.dh_model.specs.Books.{State};
+ghost use Rattle.dh_model.specs.Checks.{is_same_text};
+ghost use Rattle.dh_model.specs.Whole.{rows_where};
+ghost use Rattle.dh_schema.specs.Store.{IsReady};
+ghost use Rattle.dh_store.specs.Looked.{AreBoth};
+ghost use Rattle.dh_store.specs.Reading.{OnlyReads};
+ghost use Rattle.dh_store.specs.Gathered.{Gathers, with_leases, with_registration};
+
+use dh_books::Books;
+use crate::looks::{look};
+use dh_schema::StoreFault;
+use dh_tables::{
+    ClientNumbered, DepositsOfLease, LeaseNumbered, LeasesOfClientFrom, LeasesOfProperty,
+    PropertyNumbered, ReceiptKeyed, RegistrationAt, RunKeyed,
+};
+use dh_types::{LeaseTerms, ReceiptOrder, RunOrder};
+use sqlite::{Alter, Connection};
+use std::alloc::Global;
+
+// The client's registration at the branch of the property, where the books have that.
+fn registration<S: Alter>(
+    alloc: Global,
+    conn: &mut Connection<S>,
+    terms: &LeaseTerms,
+    books: &mut Books,
+) -> Result<(), StoreFault>
+    requires { HasCleanDisk (state S.Store conn.old) → IsReady (state S.Store conn.old) }
+    ensures gathered { (t b : State) → AreBoth t b (state S.Store conn.old) books.old → b.books.registrations ≡ fin.empty
+        → b.books.properties ≡ rows_where (λ property. is_same_text property.number terms.now.property) t.books.properties
+        → OnOk result (AreBoth t (with_registration terms.now t b) (state S.Store conn.new) books.new) }
+    ensures reads { OnlyReads (state S.Store conn.old) (state S.Store conn.new) result }
+{
+    match books.property(&terms.property) {
+        Some(property) => {
+            let question = RegistrationAt {
+                client: terms.client,
+                branch: property.branch,
+            };
+            look(alloc, conn, &question, books)
+        }
+        None => Ok(()),
+    }
+}
+
+// The leases that have this number, are of the property, or are the client's and start that day.
+fn leases<S: Alter>(
+    alloc: Global,
+    conn: &mut Connection<S>,
+    terms: &LeaseTerms,
+    books: &mut Books,
+) -> Result<(), StoreFault>
+    requires { HasCleanDisk (state S.Store conn.old) → IsReady (state S.Store conn.old) }
+    ensures gathered { (t b : State) → AreBoth t b (state S.Store conn.old) books.old → b.books.leases ≡ fin.empty
+        → OnOk result (AreBoth t (with_leases terms.now t b) (state S.Store conn.new) books.new) }
+    ensures reads { OnlyReads (state S.Store conn.old) (state S.Store conn.new) result }
+{
+    look(
+        alloc,
+        conn,
+        &LeaseNumbered {
+            number: terms.number,
+        },
+        books,
+    )?;
+    look(
+        alloc,
+        conn,
+        &LeasesOfProperty {
+            property: terms.property,
+        },
+        books,
+    )?;
+    let from = LeasesOfClientFrom {
+        client: terms.client,
+        start: terms.start,
+    };
+    look(alloc, conn, &from, books)
+}
+
+/// The leases beside it, the property, the client and its registration.
+pub(crate) fn at_lease<S: Alter>(
+    alloc: Global,
+    conn: &mut Connection<S>,
+    terms: &LeaseTerms,
+    books: &mut Books,
+) -> Result<(), StoreFault>
+    requires { HasCleanDisk (state S.Store conn.old) → IsReady (state S.Store conn.old) }
+    ensures gathered { Gathers (command.Lease terms.now) result (state S.Store conn.old) books.old (state S.Store conn.new) books.new }
+    ensures reads { OnlyReads (state S.Store conn.old) (state S.Store conn.new) result }
+{
+    look(
+        alloc,
+        conn,
+        &PropertyNumbered {
+            number: terms.property,
+        },
+        books,
+    )?;
+    look(
+        alloc,
+        conn,
+        &ClientNumbered {
+            number: terms.client,
+        },
+        books,
+    )?;
+    registration(alloc, conn, terms, books)?;
+    leases(alloc, conn, terms, books)
+}
+
+/// What has the key, the lease, and the deposit on it.
+pub(crate) fn at_receipt<S: Alter>(
+    alloc: Global,
+    conn: &mut Connection<S>,
+    order: &ReceiptOrder,
+    books: &mut Books,
+) -> Result<(), StoreFault>
+    requires { HasCleanDisk (state S.Store conn.old) → IsReady (state S.Store conn.old) }
+    ensures gathered { Gathers (command.Receipt order.now) result (state S.Store conn.old) books.old (state S.Store conn.new) books.new }
+    ensures reads { OnlyReads (state S.Store conn.old) (state S.Store conn.new) result }
+{
+    look(alloc, conn, &RunKeyed { key: order.key }, books)?;
+    look(
+        alloc,
+        conn,
+        &LeaseNumbered {
+            number: order.payment.lease,
+        },
+        books,
+    )?;
+    look(alloc, conn, &ReceiptKeyed { key: order.key }, books)?;
+    look(
+        alloc,
+        conn,
+        &DepositsOfLease {
+            lease: order.payment.lease,
+        },
+        books,
+    )
+}
+
+/// What has the key.
+pub(crate) fn at_run<S: Alter>(
+    alloc: Global,
+    conn: &mut Connection<S>,
+    order: &RunOrder,
+    books: &mut Books,
+) -> Result<(), StoreFault>
+    requires { HasCleanDisk (state S.Store conn.old) → IsReady (state S.Store conn.old) }
+    ensures gathered { Gathers (command.Run order.now) result (state S.Store conn.old) books.old (state S.Store conn.new) books.new }
+    ensures reads { OnlyReads (state S.Store conn.old) (state S.Store conn.new) result }
+{
+    look(alloc, conn, &RunKeyed { key: order.key }, books)?;
+    look(alloc, conn, &ReceiptKeyed { key: order.key }, books)
+}
