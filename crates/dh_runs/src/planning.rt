@@ -22,7 +22,7 @@ use dh_store::{find_open_run, look, look_at_all, months_now, no_rows};
 use dh_model::OpenRun;
 use dh_plans::{Plan, plan_of};
 use dh_schema::StoreFault;
-use dh_tables::PartsOfMonth;
+use dh_tables::{PartsOfMonth};
 use dh_types::{Branch, EntryMonth, Lease, Property};
 use sqlite::{Alter, Connection};
 use std::alloc::Global;

@@ -1,3 +1,4 @@
+//! What SQL texts do to a table of records, for any schema and any kind of record: definitions in specs/, lemmas in proofs/.
 //! The tables of records: adding a row, looking at rows, and reading a whole table. Read [`Tabled`], [`Look`] and [`Listed`] first.
 #![tactic(auto)]
 

@@ -19,7 +19,7 @@ use crate::looks::{find_open_run};
 use dh_model::OpenRun;
 use dh_rows::Meta;
 use dh_schema::StoreFault;
-use dh_tables::last_receipt;
+use dh_tables::{last_receipt};
 use dh_types::Command;
 use dh_verdicts::Facts;
 use sqlite::{Alter, Connection};
