@@ -5,7 +5,7 @@ use crate::lines::{Teller, answered};
 use crate::playing::{compare, parted, told};
 use dh_books::Books;
 use dh_scripts::{Block, Tally, Unreadable, command, command_if_any};
-use dh_player::{Happening, Reach, play};
+use dh_rules::{Happening, Reach, play};
 use dh_types::Reply;
 use std::alloc::{AllocError, Global};
 use std::io;

@@ -13,7 +13,7 @@ use dh_books::Books;
 use dh_scripts::{Fields, Unreadable, command, request_if_any, row_of};
 use dh_fields::Request;
 use dh_model::Verdict;
-use dh_rules::decide;
+use dh_rules::{decide};
 use dh_types::{Command, Reply};
 use std::alloc::{AllocError, Global};
 

@@ -7,7 +7,7 @@ use dh_audit::{
 };
 use dh_books::Books;
 use dh_scripts::{Unreadable};
-use dh_rules::audit;
+use dh_rules::{audit};
 use std::alloc::{AllocError, Global};
 
 // Whether all rules hold, else the least that is broken.
