@@ -23,7 +23,7 @@ use Rattle.dh_audit.specs.declared.stays.Stay.{Stay}
 use Rattle.dh_audit.specs.Stays.{IsSound, makes_way, stay_key, stay_of}
 use Rattle.dh_audit.proofs.Pairs.{false_from_not, pairs_from_rises, rises_from_pairs, rises_like, rises_mapped, rises_unmapped}
 use Rattle.dh_audit.proofs.Permuted.{pairs_permuted}
-use Rattle.dh_month_audit.proofs.Rows.{element}
+use Rattle.dh_audit.proofs.Rows.{element}
 
 -- they do not overlap
 abbrev Clear : Stay → Stay → Type 0

@@ -1,3 +1,5 @@
+pub mod ClosedMonths
+pub mod Months
 pub mod Audit
 pub mod Counts
 pub mod Receipts

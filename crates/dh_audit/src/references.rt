@@ -4,7 +4,7 @@ ghost use Rattle.std.specs.Prelude.{◌≡◌, ◌↔◌, true, IfSome};
 ghost use Rattle.dh_model.specs.Rules.{Each, InspectionRefers, IsThere, LeaseRefers, NamesWhatIsThere, PropertyRefers, RegistrationRefers, ViewingRefers};
 
 use dh_books::Books;
-use dh_month_audit::parts_have_runs;
+use crate::months::{parts_have_runs};
 use dh_types::{Inspection, Lease, Property, Registration, Viewing};
 
 // Whether the property's manager, if any, is there.

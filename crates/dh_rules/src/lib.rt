@@ -11,7 +11,7 @@ mod runs;
 mod telling;
 
 pub use changes::apply_change;
-pub use dh_audit::audit;
+pub use dh_audit::{audit};
 pub use dh_books::Books;
 pub use dh_leases::{batches, dues};
 pub use dh_lists::{answer, balance, matching, vacant};

@@ -2,7 +2,7 @@ use Rattle.std.proofs.Common.{rules, tests}
 use Rattle.std.specs.FinMap as fin
 use Rattle.std.proofs.lemmas.Iterator.Consumers.{YieldsList-from_rest}
 use Rattle.dh_model.specs.Rules.{IsThere}
-use Rattle.dh_month_audit.proofs.Rows.{each_from_all}
+use Rattle.dh_audit.proofs.Rows.{each_from_all}
 use Rattle.dh_audit.proofs.references.charges_refer.Goals as goal
 
 pub returns : goal.returns

@@ -4,7 +4,7 @@ use Rattle.std.specs.List.{All}
 use Rattle.std.proofs.lemmas.List.Elements.{All-push}
 use Rattle.std.proofs.lemmas.Map.Iter.{rest_more}
 use Rattle.dh_audit.specs.Stays.{IsSound, stay_of}
-use Rattle.dh_month_audit.proofs.Rows.{one_pushed}
+use Rattle.dh_audit.proofs.Rows.{one_pushed}
 use Rattle.dh_audit.proofs.stays.stays.Goals as goal
 
 pub loop-lease-preserved : goal.loop-lease-preserved

@@ -1,9 +1,0 @@
-pub mod ClosedDues
-pub mod ClosedSets
-pub mod ClosedSums
-pub mod ClosedWhole
-pub mod Consecutive
-pub mod OpenBatches
-pub mod OpenRuns
-pub mod Rows
-pub mod SameLists

@@ -1,2 +1,0 @@
-pub mod ClosedMonths
-pub mod Months
