@@ -8,7 +8,7 @@ ghost use Rattle.dh_model.specs.Whole.{IsOpenAt, open_row};
 
 use crate::open_shown::batches_shown;
 use dh_books::Books;
-use dh_leases::open_row;
+use dh_leases::{open_row};
 use dh_model::OpenRun;
 use std::alloc::{AllocError, Global};
 

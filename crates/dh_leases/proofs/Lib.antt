@@ -6,3 +6,12 @@ pub mod PartLemmas
 pub mod PostedLemmas
 pub mod RowLemmas
 pub mod RunLemmas
+pub mod Places
+pub mod Cuts
+pub mod MonthRows
+pub mod BatchBranch
+pub mod BatchCharges
+pub mod BatchParts
+pub mod Counted
+pub mod Planned
+pub mod InTime

@@ -1,11 +1,13 @@
 //! What a lease covers, what falls due on it, and a month's rent run of what falls due: its batches, what each branch has of it,
 //! and the books after it. Read [`due_in`] first, and then [`with_posted`].
+//! The batches of a rent run, counted out once. Read [`plan_of`] first.
 #![tactic(auto)]
 
 mod batching;
 mod by_branch;
 mod charges;
 mod parts;
+mod planning;
 mod posted;
 mod posting;
 mod sums;
@@ -19,3 +21,4 @@ pub use posted::{first_batches, open_row, posted_charges, posted_parts, whole, w
 pub use posting::with_run;
 pub use sums::{Sum, part_of_sum, sum_of, sum_with};
 pub use terms::{covers, end_of, overlap};
+pub use planning::{BatchRows, Plan, plan_of};

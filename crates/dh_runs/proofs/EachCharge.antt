@@ -10,7 +10,7 @@ use Rattle.dh_model.proofs.Among.{Among}
 use Rattle.dh_model.proofs.KeyOrders.{nats_tie, nats_total}
 use Rattle.dh_model.proofs.MapRows.{cases_key, get_new, get_other}
 use Rattle.dh_laws.proofs.MapMerges.{get-with_rows, get_past_rows, row_at}
-use Rattle.dh_plans.specs.Plans.{AreNew}
+use Rattle.dh_leases.specs.Plans.{AreNew}
 use Rattle.dh_runs.specs.Putting.{with_charge, with_charges}
 use Rattle.dh_runs.proofs.Putting.{no_charges}
 

@@ -15,9 +15,9 @@ use Rattle.dh_laws.specs.StateTables.{AreInOrder}
 use Rattle.dh_laws.proofs.MovingBatches.{with_batches}
 use Rattle.dh_laws.proofs.PostCharged.{charge_month, charges_fit, part_month, parts_fit}
 use Rattle.dh_laws.proofs.PostMonth.{stays}
-use Rattle.dh_plans.specs.declared.planning.BatchRows.{BatchRows}
-use Rattle.dh_plans.specs.declared.planning.Plan.{Plan}
-use Rattle.dh_plans.specs.Plans.{AreNew, HasItsPart, IsPlanOf, begins_at, stage, with_batch_rows}
+use Rattle.dh_leases.specs.declared.planning.BatchRows.{BatchRows}
+use Rattle.dh_leases.specs.declared.planning.Plan.{Plan}
+use Rattle.dh_leases.specs.Plans.{AreNew, HasItsPart, IsPlanOf, begins_at, stage, with_batch_rows}
 use Rattle.dh_runs.specs.declared.posting.Batch.TheVariants.{Posted, NoneLeft}
 use Rattle.dh_runs.specs.Batches.{batch_told}
 

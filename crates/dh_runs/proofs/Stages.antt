@@ -18,9 +18,9 @@ use Rattle.dh_laws.proofs.MovingBatches.{batches_of_whole, with_batches}
 use Rattle.dh_laws.proofs.PostCharged.{charge_month, charges_fit, part_month, parts_fit}
 use Rattle.dh_laws.proofs.PostMonth.{stays}
 use Rattle.dh_laws.proofs.Standing.{Stands, posted_in_part}
-use Rattle.dh_plans.specs.declared.planning.BatchRows.{BatchRows}
-use Rattle.dh_plans.specs.declared.planning.Plan.{Plan}
-use Rattle.dh_plans.specs.Plans.{AreNew, HasItsPart, IsPlanOf, begins_at, stage, with_batch_rows}
+use Rattle.dh_leases.specs.declared.planning.BatchRows.{BatchRows}
+use Rattle.dh_leases.specs.declared.planning.Plan.{Plan}
+use Rattle.dh_leases.specs.Plans.{AreNew, HasItsPart, IsPlanOf, begins_at, stage, with_batch_rows}
 use Rattle.dh_schema.specs.Store.{IsReady, Leaves, tables}
 use Rattle.dh_runs.proofs.Along.{Along, either, in_order, leaves_weaker}
 

@@ -3,8 +3,8 @@ use Rattle.std.specs.Prelude.{All, ℕ, ◌+◌, ◌^◌, ◌≤◌, nat_lt, if�
 use Rattle.dh_model.specs.declared.open_run.OpenRun.{OpenRun}
 use Rattle.dh_model.specs.Books.{Books}
 use Rattle.dh_model.specs.Runs.{batch_size, batches}
-use Rattle.dh_plans.specs.declared.planning.Plan.{Plan}
-use Rattle.dh_plans.specs.Plans.{FallsInTime}
+use Rattle.dh_leases.specs.declared.planning.Plan.{Plan}
+use Rattle.dh_leases.specs.Plans.{FallsInTime}
 use Rattle.dh_runs.specs.declared.posting.Batch.{Batch}
 use Rattle.dh_runs.specs.declared.posting.Batch.TheVariants.{Posted, NoneLeft}
 

@@ -7,7 +7,7 @@ use Rattle.dh_types.specs.declared.lease.Charge.{Charge}
 use Rattle.dh_types.specs.declared.run.Part.{Part}
 use Rattle.dh_model.specs.Books.{Books, with_rows}
 use Rattle.dh_model.specs.Runs.{charge_key, part_key}
-use Rattle.dh_plans.specs.declared.planning.BatchRows.{BatchRows}
+use Rattle.dh_leases.specs.declared.planning.BatchRows.{BatchRows}
 use Rattle.dh_tables.specs.Calls.{CommitsNothing}
 use Rattle.dh_schema.specs.Store.{IsWriting, tables}
 

@@ -6,14 +6,14 @@ ghost use Rattle.sqlite.specs.Held.{state};
 ghost use Rattle.sqlite_trees.specs.View.{doubt};
 ghost use Rattle.dh_laws.specs.Batches.{IsUnderWay, next_batch};
 ghost use Rattle.dh_laws.specs.StateTables.{AreInOrder};
-ghost use Rattle.dh_plans.specs.Plans.{AreNew, FallsInTime, HasItsPart, IsPlanOf, with_batch_rows};
+ghost use Rattle.dh_leases.specs.Plans.{AreNew, FallsInTime, HasItsPart, IsPlanOf, with_batch_rows};
 ghost use Rattle.dh_schema.specs.Faults.{IsFirstFault};
 ghost use Rattle.dh_schema.specs.Store.{Commits, IsReady, IsReadyWith, Leaves, StaysReady, tables};
 ghost use Rattle.dh_runs.specs.Batches.{CanBePosted, batch_told};
 
 use crate::planning::plan_run;
 use crate::rows::put_rows;
-use dh_plans::{BatchRows, Plan};
+use dh_leases::{BatchRows, Plan};
 use dh_schema::StoreFault;
 use sqlite::{Alter, Connection, Error};
 use std::alloc::Global;

@@ -7,11 +7,11 @@ ghost use Rattle.sqlite.specs.Held.{state};
 ghost use Rattle.dh_days.specs.Days.{month_of_day};
 ghost use Rattle.dh_days.specs.declared.limits.TheConstants.{LAST_ENTRY_MONTH};
 ghost use Rattle.dh_model.specs.Runs.{charge_key, part_key};
-ghost use Rattle.dh_plans.specs.Plans.{AreNew, FallsInTime, HasItsPart};
+ghost use Rattle.dh_leases.specs.Plans.{AreNew, FallsInTime, HasItsPart};
 ghost use Rattle.dh_schema.specs.Store.{IsWriting, tables};
 ghost use Rattle.dh_runs.specs.Putting.{Puts, with_charge, with_charges, with_part, with_rows_of};
 
-use dh_plans::BatchRows;
+use dh_leases::{BatchRows};
 use dh_tables::{insert, update};
 use dh_types::{Charge, Part};
 use sqlite::{Alter, Error, Transaction};

@@ -10,13 +10,13 @@ ghost use Rattle.dh_model.specs.declared.rows.Change.TheVariants as change;
 ghost use Rattle.dh_model.specs.declared.rows.Verdict.TheVariants as verdict;
 ghost use Rattle.dh_model.specs.Verdicts.{opened_run, run_verdict};
 ghost use Rattle.dh_laws.specs.Batches.{IsPostedInPart};
-ghost use Rattle.dh_plans.specs.Plans.{IsPlanOf};
+ghost use Rattle.dh_leases.specs.Plans.{IsPlanOf};
 ghost use Rattle.dh_runs.specs.Batches.{CanBePosted};
 ghost use Rattle.dh_schema.specs.Faults.{IsFirstFault};
 ghost use Rattle.dh_schema.specs.Store.{IsReady, IsReadyWith, Leaves, tables};
 ghost use Rattle.dh_runs.specs.Told.{IsAtEnd, IsCut, IsSaid, reply_of};
 
-use dh_plans::Plan;
+use dh_leases::{Plan};
 use crate::closing::{close_month};
 use crate::opening::{open_run};
 use crate::planning::{plan_run};

@@ -5,7 +5,7 @@ ghost use Rattle.sqlite.specs.State.{HasCleanDisk};
 ghost use Rattle.sqlite.specs.Held.{state};
 ghost use Rattle.dh_model.specs.declared.rows.Verdict.TheVariants as verdict;
 ghost use Rattle.dh_model.specs.Verdicts.{verdict_on};
-ghost use Rattle.dh_plans.specs.Plans.{IsPlanOf};
+ghost use Rattle.dh_leases.specs.Plans.{IsPlanOf};
 ghost use Rattle.dh_schema.specs.Store.{IsReady, tables};
 ghost use Rattle.dh_runs.specs.Taking.{IsResting};
 
@@ -19,7 +19,7 @@ use dh_histories::crashing::next_life;
 use dh_scripts::{Block, Tally, january, request, script};
 use dh_fields::Request;
 use dh_model::{Change, Verdict};
-use dh_plans::Plan;
+use dh_leases::{Plan};
 use dh_runs::{Batch, Problem, check, close_run, open_run, plan_run, post_batch};
 use dh_types::{Command, Reply, RunSum};
 use sqlite::{Alter, Connection};

@@ -4,7 +4,7 @@ use crate::books::{compare_books, empty, told as plainly_told};
 use crate::drawing::Draw;
 use dh_agency::Agency;
 use dh_agency_scripts::{compare, in_memory, told};
-use dh_leases::whole;
+use dh_leases::{whole};
 use dh_rules::{Books};
 use dh_schema::load;
 use dh_scripts::{Tally};

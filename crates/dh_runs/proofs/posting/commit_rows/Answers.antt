@@ -1,7 +1,7 @@
 use Rattle.std.proofs.Common.{◌≡◌, refl, rules, sym, subst, arith}
 use Rattle.sqlite.specs.State.{HasCleanDisk}
 use Rattle.sqlite.specs.Held.{state}
-use Rattle.dh_plans.specs.Plans.{with_batch_rows}
+use Rattle.dh_leases.specs.Plans.{with_batch_rows}
 use Rattle.dh_schema.specs.Store.{Commits, IsReadyWith, tables}
 use Rattle.dh_runs.specs.Putting.{with_rows_of}
 use Rattle.dh_runs.proofs.Committing.{committed, ready_with}

@@ -1,6 +1,6 @@
 use Rattle.std.proofs.Common.{arith}
 use Rattle.sqlite.specs.Held.{state}
-use Rattle.dh_plans.specs.Plans.{with_batch_rows}
+use Rattle.dh_leases.specs.Plans.{with_batch_rows}
 use Rattle.dh_schema.specs.Store.{tables}
 use Rattle.dh_store.proofs.Committing.{leaves_either}
 use Rattle.dh_runs.proofs.posting.post_rows.Goals as goal

@@ -5,7 +5,7 @@ use Rattle.std.proofs.lemmas.List.{append_assoc, length-append, length-take, tak
 use Rattle.std.proofs.lemmas.List.FromFn.{map-range_with_len_more}
 use Rattle.dh_types.specs.declared.lease.Charge.{Charge}
 use Rattle.dh_types.specs.declared.run.Part.{Part}
-use Rattle.dh_plans.specs.Rows.{charges_at, rows_at}
+use Rattle.dh_leases.specs.Rows.{charges_at, rows_at}
 
 module _ (size : ℕ) (dues : List Charge) (number : ℕ) where
   -- the charges so far are those before the batch, and its own

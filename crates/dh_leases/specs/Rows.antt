@@ -6,7 +6,7 @@ use Rattle.dh_types.specs.declared.lease.Charge.{Charge}
 use Rattle.dh_types.specs.declared.run.Part.{Part}
 use Rattle.dh_model.specs.Books.{Books}
 use Rattle.dh_model.specs.Runs.{batches_before, batches_for, dues_of_branch, part_of}
-use Rattle.dh_plans.specs.declared.planning.BatchRows.{BatchRows}
+use Rattle.dh_leases.specs.declared.planning.BatchRows.{BatchRows}
 
 -- a batch's charges, its part row, and whether the branch has one already
 abbrev pub rows_of : BatchRows → List Charge × Part × Bool

@@ -2,9 +2,9 @@ use Rattle.std.proofs.Common.{◌≡◌, ◌∙◌, ◌+◌, ◌*◌, ◌++◌, 
 use Rattle.std.proofs.lemmas.List.{map-append}
 use Rattle.dh_model.specs.Runs.{batch_size}
 use Rattle.dh_leases.specs.Sums.{sum_of}
-use Rattle.dh_plans.specs.Rows.{rows_at, rows_of}
-use Rattle.dh_plans.proofs.Cuts.{cut_once, rows_more}
-use Rattle.dh_plans.proofs.planning.put_batches.Goals as goal
+use Rattle.dh_leases.specs.Rows.{rows_at, rows_of}
+use Rattle.dh_leases.proofs.Cuts.{cut_once, rows_more}
+use Rattle.dh_leases.proofs.planning.put_batches.Goals as goal
 
 pub loop-number-preserved : goal.loop-number-preserved
 loop-number-preserved c =

@@ -14,9 +14,9 @@ use Rattle.dh_laws.specs.InOrder.{AreKeyed}
 use Rattle.dh_laws.proofs.PostCharged.{part_month, parts_fit}
 use Rattle.dh_laws.proofs.PostDues.{is_begun}
 use Rattle.dh_laws.proofs.PostMonth.{of_new, replaced}
-use Rattle.dh_plans.proofs.BatchBranch.{IsHeld, branch_of_due, one_branch, own_dues, own_number, posted_with}
-use Rattle.dh_plans.proofs.MonthRows.{led, was_free}
-use Rattle.dh_plans.proofs.Places.{filter_alike}
+use Rattle.dh_leases.proofs.BatchBranch.{IsHeld, branch_of_due, one_branch, own_dues, own_number, posted_with}
+use Rattle.dh_leases.proofs.MonthRows.{led, was_free}
+use Rattle.dh_leases.proofs.Places.{filter_alike}
 
 -- a branch that has begun has its part row
 of_begun : (size : ℕ) (books : Books) (month n : ℕ) (branch : List ℕ) → Among (keys books.branches) branch → batches_before size books month branch < n

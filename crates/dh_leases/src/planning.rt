@@ -5,14 +5,15 @@ ghost use Rattle.dh_values.specs.declared.limits.TheConstants.{MOST_NUMBER};
 ghost use Rattle.dh_model.specs.Books.{State};
 ghost use Rattle.dh_model.specs.Runs.{batch_size};
 ghost use Rattle.dh_laws.specs.StateTables.{AreInOrder};
-ghost use Rattle.dh_plans.specs.Plans.{FallsInTime, HaveTheLeases, IsPlanOf};
-ghost use Rattle.dh_plans.specs.Rows.{charges_at, rows_after, rows_of};
+ghost use Rattle.dh_leases.specs.Plans.{FallsInTime, HaveTheLeases, IsPlanOf};
+ghost use Rattle.dh_leases.specs.Rows.{charges_at, rows_after, rows_of};
 
 use dh_books::Books;
 use dh_days::limits::LAST_ENTRY_MONTH;
-use dh_leases::{
-    batches_for, dues_by_branch, first_batches, of_branch, part_of_sum, sum_of, sum_with,
-};
+use crate::batching::{batches_for};
+use crate::by_branch::{dues_by_branch, of_branch};
+use crate::posted::{first_batches};
+use crate::sums::{part_of_sum, sum_of, sum_with};
 use dh_model::OpenRun;
 use dh_types::{Charge, EntryMonth, Id, Part};
 use std::alloc::{AllocError, Global};

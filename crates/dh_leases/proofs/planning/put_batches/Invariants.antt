@@ -2,8 +2,8 @@ use Rattle.std.proofs.Common.{◌≡◌, ◌-◌, ◌*◌, ◌≤◌, ◌++◌, 
 use Rattle.std.specs.List.{range_with_len}
 use Rattle.dh_model.specs.Runs.{batch_size}
 use Rattle.dh_leases.specs.Sums.{sum_of}
-use Rattle.dh_plans.specs.Rows.{rows_at, rows_of}
-use Rattle.dh_plans.proofs.planning.put_batches.Given as goal
+use Rattle.dh_leases.specs.Rows.{rows_at, rows_of}
+use Rattle.dh_leases.proofs.planning.put_batches.Given as goal
 
 abbrev pub invariant-loop-number : goal.invariant-loop-number
 invariant-loop-number l = record {

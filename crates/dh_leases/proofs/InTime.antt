@@ -13,10 +13,10 @@ use Rattle.dh_types.specs.declared.run.Part.{Part}
 use Rattle.dh_model.specs.Books.{Books}
 use Rattle.dh_model.specs.Leases.{due, dues_among, dues_of}
 use Rattle.dh_model.specs.Runs.{batch_size, batches_before, batches_for, dues_of_branch, leases_of_branch}
-use Rattle.dh_plans.specs.declared.planning.BatchRows.{BatchRows}
-use Rattle.dh_plans.specs.declared.planning.Plan.{Plan}
-use Rattle.dh_plans.specs.Plans.{FallsInTime}
-use Rattle.dh_plans.specs.Rows.{all_rows_left, rows_at, rows_left, rows_of}
+use Rattle.dh_leases.specs.declared.planning.BatchRows.{BatchRows}
+use Rattle.dh_leases.specs.declared.planning.Plan.{Plan}
+use Rattle.dh_leases.specs.Plans.{FallsInTime}
+use Rattle.dh_leases.specs.Rows.{all_rows_left, rows_at, rows_left, rows_of}
 
 abbrev IsInMonth : Charge → Type 0
 IsInMonth charge = month_of_day charge.day ≡ charge.month

@@ -17,11 +17,11 @@ use Rattle.dh_laws.specs.InOrder.{AreKeyed}
 use Rattle.dh_laws.proofs.PostCharged.{charge_month, charges_fit}
 use Rattle.dh_laws.proofs.PostDues.{is_posted, of_posted, one_posted}
 use Rattle.dh_laws.proofs.PostMonth.{replaced}
-use Rattle.dh_plans.specs.Plans.{AreNew}
-use Rattle.dh_plans.specs.Rows.{charges_at}
-use Rattle.dh_plans.proofs.BatchBranch.{IsHeld, branch_of_due, own_dues, own_number, posted_in_two}
-use Rattle.dh_plans.proofs.MonthRows.{led, was_free}
-use Rattle.dh_plans.proofs.Places.{first_before, second_rises}
+use Rattle.dh_leases.specs.Plans.{AreNew}
+use Rattle.dh_leases.specs.Rows.{charges_at}
+use Rattle.dh_leases.proofs.BatchBranch.{IsHeld, branch_of_due, own_dues, own_number, posted_in_two}
+use Rattle.dh_leases.proofs.MonthRows.{led, was_free}
+use Rattle.dh_leases.proofs.Places.{first_before, second_rises}
 
 -- charges that rise by lease, and of which none is there, are new
 are_new : (charges : List Charge) (held : FinMap (pair_cmp nat_cmp nat_cmp) Charge) → Rises (Lesser lease_of) charges

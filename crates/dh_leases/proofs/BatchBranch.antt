@@ -14,8 +14,8 @@ use Rattle.dh_model.proofs.BranchSums.{Holds}
 use Rattle.dh_model.proofs.KeyOrders.{text_ties, text_total}
 use Rattle.dh_leases.proofs.PostedLemmas.{first_posted}
 use Rattle.dh_laws.proofs.PostSmall.{own_is_before}
-use Rattle.dh_plans.specs.Rows.{charges_at, rows_at}
-use Rattle.dh_plans.proofs.Cuts.{cut_once}
+use Rattle.dh_leases.specs.Rows.{charges_at, rows_at}
+use Rattle.dh_leases.proofs.Cuts.{cut_once}
 
 -- the branch that has the batch of this number
 abbrev pub IsHeld : ℕ → Books → ℕ → ℕ → Type 0

@@ -13,9 +13,9 @@ use Rattle.dh_model.proofs.Among.{Among}
 use Rattle.dh_model.proofs.BranchDues.{holds, keys_rise}
 use Rattle.dh_model.proofs.BranchSums.{Follows, sums_follow}
 use Rattle.dh_model.proofs.KeyOrders.{text_total}
-use Rattle.dh_plans.specs.Rows.{all_rows_left, rows_at, rows_left}
-use Rattle.dh_plans.proofs.BatchBranch.{IsBatch}
-use Rattle.dh_plans.proofs.Places.{AreFrom, from_both, from_range}
+use Rattle.dh_leases.specs.Rows.{all_rows_left, rows_at, rows_left}
+use Rattle.dh_leases.proofs.BatchBranch.{IsBatch}
+use Rattle.dh_leases.proofs.Places.{AreFrom, from_both, from_range}
 
 module _ (size : ℕ) (books : Books) (month done : ℕ) where
   abbrev own : List ℕ → ℕ

@@ -7,11 +7,11 @@ use Rattle.std.proofs.lemmas.Map.Iter.{iter_end, rest_more, rest_so_far}
 use Rattle.dh_model.specs.Runs.{batch_size, dues_of_branch}
 use Rattle.dh_leases.proofs.FewLemmas.{few_dues}
 use Rattle.dh_leases.proofs.PostedLemmas.{left_after, left_before, left_next}
-use Rattle.dh_plans.specs.Rows.{rows_after, rows_left}
-use Rattle.dh_plans.specs.declared.planning.Plan.{Plan}
-use Rattle.dh_plans.proofs.InTime.{in_time}
-use Rattle.dh_plans.proofs.Planned.{is_plan}
-use Rattle.dh_plans.proofs.planning.plan_of.Goals as goal
+use Rattle.dh_leases.specs.Rows.{rows_after, rows_left}
+use Rattle.dh_leases.specs.declared.planning.Plan.{Plan}
+use Rattle.dh_leases.proofs.InTime.{in_time}
+use Rattle.dh_leases.proofs.Planned.{is_plan}
+use Rattle.dh_leases.proofs.planning.plan_of.Goals as goal
 
 pub put_batches-requires : goal.put_batches-requires
 put_batches-requires c =

@@ -9,15 +9,15 @@ use Rattle.dh_model.specs.Runs.{batch_size, charge_key, part_key}
 use Rattle.dh_model.specs.Whole.{with_posted}
 use Rattle.dh_laws.specs.InOrder.{IsInOrder}
 use Rattle.dh_laws.specs.StateTables.{AreInOrder}
-use Rattle.dh_plans.specs.declared.planning.BatchRows.{BatchRows}
-use Rattle.dh_plans.specs.declared.planning.Plan.{Plan}
-use Rattle.dh_plans.specs.Plans.{AreNew, HasItsPart, HaveTheLeases, IsPlanOf, begins_at, with_batch_rows}
-use Rattle.dh_plans.specs.Rows.{all_rows_left, rows_of}
-use Rattle.dh_plans.proofs.BatchBranch.{IsBatch}
-use Rattle.dh_plans.proofs.BatchCharges.{charges_led, charges_new}
-use Rattle.dh_plans.proofs.BatchParts.{had_part, parts_led}
-use Rattle.dh_plans.proofs.Counted.{AreTheRest, all_counted}
-use Rattle.dh_plans.proofs.Places.{at_place}
+use Rattle.dh_leases.specs.declared.planning.BatchRows.{BatchRows}
+use Rattle.dh_leases.specs.declared.planning.Plan.{Plan}
+use Rattle.dh_leases.specs.Plans.{AreNew, HasItsPart, HaveTheLeases, IsPlanOf, begins_at, with_batch_rows}
+use Rattle.dh_leases.specs.Rows.{all_rows_left, rows_of}
+use Rattle.dh_leases.proofs.BatchBranch.{IsBatch}
+use Rattle.dh_leases.proofs.BatchCharges.{charges_led, charges_new}
+use Rattle.dh_leases.proofs.BatchParts.{had_part, parts_led}
+use Rattle.dh_leases.proofs.Counted.{AreTheRest, all_counted}
+use Rattle.dh_leases.proofs.Places.{at_place}
 
 -- batches depend on branches, properties and leases alone
 same_rows_left : (books others : Books) (month done : ℕ) → HaveTheLeases books others

@@ -3,8 +3,8 @@ use Rattle.std.specs.List.{flat_map}
 use Rattle.std.specs.Map.Iter.{deref}
 use Rattle.dh_model.specs.Runs.{batch_size}
 use Rattle.dh_leases.proofs.PostedLemmas.{left_after}
-use Rattle.dh_plans.specs.Rows.{rows_left, rows_of}
-use Rattle.dh_plans.proofs.planning.plan_of.Given as goal
+use Rattle.dh_leases.specs.Rows.{rows_left, rows_of}
+use Rattle.dh_leases.proofs.planning.plan_of.Given as goal
 
 abbrev pub invariant-loop-branch : goal.invariant-loop-branch
 invariant-loop-branch l = record {
