@@ -14,7 +14,7 @@ pub use changes::apply_change;
 pub use dh_audit::{audit};
 pub use dh_books::Books;
 pub use dh_leases::{batches, dues};
-pub use dh_lists::{answer, balance, matching, vacant};
+pub use dh_answers::{answer, balance, matching, vacant};
 pub use dh_model::BATCH_SIZE;
 pub use dh_verdicts::{Facts, decide, decide_on};
 pub use machine::{Stepped, step};

@@ -21,7 +21,7 @@ ghost use Rattle.dh_schema.specs.Store.{IsReady, Leaves, StaysReady, tables};
 ghost use Rattle.dh_store.specs.Reading.{OnlyReads};
 
 use dh_books::Books;
-use dh_lists::{answer, is_put_off};
+use dh_answers::{answer, is_put_off};
 use crate::looks::{find_open_run, look, look_at_all, months_now, no_rows};
 use dh_schema::StoreFault;
 use dh_tables::{BranchNumbered, ChargesOfLease, ClientNumbered, LeaseNumbered, LeasesOfProperty, PartsOfMonth, ReceiptsOfLease, RunOf};
