@@ -13,8 +13,8 @@ ghost use Rattle.dh_agency.specs.Agency.{IsClean, IsOpen, WasClean, LeavesItsTab
 ghost use Rattle.dh_agency.specs.Told.{IsCut, IsSaid, reply_of};
 
 use crate::carrying::carry_out;
-use dh_store::{look_up};
 use dh_runs::{RunState, post_some};
+use dh_store::look_up;
 use dh_types::{Answer, Command, Fault, Question, Reply};
 use sqlite::{Alter, Connection};
 use std::alloc::Global;

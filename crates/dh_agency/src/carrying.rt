@@ -12,12 +12,12 @@ ghost use Rattle.dh_schema.specs.Faults.{IsFirstFault};
 ghost use Rattle.dh_schema.specs.Store.{IsReady, IsReadyWith, Leaves, tables};
 ghost use Rattle.dh_agency.specs.Told.{IsCut, IsSaid, reply_of};
 
-use dh_store::{apply, ask};
 use dh_laws::entering::commands_are_entered;
 use dh_laws::looking::accepted_changes_fit;
 use dh_model::{Change, Verdict};
 use dh_runs::{RunState, open_run, post_some, run_all};
 use dh_schema::StoreFault;
+use dh_store::{apply, ask};
 use dh_types::{Command, Refusal, Reply};
 use sqlite::{Alter, Connection};
 use std::alloc::Global;

@@ -14,7 +14,7 @@ ghost use Rattle.dh_model.specs.Books.{pair_cmp, text_cmp};
 ghost use Rattle.dh_model.specs.Answers.{by_rent, is_vacant, matches, matching, vacant};
 
 use dh_books::Books;
-use dh_leases::{covers};
+use dh_leases::covers;
 use dh_types::{Client, Day, Id, Property, Rent};
 use std::alloc::{AllocError, Global};
 use std::collections::{BTreeMap, BTreeSet};

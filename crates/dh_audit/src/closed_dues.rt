@@ -6,7 +6,7 @@ ghost use Rattle.dh_model.specs.Leases.{dues_of};
 ghost use Rattle.dh_audit.specs.ClosedMonths.{all_dues, branch_of, due_at};
 
 use dh_books::Books;
-use dh_leases::{due_in};
+use dh_leases::due_in;
 use dh_types::{Charge, Id, Lease, Month};
 use std::alloc::{AllocError, Global};
 

@@ -1,7 +1,5 @@
-//! The audit of rent runs: whether the runs follow one another, and each month is charged as its run says, rules 9 and 10.
-//! Read `months_in_order` first.
-//! The audit of the books: whether what must hold of them does. Read `audit` first; each rule has a function of its own, those of
-//! months and runs in the crate below.
+//! The audit of the books: whether what must hold of them does. Read [`audit`] first; each rule has a function of its own. Whether
+//! the runs follow one another, and each month is charged as its run says, is `months_in_order`.
 #![tactic(auto)]
 
 mod auditing;
@@ -23,18 +21,13 @@ mod same;
 mod staff;
 mod stays;
 
-pub use closed_months::closed_months_are_in_order;
-pub use months::{months_in_order, parts_have_runs};
-pub use open_months::open_months_are_in_order;
-pub use open_run::open_run_of;
-pub use runs::runs_in_order;
 pub use auditing::audit;
-pub use crate::closed_months::{closed_months_are_in_order};
-pub use crate::months::{months_in_order};
-pub use crate::open_months::{open_months_are_in_order};
-pub use crate::runs::{runs_in_order};
+pub use closed_months::closed_months_are_in_order;
 pub use leases::{leases_in_time, one_start_a_day};
+pub use months::months_in_order;
+pub use open_months::open_months_are_in_order;
 pub use receipts::{deposits_in_order, keys_in_order};
 pub use references::names_what_is_there;
+pub use runs::runs_in_order;
 pub use staff::{manages_at_most_hundred, staff_of_the_branch};
 pub use stays::leases_never_overlap;

@@ -19,7 +19,7 @@ fn charges_have_runs(books: &Books) -> bool
 }
 
 /// Whether each part row is of a run that is there.
-pub fn parts_have_runs(books: &Books) -> bool
+pub(crate) fn parts_have_runs(books: &Books) -> bool
     ensures { (result ≡ true) ↔ Each books.now.books.parts (λ part. IsThere books.now.books.runs part.month) }
 {
     books.parts().all(|part| books.run(&part.month).is_some())

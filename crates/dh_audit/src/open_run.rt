@@ -8,13 +8,13 @@ ghost use Rattle.dh_model.specs.Whole.{IsOpenAt, open_row};
 
 use crate::open_shown::batches_shown;
 use dh_books::Books;
-use dh_leases::{open_row};
+use dh_leases::open_row;
 use dh_model::OpenRun;
 use std::alloc::{AllocError, Global};
 
 /// The open run with the number of its batches that the books have, as books that meet the rules show it, and `None` where
 /// no run is open. It fails where memory runs out.
-pub fn open_run_of(alloc: Global, books: &Books) -> Result<Option<OpenRun>, AllocError>
+pub(crate) fn open_run_of(alloc: Global, books: &Books) -> Result<Option<OpenRun>, AllocError>
     ensures shown { IfOk result (λ run. MeetsRules books.now.books batch_size → IsOpenAt batch_size books.now.books run) }
     ensures only { IfOk result (λ run. (other : Option OpenRun) → IsOpenAt batch_size books.now.books other → other ≡ run) }
     ensures none { IfOk result (λ run. (run ≡ None) ↔ (open_row books.now.books ≡ None)) }

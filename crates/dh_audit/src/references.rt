@@ -3,8 +3,8 @@
 ghost use Rattle.std.specs.Prelude.{◌≡◌, ◌↔◌, true, IfSome};
 ghost use Rattle.dh_model.specs.Rules.{Each, InspectionRefers, IsThere, LeaseRefers, NamesWhatIsThere, PropertyRefers, RegistrationRefers, ViewingRefers};
 
+use crate::months::parts_have_runs;
 use dh_books::Books;
-use crate::months::{parts_have_runs};
 use dh_types::{Inspection, Lease, Property, Registration, Viewing};
 
 // Whether the property's manager, if any, is there.

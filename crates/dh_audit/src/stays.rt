@@ -10,7 +10,7 @@ ghost use Rattle.dh_model.specs.Rules.{LeasesNeverOverlap};
 ghost use Rattle.dh_audit.specs.Stays.{IsSound, makes_way, stay_key, stay_of};
 
 use dh_books::Books;
-use dh_leases::{end_of};
+use dh_leases::end_of;
 use dh_types::{Day, Id, LeaseTerms};
 use std::alloc::{AllocError, Global};
 

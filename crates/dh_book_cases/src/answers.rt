@@ -1,8 +1,8 @@
 //! What questions are answered, as texts.
 
 use dh_books::Books;
-use dh_scripts::{Fields, Unreadable, answer_text, copy_of, numbers_of};
 use dh_rules::{answer, balance, matching, vacant};
+use dh_scripts::{Fields, Unreadable, answer_text, copy_of, numbers_of};
 use dh_types::{Balance, Client, EntryDay, LeaseNo, Property, Question};
 use std::alloc::{AllocError, Global};
 

@@ -3,9 +3,9 @@
 ghost use Rattle.std.specs.Prelude.{◌≡◌};
 
 use dh_books::Books;
-use dh_scripts::{Row, Unreadable, january};
 use dh_leases::{whole, with_posted, with_run};
 use dh_rules::{Reach, cut_done, cut_undone, mended, said, step, torn};
+use dh_scripts::{Row, Unreadable, january};
 use dh_types::{Command, EntryMonth, Key};
 use std::alloc::{AllocError, Global};
 use std::mem;

@@ -3,8 +3,8 @@
 use crate::calls::{cut_after, cut_before, empty, mend, say, tear, tell};
 use crate::playing::parted;
 use dh_books::Books;
+use dh_rules::Reach;
 use dh_scripts::{Block, Tally, Unreadable, command_if_any};
-use dh_rules::{Reach};
 use dh_types::Command;
 use std::alloc::{AllocError, Global};
 use std::io;

@@ -5,15 +5,13 @@ use crate::calls::{make_run, make_whole, post, put, say, tell};
 use crate::finding::found;
 use crate::lists::{counted, listed};
 use crate::rules::{audited, is_kept};
-use crate::runs::{
-    batched, clear_charges, clear_parts, open_run, posted, set_open_run, whole_parts,
-};
+use crate::runs::{batched, clear_charges, clear_parts, open_run, posted, set_open_run, whole_parts};
 use crate::terms::{covered, due, dues_of, end, overlapping};
 use dh_books::Books;
-use dh_scripts::{Fields, Unreadable, command, request_if_any, row_of};
 use dh_fields::Request;
 use dh_model::Verdict;
-use dh_rules::{decide};
+use dh_rules::decide;
+use dh_scripts::{Fields, Unreadable, command, request_if_any, row_of};
 use dh_types::{Command, Reply};
 use std::alloc::{AllocError, Global};
 

@@ -1,10 +1,10 @@
 //! Rent runs and their batches.
 
 use dh_books::Books;
-use dh_scripts::{Fields, Unreadable, add_part, lines_of};
 use dh_leases::{branch_parts, posted_charges, posted_parts};
 use dh_model::OpenRun;
-use dh_rules::{batches};
+use dh_rules::batches;
+use dh_scripts::{Fields, Unreadable, add_part, lines_of};
 use std::alloc::Global;
 
 /// `batches,MONTH`: how many the run takes.

@@ -1,9 +1,9 @@
 //! What leases cover, and what falls due on them.
 
 use dh_books::Books;
-use dh_scripts::{Fields, Unreadable, lines_of};
 use dh_leases::{covers, due_in, end_of, overlap};
-use dh_rules::{dues};
+use dh_rules::dues;
+use dh_scripts::{Fields, Unreadable, lines_of};
 use dh_types::Lease;
 use std::alloc::Global;
 

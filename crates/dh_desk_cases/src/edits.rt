@@ -4,7 +4,7 @@
 use crate::lives::{edited, tables};
 use crate::runs::{PATH, clear, ran};
 use dh_agency_scripts::{compare, parted};
-use dh_scripts::{Tally};
+use dh_scripts::Tally;
 use std::alloc::{AllocError, Global};
 use std::{fs, io};
 

@@ -3,7 +3,7 @@
 use crate::runs::{PATH, clear, ended, input_of, ran, shown};
 use dh_agency_scripts::{compare, parted};
 use dh_lines::ends::{FailingReader, FailingWriter};
-use dh_scripts::{Tally};
+use dh_scripts::Tally;
 use std::{fs, io};
 
 // A run that reads so many bytes and then fails: status 3, and whole lines of the output that is wanted.

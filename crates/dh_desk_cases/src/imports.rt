@@ -3,7 +3,7 @@
 use crate::lives::tables;
 use crate::runs::{clear, outcome, ran};
 use dh_agency_scripts::{compare, parted};
-use dh_scripts::{Tally};
+use dh_scripts::Tally;
 use std::alloc::AllocError;
 use std::io;
 

@@ -4,7 +4,7 @@
 use crate::cracks::cracked;
 use crate::runs::{LOG, PATH, clear, ran, standing};
 use dh_agency_scripts::{all_rows, compare, parted, rows_of};
-use dh_scripts::{Tally};
+use dh_scripts::Tally;
 use sqlite::Connection;
 use std::alloc::AllocError;
 use std::os::unix::fs::symlink;

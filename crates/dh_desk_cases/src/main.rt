@@ -16,7 +16,7 @@ mod pages;
 mod peers;
 mod runs;
 
-use dh_scripts::{Tally};
+use dh_scripts::Tally;
 use std::io;
 
 fn play(rt: &HostRuntime, tally: &mut Tally, kind: &str, lines: &str) -> io::Result<()> {

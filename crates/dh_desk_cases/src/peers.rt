@@ -9,7 +9,7 @@ ghost use Rattle.std.specs.Prelude.{◌≡◌, Some};
 use crate::lives;
 use crate::runs::{PATH, clear, ended, outcome, ran, shown};
 use dh_agency_scripts::{compare, parted};
-use dh_scripts::{Tally};
+use dh_scripts::Tally;
 use std::alloc::{AllocError, Global};
 use std::io::{Read, Write};
 use std::net::{Ipv4Addr, Shutdown, SocketAddr, SocketAddrV4, TcpListener, TcpStream};

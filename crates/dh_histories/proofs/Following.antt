@@ -18,8 +18,8 @@ use Rattle.dh_tables.specs.Calls.{HasOurTables}
 use Rattle.dh_schema.specs.Store.{AreTables, tables}
 use Rattle.dh_schema.specs.Tables.{IsSound, state_in}
 use Rattle.dh_schema.proofs.Keyed.{sound_tables_show_their_run}
-use Rattle.dh_agency.specs.Taken.{TakesAsTheyAre}
 use Rattle.dh_runs.specs.Told.{IsCut, IsMended, IsSaid, IsTorn, reply_of}
+use Rattle.dh_agency.specs.Taken.{TakesAsTheyAre}
 use Rattle.dh_histories.specs.Calls.{Answers, Breaks, BreaksRecovery, Call, IsSame, Tells}
 use Rattle.dh_histories.specs.Calls.{Stepped, StepCut, Resumed, ResumeCut, Shown, ShowCut, Attached, AttachCut, Recovered, RecoveryCut}
 use Rattle.dh_histories.specs.Histories.{GoesOn, Happened, IsOpenedAnew, IsSoundIn, Moment, event_of, events_of, tables_of, with_event}

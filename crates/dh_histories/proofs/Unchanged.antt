@@ -12,8 +12,8 @@ use Rattle.dh_model.specs.Runs.{batch_size}
 use Rattle.dh_laws.specs.Events.{Tables}
 use Rattle.dh_laws.specs.Repeating.{is_of_nothing_new}
 use Rattle.dh_laws.specs.Standings as laws
-use Rattle.dh_runs.specs.Told.{IsSaid, reply_of}
 use Rattle.dh_schema.specs.Tables.{IsSound, state_in, tables_in}
+use Rattle.dh_runs.specs.Told.{IsSaid, reply_of}
 use Rattle.dh_agency.specs.Agency.{LeavesItsTables, machine as machine_of}
 use Rattle.dh_agency.specs.Seat.{Seat}
 use Rattle.dh_histories.specs.Answered.{NothingNewLeavesTheTables, StandingTellsTheTables}

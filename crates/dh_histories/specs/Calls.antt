@@ -8,10 +8,10 @@ use Rattle.dh_model.specs.Books as machine
 use Rattle.dh_laws.specs.Batches.{IsPostedInPart}
 use Rattle.dh_schema.specs.Store.{IsReadyWith, Leaves, LeavesItsTables, tables}
 use Rattle.dh_schema.specs.Tables.{IsSound}
-use Rattle.dh_agency.specs.Taken.{TakesAsTheyAre, TakesForward}
 use Rattle.dh_runs.specs.declared.running.RunState.{RunState}
 use Rattle.dh_runs.specs.Taking.{IsResting}
 use Rattle.dh_runs.specs.Told.{IsCut, IsMended, IsSaid, IsTorn, reply_of}
+use Rattle.dh_agency.specs.Taken.{TakesAsTheyAre, TakesForward}
 
 -- A call, and how it ended. It was cut where a stop or a fault came within it.
 pub data Call : Type 0 where

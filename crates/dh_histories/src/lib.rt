@@ -5,5 +5,3 @@ pub mod answers;
 pub mod crashing;
 pub mod histories;
 pub mod telling;
-
-

@@ -11,8 +11,8 @@ use Rattle.dh_types.specs.declared.reply.Fault.{Fault}
 use Rattle.dh_types.specs.declared.reply.Fault.TheVariants as fault
 use Rattle.dh_types.specs.Replies.{fault_text, refusal_number, refusal_text, reply_text}
 use Rattle.dh_types.specs.Reports.{Report, NoReport}
-use Rattle.dh_reports.specs.ReportTexts.{report_text}
 use Rattle.dh_types.specs.declared.output.Output.{Output}
+use Rattle.dh_reports.specs.ReportTexts.{report_text}
 use Rattle.dh_requests.specs.Texts.{reply_body}
 use Rattle.dh_requests.specs.declared.asked.Turned.{Turned}
 use Rattle.dh_requests.specs.declared.asked.Turned.TheVariants as turned

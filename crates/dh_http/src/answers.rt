@@ -10,7 +10,7 @@ ghost use Rattle.dh_http.specs.declared.answers.Unsent.TheVariants as unsent;
 
 use arrayvec::ArrayVec;
 use dh_reports::write;
-use dh_requests::{Turned};
+use dh_requests::Turned;
 use dh_types::writing::{put, put_parts};
 use dh_types::{Answer, Fault, Output, Refusal, Reply};
 use http::StatusCode;
@@ -201,7 +201,7 @@ fn put_json<W: Write>(
 ) -> Result<StatusCode, Unsent>
     ensures { Sends (W.contents writer.old) (W.contents writer.new) (json_answer status code text.now) result }
 {
-    let body = dh_bodies::reply(alloc, code, text)?;
+    let body = dh_requests::reply(alloc, code, text)?;
     passed(put_answer(writer, status, Content::Json, "", body.as_bytes()))
 }
 

@@ -1,15 +1,15 @@
 //! Serving connections, one after the other.
 
 ghost use Rattle.std.specs.Prelude.{◌≡◌, ℕ, List, [], ◌∷◌, Option, false, true, Err, OnOk};
-ghost use Rattle.dh_agency.specs.Agency.{IsClean, WasClean};
 ghost use Rattle.dh_types.specs.Output.{Puts};
+ghost use Rattle.dh_agency.specs.Agency.{IsClean, WasClean};
 ghost use Rattle.dh_http.specs.Printed.{PrintsBehind, outcome_line};
 ghost use Rattle.dh_http.specs.Service.{ServesOn, StopsWith, WritesAnswer};
 
 use crate::listening::Unserved;
+use crate::serving::serve_one;
 use crate::streams::{PEER_SECONDS, TimedStream, accept, end_answered};
 use dh_agency::Agency;
-use crate::connections::{serve_one};
 use dh_types::Output;
 use dh_types::writing::{put, put_parts};
 use http::StatusCode;

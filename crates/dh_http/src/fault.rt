@@ -3,7 +3,7 @@
 ghost use Rattle.std.specs.Prelude.{◌≡◌};
 ghost use Rattle.dh_http.specs.Served.{unread_fault};
 
-use dh_requests::{Unread};
+use dh_requests::Unread;
 use dh_types::Output;
 
 /// Why a request got no answer.

@@ -1,5 +1,5 @@
-//! One HTTP request, and its answer. Read [`serve_one`] and the `specs/Requests.antt` of dh_requests first.
-//! Serving HTTP requests at a port of this machine, one connection after the other. Read [`serve`] first.
+//! HTTP over an agency: one request and its answer, and the connections at a port of this machine, one after the other. Read
+//! [`serve_one`] and `specs/Requests.antt` of dh_requests first, and then [`serve`].
 #![tactic(auto)]
 
 mod answers;
@@ -11,5 +11,5 @@ mod serving;
 mod streams;
 
 pub use fault::NetFault;
-pub use serving::serve_one;
 pub use listening::{Service, Unserved, serve};
+pub use serving::serve_one;

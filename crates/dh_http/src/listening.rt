@@ -2,8 +2,8 @@
 
 ghost use Rattle.std.specs.Prelude.{◌≡◌, ℕ, List, Option, Err, OnOk, false, true};
 ghost use Rattle.std.specs.Net.Socket.{socket_port};
-ghost use Rattle.dh_agency.specs.Agency.{WasClean};
 ghost use Rattle.dh_types.specs.Output.{Puts};
+ghost use Rattle.dh_agency.specs.Agency.{WasClean};
 ghost use Rattle.dh_http.specs.Printed.{IsPortText, PrintsServed};
 ghost use Rattle.dh_http.specs.Service.{IsOfThisMachine, ServesOn};
 ghost use Rattle.dh_http.specs.declared.listening.Unserved.TheVariants as unserved;

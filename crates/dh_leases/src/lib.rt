@@ -1,6 +1,5 @@
 //! What a lease covers, what falls due on it, and a month's rent run of what falls due: its batches, what each branch has of it,
-//! and the books after it. Read [`due_in`] first, and then [`with_posted`].
-//! The batches of a rent run, counted out once. Read [`plan_of`] first.
+//! and the books after it. Read [`due_in`] first, and then [`with_posted`]. The batches of a run are counted out once by [`plan_of`].
 #![tactic(auto)]
 
 mod batching;
@@ -17,8 +16,8 @@ pub use batching::{batches, batches_for};
 pub use by_branch::{dues_by_branch, of_branch};
 pub use charges::{due_in, dues};
 pub use parts::branch_parts;
+pub use planning::{BatchRows, Plan, plan_of};
 pub use posted::{first_batches, open_row, posted_charges, posted_parts, whole, with_posted};
 pub use posting::with_run;
 pub use sums::{Sum, part_of_sum, sum_of, sum_with};
 pub use terms::{covers, end_of, overlap};
-pub use planning::{BatchRows, Plan, plan_of};

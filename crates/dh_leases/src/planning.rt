@@ -8,12 +8,12 @@ ghost use Rattle.dh_laws.specs.StateTables.{AreInOrder};
 ghost use Rattle.dh_leases.specs.Plans.{FallsInTime, HaveTheLeases, IsPlanOf};
 ghost use Rattle.dh_leases.specs.Rows.{charges_at, rows_after, rows_of};
 
+use crate::batching::batches_for;
+use crate::by_branch::{dues_by_branch, of_branch};
+use crate::posted::first_batches;
+use crate::sums::{part_of_sum, sum_of, sum_with};
 use dh_books::Books;
 use dh_days::limits::LAST_ENTRY_MONTH;
-use crate::batching::{batches_for};
-use crate::by_branch::{dues_by_branch, of_branch};
-use crate::posted::{first_batches};
-use crate::sums::{part_of_sum, sum_of, sum_with};
 use dh_model::OpenRun;
 use dh_types::{Charge, EntryMonth, Id, Part};
 use std::alloc::{AllocError, Global};

@@ -5,26 +5,26 @@ use Rattle.sqlite.specs.Store.{Ghosts}
 use Rattle.sqlite.specs.State as conn
 use Rattle.sqlite.specs.State.{HasCleanDisk}
 use Rattle.sqlite.specs.Held.{Held, state}
+use Rattle.dh_types.specs.declared.command.RunOrder.{RunOrder}
 use Rattle.dh_model.specs.Books.{State}
 use Rattle.dh_schema.specs.Store as store
 use Rattle.dh_schema.specs.Store.{Leaves}
-use Rattle.dh_schema.specs.Tables.{IsSound, state_in}
 use Rattle.sqlite_trees.specs.Tree.{Trees}
-use Rattle.dh_types.specs.declared.command.RunOrder.{RunOrder}
+use Rattle.dh_schema.specs.Tables.{IsSound, state_in}
+use Rattle.dh_runs.specs.declared.problem.Problem.{Problem}
+use Rattle.dh_runs.specs.declared.problem.Problem.TheVariants as problem
+use Rattle.dh_runs.specs.Taking.{IsFirstProblem}
 use Rattle.dh_agency.specs.Taken.{LeavesAsTheyWere, TakesAsTheyAre}
+use Rattle.dh_agency.specs.Seat.{Seat}
+use Rattle.dh_agency.specs.Agency.{IsClean, machine, shown_by, stand, stand_of}
 use Rattle.dh_lines.specs.Batch.{AreAfter}
-use Rattle.dh_office.specs.Jobs.{IsRunCut, stand_in}
 use Rattle.dh_http.specs.declared.listening.Service.{Service}
 use Rattle.dh_http.specs.declared.listening.Unserved.{Unserved}
 use Rattle.dh_http.specs.declared.listening.Unserved.TheVariants as unserved
 use Rattle.dh_http.specs.Printed.{Listened, PrintsServed, Unlistened, Untold, outcome_lines}
 use Rattle.dh_http.specs.Service.{AreTold, IsAfterSome, IsServing}
+use Rattle.dh_office.specs.Jobs.{IsRunCut, stand_in}
 use Rattle.dh_office.specs.Leaving.{ServingLeaves, TakingLeaves, WorkLeaves}
-use Rattle.dh_agency.specs.Seat.{Seat}
-use Rattle.dh_agency.specs.Agency.{IsClean, machine, shown_by, stand, stand_of}
-use Rattle.dh_runs.specs.declared.problem.Problem.{Problem}
-use Rattle.dh_runs.specs.declared.problem.Problem.TheVariants as problem
-use Rattle.dh_runs.specs.Taking.{IsFirstProblem}
 use Rattle.dh_office.specs.declared.jobs.Work.{Work}
 use Rattle.dh_office.specs.declared.jobs.Work.TheVariants as work
 use Rattle.dh_office.specs.declared.taking.FileJob.{FileJob}

@@ -21,6 +21,8 @@ use Rattle.dh_fields.specs.Lines.{Fields}
 use Rattle.dh_lines.specs.Session as session
 use Rattle.dh_lines.specs.Session.{Answered, line, lines_from, records_of, replied, state_after}
 use Rattle.dh_lines.specs.Batch.{IsWithin}
+use Rattle.dh_http.specs.declared.listening.Service.{Service}
+use Rattle.dh_http.specs.Service.{AreTold, IsAfterSome}
 use Rattle.dh_office.specs.declared.jobs.Work.{Work}
 use Rattle.dh_office.specs.declared.jobs.Work.TheVariants as work
 use Rattle.dh_office.specs.declared.taking.FileJob.{FileJob}
@@ -29,8 +31,6 @@ use Rattle.dh_office.specs.declared.status.Status.{Status}
 use Rattle.dh_office.specs.declared.status.Status.TheVariants.{Done, Failed}
 use Rattle.dh_office.specs.Statuses.{IsEnding, ending, problem_status, status_of}
 use Rattle.dh_office.specs.Texts.{created_line, problem_line, recovered_line}
-use Rattle.dh_http.specs.declared.listening.Service.{Service}
-use Rattle.dh_http.specs.Service.{AreTold, IsAfterSome}
 use Rattle.dh_office.specs.Printed.{PrintsService, PutsAs, TellsFault}
 use Rattle.dh_office.specs.Jobs.{IsRunCut, lines_answered, report_shown, run_told, stand_in}
 

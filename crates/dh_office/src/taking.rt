@@ -16,7 +16,7 @@ use crate::serving::answer_requests;
 use crate::status::Status;
 use crate::telling::{heard, print_created, print_recovered, tell_fault, tell_problem};
 use dh_agency::{NotOpened, attach, create, recover};
-use dh_http::{Service};
+use dh_http::Service;
 use dh_types::EntryMonth;
 use sqlite::{Alter, Connection};
 use std::alloc::Global;

@@ -12,7 +12,7 @@ use crate::status::Status;
 use crate::taking::FileJob;
 use crate::telling::{heard, print_refusal, tell_fault};
 use clap::Error;
-use dh_http::{Service};
+use dh_http::Service;
 use dh_types::writing::put_parts;
 use dh_types::{EntryMonth, Fault, Output};
 use dh_words::{BadWords, Job, job};

@@ -12,7 +12,7 @@ use std::io::Read;
 
 /// Why no body was read.
 #[derive(Clone, Copy, Debug, PartialEq, Eq)]
-pub enum BodyFault {
+pub(crate) enum BodyFault {
     /// Memory ran out.
     Memory,
     /// The reader failed.
@@ -42,7 +42,7 @@ fn fill_from<R: Read>(
 
 /// Reads a body of so many bytes, of which `front` was read already, with what may follow it. `None`: the input ends before it
 /// does. Want of memory is told before a byte is read. What is read of the reader is no more than what `front` lacks of the body.
-pub fn read_body<R: Read>(
+pub(crate) fn read_body<R: Read>(
     alloc: Global,
     reader: &mut R,
     failure: &mut Failure,

@@ -17,7 +17,10 @@ use std::str;
 
 /// The texts that the values of a list are; `None` where one is no text. An error comes only for want of memory, and never for a
 /// list of none.
-pub fn texts_of<'a>(alloc: Global, items: &'a [Value]) -> Result<Option<Vec<&'a [u8]>>, AllocError>
+pub(crate) fn texts_of<'a>(
+    alloc: Global,
+    items: &'a [Value],
+) -> Result<Option<Vec<&'a [u8]>>, AllocError>
     ensures some { OnErr result (0 < length items.now) }
     ensures texts { IfOk result (λ found. MatchOption found
         ((texts : List (List ℕ)) → array (items_view items.now) ≢ list_of texts)
@@ -35,7 +38,7 @@ pub fn texts_of<'a>(alloc: Global, items: &'a [Value]) -> Result<Option<Vec<&'a 
 
 /// Why a body gives no list.
 #[derive(Clone, Copy, Debug, PartialEq, Eq)]
-pub enum NoTexts {
+pub(crate) enum NoTexts {
     /// The body is no JSON list.
     NotTexts,
     /// Memory ran out.
@@ -86,7 +89,11 @@ fn is_list(text: &str, scratch: &mut Scratch) -> bool
 }
 
 /// The values of the list that the body is. Want of memory is told of a list of texts alone.
-pub fn list_in(alloc: Global, scratch: &mut Scratch, body: &[u8]) -> Result<Vec<Value>, NoTexts>
+pub(crate) fn list_in(
+    alloc: Global,
+    scratch: &mut Scratch,
+    body: &[u8],
+) -> Result<Vec<Value>, NoTexts>
     requires { length body.now ≤ room scratch.old }
     ensures ok { IfOk result (λ v. (texts : List (List ℕ)) → array (items_view v.items) ≡ list_of texts → AreTexts body.now texts) }
     ensures only { IfOk result (λ v. (texts : List (List ℕ)) → AreTexts body.now texts → array (items_view v.items) ≡ list_of texts) }

@@ -9,7 +9,7 @@ use std::io::{ErrorKind, Read};
 
 /// Whether a reader failed. A read that a signal interrupts is made again, and is no failure.
 #[derive(Drop)]
-pub struct Failure {
+pub(crate) struct Failure {
     // Only `read_some` sets it, where its reader fails. Clauses alone read it.
     noted: bool,
 }

@@ -7,7 +7,7 @@ ghost use Rattle.dh_requests.specs.Known.{IfBoth, TakesAtMost};
 
 use crate::failure::Failure;
 use crate::filling::read_more;
-use crate::limits::{HEAD_BYTES, HEADER_LINES, ROOM};
+use crate::limits::{HEADER_LINES, HEAD_BYTES, ROOM};
 use httparse::spans::{HeaderSpan, RequestSpans, parse_request};
 use httparse::{Error, Status};
 use std::io;
@@ -15,14 +15,14 @@ use std::io::Read;
 
 /// A head in a buffer, of which `filled` bytes were read.
 #[derive(Clone, Copy, Debug)]
-pub struct Head {
+pub(crate) struct Head {
     pub spans: RequestSpans,
     pub filled: usize,
 }
 
 /// What the bytes of a connection begin with.
 #[derive(Clone, Copy, Debug)]
-pub enum HeadRead {
+pub(crate) enum HeadRead {
     /// A head within the limits.
     Found(Head),
     /// No byte came before the end of input.
@@ -57,7 +57,7 @@ fn judge(front: &[u8], headers: &mut [HeaderSpan]) -> Judged
 
 /// Reads until a head is complete or refused, a limit is passed, or the input ends, and no more than the buffer holds. An error is
 /// the reader's.
-pub fn read_head<R: Read>(
+pub(crate) fn read_head<R: Read>(
     reader: &mut R,
     failure: &mut Failure,
     buffer: &mut [u8],

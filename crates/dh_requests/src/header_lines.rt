@@ -9,7 +9,7 @@ use httparse::spans::HeaderSpan;
 
 /// How many bytes of body a request announces.
 #[derive(Clone, Copy, Debug, PartialEq, Eq)]
-pub enum BodyLength {
+pub(crate) enum BodyLength {
     /// No Content-Length line.
     Absent,
     /// Several lines, or a value that is no number.
@@ -48,7 +48,7 @@ fn is_named(name: &[u8], wanted: &[u8]) -> bool
 }
 
 /// How many of the lines have this name, in any case of its ASCII letters.
-pub fn count(buffer: &[u8], headers: &[HeaderSpan], name: &[u8]) -> usize
+pub(crate) fn count(buffer: &[u8], headers: &[HeaderSpan], name: &[u8]) -> usize
     requires { All (IsHeaderWithin (length buffer.now)) headers.now }
     ensures { result ≡ length (values_of name.now (map (header_bytes buffer.now) headers.now)) }
 {
@@ -72,7 +72,7 @@ fn with_value(found: BodyLength, value: &[u8]) -> BodyLength
 }
 
 /// What the Content-Length lines say: `Invalid` for two or more, and for a value that is not one or more digits.
-pub fn body_length(buffer: &[u8], headers: &[HeaderSpan]) -> BodyLength
+pub(crate) fn body_length(buffer: &[u8], headers: &[HeaderSpan]) -> BodyLength
     requires { All (IsHeaderWithin (length buffer.now)) headers.now }
     ensures { result ≡ body_length (values_of (codes "content-length") (map (header_bytes buffer.now) headers.now)) }
 {

@@ -9,13 +9,13 @@ ghost use Rattle.dh_requests.specs.Requests.{IsByMethod, IsOfHead, IsOfRoute, Is
 ghost use Rattle.dh_requests.specs.Steps.{Behind, TakesBody, TakesOrder};
 
 use crate::asked::{Asked, Turned};
+use crate::failure::Failure;
+use crate::header_lines::{body_length, count};
+use crate::pieces::pieces_of;
 use crate::posting::judge_command;
+use crate::routing::{Route, route_of, router};
 use crate::unread::Unread;
 use dh_fields::{Request, read_fields};
-use crate::failure::{Failure};
-use crate::header_lines::{body_length, count};
-use crate::pieces::{pieces_of};
-use crate::routing::{Route, route_of, router};
 use dh_types::Refusal;
 use httparse::spans::{HeaderSpan, RequestSpans};
 use std::alloc::{AllocError, Global};

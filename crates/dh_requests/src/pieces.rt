@@ -34,7 +34,7 @@ fn cut(bytes: &[u8]) -> (&[u8], &[u8])
 }
 
 /// The pieces behind the route's text in a target of the route: the first, and the second, each empty where the route has none.
-pub fn pieces_of(route: Route, target: &[u8]) -> (&[u8], &[u8])
+pub(crate) fn pieces_of(route: Route, target: &[u8]) -> (&[u8], &[u8])
     requires { IsTarget route target.now }
     ensures { HasPieces route target.now result.0.now result.1.now }
 {

@@ -8,12 +8,12 @@ ghost use Rattle.dh_requests.specs.Requests.{IsBodyOf, IsPosted, is_question, po
 ghost use Rattle.dh_requests.specs.Steps.{Behind, IsListed, IsTextsOf, TakesLength};
 
 use crate::asked::{Asked, Turned};
-use crate::unread::Unread;
-use crate::body_texts::{NoTexts, list_in, texts_of};
-use dh_fields::{Request, read_fields};
 use crate::body::{BodyFault, read_body};
-use crate::failure::{Failure};
-use crate::header_lines::{BodyLength};
+use crate::body_texts::{NoTexts, list_in, texts_of};
+use crate::failure::Failure;
+use crate::header_lines::BodyLength;
+use crate::unread::Unread;
+use dh_fields::{Request, read_fields};
 use dh_types::Refusal;
 use json::Scratch;
 use serde_json::Value;

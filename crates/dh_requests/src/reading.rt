@@ -4,18 +4,18 @@ ghost use Rattle.std.specs.Prelude.{◌≡◌, [], IfOk, IfSome, IsTrue, Err, Ma
 ghost use Rattle.dh_requests.specs.Requests.{MayAsk, MayNeedMemory, TakesRequest};
 
 use crate::asked::{Asked, Turned};
-use crate::judging::{Found, judge};
-use crate::unread::Unread;
-use dh_heads::limits::{HEADER_LINES, ROOM};
-use crate::failure::{Failure};
+use crate::failure::Failure;
 use crate::head::{HeadRead, read_head};
+use crate::judging::{Found, judge};
+use crate::limits::{HEADER_LINES, ROOM};
+use crate::unread::Unread;
 use httparse::spans::EMPTY_HEADER_SPAN;
 use std::alloc::Global;
 use std::io::Read;
 
 /// Reads a request as far as the order in which it is judged needs, and gives what it asks for. `None` where no byte came before
 /// the end of input. `Input` is told only where the reader failed, which is noted then.
-pub fn read_noting<R: Read>(
+pub(crate) fn read_noting<R: Read>(
     alloc: Global,
     reader: &mut R,
     failure: &mut Failure,

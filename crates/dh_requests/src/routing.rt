@@ -10,7 +10,7 @@ use std::alloc::Global;
 
 /// What a target names.
 #[derive(Clone, Copy, Debug, PartialEq, Eq)]
-pub enum Route {
+pub(crate) enum Route {
     /// `/commands`
     Commands,
     /// `/branches`
@@ -28,7 +28,7 @@ pub enum Route {
 }
 
 /// A router of all routes. An error comes only for want of memory.
-pub fn router(alloc: Global) -> Result<Router<Route>, InsertError>
+pub(crate) fn router(alloc: Global) -> Result<Router<Route>, InsertError>
     ensures { IfOk result (λ router. router ≡ routes) }
 {
     let mut router = Router::new(alloc);
@@ -43,7 +43,7 @@ pub fn router(alloc: Global) -> Result<Router<Route>, InsertError>
 }
 
 /// The route that a target names, if it names one.
-pub fn route_of(router: &Router<Route>, target: &str) -> Option<Route>
+pub(crate) fn route_of(router: &Router<Route>, target: &str) -> Option<Route>
     requires { router.now ≡ routes }
     ensures found { IfSome result (λ route. IsTarget route target.now) }
     ensures none { IfNone result ((route : AnyRoute) → ¬ IsTarget route target.now) }

@@ -10,11 +10,11 @@ use Rattle.dh_model.specs.Runs.{batch_size, batches}
 use Rattle.dh_model.specs.Whole.{whole, with_posted}
 use Rattle.dh_laws.specs.InOrder.{IsInOrder}
 use Rattle.dh_laws.specs.Events.{IsMovedBy, IsMovedOn, IsTorn, IsUndone, RunIfUndone}
+use Rattle.dh_laws.specs.StateTables.{AreInOrder, advanced_run, tables}
+use Rattle.dh_laws.proofs.MovingBatches.{at_the_end, batches_of_whole, with_batches}
 use Rattle.dh_rules.specs.declared.moving.Reach.{Reach}
 use Rattle.dh_rules.specs.declared.moving.Reach.TheVariants as reach
-use Rattle.dh_laws.specs.StateTables.{AreInOrder, advanced_run, tables}
 use Rattle.dh_rules.specs.Reaches.{batches_left, moved_run, reach_within, undone_run}
-use Rattle.dh_laws.proofs.MovingBatches.{at_the_end, batches_of_whole, with_batches}
 
 at_most : (m n : ℕ) → nat_le m n ≡ true → m ≤ n
 at_most m n h = grind (arith, nat_tests)

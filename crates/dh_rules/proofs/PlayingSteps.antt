@@ -9,9 +9,9 @@ use Rattle.dh_model.specs.Runs.{batch_size}
 use Rattle.dh_laws.specs.Events.{Event, Said, Cut, Taken, Torn, Mended, Tables, state_of}
 use Rattle.dh_laws.specs.Kept.{Kept}
 use Rattle.dh_laws.proofs.LiveTables.{mended_whole}
+use Rattle.dh_laws.specs.StateTables.{AreInOrder, tables}
 use Rattle.dh_rules.specs.declared.playing.Happening.{Happening}
 use Rattle.dh_rules.specs.declared.playing.Happening.TheVariants as happening
-use Rattle.dh_laws.specs.StateTables.{AreInOrder, tables}
 use Rattle.dh_rules.specs.Playing.{IsPlayed, IsStep, counted}
 
 -- what is kept of these events, from these books on

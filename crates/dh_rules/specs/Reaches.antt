@@ -5,9 +5,9 @@ use Rattle.dh_types.specs.declared.command.Command.TheVariants as command
 use Rattle.dh_model.specs.declared.open_run.OpenRun.{OpenRun}
 use Rattle.dh_model.specs.Books.{Books}
 use Rattle.dh_model.specs.Runs.{batch_size, batches}
+use Rattle.dh_laws.specs.StateTables.{advanced_run}
 use Rattle.dh_rules.specs.declared.moving.Reach.{Reach}
 use Rattle.dh_rules.specs.declared.moving.Reach.TheVariants as reach
-use Rattle.dh_laws.specs.StateTables.{advanced_run}
 
 -- the open run, moved so far
 abbrev pub moved_run : Books → Reach → Option OpenRun → Option OpenRun

@@ -1,6 +1,6 @@
 //! The plain program over books in memory, and the machine: what each command does to the books, and what it is answered.
-//! Read [`step`] first.
-//! Plays what can happen to an agency's tables: commands that are answered or cut, recoveries that end or are cut.
+//! Read [`step`] first. [`play`] plays what can happen to an agency's tables: commands that are answered or cut, recoveries that end
+//! or are cut.
 #![tactic(auto)]
 
 mod changes;
@@ -11,10 +11,10 @@ mod runs;
 mod telling;
 
 pub use changes::apply_change;
-pub use dh_audit::{audit};
+pub use dh_answers::{answer, balance, matching, vacant};
+pub use dh_audit::audit;
 pub use dh_books::Books;
 pub use dh_leases::{batches, dues};
-pub use dh_answers::{answer, balance, matching, vacant};
 pub use dh_model::BATCH_SIZE;
 pub use dh_verdicts::{Facts, decide, decide_on};
 pub use machine::{Stepped, step};

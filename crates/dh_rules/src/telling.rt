@@ -9,16 +9,15 @@ ghost use Rattle.dh_laws.specs.Events.{Happens, IsDone, Said};
 ghost use Rattle.dh_laws.specs.StateTables.{AreInOrder, tables};
 ghost use Rattle.dh_laws.specs.Telling.{IsCutDone, IsTold, Stands, StandsAt, begun, is_opening, is_run};
 
+use crate::changes::apply_change;
+use crate::machine::step;
 use crate::moving::{advanced, mended};
 use dh_books::Books;
 use dh_laws::entering::commands_are_entered;
+use dh_leases::batches;
 use dh_model::{Change, OpenRun, Verdict};
-use crate::changes::{apply_change};
-use crate::dh_leases::{batches};
-use crate::dh_verdicts::{decide};
-use crate::machine::{step};
 use dh_types::{BatchCount, Command, Progress, Reply, RunOrder};
-use dh_verdicts::decide_run;
+use dh_verdicts::{decide, decide_run};
 use std::alloc::{AllocError, Global};
 
 /// The tables after a command, and the reply.

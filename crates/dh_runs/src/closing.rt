@@ -14,8 +14,8 @@ ghost use Rattle.dh_store.specs.Reading.{OnlyReads};
 ghost use Rattle.dh_runs.specs.Closing.{IsOpenMonth, IsSumOfOpen, sum_of_parts};
 
 use dh_books::Books;
-use dh_store::{find_open_run, look, months_now, no_rows};
 use dh_schema::StoreFault;
+use dh_store::{find_open_run, look, months_now, no_rows};
 use dh_tables::{PartsOfMonth, update};
 use dh_types::{EntryMonth, Pence, RunSum};
 use sqlite::{Alter, Connection, Error, ErrorCode};
@@ -104,7 +104,7 @@ fn close_with<S: Alter>(
 /// Closes the open run of this month, of which no batch is left, in one transaction: its row gets the count and the total of its
 /// charges, which are answered. They are summed up from the month's part rows. At a fault the tables are these or those before, and
 /// while the store is open those before.
-pub fn close_month<S: Alter>(
+pub(crate) fn close_month<S: Alter>(
     alloc: Global,
     conn: &mut Connection<S>,
     month: EntryMonth,

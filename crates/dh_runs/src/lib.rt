@@ -1,5 +1,5 @@
-//! The transactions of a rent run: its opening, a batch, and its end. Read [`post_rows`] first.
-//! Rent runs in many transactions, which may be cut anywhere, and their recovery. Read [`post_some`] first.
+//! Rent runs over the tables: the transactions of one, which are its opening, a batch and its end; the loop over them, which may be
+//! cut anywhere; and the recovery. Read [`post_batch`] first, and then [`post_some`].
 #![tactic(auto)]
 
 mod closing;
@@ -12,13 +12,10 @@ mod rows;
 mod running;
 mod taking;
 
-pub use closing::{close_month, close_run};
+pub use closing::close_run;
 pub use opening::open_run;
 pub use planning::plan_run;
-pub use posting::{Batch, post_batch, post_rows};
-pub use crate::closing::{close_run};
-pub use crate::opening::{open_run};
-pub use crate::posting::{Batch, post_batch};
+pub use posting::{Batch, post_batch};
 pub use problem::Problem;
 pub use recovering::recover_in;
 pub use running::{RunState, post_some, run_all};

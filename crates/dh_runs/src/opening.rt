@@ -14,7 +14,7 @@ ghost use Rattle.dh_schema.specs.Store.{IsReady, IsReadyWith, Leaves, StaysReady
 use dh_laws::looking::accepted_changes_fit;
 use dh_model::Change;
 use dh_schema::StoreFault;
-use dh_store::{apply};
+use dh_store::apply;
 use dh_types::{Pence, Run, RunOrder};
 use sqlite::{Alter, Connection};
 use std::alloc::Global;

@@ -18,10 +18,10 @@ ghost use Rattle.dh_runs.specs.Batches.{CanBePosted, HasRoom};
 
 use dh_books::Books;
 use dh_leases::{Plan, batches_for, plan_of};
-use dh_store::{find_open_run, look, look_at_all, months_now, no_rows};
 use dh_model::OpenRun;
 use dh_schema::StoreFault;
-use dh_tables::{PartsOfMonth};
+use dh_store::{find_open_run, look, look_at_all, months_now, no_rows};
+use dh_tables::PartsOfMonth;
 use dh_types::{Branch, EntryMonth, Lease, Property};
 use sqlite::{Alter, Connection};
 use std::alloc::Global;

@@ -11,7 +11,7 @@ ghost use Rattle.dh_leases.specs.Plans.{AreNew, FallsInTime, HasItsPart};
 ghost use Rattle.dh_schema.specs.Store.{IsWriting, tables};
 ghost use Rattle.dh_runs.specs.Putting.{Puts, with_charge, with_charges, with_part, with_rows_of};
 
-use dh_leases::{BatchRows};
+use dh_leases::BatchRows;
 use dh_tables::{insert, update};
 use dh_types::{Charge, Part};
 use sqlite::{Alter, Error, Transaction};

@@ -14,7 +14,7 @@ ghost use Rattle.dh_runs.specs.Problems.{IsFoundIn, IsTurnedAway};
 ghost use Rattle.dh_runs.specs.Taking.{IsFirstProblem, IsOurVersion, IsProblemOf, IsResting};
 
 use crate::problem::Problem;
-use dh_audit::{audit};
+use dh_audit::audit;
 use dh_books::Books;
 use dh_rows::VERSION;
 use dh_schema::{load_tables, version};

@@ -1,7 +1,10 @@
 //! The thirteen kinds of record by their keys.
 
 use crate::finding::KeyedRecord;
-use dh_tables::{BranchNumbered, ChargeOf, ClientNumbered, InspectionOf, LeaseNumbered, MemberNumbered, OwnerNumbered, PartOf, PropertyNumbered, ReceiptNumbered, RegistrationAt, RunOf, ViewingOf};
+use dh_tables::{
+    BranchNumbered, ChargeOf, ClientNumbered, InspectionOf, LeaseNumbered, MemberNumbered,
+    OwnerNumbered, PartOf, PropertyNumbered, ReceiptNumbered, RegistrationAt, RunOf, ViewingOf,
+};
 use dh_types::{
     Branch, Charge, ChargeIndex, Client, EntryDay, EntryMonth, Id, Inspection, Lease, LeaseNo,
     Owner, Part, Property, Receipt, ReceiptNo, Registration, Run, Staff, Viewing,

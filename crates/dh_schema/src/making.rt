@@ -12,7 +12,7 @@ ghost use Rattle.dh_schema.specs.Store.{IsReady, IsBlank, Keeps, LeavesItsTables
 use crate::fault::StoreFault;
 use dh_catalog::create_all;
 use dh_rows::Meta;
-use dh_tables::{insert_meta};
+use dh_tables::insert_meta;
 use dh_types::Month;
 use sqlite::{Alter, Connection, Error};
 use std::alloc::Global;

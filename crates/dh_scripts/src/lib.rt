@@ -1,6 +1,5 @@
-//! How many cases were played, and how many of them differ: for the programs of cases. Read `Tally` first.
-//! The lines of worked examples: what an office tells its agency, line by line, and what it is answered. Programs over each
-//! layer play the same scripts.
+//! Scripts of cases: the lines of worked examples, what an office tells its agency, line by line, and what it is answered. Programs
+//! over each layer play the same scripts, and a [`Tally`] counts how many cases were played and how many of them differ.
 //!
 //! A line is words, an arrow ` -> `, and what is wanted: the reply to a command, or the answer to a question. The words are fields
 //! between commas, as `rent,P101,650.00` or `show,branches`, which `request` reads as an agency does; `row_of` reads those of a
@@ -20,7 +19,6 @@ mod rows;
 mod scripts;
 mod tally;
 
-pub use tally::Tally;
 pub use answers::{answer_text, numbers_of};
 pub use beginning::january;
 pub use copies::copy_of;
@@ -30,3 +28,4 @@ pub use requests::{command, command_if_any, request, request_if_any};
 pub use row_lines::ToLine;
 pub use rows::{Row, row_of};
 pub use scripts::{Block, Manner, script};
+pub use tally::Tally;

@@ -1,5 +1,5 @@
-//! The answer to a question, from the rows that it is about. Read [`look_up`] first.
-//! One change of the tables in one transaction. Read [`apply`] first.
+//! What is read and written of the tables for a command or a question, by those rows alone: the verdict on a command ([`ask`]), one
+//! change in one transaction ([`apply`]), and the answer to a question ([`look_up`]). Whatever reads does so by [`look`].
 #![tactic(auto)]
 
 mod answers;
@@ -7,7 +7,7 @@ mod changes;
 mod looks;
 mod verdicts;
 
-pub use looks::{Kept, find_open_run, look, look_at_all, months_now, no_rows};
-pub use verdicts::{ask};
 pub use answers::look_up;
 pub use changes::apply;
+pub use looks::{Kept, find_open_run, look, look_at_all, months_now, no_rows};
+pub use verdicts::ask;

@@ -1,9 +1,9 @@
 //! The plain program over books in memory, and what differs of books.
 
 use dh_agency_scripts::compare;
-use dh_scripts::{Tally, ToLine, Unreadable, all_lines, answer_text, copy_of, january, request};
 use dh_fields::Request;
 use dh_rules::{Books, answer, step};
+use dh_scripts::{Tally, ToLine, Unreadable, all_lines, answer_text, copy_of, january, request};
 use dh_types::{Command, Question};
 use std::alloc::{AllocError, Global};
 use std::collections::btree_map::Values;

@@ -11,16 +11,14 @@ ghost use Rattle.dh_runs.specs.Taking.{IsResting};
 
 use crate::edited_tables::{load_text, version_text};
 use crate::made_tables::install_text;
-use dh_agency_scripts::{
-    Lived, all_rows, compare, compare_tables, parted, problem_text, table_of, told_anew,
-};
-use dh_store::{ask};
-use dh_histories::crashing::next_life;
-use dh_scripts::{Block, Tally, january, request, script};
+use dh_agency_scripts::{Lived, all_rows, compare, compare_tables, parted, problem_text, table_of, told_anew};
 use dh_fields::Request;
+use dh_histories::crashing::next_life;
+use dh_leases::Plan;
 use dh_model::{Change, Verdict};
-use dh_leases::{Plan};
 use dh_runs::{Batch, Problem, check, close_run, open_run, plan_run, post_batch};
+use dh_scripts::{Block, Tally, january, request, script};
+use dh_store::ask;
 use dh_types::{Command, Reply, RunSum};
 use sqlite::{Alter, Connection};
 use sqlite_trees::store::Reopen;

@@ -6,7 +6,7 @@ use dh_agency_scripts::{compare, parted};
 use dh_books::Books;
 use dh_catalog::texts::TEXTS;
 use dh_schema::{LoadFault, load, version};
-use dh_scripts::{Tally};
+use dh_scripts::Tally;
 use sqlite::{Alter, Connection};
 use std::alloc::{AllocError, Global};
 use std::io;

@@ -4,7 +4,7 @@ use crate::blocks::Block;
 use crate::serving::{Outcome, serve};
 use dh_agency_scripts::compare;
 use dh_lines::ends::{FailingReader, FailingWriter};
-use dh_scripts::{Tally};
+use dh_scripts::Tally;
 use std::io::{Read, Write};
 use std::net::{TcpListener, TcpStream};
 use std::{io, str};

@@ -4,8 +4,8 @@ ghost use Rattle.std.specs.Prelude.{◌≤◌};
 ghost use Rattle.dh_days.specs.declared.limits.TheConstants.{LAST_ENTRY_MONTH};
 
 use dh_agency_scripts::{compare, found, parted};
-use dh_scripts::{Tally, january};
 use dh_schema::{install, version};
+use dh_scripts::{Tally, january};
 use dh_types::Month;
 use sqlite::{Alter, Connection};
 use std::alloc::{AllocError, Global};

@@ -19,7 +19,7 @@ mod sessions;
 mod short_reads;
 
 use dh_agency_scripts::{compare, play_in_memory, play_lives};
-use dh_scripts::{Tally};
+use dh_scripts::Tally;
 use disks::Stops;
 use std::io;
 

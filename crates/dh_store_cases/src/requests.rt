@@ -4,7 +4,7 @@ use crate::blocks::{Block, blocks_of, named};
 use crate::escapes::bytes_of;
 use crate::exchanges::{Case, play_case};
 use dh_agency_scripts::parted;
-use dh_scripts::{Tally};
+use dh_scripts::Tally;
 use std::{fs, io};
 
 // Plays the request with this word, whose answer is given with escapes.

@@ -2,8 +2,8 @@
 
 use dh_agency::{Agency, NotOpened, create};
 use dh_agency_scripts::{compare, told};
-use dh_scripts::{Tally, january};
 use dh_schema::{install, load};
+use dh_scripts::{Tally, january};
 use sqlite::{Alter, Connection, MemStore, params};
 use std::alloc::{AllocError, Global};
 use std::io;

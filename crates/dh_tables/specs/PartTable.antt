@@ -12,10 +12,10 @@ use Rattle.sqlite.specs.Listing.{understood}
 use Rattle.dh_values.specs.Texts.{is_id}
 use Rattle.dh_values.specs.declared.limits.TheConstants.{MOST_NUMBER, MOST_PENCE}
 use Rattle.dh_days.specs.declared.limits.TheConstants.{FIRST_MONTH, LAST_ENTRY_MONTH}
-use Rattle.dh_rows.specs.declared.limits.TheConstants.{MOST_COUNT}
 use Rattle.dh_types.specs.declared.run.Part.{Part}
 use Rattle.dh_model.specs.Books.{pair_cmp, text_cmp}
 use Rattle.dh_model.specs.Checks.{is_same_text}
+use Rattle.dh_rows.specs.declared.limits.TheConstants.{MOST_COUNT}
 use Rattle.dh_rows.specs.PartRows.{part_in, part_row, is_part_row}
 use Rattle.dh_catalog.specs.Layout.{our_schema}
 use Rattle.dh_catalog.specs.PartTable.{part}

@@ -9,7 +9,7 @@ ghost use Rattle.dh_model.specs.Leases.{overlap};
 ghost use Rattle.dh_model.specs.Verdicts.{lease_verdict};
 
 use dh_books::Books;
-use dh_leases::{overlap};
+use dh_leases::overlap;
 use dh_model::{Change, Verdict};
 use dh_types::{EntryDay, Id, Lease, LeaseNo, LeaseTerms, Refusal, Reply, field};
 

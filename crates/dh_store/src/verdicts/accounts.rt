@@ -13,8 +13,8 @@ ghost use Rattle.dh_store.specs.Looked.{AreBoth};
 ghost use Rattle.dh_store.specs.Reading.{OnlyReads};
 ghost use Rattle.dh_store.specs.Gathered.{Gathers, with_leases, with_registration};
 
+use crate::looks::look;
 use dh_books::Books;
-use crate::looks::{look};
 use dh_schema::StoreFault;
 use dh_tables::{ClientNumbered, DepositsOfLease, LeaseNumbered, LeasesOfClientFrom, LeasesOfProperty, PropertyNumbered, ReceiptKeyed, RegistrationAt, RunKeyed};
 use dh_types::{LeaseTerms, ReceiptOrder, RunOrder};

@@ -11,8 +11,8 @@ ghost use Rattle.dh_schema.specs.Store.{IsReady, Leaves, StaysReady, tables};
 ghost use Rattle.dh_store.specs.Months.{AreMonthsOf};
 ghost use Rattle.dh_store.specs.Reading.{OnlyReads};
 
+use crate::looks::months_now;
 use crate::verdicts::gathering::{gather, open_month};
-use crate::looks::{months_now};
 use dh_model::{OpenRun, Verdict};
 use dh_rows::Meta;
 use dh_schema::StoreFault;

@@ -11,15 +11,15 @@ ghost use Rattle.dh_store.specs.Months.{AreMonthsOf};
 ghost use Rattle.dh_store.specs.Reading.{OnlyReads};
 ghost use Rattle.dh_store.specs.Gathered.{Gathers, bare};
 
+use crate::looks::find_open_run;
 use crate::verdicts::accounts::{at_lease, at_receipt, at_run};
 use crate::verdicts::lettings::{at_assign, at_comment, at_inspection, at_property, at_rent, at_viewing};
 use crate::verdicts::people::{at_branch, at_client, at_owner, at_register, at_staff};
 use dh_books::Books;
-use crate::looks::{find_open_run};
 use dh_model::OpenRun;
 use dh_rows::Meta;
 use dh_schema::StoreFault;
-use dh_tables::{last_receipt};
+use dh_tables::last_receipt;
 use dh_types::Command;
 use dh_verdicts::Facts;
 use sqlite::{Alter, Connection};

@@ -11,8 +11,8 @@ ghost use Rattle.dh_store.specs.Looked.{AreBoth};
 ghost use Rattle.dh_store.specs.Reading.{OnlyReads};
 ghost use Rattle.dh_store.specs.Gathered.{Gathers, with_managed};
 
+use crate::looks::look;
 use dh_books::Books;
-use crate::looks::{look};
 use dh_schema::StoreFault;
 use dh_tables::{BranchNumbered, ClientNumbered, InspectionOf, MemberNumbered, OwnerNumbered, PropertiesManaged, PropertyNumbered, ViewingOf};
 use dh_types::{Assignment, Id, Inspection, Property, RentChange, Viewing, ViewingComment};

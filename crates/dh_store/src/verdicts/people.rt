@@ -7,8 +7,8 @@ ghost use Rattle.dh_schema.specs.Store.{IsReady};
 ghost use Rattle.dh_store.specs.Reading.{OnlyReads};
 ghost use Rattle.dh_store.specs.Gathered.{Gathers};
 
+use crate::looks::look;
 use dh_books::Books;
-use crate::looks::{look};
 use dh_schema::StoreFault;
 use dh_tables::{BranchNumbered, ClientNumbered, MemberNumbered, OwnerNumbered, RegistrationAt};
 use dh_types::{Branch, Client, Owner, Registration, Staff};

@@ -1,7 +1,7 @@
 use Rattle.std.proofs.Common.{rules, ◌∙◌, sym, ap, take, length, arith, ◌<◌}
 use Rattle.std.specs.Ordering.{nat_cmp}
-use Rattle.dh_audit.specs.ClosedMonths.{charges_of_month, is_in, sum_at, sum_of}
 use Rattle.dh_model.proofs.KeyOrders.{nat_ties, nat_total}
+use Rattle.dh_audit.specs.ClosedMonths.{charges_of_month, is_in, sum_at, sum_of}
 use Rattle.dh_audit.proofs.ClosedSums.{count_fits, month_tells, put_one, still_small, sum_kept, taken, taken_all}
 use Rattle.dh_audit.proofs.closed_sums.sums_of_months.Goals as goal
 
