@@ -5,7 +5,9 @@ use crate::calls::{make_run, make_whole, post, put, say, tell};
 use crate::finding::found;
 use crate::lists::{counted, listed};
 use crate::rules::{audited, is_kept};
-use crate::runs::{batched, clear_charges, clear_parts, open_run, posted, set_open_run, whole_parts};
+use crate::runs::{
+    batched, clear_charges, clear_parts, open_run, posted, set_open_run, whole_parts,
+};
 use crate::terms::{covered, due, dues_of, end, overlapping};
 use dh_books::Books;
 use dh_fields::Request;

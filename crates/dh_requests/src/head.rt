@@ -7,7 +7,7 @@ ghost use Rattle.dh_requests.specs.Known.{IfBoth, TakesAtMost};
 
 use crate::failure::Failure;
 use crate::filling::read_more;
-use crate::limits::{HEADER_LINES, HEAD_BYTES, ROOM};
+use crate::limits::{HEAD_BYTES, HEADER_LINES, ROOM};
 use httparse::spans::{HeaderSpan, RequestSpans, parse_request};
 use httparse::{Error, Status};
 use std::io;

@@ -14,7 +14,10 @@ ghost use Rattle.dh_schema.specs.Loaded.{HasNone, Loads, Reads, accounts, all_ki
 use crate::load_fault::LoadFault;
 use dh_books::Books;
 use dh_tables::{Listed, load_all};
-use dh_types::{Branch, Charge, Client, Inspection, Lease, Owner, Part, Property, Receipt, Registration, Run, Staff, Viewing};
+use dh_types::{
+    Branch, Charge, Client, Inspection, Lease, Owner, Part, Property, Receipt, Registration, Run,
+    Staff, Viewing,
+};
 use sqlite::{Alter, Connection, Error};
 use std::alloc::Global;
 

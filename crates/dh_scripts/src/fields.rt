@@ -1,6 +1,9 @@
 //! The fields of a line that is no request.
 
-use dh_types::{BadText, ChargeIndex, Day, EntryDay, EntryMonth, Id, Key, LeaseNo, Month, Pence, ReceiptNo, Rent};
+use dh_types::{
+    BadText, ChargeIndex, Day, EntryDay, EntryMonth, Id, Key, LeaseNo, Month, Pence, ReceiptNo,
+    Rent,
+};
 use std::alloc::{AllocError, AllocFailed};
 use std::num::ParseIntError;
 use std::str::Split;

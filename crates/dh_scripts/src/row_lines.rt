@@ -1,6 +1,9 @@
 //! Rows, written as the fields of their lines.
 
-use dh_types::{Branch, Charge, Client, Inspection, Lease, Owner, Part, Property, Receipt, Registration, Run, Staff, Viewing};
+use dh_types::{
+    Branch, Charge, Client, Inspection, Lease, Owner, Part, Property, Receipt, Registration, Run,
+    Staff, Viewing,
+};
 use std::alloc::{AllocError, Global};
 
 /// A row that is written as the fields of its line, between commas.

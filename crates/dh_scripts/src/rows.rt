@@ -3,7 +3,10 @@
 use crate::account_rows::{charge, lease, part, receipt, run};
 use crate::fields::{Fields, Unreadable};
 use crate::requests::command;
-use dh_types::{Branch, Charge, Client, Command, Inspection, Lease, Month, Owner, Part, Property, Receipt, Registration, Run, Staff, Viewing};
+use dh_types::{
+    Branch, Charge, Client, Command, Inspection, Lease, Month, Owner, Part, Property, Receipt,
+    Registration, Run, Staff, Viewing,
+};
 use std::alloc::Global;
 
 /// A row of the books, or the month whose rent is to be run next.

@@ -24,7 +24,10 @@ use crate::looks::{find_open_run, look, look_at_all, months_now, no_rows};
 use dh_answers::{answer, is_put_off};
 use dh_books::Books;
 use dh_schema::StoreFault;
-use dh_tables::{BranchNumbered, ChargesOfLease, ClientNumbered, LeaseNumbered, LeasesOfProperty, PartsOfMonth, ReceiptsOfLease, RunOf};
+use dh_tables::{
+    BranchNumbered, ChargesOfLease, ClientNumbered, LeaseNumbered, LeasesOfProperty, PartsOfMonth,
+    ReceiptsOfLease, RunOf,
+};
 use dh_types::{Answer, Branch, EntryMonth, Id, Lease, LeaseNo, Property, Question, Refusal};
 use sqlite::{Alter, Connection};
 use std::alloc::{AllocError, Global};

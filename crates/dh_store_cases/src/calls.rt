@@ -11,7 +11,9 @@ ghost use Rattle.dh_runs.specs.Taking.{IsResting};
 
 use crate::edited_tables::{load_text, version_text};
 use crate::made_tables::install_text;
-use dh_agency_scripts::{Lived, all_rows, compare, compare_tables, parted, problem_text, table_of, told_anew};
+use dh_agency_scripts::{
+    Lived, all_rows, compare, compare_tables, parted, problem_text, table_of, told_anew,
+};
 use dh_fields::Request;
 use dh_histories::crashing::next_life;
 use dh_leases::Plan;

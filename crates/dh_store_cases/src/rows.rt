@@ -3,7 +3,10 @@
 use dh_agency_scripts::{compare, parted};
 use dh_rows::{Meta, Record};
 use dh_scripts::{Row as Words, Tally, ToLine, Unreadable, row_of};
-use dh_types::{Branch, Charge, Client, Inspection, Lease, Owner, Part, Property, Receipt, Registration, Run, Staff, Viewing};
+use dh_types::{
+    Branch, Charge, Client, Inspection, Lease, Owner, Part, Property, Receipt, Registration, Run,
+    Staff, Viewing,
+};
 use sqlite::types::ValueRef;
 use sqlite::{Alter, Connection, Row};
 use std::alloc::{AllocError, Global};

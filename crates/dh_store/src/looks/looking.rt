@@ -17,7 +17,10 @@ ghost use Rattle.dh_store.specs.Reading.{OnlyReads};
 use dh_books::Books;
 use dh_schema::StoreFault;
 use dh_tables::{Listed, Look, Tabled, fetch_more, gather_all};
-use dh_types::{Branch, Charge, Client, Inspection, Lease, Owner, Part, Property, Receipt, Registration, Run, Staff, Viewing};
+use dh_types::{
+    Branch, Charge, Client, Inspection, Lease, Owner, Part, Property, Receipt, Registration, Run,
+    Staff, Viewing,
+};
 use sqlite::{Alter, Connection, Error, ErrorCode};
 use std::alloc::Global;
 

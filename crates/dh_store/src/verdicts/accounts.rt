@@ -16,7 +16,10 @@ ghost use Rattle.dh_store.specs.Gathered.{Gathers, with_leases, with_registratio
 use crate::looks::look;
 use dh_books::Books;
 use dh_schema::StoreFault;
-use dh_tables::{ClientNumbered, DepositsOfLease, LeaseNumbered, LeasesOfClientFrom, LeasesOfProperty, PropertyNumbered, ReceiptKeyed, RegistrationAt, RunKeyed};
+use dh_tables::{
+    ClientNumbered, DepositsOfLease, LeaseNumbered, LeasesOfClientFrom, LeasesOfProperty,
+    PropertyNumbered, ReceiptKeyed, RegistrationAt, RunKeyed,
+};
 use dh_types::{LeaseTerms, ReceiptOrder, RunOrder};
 use sqlite::{Alter, Connection};
 use std::alloc::Global;

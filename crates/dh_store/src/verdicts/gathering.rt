@@ -13,7 +13,9 @@ ghost use Rattle.dh_store.specs.Gathered.{Gathers, bare};
 
 use crate::looks::find_open_run;
 use crate::verdicts::accounts::{at_lease, at_receipt, at_run};
-use crate::verdicts::lettings::{at_assign, at_comment, at_inspection, at_property, at_rent, at_viewing};
+use crate::verdicts::lettings::{
+    at_assign, at_comment, at_inspection, at_property, at_rent, at_viewing,
+};
 use crate::verdicts::people::{at_branch, at_client, at_owner, at_register, at_staff};
 use dh_books::Books;
 use dh_model::OpenRun;

@@ -14,7 +14,10 @@ ghost use Rattle.dh_store.specs.Gathered.{Gathers, with_managed};
 use crate::looks::look;
 use dh_books::Books;
 use dh_schema::StoreFault;
-use dh_tables::{BranchNumbered, ClientNumbered, InspectionOf, MemberNumbered, OwnerNumbered, PropertiesManaged, PropertyNumbered, ViewingOf};
+use dh_tables::{
+    BranchNumbered, ClientNumbered, InspectionOf, MemberNumbered, OwnerNumbered, PropertiesManaged,
+    PropertyNumbered, ViewingOf,
+};
 use dh_types::{Assignment, Id, Inspection, Property, RentChange, Viewing, ViewingComment};
 use sqlite::{Alter, Connection};
 use std::alloc::Global;
