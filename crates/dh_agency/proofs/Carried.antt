@@ -19,7 +19,7 @@ use Rattle.dh_model.specs.Verdicts.{opened_run, run_verdict, verdict_on}
 use Rattle.dh_laws.specs.Batches.{is_plain}
 use Rattle.dh_laws.specs.InOrder.{IsEntered}
 use Rattle.dh_laws.specs.Looks.{AcceptedChangesFit, FitsIn}
-use Rattle.dh_laws.specs.StateTables.{AreInOrder}
+use Rattle.dh_laws.specs.StateTables.{IsStateInOrder}
 use Rattle.dh_laws.specs.Telling.{begun}
 use Rattle.dh_laws.proofs.Carrying.{opening_cut, opening_said, refused_said, rows_cut, rows_in_order, rows_said, same_cut}
 use Rattle.dh_schema.specs.Store as store
@@ -33,10 +33,10 @@ on_err (Ok a) p = tt
 on_err (Err e) p = p
 
 -- sound tables are those that an office works on
-pub sound_in_order : (trees : Trees) → IsSound trees → AreInOrder (state_in trees)
+pub sound_in_order : (trees : Trees) → IsSound trees → IsStateInOrder (state_in trees)
 sound_in_order trees sound = record { keyed = books_are_keyed trees; rules = sound.rules; shown = sound_tables_show_their_run trees sound }
 
-in_order : (s : State) → IsReady s → AreInOrder (store.tables s)
+in_order : (s : State) → IsReady s → IsStateInOrder (store.tables s)
 in_order s ready = sound_in_order s.now.trees ready.sound
 
 pub refused : (told : Command) (why : Refusal) (it : Verdict) (old : State) (t : machine.State) → IsReady old
@@ -88,7 +88,7 @@ module _ (told : Command) (rows : Change) (old : State) (ready : IsReady old)
   put_fits law = law s.books s.open_run told rows (in_order old ready) h
 
   module _ (entered : IsEntered told) where
-    pub put_in_order : AreInOrder (with_change rows s)
+    pub put_in_order : IsStateInOrder (with_change rows s)
     put_in_order = rows_in_order s told rows (in_order old ready) entered h
 
     module _ (plain : is_plain rows ≡ true) where

@@ -10,7 +10,7 @@ use Rattle.dh_model.specs.Runs.{batch_size}
 use Rattle.dh_model.specs.Whole.{whole}
 use Rattle.dh_laws.specs.Asking.{AnswersPassTheRun, OpenRunsRefusePutOff}
 use Rattle.dh_laws.specs.InOrder.{IsInOrder}
-use Rattle.dh_laws.specs.StateTables.{AreInOrder}
+use Rattle.dh_laws.specs.StateTables.{IsStateInOrder}
 use Rattle.dh_laws.proofs.TellingWhole.{own_state, shows_none}
 use Rattle.dh_schema.proofs.Crashing.{leaves_these}
 use Rattle.dh_agency.specs.Seat.{Seat}
@@ -18,11 +18,11 @@ use Rattle.dh_agency.specs.Agency.{IsOpen, Leaves, LeavesItsTables, ReadsAs, mac
 use Rattle.dh_agency.proofs.Carried.{leaves_weaker, sound_in_order}
 
 -- where no run is open, the machine stands at the tables themselves
-pub stands_there : (s : State) → AreInOrder s → s.open_run ≡ None → stand_of s ≡ s
+pub stands_there : (s : State) → IsStateInOrder s → s.open_run ≡ None → stand_of s ≡ s
 stands_there s in_order none = own_state batch_size s (shows_none batch_size s none in_order)
 
 -- tables are asked as the whole books are
-pub report_stands : AnswersPassTheRun batch_size → OpenRunsRefusePutOff → (s : State) (question : Question) → AreInOrder s
+pub report_stands : AnswersPassTheRun batch_size → OpenRunsRefusePutOff → (s : State) (question : Question) → IsStateInOrder s
     → report s question ≡ report (stand_of s) question
 report_stands passes refuses s question in_order = by s.open_run refl
   where
@@ -47,7 +47,7 @@ module _ {S : Type 0} (g : Ghosts S) where
   pub leaves_more : (a : Seat S) (P Q : State → Type 0) → ((t : State) → P t → Q t) → Leaves g a P → Leaves g a Q
   leaves_more a P Q f h = leaves_weaker (shown_by g a) P Q f h
 
-  pub reads_in_order : (a : Seat S) → LeavesItsTables g a → AreInOrder (machine g a)
+  pub reads_in_order : (a : Seat S) → LeavesItsTables g a → IsStateInOrder (machine g a)
   reads_in_order a h = sound_in_order (shown_by g a).now.trees h.sound
 
   -- an agency begins where the machine does

@@ -30,7 +30,7 @@ machine g a = tables (shown_by g a)
 
 -- Where the machine stands with these tables: the whole books, and the open run.
 abbrev pub stand_of : State → State
-stand_of s = state_of batch_size (laws.tables s)
+stand_of s = state_of batch_size (laws.as_tables s)
 
 -- Where it stands with the agency's tables.
 abbrev pub stand : {S : Type 0} → Ghosts S → Seat S → State

@@ -6,7 +6,7 @@ ghost use Rattle.sqlite.specs.Held.{state};
 ghost use Rattle.dh_tables.specs.Calls.{HasOurTables};
 ghost use Rattle.dh_schema.specs.Store.{IsReadyWith, tables};
 ghost use Rattle.dh_schema.specs.Tables.{IsSound};
-ghost use Rattle.dh_runs.specs.Problems.{IsTurnedAway};
+ghost use Rattle.dh_runs.specs.Problems.{IsNotTaken};
 ghost use Rattle.dh_runs.specs.Taking.{IsFirstProblem, IsProblemOf, IsResting};
 ghost use Rattle.dh_agency.specs.Agency.{IsClean, LeavesItsTables, machine, shown_by};
 ghost use Rattle.dh_agency.specs.Taken.{TakesAsTheyAre, TakesForward};
@@ -30,7 +30,7 @@ pub fn attach<S: Alter>(
     ensures left { IfOk result (λ a. IsClean S.Store a → LeavesItsTables S.Store a) }
     ensures refused { IfErr result (λ e. HasCleanDisk (state S.Store e.conn) → IsProblemOf (state S.Store conn).now.trees e.cause) }
     ensures cause { IfErr result (λ e. IsFirstProblem e.cause) }
-    ensures others { ¬ HasOurTables (state S.Store conn) → IsErrAnd result (λ e. IsTurnedAway (Err e.cause) × (e.conn ≡ conn)) }
+    ensures others { ¬ HasOurTables (state S.Store conn) → IsErrAnd result (λ e. IsNotTaken (Err e.cause) × (e.conn ≡ conn)) }
     ensures kept { IfOk result (λ a. TakesAsTheyAre (state S.Store conn) (shown_by S.Store a)) }
     ensures crash { IfErr result (λ e. TakesAsTheyAre (state S.Store conn) (state S.Store e.conn)) }
 {
@@ -53,7 +53,7 @@ pub fn recover<S: Alter>(
     ensures left { IfOk result (λ a. IsClean S.Store a → LeavesItsTables S.Store a) }
     ensures refused { IfErr result (λ e. HasCleanDisk (state S.Store e.conn) → IsProblemOf (state S.Store conn).now.trees e.cause) }
     ensures cause { IfErr result (λ e. IsFirstProblem e.cause) }
-    ensures others { ¬ HasOurTables (state S.Store conn) → IsErrAnd result (λ e. IsTurnedAway (Err e.cause) × (e.conn ≡ conn)) }
+    ensures others { ¬ HasOurTables (state S.Store conn) → IsErrAnd result (λ e. IsNotTaken (Err e.cause) × (e.conn ≡ conn)) }
     ensures made { IfOk result (λ a. TakesForward (state S.Store conn) (shown_by S.Store a)) }
     ensures crash { IfErr result (λ e. TakesForward (state S.Store conn) (state S.Store e.conn)) }
     ensures halted { IfErr result (λ e. HasCleanDisk (state S.Store e.conn) → IsTrue (state S.Store e.conn).is_open

@@ -28,7 +28,7 @@ use Rattle.dh_histories.specs.HistoryLaws.{HistoriesAreEvents}
 -- what the event makes of the tables, or that they are the same where there is none
 abbrev pub Comes : Option Event → machine.State → machine.State → Type 0
 Comes None before after = after ≡ before
-Comes (Some event) before after = Happens batch_size event (tabled.tables before) (tabled.tables after)
+Comes (Some event) before after = Happens batch_size event (tabled.as_tables before) (tabled.as_tables after)
 
 -- the tables that are read while the store is open are such, and each outcome of a crash
 abbrev pub IsLeft : State → (Trees → Type 0) → Type 0
@@ -72,7 +72,7 @@ module _ (old new : State) (clean : HasCleanDisk new) where
   left_by Shown sound it = answered IsSame it
   left_by ShowCut sound it = broken IsSame it
   left_by Attached sound it =
-      weaker IsSame (λ before after. tabled.tables after ≡ tabled.tables before) (λ t same. ap tabled.tables same) (answered IsSame it)
+      weaker IsSame (λ before after. tabled.as_tables after ≡ tabled.as_tables before) (λ t same. ap tabled.as_tables same) (answered IsSame it)
   left_by AttachCut sound it = left_be sound it
   left_by Recovered sound it = answered IsMended it
   left_by RecoveryCut sound it = torn sound it
@@ -93,7 +93,7 @@ module _ {S : Type 0} (g : Ghosts S) where
   joined : (event : Option Event) (before found : Held S) (events : List (Event × Tables)) → IsSoundIn g found
       → Comes event (tables (state g before)) (tables (state g found)) → Follow batch_size (tables_of g found) events
       → Follow batch_size (tables_of g before) (with_event event (tables_of g found) events)
-  joined None before found events sound same later = subst (λ (t : Tables). Follow batch_size t events) (ap tabled.tables same) later
+  joined None before found events sound same later = subst (λ (t : Tables). Follow batch_size t events) (ap tabled.as_tables same) later
   joined (Some event) before found events sound it later = (sound_tables_show_their_run (state g found).now.trees sound, it, later)
 
   -- sound tables are listed by our schema, and a list tells one schema

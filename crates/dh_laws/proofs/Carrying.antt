@@ -26,7 +26,7 @@ use Rattle.dh_laws.proofs.KeepOrder.{changes_keep_order}
 use Rattle.dh_laws.proofs.VerdictCases.{assign_case, branch_case, client_case, comment_case, inspection_case, lease_case, owner_case, property_case}
 use Rattle.dh_laws.proofs.VerdictCases.{receipt_case, register_case, rent_case, run_case, staff_case, viewing_case}
 use Rattle.dh_laws.specs.Events.{Cut, Happens, IsFurtherBy, IsMovedBy, IsMovedOn, IsOfMonth, Mended, RunIfDone, RunIfUndone, Said, Torn, state_of}
-use Rattle.dh_laws.specs.StateTables.{AreInOrder, tables}
+use Rattle.dh_laws.specs.StateTables.{IsStateInOrder, as_tables}
 use Rattle.dh_laws.specs.Telling.{IsTold, begun, is_opening}
 use Rattle.dh_laws.specs.Batches.{IsPostedInPart, is_plain}
 use Rattle.dh_laws.proofs.TellingCuts.{told_done}
@@ -42,17 +42,17 @@ run_kept : (books : Books) (told : Command) (run : Option OpenRun) → RunIfUndo
 run_kept books (command.Post count) run = inl refl
 run_kept books _ run = refl
 
-pub same_cut : (told : Command) (s t : State) → t ≡ s → Happens batch_size (Cut told) (tables s) (tables t)
+pub same_cut : (told : Command) (s t : State) → t ≡ s → Happens batch_size (Cut told) (as_tables s) (as_tables t)
 same_cut told s t is =
-    subst (λ (it : State). Happens batch_size (Cut told) (tables s) (tables it)) (sym is)
+    subst (λ (it : State). Happens batch_size (Cut told) (as_tables s) (as_tables it)) (sym is)
     (inl (record { books = refl; run = run_kept (whole batch_size s.books) told s.open_run }))
 
 -- what an answer leaves, a cut may leave
-pub said_cut : (told : Command) (reply : Reply) (s t : State) → AreInOrder t → Happens batch_size (Said told reply) (tables s) (tables t)
-    → Happens batch_size (Cut told) (tables s) (tables t)
+pub said_cut : (told : Command) (reply : Reply) (s t : State) → IsStateInOrder t → Happens batch_size (Said told reply) (as_tables s) (as_tables t)
+    → Happens batch_size (Cut told) (as_tables s) (as_tables t)
 said_cut told reply s t order said = inr (told_done batch_size s t told reply (said, order)).0
 
-pub part_cut : (most : ℕ) (s t : State) → IsPostedInPart most s t → Happens batch_size (Cut (command.Post most)) (tables s) (tables t)
+pub part_cut : (most : ℕ) (s t : State) → IsPostedInPart most s t → Happens batch_size (Cut (command.Post most)) (as_tables s) (as_tables t)
 part_cut most s t h = inl h
 
 -- ---- recoveries
@@ -62,7 +62,7 @@ moved_on books most before after (inl same) = inl same
 moved_on books most before None (inr (run, is, by)) = inr (run, is, tt)
 moved_on books most before (Some at) (inr (run, is, by)) = inr (run, is, by.0)
 
-pub part_torn : (most : ℕ) (s t : State) → IsPostedInPart most s t → Happens batch_size Torn (tables s) (tables t)
+pub part_torn : (most : ℕ) (s t : State) → IsPostedInPart most s t → Happens batch_size Torn (as_tables s) (as_tables t)
 part_torn most s t h = record { books = h.books; run = moved_on (whole batch_size s.books) most s.open_run t.open_run h.run }
 
 -- what a `post` answers that closed the run
@@ -105,38 +105,38 @@ none_found books (Some run) count left h = by (nat_le (batches batch_size books 
     by false e = let replies : (going books count run).1 ≡ reply.Refused refusal.NoRun =
         ap (λ (m : State × Reply). m.1) (sym (ap (λ (b : Bool). if b then ended books run else going books count run) e) ∙ h) in absurd (cc)
 
-is_mended : (s t : State) → AreInOrder t → state_of batch_size (tables t) ≡ record { books = whole batch_size s.books; open_run = None }
-    → Happens batch_size Mended (tables s) (tables t)
+is_mended : (s t : State) → IsStateInOrder t → state_of batch_size (as_tables t) ≡ record { books = whole batch_size s.books; open_run = None }
+    → Happens batch_size Mended (as_tables s) (as_tables t)
 is_mended s t order left =
     let none : t.open_run ≡ None = ap (λ (it : State). it.open_run) left in
     let own = own_state batch_size t (shows_none batch_size t none order) in
-    ap (λ (it : State). tables it) (sym own ∙ left)
+    ap (λ (it : State). as_tables it) (sym own ∙ left)
 
-pub posted_mended : (most : ℕ) (sum : RunSum) (s t : State) → AreInOrder t
-    → Happens batch_size (Said (command.Post most) (reply.Posted sum)) (tables s) (tables t) → Happens batch_size Mended (tables s) (tables t)
-posted_mended most sum s t order said = is_mended s t order (post_ended (whole batch_size s.books) s.open_run most (state_of batch_size (tables t)) sum said)
+pub posted_mended : (most : ℕ) (sum : RunSum) (s t : State) → IsStateInOrder t
+    → Happens batch_size (Said (command.Post most) (reply.Posted sum)) (as_tables s) (as_tables t) → Happens batch_size Mended (as_tables s) (as_tables t)
+posted_mended most sum s t order said = is_mended s t order (post_ended (whole batch_size s.books) s.open_run most (state_of batch_size (as_tables t)) sum said)
 
-pub none_mended : (most : ℕ) (s t : State) → AreInOrder t → Happens batch_size (Said (command.Post most) (reply.Refused refusal.NoRun)) (tables s) (tables t)
-    → Happens batch_size Mended (tables s) (tables t)
-none_mended most s t order said = is_mended s t order (none_found (whole batch_size s.books) s.open_run most (state_of batch_size (tables t)) said)
+pub none_mended : (most : ℕ) (s t : State) → IsStateInOrder t → Happens batch_size (Said (command.Post most) (reply.Refused refusal.NoRun)) (as_tables s) (as_tables t)
+    → Happens batch_size Mended (as_tables s) (as_tables t)
+none_mended most s t order said = is_mended s t order (none_found (whole batch_size s.books) s.open_run most (state_of batch_size (as_tables t)) said)
 
 -- ---- openings, and runs
 
-module _ (s : State) (order : RunOrder) (none : s.open_run ≡ None) (in_order : AreInOrder s)
+module _ (s : State) (order : RunOrder) (none : s.open_run ≡ None) (in_order : IsStateInOrder s)
     (h : run_verdict s.books order ≡ verdict.Change (change.Open (opened_run s.books order))) where
   abbrev opened : State
   opened = begun order (change.Open (opened_run s.books order)) s
 
-  pub opening_said : (t : State) → t ≡ opened → Happens batch_size (Said (command.Open order) (reply.Opened order.month)) (tables s) (tables t)
+  pub opening_said : (t : State) → t ≡ opened → Happens batch_size (Said (command.Open order) (reply.Opened order.month)) (as_tables s) (as_tables t)
   opening_said t is =
-      subst (λ (it : State). Happens batch_size (Said (command.Open order) (reply.Opened order.month)) (tables s) (tables it)) (sym is)
+      subst (λ (it : State). Happens batch_size (Said (command.Open order) (reply.Opened order.month)) (as_tables s) (as_tables it)) (sym is)
       (opening_told batch_size s order (omega arith) none in_order (change.Open (opened_run s.books order)) h).0
 
-  pub opened_in_order : AreInOrder opened
+  pub opened_in_order : IsStateInOrder opened
   opened_in_order = (opening_told batch_size s order (omega arith) none in_order (change.Open (opened_run s.books order)) h).1
 
-  pub opening_cut : (t : State) → t ≡ opened → Happens batch_size (Cut (command.Open order)) (tables s) (tables t)
-  opening_cut t is = said_cut (command.Open order) (reply.Opened order.month) s t (subst (λ (it : State). AreInOrder it) (sym is) opened_in_order)
+  pub opening_cut : (t : State) → t ≡ opened → Happens batch_size (Cut (command.Open order)) (as_tables s) (as_tables t)
+  opening_cut t is = said_cut (command.Open order) (reply.Opened order.month) s t (subst (λ (it : State). IsStateInOrder it) (sym is) opened_in_order)
       (opening_said t is)
 
   made : whole batch_size opened.books ≡ ran batch_size s.books order.key
@@ -172,10 +172,10 @@ module _ (s : State) (order : RunOrder) (none : s.open_run ≡ None) (in_order :
   stands most after (inr (run, is, by)) = of_month most run after (let back : run ≡ record { month = order.month; done = 0 } = cc in back) by
 
   -- a run that was opened, and posted in part, was carried out
-  pub run_cut : (most : ℕ) (o t : State) → o ≡ opened → IsPostedInPart most o t → Happens batch_size (Cut (command.Run order)) (tables s) (tables t)
+  pub run_cut : (most : ℕ) (o t : State) → o ≡ opened → IsPostedInPart most o t → Happens batch_size (Cut (command.Run order)) (as_tables s) (as_tables t)
   run_cut most o t is part =
       let it = subst (λ (o : State). IsPostedInPart most o t) is part in
-      let now = state_of batch_size (tables s) in
+      let now = state_of batch_size (as_tables s) in
       inr (record {
         books = it.books ∙ made ∙ ap (λ b. ran batch_size b order.key) (sym itself)
             ∙ sym (ap (λ v. (settled batch_size now (command.Run order) v).0.books) judged);
@@ -183,13 +183,13 @@ module _ (s : State) (order : RunOrder) (none : s.open_run ≡ None) (in_order :
       })
 
   -- and where all was posted, it was answered so
-  pub run_said : (most : ℕ) (sum : RunSum) (o t : State) → o ≡ opened → Happens batch_size (Said (command.Post most) (reply.Posted sum)) (tables o) (tables t)
-      → Happens batch_size (Said (command.Run order) (reply.Posted sum)) (tables s) (tables t)
+  pub run_said : (most : ℕ) (sum : RunSum) (o t : State) → o ≡ opened → Happens batch_size (Said (command.Post most) (reply.Posted sum)) (as_tables o) (as_tables t)
+      → Happens batch_size (Said (command.Run order) (reply.Posted sum)) (as_tables s) (as_tables t)
   run_said most sum o t is said =
       let run : OpenRun = record { month = order.month; done = 0 } in
-      let at = subst (λ (o : State). Happens batch_size (Said (command.Post most) (reply.Posted sum)) (tables o) (tables t)) is said in
-      let ends = posted_ends (whole batch_size opened.books) most run (state_of batch_size (tables t)) sum at in
-      ap (settled batch_size (state_of batch_size (tables s)) (command.Run order)) judged
+      let at = subst (λ (o : State). Happens batch_size (Said (command.Post most) (reply.Posted sum)) (as_tables o) (as_tables t)) is said in
+      let ends = posted_ends (whole batch_size opened.books) most run (state_of batch_size (as_tables t)) sum at in
+      ap (settled batch_size (state_of batch_size (as_tables s)) (command.Run order)) judged
       ∙ ap (λ b. ended (ran batch_size b order.key) run) itself
       ∙ ap (λ b. ended b run) (sym made) ∙ sym ends ∙ at
 
@@ -237,12 +237,12 @@ not_post books None (command.Post count) rows h plain = cc
 not_post books (Some at) (command.Post count) rows h plain = let is : change.Post ≡ rows = cc in absurd (false≢true (ap is_plain is ∙ plain))
 not_post books run _ rows h plain = refl
 
-module _ (s : State) (told : Command) (rows : Change) (in_order : AreInOrder s) (entered : IsEntered told)
+module _ (s : State) (told : Command) (rows : Change) (in_order : IsStateInOrder s) (entered : IsEntered told)
     (h : verdict_on s.books s.open_run told ≡ verdict.Change rows) where
   abbrev after : State
   after = record { books = changed rows s.books; open_run = run_after s.open_run rows }
 
-  pub rows_in_order : AreInOrder after
+  pub rows_in_order : IsStateInOrder after
   rows_in_order = changes_keep_order batch_size s.books s.open_run told rows (omega arith) in_order entered h
 
   module _ (plain : is_plain rows ≡ true) where
@@ -259,18 +259,18 @@ module _ (s : State) (told : Command) (rows : Change) (in_order : AreInOrder s) 
         (not_post s.books s.open_run told rows h plain)
         in_order entered h refl refl
 
-    pub rows_said : (reply : Reply) (t : State) → reply ≡ accepted rows → t ≡ after → Happens batch_size (Said told reply) (tables s) (tables t)
+    pub rows_said : (reply : Reply) (t : State) → reply ≡ accepted rows → t ≡ after → Happens batch_size (Said told reply) (as_tables s) (as_tables t)
     rows_said reply t answered is =
-        subst (λ r. Happens batch_size (Said told r) (tables s) (tables t)) (sym answered)
-        (subst (λ (it : State). Happens batch_size (Said told (accepted rows)) (tables s) (tables it)) (sym (is ∙ stays)) (said_of s.open_run refl).0)
+        subst (λ r. Happens batch_size (Said told r) (as_tables s) (as_tables t)) (sym answered)
+        (subst (λ (it : State). Happens batch_size (Said told (accepted rows)) (as_tables s) (as_tables it)) (sym (is ∙ stays)) (said_of s.open_run refl).0)
 
-    pub rows_cut : (t : State) → t ≡ after → Happens batch_size (Cut told) (tables s) (tables t)
-    rows_cut t is = said_cut told (accepted rows) s t (subst (λ (it : State). AreInOrder it) (sym is) rows_in_order) (rows_said (accepted rows) t refl is)
+    pub rows_cut : (t : State) → t ≡ after → Happens batch_size (Cut told) (as_tables s) (as_tables t)
+    rows_cut t is = said_cut told (accepted rows) s t (subst (λ (it : State). IsStateInOrder it) (sym is) rows_in_order) (rows_said (accepted rows) t refl is)
 
 -- ---- what changes nothing
 
 -- each command is judged as over the whole books
-judged_alike : (s : State) (told : Command) (run : Option OpenRun) → s.open_run ≡ run → AreInOrder s
+judged_alike : (s : State) (told : Command) (run : Option OpenRun) → s.open_run ≡ run → IsStateInOrder s
     → verdict_on (whole batch_size s.books) s.open_run told ≡ verdict_on s.books s.open_run told
 judged_alike s told None is in_order = ap (λ b. verdict_on b s.open_run told) (whole_itself batch_size s.books (shows_none batch_size s is in_order))
 judged_alike s told (Some at) is in_order =
@@ -278,11 +278,11 @@ judged_alike s told (Some at) is in_order =
     subst (λ it. verdict_on (whole batch_size s.books) it told ≡ verdict_on s.books it told) (sym is)
     (judged_whole batch_size s.books at (omega arith) here told)
 
-pub refused_said : (s t : State) (told : Command) (why : Refusal) → AreInOrder s → verdict_on s.books s.open_run told ≡ verdict.Refused why → t ≡ s
-    → Happens batch_size (Said told (reply.Refused why)) (tables s) (tables t)
+pub refused_said : (s t : State) (told : Command) (why : Refusal) → IsStateInOrder s → verdict_on s.books s.open_run told ≡ verdict.Refused why → t ≡ s
+    → Happens batch_size (Said told (reply.Refused why)) (as_tables s) (as_tables t)
 refused_said s t told why in_order h is =
-    ap (settled batch_size (state_of batch_size (tables s)) told) (judged_alike s told s.open_run refl in_order ∙ h)
-    ∙ ap (λ (it : State). (state_of batch_size (tables it), reply.Refused why)) (sym is)
+    ap (settled batch_size (state_of batch_size (as_tables s)) told) (judged_alike s told s.open_run refl in_order ∙ h)
+    ∙ ap (λ (it : State). (state_of batch_size (as_tables it), reply.Refused why)) (sym is)
 
 -- ---- which rows are accepted
 

@@ -14,7 +14,7 @@ use Rattle.dh_model.specs.Runs.{batch_size, batches}
 use Rattle.dh_model.specs.Whole.{whole}
 use Rattle.dh_laws.specs.InOrder.{IsInOrder}
 use Rattle.dh_laws.specs.Events.{Happens, IsMovedBy, Said, state_of}
-use Rattle.dh_laws.specs.StateTables.{AreInOrder, tables}
+use Rattle.dh_laws.specs.StateTables.{IsStateInOrder, as_tables}
 use Rattle.dh_laws.specs.Batches.{IsAtItsEnd, IsPostedInPart, closed_state, next_batch, next_of, sum_told, with_batch}
 use Rattle.dh_laws.proofs.MovingBatches.{at_the_end, batches_of_whole, with_batches}
 
@@ -23,12 +23,12 @@ all_of s month = batches batch_size (whole batch_size s.books) month
 
 -- so many batches more of the run are done in the later tables
 pub record Stands (run : OpenRun) (s : State) (n : ℕ) (t : State) : Type 0 where
-  pub order : AreInOrder t
+  pub order : IsStateInOrder t
   pub same : whole batch_size t.books ≡ whole batch_size s.books
   pub is : t.open_run ≡ Some (record { month = run.month; done = run.done + n })
 
 module _ (run : OpenRun) (s : State) where
-  pub stands_first : AreInOrder s → s.open_run ≡ Some run → Stands run s 0 s
+  pub stands_first : IsStateInOrder s → s.open_run ≡ Some run → Stands run s 0 s
   stands_first order is =
       let none : run.done ≡ run.done + 0 = omega arith in
       record { order = order; same = refl; is = is ∙ ap (λ n. Some (record { month = run.month; done = n })) none }
@@ -59,7 +59,7 @@ module _ (run : OpenRun) (s : State) where
         let led = with_batches batch_size t.books now (run.done + n + 1) here few in
         let moved : run.done + n + 1 ≡ run.done + (n + 1) = omega arith in
         record {
-          order = subst (λ (it : State). AreInOrder it) (sym is) led.order;
+          order = subst (λ (it : State). IsStateInOrder it) (sym is) led.order;
           same = ap (λ (it : State). whole batch_size it.books) is ∙ led.same ∙ h.same;
           is = ap (λ (it : State). it.open_run) is ∙ ap (λ m. Some (record { month = run.month; done = m })) moved;
         }
@@ -101,18 +101,18 @@ module _ (run : OpenRun) (s : State) where
     )
 
     posted_as : (count : ℕ) (b : Bool) → s.open_run ≡ Some run → nat_le (all_of s run.month) (run.done + count) ≡ b
-        → step batch_size (state_of batch_size (tables s)) (command.Post count) ≡ (if b then closing else going_on count)
+        → step batch_size (state_of batch_size (as_tables s)) (command.Post count) ≡ (if b then closing else going_on count)
     posted_as count b shown e =
         ap (λ it. step batch_size (record { books = whole batch_size s.books; open_run = it }) (command.Post count)) shown
         ∙ ap (λ (b : Bool). if b then closing else going_on count) e
 
     -- a `post` that came to the end, and closed the run
     pub closed_said : (most : ℕ) (u : State) (sum : RunSum) → s.open_run ≡ Some run → n ≤ most → run.done + n ≡ all_of s run.month → u ≡ closed_state t
-        → sum ≡ sum_told t.books t.open_run → Happens batch_size (Said (command.Post most) (reply.Posted sum)) (tables s) (tables u)
+        → sum ≡ sum_told t.books t.open_run → Happens batch_size (Said (command.Post most) (reply.Posted sum)) (as_tables s) (as_tables u)
     closed_said most u sum shown few full made told =
         let enough : nat_le (all_of s run.month) (run.done + most) ≡ true = grind (arith, nat_tests, few, full) in
-        let left : closed_state s ≡ state_of batch_size (tables u) =
-        (λ i. record { books = sym whole_again i; open_run = None }) ∙ ap (λ (it : State). state_of batch_size (tables it)) (sym made)
+        let left : closed_state s ≡ state_of batch_size (as_tables u) =
+        (λ i. record { books = sym whole_again i; open_run = None }) ∙ ap (λ (it : State). state_of batch_size (as_tables it)) (sym made)
         in
         let comes : posted_sum run.month (get (whole batch_size s.books).runs run.month) ≡ sum =
         ap (λ (b : Books). posted_sum run.month (get b.runs run.month)) (sym h.same) ∙ ap (sum_told t.books) (sym h.is) ∙ sym told
@@ -121,8 +121,8 @@ module _ (run : OpenRun) (s : State) where
 
     -- a `post` that left batches
     pub part_said : s.open_run ≡ Some run → run.done + n < all_of s run.month
-        → Happens batch_size (Said (command.Post n) (reply.Part (record { month = run.month; done = run.done + n; of = all_of s run.month }))) (tables s)
-        (tables t)
+        → Happens batch_size (Said (command.Post n) (reply.Part (record { month = run.month; done = run.done + n; of = all_of s run.month }))) (as_tables s)
+        (as_tables t)
     part_said shown more =
         let rest : nat_le (all_of s run.month) (run.done + n) ≡ false = grind (arith, nat_tests, more) in
         posted_as n false shown rest
@@ -133,11 +133,11 @@ module _ (run : OpenRun) (s : State) where
 
 -- nothing is posted where no run is open
 pub no_run_said : (most : ℕ) (s t : State) → s.open_run ≡ None → t ≡ s
-    → Happens batch_size (Said (command.Post most) (reply.Refused refusal.NoRun)) (tables s) (tables t)
+    → Happens batch_size (Said (command.Post most) (reply.Refused refusal.NoRun)) (as_tables s) (as_tables t)
 no_run_said most s t none same =
     ap (λ it. step batch_size (record { books = whole batch_size s.books; open_run = it }) (command.Post most)) none
     ∙ (λ i. (record { books = whole batch_size s.books; open_run = sym none i }, reply.Refused refusal.NoRun))
-    ∙ ap (λ (it : State). (state_of batch_size (tables it), reply.Refused refusal.NoRun)) (sym same)
+    ∙ ap (λ (it : State). (state_of batch_size (as_tables it), reply.Refused refusal.NoRun)) (sym same)
 
 -- tables that stay are a `post` cut before its first batch
 pub same_in_part : (most : ℕ) (s t : State) → t ≡ s → IsPostedInPart most s t

@@ -17,7 +17,7 @@ use Rattle.dh_model.specs.Verdicts.{opened_run, run_verdict, verdict_on}
 use Rattle.dh_model.specs.Whole.{whole}
 use Rattle.dh_laws.specs.InOrder.{IsInOrder}
 use Rattle.dh_laws.specs.Events.{IsOfMonth, RunIfDone, state_of}
-use Rattle.dh_laws.specs.StateTables.{tables}
+use Rattle.dh_laws.specs.StateTables.{as_tables}
 use Rattle.dh_laws.specs.Telling.{IsCutDone, IsTold, Stands, StandsAt, begun, is_run}
 use Rattle.dh_laws.proofs.MovingBatches.{batches_of_whole}
 use Rattle.dh_laws.proofs.TellingRuns.{at_most, at_most_all, begun_is, none_in_order, opened_whole, opening_judged, opening_verdict}
@@ -32,7 +32,7 @@ module _ (size : ℕ) where
   -- what an answered command leaves, a cut one may leave
   pub told_done : (before after : State) (told : Command) (reply : Reply) → IsTold size told reply before after → IsCutDone size told before after
   told_done before after told reply h =
-      let s = state_of size (tables before) in
+      let s = state_of size (as_tables before) in
       let left : after.open_run ≡ (step size s told).0.open_run = ap (λ (m : State × Reply). m.0.open_run) (sym h.0) in (
         record {
           books = ap (λ (m : State × Reply). m.0.books) (sym h.0);
@@ -50,7 +50,7 @@ module _ (size : ℕ) where
   standing_done before opened after order rows count pos none in_order h is ordered same stands =
       let row = opened_run before.books order in
       let itself = whole_itself size before.books (shows_none size before none in_order) in
-      let s = state_of size (tables before) in
+      let s = state_of size (as_tables before) in
       let accepted = opening_verdict size before order pos none in_order rows h in
       let judged : verdict_on (whole size before.books) before.open_run (command.Run order) ≡ verdict.Change (change.Open row) =
       opening_judged size before order pos none in_order ∙ accepted in

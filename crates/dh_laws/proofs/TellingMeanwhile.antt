@@ -20,7 +20,7 @@ use Rattle.dh_laws.proofs.PassVerdicts.{free_are_judged_alike}
 use Rattle.dh_laws.proofs.VerdictCases.{assign_case, client_case, comment_case, inspection_case, owner_case, property_case, register_case, rent_case}
 use Rattle.dh_laws.proofs.VerdictCases.{staff_case, viewing_case}
 use Rattle.dh_laws.specs.Events.{state_of}
-use Rattle.dh_laws.specs.StateTables.{tables}
+use Rattle.dh_laws.specs.StateTables.{as_tables}
 use Rattle.dh_laws.specs.Telling.{IsTold}
 
 module _ (size : ℕ) where
@@ -99,7 +99,7 @@ module _ (size : ℕ) (books : Books) (run : OpenRun) (pos : 1 ≤ size) (in_ord
         → IsTold size told (accepted rows) at (record { books = changed rows books; open_run = Some run })
     change_told told other entered h =
         let free = accepted_free told other h in
-        let s = state_of size (tables at) in (
+        let s = state_of size (as_tables at) in (
           ap (settled size s told) (judged_whole told ∙ h) ∙ carried_free size s told rows free
               ∙ ap (λ (b : Books). (record { books = b; open_run = Some run }, accepted rows))
               (sym (free_changes_pass_the_run size books run told rows pos in_order free h)),

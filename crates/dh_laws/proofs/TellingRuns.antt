@@ -21,7 +21,7 @@ use Rattle.dh_laws.proofs.KeepOrder.{changes_keep_order}
 use Rattle.dh_laws.proofs.PostOpening.{run_is_opening_made_whole}
 use Rattle.dh_laws.proofs.VerdictCases.{run_case}
 use Rattle.dh_laws.specs.Events.{state_of}
-use Rattle.dh_laws.specs.StateTables.{tables}
+use Rattle.dh_laws.specs.StateTables.{as_tables}
 use Rattle.dh_laws.specs.Telling.{IsTold, begun}
 use Rattle.dh_laws.proofs.MovingBatches.{batches_of_whole}
 use Rattle.dh_laws.proofs.TellingWhole.{own_state, shows_none, whole_itself}
@@ -109,7 +109,7 @@ module _ (size : ℕ) (before : State) (run : OpenRun) (count : ℕ) (is : befor
   abbrev chosen : Bool → State × Reply
   chosen b = if b then closing else going_on
 
-  posted_as : (b : Bool) → nat_le all (run.done + count) ≡ b → step size (state_of size (tables before)) (command.Post count) ≡ chosen b
+  posted_as : (b : Bool) → nat_le all (run.done + count) ≡ b → step size (state_of size (as_tables before)) (command.Post count) ≡ chosen b
   posted_as b h = ap (λ now. step size (record { books = whole size before.books; open_run = now }) (command.Post count)) is ∙ ap chosen h
 
   -- where these are all that are left, the machine closes the run over the whole books
@@ -118,8 +118,8 @@ module _ (size : ℕ) (before : State) (run : OpenRun) (count : ℕ) (is : befor
       → (after, reply) ≡ step size (record whole_books { open_run = Some run }) (command.Post count) → IsTold size (command.Post count) reply before after
   closing_told whole_books after reply in_order same none few stepped =
       let enough : nat_le all (run.done + count) ≡ true = let alike = batches_of_whole size before.books run.month in grind (arith, nat_tests, few, alike) in
-      let started : state_of size (tables before) ≡ record whole_books { open_run = Some run } = λ i. record { books = sym same i; open_run = is i } in
-      let made : step size (state_of size (tables before)) (command.Post count) ≡ (after, reply) =
+      let started : state_of size (as_tables before) ≡ record whole_books { open_run = Some run } = λ i. record { books = sym same i; open_run = is i } in
+      let made : step size (state_of size (as_tables before)) (command.Post count) ≡ (after, reply) =
       ap (λ (s : State). step size s (command.Post count)) started ∙ sym stepped in
       let left : whole_books ≡ after =
       (λ i. record { books = same i; open_run = none i }) ∙ ap (λ (m : State × Reply). m.0) (sym (posted_as true enough) ∙ made) in

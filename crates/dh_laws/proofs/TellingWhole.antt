@@ -23,7 +23,7 @@ use Rattle.dh_laws.proofs.MonthSteps.{steps_keep}
 use Rattle.dh_laws.proofs.MonthWhole.{lawful_closed, whole_is_lawful}
 use Rattle.dh_laws.proofs.PostOpening.{run_is_opening_made_whole}
 use Rattle.dh_laws.specs.Events.{state_of}
-use Rattle.dh_laws.specs.StateTables.{tables}
+use Rattle.dh_laws.specs.StateTables.{as_tables}
 use Rattle.dh_laws.specs.Telling.{IsTold, is_opening}
 
 module _ (size : ℕ) where
@@ -35,18 +35,18 @@ module _ (size : ℕ) where
   shows_none s none in_order = subst (λ run. IsOpenAt size s.books run) none in_order.shown
 
   -- the machine stands where such tables are
-  pub own_state : (s : State) → open_row s.books ≡ None → state_of size (tables s) ≡ s
+  pub own_state : (s : State) → open_row s.books ≡ None → state_of size (as_tables s) ≡ s
   own_state s none = ap (λ (b : Books). record { books = b; open_run = s.open_run }) (whole_itself s.books none)
 
   -- what was done before changes nothing
   pub already_told : (s : State) (told : Command) (kept : Reply) → verdict_on (whole size s.books) s.open_run told ≡ verdict.Already kept
       → IsInOrder size s.books s.open_run → IsTold size told kept s s
-  already_told s told kept h in_order = (ap (settled size (state_of size (tables s)) told) h, in_order)
+  already_told s told kept h in_order = (ap (settled size (state_of size (as_tables s)) told) h, in_order)
 
   -- what is refused changes nothing
   pub refused_told : (s : State) (told : Command) (why : Refusal) → verdict_on (whole size s.books) s.open_run told ≡ verdict.Refused why
       → IsInOrder size s.books s.open_run → IsTold size told (reply.Refused why) s s
-  refused_told s told why h in_order = (ap (settled size (state_of size (tables s)) told) h, in_order)
+  refused_told s told why h in_order = (ap (settled size (state_of size (as_tables s)) told) h, in_order)
 
   -- only an opening leaves a run open
   carried_closed : (s : State) (told : Command) (rows : Change) → s.open_run ≡ None → is_opening told ≡ false → (carried_out size s told rows).0.open_run ≡ None

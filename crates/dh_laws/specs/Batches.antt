@@ -12,7 +12,7 @@ use Rattle.dh_model.specs.Machine.{posted_sum}
 use Rattle.dh_model.specs.Runs.{batch_size, batches}
 use Rattle.dh_model.specs.Whole.{whole, with_posted}
 use Rattle.dh_laws.specs.Events.{IsUndone}
-use Rattle.dh_laws.specs.StateTables.{tables}
+use Rattle.dh_laws.specs.StateTables.{as_tables}
 
 -- how far the open run is
 abbrev pub standing_of : Books → Option OpenRun → Option Progress
@@ -55,7 +55,7 @@ sum_told books (Some run) = posted_sum run.month (get (whole batch_size books).r
 
 -- a `post` of so many batches was cut here: the whole books are the same, and the open run is moved on by so many at most
 abbrev pub IsPostedInPart : ℕ → State → State → Type 0
-IsPostedInPart most before after = IsUndone batch_size (command.Post most) (tables before) (tables after)
+IsPostedInPart most before after = IsUndone batch_size (command.Post most) (as_tables before) (as_tables after)
 
 -- rows of other commands than those of runs
 abbrev pub is_plain : Change → Bool

@@ -14,7 +14,7 @@ use Rattle.dh_model.specs.Verdicts.{verdict_on}
 use Rattle.dh_model.specs.Whole.{whole}
 use Rattle.dh_laws.specs.InOrder.{IsInOrder}
 use Rattle.dh_laws.specs.Events.{Happens, IsDone, Said, state_of}
-use Rattle.dh_laws.specs.StateTables.{advanced_run, tables}
+use Rattle.dh_laws.specs.StateTables.{advanced_run, as_tables}
 
 abbrev pub is_opening : Command → Bool
 is_opening (command.Open order) = true
@@ -38,13 +38,13 @@ StandsAt order count _ after = Unit {0}
 abbrev pub Stands : State → Option ℕ → Command → State → Type 0
 Stands before (Some count) (command.Run order) after = StandsAt order count (verdict_on before.books before.open_run (command.Run order)) after
 Stands before (Some count) _ after = Unit {0}
-Stands before None told after = after.open_run ≡ (step batch_size (state_of batch_size (tables before)) told).0.open_run
+Stands before None told after = after.open_run ≡ (step batch_size (state_of batch_size (as_tables before)) told).0.open_run
 
 module _ (size : ℕ) where
   -- the command was answered so, and left these tables in order
   abbrev pub IsTold : Command → Reply → State → State → Type 0
-  IsTold told reply before after = Happens size (Said told reply) (tables before) (tables after) × IsInOrder size after.books after.open_run
+  IsTold told reply before after = Happens size (Said told reply) (as_tables before) (as_tables after) × IsInOrder size after.books after.open_run
 
   -- the command was cut and yet carried out, and left these tables in order
   abbrev pub IsCutDone : Command → State → State → Type 0
-  IsCutDone told before after = IsDone size told (tables before) (tables after) × IsInOrder size after.books after.open_run
+  IsCutDone told before after = IsDone size told (as_tables before) (as_tables after) × IsInOrder size after.books after.open_run

@@ -8,7 +8,7 @@ use Rattle.dh_model.specs.Books.{Books, State, with_rows}
 use Rattle.dh_model.specs.Runs.{batch_size, charge_key, part_key}
 use Rattle.dh_model.specs.Whole.{with_posted}
 use Rattle.dh_laws.specs.InOrder.{IsInOrder}
-use Rattle.dh_laws.specs.StateTables.{AreInOrder}
+use Rattle.dh_laws.specs.StateTables.{IsStateInOrder}
 use Rattle.dh_leases.specs.declared.planning.BatchRows.{BatchRows}
 use Rattle.dh_leases.specs.declared.planning.Plan.{Plan}
 use Rattle.dh_leases.specs.Plans.{AreNew, HasItsPart, HaveTheLeases, IsPlanOf, begins_at, with_batch_rows}
@@ -57,7 +57,7 @@ module _ (books : Books) (month done : ℕ) (order : IsInOrder batch_size books 
       ∙ had_part batch_size books month number (omega arith) order.keyed batch.held order.rules
       ∙ ap (λ (r : List Charge × Part × Bool). is_some (get before.parts (part_key r.1))) (sym batch.is)
 
-module _ (plan : Plan) (t : State) (order : AreInOrder t) (shown : t.open_run ≡ Some (begins_at plan))
+module _ (plan : Plan) (t : State) (order : IsStateInOrder t) (shown : t.open_run ≡ Some (begins_at plan))
     (rows : map rows_of plan.batches.items ≡ all_rows_left batch_size t.books plan.month plan.done) where
   here : IsInOrder batch_size t.books (Some (begins_at plan))
   here = subst (λ it. IsInOrder batch_size t.books it) shown order
@@ -85,6 +85,6 @@ module _ (plan : Plan) (t : State) (order : AreInOrder t) (shown : t.open_run �
 
 -- rows that are left over books are a plan over tables with the same leases
 pub is_plan : (books : Books) (plan : Plan) → map rows_of plan.batches.items ≡ all_rows_left batch_size books plan.month plan.done
-    → (t : State) → AreInOrder t → t.open_run ≡ Some (begins_at plan) → HaveTheLeases books t.books → IsPlanOf plan t
+    → (t : State) → IsStateInOrder t → t.open_run ≡ Some (begins_at plan) → HaveTheLeases books t.books → IsPlanOf plan t
 is_plan books plan rows t order shown have =
     is_plan_here plan t order shown (rows ∙ same_rows_left books t.books plan.month plan.done have)

@@ -4,7 +4,7 @@ ghost use Rattle.std.specs.Prelude.{◌≡◌, ◌<◌, ◌≤◌, ◌+◌, ◌+
 ghost use Rattle.dh_values.specs.declared.limits.TheConstants.{MOST_NUMBER};
 ghost use Rattle.dh_model.specs.Books.{State};
 ghost use Rattle.dh_model.specs.Runs.{batch_size};
-ghost use Rattle.dh_laws.specs.StateTables.{AreInOrder};
+ghost use Rattle.dh_laws.specs.StateTables.{IsStateInOrder};
 ghost use Rattle.dh_leases.specs.Plans.{FallsInTime, HaveTheLeases, IsPlanOf};
 ghost use Rattle.dh_leases.specs.Rows.{charges_at, rows_after, rows_of};
 
@@ -90,7 +90,7 @@ fn put_batches(
 /// The batches that the open run lacks, over the branches, the properties and the leases of books. Each of their charges falls due
 /// in a month that lines know. It fails where memory runs out.
 pub fn plan_of(alloc: Global, books: &Books, run: OpenRun) -> Result<Plan, AllocError>
-    ensures plan { IfOk result (λ plan. (t : State) → AreInOrder t → t.open_run ≡ Some run → HaveTheLeases books.now.books t.books → IsPlanOf plan t) }
+    ensures plan { IfOk result (λ plan. (t : State) → IsStateInOrder t → t.open_run ≡ Some run → HaveTheLeases books.now.books t.books → IsPlanOf plan t) }
     ensures done { IfOk result (λ plan. plan.done ≡ run.done) }
     ensures in_time { IfOk result (λ plan. All FallsInTime plan.batches.items) }
 {

@@ -15,7 +15,7 @@ use Rattle.dh_model.specs.Answers.{report}
 use Rattle.dh_model.specs.Books.{State}
 use Rattle.dh_model.specs.Runs.{batch_size}
 use Rattle.dh_laws.specs.Asking.{AnswersPassTheRun, OpenRunsRefusePutOff}
-use Rattle.dh_laws.specs.StateTables.{AreInOrder}
+use Rattle.dh_laws.specs.StateTables.{IsStateInOrder}
 use Rattle.dh_schema.specs.Faults.{IsFirstFault}
 use Rattle.dh_agency.specs.Seat.{Seat}
 use Rattle.dh_agency.specs.Agency.{IsOpen, LeavesItsTables, machine, stand, stand_of}
@@ -100,8 +100,8 @@ module _ {S : Type 0} (g : Ghosts S) (old new : Seat S) (a b : Option (List ℕ)
     at : stand g new ≡ stand g old
     at = ap stand_of same
 
-    in_order : AreInOrder (machine g old)
-    in_order = subst (λ (s : State). AreInOrder s) same (reads_in_order g new left)
+    in_order : IsStateInOrder (machine g old)
+    in_order = subst (λ (s : State). IsStateInOrder s) same (reads_in_order g new left)
 
     is : reported (stand g new) shown ≡ reported (stand g old) (report (stand g old) question)
     is = ap (λ s. reported s shown) at ∙ ap (λ (it : Report). reported (stand g old) it) (said ∙ report_stands passes refuses (machine g old) question in_order)

@@ -10,7 +10,7 @@ use Rattle.dh_model.specs.Answers.{report}
 use Rattle.dh_model.specs.Books.{State}
 use Rattle.dh_model.specs.Runs.{batch_size}
 use Rattle.dh_laws.specs.Asking.{AnswersPassTheRun, OpenRunsRefusePutOff}
-use Rattle.dh_laws.specs.StateTables.{AreInOrder}
+use Rattle.dh_laws.specs.StateTables.{IsStateInOrder}
 use Rattle.dh_agency.specs.Seat.{Seat}
 use Rattle.dh_agency.specs.Agency.{LeavesItsTables, machine, shown_by, stand}
 use Rattle.dh_agency.proofs.Standing.{reads_in_order, report_stands}
@@ -46,7 +46,7 @@ module _ {S : Type 0} (g : Ghosts S) (old new : Seat S) (question : Question) (s
     (passes : AnswersPassTheRun batch_size) (refuses : OpenRunsRefusePutOff) where
   pub shown_stands : shown ≡ report (stand g old) question
   shown_stands =
-      said ∙ report_stands passes refuses (machine g old) question (subst (λ (s : State). AreInOrder s) same (reads_in_order g new left))
+      said ∙ report_stands passes refuses (machine g old) question (subst (λ (s : State). IsStateInOrder s) same (reads_in_order g new left))
 
   pub shown_text : report_lines shown ≡ (report_shown (stand g old) question).text
   shown_text = ap report_lines shown_stands

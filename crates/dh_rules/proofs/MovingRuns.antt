@@ -10,7 +10,7 @@ use Rattle.dh_model.specs.Runs.{batch_size, batches}
 use Rattle.dh_model.specs.Whole.{whole, with_posted}
 use Rattle.dh_laws.specs.InOrder.{IsInOrder}
 use Rattle.dh_laws.specs.Events.{IsMovedBy, IsMovedOn, IsTorn, IsUndone, RunIfUndone}
-use Rattle.dh_laws.specs.StateTables.{AreInOrder, advanced_run, tables}
+use Rattle.dh_laws.specs.StateTables.{IsStateInOrder, advanced_run, as_tables}
 use Rattle.dh_laws.proofs.MovingBatches.{at_the_end, batches_of_whole, with_batches}
 use Rattle.dh_rules.specs.declared.moving.Reach.{Reach}
 use Rattle.dh_rules.specs.declared.moving.Reach.TheVariants as reach
@@ -133,11 +133,11 @@ left_of_whole books (Some run) = ap (λ all. all - run.done) (batches_of_whole b
 -- the tables with the open run moved so far
 abbrev pub Moves : State → Reach → State → Type 0
 Moves before far after =
-    AreInOrder before → AreInOrder after × (whole batch_size after.books ≡ whole batch_size before.books)
+    IsStateInOrder before → IsStateInOrder after × (whole batch_size after.books ≡ whole batch_size before.books)
     × (after.open_run ≡ moved_run (whole batch_size before.books) far before.open_run)
 
-pub torn_so_far : (before after : State) (far : Reach) → Moves before far after → AreInOrder before → IsTorn batch_size (tables before) (tables after)
-    × AreInOrder after
+pub torn_so_far : (before after : State) (far : Reach) → Moves before far after → IsStateInOrder before → IsTorn batch_size (as_tables before) (as_tables after)
+    × IsStateInOrder after
 torn_so_far before after far moves order =
     let made = whole batch_size before.books in
     let led = moves order in
@@ -146,8 +146,8 @@ torn_so_far before after far moves order =
 
 pub post_cut : (before after : State) (told : Command) (count : ℕ) (far to : Reach) → told ≡ command.Post count
     → to ≡ reach_within (batches_left before.books before.open_run) count far
-    → Moves before to after → AreInOrder before
-    → (IsUndone batch_size told (tables before) (tables after) × AreInOrder after)
+    → Moves before to after → IsStateInOrder before
+    → (IsUndone batch_size told (as_tables before) (as_tables after) × IsStateInOrder after)
     × (after.open_run ≡ undone_run (whole batch_size before.books) told far before.open_run)
 post_cut before after told count far to posts within moves order =
     let made = whole batch_size before.books in

@@ -9,7 +9,7 @@ use Rattle.dh_model.specs.Runs.{batch_size}
 use Rattle.dh_laws.specs.Events.{Event, Said, Cut, Taken, Torn, Mended, Tables, state_of}
 use Rattle.dh_laws.specs.Kept.{Kept}
 use Rattle.dh_laws.proofs.LiveTables.{mended_whole}
-use Rattle.dh_laws.specs.StateTables.{AreInOrder, tables}
+use Rattle.dh_laws.specs.StateTables.{IsStateInOrder, as_tables}
 use Rattle.dh_rules.specs.declared.playing.Happening.{Happening}
 use Rattle.dh_rules.specs.declared.playing.Happening.TheVariants as happening
 use Rattle.dh_rules.specs.Playing.{IsPlayed, IsStep, counted}
@@ -17,25 +17,25 @@ use Rattle.dh_rules.specs.Playing.{IsPlayed, IsStep, counted}
 -- what is kept of these events, from these books on
 abbrev KeptFrom : List Happening → State → State → List (Event × Tables) → Books → Type 0
 KeptFrom happenings middle after events books =
-    Kept batch_size (record { books = books; open_run = middle.open_run }) events (counted happenings) (state_of batch_size (tables after))
+    Kept batch_size (record { books = books; open_run = middle.open_run }) events (counted happenings) (state_of batch_size (as_tables after))
 
 pub nothing_played : (s : State) → IsPlayed [] [] s s
 nothing_played s = record { events = []; follow = tt; are = tt; answers = refl; ends = refl; kept = (refl, refl) }
 
 -- a happening in front of others
 one_more : (one : Happening) (happenings : List Happening) (reply : Option Reply) (replies : List Reply) (before middle after : State)
-    → AreInOrder middle → IsStep one reply before middle → IsPlayed happenings replies middle after
+    → IsStateInOrder middle → IsStep one reply before middle → IsPlayed happenings replies middle after
     → IsPlayed (one ∷ happenings) (option_to_list reply ++ replies) before after
 one_more (happening.Said told) happenings (Some reply) replies before middle after o step p = record {
-  events = (Said told reply, tables middle) ∷ p.events;
+  events = (Said told reply, as_tables middle) ∷ p.events;
   follow = (o.shown, step, p.follow);
   are = ((refl, step), p.are);
   answers = ap (λ rs. reply ∷ rs) p.answers;
   ends = p.ends;
-  kept = (counted happenings, state_of batch_size (tables middle), refl, step, p.kept);
+  kept = (counted happenings, state_of batch_size (as_tables middle), refl, step, p.kept);
 }
 one_more (happening.Undone told reach) happenings None replies before middle after o step p = record {
-  events = (Cut told, tables middle) ∷ p.events;
+  events = (Cut told, as_tables middle) ∷ p.events;
   follow = (o.shown, inl step.undone, p.follow);
   are = ((refl, step), p.are);
   answers = p.answers;
@@ -43,7 +43,7 @@ one_more (happening.Undone told reach) happenings None replies before middle aft
   kept = inl (step.undone.run, subst (λ (b : Books). KeptFrom happenings middle after p.events b) step.undone.books p.kept);
 }
 one_more (happening.Done told standing) happenings None replies before middle after o step p = record {
-  events = (Cut told, tables middle) ∷ p.events;
+  events = (Cut told, as_tables middle) ∷ p.events;
   follow = (o.shown, inr step.done, p.follow);
   are = ((refl, step), p.are);
   answers = p.answers;
@@ -51,15 +51,15 @@ one_more (happening.Done told standing) happenings None replies before middle af
   kept = inr (counted happenings, refl, step.done.run, subst (λ (b : Books). KeptFrom happenings middle after p.events b) step.done.books p.kept);
 }
 one_more happening.Taken happenings None replies before middle after o step p = record {
-  events = (Taken, tables middle) ∷ p.events;
+  events = (Taken, as_tables middle) ∷ p.events;
   follow = (o.shown, step, p.follow);
   are = (step, p.are);
   answers = p.answers;
   ends = p.ends;
-  kept = subst (λ (t : Tables). Kept batch_size (state_of batch_size t) p.events (counted happenings) (state_of batch_size (tables after))) step p.kept;
+  kept = subst (λ (t : Tables). Kept batch_size (state_of batch_size t) p.events (counted happenings) (state_of batch_size (as_tables after))) step p.kept;
 }
 one_more (happening.Torn reach) happenings None replies before middle after o step p = record {
-  events = (Torn, tables middle) ∷ p.events;
+  events = (Torn, as_tables middle) ∷ p.events;
   follow = (o.shown, step.torn, p.follow);
   are = (step, p.are);
   answers = p.answers;
@@ -67,15 +67,15 @@ one_more (happening.Torn reach) happenings None replies before middle after o st
   kept = (step.torn.run, subst (λ (b : Books). KeptFrom happenings middle after p.events b) step.torn.books p.kept);
 }
 one_more happening.Mended happenings None replies before middle after o step p = record {
-  events = (Mended, tables middle) ∷ p.events;
+  events = (Mended, as_tables middle) ∷ p.events;
   follow = (o.shown, step, p.follow);
   are = (step, p.are);
   answers = p.answers;
   ends = p.ends;
   kept =
-      let whole = mended_whole batch_size (tables middle) _ step o.shown in
+      let whole = mended_whole batch_size (as_tables middle) _ step o.shown in
       let none = ap (λ (t : Tables). t.run) step in
-      subst (λ (s : State). Kept batch_size s p.events (counted happenings) (state_of batch_size (tables after)))
+      subst (λ (s : State). Kept batch_size s p.events (counted happenings) (state_of batch_size (as_tables after)))
       (λ i. record { books = whole i; open_run = none i }) p.kept;
 }
 one_more (happening.Said told) happenings None replies before middle after o step p = absurd step
@@ -89,8 +89,8 @@ module _ (all : List Happening) (start : State) where
   -- whatever is played from here on, was played from the start with what came before
   abbrev pub SoFar : List Happening → List Reply → State → Type 0
   SoFar rest replies now =
-      AreInOrder start
-      → AreInOrder now
+      IsStateInOrder start
+      → IsStateInOrder now
       × ((more : List Reply) (after : State) → IsPlayed rest more now after → IsPlayed all (replies ++ more) start after)
 
   pub so_far_none : (replies : List Reply) → replies ≡ [] → SoFar all replies start
@@ -98,7 +98,7 @@ module _ (all : List Happening) (start : State) where
 
   pub so_far_more : (i : ℕ) (one : Happening) (reply : Option Reply) (replies later : List Reply) (now next : State) → i < length all → one ≡ get_or all i one
       → SoFar (drop i all) replies now
-      → (AreInOrder now → IsStep one reply now next × AreInOrder next)
+      → (IsStateInOrder now → IsStep one reply now next × IsStateInOrder next)
       → later ≡ replies ++ option_to_list reply → SoFar (drop (i + 1) all) later next
   so_far_more i one reply replies later now next here is so step added in_order =
       let rest = drop (i + 1) all in
@@ -112,7 +112,7 @@ module _ (all : List Happening) (start : State) where
             (subst (λ hs. IsPlayed hs (option_to_list reply ++ more) now after) (sym front) (one_more one rest reply more now next after made.1 made.0 p))),
       )
 
-  pub so_far_all : (i : ℕ) (replies : List Reply) (now : State) → length all ≤ i → SoFar (drop i all) replies now → AreInOrder start
+  pub so_far_all : (i : ℕ) (replies : List Reply) (now : State) → length all ≤ i → SoFar (drop i all) replies now → IsStateInOrder start
       → IsPlayed all replies start now
   so_far_all i replies now ended so in_order =
       subst (λ rs. IsPlayed all rs start now) (append-nil replies)

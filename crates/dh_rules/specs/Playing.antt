@@ -7,7 +7,7 @@ use Rattle.dh_model.specs.Runs.{batch_size}
 use Rattle.dh_model.specs.Whole.{whole}
 use Rattle.dh_laws.specs.Events.{Event, Said, Cut, Taken, Torn, Mended, Follow, Happens, IsDone, IsTorn, IsUndone, Tables, state_of}
 use Rattle.dh_laws.specs.Kept.{Kept}
-use Rattle.dh_laws.specs.StateTables.{tables}
+use Rattle.dh_laws.specs.StateTables.{as_tables}
 use Rattle.dh_laws.specs.Telling.{Stands}
 use Rattle.dh_rules.specs.declared.playing.Happening.{Happening}
 use Rattle.dh_rules.specs.declared.playing.Happening.TheVariants as happening
@@ -16,28 +16,28 @@ use Rattle.dh_rules.specs.Reaches.{moved_run, undone_run}
 
 -- the command was cut and changed no books, and the open run is moved on as far as named
 pub record IsUndoneTo (told : Command) (reach : Reach) (before after : State) : Type 0 where
-  pub undone : IsUndone batch_size told (tables before) (tables after)
+  pub undone : IsUndone batch_size told (as_tables before) (as_tables after)
   pub run : after.open_run ≡ undone_run (whole batch_size before.books) told reach before.open_run
 
 -- the command was cut and carried out, and an accepted run stands where it is named
 pub record IsDoneTo (told : Command) (standing : Option ℕ) (before after : State) : Type 0 where
-  pub done : IsDone batch_size told (tables before) (tables after)
+  pub done : IsDone batch_size told (as_tables before) (as_tables after)
   pub stands : Stands before standing told after
 
 -- the recovery was cut when it had come as far as named
 pub record IsTornAt (reach : Reach) (before after : State) : Type 0 where
-  pub torn : IsTorn batch_size (tables before) (tables after)
+  pub torn : IsTorn batch_size (as_tables before) (as_tables after)
   pub run : after.open_run ≡ moved_run (whole batch_size before.books) reach before.open_run
 
 -- what one happening makes of the tables, with the reply where it was answered
 abbrev pub IsStep : Happening → Option Reply → State → State → Type 0
-IsStep (happening.Said told) (Some reply) before after = Happens batch_size (Said told reply) (tables before) (tables after)
+IsStep (happening.Said told) (Some reply) before after = Happens batch_size (Said told reply) (as_tables before) (as_tables after)
 IsStep (happening.Said told) None before after = ⊥
 IsStep (happening.Undone told reach) None before after = IsUndoneTo told reach before after
 IsStep (happening.Done told standing) None before after = IsDoneTo told standing before after
-IsStep happening.Taken None before after = Happens batch_size Taken (tables before) (tables after)
+IsStep happening.Taken None before after = Happens batch_size Taken (as_tables before) (as_tables after)
 IsStep (happening.Torn reach) None before after = IsTornAt reach before after
-IsStep happening.Mended None before after = Happens batch_size Mended (tables before) (tables after)
+IsStep happening.Mended None before after = Happens batch_size Mended (as_tables before) (as_tables after)
 IsStep _ (Some reply) before after = ⊥
 
 -- tables as books in memory
@@ -81,8 +81,8 @@ last_of before (event ∷ events) = last_of event.1 events
 -- count are those that stand behind the tables.
 pub record IsPlayed (happenings : List Happening) (replies : List Reply) (before after : State) : Type 0 where
   pub events : List (Event × Tables)
-  pub follow : Follow batch_size (tables before) events
-  pub are : AreEventsOf happenings (tables before) events
+  pub follow : Follow batch_size (as_tables before) events
+  pub are : AreEventsOf happenings (as_tables before) events
   pub answers : replies_of events ≡ replies
-  pub ends : last_of (tables before) events ≡ tables after
-  pub kept : Kept batch_size (state_of batch_size (tables before)) events (counted happenings) (state_of batch_size (tables after))
+  pub ends : last_of (as_tables before) events ≡ as_tables after
+  pub kept : Kept batch_size (state_of batch_size (as_tables before)) events (counted happenings) (state_of batch_size (as_tables after))

@@ -5,7 +5,7 @@ ghost use Rattle.std.specs.Prelude.{◌≡◌, None, IfOk};
 ghost use Rattle.dh_model.specs.Runs.{batch_size};
 ghost use Rattle.dh_model.specs.Whole.{whole};
 ghost use Rattle.dh_laws.specs.Events.{Happens, IsUndone, Mended, Torn};
-ghost use Rattle.dh_laws.specs.StateTables.{AreInOrder, advanced_run, tables};
+ghost use Rattle.dh_laws.specs.StateTables.{IsStateInOrder, advanced_run, as_tables};
 ghost use Rattle.dh_rules.specs.Reaches.{batches_left, moved_run, reach_within, undone_run};
 
 use dh_books::Books;
@@ -25,7 +25,7 @@ pub enum Reach {
 
 /// The tables with so many batches more of the open run, as far as there are; it stays open.
 pub fn advanced(alloc: Global, before: Books, count: u128) -> Result<Books, AllocError>
-    ensures { IfOk result (λ after. AreInOrder before → AreInOrder after × (whole batch_size after.books ≡ whole batch_size before.books)
+    ensures { IfOk result (λ after. IsStateInOrder before → IsStateInOrder after × (whole batch_size after.books ≡ whole batch_size before.books)
         × (after.open_run ≡ advanced_run (whole batch_size before.books) count before.open_run)) }
 {
     let Some(run) = before.open_run() else {
@@ -44,8 +44,8 @@ pub fn advanced(alloc: Global, before: Books, count: u128) -> Result<Books, Allo
 
 /// The tables with the open run made to its end: what a recovery leaves.
 pub fn mended(alloc: Global, before: Books) -> Result<Books, AllocError>
-    ensures made { IfOk result (λ after. AreInOrder before → AreInOrder after × (after.books ≡ whole batch_size before.books) × (after.open_run ≡ None)) }
-    ensures happens { IfOk result (λ after. Happens batch_size Mended (tables before) (tables after)) }
+    ensures made { IfOk result (λ after. IsStateInOrder before → IsStateInOrder after × (after.books ≡ whole batch_size before.books) × (after.open_run ≡ None)) }
+    ensures happens { IfOk result (λ after. Happens batch_size Mended (as_tables before) (as_tables after)) }
 {
     let mut after = whole(alloc, before)?;
     after.set_open_run(None);
@@ -54,7 +54,7 @@ pub fn mended(alloc: Global, before: Books) -> Result<Books, AllocError>
 
 /// The tables with the open run moved so far.
 pub fn moved(alloc: Global, before: Books, reach: Reach) -> Result<Books, AllocError>
-    ensures { IfOk result (λ after. AreInOrder before → AreInOrder after × (whole batch_size after.books ≡ whole batch_size before.books)
+    ensures { IfOk result (λ after. IsStateInOrder before → IsStateInOrder after × (whole batch_size after.books ≡ whole batch_size before.books)
         × (after.open_run ≡ moved_run (whole batch_size before.books) reach before.open_run)) }
 {
     match reach {
@@ -65,8 +65,8 @@ pub fn moved(alloc: Global, before: Books, reach: Reach) -> Result<Books, AllocE
 
 /// What a recovery leaves that is cut: the open run moved so far.
 pub fn torn(alloc: Global, before: Books, reach: Reach) -> Result<Books, AllocError>
-    ensures happens { IfOk result (λ after. AreInOrder before → Happens batch_size Torn (tables before) (tables after) × AreInOrder after) }
-    ensures run { IfOk result (λ after. AreInOrder before → after.open_run ≡ moved_run (whole batch_size before.books) reach before.open_run) }
+    ensures happens { IfOk result (λ after. IsStateInOrder before → Happens batch_size Torn (as_tables before) (as_tables after) × IsStateInOrder after) }
+    ensures run { IfOk result (λ after. IsStateInOrder before → after.open_run ≡ moved_run (whole batch_size before.books) reach before.open_run) }
 {
     moved(alloc, before, reach)
 }
@@ -107,8 +107,8 @@ pub fn cut_undone(
     command: &Command,
     reach: Reach,
 ) -> Result<Books, AllocError>
-    ensures happens { IfOk result (λ after. AreInOrder before → IsUndone batch_size command.now (tables before) (tables after) × AreInOrder after) }
-    ensures run { IfOk result (λ after. AreInOrder before → after.open_run ≡ undone_run (whole batch_size before.books) command.now reach before.open_run) }
+    ensures happens { IfOk result (λ after. IsStateInOrder before → IsUndone batch_size command.now (as_tables before) (as_tables after) × IsStateInOrder after) }
+    ensures run { IfOk result (λ after. IsStateInOrder before → after.open_run ≡ undone_run (whole batch_size before.books) command.now reach before.open_run) }
 {
     match command {
         Command::Post(count) => {

@@ -1,7 +1,7 @@
 //! Lists of what happens to an agency's tables.
 
 ghost use Rattle.std.specs.Prelude.{IfOk};
-ghost use Rattle.dh_laws.specs.StateTables.{AreInOrder};
+ghost use Rattle.dh_laws.specs.StateTables.{IsStateInOrder};
 ghost use Rattle.dh_rules.specs.Playing.{IsPlayed, IsStep};
 
 use crate::moving::{Reach, cut_undone, mended, torn};
@@ -43,7 +43,7 @@ struct Left {
 
 // What one happening makes of the tables.
 fn happen(alloc: Global, before: Books, happening: &Happening) -> Result<Left, AllocError>
-    ensures { IfOk result (λ it. AreInOrder before → IsStep happening.now it.reply before it.tables × AreInOrder it.tables) }
+    ensures { IfOk result (λ it. IsStateInOrder before → IsStep happening.now it.reply before it.tables × IsStateInOrder it.tables) }
 {
     match happening {
         Happening::Said(command) => {
@@ -79,7 +79,7 @@ fn happen(alloc: Global, before: Books, happening: &Happening) -> Result<Left, A
 /// Plays the happenings one after the other. The commands that were answered, and those that were cut and carried out, are
 /// those that stand behind the tables.
 pub fn play(alloc: Global, start: Books, happenings: &[Happening]) -> Result<Played, AllocError>
-    ensures { IfOk result (λ it. AreInOrder start → IsPlayed happenings.now it.replies.items start it.tables) }
+    ensures { IfOk result (λ it. IsStateInOrder start → IsPlayed happenings.now it.replies.items start it.tables) }
 {
     let mut tables = start;
     let mut replies = Vec::new(alloc);

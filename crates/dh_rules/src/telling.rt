@@ -6,7 +6,7 @@ ghost use Rattle.dh_model.specs.MachineLaws.{is_post};
 ghost use Rattle.dh_model.specs.Runs.{batch_size};
 ghost use Rattle.dh_model.specs.Verdicts.{run_verdict};
 ghost use Rattle.dh_laws.specs.Events.{Happens, IsDone, Said};
-ghost use Rattle.dh_laws.specs.StateTables.{AreInOrder, tables};
+ghost use Rattle.dh_laws.specs.StateTables.{IsStateInOrder, as_tables};
 ghost use Rattle.dh_laws.specs.Telling.{IsCutDone, IsTold, Stands, StandsAt, begun, is_opening, is_run};
 
 use crate::changes::apply_change;
@@ -42,7 +42,7 @@ fn begun(mut tables: Books, order: &RunOrder, rows: Change) -> Result<Books, All
 // `open` over tables without an open run.
 fn told_opening(before: Books, order: &RunOrder) -> Result<Told, AllocError>
     requires { before.open_run ≡ None }
-    ensures { IfOk result (λ it. AreInOrder before → IsTold batch_size (command.Open order.now) it.reply before it.tables) }
+    ensures { IfOk result (λ it. IsStateInOrder before → IsTold batch_size (command.Open order.now) it.reply before it.tables) }
 {
     match decide_run(&before, order) {
         Verdict::Change(rows) => Ok(Told {
@@ -64,7 +64,7 @@ fn told_opening(before: Books, order: &RunOrder) -> Result<Told, AllocError>
 fn told_over_whole(alloc: Global, before: Books, command: &Command) -> Result<Told, AllocError>
     requires run { before.open_run ≡ None }
     requires command { is_opening command.now ≡ false }
-    ensures { IfOk result (λ it. AreInOrder before → IsTold batch_size command.now it.reply before it.tables) }
+    ensures { IfOk result (λ it. IsStateInOrder before → IsTold batch_size command.now it.reply before it.tables) }
 {
     commands_are_entered(command);
     let stepped = step(alloc, before, command)?;
@@ -82,7 +82,7 @@ fn told_post(
     run: OpenRun,
 ) -> Result<Told, AllocError>
     requires { before.open_run ≡ Some run }
-    ensures { IfOk result (λ it. AreInOrder before → IsTold batch_size (command.Post count) it.reply before it.tables) }
+    ensures { IfOk result (λ it. IsStateInOrder before → IsTold batch_size (command.Post count) it.reply before it.tables) }
 {
     let all = batches(alloc, &before, run.month)?;
     let more = u128::from(count.number());
@@ -111,7 +111,7 @@ fn told_post(
 fn told_meanwhile(alloc: Global, mut before: Books, command: &Command) -> Result<Told, AllocError>
     requires run { IsSome before.open_run }
     requires command { is_post command.now ≡ false }
-    ensures { IfOk result (λ it. AreInOrder before → IsTold batch_size command.now it.reply before it.tables) }
+    ensures { IfOk result (λ it. IsStateInOrder before → IsTold batch_size command.now it.reply before it.tables) }
 {
     commands_are_entered(command);
     let verdict = decide(alloc, &before, command)?;
@@ -137,7 +137,7 @@ fn told_meanwhile(alloc: Global, mut before: Books, command: &Command) -> Result
 
 /// What an answered command makes of the tables: the reply is the machine's over the whole books.
 pub fn said(alloc: Global, before: Books, command: &Command) -> Result<Told, AllocError>
-    ensures { IfOk result (λ it. AreInOrder before → Happens batch_size (Said command.now it.reply) (tables before) (tables it.tables) × AreInOrder it.tables) }
+    ensures { IfOk result (λ it. IsStateInOrder before → Happens batch_size (Said command.now it.reply) (as_tables before) (as_tables it.tables) × IsStateInOrder it.tables) }
 {
     match before.open_run() {
         None => match command {
@@ -154,7 +154,7 @@ pub fn said(alloc: Global, before: Books, command: &Command) -> Result<Told, All
 // `run` over tables without an open run, cut after so many batches.
 fn cut_run(alloc: Global, before: Books, order: &RunOrder, count: u128) -> Result<Books, AllocError>
     requires { before.open_run ≡ None }
-    ensures { IfOk result (λ after. AreInOrder before → IsCutDone batch_size (command.Run order.now) before after
+    ensures { IfOk result (λ after. IsStateInOrder before → IsCutDone batch_size (command.Run order.now) before after
         × StandsAt order.now count (run_verdict before.books order.now) after) }
 {
     match decide_run(&before, order) {
@@ -166,7 +166,7 @@ fn cut_run(alloc: Global, before: Books, order: &RunOrder, count: u128) -> Resul
 // Any other command than `run`, cut and carried out: as if it had been answered.
 fn cut_other(alloc: Global, before: Books, command: &Command) -> Result<Books, AllocError>
     requires { is_run command.now ≡ false }
-    ensures done { IfOk result (λ after. AreInOrder before → IsCutDone batch_size command.now before after) }
+    ensures done { IfOk result (λ after. IsStateInOrder before → IsCutDone batch_size command.now before after) }
     ensures stands { IfOk result (λ after. (count : ℕ) → Stands before (Some count) command.now after) }
 {
     Ok(said(alloc, before, command)?.tables)
@@ -179,8 +179,8 @@ fn cut_standing(
     command: &Command,
     count: u128,
 ) -> Result<Books, AllocError>
-    ensures done { IfOk result (λ after. AreInOrder before → IsCutDone batch_size command.now before after) }
-    ensures stands { IfOk result (λ after. AreInOrder before → Stands before (Some count) command.now after) }
+    ensures done { IfOk result (λ after. IsStateInOrder before → IsCutDone batch_size command.now before after) }
+    ensures stands { IfOk result (λ after. IsStateInOrder before → Stands before (Some count) command.now after) }
 {
     match command {
         Command::Run(order) => match before.open_run() {
@@ -199,8 +199,8 @@ pub fn cut_done(
     command: &Command,
     standing: Option<u128>,
 ) -> Result<Books, AllocError>
-    ensures done { IfOk result (λ after. AreInOrder before → IsDone batch_size command.now (tables before) (tables after) × AreInOrder after) }
-    ensures stands { IfOk result (λ after. AreInOrder before → Stands before standing command.now after) }
+    ensures done { IfOk result (λ after. IsStateInOrder before → IsDone batch_size command.now (as_tables before) (as_tables after) × IsStateInOrder after) }
+    ensures stands { IfOk result (λ after. IsStateInOrder before → Stands before standing command.now after) }
 {
     match standing {
         Some(count) => cut_standing(alloc, before, command, count),

@@ -8,7 +8,7 @@ use Rattle.dh_model.specs.declared.open_run.OpenRun.{OpenRun}
 use Rattle.dh_model.specs.Books as machine
 use Rattle.dh_model.specs.Runs.{batch_size, batches}
 use Rattle.dh_laws.specs.Batches.{IsAtItsEnd, IsPostedInPart}
-use Rattle.dh_laws.specs.StateTables.{AreInOrder}
+use Rattle.dh_laws.specs.StateTables.{IsStateInOrder}
 use Rattle.dh_laws.proofs.Standing.{Stands, all_of, at_its_end, posted_in_part, within}
 use Rattle.dh_schema.specs.Store.{IsReady, Leaves, tables}
 use Rattle.dh_schema.specs.Tables.{IsSound, state_in}
@@ -18,10 +18,10 @@ use Rattle.dh_schema.proofs.Keyed.{books_are_keyed, sound_tables_show_their_run}
 -- ---- ready tables
 
 -- sound tables are those that an office works on
-pub sound_in_order : (trees : Trees) → IsSound trees → AreInOrder (state_in trees)
+pub sound_in_order : (trees : Trees) → IsSound trees → IsStateInOrder (state_in trees)
 sound_in_order trees sound = record { keyed = books_are_keyed trees; rules = sound.rules; shown = sound_tables_show_their_run trees sound }
 
-pub in_order : (s : State) → IsReady s → AreInOrder (tables s)
+pub in_order : (s : State) → IsReady s → IsStateInOrder (tables s)
 in_order s ready = sound_in_order s.now.trees ready.sound
 
 -- ---- what a crash leaves

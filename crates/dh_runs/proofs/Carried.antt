@@ -10,7 +10,7 @@ use Rattle.dh_model.specs.declared.rows.Change.TheVariants as change
 use Rattle.dh_model.specs.declared.rows.Verdict.TheVariants as verdict
 use Rattle.dh_model.specs.Verdicts.{opened_run, run_verdict}
 use Rattle.dh_laws.specs.Batches.{IsPostedInPart}
-use Rattle.dh_laws.specs.StateTables.{AreInOrder}
+use Rattle.dh_laws.specs.StateTables.{IsStateInOrder}
 use Rattle.dh_laws.specs.Telling.{begun}
 use Rattle.dh_laws.proofs.Carrying.{run_cut, run_said, same_cut}
 use Rattle.dh_laws.proofs.Standing.{same_in_part}
@@ -24,7 +24,7 @@ pub on_err : {A E P : Type 0} (r : Result A E) → P → OnErr r P
 on_err (Ok a) p = tt
 on_err (Err e) p = p
 
-module _ (order : RunOrder) (s : machine.State) (none : s.open_run ≡ None) (in_order : AreInOrder s)
+module _ (order : RunOrder) (s : machine.State) (none : s.open_run ≡ None) (in_order : IsStateInOrder s)
     (h : run_verdict s.books order ≡ verdict.Change (change.Open (opened_run s.books order))) where
   abbrev opened : machine.State
   opened = begun order (change.Open (opened_run s.books order)) s

@@ -25,14 +25,14 @@ use Rattle.dh_laws.proofs.PostClosing.{closing_makes_whole}
 use Rattle.dh_laws.proofs.PostWhole.{is_open}
 use Rattle.dh_tables.specs.Shape.{AreApart, IsKept}
 use Rattle.dh_tables.specs.Calls as calls
-use Rattle.dh_tables.specs.Calls.{Amends, CommitsNothing, GoesOn}
+use Rattle.dh_tables.specs.Calls.{Amends, CommitsNothing, StaysInTransaction}
 use Rattle.dh_tables.specs.RunTable.{run_shape}
 use Rattle.dh_schema.specs.Kinds.{Runs}
 use Rattle.dh_schema.specs.Store.{IsReady, IsWriting, tables}
 use Rattle.dh_schema.specs.Tables.{IsTableInOrder}
 use Rattle.dh_schema.proofs.Keyed.{books_are_keyed, sound_tables_show_their_run}
 use Rattle.dh_runs.specs.Closing.{IsOpenMonth, IsSumOfOpen, sum_of_parts, sum_over, with_run, with_sum}
-use Rattle.dh_runs.specs.Putting.{Puts}
+use Rattle.dh_runs.specs.Putting.{TurnsBooks}
 use Rattle.dh_runs.proofs.PartSums.{parts_are_charges}
 use Rattle.dh_runs.proofs.Putting.{IsThere, changed}
 
@@ -42,7 +42,7 @@ under_way books None h = h
 under_way books (Some run) h = tt
 
 -- ready tables are those that an office works on
-pub ready_in_order : (s : State) → IsReady s → office.AreInOrder (tables s)
+pub ready_in_order : (s : State) → IsReady s → office.IsStateInOrder (tables s)
 ready_in_order s ready = record {
   keyed = books_are_keyed s.now.trees;
   rules = ready.sound.rules;
@@ -86,7 +86,7 @@ at_end_of books (Some run) month is end order =
     λ i. Some (record { month = own i; done = done i })
 
 -- what its part rows come to is what its charges come to
-pub sum_of_open : (s : office_state.State) (month : ℕ) (sum : RunSum) → office.AreInOrder s
+pub sum_of_open : (s : office_state.State) (month : ℕ) (sum : RunSum) → office.IsStateInOrder s
     → s.open_run ≡ Some (record { month = month; done = batches batch_size s.books month })
     → sum ≡ sum_of_parts month (parts_in s.books month) → IsSumOfOpen sum s.books
 sum_of_open s month sum order open_one is =
@@ -100,10 +100,10 @@ sum_of_open s month sum order open_one is =
     )
 
 module _ (s : State) (ready : IsReady s) (end : IsAtItsEnd (tables s).books (tables s).open_run) where
-  abbrev order : office.AreInOrder (tables s)
+  abbrev order : office.IsStateInOrder (tables s)
   order = ready_in_order s ready
 
-  pub closed_in_order : office.AreInOrder (closed_state (tables s))
+  pub closed_in_order : office.IsStateInOrder (closed_state (tables s))
   closed_in_order = (at_the_end batch_size (tables s).books (tables s).open_run (omega arith) order).order
 
   -- the row of the run is there, and closed by its sum it makes the books whole
@@ -144,9 +144,9 @@ module _ {S : Type 0} (g : Ghosts S) (old begun last : Held S) (is : begun ≡ r
   pub row_there : HasCleanDisk (state g begun) → calls.IsThere run_shape nat_cmp sum.month (state g begun)
   row_there clean = let it = there clean in (it.0, it.1)
 
-  pub sum_put : (x : Unit {0}) → (HasCleanDisk (state g last) → GoesOn (state g begun) (state g last))
+  pub sum_put : (x : Unit {0}) → (HasCleanDisk (state g last) → StaysInTransaction (state g begun) (state g last))
       → (HasCleanDisk (state g last) → Amends run_shape nat_cmp sum.month (with_sum sum) (state g begun) (state g last))
-      → CommitsNothing (state g begun) (state g last) → Puts made (Ok x) (state g begun) (state g last)
+      → CommitsNothing (state g begun) (state g last) → TurnsBooks made (Ok x) (state g begun) (state g last)
   sum_put x on amended crash = changed Runs sum.month (with_sum sum) (state g begun) (state g last) made (Ok x) writing there on amended (λ _. tt) crash
 
 -- the table of runs is in order as the transaction begins

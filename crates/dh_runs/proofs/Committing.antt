@@ -18,10 +18,10 @@ use Rattle.dh_schema.specs.Tables.{AreInOrder, books_in}
 use Rattle.dh_schema.proofs.Crashing.{survives_committed}
 use Rattle.dh_schema.proofs.Installing.{ready_after}
 use Rattle.dh_schema.proofs.Keyed.{books_are_keyed}
-use Rattle.dh_runs.specs.Putting.{Puts}
+use Rattle.dh_runs.specs.Putting.{TurnsBooks}
 
 -- tables in order with the books of tables that an office works on are sound, and show their run
-pub sound_after : (after : machine.State) (trees : Trees) → office.AreInOrder after → AreInOrder trees → books_in trees ≡ after.books
+pub sound_after : (after : machine.State) (trees : Trees) → office.IsStateInOrder after → AreInOrder trees → books_in trees ≡ after.books
     → AreTables (λ t. t ≡ after) trees
 sound_after after trees order in_order is =
     let run : Option OpenRun = after.open_run in
@@ -33,16 +33,16 @@ sound_after after trees order in_order is =
 
 -- a transaction is begun, rows are put, and it is committed: the tables are these then
 module _ {S : Type 0} (g : Ghosts S) (turned : Books → Books) (after : machine.State) (x : Unit {0}) (old begun last new : Held S)
-    (is : begun ≡ record old { in_transaction = true }) (order : HasCleanDisk (state g old) → office.AreInOrder after)
-    (made : turned (tables (state g old)).books ≡ after.books) (puts : Puts turned (Ok x) (state g begun) (state g last))
+    (is : begun ≡ record old { in_transaction = true }) (order : HasCleanDisk (state g old) → office.IsStateInOrder after)
+    (made : turned (tables (state g old)).books ≡ after.books) (puts : TurnsBooks turned (Ok x) (state g begun) (state g last))
   where
     abbrev After : machine.State → Type 0
     After t = t ≡ after
 
     sound : HasCleanDisk (state g last) → AreTables After (state g last).now.trees
     sound clean =
-        let moved : Puts turned (Ok x) (state g (record old { in_transaction = true })) (state g last) =
-        subst (λ (h : Held S). Puts turned (Ok x) (state g h) (state g last)) is puts in
+        let moved : TurnsBooks turned (Ok x) (state g (record old { in_transaction = true })) (state g last) =
+        subst (λ (h : Held S). TurnsBooks turned (Ok x) (state g h) (state g last)) is puts in
         let below : doubt (state g old).is_clean ≤ doubt (state g last).is_clean = moved.crash.clean in
         let done = moved.put clean in
         sound_after after (state g last).now.trees (order (omega (arith, below, clean))) done.0.in_order (done.1 ∙ made)

@@ -11,7 +11,7 @@ use Rattle.dh_model.specs.Whole.{with_posted}
 use Rattle.dh_model.proofs.KeyOrders.{nat_text_ties, nat_text_total, nats_tie, nats_total}
 use Rattle.dh_laws.specs.Batches.{next_batch, next_of, with_batch}
 use Rattle.dh_laws.specs.InOrder.{IsInOrder}
-use Rattle.dh_laws.specs.StateTables.{AreInOrder}
+use Rattle.dh_laws.specs.StateTables.{IsStateInOrder}
 use Rattle.dh_laws.proofs.MovingBatches.{with_batches}
 use Rattle.dh_laws.proofs.PostCharged.{charge_month, charges_fit, part_month, parts_fit}
 use Rattle.dh_laws.proofs.PostMonth.{stays}
@@ -38,7 +38,7 @@ first_is rows view found {row = row} same value is =
     let at : slice_get rows 0 ≡ Some row.now = ap (λ (list : List BatchRows). slice_get list 0) (sym same) ∙ sym value ∙ ap option_copied is in
     (slice_get_within rows 0 row.now at, sym (get_or_from_slice_get rows 0 row.now row.now at))
 
-module _ (plan : Plan) (s : State) (order : AreInOrder s) (is : IsPlanOf plan s) where
+module _ (plan : Plan) (s : State) (order : IsStateInOrder s) (is : IsPlanOf plan s) where
   abbrev run : OpenRun
   run = begins_at plan
 
@@ -85,10 +85,10 @@ module _ (plan : Plan) (s : State) (order : AreInOrder s) (is : IsPlanOf plan s)
     pub rows_next : with_batch_rows rows s ≡ next_batch s
     rows_next = to_first ∙ sym (next_by true before_the_last)
 
-    pub rows_in_order : AreInOrder (with_batch_rows rows s)
+    pub rows_in_order : IsStateInOrder (with_batch_rows rows s)
     rows_in_order =
         let led = with_batches batch_size s.books run (plan.done + 1) here (let counted = is.counted in omega (arith, counted, some)) in
-        subst (λ (it : State). AreInOrder it) (sym to_first) led.order
+        subst (λ (it : State). IsStateInOrder it) (sym to_first) led.order
 
     pub rows_new : AreNew rows.charges.items s.books.charges
     rows_new = subst (λ (it : State). AreNew rows.charges.items it.books.charges) (sym first_stage) (is.new 0 rows some at)

@@ -13,7 +13,7 @@ use Rattle.dh_model.specs.Runs.{charge_key, part_key}
 use Rattle.dh_model.proofs.KeyOrders.{nat_text_ties, nat_text_total, nats_tie, nats_total}
 use Rattle.dh_catalog.specs.Layout.{our_schema}
 use Rattle.dh_tables.specs.Changes.{Becomes}
-use Rattle.dh_tables.specs.Calls.{Amends, CommitsNothing, GoesOn, IsUndone}
+use Rattle.dh_tables.specs.Calls.{Amends, CommitsNothing, StaysInTransaction, IsUndone}
 use Rattle.dh_tables.proofs.AmendedRecord.{becomes_there}
 use Rattle.dh_schema.specs.Kinds.{Kind, key_of, order_of, record_of, shape_of, shelf_of}
 use Rattle.dh_schema.specs.Kinds.{Parts}
@@ -22,7 +22,7 @@ use Rattle.dh_schema.specs.Tables.{AreInOrder, loaded_from, records_in}
 use Rattle.dh_schema.proofs.Crashing.{survives_both}
 use Rattle.dh_schema.proofs.Keyed.{keyed}
 use Rattle.dh_store.proofs.Putting.{keeps_both, keeps_commit, put_in}
-use Rattle.dh_runs.specs.Putting.{Puts, with_charges, with_part}
+use Rattle.dh_runs.specs.Putting.{TurnsBooks, with_charges, with_part}
 
 -- ---- rows of a map
 
@@ -43,15 +43,15 @@ module _ (kind : Kind) (records : FinMap (order_of kind) (record_of kind)) (old 
   abbrev pub Means : (Books → Books) → Type 0
   Means turned = ((shelf_of kind).with (loaded_from old.now.trees) records).books ≡ turned (tables old).books
 
-  on_ok : {X E : Type 0} (turned : Books → Books) (r : Result X E) → AreInOrder old.now.trees → Means turned → OnOk r (GoesOn old new) → OnOk r Turns
+  on_ok : {X E : Type 0} (turned : Books → Books) (r : Result X E) → AreInOrder old.now.trees → Means turned → OnOk r (StaysInTransaction old new) → OnOk r Turns
       → OnOk r (IsWriting new × ((tables new).books ≡ turned (tables old).books))
   on_ok turned (Ok x) order means on done = let here = put_in kind records old new order on done in (here.0, here.1 ∙ means)
   on_ok turned (Err e) order means on done = tt
 
   -- a record was added
   pub added : (turned : Books → Books) (r : Result (Unit {0}) Error) → (HasCleanDisk old → IsWriting old) → Means turned
-      → (HasCleanDisk new → OnOk r (GoesOn old new)) → (HasCleanDisk new → OnOk r Turns) → (HasCleanDisk new → OnErr r (IsUndone old new))
-      → CommitsNothing old new → Puts turned r old new
+      → (HasCleanDisk new → OnOk r (StaysInTransaction old new)) → (HasCleanDisk new → OnOk r Turns) → (HasCleanDisk new → OnErr r (IsUndone old new))
+      → CommitsNothing old new → TurnsBooks turned r old new
   added turned r writing means on done undone crash = record {
     put = λ clean. on_ok turned r (writing (omega (arith, crash.clean, clean))).in_order means (on clean) (done clean);
     kept = λ clean. keeps_commit r old new (on clean) (undone clean);
@@ -66,7 +66,7 @@ module _ (kind : Kind) (key : key_of kind) (amended : record_of kind → record_
   abbrev pub IsThere : (Books → Books) → Type 0
   IsThere turned = (there : record_of kind) × (get held key ≡ Some there) × Means kind (insert held key (amended there)) old new turned
 
-  on_ok_there : {X E : Type 0} (turned : Books → Books) (r : Result X E) → AreInOrder old.now.trees → IsThere turned → OnOk r (GoesOn old new)
+  on_ok_there : {X E : Type 0} (turned : Books → Books) (r : Result X E) → AreInOrder old.now.trees → IsThere turned → OnOk r (StaysInTransaction old new)
       → OnOk r (Amends (shape_of kind) (order_of kind) key amended old new)
       → OnOk r (IsWriting new × ((tables new).books ≡ turned (tables old).books))
   on_ok_there turned (Ok x) order it on done =
@@ -76,8 +76,8 @@ module _ (kind : Kind) (key : key_of kind) (amended : record_of kind → record_
 
   -- a record was changed
   pub changed : (turned : Books → Books) (r : Result (Unit {0}) Error) → (HasCleanDisk old → IsWriting old) → (HasCleanDisk old → IsThere turned)
-      → (HasCleanDisk new → OnOk r (GoesOn old new)) → (HasCleanDisk new → OnOk r (Amends (shape_of kind) (order_of kind) key amended old new))
-      → (HasCleanDisk new → OnErr r (IsUndone old new)) → CommitsNothing old new → Puts turned r old new
+      → (HasCleanDisk new → OnOk r (StaysInTransaction old new)) → (HasCleanDisk new → OnOk r (Amends (shape_of kind) (order_of kind) key amended old new))
+      → (HasCleanDisk new → OnErr r (IsUndone old new)) → CommitsNothing old new → TurnsBooks turned r old new
   changed turned r writing is_there on done undone crash = record {
     put = λ clean.
         let early : HasCleanDisk old = omega (arith, crash.clean, clean) in
@@ -95,7 +95,7 @@ module _ (first later : Books → Books) (a b c : State) where
   then_put (Err e) was done = tt
 
   -- what was put, and then this
-  pub puts_both : {x : Unit {0}} (r : Result (Unit {0}) Error) → Puts first (Ok x) a b → Puts later r b c → Puts (λ books. later (first books)) r a c
+  pub puts_both : {x : Unit {0}} (r : Result (Unit {0}) Error) → TurnsBooks first (Ok x) a b → TurnsBooks later r b c → TurnsBooks (λ books. later (first books)) r a c
   puts_both r one two = record {
     put = λ clean.
         let half : HasCleanDisk b = omega (arith, two.crash.clean, clean) in
@@ -107,8 +107,8 @@ module _ (first later : Books → Books) (a b c : State) where
   }
 
 -- where a call failed, nothing is said of the books
-pub puts_none : (turned other : Books → Books) (r : Result (Unit {0}) Error) (e f : Error) (old new : State) → r ≡ Err e → Puts turned (Err f) old new
-    → Puts other r old new
+pub puts_none : (turned other : Books → Books) (r : Result (Unit {0}) Error) (e f : Error) (old new : State) → r ≡ Err e → TurnsBooks turned (Err f) old new
+    → TurnsBooks other r old new
 puts_none turned other r e f old new is puts = record {
   put = λ clean. subst (λ (it : Result (Unit {0}) Error). OnOk it (IsWriting new × ((tables new).books ≡ other (tables old).books))) (sym is) tt;
   kept = puts.kept;
@@ -116,7 +116,7 @@ puts_none turned other r e f old new is puts = record {
 }
 
 -- and so at first
-pub nothing_put : (turned : Books → Books) (s : State) → (HasCleanDisk s → IsWriting s) → turned (tables s).books ≡ (tables s).books → Puts turned (Ok tt) s s
+pub nothing_put : (turned : Books → Books) (s : State) → (HasCleanDisk s → IsWriting s) → turned (tables s).books ≡ (tables s).books → TurnsBooks turned (Ok tt) s s
 nothing_put turned s writing same = record {
   put = λ clean. (writing clean, sym same);
   kept = λ clean. record { was_open = λ still. still; committed = λ _. refl };

@@ -11,7 +11,7 @@ use Rattle.dh_model.specs.Machine.{posted_sum, step}
 use Rattle.dh_model.specs.Runs.{batch_size, batches}
 use Rattle.dh_model.specs.Whole.{whole}
 use Rattle.dh_laws.specs.Events.{state_of}
-use Rattle.dh_laws.specs.StateTables.{tables}
+use Rattle.dh_laws.specs.StateTables.{as_tables}
 use Rattle.dh_runs.specs.declared.running.RunState.{RunState}
 use Rattle.dh_runs.specs.declared.running.RunState.TheVariants as run
 use Rattle.dh_runs.specs.Told.{IsSaid, reply_of}
@@ -41,6 +41,6 @@ pub run_is_found : (most : ℕ) (s t : State) (at : OpenRun) (it : RunState) →
 run_is_found most s t at it is none said =
     let told : IsSaid (command.Post most) (reply.Refused refusal.NoRun) s t =
     subst (λ (r : RunState). IsSaid (command.Post most) (reply_of r) s t) none said in
-    posted_run (whole batch_size s.books) most at (state_of batch_size (tables t))
+    posted_run (whole batch_size s.books) most at (state_of batch_size (as_tables t))
     (subst (λ (o : Option OpenRun). step batch_size (record { books = whole batch_size s.books; open_run = o }) (command.Post most)
-    ≡ (state_of batch_size (tables t), reply.Refused refusal.NoRun)) is told)
+    ≡ (state_of batch_size (as_tables t), reply.Refused refusal.NoRun)) is told)

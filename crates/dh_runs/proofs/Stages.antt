@@ -13,7 +13,7 @@ use Rattle.dh_model.specs.Whole.{whole, with_posted}
 use Rattle.dh_model.proofs.KeyOrders.{nat_text_ties, nat_text_total, nats_tie, nats_total}
 use Rattle.dh_laws.specs.Batches.{IsPostedInPart}
 use Rattle.dh_laws.specs.InOrder.{IsInOrder}
-use Rattle.dh_laws.specs.StateTables.{AreInOrder}
+use Rattle.dh_laws.specs.StateTables.{IsStateInOrder}
 use Rattle.dh_laws.proofs.MovingBatches.{batches_of_whole, with_batches}
 use Rattle.dh_laws.proofs.PostCharged.{charge_month, charges_fit, part_month, parts_fit}
 use Rattle.dh_laws.proofs.PostMonth.{stays}
@@ -56,18 +56,18 @@ pub record Planned (old now : State) (plan : Plan) (n : ℕ) : Type 0 where
   pub stands : HasCleanDisk now → tables now ≡ stage (tables old).books (begins_at plan) n
 
 module _ (old : State) (plan : Plan) where
-  at_stage : (s t : machine.State) (n : ℕ) → AreInOrder s → IsPlanOf plan s → n ≤ length plan.batches.items → t ≡ stage s.books (begins_at plan) n
+  at_stage : (s t : machine.State) (n : ℕ) → IsStateInOrder s → IsPlanOf plan s → n ≤ length plan.batches.items → t ≡ stage s.books (begins_at plan) n
       → Stands (begins_at plan) s n t
   at_stage s t n order is few made =
       let here : IsInOrder batch_size s.books (Some (begins_at plan)) = subst (λ it. IsInOrder batch_size s.books it) is.shown order in
       let led = with_batches batch_size s.books (begins_at plan) (plan.done + n) here (omega (arith, few, is.counted)) in
       record {
-        order = subst (λ (it : machine.State). AreInOrder it) (sym made) led.order;
+        order = subst (λ (it : machine.State). IsStateInOrder it) (sym made) led.order;
         same = ap (λ (it : machine.State). whole batch_size it.books) made ∙ led.same;
         is = ap (λ (it : machine.State). it.open_run) made;
       }
 
-  first_stage : (s : machine.State) → AreInOrder s → IsPlanOf plan s → s ≡ stage s.books (begins_at plan) 0
+  first_stage : (s : machine.State) → IsStateInOrder s → IsPlanOf plan s → s ≡ stage s.books (begins_at plan) 0
   first_stage s order is =
       let here : IsInOrder batch_size s.books (Some (begins_at plan)) = subst (λ it. IsInOrder batch_size s.books it) is.shown order in
       let none : plan.done ≡ plan.done + 0 = omega arith in
@@ -76,7 +76,7 @@ module _ (old : State) (plan : Plan) where
 
   pub planned_first : (HasCleanDisk old → IsReady old) → (HasCleanDisk old → IsPlanOf plan (tables old)) → Planned old old plan 0
   planned_first ready told =
-      let order : HasCleanDisk old → AreInOrder (tables old) = λ clean. in_order old (ready clean) in
+      let order : HasCleanDisk old → IsStateInOrder (tables old) = λ clean. in_order old (ready clean) in
       let first : HasCleanDisk old → tables old ≡ stage (tables old).books (begins_at plan) 0 = λ clean. first_stage (tables old) (order clean) (told clean) in
       record {
         along = record {
@@ -100,7 +100,7 @@ module _ (old : State) (plan : Plan) where
         let low = h.along.was_clean in
         at_stage (tables old) t (n + 1) (in_order old (was (omega (arith, clean, low)))) (h.plans clean) (omega (arith, few)) (made ∙ put_is clean)
 
-    pub rows_in_order : HasCleanDisk now → AreInOrder (with_batch_rows rows (tables now))
+    pub rows_in_order : HasCleanDisk now → IsStateInOrder (with_batch_rows rows (tables now))
     rows_in_order clean = (next_stage (with_batch_rows rows (tables now)) clean refl).order
 
     pub rows_are_new : HasCleanDisk now → AreNew rows.charges.items (tables now).books.charges

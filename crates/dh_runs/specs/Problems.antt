@@ -27,6 +27,6 @@ IsFoundIn books (problem.Refused why) = IsBroken books why
 IsFoundIn books (problem.Fault fault) = IsFirstFault fault
 
 -- so tables are answered that are not ours, and not read
-abbrev pub IsTurnedAway : Result (Unit {0}) Problem → Type 0
-IsTurnedAway (Err (problem.Fault fault)) = IsFirstFault fault
-IsTurnedAway _ = ⊥
+abbrev pub IsNotTaken : Result (Unit {0}) Problem → Type 0
+IsNotTaken (Err (problem.Fault fault)) = IsFirstFault fault
+IsNotTaken _ = ⊥

@@ -12,7 +12,7 @@ use Rattle.dh_tables.specs.Calls.{CommitsNothing}
 use Rattle.dh_schema.specs.Store.{IsWriting, tables}
 
 -- At Ok the tables are in order and the books are what this makes of them, and the transaction goes on. Nothing is committed.
-pub record Puts (turned : Books → Books) (result : Result (Unit {0}) Error) (old new : State) : Type 0 where
+pub record TurnsBooks (turned : Books → Books) (result : Result (Unit {0}) Error) (old new : State) : Type 0 where
   pub put : HasCleanDisk new → OnOk result (IsWriting new × ((tables new).books ≡ turned (tables old).books))
   pub kept : HasCleanDisk new → KeepsCommit old new
   pub crash : CommitsNothing old new

@@ -6,7 +6,7 @@ use Rattle.dh_types.specs.declared.reply.Refusal.TheVariants as refusal
 use Rattle.dh_model.specs.Books.{State}
 use Rattle.dh_model.specs.Runs.{batch_size}
 use Rattle.dh_laws.specs.Events.{Cut, Happens, Mended, Said, Torn}
-use Rattle.dh_laws.specs.StateTables.{tables}
+use Rattle.dh_laws.specs.StateTables.{as_tables}
 use Rattle.dh_runs.specs.declared.running.RunState.{RunState}
 use Rattle.dh_runs.specs.declared.running.RunState.TheVariants as run
 
@@ -24,16 +24,16 @@ IsAtEnd (run.Posted sum) = Unit {0}
 
 -- the command was answered so
 abbrev pub IsSaid : Command → Reply → State → State → Type 0
-IsSaid told reply before after = Happens batch_size (Said told reply) (tables before) (tables after)
+IsSaid told reply before after = Happens batch_size (Said told reply) (as_tables before) (as_tables after)
 
 -- a fault or a stop came within the command
 abbrev pub IsCut : Command → State → State → Type 0
-IsCut told before after = Happens batch_size (Cut told) (tables before) (tables after)
+IsCut told before after = Happens batch_size (Cut told) (as_tables before) (as_tables after)
 
 -- a recovery was stopped, or answered a fault
 abbrev pub IsTorn : State → State → Type 0
-IsTorn before after = Happens batch_size Torn (tables before) (tables after)
+IsTorn before after = Happens batch_size Torn (as_tables before) (as_tables after)
 
 -- a recovery came to its end
 abbrev pub IsMended : State → State → Type 0
-IsMended before after = Happens batch_size Mended (tables before) (tables after)
+IsMended before after = Happens batch_size Mended (as_tables before) (as_tables after)

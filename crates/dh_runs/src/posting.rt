@@ -5,7 +5,7 @@ ghost use Rattle.sqlite.specs.State.{HasCleanDisk};
 ghost use Rattle.sqlite.specs.Held.{state};
 ghost use Rattle.sqlite_trees.specs.View.{doubt};
 ghost use Rattle.dh_laws.specs.Batches.{IsUnderWay, next_batch};
-ghost use Rattle.dh_laws.specs.StateTables.{AreInOrder};
+ghost use Rattle.dh_laws.specs.StateTables.{IsStateInOrder};
 ghost use Rattle.dh_leases.specs.Plans.{AreNew, FallsInTime, HasItsPart, IsPlanOf, with_batch_rows};
 ghost use Rattle.dh_schema.specs.Faults.{IsFirstFault};
 ghost use Rattle.dh_schema.specs.Store.{Commits, IsReady, IsReadyWith, Leaves, StaysReady, tables};
@@ -35,7 +35,7 @@ fn commit_rows<S: Alter>(
 ) -> Result<(), Error>
     requires autocommit { (state S.Store conn.old).in_transaction ≡ false }
     requires ready { HasCleanDisk (state S.Store conn.old) → IsReady (state S.Store conn.old) }
-    requires order { HasCleanDisk (state S.Store conn.old) → AreInOrder (with_batch_rows rows.now (tables (state S.Store conn.old))) }
+    requires order { HasCleanDisk (state S.Store conn.old) → IsStateInOrder (with_batch_rows rows.now (tables (state S.Store conn.old))) }
     requires new { HasCleanDisk (state S.Store conn.old) → AreNew rows.now.charges.items (tables (state S.Store conn.old)).books.charges }
     requires known { HasCleanDisk (state S.Store conn.old) → HasItsPart rows.now (tables (state S.Store conn.old)) }
     requires in_time { FallsInTime rows.now }
@@ -60,7 +60,7 @@ pub(crate) fn post_rows<S: Alter>(
     rows: &BatchRows,
 ) -> Result<(), StoreFault>
     requires ready { HasCleanDisk (state S.Store conn.old) → IsReady (state S.Store conn.old) }
-    requires order { HasCleanDisk (state S.Store conn.old) → AreInOrder (with_batch_rows rows.now (tables (state S.Store conn.old))) }
+    requires order { HasCleanDisk (state S.Store conn.old) → IsStateInOrder (with_batch_rows rows.now (tables (state S.Store conn.old))) }
     requires new { HasCleanDisk (state S.Store conn.old) → AreNew rows.now.charges.items (tables (state S.Store conn.old)).books.charges }
     requires known { HasCleanDisk (state S.Store conn.old) → HasItsPart rows.now (tables (state S.Store conn.old)) }
     requires in_time { FallsInTime rows.now }

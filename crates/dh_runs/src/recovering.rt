@@ -9,7 +9,7 @@ ghost use Rattle.dh_tables.specs.Calls.{HasOurTables};
 ghost use Rattle.dh_schema.specs.Faults.{IsFirstFault};
 ghost use Rattle.dh_schema.specs.Store.{IsReady, IsReadyWith, Leaves, tables};
 ghost use Rattle.dh_schema.specs.Tables.{IsSound};
-ghost use Rattle.dh_runs.specs.Problems.{IsTurnedAway};
+ghost use Rattle.dh_runs.specs.Problems.{IsNotTaken};
 ghost use Rattle.dh_runs.specs.Taking.{IsFirstProblem, IsProblemOf, IsResting};
 ghost use Rattle.dh_runs.specs.Told.{IsMended, IsTorn};
 
@@ -58,7 +58,7 @@ pub fn recover_in<S: Alter>(alloc: Global, conn: &mut Connection<S>) -> Result<(
         → (left : Trees) → (state S.Store conn.new).may_leave left → left ≡ (state S.Store conn.old).now.trees }
     ensures unchanged { HasCleanDisk (state S.Store conn.new) → IsTrue (state S.Store conn.new).is_open
         → ¬ IsSound (state S.Store conn.old).now.trees → IsResting (state S.Store conn.new) × ((state S.Store conn.new).now ≡ (state S.Store conn.old).now) }
-    ensures others { ¬ HasOurTables (state S.Store conn.old) → IsTurnedAway result × (conn.new ≡ conn.old) }
+    ensures others { ¬ HasOurTables (state S.Store conn.old) → IsNotTaken result × (conn.new ≡ conn.old) }
     ensures was_clean { doubt (state S.Store conn.old).is_clean ≤ doubt (state S.Store conn.new).is_clean }
 {
     check(alloc, conn)?;

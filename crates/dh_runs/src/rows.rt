@@ -9,7 +9,7 @@ ghost use Rattle.dh_days.specs.declared.limits.TheConstants.{LAST_ENTRY_MONTH};
 ghost use Rattle.dh_model.specs.Runs.{charge_key, part_key};
 ghost use Rattle.dh_leases.specs.Plans.{AreNew, FallsInTime, HasItsPart};
 ghost use Rattle.dh_schema.specs.Store.{IsWriting, tables};
-ghost use Rattle.dh_runs.specs.Putting.{Puts, with_charge, with_charges, with_part, with_rows_of};
+ghost use Rattle.dh_runs.specs.Putting.{TurnsBooks, with_charge, with_charges, with_part, with_rows_of};
 
 use dh_leases::BatchRows;
 use dh_tables::{insert, update};
@@ -17,7 +17,7 @@ use dh_types::{Charge, Part};
 use sqlite::{Alter, Error, Transaction};
 use std::alloc::Global;
 
-// Puts a charge that is new.
+// TurnsBooks a charge that is new.
 fn put_charge<S: Alter>(
     alloc: Global,
     tx: &mut Transaction<'_, S>,
@@ -28,12 +28,12 @@ fn put_charge<S: Alter>(
         → get (tables (state S.Store tx.old.conn.now)).books.charges (charge_key charge.now) ≡ None }
     requires in_time { month_of_day charge.now.day ≤ LAST_ENTRY_MONTH }
     ensures same_reference { tx.new.conn.ghost_name ≡ tx.old.conn.ghost_name }
-    ensures puts { Puts (with_charge charge.now) result (state S.Store tx.old.conn.now) (state S.Store tx.new.conn.now) }
+    ensures puts { TurnsBooks (with_charge charge.now) result (state S.Store tx.old.conn.now) (state S.Store tx.new.conn.now) }
 {
     insert(alloc, tx, charge)
 }
 
-// Puts charges that are new, one after the other.
+// TurnsBooks charges that are new, one after the other.
 fn put_charges<S: Alter>(
     alloc: Global,
     tx: &mut Transaction<'_, S>,
@@ -43,7 +43,7 @@ fn put_charges<S: Alter>(
     requires new { HasCleanDisk (state S.Store tx.old.conn.now) → AreNew charges.now (tables (state S.Store tx.old.conn.now)).books.charges }
     requires in_time { All (λ charge. month_of_day charge.day ≤ LAST_ENTRY_MONTH) charges.now }
     ensures same_reference { tx.new.conn.ghost_name ≡ tx.old.conn.ghost_name }
-    ensures puts { Puts (with_charges charges.now) result (state S.Store tx.old.conn.now) (state S.Store tx.new.conn.now) }
+    ensures puts { TurnsBooks (with_charges charges.now) result (state S.Store tx.old.conn.now) (state S.Store tx.new.conn.now) }
 {
     for charge in charges {
         put_charge(alloc, tx, charge)?;
@@ -51,7 +51,7 @@ fn put_charges<S: Alter>(
     Ok(())
 }
 
-// Puts the part row, in the place of the one that the branch has, if it has one.
+// TurnsBooks the part row, in the place of the one that the branch has, if it has one.
 fn put_part<S: Alter>(
     alloc: Global,
     tx: &mut Transaction<'_, S>,
@@ -62,7 +62,7 @@ fn put_part<S: Alter>(
     requires known { HasCleanDisk (state S.Store tx.old.conn.now)
         → has_part ≡ is_some (get (tables (state S.Store tx.old.conn.now)).books.parts (part_key part.now)) }
     ensures same_reference { tx.new.conn.ghost_name ≡ tx.old.conn.ghost_name }
-    ensures puts { Puts (with_part part.now) result (state S.Store tx.old.conn.now) (state S.Store tx.new.conn.now) }
+    ensures puts { TurnsBooks (with_part part.now) result (state S.Store tx.old.conn.now) (state S.Store tx.new.conn.now) }
 {
     if has_part {
         update(alloc, tx, part)
@@ -71,7 +71,7 @@ fn put_part<S: Alter>(
     }
 }
 
-/// Puts the charges, which are new, and the part row, in the place of the one that the branch has, if it has one.
+/// TurnsBooks the charges, which are new, and the part row, in the place of the one that the branch has, if it has one.
 pub(crate) fn put_rows<S: Alter>(
     alloc: Global,
     tx: &mut Transaction<'_, S>,
@@ -82,7 +82,7 @@ pub(crate) fn put_rows<S: Alter>(
     requires known { HasCleanDisk (state S.Store tx.old.conn.now) → HasItsPart rows.now (tables (state S.Store tx.old.conn.now)) }
     requires in_time { FallsInTime rows.now }
     ensures same_reference { tx.new.conn.ghost_name ≡ tx.old.conn.ghost_name }
-    ensures puts { Puts (with_rows_of rows.now) result (state S.Store tx.old.conn.now) (state S.Store tx.new.conn.now) }
+    ensures puts { TurnsBooks (with_rows_of rows.now) result (state S.Store tx.old.conn.now) (state S.Store tx.new.conn.now) }
 {
     put_charges(alloc, tx, &rows.charges)?;
     put_part(alloc, tx, &rows.part, rows.has_part)

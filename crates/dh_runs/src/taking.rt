@@ -10,7 +10,7 @@ ghost use Rattle.dh_model.specs.Runs.{batch_size};
 ghost use Rattle.dh_tables.specs.Calls.{HasOurTables};
 ghost use Rattle.dh_schema.specs.Store.{IsReady};
 ghost use Rattle.dh_schema.specs.Tables.{IsSound};
-ghost use Rattle.dh_runs.specs.Problems.{IsFoundIn, IsTurnedAway};
+ghost use Rattle.dh_runs.specs.Problems.{IsFoundIn, IsNotTaken};
 ghost use Rattle.dh_runs.specs.Taking.{IsFirstProblem, IsOurVersion, IsProblemOf, IsResting};
 
 use crate::problem::Problem;
@@ -30,7 +30,7 @@ fn check_version<S: Alter>(alloc: Global, conn: &mut Connection<S>) -> Result<()
     ensures refused { HasCleanDisk (state S.Store conn.new) → IfErr result (IsProblemOf (state S.Store conn.old).now.trees) }
     ensures cause { IfErr result IsFirstProblem }
     ensures still { HasCleanDisk (state S.Store conn.new) → OnOk result (IsTrue (state S.Store conn.new).is_open) }
-    ensures others { ¬ HasOurTables (state S.Store conn.old) → IsTurnedAway result × (conn.new ≡ conn.old) }
+    ensures others { ¬ HasOurTables (state S.Store conn.old) → IsNotTaken result × (conn.new ≡ conn.old) }
     ensures same { HasCleanDisk (state S.Store conn.new) → IsTrue (state S.Store conn.new).is_open
         → IsResting (state S.Store conn.new) × ((state S.Store conn.new).now ≡ (state S.Store conn.old).now) }
     ensures crash { HasCleanDisk (state S.Store conn.new)
@@ -84,7 +84,7 @@ pub fn check<S: Alter>(alloc: Global, conn: &mut Connection<S>) -> Result<(), Pr
     ensures ready { HasCleanDisk (state S.Store conn.new) → OnOk result (IsReady (state S.Store conn.new)) }
     ensures refused { HasCleanDisk (state S.Store conn.new) → IfErr result (IsProblemOf (state S.Store conn.old).now.trees) }
     ensures cause { IfErr result IsFirstProblem }
-    ensures others { ¬ HasOurTables (state S.Store conn.old) → IsTurnedAway result × (conn.new ≡ conn.old) }
+    ensures others { ¬ HasOurTables (state S.Store conn.old) → IsNotTaken result × (conn.new ≡ conn.old) }
     ensures same { HasCleanDisk (state S.Store conn.new) → IsTrue (state S.Store conn.new).is_open
         → IsResting (state S.Store conn.new) × ((state S.Store conn.new).now ≡ (state S.Store conn.old).now) }
     ensures crash { HasCleanDisk (state S.Store conn.new)

@@ -131,7 +131,7 @@ abbrev pub showing : machine.State → machine.State
 showing s = record s { open_run = run_shown batch_size s.books }
 
 -- tables with the books of a change that leaves books in order are sound, and show the run that is open after it
-pub sound_with_change : (rows : Change) (before : machine.State) (trees : Trees) → office.AreInOrder (with_change rows before) → AreInOrder trees
+pub sound_with_change : (rows : Change) (before : machine.State) (trees : Trees) → office.IsStateInOrder (with_change rows before) → AreInOrder trees
     → books_in trees ≡ changed rows before.books → AreTables (λ t. t ≡ with_change rows before) trees
 sound_with_change rows before trees order in_order is =
     let run : Option OpenRun = run_after before.open_run rows in

@@ -14,7 +14,7 @@ use Rattle.dh_schema.specs.Tables.{IsSound, state_in}
 use Rattle.dh_schema.proofs.Changing.{sound_with_change}
 use Rattle.dh_schema.proofs.Crashing.{survives_committed}
 use Rattle.dh_schema.proofs.Installing.{ready_after}
-use Rattle.dh_store.specs.Putting.{Puts}
+use Rattle.dh_store.specs.Putting.{PutsRows}
 
 -- from ready tables a crash leaves these, or what was committed since
 pub leaves_either : (old new : State) (after : machine.State) → ((left : Trees) → IsTrue old.is_open → old.may_leave left → left ≡ old.committed.trees)
@@ -28,15 +28,15 @@ leaves_either old new after settled ready clean survives left may = elim (surviv
 
 -- a transaction is begun, the rows are put, and it is committed
 module _ {S : Type 0} (g : Ghosts S) (rows : Change) (x : Unit {0}) (old begun last new : Held S) (is : begun ≡ record old { in_transaction = true })
-    (order : HasCleanDisk (state g old) → office.AreInOrder (with_change rows (tables (state g old)))) (puts : Puts rows (Ok x) (state g begun) (state g last))
+    (order : HasCleanDisk (state g old) → office.IsStateInOrder (with_change rows (tables (state g old)))) (puts : PutsRows rows (Ok x) (state g begun) (state g last))
   where
     abbrev After : machine.State → Type 0
     After t = t ≡ with_change rows (tables (state g old))
 
     sound : HasCleanDisk (state g last) → AreTables After (state g last).now.trees
     sound clean =
-        let moved : Puts rows (Ok x) (state g (record old { in_transaction = true })) (state g last) =
-        subst (λ (h : Held S). Puts rows (Ok x) (state g h) (state g last)) is puts in
+        let moved : PutsRows rows (Ok x) (state g (record old { in_transaction = true })) (state g last) =
+        subst (λ (h : Held S). PutsRows rows (Ok x) (state g h) (state g last)) is puts in
         let below : doubt (state g old).is_clean ≤ doubt (state g last).is_clean = moved.crash.clean in
         let done = moved.put clean in
         sound_with_change rows (tables (state g old)) (state g last).now.trees (order (omega (arith, below, clean))) done.0.in_order done.1

@@ -16,7 +16,7 @@ use Rattle.dh_model.specs.Machine.{at_rent, changed, managed, with_comment}
 use Rattle.dh_laws.specs.Looks.{FitsIn}
 use Rattle.dh_catalog.specs.Layout.{our_schema}
 use Rattle.dh_tables.specs.Changes.{Becomes}
-use Rattle.dh_tables.specs.Calls.{Adds, Amends, CommitsNothing, GoesOn, IsUndone}
+use Rattle.dh_tables.specs.Calls.{Adds, Amends, CommitsNothing, StaysInTransaction, IsUndone}
 use Rattle.dh_tables.specs.MetaTable.{SetsNext}
 use Rattle.dh_tables.specs.RunTable.{run_shape}
 use Rattle.dh_tables.proofs.AmendedRecord.{becomes_there}
@@ -26,12 +26,12 @@ use Rattle.dh_schema.specs.Store.{IsWriting, tables}
 use Rattle.dh_schema.specs.Tables.{AreInOrder, loaded_from, records_in}
 use Rattle.dh_schema.proofs.Changing.{books_after, books_with_next, in_order_after, in_order_with_next}
 use Rattle.dh_schema.proofs.Crashing.{survives_both}
-use Rattle.dh_store.specs.Putting.{Puts}
+use Rattle.dh_store.specs.Putting.{PutsRows}
 
 -- ---- what was committed
 
 -- a call that goes on, or is undone, commits nothing
-pub keeps_commit : {X E : Type 0} (r : Result X E) (old new : State) → OnOk r (GoesOn old new) → OnErr r (IsUndone old new) → KeepsCommit old new
+pub keeps_commit : {X E : Type 0} (r : Result X E) (old new : State) → OnOk r (StaysInTransaction old new) → OnErr r (IsUndone old new) → KeepsCommit old new
 keeps_commit (Ok x) old new on undone = record { was_open = λ _. on.was_open; committed = λ _. on.committed_is }
 keeps_commit (Err e) old new on undone = record {
   was_open = λ still. elim (undone still) [ inl same ↦ same.0.was_open | inr back ↦ back.was_open still ];
@@ -54,21 +54,21 @@ module _ (kind : Kind) (records : FinMap (order_of kind) (record_of kind)) (old 
   abbrev pub Means : Change → Type 0
   Means rows = ((shelf_of kind).with (loaded_from old.now.trees) records).books ≡ changed rows (tables old).books
 
-  pub put_in : AreInOrder old.now.trees → GoesOn old new → Turns → IsWriting new
+  pub put_in : AreInOrder old.now.trees → StaysInTransaction old new → Turns → IsWriting new
       × ((tables new).books ≡ ((shelf_of kind).with (loaded_from old.now.trees) records).books)
   put_in order on done = (
     record { is_open = on.is_open; inside = on.mode; schema = done.schema_is; in_order = in_order_after kind records old new done order },
     ap (λ (s : machine.State). s.books) (books_after kind records old new done),
   )
 
-  on_ok : {X E : Type 0} (rows : Change) (r : Result X E) → AreInOrder old.now.trees → Means rows → OnOk r (GoesOn old new) → OnOk r Turns
+  on_ok : {X E : Type 0} (rows : Change) (r : Result X E) → AreInOrder old.now.trees → Means rows → OnOk r (StaysInTransaction old new) → OnOk r Turns
       → OnOk r (IsWriting new × ((tables new).books ≡ changed rows (tables old).books))
   on_ok rows (Ok x) order means on done = let here = put_in order on done in (here.0, here.1 ∙ means)
   on_ok rows (Err e) order means on done = tt
 
   -- a record was added
-  pub added : (rows : Change) (r : Result (Unit {0}) Error) → (HasCleanDisk old → IsWriting old) → Means rows → (HasCleanDisk new → OnOk r (GoesOn old new))
-      → (HasCleanDisk new → OnOk r Turns) → (HasCleanDisk new → OnErr r (IsUndone old new)) → CommitsNothing old new → Puts rows r old new
+  pub added : (rows : Change) (r : Result (Unit {0}) Error) → (HasCleanDisk old → IsWriting old) → Means rows → (HasCleanDisk new → OnOk r (StaysInTransaction old new))
+      → (HasCleanDisk new → OnOk r Turns) → (HasCleanDisk new → OnErr r (IsUndone old new)) → CommitsNothing old new → PutsRows rows r old new
   added rows r writing means on done undone crash = record {
     put = λ clean. on_ok rows r (writing (omega (arith, crash.clean, clean))).in_order means (on clean) (done clean);
     kept = λ clean. keeps_commit r old new (on clean) (undone clean);
@@ -86,7 +86,7 @@ module _ (kind : Kind) (key : key_of kind) (turned : record_of kind → record_o
   abbrev pub IsThere : Change → Type 0
   IsThere rows = (there : Record) × (get held key ≡ Some there) × Means kind (insert held key (turned there)) old new rows
 
-  on_ok_there : {X E : Type 0} (rows : Change) (r : Result X E) → AreInOrder old.now.trees → IsThere rows → OnOk r (GoesOn old new)
+  on_ok_there : {X E : Type 0} (rows : Change) (r : Result X E) → AreInOrder old.now.trees → IsThere rows → OnOk r (StaysInTransaction old new)
       → OnOk r (Amends (shape_of kind) (order_of kind) key turned old new)
       → OnOk r (IsWriting new × ((tables new).books ≡ changed rows (tables old).books))
   on_ok_there rows (Ok x) order it on done =
@@ -96,8 +96,8 @@ module _ (kind : Kind) (key : key_of kind) (turned : record_of kind → record_o
 
   -- a record was changed
   pub amended : (rows : Change) (r : Result (Unit {0}) Error) → (HasCleanDisk old → IsWriting old) → (HasCleanDisk old → IsThere rows)
-      → (HasCleanDisk new → OnOk r (GoesOn old new)) → (HasCleanDisk new → OnOk r (Amends (shape_of kind) (order_of kind) key turned old new))
-      → (HasCleanDisk new → OnErr r (IsUndone old new)) → CommitsNothing old new → Puts rows r old new
+      → (HasCleanDisk new → OnOk r (StaysInTransaction old new)) → (HasCleanDisk new → OnOk r (Amends (shape_of kind) (order_of kind) key turned old new))
+      → (HasCleanDisk new → OnErr r (IsUndone old new)) → CommitsNothing old new → PutsRows rows r old new
   amended rows r writing is_there on done undone crash = record {
     put = λ clean.
         let early : HasCleanDisk old = omega (arith, crash.clean, clean) in
@@ -135,7 +135,7 @@ module _ (run : Run) (old mid new : State) where
   abbrev Opened : Type 0
   Opened = IsWriting new × ((tables new).books ≡ changed (change.Open run) (tables old).books)
 
-  after_both : AreInOrder old.now.trees → GoesOn old mid → Adds run_shape nat_cmp run old mid → GoesOn mid new → SetsNext (run.month + 1) mid new → Opened
+  after_both : AreInOrder old.now.trees → StaysInTransaction old mid → Adds run_shape nat_cmp run old mid → StaysInTransaction mid new → SetsNext (run.month + 1) mid new → Opened
   after_both order on added on_next set =
       let records = insert (records_in Runs old.now.trees) run.month run in
       let first = put_in Runs records old mid order on added in
@@ -150,16 +150,16 @@ module _ (run : Run) (old mid new : State) where
         books_with_next (run.month + 1) mid new in_order set ∙ ap (λ (books : Books). let it : Books = record books { next = run.month + 1 } in it) first.1,
       )
 
-  on_ok_next : {X E : Type 0} (r : Result X E) → AreInOrder old.now.trees → GoesOn old mid → Adds run_shape nat_cmp run old mid → OnOk r (GoesOn mid new)
+  on_ok_next : {X E : Type 0} (r : Result X E) → AreInOrder old.now.trees → StaysInTransaction old mid → Adds run_shape nat_cmp run old mid → OnOk r (StaysInTransaction mid new)
       → OnOk r (SetsNext (run.month + 1) mid new) → OnOk r Opened
   on_ok_next (Ok x) order on added on_next set = after_both order on added on_next set
   on_ok_next (Err e) order on added on_next set = tt
 
   -- the row of the run was put, and then the next month set
-  pub opened : (r : Result (Unit {0}) Error) → (HasCleanDisk old → IsWriting old) → (HasCleanDisk mid → GoesOn old mid)
-      → (HasCleanDisk mid → Adds run_shape nat_cmp run old mid) → CommitsNothing old mid → (HasCleanDisk new → OnOk r (GoesOn mid new))
+  pub opened : (r : Result (Unit {0}) Error) → (HasCleanDisk old → IsWriting old) → (HasCleanDisk mid → StaysInTransaction old mid)
+      → (HasCleanDisk mid → Adds run_shape nat_cmp run old mid) → CommitsNothing old mid → (HasCleanDisk new → OnOk r (StaysInTransaction mid new))
       → (HasCleanDisk new → OnOk r (SetsNext (run.month + 1) mid new)) → (HasCleanDisk new → OnErr r (IsUndone mid new)) → CommitsNothing mid new
-      → Puts (change.Open run) r old new
+      → PutsRows (change.Open run) r old new
   opened r writing on added before on_next set undone after =
       let both = survives_both old mid new before after in
       record {
@@ -176,7 +176,7 @@ module _ (run : Run) (old mid new : State) where
 
 -- nothing is put where a call failed
 pub failed : (rows : Change) (r : Result (Unit {0}) Error) (e : Error) (old new : State) → r ≡ Err e → (HasCleanDisk new → IsUndone old new)
-    → CommitsNothing old new → Puts rows r old new
+    → CommitsNothing old new → PutsRows rows r old new
 failed rows r e old new is undone crash = record {
   put = λ clean. subst (λ (it : Result (Unit {0}) Error). OnOk it (IsWriting new × ((tables new).books ≡ changed rows (tables old).books))) (sym is) tt;
   kept = λ clean. keeps_commit {X = Unit {0}} (Err e) old new tt (undone clean);
@@ -184,7 +184,7 @@ failed rows r e old new is undone crash = record {
 }
 
 -- and nothing where there are no rows
-pub nothing_put : (rows : Change) (s : State) → rows ≡ change.Post → (HasCleanDisk s → IsWriting s) → Puts rows (Ok tt) s s
+pub nothing_put : (rows : Change) (s : State) → rows ≡ change.Post → (HasCleanDisk s → IsWriting s) → PutsRows rows (Ok tt) s s
 nothing_put rows s is writing = record {
   put = λ clean. (writing clean, ap (λ (said : Change). changed said (tables s).books) (sym is));
   kept = λ clean. record { was_open = λ still. still; committed = λ _. refl };

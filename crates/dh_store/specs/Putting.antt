@@ -8,7 +8,7 @@ use Rattle.dh_tables.specs.Calls.{CommitsNothing}
 use Rattle.dh_schema.specs.Store.{IsWriting, tables}
 
 -- At Ok the tables are in order and the books have the rows, and the transaction goes on. Nothing is committed.
-pub record Puts (rows : Change) (result : Result (Unit {0}) Error) (old new : State) : Type 0 where
+pub record PutsRows (rows : Change) (result : Result (Unit {0}) Error) (old new : State) : Type 0 where
   pub put : HasCleanDisk new → OnOk result (IsWriting new × ((tables new).books ≡ changed rows (tables old).books))
   pub kept : HasCleanDisk new → KeepsCommit old new
   pub crash : CommitsNothing old new

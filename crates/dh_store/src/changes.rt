@@ -8,10 +8,10 @@ ghost use Rattle.sqlite.specs.Held.{state};
 ghost use Rattle.dh_days.specs.declared.limits.TheConstants.{LAST_NEXT_MONTH};
 ghost use Rattle.dh_model.specs.declared.rows.Change.TheVariants as change;
 ghost use Rattle.dh_laws.specs.Looks.{FitsIn};
-ghost use Rattle.dh_laws.specs.StateTables.{AreInOrder};
+ghost use Rattle.dh_laws.specs.StateTables.{IsStateInOrder};
 ghost use Rattle.dh_schema.specs.Faults.{IsFirstFault};
 ghost use Rattle.dh_schema.specs.Store.{IsReady, IsWriting, LeavesItsTables, Leaves, Commits, StaysReady, tables, with_change};
-ghost use Rattle.dh_store.specs.Putting.{Puts};
+ghost use Rattle.dh_store.specs.Putting.{PutsRows};
 
 use dh_model::Change;
 use dh_schema::StoreFault;
@@ -28,18 +28,18 @@ fn month_after(run: &Run) -> Month
     run.month.month().next().unwrap()
 }
 
-// Puts the row of a month's run, and moves the next month on.
+// PutsRows the row of a month's run, and moves the next month on.
 fn put_run<S: Alter>(alloc: Global, tx: &mut Transaction<'_, S>, run: &Run) -> Result<(), Error>
     requires writing { HasCleanDisk (state S.Store tx.old.conn.now) → IsWriting (state S.Store tx.old.conn.now) }
     requires fresh { HasCleanDisk (state S.Store tx.old.conn.now) → get (tables (state S.Store tx.old.conn.now)).books.runs run.now.month ≡ None }
     ensures same_reference { tx.new.conn.ghost_name ≡ tx.old.conn.ghost_name }
-    ensures puts { Puts (change.Open run.now) result (state S.Store tx.old.conn.now) (state S.Store tx.new.conn.now) }
+    ensures puts { PutsRows (change.Open run.now) result (state S.Store tx.old.conn.now) (state S.Store tx.new.conn.now) }
 {
     insert(alloc, tx, run)?;
     set_next_month(tx, month_after(run))
 }
 
-// Puts the rows of the change into their tables.
+// PutsRows the rows of the change into their tables.
 fn put_rows<S: Alter>(
     alloc: Global,
     tx: &mut Transaction<'_, S>,
@@ -48,7 +48,7 @@ fn put_rows<S: Alter>(
     requires writing { HasCleanDisk (state S.Store tx.old.conn.now) → IsWriting (state S.Store tx.old.conn.now) }
     requires fits { HasCleanDisk (state S.Store tx.old.conn.now) → FitsIn change.now (tables (state S.Store tx.old.conn.now)).books }
     ensures same_reference { tx.new.conn.ghost_name ≡ tx.old.conn.ghost_name }
-    ensures puts { Puts change.now result (state S.Store tx.old.conn.now) (state S.Store tx.new.conn.now) }
+    ensures puts { PutsRows change.now result (state S.Store tx.old.conn.now) (state S.Store tx.new.conn.now) }
 {
     match change {
         Change::Branch(it) => insert(alloc, tx, it),
@@ -69,7 +69,7 @@ fn put_rows<S: Alter>(
     }
 }
 
-// Puts the rows of the change into their tables and commits them.
+// PutsRows the rows of the change into their tables and commits them.
 fn commit_change<S: Alter>(
     alloc: Global,
     conn: &mut Connection<S>,
@@ -77,7 +77,7 @@ fn commit_change<S: Alter>(
 ) -> Result<(), Error>
     requires autocommit { (state S.Store conn.old).in_transaction ≡ false }
     requires ready { HasCleanDisk (state S.Store conn.old) → IsReady (state S.Store conn.old) }
-    requires order { HasCleanDisk (state S.Store conn.old) → AreInOrder (with_change change.now (tables (state S.Store conn.old))) }
+    requires order { HasCleanDisk (state S.Store conn.old) → IsStateInOrder (with_change change.now (tables (state S.Store conn.old))) }
     requires fits { HasCleanDisk (state S.Store conn.old) → FitsIn change.now (tables (state S.Store conn.old)).books }
     ensures done { HasCleanDisk (state S.Store conn.new)
         → OnOk result (IsReady (state S.Store conn.new) × (tables (state S.Store conn.new) ≡ with_change change.now (tables (state S.Store conn.old)))) }
@@ -91,7 +91,7 @@ fn commit_change<S: Alter>(
     Ok(())
 }
 
-/// Puts exactly the rows of the change into the tables, in one transaction: those of an accepted command, which fit in and
+/// PutsRows exactly the rows of the change into the tables, in one transaction: those of an accepted command, which fit in and
 /// leave books in order. At a fault the tables are these or those before, and while the store is open those before.
 pub fn apply<S: Alter>(
     alloc: Global,
@@ -99,7 +99,7 @@ pub fn apply<S: Alter>(
     change: &Change,
 ) -> Result<(), StoreFault>
     requires ready { HasCleanDisk (state S.Store conn.old) → IsReady (state S.Store conn.old) }
-    requires order { HasCleanDisk (state S.Store conn.old) → AreInOrder (with_change change.now (tables (state S.Store conn.old))) }
+    requires order { HasCleanDisk (state S.Store conn.old) → IsStateInOrder (with_change change.now (tables (state S.Store conn.old))) }
     requires fits { HasCleanDisk (state S.Store conn.old) → FitsIn change.now (tables (state S.Store conn.old)).books }
     ensures done { HasCleanDisk (state S.Store conn.new)
         → OnOk result (IsReady (state S.Store conn.new) × (tables (state S.Store conn.new) ≡ with_change change.now (tables (state S.Store conn.old)))) }

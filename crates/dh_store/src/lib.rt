@@ -9,5 +9,5 @@ mod verdicts;
 
 pub use answers::look_up;
 pub use changes::apply;
-pub use looks::{Kept, find_open_run, look, look_at_all, months_now, no_rows};
+pub use looks::{KeptRecord, find_open_run, look, look_at_all, months_now, no_rows};
 pub use verdicts::ask;

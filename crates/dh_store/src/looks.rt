@@ -3,5 +3,5 @@
 mod looking;
 mod reading;
 
-pub use looking::{Kept, look, look_at_all};
+pub use looking::{KeptRecord, look, look_at_all};
 pub use reading::{find_open_run, months_now, no_rows};

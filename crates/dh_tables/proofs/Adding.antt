@@ -23,7 +23,7 @@ use Rattle.dh_tables.specs.Changes.{Becomes}
 use Rattle.dh_tables.specs.Shape.{AreApart, Shape, IsKept, IsStored, entry_in, rows_in, stored_in}
 use Rattle.dh_tables.specs.Texts.{IsInsertText, IsQuiet}
 use Rattle.dh_tables.proofs.Apart.{apart_with, none_taken}
-use Rattle.dh_tables.proofs.Inserting.{Puts, inserts}
+use Rattle.dh_tables.proofs.Inserting.{PutsRow, inserts}
 use Rattle.dh_tables.proofs.Maps.{from_more}
 use Rattle.dh_tables.proofs.Running.{put_fresh}
 use Rattle.dh_tables.proofs.Staying.{others_stay}
@@ -45,7 +45,7 @@ module _ {K X : Type 0} {R : K → K → Ordering} (o : IsTotalOrder R) (anti : 
   absent k [] h = tt
   absent k (e ∷ es) h = let both = none_of (eq_by_cmp R k e.0) e.1 (find R k es) h in (both.0, absent k es both.1)
 
-  module _ (it : Shape K X) (schema : Schema) (old new : Trees) (kept : IsKept it R old) (row : Row) (x : X) (puts : Puts schema it.tree row old new)
+  module _ (it : Shape K X) (schema : Schema) (old new : Trees) (kept : IsKept it R old) (row : Row) (x : X) (puts : PutsRow schema it.tree row old new)
       (read : stored_in it row ≡ x) (grammar : IsStored it row) (keyed : is_int (rowid row) ≡ true)
       (fresh : get (rows_in it {R = R} old) (it.key x) ≡ None) where
     moved : IsPermutation (row ∷ old it.tree) (new it.tree)
@@ -90,8 +90,8 @@ module _ {K X : Type 0} {R : K → K → Ordering} (o : IsTotalOrder R) (anti : 
       let done = inserts text schema place table terms width params source quiet is old new count has h in
       let row = with_rowid Chosen (was table.tree) source in
       let cast_in = ap (with_rowid Chosen (was table.tree)) back.stays in
-      let there = subst (λ r. Puts schema table.tree r was new.now.trees) cast_in done.1 in
-      let puts = subst (λ t. Puts schema t row was new.now.trees) tree there in
+      let there = subst (λ r. PutsRow schema table.tree r was new.now.trees) cast_in done.1 in
+      let puts = subst (λ t. PutsRow schema t row was new.now.trees) tree there in
       let read : stored_in it row ≡ x = ap it.row_in back.columns ∙ back.record_is in
       let grammar : IsStored it row = ap it.is_row back.columns ∙ back.grammar in
       record {

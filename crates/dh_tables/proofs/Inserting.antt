@@ -24,7 +24,7 @@ use Rattle.dh_tables.specs.Texts.{IsInsertText, IsQuiet}
 use Rattle.dh_tables.proofs.Running.{went, same_value, not_true, and_first, no_count}
 
 -- the tree has this row too, which has a rowid of its own
-pub record Puts (schema : Schema) (tree : ℕ) (row : Row) (old new : Trees) : Type 0 where
+pub record PutsRow (schema : Schema) (tree : ℕ) (row : Row) (old new : Trees) : Type 0 where
   pub fresh : is_taken (old tree) row ≡ false
   pub rows : new tree ≡ put_row row (old tree)
   pub others : AllByRecursion (λ t. t.tree ≢ tree → new t.tree ≡ old t.tree) schema.tables
@@ -33,7 +33,7 @@ module _ (text : List ℕ) (schema : Schema) (at : ℕ) (table : Table) (terms :
     (quiet : IsQuiet schema) (is : IsInsertText text schema at table terms width params source) where
   pub inserts : (old new : State) (count : ℕ) → old.now.schema ≡ schema → Executes text params old new (Ok count)
       → (new.now.schema ≡ schema)
-      × Puts schema table.tree (with_rowid Chosen (old.now.trees table.tree) (cast_row table source)) old.now.trees new.now.trees
+      × PutsRow schema table.tree (with_rowid Chosen (old.now.trees table.tree) (cast_row table source)) old.now.trees new.now.trees
       × IsSound schema new.now.trees
   inserts old new count has h =
       let db = old.now.trees in

@@ -17,7 +17,7 @@ abbrev pub HasOurTables : State → Type 0
 HasOurTables s = s.now.schema ≡ our_schema
 
 -- open, within a transaction, with our tables
-pub record IsWriting (s : State) : Type 0 where
+pub record IsInTransaction (s : State) : Type 0 where
   pub is_open : IsTrue s.is_open
   pub inside : IsTrue s.in_transaction
   pub schema : s.now.schema ≡ our_schema
@@ -31,8 +31,8 @@ abbrev pub CommitsNothing : State → State → Type 0
 CommitsNothing old new = Survives old new (λ _. ⊥)
 
 -- the transaction goes on, and what was committed is as it was
-abbrev pub GoesOn : State → State → Type 0
-GoesOn old new = Shows old new new.now old.committed true
+abbrev pub StaysInTransaction : State → State → Type 0
+StaysInTransaction old new = Shows old new new.now old.committed true
 
 module _ {K X : Type 0} (it : Shape K X) (R : K → K → Ordering) where
   -- no record of the table has the key of this one

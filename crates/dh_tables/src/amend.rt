@@ -11,7 +11,7 @@ ghost use Rattle.dh_catalog.specs.Making.{IsWritingOn};
 ghost use Rattle.dh_tables.specs.Shape.{AreApart, IsKept, rows_in};
 ghost use Rattle.dh_tables.specs.Changes.{Becomes};
 ghost use Rattle.dh_tables.specs.Amendments.{Amending, IsAmending};
-ghost use Rattle.dh_tables.specs.Calls.{Amends, CommitsNothing, GoesOn, IsThere, IsUndone};
+ghost use Rattle.dh_tables.specs.Calls.{Amends, CommitsNothing, StaysInTransaction, IsThere, IsUndone};
 
 use crate::Tabled;
 use sqlite::types::ValueRef;
@@ -65,7 +65,7 @@ pub fn update<A: Amend, S: Alter>(
         → OnOk result (Amends A.Record.shape A.Record.order (A.key change.now) (A.amended change.now)
         (state S.Store tx.old.conn.now) (state S.Store tx.new.conn.now)) }
     ensures shown { HasCleanDisk (state S.Store tx.new.conn.now)
-        → OnOk result (GoesOn (state S.Store tx.old.conn.now) (state S.Store tx.new.conn.now)) }
+        → OnOk result (StaysInTransaction (state S.Store tx.old.conn.now) (state S.Store tx.new.conn.now)) }
     ensures undone { HasCleanDisk (state S.Store tx.new.conn.now)
         → OnErr result (IsUndone (state S.Store tx.old.conn.now) (state S.Store tx.new.conn.now)) }
     ensures crash { CommitsNothing (state S.Store tx.old.conn.now) (state S.Store tx.new.conn.now) }

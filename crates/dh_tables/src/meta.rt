@@ -9,7 +9,7 @@ ghost use Rattle.sqlite.specs.Held.{state};
 ghost use Rattle.dh_days.specs.declared.limits.TheConstants.{FIRST_MONTH, LAST_NEXT_MONTH};
 ghost use Rattle.dh_catalog.specs.Layout.{our_schema};
 ghost use Rattle.dh_catalog.specs.Making.{IsWritingOn};
-ghost use Rattle.dh_tables.specs.Calls.{CommitsNothing, GoesOn, HasOurTables, IsUndone, IsWriting};
+ghost use Rattle.dh_tables.specs.Calls.{CommitsNothing, StaysInTransaction, HasOurTables, IsUndone, IsInTransaction};
 ghost use Rattle.dh_tables.specs.MetaTable.{AreFound, HasItsRow, SetsMonths, SetsNext, meta_rows};
 
 use dh_rows::{Meta, Record};
@@ -28,11 +28,11 @@ pub fn insert_meta<S: Alter>(
     requires writing { HasCleanDisk (state S.Store tx.old.conn.now) → IsWritingOn our_schema (state S.Store tx.old.conn.now) }
     requires empty { HasCleanDisk (state S.Store tx.old.conn.now) → (state S.Store tx.old.conn.now).now.trees 0 ≡ [] }
     ensures same_reference { tx.new.conn.ghost_name ≡ tx.old.conn.ghost_name }
-    ensures writing { HasCleanDisk (state S.Store tx.new.conn.now) → OnOk result (IsWriting (state S.Store tx.new.conn.now)) }
+    ensures writing { HasCleanDisk (state S.Store tx.new.conn.now) → OnOk result (IsInTransaction (state S.Store tx.new.conn.now)) }
     ensures written { HasCleanDisk (state S.Store tx.new.conn.now)
         → OnOk result (SetsMonths months.now (state S.Store tx.old.conn.now) (state S.Store tx.new.conn.now)) }
     ensures shown { HasCleanDisk (state S.Store tx.new.conn.now)
-        → OnOk result (GoesOn (state S.Store tx.old.conn.now) (state S.Store tx.new.conn.now)) }
+        → OnOk result (StaysInTransaction (state S.Store tx.old.conn.now) (state S.Store tx.new.conn.now)) }
     ensures undone { HasCleanDisk (state S.Store tx.new.conn.now)
         → OnErr result (IsUndone (state S.Store tx.old.conn.now) (state S.Store tx.new.conn.now)) }
     ensures crash { CommitsNothing (state S.Store tx.old.conn.now) (state S.Store tx.new.conn.now) }
@@ -96,7 +96,7 @@ pub fn set_next_month<S: Alter>(tx: &mut Transaction<'_, S>, next: Month) -> Res
     ensures set { HasCleanDisk (state S.Store tx.new.conn.now)
         → OnOk result (SetsNext next (state S.Store tx.old.conn.now) (state S.Store tx.new.conn.now)) }
     ensures shown { HasCleanDisk (state S.Store tx.new.conn.now)
-        → OnOk result (GoesOn (state S.Store tx.old.conn.now) (state S.Store tx.new.conn.now)) }
+        → OnOk result (StaysInTransaction (state S.Store tx.old.conn.now) (state S.Store tx.new.conn.now)) }
     ensures undone { HasCleanDisk (state S.Store tx.new.conn.now)
         → OnErr result (IsUndone (state S.Store tx.old.conn.now) (state S.Store tx.new.conn.now)) }
     ensures crash { CommitsNothing (state S.Store tx.old.conn.now) (state S.Store tx.new.conn.now) }

@@ -11,7 +11,7 @@ ghost use Rattle.dh_catalog.specs.Making.{IsWritingOn};
 ghost use Rattle.dh_tables.specs.Shape.{Shape, IsKept, rows_in};
 ghost use Rattle.dh_tables.specs.Changes.{Becomes};
 ghost use Rattle.dh_tables.specs.Tables.{Adding, HasShape, IsAdding, Shelf};
-ghost use Rattle.dh_tables.specs.Calls.{Adds, CommitsNothing, GoesOn, IsNew, IsUndone, IsWriting};
+ghost use Rattle.dh_tables.specs.Calls.{Adds, CommitsNothing, StaysInTransaction, IsNew, IsUndone, IsInTransaction};
 
 use dh_books::Books;
 use dh_rows::Record;
@@ -60,11 +60,11 @@ pub fn insert<R: Tabled, S: Alter>(
     requires fresh { HasCleanDisk (state S.Store tx.old.conn.now) → IsNew R.shape R.order row.now (state S.Store tx.old.conn.now) }
     requires keeps { R.Record.can_keep row.now }
     ensures same_reference { tx.new.conn.ghost_name ≡ tx.old.conn.ghost_name }
-    ensures writing { HasCleanDisk (state S.Store tx.new.conn.now) → OnOk result (IsWriting (state S.Store tx.new.conn.now)) }
+    ensures writing { HasCleanDisk (state S.Store tx.new.conn.now) → OnOk result (IsInTransaction (state S.Store tx.new.conn.now)) }
     ensures added { HasCleanDisk (state S.Store tx.new.conn.now)
         → OnOk result (Adds R.shape R.order row.now (state S.Store tx.old.conn.now) (state S.Store tx.new.conn.now)) }
     ensures shown { HasCleanDisk (state S.Store tx.new.conn.now)
-        → OnOk result (GoesOn (state S.Store tx.old.conn.now) (state S.Store tx.new.conn.now)) }
+        → OnOk result (StaysInTransaction (state S.Store tx.old.conn.now) (state S.Store tx.new.conn.now)) }
     ensures undone { HasCleanDisk (state S.Store tx.new.conn.now)
         → OnErr result (IsUndone (state S.Store tx.old.conn.now) (state S.Store tx.new.conn.now)) }
     ensures crash { CommitsNothing (state S.Store tx.old.conn.now) (state S.Store tx.new.conn.now) }

@@ -14,7 +14,7 @@ use dh_types::{EntryMonth, RunOrder};
 use std::alloc::Global;
 
 /// The first month of an agency in memory where none is given: 2025-01, counted as 12 * year + month - 1.
-const FIRST_MONTH: u32 = 24300;
+const DEFAULT_MONTH: u32 = 24300;
 
 // Why the words ask for no job, where `clap` answers this.
 fn refused(error: Error) -> BadWords
@@ -53,7 +53,9 @@ fn job_of<'a>(alloc: Global, name: &str, values: &ArgMatches<'a>) -> Result<Job<
         }),
         "batch" => Ok(Job::Batch {
             file: options.file,
-            first: options.first.unwrap_or(EntryMonth::of_number(FIRST_MONTH)),
+            first: options
+                .first
+                .unwrap_or(EntryMonth::of_number(DEFAULT_MONTH)),
         }),
         "run" => Ok(Job::Run {
             file: options.file.unwrap(),

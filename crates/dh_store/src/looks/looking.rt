@@ -25,13 +25,13 @@ use sqlite::{Alter, Connection, Error, ErrorCode};
 use std::alloc::Global;
 
 /// A kind of record of which the agency has a table.
-pub trait Kept: Tabled {
+pub trait KeptRecord: Tabled {
     ghost is_kept: { (trees : Trees) → AreInOrder trees → IsKept Self.Tabled.shape Self.Tabled.order trees };
 
     ghost holds: { (trees : Trees) → Self.Tabled.shelf.held (state_in trees) ≡ rows_in Self.Tabled.shape trees };
 }
 
-impl Kept for Branch {
+impl KeptRecord for Branch {
     ghost use Rattle.std.specs.Prelude.{refl};
     ghost use Rattle.dh_schema.specs.Kinds.{Branches};
 
@@ -40,7 +40,7 @@ impl Kept for Branch {
     ghost holds = { λ trees. refl };
 }
 
-impl Kept for Staff {
+impl KeptRecord for Staff {
     ghost use Rattle.std.specs.Prelude.{refl};
     ghost use Rattle.dh_schema.specs.Kinds.{Staff};
 
@@ -49,7 +49,7 @@ impl Kept for Staff {
     ghost holds = { λ trees. refl };
 }
 
-impl Kept for Owner {
+impl KeptRecord for Owner {
     ghost use Rattle.std.specs.Prelude.{refl};
     ghost use Rattle.dh_schema.specs.Kinds.{Owners};
 
@@ -58,7 +58,7 @@ impl Kept for Owner {
     ghost holds = { λ trees. refl };
 }
 
-impl Kept for Property {
+impl KeptRecord for Property {
     ghost use Rattle.std.specs.Prelude.{refl};
     ghost use Rattle.dh_schema.specs.Kinds.{Properties};
 
@@ -67,7 +67,7 @@ impl Kept for Property {
     ghost holds = { λ trees. refl };
 }
 
-impl Kept for Client {
+impl KeptRecord for Client {
     ghost use Rattle.std.specs.Prelude.{refl};
     ghost use Rattle.dh_schema.specs.Kinds.{Clients};
 
@@ -76,7 +76,7 @@ impl Kept for Client {
     ghost holds = { λ trees. refl };
 }
 
-impl Kept for Registration {
+impl KeptRecord for Registration {
     ghost use Rattle.std.specs.Prelude.{refl};
     ghost use Rattle.dh_schema.specs.Kinds.{Registrations};
 
@@ -85,7 +85,7 @@ impl Kept for Registration {
     ghost holds = { λ trees. refl };
 }
 
-impl Kept for Viewing {
+impl KeptRecord for Viewing {
     ghost use Rattle.std.specs.Prelude.{refl};
     ghost use Rattle.dh_schema.specs.Kinds.{Viewings};
 
@@ -94,7 +94,7 @@ impl Kept for Viewing {
     ghost holds = { λ trees. refl };
 }
 
-impl Kept for Inspection {
+impl KeptRecord for Inspection {
     ghost use Rattle.std.specs.Prelude.{refl};
     ghost use Rattle.dh_schema.specs.Kinds.{Inspections};
 
@@ -103,7 +103,7 @@ impl Kept for Inspection {
     ghost holds = { λ trees. refl };
 }
 
-impl Kept for Lease {
+impl KeptRecord for Lease {
     ghost use Rattle.std.specs.Prelude.{refl};
     ghost use Rattle.dh_schema.specs.Kinds.{Leases};
 
@@ -112,7 +112,7 @@ impl Kept for Lease {
     ghost holds = { λ trees. refl };
 }
 
-impl Kept for Charge {
+impl KeptRecord for Charge {
     ghost use Rattle.std.specs.Prelude.{refl};
     ghost use Rattle.dh_schema.specs.Kinds.{Charges};
 
@@ -121,7 +121,7 @@ impl Kept for Charge {
     ghost holds = { λ trees. refl };
 }
 
-impl Kept for Receipt {
+impl KeptRecord for Receipt {
     ghost use Rattle.std.specs.Prelude.{refl};
     ghost use Rattle.dh_schema.specs.Kinds.{Receipts};
 
@@ -130,7 +130,7 @@ impl Kept for Receipt {
     ghost holds = { λ trees. refl };
 }
 
-impl Kept for Run {
+impl KeptRecord for Run {
     ghost use Rattle.std.specs.Prelude.{refl};
     ghost use Rattle.dh_schema.specs.Kinds.{Runs};
 
@@ -139,7 +139,7 @@ impl Kept for Run {
     ghost holds = { λ trees. refl };
 }
 
-impl Kept for Part {
+impl KeptRecord for Part {
     ghost use Rattle.std.specs.Prelude.{refl};
     ghost use Rattle.dh_schema.specs.Kinds.{Parts};
 
@@ -157,7 +157,7 @@ pub fn look<L: Look, S: Alter>(
     books: &mut Books,
 ) -> Result<(), StoreFault>
 where
-    L::Record: Kept,
+    L::Record: KeptRecord,
     requires { HasCleanDisk (state S.Store conn.old) → IsReady (state S.Store conn.old) }
     ensures first { (t b : State) → AreBoth t b (state S.Store conn.old) books.old → L.Record.shelf.held b ≡ fin.empty
         → OnOk result (AreBoth t (L.Record.shelf.with b (rows_where (L.asks question.now) (L.Record.shelf.held t))) (state S.Store conn.new) books.new) }

@@ -2,7 +2,7 @@ use Rattle.std.proofs.Common.{◌≡◌, ◌∙◌, Ok, ap, false, refl, subst}
 use Rattle.dh_types.specs.Reports.{report_of}
 use Rattle.dh_model.specs.Books.{State}
 use Rattle.dh_model.specs.Runs.{batch_size}
-use Rattle.dh_laws.specs.StateTables.{AreInOrder}
+use Rattle.dh_laws.specs.StateTables.{IsStateInOrder}
 use Rattle.dh_fields.specs.declared.request.Request.TheVariants as request
 use Rattle.dh_agency.specs.Agency.{machine, stand_of}
 use Rattle.dh_agency.proofs.Standing.{cut_or_stopped, reads_in_order, report_stands}
@@ -18,7 +18,7 @@ returns-in-Ok-clause-serves g c clean =
     let it = asked.Fields (Ok (request.Question c.args.question.now)) in
     let did = c.in-Ok.ensures in
     let same = did.same clean in
-    let in_order = subst (λ (s : State). AreInOrder s) same (reads_in_order g.S.Store new (did.left clean)) in
+    let in_order = subst (λ (s : State). IsStateInOrder s) same (reads_in_order g.S.Store new (did.left clean)) in
     let shown = did.said clean
     ∙ report_stands (c.answers_pass_the_run.ensures batch_size) c.open_runs_refuse_put_off.ensures (machine g.S.Store old) c.args.question.now in_order in
     serves_told g.S.Store old new _ _ (λ x. x ≡ it) it refl false (report_answer (report_of c.in-Ok.answer)) c.put_shown-outcome.result c.told.result

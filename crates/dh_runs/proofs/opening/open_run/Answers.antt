@@ -7,7 +7,7 @@ use Rattle.dh_model.specs.declared.rows.Change.TheVariants as change
 use Rattle.dh_model.specs.Runs.{batch_size}
 use Rattle.dh_model.specs.Verdicts.{opened_run}
 use Rattle.dh_laws.specs.InOrder.{IsInOrder}
-use Rattle.dh_laws.specs.StateTables.{AreInOrder}
+use Rattle.dh_laws.specs.StateTables.{IsStateInOrder}
 use Rattle.dh_laws.proofs.Carrying.{opened_in_order}
 use Rattle.dh_schema.specs.Store.{tables, with_change}
 use Rattle.dh_runs.proofs.ClosedRun.{ready_in_order}
@@ -18,7 +18,7 @@ apply-requires-clause-order g c was =
     let old = state g.S.Store c.args.conn.now in
     let order = c.args.order.now in
     let row : ℕ → Run = λ total. record { month = order.month; key = order.key; count = 0; total = total; is_closed = false } in
-    subst (λ (total : ℕ). AreInOrder (with_change (change.Open (row total)) (tables old))) (sym c.of_pence.ensures)
+    subst (λ (total : ℕ). IsStateInOrder (with_change (change.Open (row total)) (tables old))) (sym c.of_pence.ensures)
     (opened_in_order (tables old) order (c.requires.none was) (ready_in_order old (c.requires.ready was)) (c.requires.verdict was))
 
 pub apply-requires-clause-fits : goal.apply-requires-clause-fits

@@ -8,7 +8,7 @@ use Rattle.dh_types.specs.declared.lease.Charge.{Charge}
 use Rattle.dh_model.specs.Books.{Books}
 use Rattle.dh_model.specs.Runs.{charge_key}
 use Rattle.dh_schema.specs.Store.{tables}
-use Rattle.dh_runs.specs.Putting.{Puts, with_charge, with_charges}
+use Rattle.dh_runs.specs.Putting.{TurnsBooks, with_charge, with_charges}
 use Rattle.dh_runs.proofs.EachCharge.{is_new, with_all, with_each, with_each_more}
 use Rattle.dh_runs.proofs.Putting.{nothing_put, puts_both, puts_none}
 use Rattle.dh_runs.proofs.rows.put_charges.Goals as goal
@@ -46,7 +46,7 @@ loop-charge-preserved g c =
     ∙ ap (λ (rest : List Charge). with_each rest books) (sym last)) i in
     record {
       same_reference = c.put_charge.ensures.same_reference ∙ c.loop-charge.invariant.same_reference;
-      puts = subst (λ (turned : Books → Books). Puts turned (Ok tt) old new) next more;
+      puts = subst (λ (turned : Books → Books). TurnsBooks turned (Ok tt) old new) next more;
     }
 
 pub returns-in_err-put_charge-clause-same_reference : goal.returns-in_err-put_charge-clause-same_reference
@@ -70,7 +70,7 @@ returns-clause-puts g c =
     let old = state g.S.Store c.args.tx.now.conn.now in
     let new = state g.S.Store c.loop-charge.tx.conn.now in
     let every : take c.loop-charge.charge-index charges ≡ charges = take_all c.loop-charge.charge-index charges (omega arith) in
-    let puts = subst (λ (some : List Charge). Puts (with_each some) (Ok tt) old new) every c.loop-charge.invariant.puts in
+    let puts = subst (λ (some : List Charge). TurnsBooks (with_each some) (Ok tt) old new) every c.loop-charge.invariant.puts in
     record {
       put = λ clean.
           let early : HasCleanDisk old = omega (arith, puts.crash.clean, clean) in

@@ -1,11 +1,11 @@
 use Rattle.std.proofs.Common.{◌≡◌, take, Ok}
 use Rattle.sqlite.specs.Held.{state}
-use Rattle.dh_runs.specs.Putting.{Puts}
+use Rattle.dh_runs.specs.Putting.{TurnsBooks}
 use Rattle.dh_runs.proofs.EachCharge.{with_each}
 use Rattle.dh_runs.proofs.rows.put_charges.Given as goal
 
 abbrev pub invariant-loop-charge : goal.invariant-loop-charge
 invariant-loop-charge g l = record {
   same_reference : l.tx.conn.ghost_name ≡ l.fn.tx.conn.ghost_name;
-  puts : Puts (with_each (take l.charge-index l.charges)) (Ok tt) (state g.S.Store l.fn.tx.conn.now) (state g.S.Store l.tx.conn.now);
+  puts : TurnsBooks (with_each (take l.charge-index l.charges)) (Ok tt) (state g.S.Store l.fn.tx.conn.now) (state g.S.Store l.tx.conn.now);
 }

@@ -6,7 +6,7 @@ use Rattle.sqlite.specs.Held.{state}
 use Rattle.dh_types.specs.declared.lease.Charge.{Charge}
 use Rattle.dh_model.specs.Books.{Books}
 use Rattle.dh_model.specs.Runs.{part_key}
-use Rattle.dh_runs.specs.Putting.{Puts, with_charges, with_part, with_rows_of}
+use Rattle.dh_runs.specs.Putting.{TurnsBooks, with_charges, with_part, with_rows_of}
 use Rattle.dh_runs.proofs.Putting.{puts_both, puts_none}
 use Rattle.dh_runs.proofs.rows.put_rows.Goals as goal
 
@@ -27,6 +27,6 @@ returns-clause-puts g c =
     let rows = c.args.rows.now in
     let old = state g.S.Store c.args.tx.now.conn.now in
     let mid = state g.S.Store c.put_charges.new.tx.conn.now in
-    let first = subst (λ (charges : List Charge). Puts (with_charges charges) (Ok tt) old mid) c.deref.ensures.value c.in_ok-put_charges.ensures.puts in
+    let first = subst (λ (charges : List Charge). TurnsBooks (with_charges charges) (Ok tt) old mid) c.deref.ensures.value c.in_ok-put_charges.ensures.puts in
     puts_both (with_charges rows.charges.items) (with_part rows.part) old mid (state g.S.Store c.put_part.new.tx.conn.now) c.put_part.result first
     c.put_part.ensures.puts

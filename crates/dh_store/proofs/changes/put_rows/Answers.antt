@@ -5,7 +5,7 @@ use Rattle.dh_model.specs.Machine.{changed}
 use Rattle.dh_laws.specs.Looks.{FitsIn}
 use Rattle.dh_schema.specs.Kinds.{Branches, Staff, Owners, Properties, Clients, Registrations, Viewings, Inspections, Leases, Receipts}
 use Rattle.dh_schema.specs.Store.{tables}
-use Rattle.dh_store.specs.Putting.{Puts}
+use Rattle.dh_store.specs.Putting.{PutsRows}
 use Rattle.dh_store.proofs.Putting.{added, amended, at_rent_there, comment_there, managed_there, nothing_put}
 use Rattle.dh_store.proofs.changes.put_rows.Goals as goal
 
@@ -222,7 +222,7 @@ pub returns-in-Open-clause-puts : goal.returns-in-Open-clause-puts
 returns-in-Open-clause-puts g c =
     let old = state g.S.Store c.args.tx.now.conn.now in
     let new = state g.S.Store c.put_run.new.tx.conn.now in
-    subst (λ (rows : Change). Puts rows c.put_run.result old new) (sym c.in-Open.is) c.put_run.ensures.puts
+    subst (λ (rows : Change). PutsRows rows c.put_run.result old new) (sym c.in-Open.is) c.put_run.ensures.puts
 
 pub returns-in-Post-clause-puts : goal.returns-in-Post-clause-puts
 returns-in-Post-clause-puts g c = nothing_put c.args.change.now (state g.S.Store c.args.tx.now.conn.now) c.in-Post.is c.requires.writing
