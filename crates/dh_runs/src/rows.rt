@@ -17,7 +17,7 @@ use dh_types::{Charge, Part};
 use sqlite::{Alter, Error, Transaction};
 use std::alloc::Global;
 
-// TurnsBooks a charge that is new.
+// Puts a charge that is new.
 fn put_charge<S: Alter>(
     alloc: Global,
     tx: &mut Transaction<'_, S>,
@@ -33,7 +33,7 @@ fn put_charge<S: Alter>(
     insert(alloc, tx, charge)
 }
 
-// TurnsBooks charges that are new, one after the other.
+// Puts charges that are new, one after the other.
 fn put_charges<S: Alter>(
     alloc: Global,
     tx: &mut Transaction<'_, S>,
@@ -51,7 +51,7 @@ fn put_charges<S: Alter>(
     Ok(())
 }
 
-// TurnsBooks the part row, in the place of the one that the branch has, if it has one.
+// Puts the part row, in the place of the one that the branch has, if it has one.
 fn put_part<S: Alter>(
     alloc: Global,
     tx: &mut Transaction<'_, S>,
@@ -71,7 +71,7 @@ fn put_part<S: Alter>(
     }
 }
 
-/// TurnsBooks the charges, which are new, and the part row, in the place of the one that the branch has, if it has one.
+/// Puts the charges, which are new, and the part row, in the place of the one that the branch has, if it has one.
 pub(crate) fn put_rows<S: Alter>(
     alloc: Global,
     tx: &mut Transaction<'_, S>,

@@ -28,7 +28,7 @@ fn month_after(run: &Run) -> Month
     run.month.month().next().unwrap()
 }
 
-// PutsRows the row of a month's run, and moves the next month on.
+// Puts the row of a month's run, and moves the next month on.
 fn put_run<S: Alter>(alloc: Global, tx: &mut Transaction<'_, S>, run: &Run) -> Result<(), Error>
     requires writing { HasCleanDisk (state S.Store tx.old.conn.now) → IsWriting (state S.Store tx.old.conn.now) }
     requires fresh { HasCleanDisk (state S.Store tx.old.conn.now) → get (tables (state S.Store tx.old.conn.now)).books.runs run.now.month ≡ None }
@@ -39,7 +39,7 @@ fn put_run<S: Alter>(alloc: Global, tx: &mut Transaction<'_, S>, run: &Run) -> R
     set_next_month(tx, month_after(run))
 }
 
-// PutsRows the rows of the change into their tables.
+// Puts the rows of the change into their tables.
 fn put_rows<S: Alter>(
     alloc: Global,
     tx: &mut Transaction<'_, S>,
@@ -69,7 +69,7 @@ fn put_rows<S: Alter>(
     }
 }
 
-// PutsRows the rows of the change into their tables and commits them.
+// Puts the rows of the change into their tables and commits them.
 fn commit_change<S: Alter>(
     alloc: Global,
     conn: &mut Connection<S>,
@@ -91,7 +91,7 @@ fn commit_change<S: Alter>(
     Ok(())
 }
 
-/// PutsRows exactly the rows of the change into the tables, in one transaction: those of an accepted command, which fit in and
+/// Puts exactly the rows of the change into the tables, in one transaction: those of an accepted command, which fit in and
 /// leave books in order. At a fault the tables are these or those before, and while the store is open those before.
 pub fn apply<S: Alter>(
     alloc: Global,
