@@ -17,8 +17,8 @@ pub mod Writing
 pub mod Updating
 pub mod Changing
 pub mod OwnKey
-pub mod Listing
-pub mod Last
+pub mod WholeTable
+pub mod LastRow
 pub mod Quiet
 pub mod Undone
 pub mod Numbers

@@ -17,7 +17,7 @@ use Rattle.dh_catalog.specs.Layout.{our_schema}
 use Rattle.dh_catalog.specs.MetaTable.{meta}
 use Rattle.dh_tables.proofs.Casting.{cast_int, cast_null}
 use Rattle.dh_tables.proofs.Inserting.{inserts}
-use Rattle.dh_tables.proofs.Listing.{shows_all}
+use Rattle.dh_tables.proofs.WholeTable.{shows_all}
 use Rattle.dh_tables.proofs.Staying.{others_stay}
 use Rattle.dh_tables.specs.Tables.{own_rowid}
 use Rattle.dh_tables.specs.MetaTable.{AreFound, AreMonths, SetsMonths, meta_columns, meta_rows}

@@ -25,7 +25,7 @@ use Rattle.sqlite.proofs.Callers.{reads_as}
 use Rattle.dh_tables.specs.Queries.{downwards, last_query, shows}
 use Rattle.dh_tables.specs.Shape.{IsGreatest, IsStored, Shape, number_at, stored_in}
 use Rattle.dh_tables.specs.Texts.{IsLastText}
-use Rattle.dh_tables.proofs.Listing.{no_tests}
+use Rattle.dh_tables.proofs.WholeTable.{no_tests}
 use Rattle.dh_tables.proofs.Lists.{all_from_has, all_of, has_all}
 use Rattle.dh_tables.proofs.Reading.{found, matched}
 
