@@ -1,11 +1,11 @@
 -- The next batch of an open run, and its end.
-use Rattle.dh_model.specs.declared.rows.Change.{Change}
-use Rattle.dh_model.specs.declared.rows.Change.TheVariants as change
-use Rattle.std.specs.Prelude.{Bool, true, false, ◌≡◌, ℕ, ◌+◌, nat_lt, if◌then◌else◌, Option, Some, None}
-use Rattle.std.specs.FinMap.{get}
 use Rattle.dh_types.specs.declared.command.Command.TheVariants as command
 use Rattle.dh_types.specs.declared.reply.Progress.{Progress}
+use Rattle.std.specs.Prelude.{Bool, true, false, ◌≡◌, ℕ, ◌+◌, nat_lt, if◌then◌else◌, Option, Some, None}
+use Rattle.std.specs.FinMap.{get}
 use Rattle.dh_types.specs.declared.run.RunSum.{RunSum}
+use Rattle.dh_model.specs.declared.rows.Change.{Change}
+use Rattle.dh_model.specs.declared.rows.Change.TheVariants as change
 use Rattle.dh_model.specs.declared.open_run.OpenRun.{OpenRun}
 use Rattle.dh_model.specs.Books.{Books, State}
 use Rattle.dh_model.specs.Machine.{posted_sum}

@@ -20,13 +20,13 @@ use Rattle.dh_schema.specs.Faults.{IsFirstFault}
 use Rattle.dh_agency.specs.Seat.{Seat}
 use Rattle.dh_agency.specs.Agency.{IsOpen, LeavesItsTables, machine, stand, stand_of}
 use Rattle.dh_agency.proofs.Standing.{reads_in_order, report_stands}
-use Rattle.dh_lines.specs.declared.outcome.Halt.{Halt}
-use Rattle.dh_lines.specs.declared.outcome.Halt.TheVariants as halt
-use Rattle.dh_reports.specs.Columns.{newline}
-use Rattle.dh_lines.specs.Session.{Answered, fault_line, numbered, replied, reported, reported_text}
-use Rattle.dh_lines.specs.Batch.{Answers, HaltsByFault, IsFirst, IsStoreFault, OnlyOfRequests, TellsFault, batch_fault}
 use Rattle.dh_fields.specs.declared.request.Request.{Request}
 use Rattle.dh_fields.specs.Lines.{Fields, request_of}
+use Rattle.dh_reports.specs.Columns.{newline}
+use Rattle.dh_lines.specs.declared.outcome.Halt.{Halt}
+use Rattle.dh_lines.specs.declared.outcome.Halt.TheVariants as halt
+use Rattle.dh_lines.specs.Session.{Answered, fault_line, numbered, replied, reported, reported_text}
+use Rattle.dh_lines.specs.Batch.{Answers, HaltsByFault, IsFirst, IsStoreFault, OnlyOfRequests, TellsFault, batch_fault}
 
 -- a fault that was told
 pub fault_first : (a b : Option (List ℕ)) (n : ℕ) (fault : Fault) (h : Halt) → TellsFault a b n fault h → IsFirstFault fault → IsFirst (batch_fault h)

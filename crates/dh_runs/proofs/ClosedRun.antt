@@ -23,7 +23,7 @@ use Rattle.dh_laws.specs.StateTables as office
 use Rattle.dh_laws.proofs.MovingBatches.{at_the_end}
 use Rattle.dh_laws.proofs.PostClosing.{closing_makes_whole}
 use Rattle.dh_laws.proofs.PostWhole.{is_open}
-use Rattle.dh_tables.specs.Shape.{AreApart, IsKept}
+use Rattle.dh_sql.specs.Shape.{AreApart, IsKept}
 use Rattle.dh_tables.specs.Calls as calls
 use Rattle.dh_tables.specs.Calls.{Amends, CommitsNothing, StaysInTransaction}
 use Rattle.dh_tables.specs.RunTable.{run_shape}

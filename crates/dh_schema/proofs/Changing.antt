@@ -19,8 +19,8 @@ use Rattle.dh_laws.proofs.ShownRun.{run_shown_is_reckoned}
 use Rattle.dh_rows.specs.Months.{Months}
 use Rattle.dh_catalog.specs.Layout.{our_schema}
 use Rattle.dh_catalog.specs.MetaTable.{meta}
-use Rattle.dh_tables.specs.Changes.{Becomes, IsSame}
-use Rattle.dh_tables.proofs.Staying.{same_beside}
+use Rattle.dh_sql.specs.Changes.{Becomes, IsSame}
+use Rattle.dh_sql.proofs.Staying.{same_beside}
 use Rattle.dh_tables.specs.MetaTable.{AreMonths, SetsMonths, SetsNext, meta_columns}
 use Rattle.dh_schema.specs.Kinds.{Kind, order_of, record_of, shape_of, shelf_of}
 use Rattle.dh_schema.specs.Kinds.{Branches, Staff, Owners, Properties, Clients, Registrations, Viewings, Inspections, Leases, Charges, Receipts, Runs, Parts}

@@ -18,8 +18,8 @@ use Rattle.dh_laws.proofs.EmptyBooks.{empty_books_are_in_order}
 use Rattle.dh_rows.specs.Months.{Months}
 use Rattle.dh_catalog.specs.Layout.{our_schema, our_tables}
 use Rattle.dh_catalog.specs.Making.{AreEmpty}
-use Rattle.dh_tables.specs.Shape.{AreApart, IsKept, Shape, entry_in, rows_in}
-use Rattle.dh_tables.proofs.Lists.{all_at}
+use Rattle.dh_sql.specs.Shape.{AreApart, IsKept, Shape, entry_in, rows_in}
+use Rattle.dh_sql.proofs.Lists.{all_at}
 use Rattle.dh_tables.specs.MetaTable.{SetsMonths}
 use Rattle.dh_schema.specs.Kinds.{Kind, order_of, shape_of}
 use Rattle.dh_schema.specs.Tables.{AreInOrder, empty_over, loaded_from, months_of, state_in}

@@ -4,7 +4,7 @@ use Rattle.sqlite_trees.specs.Tree.{Trees}
 use Rattle.dh_model.specs.Runs.{batch_size}
 use Rattle.dh_laws.specs.InOrder.{StandUnder}
 use Rattle.dh_laws.proofs.ShownRun.{sound_books_show}
-use Rattle.dh_tables.proofs.Found.{keyed_rows}
+use Rattle.dh_sql.proofs.Found.{keyed_rows}
 use Rattle.dh_schema.specs.Kinds.{Kind, shape_of}
 use Rattle.dh_schema.specs.Kinds.{Branches, Staff, Owners, Properties, Clients, Registrations, Viewings, Inspections, Leases, Charges, Receipts, Runs, Parts}
 use Rattle.dh_schema.specs.Tables.{books_in, records_in}

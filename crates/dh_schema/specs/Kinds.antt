@@ -16,7 +16,7 @@ use Rattle.dh_types.specs.declared.lease.Receipt.{Receipt}
 use Rattle.dh_types.specs.declared.run.Run.{Run}
 use Rattle.dh_types.specs.declared.run.Part.{Part}
 use Rattle.dh_model.specs.Books.{pair_cmp, text_cmp}
-use Rattle.dh_tables.specs.Shape.{Shape}
+use Rattle.dh_sql.specs.Shape.{Shape}
 use Rattle.dh_tables.specs.Tables.{Shelf}
 use Rattle.dh_tables.specs.BranchTable.{branch_shape, branch_shelf}
 use Rattle.dh_tables.specs.StaffTable.{staff_shape, staff_shelf}

@@ -14,7 +14,7 @@ use Rattle.dh_laws.specs.Events.{Tables}
 use Rattle.dh_rows.specs.Months.{Months}
 use Rattle.dh_rows.specs.MetaRows.{months_in}
 use Rattle.dh_catalog.specs.Layout.{our_schema}
-use Rattle.dh_tables.specs.Shape.{AreApart, IsKept, IsStored, rows_in}
+use Rattle.dh_sql.specs.Shape.{AreApart, IsKept, IsStored, rows_in}
 use Rattle.dh_tables.specs.MetaTable.{HasMonths, meta_rows}
 use Rattle.dh_schema.specs.Kinds.{Kind, order_of, record_of, shape_of}
 use Rattle.dh_schema.specs.Kinds.{Branches, Staff, Owners, Properties, Clients, Registrations, Viewings, Inspections, Leases, Charges, Receipts, Runs, Parts}

@@ -5,7 +5,7 @@ ghost use Rattle.std.specs.List.{AllByRecursion};
 ghost use Rattle.std.specs.FinMap as fin;
 ghost use Rattle.sqlite.specs.State.{HasCleanDisk};
 ghost use Rattle.sqlite.specs.Held.{state};
-ghost use Rattle.dh_tables.specs.Shape.{IsStored};
+ghost use Rattle.dh_sql.specs.Shape.{IsStored};
 ghost use Rattle.dh_tables.specs.Calls.{HasOurTables};
 ghost use Rattle.dh_tables.specs.Listing.{IsLoaded};
 ghost use Rattle.dh_schema.specs.LoadFaults.{told_as};

@@ -15,7 +15,7 @@ use Rattle.dh_model.specs.Books as machine
 use Rattle.dh_model.specs.Machine.{at_rent, changed, managed, with_comment}
 use Rattle.dh_laws.specs.Looks.{FitsIn}
 use Rattle.dh_catalog.specs.Layout.{our_schema}
-use Rattle.dh_tables.specs.Changes.{Becomes}
+use Rattle.dh_sql.specs.Changes.{Becomes}
 use Rattle.dh_tables.specs.Calls.{Adds, Amends, CommitsNothing, StaysInTransaction, IsUndone}
 use Rattle.dh_tables.specs.MetaTable.{SetsNext}
 use Rattle.dh_tables.specs.RunTable.{run_shape}

@@ -8,7 +8,7 @@ use Rattle.dh_model.specs.Books.{State}
 use Rattle.dh_model.specs.Whole.{rows_where}
 use Rattle.dh_model.proofs.MapRows.{kept_if}
 use Rattle.dh_laws.proofs.MapMerges.{get-rows_where}
-use Rattle.dh_tables.specs.Shape.{Shape, rows_in}
+use Rattle.dh_sql.specs.Shape.{Shape, rows_in}
 use Rattle.dh_tables.specs.Tables.{Shelf}
 use Rattle.dh_schema.specs.Tables.{state_in}
 

@@ -5,8 +5,8 @@ use Rattle.std.specs.FinMap.{get, insert}
 use Rattle.sqlite.specs.State.{State}
 use Rattle.dh_model.proofs.MapRows.{inside}
 use Rattle.dh_catalog.specs.Layout.{our_schema}
-use Rattle.dh_tables.specs.Changes.{Becomes}
-use Rattle.dh_tables.specs.Shape.{Shape, rows_in}
+use Rattle.dh_sql.specs.Changes.{Becomes}
+use Rattle.dh_sql.specs.Shape.{Shape, rows_in}
 use Rattle.dh_tables.specs.Calls.{Amends}
 
 module _ {K X : Type 0} (it : Shape K X) (R : K → K → Ordering) (key : K) (amended : X → X) (old new : State) where

@@ -5,7 +5,7 @@ use Rattle.std.specs.Prelude.{◌&&◌, nat_eq}
 use Rattle.dh_types.specs.Laws.{TellsApart}
 use Rattle.dh_types.proofs.SameValues.{numbers, texts}
 use Rattle.dh_model.specs.Checks.{is_same_text}
-use Rattle.dh_tables.specs.Shape.{Shape}
+use Rattle.dh_sql.specs.Shape.{Shape}
 use Rattle.dh_tables.specs.Questions.{AsksFor}
 
 by_one : {K X : Type 0} (is_same : K → K → Bool) → TellsApart is_same → (it : Shape K X) (key : K) → AsksFor it (λ x. is_same (it.key x) key) key

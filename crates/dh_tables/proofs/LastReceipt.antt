@@ -20,10 +20,10 @@ use Rattle.dh_model.proofs.KeyOrders.{nat_ties, nat_total}
 use Rattle.dh_model.proofs.MapRows.{found_entry, get_new}
 use Rattle.dh_laws.specs.Looks.{IsLast}
 use Rattle.dh_catalog.specs.Layout.{our_schema}
-use Rattle.dh_tables.specs.Shape.{IsGreatest, IsKept, IsStored, entry_in, number_at, rows_in, rows_of, stored_in}
-use Rattle.dh_tables.specs.Texts.{IsLastText}
-use Rattle.dh_tables.proofs.Casting.{pass_each}
-use Rattle.dh_tables.proofs.Lists.{has_all, has_among, none_with}
+use Rattle.dh_sql.specs.Shape.{IsGreatest, IsKept, IsStored, entry_in, number_at, rows_in, rows_of, stored_in}
+use Rattle.dh_sql.specs.Texts.{IsLastText}
+use Rattle.dh_sql.proofs.Casting.{pass_each}
+use Rattle.dh_sql.proofs.Lists.{has_all, has_among, none_with}
 use Rattle.dh_tables.specs.Cells.{is_number}
 use Rattle.dh_tables.specs.Questions.{only_record}
 use Rattle.dh_tables.specs.ReceiptTable.{receipt_cells, receipt_columns, receipt_names, receipt_project, receipt_shape}

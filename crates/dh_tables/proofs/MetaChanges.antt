@@ -15,10 +15,10 @@ use Rattle.dh_rows.specs.Months.{Months}
 use Rattle.dh_rows.specs.MetaRows.{meta_row, is_meta_row}
 use Rattle.dh_catalog.specs.Layout.{our_schema}
 use Rattle.dh_catalog.specs.MetaTable.{meta}
-use Rattle.dh_tables.proofs.Casting.{cast_int, cast_null}
-use Rattle.dh_tables.proofs.Inserting.{inserts}
-use Rattle.dh_tables.proofs.WholeTable.{shows_all}
-use Rattle.dh_tables.proofs.Staying.{others_stay}
+use Rattle.dh_sql.proofs.Casting.{cast_int, cast_null}
+use Rattle.dh_sql.proofs.Inserting.{inserts}
+use Rattle.dh_sql.proofs.WholeTable.{shows_all}
+use Rattle.dh_sql.proofs.Staying.{others_stay}
 use Rattle.dh_tables.specs.Tables.{own_rowid}
 use Rattle.dh_tables.specs.MetaTable.{AreFound, AreMonths, SetsMonths, meta_columns, meta_rows}
 use Rattle.dh_tables.proofs.MetaTexts.{meta_inserts, meta_inserts_is, meta_names, meta_project, meta_shown, meta_shown_is, meta_terms}

@@ -20,12 +20,12 @@ use Rattle.dh_rows.specs.Months.{Months}
 use Rattle.dh_rows.specs.MetaRows.{meta_row, is_meta_row, months_in}
 use Rattle.dh_catalog.specs.Layout.{our_schema}
 use Rattle.dh_catalog.specs.MetaTable.{meta}
-use Rattle.dh_tables.specs.CellTests.{AreCells, Cell}
-use Rattle.dh_tables.specs.Changes.{Becomes, IsTurnedInto}
-use Rattle.dh_tables.specs.Queries.{passes_all, shows}
-use Rattle.dh_tables.specs.Shape.{AreApart, IsKept, IsStored, Shape, entry_in, rows_in, stored_in}
-use Rattle.dh_tables.proofs.Casting.{cast_rowid, pass_all, pass_each, row_stays}
-use Rattle.dh_tables.proofs.Changing.{amends}
+use Rattle.dh_sql.specs.CellTests.{AreCells, Cell}
+use Rattle.dh_sql.specs.Changes.{Becomes, IsTurnedInto}
+use Rattle.dh_sql.specs.Queries.{passes_all, shows}
+use Rattle.dh_sql.specs.Shape.{AreApart, IsKept, IsStored, Shape, entry_in, rows_in, stored_in}
+use Rattle.dh_sql.proofs.Casting.{cast_rowid, pass_all, pass_each, row_stays}
+use Rattle.dh_sql.proofs.Changing.{amends}
 use Rattle.dh_tables.specs.Cells.{in_range, is_number, number_from, pass_one, rowid_column, same_number}
 use Rattle.dh_tables.specs.MetaTable.{AreMonths, HasMonths, SetsMonths, meta_columns}
 use Rattle.dh_tables.proofs.MetaTexts.{meta_becomes, meta_tests, meta_updates, meta_updates_is}

@@ -11,7 +11,7 @@ use Rattle.dh_rows.specs.Months.{Months}
 use Rattle.dh_rows.specs.MetaRows.{meta_row}
 use Rattle.dh_catalog.specs.Layout.{our_schema}
 use Rattle.dh_catalog.specs.MetaTable.{meta}
-use Rattle.dh_tables.specs.Texts.{IsInsertText, IsSelectText, IsUpdateText}
+use Rattle.dh_sql.specs.Texts.{IsInsertText, IsSelectText, IsUpdateText}
 use Rattle.dh_tables.specs.Tables.{own_rowid}
 
 abbrev pub meta_inserts : List ℕ

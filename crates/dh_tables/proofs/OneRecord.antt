@@ -7,8 +7,8 @@ use Rattle.dh_model.specs.Whole.{rows_where}
 use Rattle.dh_model.proofs.MapRows.{get_new}
 use Rattle.dh_laws.specs.InOrder.{StandUnder}
 use Rattle.dh_laws.proofs.MapMerges.{got_rows_where}
-use Rattle.dh_tables.specs.Shape.{Shape}
-use Rattle.dh_tables.proofs.Found.{get_where}
+use Rattle.dh_sql.specs.Shape.{Shape}
+use Rattle.dh_sql.proofs.Found.{get_where}
 use Rattle.dh_tables.specs.Questions.{AsksFor, only_record}
 
 module _ {K X : Type 0} {R : K → K → Ordering} (o : IsTotalOrder R) (anti : IsAntisymmetric R) (it : Shape K X) (asks : X → Bool) (m : FinMap R X)

@@ -6,7 +6,7 @@ use Rattle.sqlite_schema.specs.declared.schema.Keys.TheVariants.{Enforced}
 use Rattle.sqlite_schema.specs.Rules.{parent_key}
 use Rattle.sqlite_rules.specs.Action.{deed_for, pairs, work_by}
 use Rattle.dh_catalog.specs.Layout.{our_schema}
-use Rattle.dh_tables.specs.Texts.{IsQuiet}
+use Rattle.dh_sql.specs.Texts.{IsQuiet}
 
 either : (b : Bool) (tree : ℕ) (olds news : List Row)
     → flat_map (λ child. filter_map (λ ref.

@@ -9,9 +9,9 @@ use Rattle.sqlite_value.specs.Order.{Row}
 use Rattle.sqlite_trees.specs.Tree.{Trees}
 use Rattle.sqlite_trees.proofs.ListLemmas.{all_weaker}
 use Rattle.dh_model.specs.Books as machine
-use Rattle.dh_tables.specs.Gathered.{put_rows}
-use Rattle.dh_tables.specs.Shape.{IsStored, Shape}
-use Rattle.dh_tables.proofs.WholeTable.{all_good, all_once, all_put, all_stored, own_rowids, whole_rowids}
+use Rattle.dh_sql.specs.Gathered.{put_rows}
+use Rattle.dh_sql.specs.Shape.{IsStored, Shape}
+use Rattle.dh_sql.proofs.WholeTable.{all_good, all_once, all_put, all_stored, own_rowids, whole_rowids}
 use Rattle.dh_tables.specs.Listing.{AreNumbered, HasRowids, IsGathered, rowid_alone}
 use Rattle.dh_tables.specs.Tables.{Shelf}
 

@@ -6,10 +6,10 @@ use Rattle.sqlite_schema.specs.declared.schema.Table.{Table}
 use Rattle.sqlite_trees.specs.Tree.{rowid}
 use Rattle.sqlite_trees.specs.View.{is_int}
 use Rattle.dh_catalog.specs.Layout.{our_schema}
-use Rattle.dh_tables.specs.Changes.{IsTurnedInto}
-use Rattle.dh_tables.specs.Queries.{passes_all, shows}
-use Rattle.dh_tables.specs.Shape.{IsStored, Shape, stored_in}
-use Rattle.dh_tables.specs.Texts.{IsUpdateText}
+use Rattle.dh_sql.specs.Changes.{IsTurnedInto}
+use Rattle.dh_sql.specs.Queries.{passes_all, shows}
+use Rattle.dh_sql.specs.Shape.{IsStored, Shape, stored_in}
+use Rattle.dh_sql.specs.Texts.{IsUpdateText}
 
 -- UPDATE table SET .. WHERE tests
 pub record Amending : Type 0 where

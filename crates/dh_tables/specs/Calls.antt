@@ -7,8 +7,8 @@ use Rattle.sqlite.specs.State.{IsRolledBack, IsUnchanged, Shows, State, Survives
 use Rattle.dh_model.specs.Books as machine
 use Rattle.dh_model.specs.Whole.{rows_where}
 use Rattle.dh_catalog.specs.Layout.{our_schema}
-use Rattle.dh_tables.specs.Changes.{Becomes}
-use Rattle.dh_tables.specs.Shape.{Shape, rows_in, rows_of}
+use Rattle.dh_sql.specs.Changes.{Becomes}
+use Rattle.dh_sql.specs.Shape.{Shape, rows_in, rows_of}
 use Rattle.dh_tables.specs.Questions.{AsksFor}
 use Rattle.dh_tables.specs.Tables.{Shelf}
 

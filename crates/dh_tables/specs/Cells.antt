@@ -19,10 +19,10 @@ use Rattle.dh_types.specs.Records.{is_same_optional}
 use Rattle.dh_model.specs.Checks.{is_same_text}
 use Rattle.dh_rows.specs.Cells.{day_in, is_day_cell, is_number_cell, is_optional, is_read_cell}
 use Rattle.dh_rows.specs.Cells.{is_text_that, number_in, optional_text, optional_text_in, text_in}
-use Rattle.dh_tables.specs.CellTests.{Cell}
-use Rattle.dh_tables.proofs.Casting.{cast_int, cast_null}
-use Rattle.dh_tables.proofs.Running.{and_true}
-use Rattle.dh_tables.proofs.Comparing.{alike, numbers_same, texts_same}
+use Rattle.dh_sql.specs.CellTests.{Cell}
+use Rattle.dh_sql.proofs.Casting.{cast_int, cast_null}
+use Rattle.dh_sql.proofs.Running.{and_true}
+use Rattle.dh_sql.proofs.Comparing.{alike, numbers_same, texts_same}
 
 -- ---- what a value is that passes a test
 

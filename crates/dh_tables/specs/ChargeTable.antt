@@ -17,10 +17,10 @@ use Rattle.dh_model.specs.Books.{pair_cmp}
 use Rattle.dh_rows.specs.ChargeRows.{charge_in, charge_row, is_charge_row}
 use Rattle.dh_catalog.specs.Layout.{our_schema}
 use Rattle.dh_catalog.specs.ChargeTable.{charge}
-use Rattle.dh_tables.specs.CellTests.{Cell}
-use Rattle.dh_tables.specs.Shape.{Shape}
-use Rattle.dh_tables.specs.Texts.{IsInsertText, IsSelectText}
-use Rattle.dh_tables.proofs.Casting.{cast_null, pass_each, row_stays}
+use Rattle.dh_sql.specs.CellTests.{Cell}
+use Rattle.dh_sql.specs.Shape.{Shape}
+use Rattle.dh_sql.specs.Texts.{IsInsertText, IsSelectText}
+use Rattle.dh_sql.proofs.Casting.{cast_null, pass_each, row_stays}
 use Rattle.dh_tables.specs.declared.charge.ChargeOf.{ChargeOf}
 use Rattle.dh_tables.specs.declared.charge.ChargesOfLease.{ChargesOfLease}
 use Rattle.dh_tables.specs.declared.charge.ChargesOfMonth.{ChargesOfMonth}

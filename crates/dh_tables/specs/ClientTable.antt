@@ -17,10 +17,10 @@ use Rattle.dh_model.specs.Checks.{is_same_text}
 use Rattle.dh_rows.specs.ClientRows.{client_in, client_row, is_client_row}
 use Rattle.dh_catalog.specs.Layout.{our_schema}
 use Rattle.dh_catalog.specs.ClientTable.{client}
-use Rattle.dh_tables.specs.CellTests.{Cell}
-use Rattle.dh_tables.specs.Shape.{Shape}
-use Rattle.dh_tables.specs.Texts.{IsInsertText, IsSelectText}
-use Rattle.dh_tables.proofs.Casting.{cast_null, pass_each, row_stays}
+use Rattle.dh_sql.specs.CellTests.{Cell}
+use Rattle.dh_sql.specs.Shape.{Shape}
+use Rattle.dh_sql.specs.Texts.{IsInsertText, IsSelectText}
+use Rattle.dh_sql.proofs.Casting.{cast_null, pass_each, row_stays}
 use Rattle.dh_tables.specs.declared.client.ClientNumbered.{ClientNumbered}
 use Rattle.dh_tables.specs.Cells.{is_text as text_is, number_from, pass_one, read_as, same_text, text_that}
 use Rattle.dh_tables.specs.Listing.{IsListing, Listing}

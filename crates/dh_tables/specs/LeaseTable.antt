@@ -19,10 +19,10 @@ use Rattle.dh_model.specs.Checks.{is_same_text}
 use Rattle.dh_rows.specs.LeaseRows.{lease_in, lease_row, is_lease_row}
 use Rattle.dh_catalog.specs.Layout.{our_schema}
 use Rattle.dh_catalog.specs.LeaseTable.{lease}
-use Rattle.dh_tables.specs.CellTests.{Cell}
-use Rattle.dh_tables.specs.Shape.{Shape}
-use Rattle.dh_tables.specs.Texts.{IsInsertText, IsSelectText}
-use Rattle.dh_tables.proofs.Casting.{cast_int, pass_each, row_stays}
+use Rattle.dh_sql.specs.CellTests.{Cell}
+use Rattle.dh_sql.specs.Shape.{Shape}
+use Rattle.dh_sql.specs.Texts.{IsInsertText, IsSelectText}
+use Rattle.dh_sql.proofs.Casting.{cast_int, pass_each, row_stays}
 use Rattle.dh_tables.specs.declared.lease.LeaseNumbered.{LeaseNumbered}
 use Rattle.dh_tables.specs.declared.lease.LeasesOfProperty.{LeasesOfProperty}
 use Rattle.dh_tables.specs.declared.lease.LeasesOfClientFrom.{LeasesOfClientFrom}

@@ -1,9 +1,3 @@
-pub mod Shape
-pub mod Queries
-pub mod Texts
-pub mod Changes
-pub mod CellTests
-pub mod Gathered
 pub mod Cells
 pub mod Tables
 pub mod Questions

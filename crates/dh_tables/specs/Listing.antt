@@ -10,9 +10,9 @@ use Rattle.sqlite_trees.specs.View.{is_int}
 use Rattle.sqlite_rules.specs.Edit.{id_in}
 use Rattle.dh_model.specs.Books as machine
 use Rattle.dh_catalog.specs.Layout.{our_schema}
-use Rattle.dh_tables.specs.Queries.{shows}
-use Rattle.dh_tables.specs.Shape.{AreApart, IsKept, IsStored, Shape, rows_in, stored_in}
-use Rattle.dh_tables.specs.Texts.{IsSelectText}
+use Rattle.dh_sql.specs.Queries.{shows}
+use Rattle.dh_sql.specs.Shape.{AreApart, IsKept, IsStored, Shape, rows_in, stored_in}
+use Rattle.dh_sql.specs.Texts.{IsSelectText}
 use Rattle.dh_tables.specs.Tables.{Shelf}
 
 -- SELECT project FROM table, and SELECT rowid FROM table

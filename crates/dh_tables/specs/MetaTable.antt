@@ -7,7 +7,7 @@ use Rattle.sqlite.specs.State.{State}
 use Rattle.dh_rows.specs.Months.{Months}
 use Rattle.dh_rows.specs.MetaRows.{meta_row, is_meta_row}
 use Rattle.dh_catalog.specs.Layout.{our_schema}
-use Rattle.dh_tables.specs.Changes.{OthersStay}
+use Rattle.dh_sql.specs.Changes.{OthersStay}
 
 -- the key is the rowid, and its own column holds NULL
 abbrev pub meta_columns : Row → Row

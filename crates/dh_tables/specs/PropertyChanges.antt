@@ -17,12 +17,12 @@ use Rattle.dh_types.specs.declared.command.RentChange.{RentChange}
 use Rattle.dh_rows.specs.Cells.{optional_back, optional_text}
 use Rattle.dh_catalog.specs.Layout.{our_schema}
 use Rattle.dh_catalog.specs.PropertyTable.{property}
-use Rattle.dh_tables.specs.CellTests.{AreCells}
-use Rattle.dh_tables.specs.Changes.{IsTurnedInto}
-use Rattle.dh_tables.specs.Queries.{passes_all, shows}
-use Rattle.dh_tables.specs.Shape.{IsStored, stored_in}
-use Rattle.dh_tables.specs.Texts.{IsUpdateText}
-use Rattle.dh_tables.proofs.Casting.{cast_rowid, pass_all, pass_each, row_stays}
+use Rattle.dh_sql.specs.CellTests.{AreCells}
+use Rattle.dh_sql.specs.Changes.{IsTurnedInto}
+use Rattle.dh_sql.specs.Queries.{passes_all, shows}
+use Rattle.dh_sql.specs.Shape.{IsStored, stored_in}
+use Rattle.dh_sql.specs.Texts.{IsUpdateText}
+use Rattle.dh_sql.proofs.Casting.{cast_rowid, pass_all, pass_each, row_stays}
 use Rattle.dh_tables.specs.Amendments.{Amending, IsAmending}
 use Rattle.dh_tables.specs.Cells.{in_range, is_text as text_is, optional_passes, pass_one, same_text, tells_text}
 use Rattle.dh_tables.specs.PropertyTable.{property_cells, property_columns, property_numbered, property_shape}

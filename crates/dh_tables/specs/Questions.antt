@@ -5,9 +5,9 @@ use Rattle.std.specs.FinMap.{FinMap, empty, insert}
 use Rattle.sqlite_value.specs.Order.{Row}
 use Rattle.sqlite_sql.specs.Term.{Term}
 use Rattle.dh_catalog.specs.Layout.{our_schema}
-use Rattle.dh_tables.specs.Queries.{passes_all, shows}
-use Rattle.dh_tables.specs.Shape.{IsStored, Shape, stored_in}
-use Rattle.dh_tables.specs.Texts.{IsSelectText}
+use Rattle.dh_sql.specs.Queries.{passes_all, shows}
+use Rattle.dh_sql.specs.Shape.{IsStored, Shape, stored_in}
+use Rattle.dh_sql.specs.Texts.{IsSelectText}
 
 -- SELECT project FROM table WHERE tests
 pub record Asking : Type 0 where

@@ -27,11 +27,11 @@ use Rattle.dh_rows.specs.ReceiptRows.{receipt_in, receipt_row, is_receipt_row}
 use Rattle.dh_rows.specs.Cells.{is_read_cell, read_in}
 use Rattle.dh_catalog.specs.Layout.{our_schema}
 use Rattle.dh_catalog.specs.ReceiptTable.{receipt}
-use Rattle.dh_tables.specs.CellTests.{Cell}
-use Rattle.dh_tables.specs.Shape.{Shape}
-use Rattle.dh_tables.specs.Texts.{IsInsertText, IsSelectText}
-use Rattle.dh_tables.proofs.Casting.{cast_int, pass_each, row_stays}
-use Rattle.dh_tables.proofs.Comparing.{texts_same}
+use Rattle.dh_sql.specs.CellTests.{Cell}
+use Rattle.dh_sql.specs.Shape.{Shape}
+use Rattle.dh_sql.specs.Texts.{IsInsertText, IsSelectText}
+use Rattle.dh_sql.proofs.Casting.{cast_int, pass_each, row_stays}
+use Rattle.dh_sql.proofs.Comparing.{texts_same}
 use Rattle.dh_tables.specs.declared.receipt.DepositsOfLease.{DepositsOfLease}
 use Rattle.dh_tables.specs.declared.receipt.ReceiptKeyed.{ReceiptKeyed}
 use Rattle.dh_tables.specs.declared.receipt.ReceiptNumbered.{ReceiptNumbered}

@@ -18,12 +18,12 @@ use Rattle.dh_rows.specs.Cells.{is_through_cell, through_back, through_value}
 use Rattle.dh_catalog.specs.Layout.{our_schema}
 use Rattle.dh_catalog.specs.RunTable.{run}
 use Rattle.dh_catalog.specs.PartTable.{part}
-use Rattle.dh_tables.specs.CellTests.{AreCells}
-use Rattle.dh_tables.specs.Changes.{IsTurnedInto}
-use Rattle.dh_tables.specs.Queries.{passes_all, shows}
-use Rattle.dh_tables.specs.Shape.{IsStored, stored_in}
-use Rattle.dh_tables.specs.Texts.{IsUpdateText}
-use Rattle.dh_tables.proofs.Casting.{cast_rowid, pass_all, pass_each, row_stays}
+use Rattle.dh_sql.specs.CellTests.{AreCells}
+use Rattle.dh_sql.specs.Changes.{IsTurnedInto}
+use Rattle.dh_sql.specs.Queries.{passes_all, shows}
+use Rattle.dh_sql.specs.Shape.{IsStored, stored_in}
+use Rattle.dh_sql.specs.Texts.{IsUpdateText}
+use Rattle.dh_sql.proofs.Casting.{cast_rowid, pass_all, pass_each, row_stays}
 use Rattle.dh_tables.specs.Amendments.{Amending, IsAmending}
 use Rattle.dh_tables.specs.Cells.{is_number, is_text as text_is, pass_both, pass_one, rowid_column}
 use Rattle.dh_tables.specs.Cells.{same_number, same_text, tells_both, tells_number, tells_text, to_limit}

@@ -19,10 +19,10 @@ use Rattle.dh_rows.specs.declared.limits.TheConstants.{MOST_COUNT}
 use Rattle.dh_rows.specs.RunRows.{run_in, run_row, is_run_row}
 use Rattle.dh_catalog.specs.Layout.{our_schema}
 use Rattle.dh_catalog.specs.RunTable.{run}
-use Rattle.dh_tables.specs.CellTests.{Cell}
-use Rattle.dh_tables.specs.Shape.{Shape}
-use Rattle.dh_tables.specs.Texts.{IsInsertText, IsSelectText}
-use Rattle.dh_tables.proofs.Casting.{cast_int, pass_each, row_stays}
+use Rattle.dh_sql.specs.CellTests.{Cell}
+use Rattle.dh_sql.specs.Shape.{Shape}
+use Rattle.dh_sql.specs.Texts.{IsInsertText, IsSelectText}
+use Rattle.dh_sql.proofs.Casting.{cast_int, pass_each, row_stays}
 use Rattle.dh_tables.specs.declared.run.RunOf.{RunOf}
 use Rattle.dh_tables.specs.declared.run.RunKeyed.{RunKeyed}
 use Rattle.dh_tables.specs.Cells.{is_number, is_text as text_is, number_from, pass_one, rowid_column, same_number, same_text, text_that}

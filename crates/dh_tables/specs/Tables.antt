@@ -13,8 +13,8 @@ use Rattle.sqlite_rules.specs.Edit.{with_rowid}
 use Rattle.sqlite_rules.specs.declared.error.Rowids.TheVariants.{Chosen}
 use Rattle.dh_model.specs.Books.{State}
 use Rattle.dh_catalog.specs.Layout.{our_schema}
-use Rattle.dh_tables.specs.Shape.{Shape}
-use Rattle.dh_tables.specs.Texts.{IsInsertText}
+use Rattle.dh_sql.specs.Shape.{Shape}
+use Rattle.dh_sql.specs.Texts.{IsInsertText}
 
 -- where the books have the records of one kind, and the books with others
 pub record Shelf (K X : Type 0) (R : K → K → Ordering) : Type 0 where

@@ -11,12 +11,12 @@ use Rattle.dh_values.specs.Texts.{is_id, is_text}
 use Rattle.dh_types.specs.declared.command.ViewingComment.{ViewingComment}
 use Rattle.dh_catalog.specs.Layout.{our_schema}
 use Rattle.dh_catalog.specs.ViewingTable.{viewing}
-use Rattle.dh_tables.specs.CellTests.{AreCells}
-use Rattle.dh_tables.specs.Changes.{IsTurnedInto}
-use Rattle.dh_tables.specs.Queries.{passes_all, shows}
-use Rattle.dh_tables.specs.Shape.{IsStored, stored_in}
-use Rattle.dh_tables.specs.Texts.{IsUpdateText}
-use Rattle.dh_tables.proofs.Casting.{cast_rowid, pass_all, pass_each, row_stays}
+use Rattle.dh_sql.specs.CellTests.{AreCells}
+use Rattle.dh_sql.specs.Changes.{IsTurnedInto}
+use Rattle.dh_sql.specs.Queries.{passes_all, shows}
+use Rattle.dh_sql.specs.Shape.{IsStored, stored_in}
+use Rattle.dh_sql.specs.Texts.{IsUpdateText}
+use Rattle.dh_sql.proofs.Casting.{cast_rowid, pass_all, pass_each, row_stays}
 use Rattle.dh_tables.specs.Amendments.{Amending, IsAmending}
 use Rattle.dh_tables.specs.Cells.{is_text as text_is, optional_passes, pass_both, same_text, tells_both, tells_text}
 use Rattle.dh_tables.specs.ViewingTable.{viewing_cells, viewing_columns, viewing_of, viewing_shape}

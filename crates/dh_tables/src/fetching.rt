@@ -4,7 +4,7 @@ ghost use Rattle.std.specs.Prelude.{◌≡◌, ◌||◌, Bool, true, IfOk, OnOk,
 ghost use Rattle.sqlite.specs.State.{HasCleanDisk, IsUnchanged};
 ghost use Rattle.sqlite.specs.Held.{state};
 ghost use Rattle.dh_model.specs.Whole.{rows_where};
-ghost use Rattle.dh_tables.specs.Shape.{IsKept, rows_in};
+ghost use Rattle.dh_sql.specs.Shape.{IsKept, rows_in};
 ghost use Rattle.dh_tables.specs.Calls.{CommitsNothing, HasFetchedMore, HasOurTables, IsUndone};
 
 use crate::{Look, gather, rows_asked};

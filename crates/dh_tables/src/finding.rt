@@ -5,7 +5,7 @@ ghost use Rattle.std.specs.FinMap as fin;
 ghost use Rattle.sqlite.specs.State.{HasCleanDisk, IsUnchanged};
 ghost use Rattle.sqlite.specs.Held.{state};
 ghost use Rattle.dh_model.specs.Whole.{rows_where};
-ghost use Rattle.dh_tables.specs.Shape.{IsKept, rows_in, rows_of};
+ghost use Rattle.dh_sql.specs.Shape.{IsKept, rows_in, rows_of};
 ghost use Rattle.dh_tables.specs.Questions.{AsksFor, only_record};
 ghost use Rattle.dh_tables.specs.Calls.{CommitsNothing, HasOurTables, IsFound, IsUndone, asked_in};
 

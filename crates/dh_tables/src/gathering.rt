@@ -2,7 +2,7 @@
 
 ghost use Rattle.std.specs.Prelude.{◌≡◌, true, false, IfOk};
 ghost use Rattle.std.specs.List.{AllByRecursion};
-ghost use Rattle.dh_tables.specs.Gathered.{put_rows};
+ghost use Rattle.dh_sql.specs.Gathered.{put_rows};
 
 use crate::Tabled;
 use dh_books::Books;

@@ -5,7 +5,7 @@ ghost use Rattle.std.specs.Ordering.{nat_cmp};
 ghost use Rattle.sqlite.specs.State.{HasCleanDisk, IsUnchanged};
 ghost use Rattle.sqlite.specs.Held.{state};
 ghost use Rattle.dh_laws.specs.Looks.{IsLast};
-ghost use Rattle.dh_tables.specs.Shape.{IsGreatest, IsKept, rows_in};
+ghost use Rattle.dh_sql.specs.Shape.{IsGreatest, IsKept, rows_in};
 ghost use Rattle.dh_tables.specs.Calls.{CommitsNothing, HasOurTables, IsUndone};
 ghost use Rattle.dh_tables.specs.ReceiptTable.{receipt_shape};
 

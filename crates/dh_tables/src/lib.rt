@@ -1,6 +1,4 @@
 //! The tables of records: adding a row, looking at rows, and reading a whole table. Read [`Tabled`], [`Look`] and [`Listed`] first.
-//! What SQL texts do to a table of records, for any schema and any kind of record, is said and proved beside them (`Shape`,
-//! `Changes`, `Queries` in specs/).
 #![tactic(auto)]
 
 mod amend;

@@ -8,7 +8,7 @@ ghost use Rattle.sqlite.specs.Values.{bound};
 ghost use Rattle.sqlite.specs.State.{HasCleanDisk, IsUnchanged};
 ghost use Rattle.sqlite.specs.Held.{state};
 ghost use Rattle.dh_model.specs.Whole.{rows_where};
-ghost use Rattle.dh_tables.specs.Shape.{IsKept, rows_in, rows_of, shown_keys};
+ghost use Rattle.dh_sql.specs.Shape.{IsKept, rows_in, rows_of, shown_keys};
 ghost use Rattle.dh_tables.specs.Questions.{Asking, IsAsking};
 ghost use Rattle.dh_tables.specs.Calls.{AreAsked, CommitsNothing, HasOurTables, IsUndone};
 

@@ -8,8 +8,8 @@ ghost use Rattle.sqlite.specs.State.{HasCleanDisk, Shows};
 ghost use Rattle.sqlite.specs.Held.{state};
 ghost use Rattle.dh_catalog.specs.Layout.{our_schema};
 ghost use Rattle.dh_catalog.specs.Making.{IsWritingOn};
-ghost use Rattle.dh_tables.specs.Shape.{Shape, IsKept, rows_in};
-ghost use Rattle.dh_tables.specs.Changes.{Becomes};
+ghost use Rattle.dh_sql.specs.Shape.{Shape, IsKept, rows_in};
+ghost use Rattle.dh_sql.specs.Changes.{Becomes};
 ghost use Rattle.dh_tables.specs.Tables.{Adding, HasShape, IsAdding, Shelf};
 ghost use Rattle.dh_tables.specs.Calls.{Adds, CommitsNothing, StaysInTransaction, IsNew, IsUndone, IsInTransaction};
 

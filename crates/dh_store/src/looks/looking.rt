@@ -7,7 +7,7 @@ ghost use Rattle.sqlite.specs.State.{HasCleanDisk};
 ghost use Rattle.sqlite.specs.Held.{state};
 ghost use Rattle.dh_model.specs.Books.{State};
 ghost use Rattle.dh_model.specs.Whole.{rows_where};
-ghost use Rattle.dh_tables.specs.Shape.{IsKept, rows_in};
+ghost use Rattle.dh_sql.specs.Shape.{IsKept, rows_in};
 ghost use Rattle.dh_tables.specs.Calls.{HasFetchedMore};
 ghost use Rattle.dh_schema.specs.Store.{IsReady};
 ghost use Rattle.dh_schema.specs.Tables.{AreInOrder, state_in};

@@ -3,9 +3,9 @@ use Rattle.dh_types.specs.Reports.{report_of}
 use Rattle.dh_model.specs.Books.{State}
 use Rattle.dh_model.specs.Runs.{batch_size}
 use Rattle.dh_laws.specs.StateTables.{IsStateInOrder}
-use Rattle.dh_fields.specs.declared.request.Request.TheVariants as request
 use Rattle.dh_agency.specs.Agency.{machine, stand_of}
 use Rattle.dh_agency.proofs.Standing.{cut_or_stopped, reads_in_order, report_stands}
+use Rattle.dh_fields.specs.declared.request.Request.TheVariants as request
 use Rattle.dh_requests.specs.declared.asked.Asked.TheVariants as asked
 use Rattle.dh_http.specs.Answers.{report_answer}
 use Rattle.dh_http.proofs.ServedLemmas.{fault_of, serves_fault, serves_told}

@@ -3,10 +3,10 @@ use Rattle.sqlite_value.specs.Order.{Row}
 use Rattle.sqlite.specs.State.{Executes, HasCleanDisk}
 use Rattle.sqlite.specs.Held.{state}
 use Rattle.dh_catalog.specs.Layout.{our_schema}
-use Rattle.dh_tables.specs.Changes.{IsTurnedInto}
-use Rattle.dh_tables.specs.Queries.{shows}
-use Rattle.dh_tables.proofs.Changing.{amends}
-use Rattle.dh_tables.proofs.Found.{keyed_rows}
+use Rattle.dh_sql.specs.Changes.{IsTurnedInto}
+use Rattle.dh_sql.specs.Queries.{shows}
+use Rattle.dh_sql.proofs.Changing.{amends}
+use Rattle.dh_sql.proofs.Found.{keyed_rows}
 use Rattle.dh_tables.proofs.Quiet.{quiet}
 use Rattle.dh_tables.proofs.amend.update.Goals as goal
 

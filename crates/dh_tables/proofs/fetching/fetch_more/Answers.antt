@@ -1,8 +1,8 @@
 use Rattle.std.proofs.Common.{◌∙◌, ap}
 use Rattle.sqlite.specs.Held.{state}
-use Rattle.dh_tables.specs.Shape.{rows_in}
-use Rattle.dh_tables.specs.Gathered.{put_rows}
-use Rattle.dh_tables.proofs.Slices.{put_beside}
+use Rattle.dh_sql.specs.Shape.{rows_in}
+use Rattle.dh_sql.specs.Gathered.{put_rows}
+use Rattle.dh_sql.proofs.Slices.{put_beside}
 use Rattle.dh_tables.proofs.fetching.fetch_more.Goals as goal
 
 pub returns-clause-fetched : goal.returns-clause-fetched

@@ -1,8 +1,8 @@
 use Rattle.std.proofs.Common.{◌∙◌, ap, List}
 use Rattle.sqlite_value.specs.Order.{Row}
 use Rattle.sqlite.specs.Held.{state}
-use Rattle.dh_tables.specs.Shape.{rows_in, rows_of}
-use Rattle.dh_tables.proofs.Found.{keyed_rows}
+use Rattle.dh_sql.specs.Shape.{rows_in, rows_of}
+use Rattle.dh_sql.proofs.Found.{keyed_rows}
 use Rattle.dh_tables.proofs.OneRecord.{found_ok}
 use Rattle.dh_tables.proofs.finding.find.Goals as goal
 

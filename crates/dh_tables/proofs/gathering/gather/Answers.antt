@@ -5,8 +5,8 @@ use Rattle.std.specs.FinMap.{FinMap, insert}
 use Rattle.std.proofs.lemmas.List.{take_more}
 use Rattle.sqlite_value.specs.Order.{Row}
 use Rattle.dh_model.specs.Books.{State}
-use Rattle.dh_tables.specs.Shape.{Shape}
-use Rattle.dh_tables.specs.Gathered.{put_row, put_rows}
+use Rattle.dh_sql.specs.Shape.{Shape}
+use Rattle.dh_sql.specs.Gathered.{put_row, put_rows}
 use Rattle.dh_tables.proofs.gathering.gather.Goals as goal
 
 push : {K X : Type 0} {R : K → K → Ordering} (it : Shape K X) (rows : List Row) (row : Row) (m : FinMap R X)

@@ -1,6 +1,6 @@
 use Rattle.std.proofs.Common.{◌≡◌, take, true}
 use Rattle.std.specs.List.{AllByRecursion}
-use Rattle.dh_tables.specs.Gathered.{put_rows}
+use Rattle.dh_sql.specs.Gathered.{put_rows}
 use Rattle.dh_tables.proofs.gathering.gather.Given as goal
 
 abbrev pub invariant-loop-row : goal.invariant-loop-row

@@ -2,7 +2,7 @@ use Rattle.std.proofs.Common.{◌≡◌, List, IfOk, arith, nat_cmp, subst}
 use Rattle.sqlite_value.specs.Order.{Row}
 use Rattle.sqlite.specs.State.{HasCleanDisk}
 use Rattle.sqlite.specs.Held.{state}
-use Rattle.dh_tables.specs.Shape.{rows_of}
+use Rattle.dh_sql.specs.Shape.{rows_of}
 use Rattle.dh_tables.specs.Questions.{only_record}
 use Rattle.dh_tables.specs.ReceiptTable.{receipt_shape}
 use Rattle.dh_tables.proofs.LastReceipt.{last_ok}

@@ -3,8 +3,8 @@ use Rattle.sqlite_sql.specs.Term.{col}
 use Rattle.sqlite.specs.State.{HasCleanDisk}
 use Rattle.sqlite.specs.Held.{state}
 use Rattle.dh_catalog.specs.Layout.{our_schema}
-use Rattle.dh_tables.proofs.LastRow.{greatest_shown}
-use Rattle.dh_tables.proofs.Selecting.{plain_commits, plain_same, plain_undone}
+use Rattle.dh_sql.proofs.LastRow.{greatest_shown}
+use Rattle.dh_sql.proofs.Selecting.{plain_commits, plain_same, plain_undone}
 use Rattle.dh_tables.specs.ReceiptTable.{receipt_names, receipt_project, receipt_shape}
 use Rattle.dh_tables.proofs.LastReceipt.{last_is, last_text, numbered}
 use Rattle.dh_tables.proofs.Undone.{undone_from}

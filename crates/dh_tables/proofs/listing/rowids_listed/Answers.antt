@@ -3,8 +3,8 @@ use Rattle.sqlite_sql.specs.Term.{col}
 use Rattle.sqlite.specs.State.{CommitsShowing, FailsToQuery, HasCleanDisk, Shown, Survives}
 use Rattle.sqlite.specs.Held.{state}
 use Rattle.dh_catalog.specs.Layout.{our_schema}
-use Rattle.dh_tables.proofs.WholeTable.{shows_all}
-use Rattle.dh_tables.proofs.Selecting.{commits_nothing, same_ok, undone_err}
+use Rattle.dh_sql.proofs.WholeTable.{shows_all}
+use Rattle.dh_sql.proofs.Selecting.{commits_nothing, same_ok, undone_err}
 use Rattle.dh_tables.proofs.Undone.{undone_from}
 use Rattle.dh_tables.specs.Listing.{rowid_alone}
 use Rattle.dh_tables.proofs.listing.rowids_listed.Goals as goal

@@ -2,8 +2,8 @@ use Rattle.std.proofs.Common.{[], List, ℕ, IfErr, IfOk, arith, subst}
 use Rattle.sqlite.specs.State.{CommitsShowing, FailsToQuery, HasCleanDisk, Shown, Survives}
 use Rattle.sqlite.specs.Held.{state}
 use Rattle.dh_catalog.specs.Layout.{our_schema}
-use Rattle.dh_tables.proofs.WholeTable.{shows_all}
-use Rattle.dh_tables.proofs.Selecting.{commits_nothing, same_ok, undone_err}
+use Rattle.dh_sql.proofs.WholeTable.{shows_all}
+use Rattle.dh_sql.proofs.Selecting.{commits_nothing, same_ok, undone_err}
 use Rattle.dh_tables.proofs.Undone.{undone_from}
 use Rattle.dh_tables.proofs.listing.rows_listed.Goals as goal
 

@@ -3,7 +3,7 @@ use Rattle.std.specs.FinMap.{values}
 use Rattle.std.specs.List.{AllByRecursion}
 use Rattle.sqlite_value.specs.Order.{Row}
 use Rattle.sqlite.specs.Held.{state}
-use Rattle.dh_tables.specs.Gathered.{put_rows}
+use Rattle.dh_sql.specs.Gathered.{put_rows}
 use Rattle.dh_tables.proofs.Whole.{gathered, no_record}
 use Rattle.dh_tables.proofs.loading.gather_all.Goals as goal
 

@@ -2,7 +2,7 @@ use Rattle.std.proofs.Common.{[], arith}
 use Rattle.sqlite.specs.State.{HasCleanDisk}
 use Rattle.sqlite.specs.Held.{state}
 use Rattle.dh_catalog.specs.Layout.{our_schema}
-use Rattle.dh_tables.proofs.Selecting.{commits_nothing, same_ok, undone_err}
+use Rattle.dh_sql.proofs.Selecting.{commits_nothing, same_ok, undone_err}
 use Rattle.dh_tables.proofs.Undone.{undone_from}
 use Rattle.dh_tables.proofs.MetaChanges.{all_shown}
 use Rattle.dh_tables.proofs.MetaTexts.{meta_names, meta_project, meta_shown, meta_shown_is}

@@ -3,9 +3,9 @@ use Rattle.std.specs.FinMap as fin
 use Rattle.sqlite.specs.State.{Executes, HasCleanDisk}
 use Rattle.sqlite.specs.Held.{state}
 use Rattle.dh_catalog.specs.Layout.{our_schema}
-use Rattle.dh_tables.specs.Changes.{Becomes}
-use Rattle.dh_tables.specs.Shape.{rows_in}
-use Rattle.dh_tables.proofs.Adding.{adds}
+use Rattle.dh_sql.specs.Changes.{Becomes}
+use Rattle.dh_sql.specs.Shape.{rows_in}
+use Rattle.dh_sql.proofs.Adding.{adds}
 use Rattle.dh_tables.proofs.Quiet.{quiet}
 use Rattle.dh_tables.proofs.table.insert.Given.{Over}
 use Rattle.dh_tables.proofs.table.insert.Goals as goal

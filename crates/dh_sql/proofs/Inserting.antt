@@ -20,8 +20,8 @@ use Rattle.sqlite.specs.Tree.{Trees, put_row}
 use Rattle.sqlite.specs.Listing.{understood}
 use Rattle.sqlite.specs.State.{State, mode_of, Executes}
 use Rattle.sqlite.proofs.Callers.{statement_of, runs_as, one_step}
-use Rattle.dh_tables.specs.Texts.{IsInsertText, IsQuiet}
-use Rattle.dh_tables.proofs.Running.{went, same_value, not_true, and_first, no_count}
+use Rattle.dh_sql.specs.Texts.{IsInsertText, IsQuiet}
+use Rattle.dh_sql.proofs.Running.{went, same_value, not_true, and_first, no_count}
 
 -- the tree has this row too, which has a rowid of its own
 pub record PutsRow (schema : Schema) (tree : ℕ) (row : Row) (old new : Trees) : Type 0 where

@@ -7,8 +7,8 @@ use Rattle.std.specs.List.{AllByRecursion, IsDistinct}
 use Rattle.std.specs.Cmp.{IsTotalOrder, eq_by_cmp_equiv}
 use Rattle.std.specs.FinMap.{FinMap, contains_key, empty, get, get-insert, insert, len, len-empty, len-insert}
 use Rattle.sqlite_value.specs.Order.{Row}
-use Rattle.dh_tables.specs.Shape.{Shape, shown_keys}
-use Rattle.dh_tables.specs.Gathered.{put_rows}
+use Rattle.dh_sql.specs.Shape.{Shape, shown_keys}
+use Rattle.dh_sql.specs.Gathered.{put_rows}
 
 module _ {K X : Type 0} {R : K → K → Ordering} (o : IsTotalOrder R) (it : Shape K X) where
   abbrev key_of : Row → K

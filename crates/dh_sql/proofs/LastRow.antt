@@ -22,12 +22,12 @@ use Rattle.sqlite.specs.Query.{IsAnswerAs, Output, key_cmp, output, output_cmp, 
 use Rattle.sqlite.specs.State.{State, Shown}
 use Rattle.sqlite.specs.declared.error.Error.{Error}
 use Rattle.sqlite.proofs.Callers.{reads_as}
-use Rattle.dh_tables.specs.Queries.{downwards, last_query, shows}
-use Rattle.dh_tables.specs.Shape.{IsGreatest, IsStored, Shape, number_at, stored_in}
-use Rattle.dh_tables.specs.Texts.{IsLastText}
-use Rattle.dh_tables.proofs.WholeTable.{no_tests}
-use Rattle.dh_tables.proofs.Lists.{all_from_has, all_of, has_all}
-use Rattle.dh_tables.proofs.Reading.{found, matched}
+use Rattle.dh_sql.specs.Queries.{downwards, last_query, shows}
+use Rattle.dh_sql.specs.Shape.{IsGreatest, IsStored, Shape, number_at, stored_in}
+use Rattle.dh_sql.specs.Texts.{IsLastText}
+use Rattle.dh_sql.proofs.WholeTable.{no_tests}
+use Rattle.dh_sql.proofs.Lists.{all_from_has, all_of, has_all}
+use Rattle.dh_sql.proofs.Reading.{found, matched}
 
 module _ {X : Type 0} (it : Shape ℕ X) where
   falls : (m n : ℕ) → is_lt (int_cmp (pos m) (pos n)) ≡ false → n ≤ m

@@ -9,9 +9,9 @@ use Rattle.sqlite_value.proofs.OrderLemmas.{value_cmp-Int}
 use Rattle.sqlite_rules.specs.Edit.{id_in}
 use Rattle.sqlite_trees.specs.Tree.{Trees, rowid}
 use Rattle.dh_model.proofs.KeyOrders.{nat_total}
-use Rattle.dh_tables.specs.Shape.{AreApart, IsKept, IsStored, Shape, stored_in}
-use Rattle.dh_tables.proofs.Comparing.{is_tie}
-use Rattle.dh_tables.proofs.Lists.{has_all, one_of_key}
+use Rattle.dh_sql.specs.Shape.{AreApart, IsKept, IsStored, Shape, stored_in}
+use Rattle.dh_sql.proofs.Comparing.{is_tie}
+use Rattle.dh_sql.proofs.Lists.{has_all, one_of_key}
 
 itself : (k : ℕ) → eq_by_cmp nat_cmp k k ≡ true
 itself k = ap is_eq (tied_itself nat_total k)

@@ -8,9 +8,9 @@ use Rattle.sqlite_schema.specs.declared.schema.Schema.{Schema}
 use Rattle.sqlite_schema.specs.declared.schema.Table.{Table}
 use Rattle.sqlite_trees.specs.Tree.{Trees}
 use Rattle.dh_types.proofs.SameValues.{numbers}
-use Rattle.dh_tables.specs.Changes.{IsSame, OthersStay}
-use Rattle.dh_tables.specs.Shape.{Shape, entry_in}
-use Rattle.dh_tables.proofs.Lists.{all_at}
+use Rattle.dh_sql.specs.Changes.{IsSame, OthersStay}
+use Rattle.dh_sql.specs.Shape.{Shape, entry_in}
+use Rattle.dh_sql.proofs.Lists.{all_at}
 
 pub others_stay : (schema : Schema) (tree : ℕ) (old new : Trees) → AllByRecursion (λ t. t.tree ≢ tree → new t.tree ≡ old t.tree) schema.tables
     → OthersStay schema tree old new

@@ -12,9 +12,9 @@ use Rattle.sqlite_rules.specs.Edit.{id_in, is_taken}
 use Rattle.sqlite_rules.specs.Lists.{Has}
 use Rattle.sqlite_rules.proofs.ListLemmas.{contains_had, has_contained}
 use Rattle.sqlite_rules.proofs.TableLemmas.{int_is}
-use Rattle.dh_tables.specs.Shape.{AreApart}
-use Rattle.dh_tables.proofs.Lists.{has_all}
-use Rattle.dh_tables.proofs.Running.{or_left, or_right}
+use Rattle.dh_sql.specs.Shape.{AreApart}
+use Rattle.dh_sql.proofs.Lists.{has_all}
+use Rattle.dh_sql.proofs.Running.{or_left, or_right}
 
 pub turn : (xs ys : List Row) (x : Row) → IsPermutation xs ys → Has ys x → Has xs x
 turn xs ys x p h = has_contained xs x (Contains-permutation ys xs x (IsPermutation-sym xs ys p) (contains_had ys x h))

@@ -10,8 +10,8 @@ use Rattle.sqlite_value.specs.Order.{Row}
 use Rattle.dh_model.specs.Whole.{rows_where}
 use Rattle.dh_model.proofs.MapRows.{kept_if, same_key}
 use Rattle.dh_laws.proofs.MapMerges.{get-rows_where}
-use Rattle.dh_tables.specs.Shape.{Shape, rows_of, shown_keys, under_key}
-use Rattle.dh_tables.specs.Gathered.{put_row, put_rows}
+use Rattle.dh_sql.specs.Shape.{Shape, rows_of, shown_keys, under_key}
+use Rattle.dh_sql.specs.Gathered.{put_row, put_rows}
 
 module _ {K X : Type 0} {R : K → K → Ordering} (o : IsTotalOrder R) (anti : IsAntisymmetric R) (it : Shape K X) where
   abbrev es_of : List Row → List (K × X)

@@ -19,14 +19,14 @@ use Rattle.sqlite.specs.Edit.{with_rowid}
 use Rattle.sqlite.specs.Rowids.TheVariants.{Chosen}
 use Rattle.sqlite.specs.State.{State, Executes}
 use Rattle.sqlite.specs.Term.{Term}
-use Rattle.dh_tables.specs.Changes.{Becomes}
-use Rattle.dh_tables.specs.Shape.{AreApart, Shape, IsKept, IsStored, entry_in, rows_in, stored_in}
-use Rattle.dh_tables.specs.Texts.{IsInsertText, IsQuiet}
-use Rattle.dh_tables.proofs.Apart.{apart_with, none_taken}
-use Rattle.dh_tables.proofs.Inserting.{PutsRow, inserts}
-use Rattle.dh_tables.proofs.Maps.{from_more}
-use Rattle.dh_tables.proofs.Running.{put_fresh}
-use Rattle.dh_tables.proofs.Staying.{others_stay}
+use Rattle.dh_sql.specs.Changes.{Becomes}
+use Rattle.dh_sql.specs.Shape.{AreApart, Shape, IsKept, IsStored, entry_in, rows_in, stored_in}
+use Rattle.dh_sql.specs.Texts.{IsInsertText, IsQuiet}
+use Rattle.dh_sql.proofs.Apart.{apart_with, none_taken}
+use Rattle.dh_sql.proofs.Inserting.{PutsRow, inserts}
+use Rattle.dh_sql.proofs.Maps.{from_more}
+use Rattle.dh_sql.proofs.Running.{put_fresh}
+use Rattle.dh_sql.proofs.Staying.{others_stay}
 
 -- what was put in is a record of this shape
 pub record ReadsBack {K X : Type 0} (it : Shape K X) (table : Table) (params source : Row) (x : X) (rows : List Row) : Type 0 where

@@ -23,16 +23,16 @@ use Rattle.sqlite_rules.proofs.TableLemmas.{int_is}
 use Rattle.sqlite.specs.Term.{Term}
 use Rattle.sqlite.specs.State.{State, Shown}
 use Rattle.sqlite.specs.declared.error.Error.{Error}
-use Rattle.dh_tables.specs.Gathered.{put_rows}
-use Rattle.dh_tables.specs.Queries.{passes_all, shows}
-use Rattle.dh_tables.specs.Shape.{AreApart, IsStored, Shape, entry_in, rows_in, rows_of, shown_keys, stored_in, under_key}
-use Rattle.dh_tables.specs.Texts.{IsSelectText}
-use Rattle.dh_tables.proofs.Comparing.{is_tie}
-use Rattle.dh_tables.proofs.Doubles.{no_doubles}
-use Rattle.dh_tables.proofs.Lists.{has_all, map_same, one_of_key}
-use Rattle.dh_tables.proofs.Maps.{from_permutation}
-use Rattle.dh_tables.proofs.Selecting.{shows_rows}
-use Rattle.dh_tables.proofs.Slices.{put_alone}
+use Rattle.dh_sql.specs.Gathered.{put_rows}
+use Rattle.dh_sql.specs.Queries.{passes_all, shows}
+use Rattle.dh_sql.specs.Shape.{AreApart, IsStored, Shape, entry_in, rows_in, rows_of, shown_keys, stored_in, under_key}
+use Rattle.dh_sql.specs.Texts.{IsSelectText}
+use Rattle.dh_sql.proofs.Comparing.{is_tie}
+use Rattle.dh_sql.proofs.Doubles.{no_doubles}
+use Rattle.dh_sql.proofs.Lists.{has_all, map_same, one_of_key}
+use Rattle.dh_sql.proofs.Maps.{from_permutation}
+use Rattle.dh_sql.proofs.Selecting.{shows_rows}
+use Rattle.dh_sql.proofs.Slices.{put_alone}
 
 pub no_tests : (rows : List Row) → filter (passes_all [] []) rows ≡ rows
 no_tests [] = refl

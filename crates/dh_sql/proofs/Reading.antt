@@ -8,7 +8,7 @@ use Rattle.sqlite.specs.Order.{Row}
 use Rattle.sqlite.specs.Term.{Term, Env}
 use Rattle.sqlite.specs.Query.{Query, IsAnswerAs, Output, output, output_cmp}
 use Rattle.sqlite.specs.Tree.{Trees}
-use Rattle.dh_tables.specs.Queries.{passes_all, plain_query, shows}
+use Rattle.dh_sql.specs.Queries.{passes_all, plain_query, shows}
 
 abbrev pub found : Row → List Term → List Row → List Env
 found params tests rows = map (λ r. params ∷ r ∷ []) (filter (passes_all params tests) rows)

@@ -18,8 +18,8 @@ use Rattle.dh_model.proofs.Among.{in_map}
 use Rattle.dh_model.proofs.MapRows.{found_entry, kept_if}
 use Rattle.dh_laws.specs.InOrder.{StandUnder}
 use Rattle.dh_laws.proofs.MapMerges.{get-rows_where}
-use Rattle.dh_tables.specs.Shape.{Shape, IsKept, entry_in, rows_in, rows_of, shown_keys, stored_in, under_key}
-use Rattle.dh_tables.proofs.Maps.{from_permutation}
+use Rattle.dh_sql.specs.Shape.{Shape, IsKept, entry_in, rows_in, rows_of, shown_keys, stored_in, under_key}
+use Rattle.dh_sql.proofs.Maps.{from_permutation}
 
 module _ {K X : Type 0} {R : K → K → Ordering} (o : IsTotalOrder R) (anti : IsAntisymmetric R) where
   find-lookup : (es : List (K × X)) (q : K) → find R q es ≡ lookup (eq_by_cmp R q) es

@@ -17,8 +17,8 @@ use Rattle.sqlite.specs.Tree.{Trees}
 use Rattle.sqlite.specs.Effect.{Database, Answers}
 use Rattle.sqlite.specs.State.{State, Writes}
 use Rattle.sqlite.proofs.Callers.{one_step}
-use Rattle.dh_tables.specs.Texts.{IsQuiet, uncounted}
-use Rattle.dh_tables.proofs.Running.{same_value, went}
+use Rattle.dh_sql.specs.Texts.{IsQuiet, uncounted}
+use Rattle.dh_sql.proofs.Running.{same_value, went}
 
 -- the schema stays, and the rows that its query showed are written in the place of those that it found
 pub record Updates (schema : Schema) (old new : Database) (table : Table) (query : Program) (params : Row) : Type 0 where

@@ -9,7 +9,7 @@ use Rattle.sqlite_rules.specs.Cast.{cast_row}
 use Rattle.sqlite_trees.specs.Tree.{Trees, rowid}
 use Rattle.sqlite_catalog.specs.Listing as catalog
 use Rattle.sqlite.specs.State.{State}
-use Rattle.dh_tables.specs.Shape.{AreApart, IsKept, IsStored, Shape, rows_in, stored_in}
+use Rattle.dh_sql.specs.Shape.{AreApart, IsKept, IsStored, Shape, rows_in, stored_in}
 
 -- each table of the schema but that of one tree is as it was
 abbrev pub OthersStay : Schema → ℕ → Trees → Trees → Type 0

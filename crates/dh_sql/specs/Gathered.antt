@@ -4,7 +4,7 @@ use Rattle.std.specs.List.{fold}
 use Rattle.std.specs.declared.cmp.Ordering.{Ordering}
 use Rattle.std.specs.FinMap.{FinMap, insert}
 use Rattle.sqlite_value.specs.Order.{Row}
-use Rattle.dh_tables.specs.Shape.{Shape}
+use Rattle.dh_sql.specs.Shape.{Shape}
 
 module _ {K X : Type 0} {R : K → K → Ordering} (it : Shape K X) where
   abbrev pub put_row : FinMap R X → Row → FinMap R X

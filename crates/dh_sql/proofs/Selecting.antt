@@ -14,9 +14,9 @@ use Rattle.sqlite.specs.declared.error.Error.{Error}
 use Rattle.sqlite.specs.Listing.{understood}
 use Rattle.sqlite.proofs.StateLemmas.{survives_weaker}
 use Rattle.sqlite.proofs.Callers.{reads_as, never_commits, IsPlain}
-use Rattle.dh_tables.specs.Queries.{passes_all, shows}
-use Rattle.dh_tables.specs.Texts.{IsSelectText}
-use Rattle.dh_tables.proofs.Reading.{plain_rows}
+use Rattle.dh_sql.specs.Queries.{passes_all, shows}
+use Rattle.dh_sql.specs.Texts.{IsSelectText}
+use Rattle.dh_sql.proofs.Reading.{plain_rows}
 
 -- a query with no RETURNING that fails changes nothing, or ends the transaction
 fails_whole : (sql : List ℕ) (params : Row) (old new : State) (e : Error) → IsPlain (understood old.now.schema sql) → FailsToQuery sql params old new e

@@ -22,17 +22,17 @@ use Rattle.sqlite.specs.Table.{Table}
 use Rattle.sqlite.specs.Term.{Term}
 use Rattle.sqlite.specs.Tree.{has_rowid, put_row, rowid}
 use Rattle.sqlite.proofs.Callers.{runs_as, statement_of}
-use Rattle.dh_tables.specs.Changes.{Becomes, IsTurnedInto}
-use Rattle.dh_tables.specs.Queries.{passes_all, plain_query, shows}
-use Rattle.dh_tables.specs.Shape.{AreApart, IsKept, IsStored, Shape, rows_in, stored_in}
-use Rattle.dh_tables.specs.Texts.{IsQuiet, IsUpdateText}
-use Rattle.dh_tables.proofs.Apart.{apart_with}
-use Rattle.dh_tables.proofs.Found.{keyed_rows}
-use Rattle.dh_tables.proofs.Lists.{has_all}
-use Rattle.dh_tables.proofs.Reading.{plain_rows}
-use Rattle.dh_tables.proofs.Staying.{others_stay}
-use Rattle.dh_tables.proofs.Updating.{apart_among, kept_after, only_row, others_apart, others_own, own, updated, was, is}
-use Rattle.dh_tables.proofs.Writing.{updates}
+use Rattle.dh_sql.specs.Changes.{Becomes, IsTurnedInto}
+use Rattle.dh_sql.specs.Queries.{passes_all, plain_query, shows}
+use Rattle.dh_sql.specs.Shape.{AreApart, IsKept, IsStored, Shape, rows_in, stored_in}
+use Rattle.dh_sql.specs.Texts.{IsQuiet, IsUpdateText}
+use Rattle.dh_sql.proofs.Apart.{apart_with}
+use Rattle.dh_sql.proofs.Found.{keyed_rows}
+use Rattle.dh_sql.proofs.Lists.{has_all}
+use Rattle.dh_sql.proofs.Reading.{plain_rows}
+use Rattle.dh_sql.proofs.Staying.{others_stay}
+use Rattle.dh_sql.proofs.Updating.{apart_among, kept_after, only_row, others_apart, others_own, own, updated, was, is}
+use Rattle.dh_sql.proofs.Writing.{updates}
 
 as_given : (rows xs : List Row) → numbered Given rows xs ≡ xs
 as_given rows [] = refl

@@ -25,11 +25,11 @@ use Rattle.sqlite.specs.Cast.{cast_row}
 use Rattle.sqlite.specs.Edit.{are_fresh, id_in, put_all, without_all}
 use Rattle.dh_model.proofs.Among.{in_map}
 use Rattle.dh_model.proofs.MapRows.{found_entry}
-use Rattle.dh_tables.specs.Shape.{AreApart, Shape, IsKept, IsStored, entry_in, rows_in, stored_in}
-use Rattle.dh_tables.proofs.Apart.{own_rowid}
-use Rattle.dh_tables.proofs.Lists.{all_from_has, has_all, has_among}
-use Rattle.dh_tables.proofs.Maps.{from_more}
-use Rattle.dh_tables.proofs.Running.{and_first, not_true, put_fresh}
+use Rattle.dh_sql.specs.Shape.{AreApart, Shape, IsKept, IsStored, entry_in, rows_in, stored_in}
+use Rattle.dh_sql.proofs.Apart.{own_rowid}
+use Rattle.dh_sql.proofs.Lists.{all_from_has, has_all, has_among}
+use Rattle.dh_sql.proofs.Maps.{from_more}
+use Rattle.dh_sql.proofs.Running.{and_first, not_true, put_fresh}
 
 -- the rows that a test finds, shown with their rowids, are taken out and put in anew
 module _ (t : Table) (rows answer : List Row) (p : Row → Bool) (f : Row → Row) (found : IsPermutation (map f (filter p rows)) answer)

@@ -13,12 +13,12 @@ use Rattle.sqlite.specs.Term.{Term}
 use Rattle.sqlite.specs.declared.error.Error.{Error}
 use Rattle.sqlite.specs.State.{State, Shown}
 use Rattle.dh_model.specs.Whole.{rows_where}
-use Rattle.dh_tables.specs.Shape.{Shape, IsKept, rows_in, rows_of, shown_keys, stored_in}
-use Rattle.dh_tables.specs.Queries.{passes_all, shows}
-use Rattle.dh_tables.specs.Texts.{IsSelectText}
-use Rattle.dh_tables.proofs.Found.{found_once, found_where}
-use Rattle.dh_tables.proofs.Lists.{all_of, map_same}
-use Rattle.dh_tables.proofs.Selecting.{shows_rows}
+use Rattle.dh_sql.specs.Shape.{Shape, IsKept, rows_in, rows_of, shown_keys, stored_in}
+use Rattle.dh_sql.specs.Queries.{passes_all, shows}
+use Rattle.dh_sql.specs.Texts.{IsSelectText}
+use Rattle.dh_sql.proofs.Found.{found_once, found_where}
+use Rattle.dh_sql.proofs.Lists.{all_of, map_same}
+use Rattle.dh_sql.proofs.Selecting.{shows_rows}
 
 module _ {K X : Type 0} {R : K → K → Ordering} (o : IsTotalOrder R) (anti : IsAntisymmetric R) (it : Shape K X) (text : List ℕ) (schema : Schema)
     (tests project : List Term) (names : List (List ℕ)) (params : Row) (test : X → Bool)

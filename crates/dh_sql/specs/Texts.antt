@@ -15,7 +15,7 @@ use Rattle.sqlite.specs.Rows.{stamped}
 use Rattle.sqlite.specs.Term.{Term}
 use Rattle.sqlite.specs.Tree.{Trees}
 use Rattle.sqlite.proofs.Callers.{IsPlain, command_of}
-use Rattle.dh_tables.specs.Queries.{last_query, plain_query}
+use Rattle.dh_sql.specs.Queries.{last_query, plain_query}
 
 -- no AUTOINCREMENT, and no default that reads the time
 abbrev pub uncounted : Table → Table

@@ -9,8 +9,8 @@ use Rattle.sqlite_trees.specs.View.{is_int}
 use Rattle.sqlite_value.specs.Order.{Row}
 use Rattle.sqlite.specs.Cast.{cast, cast_all, cast_row}
 use Rattle.sqlite.specs.Ops.{unary}
-use Rattle.dh_tables.specs.CellTests.{AreCells, Cell, tests_of}
-use Rattle.dh_tables.proofs.Running.{and_first, and_second}
+use Rattle.dh_sql.specs.CellTests.{AreCells, Cell, tests_of}
+use Rattle.dh_sql.proofs.Running.{and_first, and_second}
 
 either : (b : Bool) (x : Value) → cond b x x ≡ x
 either true x = refl
