@@ -13,5 +13,6 @@ pub mod BatchBranch
 pub mod BatchCharges
 pub mod BatchParts
 pub mod Counted
+pub mod Leading
 pub mod Planned
 pub mod InTime

@@ -1,6 +1,6 @@
 -- Lists by their places.
 use Rattle.std.proofs.Common.{◌≡◌, ◌∙◌, refl, sym, ap, subst, inl, inr, ℕ, zero, suc, ◌+◌, ◌<◌, ◌≤◌, Bool, cond, List, [], ◌∷◌, ◌++◌, map, length}
-use Rattle.std.proofs.Common.{slice_index_or, arith}
+use Rattle.std.proofs.Common.{arith}
 use Rattle.std.specs.List.{filter, range_with_len}
 use Rattle.dh_model.proofs.Among.{Among}
 use Rattle.dh_model.proofs.Rising.{Rises}
@@ -24,16 +24,6 @@ module _ {X : Type 0} (P : ℕ → X → Type 0) where
     each a j (omega arith) (omega arith) (omega arith),
     from_range f (a + 1) n (j + 1) (λ i at from until is. each i at (omega (arith, from)) (omega (arith, until)) (omega (arith, is))),
   )
-
-  pub at_place : {Y : Type 0} (f : Y → X) (j : ℕ) (ys : List Y) (i : ℕ) (y : Y) → AreFrom P j (map f ys) → i < length ys → y ≡ slice_index_or ys i y
-      → P (j + i) (f y)
-  at_place f j [] i y are h e = absurd (omega (arith, h))
-  at_place f j (z ∷ ys) zero y are h e =
-      let same : j ≡ j + 0 = omega arith in
-      subst (λ n. P n (f y)) same (subst (λ x. P j (f x)) (sym e) are.0)
-  at_place f j (z ∷ ys) (suc i) y are h e =
-      let same : j + 1 + i ≡ j + suc i = omega arith in
-      subst (λ n. P n (f y)) same (at_place f (j + 1) ys i y are.1 (omega (arith, h)) e)
 
 -- tests that agree on the elements keep the same
 pub filter_alike : {X : Type 0} (p q : X → Bool) (xs : List X) → ((x : X) → Among xs x → p x ≡ q x) → filter p xs ≡ filter q xs

@@ -1,5 +1,5 @@
 -- The rows of a run's batches, and the tables that they lead to.
-use Rattle.std.specs.Prelude.{◌≡◌, ◌<◌, ◌≤◌, ℕ, ◌+◌, All, List, [], ◌∷◌, length, slice_index_or, is_some, Option, Some, None}
+use Rattle.std.specs.Prelude.{◌≡◌, ◌≤◌, ℕ, ◌+◌, All, List, [], ◌∷◌, is_some, Option, Some, None}
 use Rattle.std.specs.FinMap.{FinMap, get, insert}
 use Rattle.std.specs.Ordering.{nat_cmp}
 use Rattle.dh_days.specs.Days.{month_of_day}
@@ -42,24 +42,29 @@ FallsInTime rows = All (λ charge. month_of_day charge.day ≤ LAST_ENTRY_MONTH)
 abbrev pub begins_at : Plan → OpenRun
 begins_at plan = record { month = plan.month; done = plan.done }
 
--- the tables with so many batches more
-abbrev pub stage : Books → OpenRun → ℕ → State
-stage books run n = record {
-  books = with_posted batch_size books run.month (run.done + n);
-  open_run = Some (record { month = run.month; done = run.done + n });
+-- the rows are the batch between these tables: new to the first, they know whether their branch has a part row there, and lead to the second
+pub record IsBatchBetween (rows : BatchRows) (before after : State) : Type 0 where
+  pub new : AreNew rows.charges.items before.books.charges
+  pub begun : HasItsPart rows before
+  pub goes : with_batch_rows rows before ≡ after
+
+-- the tables where so many batches of the month are done
+abbrev pub stage : Books → ℕ → ℕ → State
+stage books month done = record {
+  books = with_posted batch_size books month done;
+  open_run = Some (record { month = month; done = done });
 }
 
--- The plan has the batches that the open run lacks: the rows of each are new to the tables with those before, and lead from them
--- to the tables with it; and each knows whether its branch has a part row.
+-- Where so many batches of the month are done, these are all others, in their order: none, and all are done; or the first is the
+-- batch that comes next, and the rest lead on from there.
+abbrev pub LeadOn : Books → ℕ → ℕ → List BatchRows → Type 0
+LeadOn books month done [] = done ≡ batches batch_size books month
+LeadOn books month done (rows ∷ rest) = IsBatchBetween rows (stage books month done) (stage books month (done + 1)) × LeadOn books month (done + 1) rest
+
+-- the open run is the plan's, and its batches lead on from there
 pub record IsPlanOf (plan : Plan) (s : State) : Type 0 where
   pub shown : s.open_run ≡ Some (begins_at plan)
-  pub counted : plan.done + length plan.batches.items ≡ batches batch_size s.books plan.month
-  pub goes : (n : ℕ) (rows : BatchRows) → n < length plan.batches.items → rows ≡ slice_index_or plan.batches.items n rows
-      → with_batch_rows rows (stage s.books (begins_at plan) n) ≡ stage s.books (begins_at plan) (n + 1)
-  pub new : (n : ℕ) (rows : BatchRows) → n < length plan.batches.items → rows ≡ slice_index_or plan.batches.items n rows
-      → AreNew rows.charges.items (stage s.books (begins_at plan) n).books.charges
-  pub begun : (n : ℕ) (rows : BatchRows) → n < length plan.batches.items → rows ≡ slice_index_or plan.batches.items n rows
-      → HasItsPart rows (stage s.books (begins_at plan) n)
+  pub leads : LeadOn s.books plan.month plan.done plan.batches.items
 
 -- no run is open, or this is the plan of it
 abbrev pub IsPlanned : State → Option Plan → Type 0

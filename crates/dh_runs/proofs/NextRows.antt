@@ -18,6 +18,7 @@ use Rattle.dh_laws.proofs.PostMonth.{stays}
 use Rattle.dh_leases.specs.declared.planning.BatchRows.{BatchRows}
 use Rattle.dh_leases.specs.declared.planning.Plan.{Plan}
 use Rattle.dh_leases.specs.Plans.{AreNew, HasItsPart, IsPlanOf, begins_at, stage, with_batch_rows}
+use Rattle.dh_leases.proofs.Leading.{IsBatchAt, batch_at, counted}
 use Rattle.dh_runs.specs.declared.posting.Batch.TheVariants.{Posted, NoneLeft}
 use Rattle.dh_runs.specs.Batches.{batch_told}
 
@@ -48,11 +49,8 @@ module _ (plan : Plan) (s : State) (order : IsStateInOrder s) (is : IsPlanOf pla
   here : IsInOrder batch_size s.books (Some run)
   here = subst (λ it. IsInOrder batch_size s.books it) is.shown order
 
-  first_stage : s ≡ stage s.books run 0
-  first_stage =
-      let none : plan.done ≡ plan.done + 0 = omega arith in
-      (λ i. record { books = sym (own_stage s.books run here) i; open_run = is.shown i })
-      ∙ ap (λ (m : ℕ). record { books = with_posted batch_size s.books plan.month m; open_run = Some (record { month = plan.month; done = m }) }) none
+  pub first_stage : s ≡ stage s.books plan.month plan.done
+  first_stage = λ i. record { books = sym (own_stage s.books run here) i; open_run = is.shown i }
 
   next_by : (b : Bool) → nat_lt plan.done all ≡ b → next_batch s ≡ (if b then with_batch s.books run else record { books = s.books; open_run = Some run })
   next_by b e = ap (next_of s.books) is.shown ∙ ap (λ (b : Bool). if b then with_batch s.books run else record { books = s.books; open_run = Some run }) e
@@ -63,7 +61,7 @@ module _ (plan : Plan) (s : State) (order : IsStateInOrder s) (is : IsPlanOf pla
   -- where the plan has no rows, no batch is left
   module _ (none : length plan.batches.items ≡ 0) where
     at_the_last : nat_lt plan.done all ≡ false
-    at_the_last = let counted = is.counted in grind (arith, nat_tests, counted, none)
+    at_the_last = let count = counted plan s is in grind (arith, nat_tests, count, none)
 
     pub none_told : NoneLeft ≡ batch_told s.books s.open_run
     none_told = sym (told_by false at_the_last)
@@ -73,25 +71,28 @@ module _ (plan : Plan) (s : State) (order : IsStateInOrder s) (is : IsPlanOf pla
 
   -- the first of its rows are the next batch
   module _ (rows : BatchRows) (some : 0 < length plan.batches.items) (at : rows ≡ slice_index_or plan.batches.items 0 rows) where
+    first_batch : IsBatchAt s.books plan.month plan.done rows
+    first_batch = batch_at plan s is 0 plan.done rows some (omega arith) at
+
     before_the_last : nat_lt plan.done all ≡ true
-    before_the_last = let counted = is.counted in grind (arith, nat_tests, counted, some)
+    before_the_last = let count = counted plan s is in grind (arith, nat_tests, count, some)
 
     pub posted_told : Posted (plan.done + 1) (plan.done + length plan.batches.items) ≡ batch_told s.books s.open_run
-    posted_told = ap (λ (of : ℕ). Posted (plan.done + 1) of) is.counted ∙ sym (told_by true before_the_last)
+    posted_told = ap (λ (of : ℕ). Posted (plan.done + 1) of) (counted plan s is) ∙ sym (told_by true before_the_last)
 
-    to_first : with_batch_rows rows s ≡ stage s.books run 1
-    to_first = ap (with_batch_rows rows) first_stage ∙ is.goes 0 rows some at
+    to_first : with_batch_rows rows s ≡ stage s.books plan.month (plan.done + 1)
+    to_first = ap (with_batch_rows rows) first_stage ∙ first_batch.goes
 
     pub rows_next : with_batch_rows rows s ≡ next_batch s
     rows_next = to_first ∙ sym (next_by true before_the_last)
 
     pub rows_in_order : IsStateInOrder (with_batch_rows rows s)
     rows_in_order =
-        let led = with_batches batch_size s.books run (plan.done + 1) here (let counted = is.counted in omega (arith, counted, some)) in
+        let led = with_batches batch_size s.books run (plan.done + 1) here (let count = counted plan s is in omega (arith, count, some)) in
         subst (λ (it : State). IsStateInOrder it) (sym to_first) led.order
 
     pub rows_new : AreNew rows.charges.items s.books.charges
-    rows_new = subst (λ (it : State). AreNew rows.charges.items it.books.charges) (sym first_stage) (is.new 0 rows some at)
+    rows_new = subst (λ (it : State). AreNew rows.charges.items it.books.charges) (sym first_stage) first_batch.new
 
     pub rows_known : HasItsPart rows s
-    rows_known = subst (HasItsPart rows) (sym first_stage) (is.begun 0 rows some at)
+    rows_known = subst (HasItsPart rows) (sym first_stage) first_batch.begun

@@ -5,36 +5,22 @@ use Rattle.std.proofs.lemmas.List.{get_or-take, length-take}
 use Rattle.sqlite.specs.State.{State, HasCleanDisk}
 use Rattle.sqlite_trees.specs.View.{doubt}
 use Rattle.dh_types.specs.declared.reply.Progress.{Progress}
-use Rattle.dh_model.specs.declared.open_run.OpenRun.{OpenRun}
 use Rattle.dh_model.specs.Books as machine
 use Rattle.dh_model.specs.Books.{Books}
-use Rattle.dh_model.specs.Runs.{batch_size, charge_key, part_key, posted_charges, posted_parts}
-use Rattle.dh_model.specs.Whole.{whole, with_posted}
-use Rattle.dh_model.proofs.KeyOrders.{nat_text_ties, nat_text_total, nats_tie, nats_total}
+use Rattle.dh_model.specs.Runs.{batch_size}
+use Rattle.dh_model.specs.Whole.{whole}
 use Rattle.dh_laws.specs.Batches.{IsPostedInPart}
 use Rattle.dh_laws.specs.InOrder.{IsInOrder}
 use Rattle.dh_laws.specs.StateTables.{IsStateInOrder}
 use Rattle.dh_laws.proofs.MovingBatches.{batches_of_whole, with_batches}
-use Rattle.dh_laws.proofs.PostCharged.{charge_month, charges_fit, part_month, parts_fit}
-use Rattle.dh_laws.proofs.PostMonth.{stays}
 use Rattle.dh_laws.proofs.Standing.{Stands, posted_in_part}
 use Rattle.dh_leases.specs.declared.planning.BatchRows.{BatchRows}
 use Rattle.dh_leases.specs.declared.planning.Plan.{Plan}
 use Rattle.dh_leases.specs.Plans.{AreNew, HasItsPart, IsPlanOf, begins_at, stage, with_batch_rows}
+use Rattle.dh_leases.proofs.Leading.{IsBatchAt, batch_at, counted}
 use Rattle.dh_schema.specs.Store.{IsReady, Leaves, tables}
 use Rattle.dh_runs.proofs.Along.{Along, either, in_order, leaves_weaker}
-
--- with the batches that are done, books are as they were
-own_stage : (books : Books) (run : OpenRun) → IsInOrder batch_size books (Some run) → with_posted batch_size books run.month run.done ≡ books
-own_stage books run order =
-    let shown = order.shown.3 in
-    let charges =
-    stays charge_key charge_month nats_total nats_tie books.charges run.month (posted_charges batch_size books run.month run.done)
-    (charges_fit batch_size books order.keyed order.rules run.month run.done) shown.charges in
-    let parts =
-    stays part_key part_month nat_text_total nat_text_ties books.parts run.month (posted_parts batch_size books run.month run.done)
-    (parts_fit batch_size books order.keyed order.rules run.month run.done) shown.parts in
-    λ i. record books { charges = charges i; parts = parts i }
+use Rattle.dh_runs.proofs.NextRows.{first_stage}
 
 -- each of the first rows is that of all at its place
 pub in_front : (all given : List BatchRows) (n k : ℕ) (rows : BatchRows) → given ≡ all → k < length (take n given) → rows ≡ get_or (take n given) k rows
@@ -53,37 +39,33 @@ progress plan = record { month = plan.month; done = plan.done; of = plan.done + 
 pub record Planned (old now : State) (plan : Plan) (n : ℕ) : Type 0 where
   pub along : Along old now (progress plan) n
   pub plans : HasCleanDisk now → IsPlanOf plan (tables old)
-  pub stands : HasCleanDisk now → tables now ≡ stage (tables old).books (begins_at plan) n
+  pub stands : HasCleanDisk now → tables now ≡ stage (tables old).books plan.month (plan.done + n)
 
 module _ (old : State) (plan : Plan) where
-  at_stage : (s t : machine.State) (n : ℕ) → IsStateInOrder s → IsPlanOf plan s → n ≤ length plan.batches.items → t ≡ stage s.books (begins_at plan) n
-      → Stands (begins_at plan) s n t
+  at_stage : (s t : machine.State) (n : ℕ) → IsStateInOrder s → IsPlanOf plan s → n ≤ length plan.batches.items
+      → t ≡ stage s.books plan.month (plan.done + n) → Stands (begins_at plan) s n t
   at_stage s t n order is few made =
       let here : IsInOrder batch_size s.books (Some (begins_at plan)) = subst (λ it. IsInOrder batch_size s.books it) is.shown order in
-      let led = with_batches batch_size s.books (begins_at plan) (plan.done + n) here (omega (arith, few, is.counted)) in
+      let count = counted plan s is in
+      let led = with_batches batch_size s.books (begins_at plan) (plan.done + n) here (omega (arith, few, count)) in
       record {
         order = subst (λ (it : machine.State). IsStateInOrder it) (sym made) led.order;
         same = ap (λ (it : machine.State). whole batch_size it.books) made ∙ led.same;
         is = ap (λ (it : machine.State). it.open_run) made;
       }
 
-  first_stage : (s : machine.State) → IsStateInOrder s → IsPlanOf plan s → s ≡ stage s.books (begins_at plan) 0
-  first_stage s order is =
-      let here : IsInOrder batch_size s.books (Some (begins_at plan)) = subst (λ it. IsInOrder batch_size s.books it) is.shown order in
-      let none : plan.done ≡ plan.done + 0 = omega arith in
-      (λ i. record { books = sym (own_stage s.books (begins_at plan) here) i; open_run = is.shown i })
-      ∙ ap (λ m. record { books = with_posted batch_size s.books plan.month m; open_run = Some (record { month = plan.month; done = m }) }) none
-
   pub planned_first : (HasCleanDisk old → IsReady old) → (HasCleanDisk old → IsPlanOf plan (tables old)) → Planned old old plan 0
   planned_first ready told =
       let order : HasCleanDisk old → IsStateInOrder (tables old) = λ clean. in_order old (ready clean) in
-      let first : HasCleanDisk old → tables old ≡ stage (tables old).books (begins_at plan) 0 = λ clean. first_stage (tables old) (order clean) (told clean) in
+      let none : plan.done ≡ plan.done + 0 = omega arith in
+      let first : HasCleanDisk old → tables old ≡ stage (tables old).books plan.month (plan.done + 0) =
+      λ clean. first_stage plan (tables old) (order clean) (told clean) ∙ ap (stage (tables old).books plan.month) none in
       record {
         along = record {
           was_clean = omega arith;
           ready = ready;
           shown = λ clean. (told clean).shown;
-          counted = λ clean. (told clean).counted ∙ sym (batches_of_whole batch_size (tables old).books plan.month);
+          counted = λ clean. counted plan (tables old) (told clean) ∙ sym (batches_of_whole batch_size (tables old).books plan.month);
           stands = λ clean. at_stage (tables old) (tables old) 0 (order clean) (told clean) (omega arith) (first clean);
         };
         plans = told;
@@ -92,8 +74,13 @@ module _ (old : State) (plan : Plan) where
 
   module _ (now : State) (n : ℕ) (h : Planned old now plan n) (was : HasCleanDisk old → IsReady old) (rows : BatchRows) (few : n < length plan.batches.items)
       (is : rows ≡ slice_index_or plan.batches.items n rows) where
-    put_is : HasCleanDisk now → with_batch_rows rows (tables now) ≡ stage (tables old).books (begins_at plan) (n + 1)
-    put_is clean = ap (with_batch_rows rows) (h.stands clean) ∙ (h.plans clean).goes n rows few is
+    batch_here : HasCleanDisk now → IsBatchAt (tables old).books plan.month (plan.done + n) rows
+    batch_here clean = batch_at plan (tables old) (h.plans clean) n (plan.done + n) rows few refl is
+
+    put_is : HasCleanDisk now → with_batch_rows rows (tables now) ≡ stage (tables old).books plan.month (plan.done + (n + 1))
+    put_is clean =
+        let next : plan.done + n + 1 ≡ plan.done + (n + 1) = omega arith in
+        ap (with_batch_rows rows) (h.stands clean) ∙ (batch_here clean).goes ∙ ap (stage (tables old).books plan.month) next
 
     next_stage : (t : machine.State) → HasCleanDisk now → t ≡ with_batch_rows rows (tables now) → Stands (begins_at plan) (tables old) (n + 1) t
     next_stage t clean made =
@@ -104,11 +91,10 @@ module _ (old : State) (plan : Plan) where
     rows_in_order clean = (next_stage (with_batch_rows rows (tables now)) clean refl).order
 
     pub rows_are_new : HasCleanDisk now → AreNew rows.charges.items (tables now).books.charges
-    rows_are_new clean =
-        subst (λ (it : machine.State). AreNew rows.charges.items it.books.charges) (sym (h.stands clean)) ((h.plans clean).new n rows few is)
+    rows_are_new clean = subst (λ (it : machine.State). AreNew rows.charges.items it.books.charges) (sym (h.stands clean)) (batch_here clean).new
 
     pub rows_begun : HasCleanDisk now → HasItsPart rows (tables now)
-    rows_begun clean = subst (HasItsPart rows) (sym (h.stands clean)) ((h.plans clean).begun n rows few is)
+    rows_begun clean = subst (HasItsPart rows) (sym (h.stands clean)) (batch_here clean).begun
 
     pub planned_next : (new : State) → doubt now.is_clean ≤ doubt new.is_clean
         → (HasCleanDisk new → IsReady new × (tables new ≡ with_batch_rows rows (tables now))) → Planned old new plan (n + 1)

@@ -1,9 +1,10 @@
-use Rattle.std.proofs.Common.{◌≡◌, ◌⊎◌, subst, arith}
+use Rattle.std.proofs.Common.{◌≡◌, ◌∙◌, ◌⊎◌, ℕ, ◌+◌, ap, subst, length, arith}
 use Rattle.sqlite.specs.State.{HasCleanDisk}
 use Rattle.sqlite.specs.Held.{state}
 use Rattle.dh_model.specs.Books as machine
 use Rattle.dh_schema.specs.Store.{IsReadyWith, Leaves, tables}
-use Rattle.dh_runs.proofs.NextRows.{first_is, rows_in_order, rows_known, rows_new, rows_next}
+use Rattle.dh_runs.specs.declared.posting.Batch.TheVariants.{Posted}
+use Rattle.dh_runs.proofs.NextRows.{first_is, posted_told, rows_in_order, rows_known, rows_new, rows_next}
 use Rattle.dh_runs.proofs.ClosedRun.{ready_in_order}
 use Rattle.dh_runs.proofs.posting.post_first.Goals as goal
 
@@ -33,6 +34,17 @@ returns-in_err-post_rows-clause-crash g c clean =
     let first = first_is _ _ _ c.deref.ensures.value c.first.ensures.value c.in-Some.is in
     let is = rows_next c.args.plan.now (tables old) (ready_in_order old (c.requires.ready early)) (c.requires.plan early) c.in-Some.rows.now first.0 first.1 in
     subst (λ (t : machine.State). Leaves new (λ it. (it ≡ tables old) ⊎ (it ≡ t))) is (c.post_rows.ensures.crash clean)
+
+pub returns-clause-told : goal.returns-clause-told
+returns-clause-told g c clean =
+    let old = state g.S.Store c.args.conn.now in
+    let early : HasCleanDisk old = omega (arith, c.post_rows.ensures.was_clean, clean) in
+    let first = first_is _ _ _ c.deref.ensures.value c.first.ensures.value c.in-Some.is in
+    let plan = c.args.plan.now in
+    let same = ap length c.deref.ensures.value in
+    let count : c.len.result ≡ length plan.batches.items = omega (arith, same) in
+    ap (λ (n : ℕ). Posted (plan.done + 1) (plan.done + n)) count
+    ∙ posted_told plan (tables old) (ready_in_order old (c.requires.ready early)) (c.requires.plan early) c.in-Some.rows.now first.0 first.1
 
 pub returns-clause-done : goal.returns-clause-done
 returns-clause-done g c clean =
