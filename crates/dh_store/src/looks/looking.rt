@@ -1,17 +1,15 @@
 //! A look at rows of one table.
 
-ghost use Rattle.std.specs.Prelude.{◌≡◌, ◌||◌, Bool, OnOk};
+ghost use Rattle.std.specs.Prelude.{◌≡◌, OnOk};
 ghost use Rattle.std.specs.FinMap as fin;
 ghost use Rattle.sqlite_trees.specs.Tree.{Trees};
 ghost use Rattle.sqlite.specs.State.{HasCleanDisk};
 ghost use Rattle.sqlite.specs.Held.{state};
-ghost use Rattle.dh_model.specs.Books.{State};
-ghost use Rattle.dh_model.specs.Whole.{rows_where};
 ghost use Rattle.dh_sql.specs.Shape.{IsKept, rows_in};
 ghost use Rattle.dh_tables.specs.Calls.{HasFetchedMore};
 ghost use Rattle.dh_schema.specs.Store.{IsReady};
 ghost use Rattle.dh_schema.specs.Tables.{AreInOrder, state_in};
-ghost use Rattle.dh_store.specs.Looked.{AreBoth};
+ghost use Rattle.dh_store.specs.Looked.{Brings};
 ghost use Rattle.dh_store.specs.Reading.{OnlyReads};
 
 use dh_books::Books;
@@ -159,12 +157,7 @@ pub fn look<L: Look, S: Alter>(
 where
     L::Record: KeptRecord,
     requires { HasCleanDisk (state S.Store conn.old) → IsReady (state S.Store conn.old) }
-    ensures first { (t b : State) → AreBoth t b (state S.Store conn.old) books.old → L.Record.shelf.held b ≡ fin.empty
-        → OnOk result (AreBoth t (L.Record.shelf.with b (rows_where (L.asks question.now) (L.Record.shelf.held t))) (state S.Store conn.new) books.new) }
-    ensures more { (t b : State) (test : L.Record → Bool) → AreBoth t b (state S.Store conn.old) books.old
-        → L.Record.shelf.held b ≡ rows_where test (L.Record.shelf.held t)
-        → OnOk result (AreBoth t (L.Record.shelf.with b (rows_where (λ x. test x || L.asks question.now x) (L.Record.shelf.held t)))
-        (state S.Store conn.new) books.new) }
+    ensures brought { Brings L.Record.shelf (L.asks question.now) result (state S.Store conn.old) books.old (state S.Store conn.new) books.new }
     ensures put { HasCleanDisk (state S.Store conn.new)
         → OnOk result (HasFetchedMore L.Record.shape L.Record.order L.Record.shelf (L.asks question.now) (state S.Store conn.old) books.old books.new) }
     ensures reads { OnlyReads (state S.Store conn.old) (state S.Store conn.new) result }

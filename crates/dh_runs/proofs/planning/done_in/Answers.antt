@@ -13,6 +13,6 @@ pub returns-clause-told : goal.returns-clause-told
 returns-clause-told g c clean =
     let old = tables (state g.S.Store c.args.conn.now) in
     let none = ap (λ (s : machine.State). s.books.parts) c.no_rows-books.ensures in
-    let taken = c.in_ok-look.ensures.first old c.no_rows-books.result (λ _. (refl, refl)) none clean in
+    let taken = c.in_ok-look.ensures.brought.first old c.no_rows-books.result (λ _. (refl, refl)) none clean in
     c.batches_done.ensures.told ∙ ap (λ (s : machine.State). sum_by (λ (part : Part). batches_for batch_size part.count) (values s.books.parts)) taken.1
     ∙ ap (λ (parts : List Part). sum_by (λ (part : Part). batches_for batch_size part.count) parts) (parts_of_month old.books c.args.month)

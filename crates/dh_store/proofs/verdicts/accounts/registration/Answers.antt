@@ -20,7 +20,7 @@ returns-in-Some-clause-gathered g c t b both none among =
       (after clean).1 ∙ ap (λ (m : FinMap (pair_cmp text_cmp text_cmp) Registration). record b { books = record b.books { registrations = m } })
           (ap (registration_for t.books.registrations terms.client) there),
     ))
-    (c.look.ensures.first t b both none)
+    (c.look.ensures.brought.first t b both none)
 
 pub returns-in-None-clause-gathered : goal.returns-in-None-clause-gathered
 returns-in-None-clause-gathered g c t b both none among clean =

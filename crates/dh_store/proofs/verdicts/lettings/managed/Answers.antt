@@ -14,15 +14,15 @@ pub returns-in_ok-look-in-Some-clause-gathered : goal.returns-in_ok-look-in-Some
 returns-in_ok-look-in-Some-clause-gathered g c t b both staff none =
     let property = c.args.property in
     let new = c.look-in-Some-2.new in
-    let member = c.in_ok-look-in-Some.ensures.first t _ (c.in_ok-look.ensures.first t b both none) staff in
+    let member = c.in_ok-look-in-Some.ensures.brought.first t _ (c.in_ok-look.ensures.brought.first t b both none) staff in
     subst
     (λ (m : Option (List ℕ)). OnOk c.look-in-Some-2.result (AreBoth t (with_managed property m t b) (state g.S.Store new.conn) new.books))
-    (sym c.in-Some.is) (c.look-in-Some-2.ensures.more t _ (λ (p : Property). is_same_text p.number property) member refl)
+    (sym c.in-Some.is) (c.look-in-Some-2.ensures.brought.more t _ (λ (p : Property). is_same_text p.number property) member refl)
 
 pub returns-in-None-clause-gathered : goal.returns-in-None-clause-gathered
 returns-in-None-clause-gathered g c t b both staff none clean =
     let property = c.args.property in
-    let one = c.in_ok-look.ensures.first t b both none clean in
+    let one = c.in_ok-look.ensures.brought.first t b both none clean in
     let rows = rows_where (λ (p : Property). is_same_text p.number property) t.books.properties in (
       one.0,
       one.1 ∙ ap (λ (m : FinMap text_cmp Staff). record b { books = record b.books { staff = m; properties = rows } }) staff

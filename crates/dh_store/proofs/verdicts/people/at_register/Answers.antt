@@ -3,5 +3,5 @@ use Rattle.dh_store.proofs.verdicts.people.at_register.Goals as goal
 
 pub returns-clause-gathered : goal.returns-clause-gathered
 returns-clause-gathered g c t at =
-    let staffed = c.in_ok-look-2.ensures.first t _ (c.in_ok-look.ensures.first t _ at refl) refl in
-    c.look-4.ensures.first t _ (c.in_ok-look-3.ensures.first t _ staffed refl) refl
+    let staffed = c.in_ok-look-2.ensures.brought.first t _ (c.in_ok-look.ensures.brought.first t _ at refl) refl in
+    c.look-4.ensures.brought.first t _ (c.in_ok-look-3.ensures.brought.first t _ staffed refl) refl
