@@ -7,7 +7,7 @@ use Rattle.dh_model.specs.Machine.{step}
 use Rattle.dh_model.specs.Verdicts.{verdict_on}
 use Rattle.dh_model.specs.Whole.{whole}
 use Rattle.dh_laws.specs.Events.{Event, Said, Cut, Taken, Torn, Mended, Follow, IsMovedOn, RunIfDone, RunIfUndone, Tables, state_of}
-use Rattle.dh_laws.specs.Kept.{Kept}
+use Rattle.dh_laws.specs.Kept.{Kept, NoneLeft, Answered, CutUndone, CutDone, FilesTaken, RecoveryCut, RecoveryDone}
 use Rattle.dh_laws.specs.Lives.{AllLives}
 use Rattle.dh_laws.proofs.LiveTables.{mended_whole}
 
@@ -18,34 +18,36 @@ module _ (size : ℕ) (after : Tables) where
 
   answered : (s next : State) (it : Command) (reply : Reply) (t : Tables) (events : List (Event × Tables)) → step size s it ≡ (next, reply)
       → Leads next events → Leads s ((Said it reply, t) ∷ events)
-  answered s next it reply t events e l = (it ∷ l.0, l.1, (l.0, next, refl, e, l.2), l.3, l.4)
+  answered s next it reply t events e l = (it ∷ l.0, l.1, Answered e l.2, l.3, l.4)
 
   left_out : (s : State) (it : Command) (t : Tables) (events : List (Event × Tables)) → RunIfUndone size s.books it s.open_run t.run
       → Leads (record s { open_run = t.run }) events → Leads s ((Cut it, t) ∷ events)
-  left_out s it t events run l = (l.0, l.1, inl (run, l.2), l.3, l.4)
+  left_out s it t events run l = (l.0, l.1, CutUndone run l.2, l.3, l.4)
 
   taken_in : (s : State) (it : Command) (t : Tables) (events : List (Event × Tables)) → RunIfDone size s it (verdict_on s.books s.open_run it) t.run
       → Leads (record (step size s it).0 { open_run = t.run }) events → Leads s ((Cut it, t) ∷ events)
-  taken_in s it t events run l = (it ∷ l.0, l.1, inr (l.0, refl, run, l.2), l.3, l.4)
+  taken_in s it t events run l = (it ∷ l.0, l.1, CutDone run l.2, l.3, l.4)
 
   moved_on : (s : State) (t : Tables) (events : List (Event × Tables)) → IsMovedOn size s.books s.open_run t.run → Leads (record s { open_run = t.run }) events
       → Leads s ((Torn, t) ∷ events)
-  moved_on s t events run l = (l.0, l.1, (run, l.2), l.3, l.4)
+  moved_on s t events run l = (l.0, l.1, RecoveryCut run l.2, l.3, l.4)
 
   -- the tables stand for these books and their open run
   moved : (t : Tables) (books : Books) (events : List (Event × Tables)) → whole size t.books ≡ books → Leads (state_of size t) events
       → Leads (record { books = books; open_run = t.run }) events
   moved t books events is l = subst (λ b. Leads (record { books = b; open_run = t.run }) events) is l
 
-  closed : (t : Tables) (books : Books) (events : List (Event × Tables)) → whole size t.books ≡ books → t.run ≡ None → Leads (state_of size t) events
-      → Leads (record { books = books; open_run = None }) events
-  closed t books events is none l = subst (λ run. Leads (record { books = books; open_run = run }) events) none (moved t books events is l)
+  closed : (s : State) (t : Tables) (events : List (Event × Tables)) → whole size t.books ≡ s.books → t.run ≡ None → Leads (state_of size t) events
+      → Leads s ((Mended, t) ∷ events)
+  closed s t events is none l =
+      let it = subst (λ run. Leads (record s { open_run = run }) events) none (moved t s.books events is l) in
+      (it.0, it.1, RecoveryDone it.2, it.3, it.4)
 
   abbrev to_the_end : List (Event × Tables) → List (Event × Tables)
   to_the_end events = events ++ (Mended, after) ∷ []
 
   lead : (start : Tables) (events : List (Event × Tables)) → Follow size start (to_the_end events) → Leads (state_of size start) (to_the_end events)
-  lead start [] f = ([], record { books = whole size start.books; open_run = None }, (refl, refl), ap (λ (t : Tables). t.books) f.1, refl)
+  lead start [] f = ([], record { books = whole size start.books; open_run = None }, RecoveryDone NoneLeft, ap (λ (t : Tables). t.books) f.1, refl)
   lead start ((Said it reply, t) ∷ events) f = answered (state_of size start) (state_of size t) it reply t (to_the_end events) f.1 (lead t events f.2)
   lead start ((Cut it, t) ∷ events) f = elim f.1 [
     | inl undone ↦
@@ -55,11 +57,13 @@ module _ (size : ℕ) (after : Tables) where
         taken_in (state_of size start) it t (to_the_end events) done.run
         (moved t (step size (state_of size start) it).0.books (to_the_end events) done.books (lead t events f.2))
   ]
-  lead start ((Taken, t) ∷ events) f = subst (λ u. Leads (state_of size u) (to_the_end events)) f.1 (lead t events f.2)
+  lead start ((Taken, t) ∷ events) f =
+      let it = subst (λ u. Leads (state_of size u) (to_the_end events)) f.1 (lead t events f.2) in
+      (it.0, it.1, FilesTaken it.2, it.3, it.4)
   lead start ((Torn, t) ∷ events) f =
       moved_on (state_of size start) t (to_the_end events) f.1.run (moved t (whole size start.books) (to_the_end events) f.1.books (lead t events f.2))
   lead start ((Mended, t) ∷ events) f =
-      closed t (whole size start.books) (to_the_end events) (mended_whole size t (whole size start.books) f.1 f.0) (ap (λ (u : Tables). u.run) f.1)
+      closed (state_of size start) t (to_the_end events) (mended_whole size t (whole size start.books) f.1 f.0) (ap (λ (u : Tables). u.run) f.1)
       (lead t events f.2)
 
 pub lives : (size : ℕ) → AllLives size

@@ -1,13 +1,12 @@
 -- Life after life, the commands that count are a beginning of its calls.
-use Rattle.std.proofs.Common.{◌≡◌, ◌∙◌, refl, sym, ap, inl, inr, ℕ, ◌≤◌, List, [], ◌∷◌, ◌++◌, length, None, arith}
+use Rattle.std.proofs.Common.{◌≡◌, ◌∙◌, refl, sym, ap, ℕ, List, [], ◌∷◌, ◌++◌, arith}
 use Rattle.dh_types.specs.declared.command.Command.{Command}
 use Rattle.dh_types.specs.declared.reply.Reply.{Reply}
 use Rattle.dh_model.specs.Books.{State}
-use Rattle.dh_model.specs.Machine.{step}
 use Rattle.dh_laws.specs.Events.{Event, Said, Cut, Taken, Torn, Mended, Tables}
-use Rattle.dh_laws.specs.Kept.{Kept}
+use Rattle.dh_laws.specs.Kept.{Kept, NoneLeft, Answered, CutUndone, CutDone, FilesTaken, RecoveryCut, RecoveryDone}
 use Rattle.dh_laws.specs.Lives.{IsOneLife, calls}
-use Rattle.dh_laws.specs.EachLife.{AreBeginnings, AreLives, EachLifeKeepsABeginning, IsBeginningOf, joined, lives_of, with_first}
+use Rattle.dh_laws.specs.EachLife.{AreBeginnings, AreLives, EachLifeKeepsABeginning, joined, lives_of, with_first}
 
 -- the commands fall into beginnings of these lives
 record Falls (told : List Command) (lives : List (List (Event × Tables))) : Type 0 where
@@ -46,26 +45,26 @@ later_cut : (it : Command) (t : Tables) (lives : List (List (Event × Tables))) 
 later_cut it t [] are = tt
 later_cut it t (life ∷ lives) are = (calm life are.0, are.1)
 
-module _ (it : Command) (told later : List Command) (told_is : told ≡ it ∷ later) where
+module _ (it : Command) (told : List Command) where
   -- a command that counts is the first of its part
-  said_first : (reply : Reply) (t : Tables) (lives : List (List (Event × Tables))) (parts : List (List Command)) → later ≡ joined parts
+  said_first : (reply : Reply) (t : Tables) (lives : List (List (Event × Tables))) (parts : List (List Command)) → told ≡ joined parts
       → AreBeginnings parts lives
-      → Falls told (with_first (Said it reply, t) lives)
-  said_first reply t [] [] is b = record { parts = (it ∷ []) ∷ []; is = told_is ∙ ap (λ ts. it ∷ ts) is; begin = (([], refl, omega arith), tt) }
+      → Falls (it ∷ told) (with_first (Said it reply, t) lives)
+  said_first reply t [] [] is b = record { parts = (it ∷ []) ∷ []; is = ap (λ ts. it ∷ ts) is; begin = (([], refl, omega arith), tt) }
   said_first reply t (life ∷ lives) (part ∷ parts) is b = record {
     parts = (it ∷ part) ∷ parts;
-    is = told_is ∙ ap (λ ts. it ∷ ts) is;
+    is = ap (λ ts. it ∷ ts) is;
     begin = ((b.0.0, ap (λ ts. it ∷ ts) b.0.1, b.0.2), b.1);
   }
   said_first reply t [] (part ∷ parts) is b = absurd b
   said_first reply t (life ∷ lives) [] is b = absurd b
 
-  cut_first : (t : Tables) (lives : List (List (Event × Tables))) (parts : List (List Command)) → later ≡ joined parts → AreBeginnings parts lives
-      → Falls told (with_first (Cut it, t) lives)
-  cut_first t [] [] is b = record { parts = (it ∷ []) ∷ []; is = told_is ∙ ap (λ ts. it ∷ ts) is; begin = (([], refl, omega arith), tt) }
+  cut_first : (t : Tables) (lives : List (List (Event × Tables))) (parts : List (List Command)) → told ≡ joined parts → AreBeginnings parts lives
+      → Falls (it ∷ told) (with_first (Cut it, t) lives)
+  cut_first t [] [] is b = record { parts = (it ∷ []) ∷ []; is = ap (λ ts. it ∷ ts) is; begin = (([], refl, omega arith), tt) }
   cut_first t (life ∷ lives) (part ∷ parts) is b = record {
     parts = (it ∷ part) ∷ parts;
-    is = told_is ∙ ap (λ ts. it ∷ ts) is;
+    is = ap (λ ts. it ∷ ts) is;
     begin = ((b.0.0, ap (λ ts. it ∷ ts) b.0.1, b.0.2), b.1);
   }
   cut_first t [] (part ∷ parts) is b = absurd b
@@ -98,28 +97,24 @@ torn_first told t (life ∷ lives) [] is b = absurd b
 next_life : (told : List Command) (lives : List (List (Event × Tables))) → Falls told lives → Falls told ([] ∷ lives)
 next_life told lives f = record { parts = [] ∷ f.parts; is = f.is; begin = (([], refl, omega arith), f.begin) }
 
-module _ (size : ℕ) (last : State) where
-  fall : (s : State) (events : List (Event × Tables)) (told : List Command) → AreLives (lives_of events) → Kept size s events told last
+module _ (size : ℕ) where
+  fall : {s last : State} {events : List (Event × Tables)} {told : List Command} → Kept size s events told last → AreLives (lives_of events)
       → Falls told (lives_of events)
-  fall s [] told are k = record { parts = [] ∷ []; is = k.0; begin = (([], refl, omega arith), tt) }
-  fall s ((Said it reply, t) ∷ events) told are k =
-      let f = fall k.1 events k.0 (later_said it reply t (lives_of events) are) k.4 in
-      said_first it told k.0 k.2 reply t (lives_of events) f.parts f.is f.begin
-  fall s ((Cut it, t) ∷ events) told are k =
-      let rest = later_cut it t (lives_of events) are in
-      elim k [
-        | inl undone ↦
-            let f = fall (record s { open_run = t.run }) events told rest undone.1 in
-            left_out it told t (lives_of events) f.parts are f.is f.begin
-        | inr done ↦
-            let f = fall (record (step size s it).0 { open_run = t.run }) events done.0 rest done.3 in
-            cut_first it told done.0 done.1 t (lives_of events) f.parts f.is f.begin
-      ]
-  fall s ((Taken, t) ∷ events) told are k = next_life told (lives_of events) (fall s events told are.1 k)
-  fall s ((Torn, t) ∷ events) told are k =
-      let f = fall (record s { open_run = t.run }) events told (later_torn t (lives_of events) are) k.1 in
+  fall NoneLeft are = record { parts = [] ∷ []; is = refl; begin = (([], refl, omega arith), tt) }
+  fall (Answered {it = it} {reply = reply} {after = t} {events = events} {told = told} is k) are =
+      let f = fall k (later_said it reply t (lives_of events) are) in
+      said_first it told reply t (lives_of events) f.parts f.is f.begin
+  fall (CutUndone {it = it} {after = t} {events = events} {told = told} run k) are =
+      let f = fall k (later_cut it t (lives_of events) are) in
+      left_out it told t (lives_of events) f.parts are f.is f.begin
+  fall (CutDone {it = it} {after = t} {events = events} {told = told} run k) are =
+      let f = fall k (later_cut it t (lives_of events) are) in
+      cut_first it told t (lives_of events) f.parts f.is f.begin
+  fall (FilesTaken {events = events} {told = told} k) are = next_life told (lives_of events) (fall k are.1)
+  fall (RecoveryCut {after = t} {events = events} {told = told} run k) are =
+      let f = fall k (later_torn t (lives_of events) are) in
       torn_first told t (lives_of events) f.parts f.is f.begin
-  fall s ((Mended, t) ∷ events) told are k = next_life told (lives_of events) (fall (record s { open_run = None }) events told are.1 k)
+  fall (RecoveryDone {events = events} {told = told} k) are = next_life told (lives_of events) (fall k are.1)
 
 pub each_life_keeps_a_beginning : (size : ℕ) → EachLifeKeepsABeginning size
-each_life_keeps_a_beginning size s last events told are k = let f = fall size last s events told are k in (f.parts, f.is, f.begin)
+each_life_keeps_a_beginning size s last events told are k = let f = fall size k are in (f.parts, f.is, f.begin)

@@ -1,23 +1,37 @@
 -- Which of the commands that were called count in the end.
-use Rattle.std.specs.Prelude.{◌≡◌, ℕ, ◌⊎◌, List, [], ◌∷◌, None}
+use Rattle.std.specs.Prelude.{◌≡◌, ℕ, List, [], ◌∷◌, None}
 use Rattle.dh_types.specs.declared.command.Command.{Command}
+use Rattle.dh_types.specs.declared.reply.Reply.{Reply}
 use Rattle.dh_model.specs.Books.{State}
 use Rattle.dh_model.specs.Machine.{step}
 use Rattle.dh_model.specs.Verdicts.{verdict_on}
 use Rattle.dh_laws.specs.Events.{Event, Said, Cut, Taken, Torn, Mended, IsMovedOn, RunIfDone, RunIfUndone, Tables}
 
 module _ (size : ℕ) where
-  -- The commands are those of the events in their order: each that was answered once, each that was cut once or not at all, and
-  -- no other. Told these, the machine gives each answered one its reply, and stands in the end as said. Where a command or a
-  -- recovery was cut, the open run is then the one that the event left, which is one that such a cut can leave.
-  abbrev pub Kept : State → List (Event × Tables) → List Command → State → Type 0
-  Kept s [] told last = (told ≡ []) × (last ≡ s)
-  Kept s ((Said it reply, after) ∷ events) told last =
-      (later : List Command) × (next : State) × (told ≡ it ∷ later) × (step size s it ≡ (next, reply)) × Kept next events later last
-  Kept s ((Cut it, after) ∷ events) told last =
-      (RunIfUndone size s.books it s.open_run after.run × Kept (record s { open_run = after.run }) events told last)
-      ⊎ ((later : List Command) × (told ≡ it ∷ later) × RunIfDone size s it (verdict_on s.books s.open_run it) after.run
-      × Kept (record (step size s it).0 { open_run = after.run }) events later last)
-  Kept s ((Taken, after) ∷ events) told last = Kept s events told last
-  Kept s ((Torn, after) ∷ events) told last = IsMovedOn size s.books s.open_run after.run × Kept (record s { open_run = after.run }) events told last
-  Kept s ((Mended, after) ∷ events) told last = Kept (record s { open_run = None }) events told last
+  -- These commands are kept of the events, and lead the machine from the one state to the other. They are the commands of the events in
+  -- their order: each that was answered, some of those that were cut, and no other. Where a command or a recovery was cut, the open run
+  -- is then the one that the event left, and is one that such a cut can leave.
+  pub data Kept : State → List (Event × Tables) → List Command → State → Type 0 where
+    -- no event is left, and no command
+    NoneLeft : {s : State} → Kept s [] [] s
+    -- the command was answered: it counts, and the machine gives it this reply
+    Answered : {s next last : State} {it : Command} {reply : Reply} {after : Tables} {events : List (Event × Tables)} {told : List Command}
+        → step size s it ≡ (next, reply) → Kept next events told last → Kept s ((Said it reply, after) ∷ events) (it ∷ told) last
+    -- the command was cut and not carried out: it doesn't count
+    CutUndone : {s last : State} {it : Command} {after : Tables} {events : List (Event × Tables)} {told : List Command}
+        → RunIfUndone size s.books it s.open_run after.run → Kept (record s { open_run = after.run }) events told last
+        → Kept s ((Cut it, after) ∷ events) told last
+    -- the command was cut and carried out: it counts
+    CutDone : {s last : State} {it : Command} {after : Tables} {events : List (Event × Tables)} {told : List Command}
+        → RunIfDone size s it (verdict_on s.books s.open_run it) after.run
+        → Kept (record (step size s it).0 { open_run = after.run }) events told last → Kept s ((Cut it, after) ∷ events) (it ∷ told) last
+    -- files were taken: the machine stands where it did
+    FilesTaken : {s last : State} {after : Tables} {events : List (Event × Tables)} {told : List Command}
+        → Kept s events told last → Kept s ((Taken, after) ∷ events) told last
+    -- a recovery was cut: the open run is where it was, or further
+    RecoveryCut : {s last : State} {after : Tables} {events : List (Event × Tables)} {told : List Command}
+        → IsMovedOn size s.books s.open_run after.run → Kept (record s { open_run = after.run }) events told last
+        → Kept s ((Torn, after) ∷ events) told last
+    -- a recovery came to its end: no run is open
+    RecoveryDone : {s last : State} {after : Tables} {events : List (Event × Tables)} {told : List Command}
+        → Kept (record s { open_run = None }) events told last → Kept s ((Mended, after) ∷ events) told last

@@ -7,7 +7,7 @@ use Rattle.dh_types.specs.declared.reply.Reply.{Reply}
 use Rattle.dh_model.specs.Books.{Books, State}
 use Rattle.dh_model.specs.Runs.{batch_size}
 use Rattle.dh_laws.specs.Events.{Event, Said, Cut, Taken, Torn, Mended, Tables, state_of}
-use Rattle.dh_laws.specs.Kept.{Kept}
+use Rattle.dh_laws.specs.Kept.{Kept, NoneLeft, Answered, CutUndone, CutDone, FilesTaken, RecoveryCut, RecoveryDone}
 use Rattle.dh_laws.proofs.LiveTables.{mended_whole}
 use Rattle.dh_laws.specs.StateTables.{IsStateInOrder, as_tables}
 use Rattle.dh_rules.specs.declared.playing.Happening.{Happening}
@@ -20,7 +20,7 @@ KeptFrom happenings middle after events books =
     Kept batch_size (record { books = books; open_run = middle.open_run }) events (counted happenings) (state_of batch_size (as_tables after))
 
 pub nothing_played : (s : State) → IsPlayed [] [] s s
-nothing_played s = record { events = []; follow = tt; are = tt; answers = refl; ends = refl; kept = (refl, refl) }
+nothing_played s = record { events = []; follow = tt; are = tt; answers = refl; ends = refl; kept = NoneLeft }
 
 -- a happening in front of others
 one_more : (one : Happening) (happenings : List Happening) (reply : Option Reply) (replies : List Reply) (before middle after : State)
@@ -32,7 +32,7 @@ one_more (happening.Said told) happenings (Some reply) replies before middle aft
   are = ((refl, step), p.are);
   answers = ap (λ rs. reply ∷ rs) p.answers;
   ends = p.ends;
-  kept = (counted happenings, state_of batch_size (as_tables middle), refl, step, p.kept);
+  kept = Answered step p.kept;
 }
 one_more (happening.Undone told reach) happenings None replies before middle after o step p = record {
   events = (Cut told, as_tables middle) ∷ p.events;
@@ -40,7 +40,7 @@ one_more (happening.Undone told reach) happenings None replies before middle aft
   are = ((refl, step), p.are);
   answers = p.answers;
   ends = p.ends;
-  kept = inl (step.undone.run, subst (λ (b : Books). KeptFrom happenings middle after p.events b) step.undone.books p.kept);
+  kept = CutUndone step.undone.run (subst (λ (b : Books). KeptFrom happenings middle after p.events b) step.undone.books p.kept);
 }
 one_more (happening.Done told standing) happenings None replies before middle after o step p = record {
   events = (Cut told, as_tables middle) ∷ p.events;
@@ -48,7 +48,7 @@ one_more (happening.Done told standing) happenings None replies before middle af
   are = ((refl, step), p.are);
   answers = p.answers;
   ends = p.ends;
-  kept = inr (counted happenings, refl, step.done.run, subst (λ (b : Books). KeptFrom happenings middle after p.events b) step.done.books p.kept);
+  kept = CutDone step.done.run (subst (λ (b : Books). KeptFrom happenings middle after p.events b) step.done.books p.kept);
 }
 one_more happening.Taken happenings None replies before middle after o step p = record {
   events = (Taken, as_tables middle) ∷ p.events;
@@ -56,7 +56,8 @@ one_more happening.Taken happenings None replies before middle after o step p = 
   are = (step, p.are);
   answers = p.answers;
   ends = p.ends;
-  kept = subst (λ (t : Tables). Kept batch_size (state_of batch_size t) p.events (counted happenings) (state_of batch_size (as_tables after))) step p.kept;
+  kept = FilesTaken
+      (subst (λ (t : Tables). Kept batch_size (state_of batch_size t) p.events (counted happenings) (state_of batch_size (as_tables after))) step p.kept);
 }
 one_more (happening.Torn reach) happenings None replies before middle after o step p = record {
   events = (Torn, as_tables middle) ∷ p.events;
@@ -64,7 +65,7 @@ one_more (happening.Torn reach) happenings None replies before middle after o st
   are = (step, p.are);
   answers = p.answers;
   ends = p.ends;
-  kept = (step.torn.run, subst (λ (b : Books). KeptFrom happenings middle after p.events b) step.torn.books p.kept);
+  kept = RecoveryCut step.torn.run (subst (λ (b : Books). KeptFrom happenings middle after p.events b) step.torn.books p.kept);
 }
 one_more happening.Mended happenings None replies before middle after o step p = record {
   events = (Mended, as_tables middle) ∷ p.events;
@@ -75,8 +76,9 @@ one_more happening.Mended happenings None replies before middle after o step p =
   kept =
       let whole = mended_whole batch_size (as_tables middle) _ step o.shown in
       let none = ap (λ (t : Tables). t.run) step in
-      subst (λ (s : State). Kept batch_size s p.events (counted happenings) (state_of batch_size (as_tables after)))
-      (λ i. record { books = whole i; open_run = none i }) p.kept;
+      RecoveryDone
+      (subst (λ (s : State). Kept batch_size s p.events (counted happenings) (state_of batch_size (as_tables after)))
+      (λ i. record { books = whole i; open_run = none i }) p.kept);
 }
 one_more (happening.Said told) happenings None replies before middle after o step p = absurd step
 one_more (happening.Undone told reach) happenings (Some reply) replies before middle after o step p = absurd step
