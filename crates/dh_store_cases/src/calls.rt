@@ -10,6 +10,7 @@ ghost use Rattle.dh_schema.specs.Store.{IsReady, tables};
 ghost use Rattle.dh_runs.specs.Taking.{IsResting};
 
 use crate::edited_tables::{load_text, version_text};
+use crate::finding::find_text;
 use crate::made_tables::install_text;
 use dh_agency_scripts::{
     Lived, all_rows, compare, compare_tables, parted, problem_text, table_of, told_anew,
@@ -186,19 +187,20 @@ fn call_text<S: Alter>(
 ) -> Result<String, AllocError>
     requires { HasCleanDisk (state S.Store conn.old) → IsResting (state S.Store conn.old) }
 {
-    match call {
-        "install" => install_text(alloc, conn, january()),
-        "version" => version_text(alloc, conn),
-        "load" => load_text(alloc, conn),
-        "batch" => batch_text(alloc, conn),
-        "close" => closing_text(alloc, conn),
+    match (call, call.strip_prefix("find,")) {
+        (_, Some(words)) => find_text(alloc, conn, words),
+        ("install", None) => install_text(alloc, conn, january()),
+        ("version", None) => version_text(alloc, conn),
+        ("load", None) => load_text(alloc, conn),
+        ("batch", None) => batch_text(alloc, conn),
+        ("close", None) => closing_text(alloc, conn),
         _ => opening_text(alloc, conn, call),
     }
 }
 
-// What one line comes to over tables that were just opened. Behind `call,` stands a call of the layers below an agency: `install`,
-// `version`, `load`, an opening's line, `batch` or `close`.
-fn line_over<S: Alter>(alloc: Global, mut conn: Connection<S>, line: &str) -> Lived<S>
+/// What one line comes to over tables that were just opened. Behind `call,` stands a call of the layers below an agency: `install`,
+/// `version`, `load`, `find,KIND,KEY`, an opening's line, `batch` or `close`.
+pub fn line_over<S: Alter>(alloc: Global, mut conn: Connection<S>, line: &str) -> Lived<S>
     requires { HasCleanDisk (state S.Store conn) → IsResting (state S.Store conn) }
 {
     match line.strip_prefix("call,") {

@@ -1,8 +1,9 @@
 //! Steps under a limit at which whole tables can't be read.
 
+use crate::edited_tables::load_text;
 use dh_agency::{Agency, NotOpened, create};
 use dh_agency_scripts::{compare, told};
-use dh_schema::{install, load};
+use dh_schema::install;
 use dh_scripts::{Tally, january};
 use sqlite::{Alter, Connection, MemStore, params};
 use std::alloc::{AllocError, Global};
@@ -31,18 +32,21 @@ fn put_owners<S: Alter>(alloc: Global, conn: &mut Connection<S>) -> Result<bool,
 }
 
 // The last limit under which the tables are not read, where they are under its double.
-fn limit_found<S: Alter>(alloc: Global, conn: &mut Connection<S>) -> Option<u64> {
+fn limit_found<S: Alter>(
+    alloc: Global,
+    conn: &mut Connection<S>,
+) -> Result<Option<u64>, AllocError> {
     let mut limit = LEAST_LIMIT;
     let mut found = None;
     for _ in 0..DOUBLINGS {
         conn.set_step_limit(Some(limit));
-        if load(alloc, conn).is_ok() {
-            return found;
+        if load_text(alloc, conn)?.as_str() != "fault 22" {
+            return Ok(found);
         }
         found = Some(limit);
         limit = limit.saturating_mul(2);
     }
-    None
+    Ok(None)
 }
 
 fn limit_over<S: Alter>(
@@ -52,7 +56,7 @@ fn limit_over<S: Alter>(
     if install(alloc, conn, january()).is_err() || !put_owners(alloc, conn)? {
         return Ok(None);
     }
-    Ok(limit_found(alloc, conn))
+    limit_found(alloc, conn)
 }
 
 // The last limit of steps under which tables with so many owners are not read.
@@ -112,17 +116,20 @@ fn tell<S: Alter>(
     compare_lines(rt, tally, agency, lines)
 }
 
-// Compares whether the tables are read.
+// The tables are not read.
 fn compare_load<S: Alter>(
     rt: &HostRuntime,
     tally: &mut Tally,
     conn: &mut Connection<S>,
 ) -> io::Result<()> {
-    let got = match load(rt.alloc(), conn) {
-        Ok(_) => "read",
-        Err(_) => "interrupted",
-    };
-    compare(rt, tally, "the tables under the limit", got, "interrupted")
+    let got = load_text(rt.alloc(), conn)?;
+    compare(
+        rt,
+        tally,
+        "the tables under the limit",
+        got.as_str(),
+        "fault 22",
+    )
 }
 
 fn play_under(rt: &HostRuntime, tally: &mut Tally, limit: u64, lines: &str) -> io::Result<()> {
