@@ -19,7 +19,8 @@ use Rattle.dh_agency.specs.Agency.{Leaves, LeavesItsTables, machine, stand}
 use Rattle.dh_agency.proofs.Standing.{leaves_more, leaves_what_holds}
 use Rattle.dh_fields.specs.Lines.{Fields}
 use Rattle.dh_lines.specs.Session.{answered, fault_line, line, records_of, state_after}
-use Rattle.dh_lines.specs.Batch.{Answers, AnsweredAll, AnsweredFirst, EndsSo, Faulted, HaltsByFault, HaltsSo, IsAgencyFault, IsAtRest, IsFirst, IsAsked, IsWithin}
+use Rattle.dh_lines.specs.Batch.{Answers, AnsweredAll, AnsweredFirst, EndsSo, Faulted, HaltsByFault, HaltsSo, IsAgencyFault, IsAtRest, IsFirst}
+use Rattle.dh_lines.specs.Batch.{IsAsked, IsWithin}
 use Rattle.dh_lines.specs.Batch.{OnlyOfRequests, PutsBehind, TellsFault, TellsReading, batch_fault}
 use Rattle.dh_lines.specs.declared.watching.Input.{Input}
 use Rattle.dh_lines.specs.declared.outcome.Summary.{Summary}

@@ -205,7 +205,8 @@ no_item_of None o e = cc
 no_item_of (Some d) None e = cc
 no_item_of (Some d) (Some ys) e = cc
 
-closed : (rest : List Token) (texts : List (List ℕ)) → of_items json.no_items ≡ Some (items_of (map made.string texts)) → Token.end_array ∷ rest ≡ closing texts rest
+closed : (rest : List Token) (texts : List (List ℕ)) → of_items json.no_items ≡ Some (items_of (map made.string texts))
+      → Token.end_array ∷ rest ≡ closing texts rest
 closed rest [] of = refl
 closed rest (t ∷ texts) of = absurd (cc)
 
@@ -215,7 +216,8 @@ Gives d n ts =
     (js : json.Items) (rest : List Token) (texts : List (List ℕ)) → items (value d) n ts ≡ Some (js, rest)
     → of_items js ≡ Some (items_of (map made.string texts)) → ts ≡ closing texts rest
 
-item_are : (d n : ℕ) → ((left : List Token) → Gives d n left) → (ts : List Token) (j : Json) (left rest : List Token) (more : json.Items) (texts : List (List ℕ))
+item_are : (d n : ℕ) → ((left : List Token) → Gives d n left)
+      → (ts : List Token) (j : Json) (left rest : List Token) (more : json.Items) (texts : List (List ℕ))
     → value d ts ≡ Some (j, left) → items (value d) n left ≡ Some (more, rest) → of_items (json.item j more) ≡ Some (items_of (map made.string texts))
     → ts ≡ closing texts rest
 item_are d n again ts j left rest more [] v r of = absurd (no_item_of (of_json j) (of_items more) of)
@@ -299,6 +301,7 @@ ends body seen left is end = (
       ∙ ap (λ l. Token.begin_array ∷ l) (joined seen)),
 )
 
-pub one_more : (seen : List (List ℕ)) (t : List ℕ) (left : List Token) → map Token.string seen ++ (Token.string t ∷ left) ≡ map Token.string (seen ++ (t ∷ [])) ++ left
+pub one_more : (seen : List (List ℕ)) (t : List ℕ) (left : List Token)
+      → map Token.string seen ++ (Token.string t ∷ left) ≡ map Token.string (seen ++ (t ∷ [])) ++ left
 one_more [] t left = refl
 one_more (s ∷ seen) t left = ap (λ l. Token.string s ∷ l) (one_more seen t left)

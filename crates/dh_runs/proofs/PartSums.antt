@@ -9,7 +9,8 @@ use Rattle.dh_types.specs.declared.run.Part.{Part}
 use Rattle.dh_types.specs.declared.run.Run.{Run}
 use Rattle.dh_model.specs.Books.{Books, text_cmp}
 use Rattle.dh_model.specs.Rules.{ArePosted, charges_in, parts_in}
-use Rattle.dh_model.specs.Runs.{batches, batches_before, begun_branches, closed_run, part_key, part_of, posted_charges, posted_of_branch, posted_parts, total_of}
+use Rattle.dh_model.specs.Runs.{batches, batches_before, begun_branches, closed_run, part_key, part_of, posted_charges, posted_of_branch}
+use Rattle.dh_model.specs.Runs.{posted_parts, total_of}
 use Rattle.dh_model.specs.Whole.{completed, whole}
 use Rattle.dh_model.proofs.Among.{Among, among, is_among}
 use Rattle.dh_model.proofs.BatchLemmas.{last_batch_posts_all}

@@ -52,8 +52,8 @@ fn commit_rows<S: Alter>(
 }
 
 /// Puts the rows of a batch into the tables, in one transaction: charges that are new, and the part row of their branch in the place
-/// of what the branch had of the run. They must leave the books in order, and fall due in months that lines know. At a fault the tables are these or those before, and
-/// while the store is open those before.
+/// of what the branch had of the run. They must leave the books in order, and fall due in months that lines know. At a fault the tables
+/// are these or those before, and while the store is open those before.
 pub(crate) fn post_rows<S: Alter>(
     alloc: Global,
     conn: &mut Connection<S>,

@@ -183,7 +183,8 @@ module _ (trees : Trees) (months : Months) (meta : HasMonths months trees) where
       it.books ∙ ap (λ (rows : List Row). at (months_of rows)) (sym meta.rows_are)
 
   pub loaded_order : (before books : machine.State) → catalog.IsSound our_schema trees → AreLoaded all_kinds trees before books → AreInOrder trees
-  loaded_order before books listed it = record { listed = listed; months = months; meta = meta; tables = each_of (λ kind. IsTableInOrder kind trees) it.in_order }
+  loaded_order before books listed it =
+      record { listed = listed; months = months; meta = meta; tables = each_of (λ kind. IsTableInOrder kind trees) it.in_order }
 
 -- damage in some rows is damage
 pub no_values : (kinds : List Kind) (trees : Trees) → (¬ AllAreRecords kinds trees) → ¬ HasValues trees

@@ -67,7 +67,8 @@ module _ (kind : Kind) (records : FinMap (order_of kind) (record_of kind)) (old 
   on_ok rows (Err e) order means on done = tt
 
   -- a record was added
-  pub added : (rows : Change) (r : Result (Unit {0}) Error) → (HasCleanDisk old → IsWriting old) → Means rows → (HasCleanDisk new → OnOk r (StaysInTransaction old new))
+  pub added : (rows : Change) (r : Result (Unit {0}) Error) → (HasCleanDisk old → IsWriting old) → Means rows
+        → (HasCleanDisk new → OnOk r (StaysInTransaction old new))
       → (HasCleanDisk new → OnOk r Turns) → (HasCleanDisk new → OnErr r (IsUndone old new)) → CommitsNothing old new → PutsRows rows r old new
   added rows r writing means on done undone crash = record {
     put = λ clean. on_ok rows r (writing (omega (arith, crash.clean, clean))).in_order means (on clean) (done clean);
@@ -135,7 +136,8 @@ module _ (run : Run) (old mid new : State) where
   abbrev Opened : Type 0
   Opened = IsWriting new × ((tables new).books ≡ changed (change.Open run) (tables old).books)
 
-  after_both : AreInOrder old.now.trees → StaysInTransaction old mid → Adds run_shape nat_cmp run old mid → StaysInTransaction mid new → SetsNext (run.month + 1) mid new → Opened
+  after_both : AreInOrder old.now.trees → StaysInTransaction old mid → Adds run_shape nat_cmp run old mid
+        → StaysInTransaction mid new → SetsNext (run.month + 1) mid new → Opened
   after_both order on added on_next set =
       let records = insert (records_in Runs old.now.trees) run.month run in
       let first = put_in Runs records old mid order on added in
@@ -150,7 +152,8 @@ module _ (run : Run) (old mid new : State) where
         books_with_next (run.month + 1) mid new in_order set ∙ ap (λ (books : Books). let it : Books = record books { next = run.month + 1 } in it) first.1,
       )
 
-  on_ok_next : {X E : Type 0} (r : Result X E) → AreInOrder old.now.trees → StaysInTransaction old mid → Adds run_shape nat_cmp run old mid → OnOk r (StaysInTransaction mid new)
+  on_ok_next : {X E : Type 0} (r : Result X E) → AreInOrder old.now.trees → StaysInTransaction old mid
+        → Adds run_shape nat_cmp run old mid → OnOk r (StaysInTransaction mid new)
       → OnOk r (SetsNext (run.month + 1) mid new) → OnOk r Opened
   on_ok_next (Ok x) order on added on_next set = after_both order on added on_next set
   on_ok_next (Err e) order on added on_next set = tt

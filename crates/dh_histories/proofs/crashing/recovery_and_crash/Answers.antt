@@ -14,4 +14,5 @@ returns-in_ok-next_life-in-Ok-clause-answered g c clean =
 pub returns-in_ok-next_life-in-Err-clause-broken : goal.returns-in_ok-next_life-in-Err-clause-broken
 returns-in_ok-next_life-in-Err-clause-broken g c clean =
     let life = c.in_ok-next_life-in-Err in
-    opened_anew g.S.Store c.args.conn c.in-Err.field-0.conn life.field-0 life.ensures.found life.ensures.lists life.ensures.was_clean clean RecoveryCut tt c.in-Err.ensures.cut
+    opened_anew g.S.Store c.args.conn c.in-Err.field-0.conn life.field-0 life.ensures.found life.ensures.lists life.ensures.was_clean clean
+        RecoveryCut tt c.in-Err.ensures.cut

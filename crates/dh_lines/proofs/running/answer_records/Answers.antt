@@ -7,7 +7,8 @@ use Rattle.dh_agency.specs.Agency.{IsClean}
 use Rattle.dh_lines.specs.declared.watching.Watching.{Watching}
 use Rattle.dh_lines.proofs.CrashLemmas.{answered_next, leaves_between, leaves_within}
 use Rattle.dh_lines.proofs.Following.{goes_on, ends, found}
-use Rattle.dh_lines.proofs.RunningLemmas.{all_answered, first_answered, first_unread, ends_early, ends_handed, ends_unread, noted_of_reader, one_at_most, still_on}
+use Rattle.dh_lines.proofs.RunningLemmas.{all_answered, first_answered, first_unread, ends_early, ends_handed, ends_unread, noted_of_reader}
+use Rattle.dh_lines.proofs.RunningLemmas.{one_at_most, still_on}
 use Rattle.dh_lines.proofs.running.answer_records.Goals as goal
 
 pub loop-n-preserved : goal.loop-n-preserved
@@ -60,7 +61,8 @@ returns-in-Err-clause-ends g c clean =
     let inv = c.loop-n.invariant in
     IfSome_then (g.R.Read.remaining c.args.reader.now) (inv.follows clean)
     (λ input w. ends_unread g.S.Store c.args.agency.now c.loop-n.agency _ _ _ _ _ _ input w g.W.Write.contents _ _ (error_kind c.in-Err.error)
-    c.failure-failure.result c.end_by_reading.result refl (noted_of_reader _ _ c.failure-failure.ensures) c.end_by_reading.ensures (λ rests. inv.left clean rests.1 (inv.stopped ∙ rests.0)))
+    c.failure-failure.result c.end_by_reading.result refl (noted_of_reader _ _ c.failure-failure.ensures) c.end_by_reading.ensures
+        (λ rests. inv.left clean rests.1 (inv.stopped ∙ rests.0)))
 
 pub returns-in-Err-clause-crash : goal.returns-in-Err-clause-crash
 returns-in-Err-clause-crash g c clean live h =

@@ -43,5 +43,6 @@ returns-clause-taken g c clean =
     let numbers = c.deref.ensures.value ∙ c.in_ok-numbers.ensures.numbers
     ∙ ap (λ (s : State). map (λ (p : Property). p.number) (filter (λ p. is_same_text p.branch branch) (values s.books.properties))) properties in
     let leases = ap (λ (s : State). rows_where (λ (l : Lease). list_any (is_same_text l.terms.property) c.deref.result.now) s.books.leases)
-    ((c.in_ok-look_at_all.ensures.reads.done late).1 ∙ same) ∙ named_leases (tables old).books (books_are_keyed old.now.trees) branch c.deref.result.now numbers in
+    ((c.in_ok-look_at_all.ensures.reads.done late).1 ∙ same) ∙ named_leases (tables old).books (books_are_keyed old.now.trees) branch
+        c.deref.result.now numbers in
     c.in_ok-gather_leases.ensures.taken clean ∙ (λ i. record (properties i) { books = record (properties i).books { leases = leases i } })
