@@ -47,7 +47,7 @@ module _ {S : Type 0} (g : Ghosts S) (old new : Seat S) (a b : Option (List ℕ)
 
   -- a fault
   pub serves_fault : IsPut asked → (fault : Fault) (outcome : Result ℕ Written) (result : Result ℕ NetFault) → Hears outcome result
-        → Writes a b (fault_answer fault) outcome
+      → Writes a b (fault_answer fault) outcome
       → IsFaultOf old fault → new.is_stopped ≡ true → (IsOpen g new → IsLeftBy asked (machine g old) (machine g new)) → Serves g old new May a b result
   serves_fault put fault (Ok status) result heard written is stopped left =
       subst (Serves g old new May a b) (sym heard) (asked, may, IsServed.Faulted fault put written.0 is stopped left written.1)

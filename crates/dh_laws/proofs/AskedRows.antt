@@ -25,6 +25,7 @@ use Rattle.dh_types.proofs.SameValues.{numbers, texts}
 use Rattle.dh_model.specs.declared.open_run.OpenRun.{OpenRun}
 use Rattle.dh_model.specs.Answers.{arrears, balance, charges_of, debt, debts, matching_report, owed, receipts_of, report, run_report, statement, unless_open}
 use Rattle.dh_model.specs.Books.{Books}
+use Rattle.dh_model.specs.Kinds.{Kind}
 use Rattle.dh_model.specs.Checks.{is_same_text}
 use Rattle.dh_model.specs.MachineLaws.{is_put_off}
 use Rattle.dh_model.specs.Runs.{is_property_of, leases_of_branch, sum_of, total_of}
@@ -88,7 +89,7 @@ module _ (books : Books) (keyed : AreKeyed books) where
     paid_alike = filter_where nat_total nat_ties (λ (r : Receipt). nat_eq r.payment.lease number) (λ r. nat_eq r.payment.lease number) (λ r h. h) books.receipts
 
     lease_there : get account.leases number ≡ get books.leases number
-    lease_there = get_where nat_total nat_ties (λ (l : Lease). nat_eq l.terms.number number) (λ l. l.terms.number) books.leases number keyed.leases
+    lease_there = get_where nat_total nat_ties (λ (l : Lease). nat_eq l.terms.number number) (λ l. l.terms.number) books.leases number (keyed Kind.Leases)
         (λ l e. same_number l.terms.number number e)
 
     stated : (found : Option Lease) → ((l : Lease) → found ≡ Some l → l.terms.number ≡ number) → statement account found ≡ statement books found
@@ -101,7 +102,7 @@ module _ (books : Books) (keyed : AreKeyed books) where
         ∙ ap (λ n. LeaseStatement lease (charges_of books n) (receipts_of books n) (balance books n)) (sym its)
 
     statement_alike : statement account (get account.leases number) ≡ statement books (get books.leases number)
-    statement_alike = ap (statement account) lease_there ∙ stated (get books.leases number) (keyed.leases number)
+    statement_alike = ap (statement account) lease_there ∙ stated (get books.leases number) (keyed Kind.Leases number)
 
   -- ---- the leases at a branch
 
@@ -134,7 +135,7 @@ module _ (books : Books) (keyed : AreKeyed books) where
       client_there : get accounts.clients lease.terms.client ≡ get books.clients lease.terms.client
       client_there =
           get_where text_total text_ties (λ (c : Client). list_any (λ (l : Lease). is_same_text c.number l.terms.client) its_leases)
-          (λ c. c.number) books.clients lease.terms.client keyed.clients
+          (λ c. c.number) books.clients lease.terms.client (keyed Kind.Clients)
           (λ c e. of_passes (λ (l : Lease). is_same_text c.number l.terms.client) its_leases lease its (same_text c.number lease.terms.client e))
 
       debt_alike : debt accounts lease ≡ debt books lease
@@ -154,7 +155,7 @@ module _ (books : Books) (keyed : AreKeyed books) where
         ∙ picked_alike (debt accounts) (debt books) is_owing its_leases debt_alike
 
     branch_there : get accounts.branches branch ≡ get books.branches branch
-    branch_there = get_where text_total text_ties (λ b. is_same_text b.number branch) (λ b. b.number) books.branches branch keyed.branches
+    branch_there = get_where text_total text_ties (λ b. is_same_text b.number branch) (λ b. b.number) books.branches branch (keyed Kind.Branches)
         (λ b e. same_text b.number branch e)
 
     arrears_alike : arrears accounts branch ≡ arrears books branch
@@ -167,7 +168,7 @@ module _ (books : Books) (keyed : AreKeyed books) where
     of_month = asked_about books (asked.Run month)
 
     run_there : get of_month.runs month ≡ get books.runs month
-    run_there = get_where nat_total nat_ties (λ (r : Run). nat_eq r.month month) (λ r. r.month) books.runs month keyed.runs (λ r e. same_number r.month month e)
+    run_there = get_where nat_total nat_ties (λ (r : Run). nat_eq r.month month) (λ r. r.month) books.runs month (keyed Kind.Runs) (λ r e. same_number r.month month e)
 
     parts_alike : filter (λ (p : Part). nat_eq p.month month) (values of_month.parts) ≡ filter (λ p. nat_eq p.month month) (values books.parts)
     parts_alike = filter_where nat_text_total nat_text_ties (λ (p : Part). nat_eq p.month month) (λ p. nat_eq p.month month) (λ p h. h) books.parts
@@ -184,7 +185,7 @@ module _ (books : Books) (keyed : AreKeyed books) where
         ∙ ap (λ m. told run (filter (λ (p : Part). nat_eq p.month m) (values books.parts))) (sym its)
 
     run_alike : run_report of_month (get of_month.runs month) ≡ run_report books (get books.runs month)
-    run_alike = ap (run_report of_month) run_there ∙ reported (get books.runs month) (keyed.runs month)
+    run_alike = ap (run_report of_month) run_there ∙ reported (get books.runs month) (keyed Kind.Runs month)
 
   answered : (run seen : Option OpenRun) (question : Question) → (is_put_off question ≡ true → AreOfOneMonth seen run)
       → report (record { books = asked_about books question; open_run = seen }) question ≡ report (record { books = books; open_run = run }) question
@@ -192,7 +193,7 @@ module _ (books : Books) (keyed : AreKeyed books) where
   answered run seen (asked.Vacant day) same = refl
   answered run seen (asked.Matching it) same =
       ap (λ (found : Option Client). matching_report books found it.day)
-      (get_where text_total text_ties (λ (c : Client). is_same_text c.number it.client) (λ c. c.number) books.clients it.client keyed.clients
+      (get_where text_total text_ties (λ (c : Client). is_same_text c.number it.client) (λ c. c.number) books.clients it.client (keyed Kind.Clients)
       (λ c e. same_text c.number it.client e))
   answered run seen (asked.Statement lease) same = put_off run seen _ (same refl) ∙ ap (unless_open run) (statement_alike lease)
   answered run seen (asked.Arrears branch) same = put_off run seen _ (same refl) ∙ ap (unless_open run) (arrears_alike branch)
@@ -221,14 +222,14 @@ module _ (books : Books) (keyed : AreKeyed books) (branch : List ℕ) where
   named_there number (Some property) is h =
       of_passes (is_named number) (filter is_its (values books.properties)) property
       (of_filter is_its (values books.properties) property h (of_row text_total text_ties books.properties number property is))
-      (same_text number property.number (sym (keyed.properties number property is)))
+      (same_text number property.number (sym (keyed Kind.Properties number property is)))
 
   there_named : (number : List ℕ) → list_any (is_named number) (filter is_its (values books.properties)) ≡ true
       → is_property_of branch (get books.properties number) ≡ true
   there_named number h =
       let named = some_passes (is_named number) (filter is_its (values books.properties)) h in
       let its = in_filter is_its (values books.properties) named.0 named.1 in
-      let own = own_row text_total text_ties (λ (p : Property). p.number) books.properties keyed.properties named.0 its.0 in
+      let own = own_row text_total text_ties (λ (p : Property). p.number) books.properties (keyed Kind.Properties) named.0 its.0 in
       ap (λ n. is_property_of branch (get books.properties n)) ((texts number named.0.number).0 named.2) ∙ ap (is_property_of branch) own ∙ its.1
 
   pub of_branch_named : (number : List ℕ)

@@ -117,7 +117,7 @@ pub posted_mended : (most : ℕ) (sum : RunSum) (s t : State) → IsStateInOrder
 posted_mended most sum s t order said = is_mended s t order (post_ended (whole batch_size s.books) s.open_run most (state_of batch_size (as_tables t)) sum said)
 
 pub none_mended : (most : ℕ) (s t : State) → IsStateInOrder t
-      → Happens batch_size (Said (command.Post most) (reply.Refused refusal.NoRun)) (as_tables s) (as_tables t)
+    → Happens batch_size (Said (command.Post most) (reply.Refused refusal.NoRun)) (as_tables s) (as_tables t)
     → Happens batch_size Mended (as_tables s) (as_tables t)
 none_mended most s t order said = is_mended s t order (none_found (whole batch_size s.books) s.open_run most (state_of batch_size (as_tables t)) said)
 
@@ -185,7 +185,7 @@ module _ (s : State) (order : RunOrder) (none : s.open_run ≡ None) (in_order :
 
   -- and where all was posted, it was answered so
   pub run_said : (most : ℕ) (sum : RunSum) (o t : State) → o ≡ opened
-        → Happens batch_size (Said (command.Post most) (reply.Posted sum)) (as_tables o) (as_tables t)
+      → Happens batch_size (Said (command.Post most) (reply.Posted sum)) (as_tables o) (as_tables t)
       → Happens batch_size (Said (command.Run order) (reply.Posted sum)) (as_tables s) (as_tables t)
   run_said most sum o t is said =
       let run : OpenRun = record { month = order.month; done = 0 } in

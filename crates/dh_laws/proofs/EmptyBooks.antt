@@ -7,6 +7,7 @@ use Rattle.std.specs.FinMap.{empty, entries, get-empty, len-empty, len-entries, 
 use Rattle.dh_types.specs.declared.lease.Receipt.{Receipt}
 use Rattle.dh_types.specs.declared.run.Run.{Run}
 use Rattle.dh_values.specs.declared.receipt_kind.ReceiptKind.TheVariants.{Deposit}
+use Rattle.dh_model.specs.Kinds.{Kind}
 use Rattle.dh_model.specs.Books.{empty_books}
 use Rattle.dh_model.specs.Checks.{is_same_text}
 use Rattle.dh_model.specs.Leases.{overlap}
@@ -79,22 +80,19 @@ module _ (size month : ℕ) where
   meets Months = record { closed = each_of_none _ _; under_way = each_of_none _ _; charged = each_of_none _ _; summed = each_of_none _ _ }
 
   keyed : AreKeyed (empty_books month)
-  keyed = record {
-    branches = none_under _ _;
-    staff = none_under _ _;
-    owners = none_under _ _;
-    properties = none_under _ _;
-    clients = none_under _ _;
-    registrations = none_under _ _;
-    viewings = none_under _ _;
-    inspections = none_under _ _;
-    leases = none_under _ _;
-    charges = none_under _ _;
-    receipts =
-        none_under _ _;
-    runs = none_under _ _;
-    parts = none_under _ _;
-  }
+  keyed Kind.Branches = none_under _ _
+  keyed Kind.Staff = none_under _ _
+  keyed Kind.Owners = none_under _ _
+  keyed Kind.Properties = none_under _ _
+  keyed Kind.Clients = none_under _ _
+  keyed Kind.Registrations = none_under _ _
+  keyed Kind.Viewings = none_under _ _
+  keyed Kind.Inspections = none_under _ _
+  keyed Kind.Leases = none_under _ _
+  keyed Kind.Charges = none_under _ _
+  keyed Kind.Receipts = none_under _ _
+  keyed Kind.Runs = none_under _ _
+  keyed Kind.Parts = none_under _ _
 
 pub empty_books_are_in_order : (size : ℕ) → EmptyBooksAreInOrder size
 empty_books_are_in_order size month = record { keyed = keyed size month; rules = meets size month; shown = ap (find (λ run. not run.is_closed)) (no_rows _) }

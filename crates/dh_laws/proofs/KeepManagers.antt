@@ -18,6 +18,7 @@ use Rattle.dh_model.specs.declared.open_run.OpenRun.{OpenRun}
 use Rattle.dh_model.specs.declared.rows.Change.{Change}
 use Rattle.dh_model.specs.declared.rows.Change.TheVariants as change
 use Rattle.dh_model.specs.Books.{Books, text_cmp}
+use Rattle.dh_model.specs.Kinds.{Kind}
 use Rattle.dh_model.specs.Checks.{is_same_text, managed_besides}
 use Rattle.dh_model.specs.Machine.{at_rent, changed, managed, with_comment}
 use Rattle.dh_model.specs.Rules.{IsThere, ManagesAtMostHundred, NamesWhatIsThere, managed_by}
@@ -119,13 +120,13 @@ module _ (books : Books) (keyed : AreKeyed books) (key : List ℕ) (it : Propert
   besides_after (Some row) e =
       let sum = sum_old text_total text_ties (λ row. cond (besides (manages member) (is_it key) row) 1 0) books.properties key it row e in
       let new = not_besides it own in
-      let old = not_besides row (keyed.properties key row e) in
+      let old = not_besides row (keyed Kind.Properties key row e) in
       omega (arith, sum, new, old)
 
   -- with room for one more there are a hundred at most
   managed_with_room : managed_besides books member key < 100 → count_by (manages member) (values after) ≤ 100
   managed_with_room room =
-      let stand = insert_keyed text_total text_ties (λ p. p.number) books.properties key it own keyed.properties in
+      let stand = insert_keyed text_total text_ties (λ p. p.number) books.properties key it own (keyed Kind.Properties) in
       let rises = rows_rise text_total text_ties (λ p. p.number) after stand in
       let few = all_but_one (manages member) (is_it key) (values after)
       (rises_by (λ x y. IsBefore text_cmp x.number y.number) (λ x y. is_it key x ≡ true → is_it key y ≡ true → ⊥) (numbers_rise key) (values after) rises) in
@@ -184,7 +185,7 @@ module _ (books : Books) (run : Option OpenRun) (keyed : AreKeyed books) (names 
 
   managers_assigned : (it : Assignment) → Assigns books run it → ManagesAtMostHundred (managed books it (get books.properties it.property))
   managers_assigned it h =
-      let own = keyed.properties it.property h.row h.is in
+      let own = keyed Kind.Properties it.property h.row h.is in
       let staff = subst (λ k. IfSome it.staff (CanManage books h.row.branch k)) own h.staff in
       subst (λ found. ManagesAtMostHundred (managed books it found)) (sym h.is)
       (λ member a. managed_after books keyed it.property (record h.row { staff = it.staff }) own member.number h.row.branch staff (rules member a))
@@ -192,7 +193,7 @@ module _ (books : Books) (run : Option OpenRun) (keyed : AreKeyed books) (names 
   managers_at_rent : (it : RentChange) (row : Property) → get books.properties it.property ≡ Some row
       → ManagesAtMostHundred (at_rent books it (get books.properties it.property))
   managers_at_rent it row is =
-      let own = keyed.properties it.property row is in
+      let own = keyed Kind.Properties it.property row is in
       subst (λ found. ManagesAtMostHundred (at_rent books it found)) (sym is)
       (λ member a. managed_the_same books keyed it.property (record row { rent = it.rent }) own member.number row is refl (rules member a))
 

@@ -1,276 +1,36 @@
--- Books stay keyed where one kind of rows is replaced by keyed ones.
-use Rattle.std.proofs.Common.{ℕ}
-use Rattle.std.specs.Ordering.{nat_cmp}
-use Rattle.std.specs.FinMap.{FinMap}
-use Rattle.dh_types.specs.declared.branch.Branch.{Branch}
-use Rattle.dh_types.specs.declared.staff.Staff.{Staff}
-use Rattle.dh_types.specs.declared.owner.Owner.{Owner}
-use Rattle.dh_types.specs.declared.property.Property.{Property}
-use Rattle.dh_types.specs.declared.client.Client.{Client}
-use Rattle.dh_types.specs.declared.client.Registration.{Registration}
-use Rattle.dh_types.specs.declared.viewing.Viewing.{Viewing}
-use Rattle.dh_types.specs.declared.viewing.Inspection.{Inspection}
-use Rattle.dh_types.specs.declared.lease.Lease.{Lease}
-use Rattle.dh_types.specs.declared.lease.Charge.{Charge}
-use Rattle.dh_types.specs.declared.lease.Receipt.{Receipt}
-use Rattle.dh_types.specs.declared.run.Run.{Run}
-use Rattle.dh_types.specs.declared.run.Part.{Part}
-use Rattle.dh_model.specs.Books.{Books, pair_cmp, text_cmp}
-use Rattle.dh_model.specs.Runs.{charge_key, part_key}
+-- Books stay keyed where the records of one kind are replaced by keyed ones.
+use Rattle.std.proofs.Common.{◌≡◌, refl, ℕ}
+use Rattle.std.specs.FinMap.{FinMap, insert}
+use Rattle.dh_model.specs.Books.{Books}
+use Rattle.dh_model.specs.Kinds.{Kind, key_in, key_of, order_of, record_of, records_of, with_records}
+use Rattle.dh_model.proofs.KindOrders.{ties_of, total_of}
 use Rattle.dh_laws.specs.InOrder.{AreKeyed, StandUnder}
+use Rattle.dh_laws.proofs.MapMerges.{insert_keyed}
 
-module _ (books : Books) (k : AreKeyed books) where
-  pub keyed_branches : (rows : FinMap text_cmp Branch) → StandUnder (λ it. it.number) rows → AreKeyed (record books { branches = rows })
-  keyed_branches rows stand =
-      record {
-        branches = stand;
-        staff = k.staff;
-        owners = k.owners;
-        properties = k.properties;
-        clients = k.clients;
-        registrations = k.registrations;
-        viewings = k.viewings;
-        inspections = k.inspections;
-        leases = k.leases;
-        charges = k.charges;
-        receipts = k.receipts;
-        runs = k.runs;
-        parts = k.parts;
-      }
+module _ (books : Books) (keyed : AreKeyed books) where
+  pub keyed_with : (kind : Kind) (rows : FinMap (order_of kind) (record_of kind)) → StandUnder (key_in kind) rows → AreKeyed (with_records kind rows books)
+  keyed_with Kind.Branches rows stand Kind.Branches = stand
+  keyed_with Kind.Staff rows stand Kind.Staff = stand
+  keyed_with Kind.Owners rows stand Kind.Owners = stand
+  keyed_with Kind.Properties rows stand Kind.Properties = stand
+  keyed_with Kind.Clients rows stand Kind.Clients = stand
+  keyed_with Kind.Registrations rows stand Kind.Registrations = stand
+  keyed_with Kind.Viewings rows stand Kind.Viewings = stand
+  keyed_with Kind.Inspections rows stand Kind.Inspections = stand
+  keyed_with Kind.Leases rows stand Kind.Leases = stand
+  keyed_with Kind.Charges rows stand Kind.Charges = stand
+  keyed_with Kind.Receipts rows stand Kind.Receipts = stand
+  keyed_with Kind.Runs rows stand Kind.Runs = stand
+  keyed_with Kind.Parts rows stand Kind.Parts = stand
+  keyed_with _ rows stand other = keyed other
 
-  pub keyed_staff : (rows : FinMap text_cmp Staff) → StandUnder (λ it. it.number) rows → AreKeyed (record books { staff = rows })
-  keyed_staff rows stand =
-      record {
-        branches = k.branches;
-        staff = stand;
-        owners = k.owners;
-        properties = k.properties;
-        clients = k.clients;
-        registrations = k.registrations;
-        viewings = k.viewings;
-        inspections = k.inspections;
-        leases = k.leases;
-        charges = k.charges;
-        receipts = k.receipts;
-        runs = k.runs;
-        parts = k.parts;
-      }
-
-  pub keyed_owners : (rows : FinMap text_cmp Owner) → StandUnder (λ it. it.number) rows → AreKeyed (record books { owners = rows })
-  keyed_owners rows stand =
-      record {
-        branches = k.branches;
-        staff = k.staff;
-        owners = stand;
-        properties = k.properties;
-        clients = k.clients;
-        registrations = k.registrations;
-        viewings = k.viewings;
-        inspections = k.inspections;
-        leases = k.leases;
-        charges = k.charges;
-        receipts = k.receipts;
-        runs = k.runs;
-        parts = k.parts;
-      }
-
-  pub keyed_properties : (rows : FinMap text_cmp Property) → StandUnder (λ it. it.number) rows → AreKeyed (record books { properties = rows })
-  keyed_properties rows stand =
-      record {
-        branches = k.branches;
-        staff = k.staff;
-        owners = k.owners;
-        properties = stand;
-        clients = k.clients;
-        registrations = k.registrations;
-        viewings = k.viewings;
-        inspections = k.inspections;
-        leases = k.leases;
-        charges = k.charges;
-        receipts = k.receipts;
-        runs = k.runs;
-        parts = k.parts;
-      }
-
-  pub keyed_clients : (rows : FinMap text_cmp Client) → StandUnder (λ it. it.number) rows → AreKeyed (record books { clients = rows })
-  keyed_clients rows stand =
-      record {
-        branches = k.branches;
-        staff = k.staff;
-        owners = k.owners;
-        properties = k.properties;
-        clients = stand;
-        registrations = k.registrations;
-        viewings = k.viewings;
-        inspections = k.inspections;
-        leases = k.leases;
-        charges = k.charges;
-        receipts = k.receipts;
-        runs = k.runs;
-        parts = k.parts;
-      }
-
-  pub keyed_registrations : (rows : FinMap (pair_cmp text_cmp text_cmp) Registration) → StandUnder (λ it. (it.client, it.branch)) rows
-      → AreKeyed (record books { registrations = rows })
-  keyed_registrations rows stand =
-      record {
-        branches = k.branches;
-        staff = k.staff;
-        owners = k.owners;
-        properties = k.properties;
-        clients = k.clients;
-        registrations = stand;
-        viewings = k.viewings;
-        inspections = k.inspections;
-        leases = k.leases;
-        charges = k.charges;
-        receipts = k.receipts;
-        runs = k.runs;
-        parts = k.parts;
-      }
-
-  pub keyed_viewings : (rows : FinMap (pair_cmp text_cmp text_cmp) Viewing) → StandUnder (λ it. (it.client, it.property)) rows
-      → AreKeyed (record books { viewings = rows })
-  keyed_viewings rows stand =
-      record {
-        branches = k.branches;
-        staff = k.staff;
-        owners = k.owners;
-        properties = k.properties;
-        clients = k.clients;
-        registrations = k.registrations;
-        viewings = stand;
-        inspections = k.inspections;
-        leases = k.leases;
-        charges = k.charges;
-        receipts = k.receipts;
-        runs = k.runs;
-        parts = k.parts;
-      }
-
-  pub keyed_inspections : (rows : FinMap (pair_cmp text_cmp nat_cmp) Inspection) → StandUnder (λ it. (it.property, it.day)) rows
-      → AreKeyed (record books { inspections = rows })
-  keyed_inspections rows stand =
-      record {
-        branches = k.branches;
-        staff = k.staff;
-        owners = k.owners;
-        properties = k.properties;
-        clients = k.clients;
-        registrations = k.registrations;
-        viewings = k.viewings;
-        inspections = stand;
-        leases = k.leases;
-        charges = k.charges;
-        receipts = k.receipts;
-        runs = k.runs;
-        parts = k.parts;
-      }
-
-  pub keyed_leases : (rows : FinMap nat_cmp Lease) → StandUnder (λ it. it.terms.number) rows → AreKeyed (record books { leases = rows })
-  keyed_leases rows stand =
-      record {
-        branches = k.branches;
-        staff = k.staff;
-        owners = k.owners;
-        properties = k.properties;
-        clients = k.clients;
-        registrations = k.registrations;
-        viewings = k.viewings;
-        inspections = k.inspections;
-        leases = stand;
-        charges = k.charges;
-        receipts = k.receipts;
-        runs = k.runs;
-        parts = k.parts;
-      }
-
-  pub keyed_charges : (rows : FinMap (pair_cmp nat_cmp nat_cmp) Charge) → StandUnder charge_key rows → AreKeyed (record books { charges = rows })
-  keyed_charges rows stand =
-      record {
-        branches = k.branches;
-        staff = k.staff;
-        owners = k.owners;
-        properties = k.properties;
-        clients = k.clients;
-        registrations = k.registrations;
-        viewings = k.viewings;
-        inspections = k.inspections;
-        leases = k.leases;
-        charges = stand;
-        receipts = k.receipts;
-        runs = k.runs;
-        parts = k.parts;
-      }
-
-  pub keyed_receipts : (rows : FinMap nat_cmp Receipt) → StandUnder (λ it. it.number) rows → AreKeyed (record books { receipts = rows })
-  keyed_receipts rows stand =
-      record {
-        branches = k.branches;
-        staff = k.staff;
-        owners = k.owners;
-        properties = k.properties;
-        clients = k.clients;
-        registrations = k.registrations;
-        viewings = k.viewings;
-        inspections = k.inspections;
-        leases = k.leases;
-        charges = k.charges;
-        receipts = stand;
-        runs = k.runs;
-        parts = k.parts;
-      }
-
-  pub keyed_runs : (rows : FinMap nat_cmp Run) → StandUnder (λ it. it.month) rows → AreKeyed (record books { runs = rows })
-  keyed_runs rows stand =
-      record {
-        branches = k.branches;
-        staff = k.staff;
-        owners = k.owners;
-        properties = k.properties;
-        clients = k.clients;
-        registrations = k.registrations;
-        viewings = k.viewings;
-        inspections = k.inspections;
-        leases = k.leases;
-        charges = k.charges;
-        receipts = k.receipts;
-        runs = stand;
-        parts = k.parts;
-      }
-
-  pub keyed_parts : (rows : FinMap (pair_cmp nat_cmp text_cmp) Part) → StandUnder part_key rows → AreKeyed (record books { parts = rows })
-  keyed_parts rows stand =
-      record {
-        branches = k.branches;
-        staff = k.staff;
-        owners = k.owners;
-        properties = k.properties;
-        clients = k.clients;
-        registrations = k.registrations;
-        viewings = k.viewings;
-        inspections = k.inspections;
-        leases = k.leases;
-        charges = k.charges;
-        receipts = k.receipts;
-        runs = k.runs;
-        parts = stand;
-      }
+  -- a record is put under its key
+  pub keyed_put : (kind : Kind) (key : key_of kind) (it : record_of kind) → key_in kind it ≡ key
+      → AreKeyed (with_records kind (insert (records_of kind books) key it) books)
+  keyed_put kind key it is =
+      keyed_with kind (insert (records_of kind books) key it)
+      (insert_keyed (total_of kind) (ties_of kind) (key_in kind) (records_of kind books) key it is (keyed kind))
 
   pub keyed_next : (month : ℕ) → AreKeyed (record books { next = month })
-  keyed_next month =
-      record {
-        branches = k.branches;
-        staff = k.staff;
-        owners = k.owners;
-        properties = k.properties;
-        clients = k.clients;
-        registrations = k.registrations;
-        viewings = k.viewings;
-        inspections = k.inspections;
-        leases = k.leases;
-        charges = k.charges;
-        receipts = k.receipts;
-        runs = k.runs;
-        parts = k.parts;
-      }
+  keyed_next month Kind.Branches = keyed Kind.Branches
+  keyed_next month kind = keyed kind

@@ -6,6 +6,7 @@ use Rattle.dh_model.specs.declared.open_run.OpenRun.{OpenRun}
 use Rattle.dh_model.specs.declared.rows.Change.{Change}
 use Rattle.dh_model.specs.declared.rows.Change.TheVariants as change
 use Rattle.dh_model.specs.Books.{Books}
+use Rattle.dh_model.specs.Kinds.{Kind}
 use Rattle.dh_model.specs.Rules.{KeysInOrder, RunsInOrder}
 use Rattle.dh_model.specs.Rules.Rule.{Keys, Runs}
 use Rattle.dh_model.proofs.KeyOrders.{nat_ties, nat_total}
@@ -23,7 +24,7 @@ module _ (books : Books) (keyed : AreKeyed books) where
   -- the next number is of no receipt
   next_number_is_new : KeysInOrder books → (number : ℕ) → number ≡ len books.receipts + 1 → get books.receipts number ≡ None
   next_number_is_new keys number next = absent (get books.receipts number) (λ old is.
-      let own = keyed.receipts number old is in
+      let own = keyed Kind.Receipts number old is in
       let bounds = each_got nat_total nat_ties books.receipts (λ (r : Receipt). (1 ≤ r.number) × (r.number ≤ len books.receipts)) keys.numbers number old is in
       let within = bounds.1 in
       omega (arith, own, within, next))

@@ -38,6 +38,7 @@ use Rattle.dh_model.specs.declared.rows.Change.TheVariants as change
 use Rattle.dh_model.specs.declared.rows.Verdict.{Verdict}
 use Rattle.dh_model.specs.declared.rows.Verdict.TheVariants as verdict
 use Rattle.dh_model.specs.Books.{Books}
+use Rattle.dh_model.specs.Kinds.{Kind}
 use Rattle.dh_model.specs.Leases.{overlap}
 use Rattle.dh_model.specs.Checks.{Check, first_that_day, free_of_others, has_room, in_time, is_registered, is_same_text, is_twice, least, managed_besides}
 use Rattle.dh_model.specs.Checks.{names, no_deposit_yet, of_branch, receipt_of_key, run_of_key, unless, where_given, works_at}
@@ -66,50 +67,50 @@ module _ (books : Books) (keyed : AreKeyed books) where
 
   branch_there : (n : List ℕ) → get (rows_where (λ b. is_same_text b.number n) books.branches) n ≡ get books.branches n
   branch_there n =
-      get_where text_total text_ties (λ (b : Branch). is_same_text b.number n) (λ b. b.number) books.branches n keyed.branches
+      get_where text_total text_ties (λ (b : Branch). is_same_text b.number n) (λ b. b.number) books.branches n (keyed Kind.Branches)
       (λ b e. same_text b.number n e)
 
   member_there : (n : List ℕ) → get (rows_where (λ s. is_same_text s.number n) books.staff) n ≡ get books.staff n
   member_there n =
-      get_where text_total text_ties (λ (s : Staff). is_same_text s.number n) (λ s. s.number) books.staff n keyed.staff (λ s e. same_text s.number n e)
+      get_where text_total text_ties (λ (s : Staff). is_same_text s.number n) (λ s. s.number) books.staff n (keyed Kind.Staff) (λ s e. same_text s.number n e)
 
   owner_there : (n : List ℕ) → get (rows_where (λ o. is_same_text o.number n) books.owners) n ≡ get books.owners n
   owner_there n =
-      get_where text_total text_ties (λ (o : Owner). is_same_text o.number n) (λ o. o.number) books.owners n keyed.owners (λ o e. same_text o.number n e)
+      get_where text_total text_ties (λ (o : Owner). is_same_text o.number n) (λ o. o.number) books.owners n (keyed Kind.Owners) (λ o e. same_text o.number n e)
 
   client_there : (n : List ℕ) → get (rows_where (λ c. is_same_text c.number n) books.clients) n ≡ get books.clients n
   client_there n =
-      get_where text_total text_ties (λ (c : Client). is_same_text c.number n) (λ c. c.number) books.clients n keyed.clients (λ c e. same_text c.number n e)
+      get_where text_total text_ties (λ (c : Client). is_same_text c.number n) (λ c. c.number) books.clients n (keyed Kind.Clients) (λ c e. same_text c.number n e)
 
   property_there : (n : List ℕ) → get (rows_where (λ p. is_same_text p.number n) books.properties) n ≡ get books.properties n
   property_there n =
-      get_where text_total text_ties (λ (p : Property). is_same_text p.number n) (λ p. p.number) books.properties n keyed.properties
+      get_where text_total text_ties (λ (p : Property). is_same_text p.number n) (λ p. p.number) books.properties n (keyed Kind.Properties)
       (λ p e. same_text p.number n e)
 
   viewing_there : (c p : List ℕ)
       → get (rows_where (λ v. is_same_text v.client c && is_same_text v.property p) books.viewings) (c, p) ≡ get books.viewings (c, p)
   viewing_there c p =
       get_where texts_total texts_tie (λ (v : Viewing). is_same_text v.client c && is_same_text v.property p) (λ v. (v.client, v.property)) books.viewings
-      (c, p) keyed.viewings
+      (c, p) (keyed Kind.Viewings)
       (λ v e. and_true _ _ (same_text v.client c (ap (λ k. k.0) e)) (same_text v.property p (ap (λ k. k.1) e)))
 
   registration_there : (c b : List ℕ)
       → get (rows_where (λ r. is_same_text r.client c && is_same_text r.branch b) books.registrations) (c, b) ≡ get books.registrations (c, b)
   registration_there c b =
       get_where texts_total texts_tie (λ (r : Registration). is_same_text r.client c && is_same_text r.branch b) (λ r. (r.client, r.branch))
-      books.registrations (c, b) keyed.registrations
+      books.registrations (c, b) (keyed Kind.Registrations)
       (λ r e. and_true _ _ (same_text r.client c (ap (λ k. k.0) e)) (same_text r.branch b (ap (λ k. k.1) e)))
 
   inspection_there : (p : List ℕ) (d : ℕ)
       → get (rows_where (λ v. is_same_text v.property p && nat_eq v.day d) books.inspections) (p, d) ≡ get books.inspections (p, d)
   inspection_there p d =
       get_where text_nat_total text_nat_ties (λ (v : Inspection). is_same_text v.property p && nat_eq v.day d) (λ v. (v.property, v.day))
-      books.inspections (p, d) keyed.inspections
+      books.inspections (p, d) (keyed Kind.Inspections)
       (λ v e. and_true _ _ (same_text v.property p (ap (λ k. k.0) e)) ((numbers v.day d).1 (ap (λ k. k.1) e)))
 
   lease_there : (n : ℕ) → get (rows_where (λ l. nat_eq l.terms.number n) books.leases) n ≡ get books.leases n
   lease_there n =
-      get_where nat_total nat_ties (λ (l : Lease). nat_eq l.terms.number n) (λ l. l.terms.number) books.leases n keyed.leases
+      get_where nat_total nat_ties (λ (l : Lease). nat_eq l.terms.number n) (λ l. l.terms.number) books.leases n (keyed Kind.Leases)
       (λ l e. (numbers l.terms.number n).1 e)
 
   -- ---- a manager, where one is given
@@ -124,7 +125,7 @@ module _ (books : Books) (keyed : AreKeyed books) where
     this_there : (staff : Option (List ℕ)) → get (properties_beside books.properties n staff) n ≡ get books.properties n
     this_there None = property_there n
     this_there (Some m) =
-        get_where text_total text_ties (near m) (λ p. p.number) books.properties n keyed.properties (λ p e. or_left _ _ (same_text p.number n e))
+        get_where text_total text_ties (near m) (λ p. p.number) books.properties n (keyed Kind.Properties) (λ p e. or_left _ _ (same_text p.number n e))
 
     others_counted : (staff : Option (List ℕ)) (m k : List ℕ) → staff ≡ Some m
         → count_by (λ (other : Property). is_same_optional is_same_text other.staff (Some m) && not (is_same_text other.number k))
@@ -262,7 +263,7 @@ module _ (books : Books) (keyed : AreKeyed books) where
 
     numbered_there : get (rows_where (is_beside terms) books.leases) terms.number ≡ get books.leases terms.number
     numbered_there =
-        get_where nat_total nat_ties (is_beside terms) (λ l. l.terms.number) books.leases terms.number keyed.leases
+        get_where nat_total nat_ties (is_beside terms) (λ l. l.terms.number) books.leases terms.number (keyed Kind.Leases)
         (λ l e. or_left _ _ (or_left _ (is_same_text l.terms.property terms.property) ((numbers l.terms.number terms.number).1 e)))
 
     registered_with : (found : Option Property)

@@ -10,6 +10,7 @@ use Rattle.dh_types.specs.declared.lease.Receipt.{Receipt}
 use Rattle.dh_types.specs.declared.run.Run.{Run}
 use Rattle.dh_model.specs.declared.open_run.OpenRun.{OpenRun}
 use Rattle.dh_model.specs.Books.{Books}
+use Rattle.dh_model.specs.Kinds.{Kind}
 use Rattle.dh_model.specs.Rules.{KeysInOrder, RunsInOrder}
 use Rattle.dh_model.specs.Whole.{IsOpenAt, open_row}
 use Rattle.dh_model.proofs.Among.{Among}
@@ -38,7 +39,7 @@ module _ {X : Type 0} where
 module _ (books : Books) (keyed : AreKeyed books) (rule : KeysInOrder books) where
   numbered : (number : ℕ) (it : Receipt) → get books.receipts number ≡ Some it → (1 ≤ number) × (number ≤ len books.receipts)
   numbered number it is =
-      subst (λ n. (1 ≤ n) × (n ≤ len books.receipts)) (keyed.receipts number it is)
+      subst (λ n. (1 ≤ n) × (n ≤ len books.receipts)) (keyed Kind.Receipts number it is)
       (each_got nat_total nat_ties books.receipts (λ r. (1 ≤ r.number) × (r.number ≤ len books.receipts)) rule.numbers number it is)
 
   got : (e : ℕ × Receipt) → Among (entries books.receipts) e → get books.receipts e.0 ≡ Some e.1
@@ -86,7 +87,7 @@ module _ (books : Books) (keyed : AreKeyed books) (rule : RunsInOrder books) whe
       (λ row is. all_closed books none row (of_row nat_total nat_ties books.runs (books.next - 1) row is))
   found_last (Some row) is =
       let shown = shown_row books row is in
-      let own = own_row nat_total nat_ties (λ (r : Run). r.month) books.runs keyed.runs row shown.0 in
+      let own = own_row nat_total nat_ties (λ (r : Run). r.month) books.runs (keyed Kind.Runs) row shown.0 in
       let month : books.next - 1 ≡ row.month = omega (arith, before_next row own shown.1) in
       sym (ap (λ m. unless_closed (get books.runs m)) month ∙ ap unless_closed own ∙ ap (λ b. if b then None else Some row) shown.1)
 

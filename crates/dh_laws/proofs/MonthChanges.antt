@@ -8,6 +8,7 @@ use Rattle.dh_model.specs.declared.open_run.OpenRun.{OpenRun}
 use Rattle.dh_model.specs.declared.rows.Change.{Change}
 use Rattle.dh_model.specs.declared.rows.Change.TheVariants as change
 use Rattle.dh_model.specs.Books.{Books}
+use Rattle.dh_model.specs.Kinds.{Kind}
 use Rattle.dh_model.specs.Machine.{at_rent, changed, managed, with_comment}
 use Rattle.dh_model.specs.Rules.{NamesWhatIsThere}
 use Rattle.dh_laws.specs.InOrder.{AreKeyed, run_after}
@@ -65,10 +66,10 @@ module _ (size : ℕ) (books : Books) (run : Option OpenRun) (keyed : AreKeyed b
       let c = changed (change.Inspection it) books in
       free_keeps size books c refl run refl refl refl refl (λ month. untouched books c month refl refl refl refl refl) in_order
   changes_keep_months (change.Lease it) a =
-      where_closed (changed (change.Lease it) books) a.closed (lease_keeps size books it.terms.number it keyed.runs a.new a.in_time)
+      where_closed (changed (change.Lease it) books) a.closed (lease_keeps size books it.terms.number it (keyed Kind.Runs) a.new a.in_time)
   changes_keep_months (change.Receipt it) a =
       let c = changed (change.Receipt it) books in
       free_keeps size books c refl run refl refl refl refl (λ month. untouched books c month refl refl refl refl refl) in_order
   changes_keep_months (change.Open it) a =
-      open_keeps size books it keyed.runs (subst (RunInMonths size books) a.closed in_order) a.month a.is_open a.count a.total
+      open_keeps size books it (keyed Kind.Runs) (subst (RunInMonths size books) a.closed in_order) a.month a.is_open a.count a.total
   changes_keep_months change.Post a = in_order

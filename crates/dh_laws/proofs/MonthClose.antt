@@ -8,6 +8,7 @@ use Rattle.std.proofs.lemmas.Bool.{cases_lt}
 use Rattle.dh_types.specs.declared.run.Run.{Run}
 use Rattle.dh_types.specs.declared.run.Part.{Part}
 use Rattle.dh_model.specs.Books.{Books}
+use Rattle.dh_model.specs.Kinds.{Kind}
 use Rattle.dh_model.specs.Leases.{dues}
 use Rattle.dh_model.specs.Runs.{batches, begun_branches, closed_run, dues_of_branch, part_key, part_of, posted_charges, posted_of_branch, posted_parts}
 use Rattle.dh_model.specs.Runs.{batches_before}
@@ -21,7 +22,8 @@ use Rattle.dh_model.proofs.BatchLemmas.{last_batch_posts_all}
 use Rattle.dh_model.proofs.KeyOrders.{nat_text_ties, nat_text_total, nat_ties, nat_total}
 use Rattle.dh_laws.specs.InOrder.{AreKeyed}
 use Rattle.dh_model.proofs.MapRows.{each_insert, got_after, of_row, there, there_after, values_old}
-use Rattle.dh_laws.proofs.MapMerges.{insert_keyed, own_row}
+use Rattle.dh_laws.proofs.KeyedRows.{keyed_put}
+use Rattle.dh_laws.proofs.MapMerges.{own_row}
 use Rattle.dh_laws.proofs.MonthAlike.{closed_alike, have_trans}
 use Rattle.dh_laws.proofs.MonthKeep.{untouched}
 use Rattle.dh_laws.proofs.MonthShown.{shown_row}
@@ -42,7 +44,7 @@ module _ (size : ℕ) (b : Books) (row : Run) (pos : 1 ≤ size) (keyed : AreKey
   names = rules Rule.References
 
   is_row : get b.runs row.month ≡ Some row
-  is_row = own_row nat_total nat_ties (λ (run : Run). run.month) b.runs keyed.runs row (shown_row b row shown).0
+  is_row = own_row nat_total nat_ties (λ (run : Run). run.month) b.runs (keyed Kind.Runs) row (shown_row b row shown).0
 
   row_there : IsThere b.runs row.month
   row_there = ap is_some is_row
@@ -63,7 +65,7 @@ module _ (size : ℕ) (b : Books) (row : Run) (pos : 1 ≤ size) (keyed : AreKey
   closed_before : (k : ℕ) (run : Run) → k ≢ row.month → get b.runs k ≡ Some run → run.is_closed ≡ true
   closed_before k run other e =
       let runs = rules Rule.Runs in
-      let own = keyed.runs k run e in
+      let own = keyed Kind.Runs k run e in
       let within = (runs.run k).0 (ap is_some e) in
       let until = open_within in
       runs.closed run (is_among (values b.runs) run (of_row nat_total nat_ties b.runs k run e)) (elim (cases_lt (run.month + 1) b.next) [
@@ -72,21 +74,7 @@ module _ (size : ℕ) (b : Books) (row : Run) (pos : 1 ≤ size) (keyed : AreKey
       ])
 
   keyed_after : AreKeyed c
-  keyed_after = record {
-    branches = keyed.branches;
-    staff = keyed.staff;
-    owners = keyed.owners;
-    properties = keyed.properties;
-    clients = keyed.clients;
-    registrations = keyed.registrations;
-    viewings = keyed.viewings;
-    inspections = keyed.inspections;
-    leases = keyed.leases;
-    charges = keyed.charges;
-    receipts = keyed.receipts;
-    runs = insert_keyed nat_total nat_ties (λ (run : Run). run.month) b.runs row.month done refl keyed.runs;
-    parts = keyed.parts;
-  }
+  keyed_after = keyed_put b keyed Kind.Runs row.month done refl
 
   still_there : (month : ℕ) → IsThere b.runs month → IsThere c.runs month
   still_there month h = there_after nat_total nat_ties b.runs row.month done month h
@@ -140,7 +128,7 @@ module _ (size : ℕ) (b : Books) (row : Run) (pos : 1 ≤ size) (keyed : AreKey
       }
 
   numbered : AreNumbered b
-  numbered = keyed.leases
+  numbered = keyed Kind.Leases
 
   -- each part of the month is its branch's
   part_is : (part : Part) → IsAmong (parts_in b row.month) part → part ≡ part_of row.month part.branch (dues_of_branch b row.month part.branch)
@@ -165,7 +153,7 @@ module _ (size : ℕ) (b : Books) (row : Run) (pos : 1 ≤ size) (keyed : AreKey
       let made = of_map (λ branch. part_of row.month branch (posted_of_branch size b row.month n branch)) (begun_branches size b row.month n) branch begun in
       let in_month = (posted.parts part).1 (is_among (posted_parts size b row.month n) part made) in
       let kept = in_filter (λ (p : Part). nat_eq p.month row.month) (values b.parts) part (among (parts_in b row.month) part in_month) in
-      ap is_some (own_row nat_text_total nat_text_ties part_key b.parts keyed.parts part kept.0)
+      ap is_some (own_row nat_text_total nat_text_ties part_key b.parts (keyed Kind.Parts) part kept.0)
 
   closed_after : MonthIsClosed c done
   closed_after = record {

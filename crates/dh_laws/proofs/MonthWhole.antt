@@ -3,6 +3,7 @@ use Rattle.std.proofs.Common.{◌≡◌, refl, ℕ, ◌≤◌, Option, Some, Non
 use Rattle.std.specs.FinMap.{get, values}
 use Rattle.dh_types.specs.declared.run.Run.{Run}
 use Rattle.dh_model.specs.Books.{Books}
+use Rattle.dh_model.specs.Kinds.{Kind}
 use Rattle.dh_model.specs.Runs.{batches}
 use Rattle.dh_model.specs.Rules.{IsLawful, MeetsRules}
 use Rattle.dh_model.specs.Whole.{completed, open_row, with_posted}
@@ -25,7 +26,7 @@ module _ (size : ℕ) (books : Books) (pos : 1 ≤ size) (keyed : AreKeyed books
   whole_of (Some row) shown =
       let all = batches size books row.month in
       let is = shown_row books row shown in
-      let at : get books.runs row.month ≡ Some row = own_row nat_total nat_ties (λ (run : Run). run.month) books.runs keyed.runs row is.0 in
+      let at : get books.runs row.month ≡ Some row = own_row nat_total nat_ties (λ (run : Run). run.month) books.runs (keyed Kind.Runs) row is.0 in
       closing_is_lawful size (with_posted size books row.month (batches size books row.month)) row pos
       (posted_keyed size books keyed rules row.month (batches size books row.month))
       (posted_rules size books keyed rules row.month (batches size books row.month) row at is.1 (le_refl all))

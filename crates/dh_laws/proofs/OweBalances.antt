@@ -18,6 +18,7 @@ use Rattle.dh_model.specs.declared.rows.Change.TheVariants as change
 use Rattle.dh_model.specs.declared.rows.Verdict.{Verdict}
 use Rattle.dh_model.specs.declared.rows.Verdict.TheVariants as verdict
 use Rattle.dh_model.specs.Books.{State}
+use Rattle.dh_model.specs.Kinds.{Kind}
 use Rattle.dh_model.specs.Runs.{ran, sum_of, total_of}
 use Rattle.dh_model.specs.Answers.{balance, charges_of, rent_paid}
 use Rattle.dh_model.specs.Checks.{names, receipt_of_key, run_of_key, unless}
@@ -40,7 +41,7 @@ module _ (size : ℕ) (s : State) (lease : ℕ) (keyed : AreKeyed s.books) (lawf
   -- no receipt has the next number
   next_receipt : get s.books.receipts (len s.books.receipts + 1) ≡ None
   next_receipt = none_if (get s.books.receipts (len s.books.receipts + 1)) (λ x e.
-      let number = keyed.receipts (len s.books.receipts + 1) x e in
+      let number = keyed Kind.Receipts (len s.books.receipts + 1) x e in
       let within = keys.numbers x ((among_values nat_total nat_ties s.books.receipts x).1 (len s.books.receipts + 1, e)) in
       omega (arith, number, within.1))
 

@@ -4,6 +4,7 @@ use Rattle.std.specs.FinMap.{values}
 use Rattle.dh_types.specs.declared.lease.Charge.{Charge}
 use Rattle.dh_types.proofs.SameValues.{numbers}
 use Rattle.dh_model.specs.Books.{Books}
+use Rattle.dh_model.specs.Kinds.{Kind}
 use Rattle.dh_model.specs.Leases.{dues}
 use Rattle.dh_model.specs.Rules.{HaveTheSame, IsLawful, IsThere, MonthsInOrder, charges_in}
 use Rattle.dh_model.specs.Rules.Rule.{Months}
@@ -23,7 +24,7 @@ module _ (size : ℕ) (books : Books) (keyed : AreKeyed books) (lawful : IsLawfu
   run_is_charged month h =
       let row = (there nat_total nat_ties books.runs month).0 h in
       let of = (among_values nat_total nat_ties books.runs row.0).1 (month, row.1) in
-      subst (λ m. HaveTheSame (charges_in books m) (dues books m)) (keyed.runs month row.0 row.1) (months.closed row.0 of (lawful.closed row.0 of)).charges
+      subst (λ m. HaveTheSame (charges_in books m) (dues books m)) (keyed Kind.Runs month row.0 row.1) (months.closed row.0 of (lawful.closed row.0 of)).charges
 
   pub charged_was_run : (charge : Charge) → Among (values books.charges) charge → IsThere books.runs charge.month
   charged_was_run charge a = months.charged charge (is_among (values books.charges) charge a)

@@ -5,6 +5,7 @@ use Rattle.dh_days.specs.Days.{month_of_day}
 use Rattle.dh_types.specs.declared.lease.Lease.{Lease}
 use Rattle.dh_types.specs.declared.lease.Charge.{Charge}
 use Rattle.dh_model.specs.Books.{Books}
+use Rattle.dh_model.specs.Kinds.{Kind}
 use Rattle.dh_model.specs.Leases.{dues}
 use Rattle.dh_model.specs.Runs.{charge_key, ran, total_of}
 use Rattle.dh_model.specs.Answers.{charges_of}
@@ -36,7 +37,7 @@ by_lease x y less e =
 dues_apart : (books : Books) (month : ℕ) → AreKeyed books → Rises (Apart nats_total nats_tie charge_key) (dues books month)
 dues_apart books month keyed =
     rises_by (Lesser lease_of) (Apart nats_total nats_tie charge_key) by_lease (dues books month)
-    (dues_rise (values books.leases) month (leases_rise books keyed.leases))
+    (dues_rise (values books.leases) month (leases_rise books (keyed Kind.Leases)))
 
 -- two dues of one key fall in one month
 one_month : (books : Books) → AreKeyed books → (m n : ℕ) (a b : Charge) → Among (dues books m) a → Among (dues books n) b → charge_key a ≡ charge_key b → m ≡ n
@@ -47,7 +48,7 @@ one_month books keyed m n a b p q e =
     let index = ap (λ (k : ℕ × ℕ). k.1) e in
     let number : x.lease.terms.number ≡ y.lease.terms.number = sym (ap (λ (c : Charge). c.lease) x.is) ∙ lease ∙ ap (λ (c : Charge). c.lease) y.is in
     let k : x.k ≡ y.k = sym (ap (λ (c : Charge). c.index) x.is) ∙ index ∙ ap (λ (c : Charge). c.index) y.is in
-    let same = one_row nat_total nat_ties (λ it. it.terms.number) books.leases keyed.leases x.lease y.lease x.of y.of number in
+    let same = one_row nat_total nat_ties (λ it. it.terms.number) books.leases (keyed Kind.Leases) x.lease y.lease x.of y.of number in
     let start = ap (λ (it : Lease). month_of_day it.terms.start) same in
     let first = ap (λ (c : Charge). c.month) x.is in
     let second = ap (λ (c : Charge). c.month) y.is in
@@ -67,7 +68,7 @@ module _ (size : ℕ) (books : Books) (keyed : AreKeyed books) (lawful : IsLawfu
   not_charged charge a = none_if (get books.charges (charge_key charge)) (λ x e.
       let of = of_row nats_total nats_tie books.charges (charge_key charge) x e in
       let early = run_is_early x.month (charged_was_run size books keyed lawful x of) in
-      let same = one_month books keyed x.month books.next x charge (charged_is_due size books keyed lawful x of) a (keyed.charges (charge_key charge) x e) in
+      let same = one_month books keyed x.month books.next x charge (charged_is_due size books keyed lawful x of) a (keyed Kind.Charges (charge_key charge) x e) in
       omega (arith, early, same))
 
   -- a run adds its due

@@ -5,6 +5,7 @@ use Rattle.dh_types.specs.declared.lease.Charge.{Charge}
 use Rattle.dh_types.specs.declared.run.Run.{Run}
 use Rattle.dh_types.specs.declared.run.Part.{Part}
 use Rattle.dh_model.specs.Books.{Books}
+use Rattle.dh_model.specs.Kinds.{Kind}
 use Rattle.dh_model.specs.Leases.{dues}
 use Rattle.dh_model.specs.Runs.{charge_key, part_key, posted_charges, posted_parts}
 use Rattle.dh_model.specs.Rules.{MeetsRules, Rule, charges_in}
@@ -39,24 +40,24 @@ module _ (size : ℕ) (books : Books) (keyed : AreKeyed books) (rules : MeetsRul
   pub owed_charge : (charge : Charge) → Among (values books.charges) charge → IsOwed books charge
   owed_charge charge a =
       let run = (there nat_total nat_ties books.runs charge.month).0 ((rules Rule.Months).charged charge (is_among (values books.charges) charge a)) in
-      owed_in run.0.is_closed run.0 charge refl (of_row nat_total nat_ties books.runs charge.month run.0 run.1) (sym (keyed.runs charge.month run.0 run.1)) a
+      owed_in run.0.is_closed run.0 charge refl (of_row nat_total nat_ties books.runs charge.month run.0 run.1) (sym (keyed Kind.Runs charge.month run.0 run.1)) a
 
   pub charges_fit : (month n : ℕ) → Fits charge_key charge_month books.charges month (posted_charges size books month n)
   charges_fit month n = record {
-    keyed = keyed.charges;
-    one = one_posted size books month n keyed.leases;
+    keyed = keyed Kind.Charges;
+    one = one_posted size books month n (keyed Kind.Leases);
     of_month = λ x a. (owed_posted size books month n x a).1;
     apart = λ x y k a h e.
         let own = owed_posted size books month n x a in
         let other = owed_charge y (of_row nats_total nats_tie books.charges k y h) in
-        let same = one_charge books keyed.leases x y own.0 other (e ∙ sym (keyed.charges k y h)) in
+        let same = one_charge books (keyed Kind.Leases) x y own.0 other (e ∙ sym (keyed Kind.Charges k y h)) in
         sym (ap charge_month same) ∙ own.1;
   }
 
   pub parts_fit : (month n : ℕ) → Fits part_key part_month books.parts month (posted_parts size books month n)
   parts_fit month n = record {
-    keyed = keyed.parts;
+    keyed = keyed Kind.Parts;
     one = one_begun size books month n;
     of_month = month_of_begun size books month n;
-    apart = λ x y k a h e. sym (ap (λ (key : ℕ × List ℕ). key.0) (e ∙ sym (keyed.parts k y h))) ∙ month_of_begun size books month n x a;
+    apart = λ x y k a h e. sym (ap (λ (key : ℕ × List ℕ). key.0) (e ∙ sym (keyed Kind.Parts k y h))) ∙ month_of_begun size books month n x a;
   }

@@ -4,6 +4,7 @@ use Rattle.std.specs.FinMap.{insert, values}
 use Rattle.dh_types.specs.declared.lease.Charge.{Charge}
 use Rattle.dh_types.specs.declared.run.Run.{Run}
 use Rattle.dh_model.specs.Books.{Books}
+use Rattle.dh_model.specs.Kinds.{Kind}
 use Rattle.dh_model.specs.Leases.{dues}
 use Rattle.dh_model.specs.Runs.{batches, charge_key, closed_run, part_key, posted_charges, posted_parts, total_of}
 use Rattle.dh_model.specs.Rules.{ArePosted, MeetsRules, Rule, charges_in}
@@ -30,30 +31,30 @@ module _ (size : ℕ) (books : Books) (pos : 1 ≤ size) (keyed : AreKeyed books
   to_due : (charge : Charge) → Among (charges_in books run.month) charge → Among (dues books run.month) charge
   to_due charge a =
       among (dues books run.month) charge
-      ((all_are_dues books (rules Rule.References) run.month size pos keyed.leases charge).0
+      ((all_are_dues books (rules Rule.References) run.month size pos (keyed Kind.Leases) charge).0
       ((posted.charges charge).0 (is_among (charges_in books run.month) charge a)))
 
   of_due : (charge : Charge) → Among (dues books run.month) charge → Among (charges_in books run.month) charge
   of_due charge a =
       among (charges_in books run.month) charge
-      ((posted.charges charge).1 ((all_are_dues books (rules Rule.References) run.month size pos keyed.leases charge).1
+      ((posted.charges charge).1 ((all_are_dues books (rules Rule.References) run.month size pos (keyed Kind.Leases) charge).1
       (is_among (dues books run.month) charge a)))
 
   charges_differ : Rises Differ (charges_in books run.month)
   charges_differ = filter_rises Differ (λ charge. nat_eq charge.month run.month) (values books.charges)
-      (rows_differ nats_total nats_tie charge_key books.charges keyed.charges)
+      (rows_differ nats_total nats_tie charge_key books.charges (keyed Kind.Charges))
 
   dues_differ : Rises Differ (dues books run.month)
-  dues_differ = lesser_differ lease_of (dues books run.month) (dues_rise (values books.leases) run.month (leases_rise books keyed.leases))
+  dues_differ = lesser_differ lease_of (dues books run.month) (dues_rise (values books.leases) run.month (leases_rise books (keyed Kind.Leases)))
 
   same_count : length (posted_charges size books run.month (batches size books run.month)) ≡ length (charges_in books run.month)
   same_count =
-      count_of_all books (rules Rule.References) run.month size pos keyed.leases
+      count_of_all books (rules Rule.References) run.month size pos (keyed Kind.Leases)
       ∙ sym (same_length (charges_in books run.month) (dues books run.month) charges_differ dues_differ to_due of_due)
 
   same_total : total_of (posted_charges size books run.month (batches size books run.month)) ≡ total_of (charges_in books run.month)
   same_total =
-      total_of_all books (rules Rule.References) run.month size pos keyed.leases
+      total_of_all books (rules Rule.References) run.month size pos (keyed Kind.Leases)
       ∙ sym (same_sum (λ charge. charge.amount) (charges_in books run.month) (dues books run.month) charges_differ dues_differ to_due of_due)
 
   completed_is_closed : completed size books (Some run) ≡ closed books run

@@ -11,6 +11,7 @@ use Rattle.std.proofs.lemmas.List.Sums.{sum_by-cons}
 use Rattle.dh_types.specs.declared.lease.Charge.{Charge}
 use Rattle.dh_types.specs.declared.run.Part.{Part}
 use Rattle.dh_model.specs.Books.{Books, text_cmp}
+use Rattle.dh_model.specs.Kinds.{Kind}
 use Rattle.dh_model.specs.Runs.{batch_of, batches, batches_before, batches_of_branch, charge_key, dues_of_branch, part_key, place_among, posted_charges}
 use Rattle.dh_model.specs.Runs.{posted_parts}
 use Rattle.dh_model.specs.Rules.{ArePosted, MeetsRules, charges_in, parts_in}
@@ -104,7 +105,7 @@ module _ (size : ℕ) (books : Books) (month done : ℕ) (pos : 1 ≤ size) (key
 
   until : (branch : List ℕ) (charge : Charge) → Among (dues_of_branch books month branch) charge
       → batch_of size books month branch charge < before branch + own branch
-  until branch charge a = each_due_has_its_batch size books month branch charge pos keyed.leases (is_among (dues_of_branch books month branch) charge a)
+  until branch charge a = each_due_has_its_batch size books month branch charge pos (keyed Kind.Leases) (is_among (dues_of_branch books month branch) charge a)
 
   from : (branch : List ℕ) (charge : Charge) → before branch ≤ batch_of size books month branch charge
   from branch charge = le-add_right (before branch) (place_among size (dues_of_branch books month branch) charge / size)
@@ -114,7 +115,7 @@ module _ (size : ℕ) (books : Books) (month done : ℕ) (pos : 1 ≤ size) (key
       → batch_of size books month branch charge < done
   not_early branch charge due a =
       let p = is_posted size books month done charge (of_charged charge a (owed_of_branch books month branch charge due).1) in
-      subst (λ b. batch_of size books month b charge < done) (one_branch_of_due books month keyed.leases p.branch branch charge p.due due) p.early
+      subst (λ b. batch_of size books month b charge < done) (one_branch_of_due books month (keyed Kind.Leases) p.branch branch charge p.due due) p.early
 
   module _ (held : Holds (batches_of_branch size books month) text_cmp text_total (keys books.branches) done) where
     abbrev key : List ℕ
@@ -173,7 +174,7 @@ module _ (size : ℕ) (books : Books) (month done : ℕ) (pos : 1 ≤ size) (key
         let late : batch_of size books month key later < done + 1 = elim (was_or_posted later a) [
           | inl is ↦
               let p = is_posted size books month (done + 1) later is in
-              subst (λ b. batch_of size books month b later < done + 1) (one_branch_of_due books month keyed.leases p.branch key later p.due later_due) p.early
+              subst (λ b. batch_of size books month b later < done + 1) (one_branch_of_due books month (keyed Kind.Leases) p.branch key later p.due later_due) p.early
           | inr old ↦ absurd (old.1 (owed_of_branch books month key later later_due).1)
         ] in
         newly charge (of_posted size books month (done + 1) charge
@@ -186,7 +187,7 @@ module _ (size : ℕ) (books : Books) (month done : ℕ) (pos : 1 ≤ size) (key
     no_part : (found : Option Part) → get books.parts (month, key) ≡ found → done ≤ before key → get books.parts (month, key) ≡ None
     no_part None e first = e
     no_part (Some part) e first =
-        let under : part_key part ≡ (month, key) = keyed.parts (month, key) part e in
+        let under : part_key part ≡ (month, key) = keyed Kind.Parts (month, key) part e in
         let row = of_row nat_text_total nat_text_ties books.parts (month, key) part e in
         let here = of_rows part_key part_month nat_text_total nat_text_ties books.parts month part row (ap (λ (k : ℕ × List ℕ). k.0) under) in
         let there = among (posted_parts size books month done) part ((posted.parts part).0 (is_among (parts_in books month) part here)) in
@@ -202,7 +203,7 @@ module _ (size : ℕ) (books : Books) (month done : ℕ) (pos : 1 ≤ size) (key
         let q = done - before key in
         let last = held.until in
         let begins = batch_begins size pos (length dues) q (omega (arith, begun)) (omega (arith, begun, last)) in
-        let at = numbered_at (place_among size dues) 0 dues (q * size) (places_numbered size books month pos keyed.leases key) begins in
+        let at = numbered_at (place_among size dues) 0 dues (q * size) (places_numbered size books month pos (keyed Kind.Leases) key) begins in
         let number : place_among size dues at.0 / size ≡ q = ap (λ n. n / size) at.2 ∙ ap (λ n. n / size) (omega arith) ∙ div-mul-add q size 0 pos in (
           at.0,
           is_among dues at.0 at.1,

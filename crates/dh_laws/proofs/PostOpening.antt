@@ -8,6 +8,7 @@ use Rattle.dh_types.specs.declared.run.Run.{Run}
 use Rattle.dh_types.specs.declared.run.Part.{Part}
 use Rattle.dh_model.specs.declared.rows.Change.TheVariants as change
 use Rattle.dh_model.specs.Books.{Books, with_rows}
+use Rattle.dh_model.specs.Kinds.{Kind}
 use Rattle.dh_model.specs.Leases.{dues}
 use Rattle.dh_model.specs.Machine.{changed}
 use Rattle.dh_model.specs.Runs.{batches, charge_key, closed_run, part_key, posted_charges, posted_parts, ran}
@@ -84,9 +85,9 @@ module _ (size : ℕ) (books : Books) (pos : 1 ≤ size) (keyed : AreKeyed books
   -- in the next month nothing stands, so the batches are its dues
   charges_alike : with_rows charge_key all books.charges ≡ with_rows charge_key (dues books row.month) books.charges
   charges_alike = same_put nats_total nats_tie charge_key all (dues books row.month) books.charges
-      (one_posted size books row.month (batches size books row.month) keyed.leases)
-      (λ x y a b e. one_charge books keyed.leases x y (owed_due books row.month x a).0 (owed_due books row.month y b).0 e)
-      (all_are_dues books (rules Rule.References) row.month size pos keyed.leases)
+      (one_posted size books row.month (batches size books row.month) (keyed Kind.Leases))
+      (λ x y a b e. one_charge books (keyed Kind.Leases) x y (owed_due books row.month x a).0 (owed_due books row.month y b).0 e)
+      (all_are_dues books (rules Rule.References) row.month size pos (keyed Kind.Leases))
 
   completed_is_ran : completed size opened (Some row) ≡ ran size books row.key
   completed_is_ran =
@@ -95,8 +96,8 @@ module _ (size : ℕ) (books : Books) (pos : 1 ≤ size) (keyed : AreKeyed books
       ∙ charges_alike in
       let parts = ap (with_rows part_key begun) (none_of_month part_key part_month nat_text_total nat_text_ties books.parts row.month not_summed) in
       let names = rules Rule.References in
-      let done = closed_alike row.month row.key all (dues books row.month) (count_of_all books names row.month size pos keyed.leases)
-      (total_of_all books names row.month size pos keyed.leases) in
+      let done = closed_alike row.month row.key all (dues books row.month) (count_of_all books names row.month size pos (keyed Kind.Leases))
+      (total_of_all books names row.month size pos (keyed Kind.Leases)) in
       let runs = insert_again nat_total nat_ties books.runs row.month row (closed_run row.month row.key all) ∙ ap (insert books.runs row.month) done in
       let at_month : completed size opened (Some row) ≡ record books {
         charges = with_rows charge_key (dues books row.month) books.charges;
@@ -115,7 +116,7 @@ module _ (size : ℕ) (books : Books) (pos : 1 ≤ size) (keyed : AreKeyed books
   opened_shown : row.is_closed ≡ false → row.count ≡ 0 → row.total ≡ 0 → open_row books ≡ None → open_row opened ≡ Some row
   opened_shown open_still count total none =
       let months : RunInMonths size books None = record { runs = rules Rule.Runs; months = rules Rule.Months; shown = none } in
-      let shown = (open_keeps size books row keyed.runs months next open_still count total).shown in
+      let shown = (open_keeps size books row (keyed Kind.Runs) months next open_still count total).shown in
       let found = shown_row opened shown.0 shown.1 in
       let at = row_of nat_total nat_ties opened.runs shown.0 found.0 in
       elim (got_after nat_total nat_ties books.runs row.month row at.0 shown.0 at.1) [

@@ -8,6 +8,7 @@ use Rattle.dh_types.specs.declared.lease.Charge.{Charge}
 use Rattle.dh_types.specs.declared.run.Run.{Run}
 use Rattle.dh_types.specs.declared.run.Part.{Part}
 use Rattle.dh_model.specs.Books.{Books, text_cmp}
+use Rattle.dh_model.specs.Kinds.{Kind}
 use Rattle.dh_model.specs.Runs.{batches, charge_key, part_key, posted_charges, posted_parts}
 use Rattle.dh_model.specs.Rules.{ArePosted, IsThere, MeetsRules, MonthIsClosed, MonthsInOrder, NamesWhatIsThere, Rule}
 use Rattle.dh_model.specs.Whole.{with_posted}
@@ -28,7 +29,7 @@ module _ (size : ℕ) (books : Books) (keyed : AreKeyed books) (rules : MeetsRul
   lease_there : (charge : Charge) → IsOwed books charge → IsThere books.leases charge.lease
   lease_there charge owed =
       let number : charge.lease ≡ owed.lease.terms.number = ap (λ (c : Charge). c.lease) owed.is in
-      let own = own_row nat_total nat_ties (λ lease. lease.terms.number) books.leases keyed.leases owed.lease owed.of in
+      let own = own_row nat_total nat_ties (λ lease. lease.terms.number) books.leases (keyed Kind.Leases) owed.lease owed.of in
       subst (IsThere books.leases) (sym number) ((there nat_total nat_ties books.leases owed.lease.terms.number).1 (owed.lease, own))
 
   module _ (month n : ℕ) where
@@ -48,23 +49,11 @@ module _ (size : ℕ) (books : Books) (keyed : AreKeyed books) (rules : MeetsRul
         (among (values (with_posted size books month n).parts) part a)
 
     pub posted_keyed : AreKeyed (with_posted size books month n)
-    posted_keyed = record {
-      branches = keyed.branches;
-      staff = keyed.staff;
-      owners = keyed.owners;
-      properties = keyed.properties;
-      clients = keyed.clients;
-      registrations = keyed.registrations;
-      viewings = keyed.viewings;
-      inspections = keyed.inspections;
-      leases = keyed.leases;
-      charges = keyed_replaced charge_key charge_month nats_total nats_tie books.charges month (posted_charges size books month n)
-          (charges_fit size books keyed rules month n);
-      receipts = keyed.receipts;
-      runs = keyed.runs;
-      parts = keyed_replaced part_key part_month nat_text_total nat_text_ties books.parts month (posted_parts size books month n)
-          (parts_fit size books keyed rules month n);
-    }
+    posted_keyed Kind.Charges = keyed_replaced charge_key charge_month nats_total nats_tie books.charges month (posted_charges size books month n)
+        (charges_fit size books keyed rules month n)
+    posted_keyed Kind.Parts = keyed_replaced part_key part_month nat_text_total nat_text_ties books.parts month (posted_parts size books month n)
+        (parts_fit size books keyed rules month n)
+    posted_keyed kind = keyed kind
 
     module _ (row : Run) (is : get books.runs month ≡ Some row) where
       run_there : IsThere books.runs month
@@ -108,7 +97,7 @@ module _ (size : ℕ) (books : Books) (keyed : AreKeyed books) (rules : MeetsRul
           → IsThere (with_posted size books month n).parts (other, branch)
       part_stays other branch apart h =
           let at = (there nat_text_total nat_text_ties books.parts (other, branch)).0 h in
-          let own : at.0.month ≡ other = ap (λ (k : ℕ × List ℕ). k.0) (keyed.parts (other, branch) at.0 at.1) in
+          let own : at.0.month ≡ other = ap (λ (k : ℕ × List ℕ). k.0) (keyed Kind.Parts (other, branch) at.0 at.1) in
           let stays = of_old part_key part_month nat_text_total nat_text_ties books.parts month (posted_parts size books month n)
           (parts_fit size books keyed rules month n) (other, branch) at.0 at.1 (λ e. apart (sym own ∙ e)) in
           (there nat_text_total nat_text_ties (with_posted size books month n).parts (other, branch)).1 (at.0, stays)
@@ -133,7 +122,7 @@ module _ (size : ℕ) (books : Books) (keyed : AreKeyed books) (rules : MeetsRul
         last_month : (run : Run) → IsAmong (values books.runs) run → run.is_closed ≡ false → run.month + 1 ≡ books.next
         last_month run a e =
             let r = rules Rule.Runs in
-            let at = own_row nat_total nat_ties (λ it. it.month) books.runs keyed.runs run (among (values books.runs) run a) in
+            let at = own_row nat_total nat_ties (λ it. it.month) books.runs (keyed Kind.Runs) run (among (values books.runs) run a) in
             let within = (r.run run.month).0 ((there nat_total nat_ties books.runs run.month).1 (run, at)) in
             elim (cases_lt (run.month + 1) books.next) [
               | inl early ↦ absurd (true≢false (sym (r.closed run a early) ∙ e))
@@ -143,15 +132,15 @@ module _ (size : ℕ) (books : Books) (keyed : AreKeyed books) (rules : MeetsRul
         -- and so of this month
         own_month : (run : Run) → IsAmong (values books.runs) run → run.is_closed ≡ false → run.month ≡ month
         own_month run a e =
-            let own : row.month ≡ month = keyed.runs month row is in
+            let own : row.month ≡ month = keyed Kind.Runs month row is in
             let mine = last_month row (is_among (values books.runs) row (of_row nat_total nat_ties books.runs month row is)) is_open in
             let other = last_month run a e in
             omega (arith, own, mine, other)
 
         other_month : (run : Run) → IsAmong (values books.runs) run → run.is_closed ≡ true → run.month ≡ month → ⊥
         other_month run a e same =
-            let own : row.month ≡ month = keyed.runs month row is in
-            let one = one_row nat_total nat_ties (λ it. it.month) books.runs keyed.runs run row (among (values books.runs) run a)
+            let own : row.month ≡ month = keyed Kind.Runs month row is in
+            let one = one_row nat_total nat_ties (λ it. it.month) books.runs (keyed Kind.Runs) run row (among (values books.runs) run a)
             (of_row nat_total nat_ties books.runs month row is) (same ∙ sym own) in
             true≢false (sym e ∙ ap (λ (r : Run). r.is_closed) one ∙ is_open)
 

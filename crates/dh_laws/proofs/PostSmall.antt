@@ -11,6 +11,7 @@ use Rattle.std.proofs.lemmas.List.Sums.{length-filter}
 use Rattle.dh_types.specs.declared.lease.Charge.{Charge}
 use Rattle.dh_types.proofs.SameValues.{numbers}
 use Rattle.dh_model.specs.Books.{Books, text_cmp}
+use Rattle.dh_model.specs.Kinds.{Kind}
 use Rattle.dh_model.specs.Runs.{batch_of, batches_before, batches_of_branch, charge_key, dues_of_branch, place_among, posted_charges}
 use Rattle.dh_model.specs.Rules.{ArePosted, MeetsRules, charges_in}
 use Rattle.dh_model.specs.Whole.{with_posted}
@@ -72,7 +73,7 @@ module _ (size : ℕ) (books : Books) (month : ℕ) where
         let own = own_is_before (batches_of_branch size books month) text_cmp text_total (keys books.branches) a b h less in
         let first = number_of_batch number a x p in
         let second = number_of_batch number b y q in
-        let until = each_due_has_its_batch size books month a x pos keyed.leases (is_among (dues_of_branch books month a) x first.0) in
+        let until = each_due_has_its_batch size books month a x pos (keyed Kind.Leases) (is_among (dues_of_branch books month a) x first.0) in
         let from : batches_before size books month b ≤ batch_of size books month b y =
         le-add_right (batches_before size books month b) (place_among size (dues_of_branch books month b) y / size) in
         omega (arith, own, until, from, first.1, second.1)
@@ -86,7 +87,7 @@ module _ (size : ℕ) (books : Books) (month : ℕ) where
     small : (number : ℕ) (branch : List ℕ) → length (batch_at number branch) ≤ size
     small number branch =
         let count = length-filter (λ charge. nat_eq (batch_of size books month branch charge) number) (dues_of_branch books month branch) in
-        let few = no_batch_is_too_large size books month branch number pos keyed.leases in
+        let few = no_batch_is_too_large size books month branch number pos (keyed Kind.Leases) in
         omega (arith, count, few)
 
     keys_differ : Rises Differ (keys books.branches)
@@ -134,7 +135,7 @@ module _ (size : ℕ) (books : Books) (month : ℕ) where
       few_more =
           let after = (with_posted size books month (done + 1)).charges in
           let new = flat_map (batch_at done) (keys books.branches) in
-          let differ = rows_differ nats_total nats_tie charge_key after (posted_keyed size books keyed rules month (done + 1)).charges in
+          let differ = rows_differ nats_total nats_tie charge_key after (posted_keyed size books keyed rules month (done + 1) Kind.Charges) in
           let no_more = no_longer (values after) (new ++ values books.charges) differ was_or_new in
           let both = length-append new (values books.charges) in
           let count = rows_counted nats_total nats_tie after in

@@ -3,6 +3,7 @@ use Rattle.std.proofs.Common.{◌≡◌, ◌∙◌, sym, ap, subst, ℕ, ◌+◌
 use Rattle.std.specs.FinMap.{get, insert, values}
 use Rattle.dh_types.specs.declared.run.Run.{Run}
 use Rattle.dh_model.specs.Books.{Books, with_rows}
+use Rattle.dh_model.specs.Kinds.{Kind}
 use Rattle.dh_model.specs.Runs.{batches, charge_key, closed_run, part_key, posted_charges, posted_parts}
 use Rattle.dh_model.specs.Rules.{MeetsRules}
 use Rattle.dh_model.specs.Whole.{completed, open_row, with_posted}
@@ -25,7 +26,7 @@ pub record IsOpen (books : Books) (row : Run) : Type 0 where
 pub is_open : (books : Books) (row : Run) → AreKeyed books → open_row books ≡ Some row → IsOpen books row
 is_open books row keyed shown =
     let found = shown_row books row shown in
-    record { of = found.0; is = own_row nat_total nat_ties (λ it. it.month) books.runs keyed.runs row found.0; open_still = found.1 }
+    record { of = found.0; is = own_row nat_total nat_ties (λ it. it.month) books.runs (keyed Kind.Runs) row found.0; open_still = found.1 }
 
 module _ (size : ℕ) (books : Books) (keyed : AreKeyed books) (rules : MeetsRules books size) where
   -- whatever batches are in the books, the rest leads to the same

@@ -17,6 +17,7 @@ use Rattle.dh_model.specs.declared.rows.Change.TheVariants as change
 use Rattle.dh_model.specs.declared.rows.Verdict.{Verdict}
 use Rattle.dh_model.specs.declared.rows.Verdict.TheVariants as verdict
 use Rattle.dh_model.specs.Books.{Books, State}
+use Rattle.dh_model.specs.Kinds.{Kind}
 use Rattle.dh_model.specs.Rules.{KeysInOrder}
 use Rattle.dh_model.specs.Runs.{batches}
 use Rattle.dh_model.specs.Verdicts.{verdict_on}
@@ -37,7 +38,7 @@ module _ (number : ℕ) (receipt : Receipt) where
     -- no receipt has the next number
     next_is_free : get b.receipts (len b.receipts + 1) ≡ None
     next_is_free = none_if (get b.receipts (len b.receipts + 1)) (λ x e.
-        let own = keyed.receipts (len b.receipts + 1) x e in
+        let own = keyed Kind.Receipts (len b.receipts + 1) x e in
         let within = keys.numbers x ((among_values nat_total nat_ties b.receipts x).1 (len b.receipts + 1, e)) in
         omega (arith, own, within.1))
 

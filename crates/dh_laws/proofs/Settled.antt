@@ -13,6 +13,7 @@ use Rattle.dh_model.specs.declared.open_run.OpenRun.{OpenRun}
 use Rattle.dh_model.specs.declared.rows.Change.{Change}
 use Rattle.dh_model.specs.declared.rows.Change.TheVariants as change
 use Rattle.dh_model.specs.Books.{Books}
+use Rattle.dh_model.specs.Kinds.{Kind}
 use Rattle.dh_model.specs.Checks.{is_same_text}
 use Rattle.dh_model.specs.Leases.{overlap}
 use Rattle.dh_model.specs.Machine.{at_rent, changed, managed, with_comment}
@@ -131,7 +132,7 @@ module _ (b : Books) (keyed : AreKeyed b) (settled : AreSettled b) where
   module _ (run : Option OpenRun) (it : Receipt) (adds : AddsReceipt b run it) where
     fresh_receipt : get b.receipts it.number ≡ None
     fresh_receipt = absent (get b.receipts it.number) (λ old is.
-        let own = keyed.receipts it.number old is in
+        let own = keyed Kind.Receipts it.number old is in
         let keys = settled.keys in
         let within = (keys.numbers old (is_among (values b.receipts) old (of_row nat_total nat_ties b.receipts it.number old is))).1 in
         let number = adds.number in

@@ -6,6 +6,7 @@ use Rattle.std.proofs.lemmas.Cmp.{tied_itself}
 use Rattle.std.proofs.lemmas.List.Sums.{sum_by-cons}
 use Rattle.dh_types.specs.declared.run.Part.{Part}
 use Rattle.dh_model.specs.Books.{Books, text_cmp}
+use Rattle.dh_model.specs.Kinds.{Kind}
 use Rattle.dh_model.specs.Runs.{batches_before, batches_for, batches_of_branch, begun_branches, part_key, part_of, posted_of_branch, posted_parts}
 use Rattle.dh_model.specs.Rules.{ArePosted, parts_in}
 use Rattle.dh_model.specs.Whole.{batches_shown}
@@ -56,7 +57,7 @@ module _ (size : ℕ) (books : Books) (month done : ℕ) (pos : 1 ≤ size) wher
         let parts = posted_parts size books month done in
         same_sum batches_of rows parts
         (filter_rises Differ (λ (part : Part). nat_eq part.month month) (values books.parts)
-        (rows_differ nat_text_total nat_text_ties part_key books.parts keyed.parts))
+        (rows_differ nat_text_total nat_text_ties part_key books.parts (keyed Kind.Parts)))
         posted_differ
         (λ part a. among parts part ((posted.parts part).0 (is_among rows part a)))
         (λ part a. among rows part ((posted.parts part).1 (is_among parts part a)))
@@ -69,6 +70,6 @@ module _ (size : ℕ) (books : Books) (month done : ℕ) (pos : 1 ≤ size) wher
         let rows = rows_are_posted in
         let mapped = sum_of_map batches_of part_at (begun_branches size books month done) in
         let all = taken_in_all own (batches_before size books month) (λ branch. batches_of (part_at branch)) done
-        (batches_posted size books month pos keyed.leases done) 0 (keys books.branches)
+        (batches_posted size books month pos (keyed Kind.Leases) done) 0 (keys books.branches)
         (sums_follow own text_cmp text_total (keys books.branches) branches_rise) (omega (arith, few)) in
         omega (arith, rows, mapped, all)

@@ -6,6 +6,7 @@ use Rattle.std.proofs.lemmas.Bool.{cases_lt}
 use Rattle.dh_types.specs.declared.run.Run.{Run}
 use Rattle.dh_model.specs.declared.open_run.OpenRun.{OpenRun}
 use Rattle.dh_model.specs.Books.{Books}
+use Rattle.dh_model.specs.Kinds.{Kind}
 use Rattle.dh_model.specs.Rules.{ArePosted, MeetsRules, MonthIsOpen, MonthsInOrder, RunsInOrder}
 use Rattle.dh_model.specs.Rules.Rule.{Months, Runs}
 use Rattle.dh_model.specs.Whole.{IsOpenAt, batches_shown, open_row}
@@ -43,16 +44,16 @@ module _ (size : ℕ) (books : Books) (pos : 1 ≤ size) (keyed : AreKeyed books
       let row_is : is.0 ≡ row = inside is.0 row (sym is.1 ∙ shown) in
       let month_is : other.month ≡ row.month = sym is.2 ∙ ap (λ (r : Run). r.month) row_is in
       let theirs : ArePosted books size row.month other.done = subst (λ month. ArePosted books size month other.done) month_is is.3 in
-      let done_is : other.done ≡ done = one_number_of_batches size books row.month other.done done pos keyed.leases theirs posted in
+      let done_is : other.done ≡ done = one_number_of_batches size books row.month other.done done pos (keyed Kind.Leases) theirs posted in
       λ i. Some (record { month = month_is i; done = done_is i })
 
   own : (row : Run) → Among (values books.runs) row → get books.runs row.month ≡ Some row
-  own row a = own_row nat_total nat_ties (λ (run : Run). run.month) books.runs keyed.runs row a
+  own row a = own_row nat_total nat_ties (λ (run : Run). run.month) books.runs (keyed Kind.Runs) row a
 
   -- a row that is open is of the month before the next
   last : (row : Run) → Among (values books.runs) row → row.is_closed ≡ false → row.month + 1 ≡ books.next
   last row a is_open =
-      let within = run_within books keyed.runs runs row a in
+      let within = run_within books (keyed Kind.Runs) runs row a in
       elim (cases_lt (row.month + 1) books.next) [
         | inl earlier ↦ let closed = runs.closed row (is_among (values books.runs) row a) earlier in absurd (cc)
         | inr latest ↦ omega (arith, within.1, latest)

@@ -8,7 +8,7 @@ use Rattle.dh_model.specs.declared.open_run.OpenRun.{OpenRun}
 use Rattle.dh_model.specs.declared.rows.Change.{Change}
 use Rattle.dh_model.specs.declared.rows.Change.TheVariants as change
 use Rattle.dh_model.specs.Books.{Books}
-use Rattle.dh_model.specs.Runs.{charge_key, part_key}
+use Rattle.dh_model.specs.Kinds.{Kind, key_in, records_of}
 use Rattle.dh_model.specs.Rules.{MeetsRules}
 use Rattle.dh_model.specs.Whole.{IsOpenAt}
 
@@ -16,20 +16,9 @@ use Rattle.dh_model.specs.Whole.{IsOpenAt}
 abbrev pub StandUnder : {K X : Type 0} {R : K → K → Ordering} → (X → K) → FinMap R X → Type 0
 StandUnder {K} {X} key rows = (k : K) (row : X) → get rows k ≡ Some row → key row ≡ k
 
-pub record AreKeyed (books : Books) : Type 0 where
-  pub branches : StandUnder (λ it. it.number) books.branches
-  pub staff : StandUnder (λ it. it.number) books.staff
-  pub owners : StandUnder (λ it. it.number) books.owners
-  pub properties : StandUnder (λ it. it.number) books.properties
-  pub clients : StandUnder (λ it. it.number) books.clients
-  pub registrations : StandUnder (λ it. (it.client, it.branch)) books.registrations
-  pub viewings : StandUnder (λ it. (it.client, it.property)) books.viewings
-  pub inspections : StandUnder (λ it. (it.property, it.day)) books.inspections
-  pub leases : StandUnder (λ it. it.terms.number) books.leases
-  pub charges : StandUnder charge_key books.charges
-  pub receipts : StandUnder (λ it. it.number) books.receipts
-  pub runs : StandUnder (λ it. it.month) books.runs
-  pub parts : StandUnder part_key books.parts
+-- of each kind
+abbrev pub AreKeyed : Books → Type 0
+AreKeyed books = (kind : Kind) → StandUnder (key_in kind) (records_of kind books)
 
 pub record IsInOrder (size : ℕ) (books : Books) (run : Option OpenRun) : Type 0 where
   pub keyed : AreKeyed books

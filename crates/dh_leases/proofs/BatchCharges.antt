@@ -5,6 +5,7 @@ use Rattle.std.specs.Ordering.{nat_cmp}
 use Rattle.std.proofs.lemmas.Bool.{cases_lt}
 use Rattle.dh_types.specs.declared.lease.Charge.{Charge}
 use Rattle.dh_model.specs.Books.{Books, pair_cmp, with_rows}
+use Rattle.dh_model.specs.Kinds.{Kind}
 use Rattle.dh_model.specs.Runs.{batch_of, charge_key, dues_of_branch, posted_charges, posted_of_branch}
 use Rattle.dh_model.specs.Rules.{MeetsRules}
 use Rattle.dh_model.proofs.Among.{Among, in_append, in_filter, of_filter}
@@ -38,19 +39,19 @@ are_new (charge ∷ charges) held rise free = (
 
 module _ (size : ℕ) (books : Books) (month number : ℕ) (pos : 1 ≤ size) (keyed : AreKeyed books) (held : IsHeld size books month number) where
   abbrev own : List Charge
-  own = charges_at size (own_dues size books month number pos keyed.leases held) (own_number size books month number pos keyed.leases held)
+  own = charges_at size (own_dues size books month number pos (keyed Kind.Leases) held) (own_number size books month number pos (keyed Kind.Leases) held)
 
   abbrev key : List ℕ
   key = held.key
 
   abbrev in_two : posted_of_branch size books month (number + 1) key ≡ posted_of_branch size books month number key ++ own
-  in_two = posted_in_two size books month number pos keyed.leases held
+  in_two = posted_in_two size books month number pos (keyed Kind.Leases) held
 
   rise : Rises (Lesser lease_of) (posted_of_branch size books month number key ++ own)
   rise =
       subst (Rises (Lesser lease_of)) in_two
       (filter_rises (Lesser lease_of) (λ charge. nat_lt (batch_of size books month key charge) (number + 1)) (dues_of_branch books month key)
-      (dues_of_branch_rise books month keyed.leases key))
+      (dues_of_branch_rise books month (keyed Kind.Leases) key))
 
   -- a charge of the batch is a due of its branch, and of this batch
   of_batch : (x : Charge) → Among own x → Among (dues_of_branch books month key) x × (batch_of size books month key x ≡ number)
@@ -104,7 +105,7 @@ module _ (size : ℕ) (books : Books) (month number : ℕ) (pos : 1 ≤ size) (k
         | inr later ↦
             let last = p.early in
             let is : batch_of size books month p.branch x ≡ number = omega (arith, later, last) in
-            let same = branch_of_due size books month number pos keyed.leases held p.branch x p.of p.due is in
+            let same = branch_of_due size books month number pos (keyed Kind.Leases) held p.branch x p.of p.due is in
             inl (is_own x (subst (λ b. Among (dues_of_branch books month b) x) same p.due) (subst (λ b. batch_of size books month b x ≡ number) same is))
       ]
 
@@ -113,10 +114,10 @@ module _ (size : ℕ) (books : Books) (month number : ℕ) (pos : 1 ≤ size) (k
   not_before x a y b e =
       let of = of_batch x a in
       let is = of.1 in
-      let one = one_posted size books month (number + 1) keyed.leases y x (posted_still y b) (posted_too x a) e in
+      let one = one_posted size books month (number + 1) (keyed Kind.Leases) y x (posted_still y b) (posted_too x a) e in
       let p = is_posted size books month number y b in
       let due = subst (λ z. Among (dues_of_branch books month p.branch) z) one p.due in
-      let same = one_branch_of_due books month keyed.leases p.branch key x due of.0 in
+      let same = one_branch_of_due books month (keyed Kind.Leases) p.branch key x due of.0 in
       let early : batch_of size books month p.branch y < number = p.early in
       let here : batch_of size books month key x < number =
       subst (λ b. batch_of size books month b x < number) same (subst (λ z. batch_of size books month p.branch z < number) one early) in

@@ -5,6 +5,7 @@ use Rattle.std.specs.FinMap.{get, keys}
 use Rattle.std.proofs.lemmas.Bool.{cases_lt}
 use Rattle.dh_types.specs.declared.run.Part.{Part}
 use Rattle.dh_model.specs.Books.{Books, with_rows}
+use Rattle.dh_model.specs.Kinds.{Kind}
 use Rattle.dh_model.specs.Runs.{batch_of, batches_before, batches_of_branch, begun_branches, dues_of_branch, part_key, part_of, posted_of_branch, posted_parts}
 use Rattle.dh_model.specs.Rules.{MeetsRules}
 use Rattle.dh_model.proofs.Among.{Among, of_filter, of_map}
@@ -40,11 +41,11 @@ module _ (size : ℕ) (books : Books) (month number : ℕ) (pos : 1 ≤ size) (k
   key = held.key
 
   abbrev part : Part
-  part = part_of month key (take ((own_number size books month number pos keyed.leases held + 1) * size)
-      (own_dues size books month number pos keyed.leases held))
+  part = part_of month key (take ((own_number size books month number pos (keyed Kind.Leases) held + 1) * size)
+      (own_dues size books month number pos (keyed Kind.Leases) held))
 
   part_is : part ≡ part_of month key (posted_of_branch size books month (number + 1) key)
-  part_is = ap (part_of month key) (sym (posted_with size books month number pos keyed.leases held))
+  part_is = ap (part_of month key) (sym (posted_with size books month number pos (keyed Kind.Leases) held))
 
   -- the other branches have what they had
   others_stay : (branch : List ℕ) → Among (keys books.branches) branch → (branch ≡ key → ⊥)
@@ -54,7 +55,7 @@ module _ (size : ℕ) (books : Books) (month number : ℕ) (pos : 1 ≤ size) (k
       (λ charge. nat_lt (batch_of size books month branch charge) (number + 1))
       (dues_of_branch books month branch)
       (λ x due. next_below (batch_of size books month branch x) number
-      (λ is. apart (branch_of_due size books month number pos keyed.leases held branch x of due is)))
+      (λ is. apart (branch_of_due size books month number pos (keyed Kind.Leases) held branch x of due is)))
 
   -- and begin with another batch
   others_begin : (branch : List ℕ) → Among (keys books.branches) branch → (branch ≡ key → ⊥) → batches_before size books month branch < number + 1
@@ -113,7 +114,7 @@ module _ (size : ℕ) (books : Books) (month number : ℕ) (pos : 1 ≤ size) (k
         (parts_fit size books keyed rules month (number + 1)) (part ∷ []) is_new still_or_replaced new_or_before
 
     -- the branch has a part row where this is not its first batch
-    pub had_part : nat_lt 0 (own_number size books month number pos keyed.leases held)
+    pub had_part : nat_lt 0 (own_number size books month number pos (keyed Kind.Leases) held)
         ≡ is_some (get (replaced part_key part_month books.parts month (posted_parts size books month number)) (month, key))
     had_part =
         let rows = posted_parts size books month number in

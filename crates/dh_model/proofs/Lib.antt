@@ -9,6 +9,7 @@ pub mod BatchLemmas
 pub mod RunLemmas
 pub mod MapLemmas
 pub mod KeyOrders
+pub mod KindOrders
 pub mod Pairs
 pub mod MapRows
 pub mod ListedDues

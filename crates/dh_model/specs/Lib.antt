@@ -2,6 +2,7 @@ pub mod Books
 pub mod Codes
 pub mod Leases
 pub mod Runs
+pub mod Kinds
 pub mod Checks
 pub mod Verdicts
 pub mod Machine

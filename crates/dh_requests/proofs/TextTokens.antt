@@ -206,7 +206,7 @@ no_item_of (Some d) None e = cc
 no_item_of (Some d) (Some ys) e = cc
 
 closed : (rest : List Token) (texts : List (List ℕ)) → of_items json.no_items ≡ Some (items_of (map made.string texts))
-      → Token.end_array ∷ rest ≡ closing texts rest
+    → Token.end_array ∷ rest ≡ closing texts rest
 closed rest [] of = refl
 closed rest (t ∷ texts) of = absurd (cc)
 
@@ -217,7 +217,7 @@ Gives d n ts =
     → of_items js ≡ Some (items_of (map made.string texts)) → ts ≡ closing texts rest
 
 item_are : (d n : ℕ) → ((left : List Token) → Gives d n left)
-      → (ts : List Token) (j : Json) (left rest : List Token) (more : json.Items) (texts : List (List ℕ))
+    → (ts : List Token) (j : Json) (left rest : List Token) (more : json.Items) (texts : List (List ℕ))
     → value d ts ≡ Some (j, left) → items (value d) n left ≡ Some (more, rest) → of_items (json.item j more) ≡ Some (items_of (map made.string texts))
     → ts ≡ closing texts rest
 item_are d n again ts j left rest more [] v r of = absurd (no_item_of (of_json j) (of_items more) of)
@@ -302,6 +302,6 @@ ends body seen left is end = (
 )
 
 pub one_more : (seen : List (List ℕ)) (t : List ℕ) (left : List Token)
-      → map Token.string seen ++ (Token.string t ∷ left) ≡ map Token.string (seen ++ (t ∷ [])) ++ left
+    → map Token.string seen ++ (Token.string t ∷ left) ≡ map Token.string (seen ++ (t ∷ [])) ++ left
 one_more [] t left = refl
 one_more (s ∷ seen) t left = ap (λ l. Token.string s ∷ l) (one_more seen t left)

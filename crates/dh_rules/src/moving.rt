@@ -45,7 +45,7 @@ pub fn advanced(alloc: Global, before: Books, count: u128) -> Result<Books, Allo
 /// The tables with the open run made to its end: what a recovery leaves.
 pub fn mended(alloc: Global, before: Books) -> Result<Books, AllocError>
     ensures made { IfOk result (λ after. IsStateInOrder before →
-      IsStateInOrder after × (after.books ≡ whole batch_size before.books) × (after.open_run ≡ None)) }
+        IsStateInOrder after × (after.books ≡ whole batch_size before.books) × (after.open_run ≡ None)) }
     ensures happens { IfOk result (λ after. Happens batch_size Mended (as_tables before) (as_tables after)) }
 {
     let mut after = whole(alloc, before)?;
@@ -109,7 +109,7 @@ pub fn cut_undone(
     reach: Reach,
 ) -> Result<Books, AllocError>
     ensures happens { IfOk result (λ after. IsStateInOrder before →
-      IsUndone batch_size command.now (as_tables before) (as_tables after) × IsStateInOrder after) }
+        IsUndone batch_size command.now (as_tables before) (as_tables after) × IsStateInOrder after) }
     ensures run { IfOk result (λ after. IsStateInOrder before → after.open_run ≡ undone_run (whole batch_size before.books) command.now reach before.open_run) }
 {
     match command {

@@ -138,7 +138,7 @@ fn told_meanwhile(alloc: Global, mut before: Books, command: &Command) -> Result
 /// What an answered command makes of the tables: the reply is the machine's over the whole books.
 pub fn said(alloc: Global, before: Books, command: &Command) -> Result<Told, AllocError>
     ensures { IfOk result (λ it. IsStateInOrder before →
-      Happens batch_size (Said command.now it.reply) (as_tables before) (as_tables it.tables) × IsStateInOrder it.tables) }
+        Happens batch_size (Said command.now it.reply) (as_tables before) (as_tables it.tables) × IsStateInOrder it.tables) }
 {
     match before.open_run() {
         None => match command {

@@ -27,7 +27,7 @@ use Rattle.dh_sql.specs.Shape.{AreApart, IsKept}
 use Rattle.dh_tables.specs.Calls as calls
 use Rattle.dh_tables.specs.Calls.{Amends, CommitsNothing, StaysInTransaction}
 use Rattle.dh_tables.specs.RunTable.{run_shape}
-use Rattle.dh_schema.specs.Kinds.{Runs}
+use Rattle.dh_model.specs.Kinds.{Runs}
 use Rattle.dh_schema.specs.Store.{IsReady, IsWriting, tables}
 use Rattle.dh_schema.specs.Tables.{IsTableInOrder}
 use Rattle.dh_schema.proofs.Keyed.{books_are_keyed, sound_tables_show_their_run}

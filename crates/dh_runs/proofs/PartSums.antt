@@ -8,6 +8,7 @@ use Rattle.dh_types.specs.declared.lease.Charge.{Charge}
 use Rattle.dh_types.specs.declared.run.Part.{Part}
 use Rattle.dh_types.specs.declared.run.Run.{Run}
 use Rattle.dh_model.specs.Books.{Books, text_cmp}
+use Rattle.dh_model.specs.Kinds.{Kind}
 use Rattle.dh_model.specs.Rules.{ArePosted, charges_in, parts_in}
 use Rattle.dh_model.specs.Runs.{batches, batches_before, begun_branches, closed_run, part_key, part_of, posted_charges, posted_of_branch}
 use Rattle.dh_model.specs.Runs.{posted_parts, total_of}
@@ -62,7 +63,7 @@ module _ (size : ℕ) (books : Books) (month : ℕ) (pos : 1 ≤ size) (keyed : 
         let parts = posted_parts size books month all in
         same_sum f rows parts
         (filter_rises Differ (λ (part : Part). nat_eq part.month month) (values books.parts)
-        (rows_differ nat_text_total nat_text_ties part_key books.parts keyed.parts))
+        (rows_differ nat_text_total nat_text_ties part_key books.parts (keyed Kind.Parts)))
         posted_differ
         (λ part a. among parts part ((posted.parts part).0 (is_among rows part a)))
         (λ part a. among rows part ((posted.parts part).1 (is_among parts part a)))
@@ -71,7 +72,7 @@ module _ (size : ℕ) (books : Books) (month : ℕ) (pos : 1 ≤ size) (keyed : 
     parts_come_to =
         rows_are_posted
         ∙ ap (λ (branches : List (List ℕ)). sum_by f (map (λ branch. part_of month branch (posted_at branch)) branches))
-        (last_batch_posts_all size books month pos keyed.leases).1
+        (last_batch_posts_all size books month pos (keyed Kind.Leases)).1
         ∙ of_branches (keys books.branches)
 
 -- of the open run

@@ -15,8 +15,9 @@ use Rattle.dh_catalog.specs.Layout.{our_schema}
 use Rattle.dh_sql.specs.Changes.{Becomes}
 use Rattle.dh_tables.specs.Calls.{Amends, CommitsNothing, StaysInTransaction, IsUndone}
 use Rattle.dh_tables.proofs.AmendedRecord.{becomes_there}
-use Rattle.dh_schema.specs.Kinds.{Kind, key_of, order_of, record_of, shape_of, shelf_of}
-use Rattle.dh_schema.specs.Kinds.{Parts}
+use Rattle.dh_model.specs.Kinds.{Kind, key_of, order_of, record_of}
+use Rattle.dh_schema.specs.Kinds.{shape_of, shelf_of}
+use Rattle.dh_model.specs.Kinds.{Parts}
 use Rattle.dh_schema.specs.Store.{IsWriting, tables}
 use Rattle.dh_schema.specs.Tables.{AreInOrder, loaded_from, records_in}
 use Rattle.dh_schema.proofs.Crashing.{survives_both}
@@ -44,7 +45,7 @@ module _ (kind : Kind) (records : FinMap (order_of kind) (record_of kind)) (old 
   Means turned = ((shelf_of kind).with (loaded_from old.now.trees) records).books ≡ turned (tables old).books
 
   on_ok : {X E : Type 0} (turned : Books → Books) (r : Result X E) → AreInOrder old.now.trees → Means turned
-        → OnOk r (StaysInTransaction old new) → OnOk r Turns
+      → OnOk r (StaysInTransaction old new) → OnOk r Turns
       → OnOk r (IsWriting new × ((tables new).books ≡ turned (tables old).books))
   on_ok turned (Ok x) order means on done = let here = put_in kind records old new order on done in (here.0, here.1 ∙ means)
   on_ok turned (Err e) order means on done = tt
@@ -97,7 +98,7 @@ module _ (first later : Books → Books) (a b c : State) where
 
   -- what was put, and then this
   pub puts_both : {x : Unit {0}} (r : Result (Unit {0}) Error) → TurnsBooks first (Ok x) a b → TurnsBooks later r b c
-        → TurnsBooks (λ books. later (first books)) r a c
+      → TurnsBooks (λ books. later (first books)) r a c
   puts_both r one two = record {
     put = λ clean.
         let half : HasCleanDisk b = omega (arith, two.crash.clean, clean) in
@@ -119,7 +120,7 @@ puts_none turned other r e f old new is puts = record {
 
 -- and so at first
 pub nothing_put : (turned : Books → Books) (s : State) → (HasCleanDisk s → IsWriting s) → turned (tables s).books ≡ (tables s).books
-      → TurnsBooks turned (Ok tt) s s
+    → TurnsBooks turned (Ok tt) s s
 nothing_put turned s writing same = record {
   put = λ clean. (writing clean, sym same);
   kept = λ clean. record { was_open = λ still. still; committed = λ _. refl };

@@ -22,8 +22,9 @@ use Rattle.dh_catalog.specs.MetaTable.{meta}
 use Rattle.dh_sql.specs.Changes.{Becomes, IsSame}
 use Rattle.dh_sql.proofs.Staying.{same_beside}
 use Rattle.dh_tables.specs.MetaTable.{AreMonths, SetsMonths, SetsNext, meta_columns}
-use Rattle.dh_schema.specs.Kinds.{Kind, order_of, record_of, shape_of, shelf_of}
-use Rattle.dh_schema.specs.Kinds.{Branches, Staff, Owners, Properties, Clients, Registrations, Viewings, Inspections, Leases, Charges, Receipts, Runs, Parts}
+use Rattle.dh_model.specs.Kinds.{Kind, order_of, record_of}
+use Rattle.dh_schema.specs.Kinds.{shape_of, shelf_of}
+use Rattle.dh_model.specs.Kinds.{Branches, Staff, Owners, Properties, Clients, Registrations, Viewings, Inspections, Leases, Charges, Receipts, Runs, Parts}
 use Rattle.dh_schema.specs.Store.{AreTables, with_change}
 use Rattle.dh_schema.specs.Tables.{AreInOrder, IsTableInOrder, books_in, loaded_from, months_of}
 use Rattle.dh_schema.proofs.EachKind.{beside_meta, held_beside, held_in, listed, months_beside, one_kind, place_of, same_books, table_of, tree_is}

@@ -1,12 +1,9 @@
 -- Each kind at its place among the tables and in the books, apart from the others.
 use Rattle.std.proofs.Common.{◌≡◌, refl, ℕ, nat_eq, true, false, Some, slice_get}
-use Rattle.std.specs.Cmp.{IsTotalOrder}
-use Rattle.std.specs.FinMap.{FinMap, IsAntisymmetric, empty}
+use Rattle.std.specs.FinMap.{FinMap, empty}
 use Rattle.sqlite_schema.specs.declared.schema.Table.{Table}
 use Rattle.sqlite_trees.specs.Tree.{Trees}
 use Rattle.dh_model.specs.Books.{State}
-use Rattle.dh_model.proofs.KeyOrders.{nat_text_ties, nat_text_total, nat_ties, nat_total, nats_tie, nats_total}
-use Rattle.dh_model.proofs.KeyOrders.{text_nat_ties, text_nat_total, text_ties, text_total, texts_tie, texts_total}
 use Rattle.dh_rows.specs.Months.{Months}
 use Rattle.dh_catalog.specs.Layout.{our_schema}
 use Rattle.dh_catalog.specs.BranchTable.{branch}
@@ -22,8 +19,9 @@ use Rattle.dh_catalog.specs.ChargeTable.{charge}
 use Rattle.dh_catalog.specs.ReceiptTable.{receipt}
 use Rattle.dh_catalog.specs.RunTable.{run}
 use Rattle.dh_catalog.specs.PartTable.{part}
-use Rattle.dh_schema.specs.Kinds.{Kind, order_of, record_of, shape_of, shelf_of}
-use Rattle.dh_schema.specs.Kinds.{Branches, Staff, Owners, Properties, Clients, Registrations, Viewings, Inspections, Leases, Charges, Receipts, Runs, Parts}
+use Rattle.dh_model.specs.Kinds.{Kind, order_of, record_of}
+use Rattle.dh_schema.specs.Kinds.{shape_of, shelf_of}
+use Rattle.dh_model.specs.Kinds.{Branches, Staff, Owners, Properties, Clients, Registrations, Viewings, Inspections, Leases, Charges, Receipts, Runs, Parts}
 use Rattle.dh_schema.specs.Tables.{empty_over, loaded_from, records_in}
 
 -- ---- the table
@@ -120,36 +118,6 @@ one_kind Receipts Receipts h = refl
 one_kind Runs Runs h = refl
 one_kind Parts Parts h = refl
 one_kind _ _ h = cc
-
-pub total_of : (kind : Kind) → IsTotalOrder (order_of kind)
-total_of Branches = text_total
-total_of Staff = text_total
-total_of Owners = text_total
-total_of Properties = text_total
-total_of Clients = text_total
-total_of Registrations = texts_total
-total_of Viewings = texts_total
-total_of Inspections = text_nat_total
-total_of Leases = nat_total
-total_of Charges = nats_total
-total_of Receipts = nat_total
-total_of Runs = nat_total
-total_of Parts = nat_text_total
-
-pub ties_of : (kind : Kind) → IsAntisymmetric (order_of kind)
-ties_of Branches = text_ties
-ties_of Staff = text_ties
-ties_of Owners = text_ties
-ties_of Properties = text_ties
-ties_of Clients = text_ties
-ties_of Registrations = texts_tie
-ties_of Viewings = texts_tie
-ties_of Inspections = text_nat_ties
-ties_of Leases = nat_ties
-ties_of Charges = nats_tie
-ties_of Receipts = nat_ties
-ties_of Runs = nat_ties
-ties_of Parts = nat_text_ties
 
 -- ---- the books
 

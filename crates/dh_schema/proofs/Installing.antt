@@ -21,7 +21,8 @@ use Rattle.dh_catalog.specs.Making.{AreEmpty}
 use Rattle.dh_sql.specs.Shape.{AreApart, IsKept, Shape, entry_in, rows_in}
 use Rattle.dh_sql.proofs.Lists.{all_at}
 use Rattle.dh_tables.specs.MetaTable.{SetsMonths}
-use Rattle.dh_schema.specs.Kinds.{Kind, order_of, shape_of}
+use Rattle.dh_model.specs.Kinds.{Kind, order_of}
+use Rattle.dh_schema.specs.Kinds.{shape_of}
 use Rattle.dh_schema.specs.Tables.{AreInOrder, empty_over, loaded_from, months_of, state_in}
 use Rattle.dh_schema.specs.Store.{AreTables, IsReady, tables}
 use Rattle.dh_schema.proofs.Changing.{showing}

@@ -14,8 +14,9 @@ use Rattle.dh_tables.specs.Calls.{HasOurTables, IsUndone}
 use Rattle.dh_tables.specs.Listing.{IsLoaded}
 use Rattle.dh_tables.specs.MetaTable.{HasMonths}
 use Rattle.dh_schema.specs.declared.load_fault.LoadFault.{LoadFault}
-use Rattle.dh_schema.specs.Kinds.{Kind, order_of, shape_of, shelf_of}
-use Rattle.dh_schema.specs.Kinds.{Branches, Staff, Owners, Properties, Clients, Registrations, Viewings, Inspections, Leases, Charges, Receipts, Runs, Parts}
+use Rattle.dh_model.specs.Kinds.{Kind, order_of}
+use Rattle.dh_schema.specs.Kinds.{shape_of, shelf_of}
+use Rattle.dh_model.specs.Kinds.{Branches, Staff, Owners, Properties, Clients, Registrations, Viewings, Inspections, Leases, Charges, Receipts, Runs, Parts}
 use Rattle.dh_schema.specs.Loaded.{AllAreRecords, AreLoaded, HasNone, Loads, Reads, all_kinds, with_records}
 use Rattle.dh_schema.specs.Store.{Keeps}
 use Rattle.dh_schema.specs.Tables.{AreInOrder, AreRecords, HasValues, IsTableInOrder, empty_over, loaded_from, months_of}

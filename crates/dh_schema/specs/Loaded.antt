@@ -9,8 +9,9 @@ use Rattle.dh_tables.specs.Calls.{CommitsNothing, IsUndone}
 use Rattle.dh_schema.specs.declared.load_fault.LoadFault.{LoadFault}
 use Rattle.dh_schema.specs.declared.load_fault.LoadFault.TheVariants.{Damaged}
 use Rattle.dh_schema.specs.LoadFaults.{IsLoadFault}
-use Rattle.dh_schema.specs.Kinds.{Kind, shelf_of}
-use Rattle.dh_schema.specs.Kinds.{Branches, Staff, Owners, Properties, Clients, Registrations, Viewings, Inspections, Leases, Charges, Receipts, Runs, Parts}
+use Rattle.dh_model.specs.Kinds.{Kind}
+use Rattle.dh_schema.specs.Kinds.{shelf_of}
+use Rattle.dh_model.specs.Kinds.{Branches, Staff, Owners, Properties, Clients, Registrations, Viewings, Inspections, Leases, Charges, Receipts, Runs, Parts}
 use Rattle.dh_schema.specs.Tables.{AreRecords, IsTableInOrder, records_in}
 
 -- ---- the kinds in the order in which they are read

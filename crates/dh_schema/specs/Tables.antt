@@ -16,8 +16,9 @@ use Rattle.dh_rows.specs.MetaRows.{months_in}
 use Rattle.dh_catalog.specs.Layout.{our_schema}
 use Rattle.dh_sql.specs.Shape.{AreApart, IsKept, IsStored, rows_in}
 use Rattle.dh_tables.specs.MetaTable.{HasMonths, meta_rows}
-use Rattle.dh_schema.specs.Kinds.{Kind, order_of, record_of, shape_of}
-use Rattle.dh_schema.specs.Kinds.{Branches, Staff, Owners, Properties, Clients, Registrations, Viewings, Inspections, Leases, Charges, Receipts, Runs, Parts}
+use Rattle.dh_model.specs.Kinds.{Kind, order_of, record_of}
+use Rattle.dh_schema.specs.Kinds.{shape_of}
+use Rattle.dh_model.specs.Kinds.{Branches, Staff, Owners, Properties, Clients, Registrations, Viewings, Inspections, Leases, Charges, Receipts, Runs, Parts}
 
 -- the records of a kind
 abbrev pub records_in : (kind : Kind) → Trees → FinMap (order_of kind) (record_of kind)

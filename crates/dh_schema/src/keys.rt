@@ -12,7 +12,7 @@ use dh_types::{
 
 impl KeyedRecord for Branch {
     ghost use Rattle.dh_tables.specs.BranchTable.{branch_shape};
-    ghost use Rattle.dh_schema.specs.Kinds.{Branches};
+    ghost use Rattle.dh_model.specs.Kinds.{Branches};
     ghost use Rattle.dh_tables.proofs.ByKey.{by_text};
 
     type ByKey = BranchNumbered;
@@ -30,7 +30,7 @@ impl KeyedRecord for Branch {
 
 impl KeyedRecord for Staff {
     ghost use Rattle.dh_tables.specs.StaffTable.{staff_shape};
-    ghost use Rattle.dh_schema.specs.Kinds.{Staff};
+    ghost use Rattle.dh_model.specs.Kinds.{Staff};
     ghost use Rattle.dh_tables.proofs.ByKey.{by_text};
 
     type ByKey = MemberNumbered;
@@ -48,7 +48,7 @@ impl KeyedRecord for Staff {
 
 impl KeyedRecord for Owner {
     ghost use Rattle.dh_tables.specs.OwnerTable.{owner_shape};
-    ghost use Rattle.dh_schema.specs.Kinds.{Owners};
+    ghost use Rattle.dh_model.specs.Kinds.{Owners};
     ghost use Rattle.dh_tables.proofs.ByKey.{by_text};
 
     type ByKey = OwnerNumbered;
@@ -66,7 +66,7 @@ impl KeyedRecord for Owner {
 
 impl KeyedRecord for Property {
     ghost use Rattle.dh_tables.specs.PropertyTable.{property_shape};
-    ghost use Rattle.dh_schema.specs.Kinds.{Properties};
+    ghost use Rattle.dh_model.specs.Kinds.{Properties};
     ghost use Rattle.dh_tables.proofs.ByKey.{by_text};
 
     type ByKey = PropertyNumbered;
@@ -84,7 +84,7 @@ impl KeyedRecord for Property {
 
 impl KeyedRecord for Client {
     ghost use Rattle.dh_tables.specs.ClientTable.{client_shape};
-    ghost use Rattle.dh_schema.specs.Kinds.{Clients};
+    ghost use Rattle.dh_model.specs.Kinds.{Clients};
     ghost use Rattle.dh_tables.proofs.ByKey.{by_text};
 
     type ByKey = ClientNumbered;
@@ -102,7 +102,7 @@ impl KeyedRecord for Client {
 
 impl KeyedRecord for Registration {
     ghost use Rattle.dh_tables.specs.RegistrationTable.{registration_shape};
-    ghost use Rattle.dh_schema.specs.Kinds.{Registrations};
+    ghost use Rattle.dh_model.specs.Kinds.{Registrations};
     ghost use Rattle.dh_tables.proofs.ByKey.{by_texts};
 
     type ByKey = RegistrationAt;
@@ -123,7 +123,7 @@ impl KeyedRecord for Registration {
 
 impl KeyedRecord for Viewing {
     ghost use Rattle.dh_tables.specs.ViewingTable.{viewing_shape};
-    ghost use Rattle.dh_schema.specs.Kinds.{Viewings};
+    ghost use Rattle.dh_model.specs.Kinds.{Viewings};
     ghost use Rattle.dh_tables.proofs.ByKey.{by_texts};
 
     type ByKey = ViewingOf;
@@ -144,7 +144,7 @@ impl KeyedRecord for Viewing {
 
 impl KeyedRecord for Inspection {
     ghost use Rattle.dh_tables.specs.InspectionTable.{inspection_shape};
-    ghost use Rattle.dh_schema.specs.Kinds.{Inspections};
+    ghost use Rattle.dh_model.specs.Kinds.{Inspections};
     ghost use Rattle.dh_tables.proofs.ByKey.{by_text_and_number};
 
     type ByKey = InspectionOf;
@@ -165,7 +165,7 @@ impl KeyedRecord for Inspection {
 
 impl KeyedRecord for Lease {
     ghost use Rattle.dh_tables.specs.LeaseTable.{lease_shape};
-    ghost use Rattle.dh_schema.specs.Kinds.{Leases};
+    ghost use Rattle.dh_model.specs.Kinds.{Leases};
     ghost use Rattle.dh_tables.proofs.ByKey.{by_number};
 
     type ByKey = LeaseNumbered;
@@ -183,7 +183,7 @@ impl KeyedRecord for Lease {
 
 impl KeyedRecord for Charge {
     ghost use Rattle.dh_tables.specs.ChargeTable.{charge_shape};
-    ghost use Rattle.dh_schema.specs.Kinds.{Charges};
+    ghost use Rattle.dh_model.specs.Kinds.{Charges};
     ghost use Rattle.dh_tables.proofs.ByKey.{by_numbers};
 
     type ByKey = ChargeOf;
@@ -204,7 +204,7 @@ impl KeyedRecord for Charge {
 
 impl KeyedRecord for Receipt {
     ghost use Rattle.dh_tables.specs.ReceiptTable.{receipt_shape};
-    ghost use Rattle.dh_schema.specs.Kinds.{Receipts};
+    ghost use Rattle.dh_model.specs.Kinds.{Receipts};
     ghost use Rattle.dh_tables.proofs.ByKey.{by_number};
 
     type ByKey = ReceiptNumbered;
@@ -222,7 +222,7 @@ impl KeyedRecord for Receipt {
 
 impl KeyedRecord for Run {
     ghost use Rattle.dh_tables.specs.RunTable.{run_shape};
-    ghost use Rattle.dh_schema.specs.Kinds.{Runs};
+    ghost use Rattle.dh_model.specs.Kinds.{Runs};
     ghost use Rattle.dh_tables.proofs.ByKey.{by_number};
 
     type ByKey = RunOf;
@@ -240,7 +240,7 @@ impl KeyedRecord for Run {
 
 impl KeyedRecord for Part {
     ghost use Rattle.dh_tables.specs.PartTable.{part_shape};
-    ghost use Rattle.dh_schema.specs.Kinds.{Parts};
+    ghost use Rattle.dh_model.specs.Kinds.{Parts};
     ghost use Rattle.dh_tables.proofs.ByKey.{by_number_and_text};
 
     type ByKey = PartOf;

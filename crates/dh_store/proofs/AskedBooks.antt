@@ -13,11 +13,13 @@ use Rattle.dh_model.proofs.KeyOrders.{nat_ties, nat_total, nats_tie, nats_total,
 use Rattle.dh_laws.specs.AskedAbout.{with_accounts}
 use Rattle.dh_laws.proofs.AskedRows.{none_where, one_more}
 use Rattle.dh_tables.specs.Calls.{CommitsNothing, HasFetchedMore}
-use Rattle.dh_schema.specs.Kinds.{Charges, Clients, Kind, Receipts, order_of, record_of, shape_of, shelf_of}
+use Rattle.dh_model.specs.Kinds.{Charges, Clients, Kind, Receipts, order_of, record_of}
+use Rattle.dh_schema.specs.Kinds.{shape_of, shelf_of}
 use Rattle.dh_schema.specs.Store.{StaysReady, tables}
 use Rattle.dh_schema.specs.Tables.{records_in}
 use Rattle.dh_schema.proofs.Crashing.{survives_both}
-use Rattle.dh_schema.proofs.EachKind.{held_in, ties_of, total_of}
+use Rattle.dh_schema.proofs.EachKind.{held_in}
+use Rattle.dh_model.proofs.KindOrders.{ties_of, total_of}
 
 -- ---- along some look-ups
 

@@ -29,7 +29,7 @@ leaves_either old new after settled ready clean survives left may = elim (surviv
 -- a transaction is begun, the rows are put, and it is committed
 module _ {S : Type 0} (g : Ghosts S) (rows : Change) (x : Unit {0}) (old begun last new : Held S) (is : begun ≡ record old { in_transaction = true })
     (order : HasCleanDisk (state g old) → office.IsStateInOrder (with_change rows (tables (state g old))))
-        (puts : PutsRows rows (Ok x) (state g begun) (state g last))
+    (puts : PutsRows rows (Ok x) (state g begun) (state g last))
   where
     abbrev After : machine.State → Type 0
     After t = t ≡ with_change rows (tables (state g old))

@@ -20,8 +20,9 @@ use Rattle.dh_tables.specs.Calls.{Adds, Amends, CommitsNothing, StaysInTransacti
 use Rattle.dh_tables.specs.MetaTable.{SetsNext}
 use Rattle.dh_tables.specs.RunTable.{run_shape}
 use Rattle.dh_tables.proofs.AmendedRecord.{becomes_there}
-use Rattle.dh_schema.specs.Kinds.{Kind, key_of, order_of, record_of, shape_of, shelf_of}
-use Rattle.dh_schema.specs.Kinds.{Properties, Runs, Viewings}
+use Rattle.dh_model.specs.Kinds.{Kind, key_of, order_of, record_of}
+use Rattle.dh_schema.specs.Kinds.{shape_of, shelf_of}
+use Rattle.dh_model.specs.Kinds.{Properties, Runs, Viewings}
 use Rattle.dh_schema.specs.Store.{IsWriting, tables}
 use Rattle.dh_schema.specs.Tables.{AreInOrder, loaded_from, records_in}
 use Rattle.dh_schema.proofs.Changing.{books_after, books_with_next, in_order_after, in_order_with_next}
@@ -68,7 +69,7 @@ module _ (kind : Kind) (records : FinMap (order_of kind) (record_of kind)) (old 
 
   -- a record was added
   pub added : (rows : Change) (r : Result (Unit {0}) Error) → (HasCleanDisk old → IsWriting old) → Means rows
-        → (HasCleanDisk new → OnOk r (StaysInTransaction old new))
+      → (HasCleanDisk new → OnOk r (StaysInTransaction old new))
       → (HasCleanDisk new → OnOk r Turns) → (HasCleanDisk new → OnErr r (IsUndone old new)) → CommitsNothing old new → PutsRows rows r old new
   added rows r writing means on done undone crash = record {
     put = λ clean. on_ok rows r (writing (omega (arith, crash.clean, clean))).in_order means (on clean) (done clean);
@@ -137,7 +138,7 @@ module _ (run : Run) (old mid new : State) where
   Opened = IsWriting new × ((tables new).books ≡ changed (change.Open run) (tables old).books)
 
   after_both : AreInOrder old.now.trees → StaysInTransaction old mid → Adds run_shape nat_cmp run old mid
-        → StaysInTransaction mid new → SetsNext (run.month + 1) mid new → Opened
+      → StaysInTransaction mid new → SetsNext (run.month + 1) mid new → Opened
   after_both order on added on_next set =
       let records = insert (records_in Runs old.now.trees) run.month run in
       let first = put_in Runs records old mid order on added in
@@ -153,7 +154,7 @@ module _ (run : Run) (old mid new : State) where
       )
 
   on_ok_next : {X E : Type 0} (r : Result X E) → AreInOrder old.now.trees → StaysInTransaction old mid
-        → Adds run_shape nat_cmp run old mid → OnOk r (StaysInTransaction mid new)
+      → Adds run_shape nat_cmp run old mid → OnOk r (StaysInTransaction mid new)
       → OnOk r (SetsNext (run.month + 1) mid new) → OnOk r Opened
   on_ok_next (Ok x) order on added on_next set = after_both order on added on_next set
   on_ok_next (Err e) order on added on_next set = tt

@@ -22,7 +22,7 @@ use Rattle.dh_laws.specs.Looks.{Counts, IsCutOf, IsLast, month_open, number_of}
 use Rattle.dh_laws.proofs.LooksLast.{last_number_is_count}
 use Rattle.dh_verdicts.proofs.OpenRuns.{refusal_of, refused}
 use Rattle.dh_sql.proofs.Found.{get_where}
-use Rattle.dh_schema.specs.Kinds.{Properties}
+use Rattle.dh_model.specs.Kinds.{Properties}
 use Rattle.dh_schema.specs.Tables.{IsSound, books_in, state_in}
 use Rattle.dh_schema.proofs.Keyed.{books_are_keyed, keyed}
 use Rattle.dh_store.specs.Gathered.{bare, seen}

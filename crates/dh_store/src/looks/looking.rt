@@ -31,7 +31,7 @@ pub trait KeptRecord: Tabled {
 
 impl KeptRecord for Branch {
     ghost use Rattle.std.specs.Prelude.{refl};
-    ghost use Rattle.dh_schema.specs.Kinds.{Branches};
+    ghost use Rattle.dh_model.specs.Kinds.{Branches};
 
     ghost is_kept = { λ trees order. (order.tables Branches).kept };
 
@@ -40,7 +40,7 @@ impl KeptRecord for Branch {
 
 impl KeptRecord for Staff {
     ghost use Rattle.std.specs.Prelude.{refl};
-    ghost use Rattle.dh_schema.specs.Kinds.{Staff};
+    ghost use Rattle.dh_model.specs.Kinds.{Staff};
 
     ghost is_kept = { λ trees order. (order.tables Staff).kept };
 
@@ -49,7 +49,7 @@ impl KeptRecord for Staff {
 
 impl KeptRecord for Owner {
     ghost use Rattle.std.specs.Prelude.{refl};
-    ghost use Rattle.dh_schema.specs.Kinds.{Owners};
+    ghost use Rattle.dh_model.specs.Kinds.{Owners};
 
     ghost is_kept = { λ trees order. (order.tables Owners).kept };
 
@@ -58,7 +58,7 @@ impl KeptRecord for Owner {
 
 impl KeptRecord for Property {
     ghost use Rattle.std.specs.Prelude.{refl};
-    ghost use Rattle.dh_schema.specs.Kinds.{Properties};
+    ghost use Rattle.dh_model.specs.Kinds.{Properties};
 
     ghost is_kept = { λ trees order. (order.tables Properties).kept };
 
@@ -67,7 +67,7 @@ impl KeptRecord for Property {
 
 impl KeptRecord for Client {
     ghost use Rattle.std.specs.Prelude.{refl};
-    ghost use Rattle.dh_schema.specs.Kinds.{Clients};
+    ghost use Rattle.dh_model.specs.Kinds.{Clients};
 
     ghost is_kept = { λ trees order. (order.tables Clients).kept };
 
@@ -76,7 +76,7 @@ impl KeptRecord for Client {
 
 impl KeptRecord for Registration {
     ghost use Rattle.std.specs.Prelude.{refl};
-    ghost use Rattle.dh_schema.specs.Kinds.{Registrations};
+    ghost use Rattle.dh_model.specs.Kinds.{Registrations};
 
     ghost is_kept = { λ trees order. (order.tables Registrations).kept };
 
@@ -85,7 +85,7 @@ impl KeptRecord for Registration {
 
 impl KeptRecord for Viewing {
     ghost use Rattle.std.specs.Prelude.{refl};
-    ghost use Rattle.dh_schema.specs.Kinds.{Viewings};
+    ghost use Rattle.dh_model.specs.Kinds.{Viewings};
 
     ghost is_kept = { λ trees order. (order.tables Viewings).kept };
 
@@ -94,7 +94,7 @@ impl KeptRecord for Viewing {
 
 impl KeptRecord for Inspection {
     ghost use Rattle.std.specs.Prelude.{refl};
-    ghost use Rattle.dh_schema.specs.Kinds.{Inspections};
+    ghost use Rattle.dh_model.specs.Kinds.{Inspections};
 
     ghost is_kept = { λ trees order. (order.tables Inspections).kept };
 
@@ -103,7 +103,7 @@ impl KeptRecord for Inspection {
 
 impl KeptRecord for Lease {
     ghost use Rattle.std.specs.Prelude.{refl};
-    ghost use Rattle.dh_schema.specs.Kinds.{Leases};
+    ghost use Rattle.dh_model.specs.Kinds.{Leases};
 
     ghost is_kept = { λ trees order. (order.tables Leases).kept };
 
@@ -112,7 +112,7 @@ impl KeptRecord for Lease {
 
 impl KeptRecord for Charge {
     ghost use Rattle.std.specs.Prelude.{refl};
-    ghost use Rattle.dh_schema.specs.Kinds.{Charges};
+    ghost use Rattle.dh_model.specs.Kinds.{Charges};
 
     ghost is_kept = { λ trees order. (order.tables Charges).kept };
 
@@ -121,7 +121,7 @@ impl KeptRecord for Charge {
 
 impl KeptRecord for Receipt {
     ghost use Rattle.std.specs.Prelude.{refl};
-    ghost use Rattle.dh_schema.specs.Kinds.{Receipts};
+    ghost use Rattle.dh_model.specs.Kinds.{Receipts};
 
     ghost is_kept = { λ trees order. (order.tables Receipts).kept };
 
@@ -130,7 +130,7 @@ impl KeptRecord for Receipt {
 
 impl KeptRecord for Run {
     ghost use Rattle.std.specs.Prelude.{refl};
-    ghost use Rattle.dh_schema.specs.Kinds.{Runs};
+    ghost use Rattle.dh_model.specs.Kinds.{Runs};
 
     ghost is_kept = { λ trees order. (order.tables Runs).kept };
 
@@ -139,7 +139,7 @@ impl KeptRecord for Run {
 
 impl KeptRecord for Part {
     ghost use Rattle.std.specs.Prelude.{refl};
-    ghost use Rattle.dh_schema.specs.Kinds.{Parts};
+    ghost use Rattle.dh_model.specs.Kinds.{Parts};
 
     ghost is_kept = { λ trees order. (order.tables Parts).kept };
 

@@ -15,4 +15,4 @@ pub returns-in_ok-next_life-in-Err-clause-broken : goal.returns-in_ok-next_life-
 returns-in_ok-next_life-in-Err-clause-broken g c clean =
     let life = c.in_ok-next_life-in-Err in
     opened_anew g.S.Store c.args.conn c.in-Err.field-0.conn life.field-0 life.ensures.found life.ensures.lists life.ensures.was_clean clean
-        RecoveryCut tt c.in-Err.ensures.cut
+    RecoveryCut tt c.in-Err.ensures.cut

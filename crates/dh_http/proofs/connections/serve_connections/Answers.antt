@@ -33,7 +33,7 @@ returns-in_err-print_outcome-clause-served g c =
     (served_to_break g.S.Store c.args.agency.now c.loop-served.agency c.serve_next-outcome.new.agency (g.W.Write.contents c.args.writer.now)
     (g.W.Write.contents c.loop-served.writer) (g.W.Write.contents c.print_outcome.new.writer) c.loop-served._served c.serve_next-outcome.result
     c.loop-served.invariant.served c.serve_next-outcome.ensures.on c.in_err-print_outcome.field-0.0 c.args.count c.loop-served-test.true
-        c.in_err-print_outcome.ensures)
+    c.in_err-print_outcome.ensures)
 
 pub returns-in_err-print_outcome-clause-was_clean : goal.returns-in_err-print_outcome-clause-was_clean
 returns-in_err-print_outcome-clause-was_clean g c = omega (arith, c.loop-served.invariant.was_clean, c.serve_next-outcome.ensures.was_clean)

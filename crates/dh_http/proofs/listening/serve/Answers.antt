@@ -6,9 +6,12 @@ use Rattle.dh_http.proofs.listening.serve.Goals as goal
 
 pub returns-in_err-print_port-clause-served : goal.returns-in_err-print_port-clause-served
 returns-in_err-print_port-clause-served g c =
-    let told = c.in_err-print_port.ensures in
-    ([], serves_none g.S.Store c.args.agency.now, Untold told.0 told.1 told.2 refl c.in_err-print_port.field-0.0
-        (is_output c.in_err-print_port.field-0.0 c.from_residual.result c.from_residual.ensures.1))
+    let told = c.in_err-print_port.ensures in (
+      [],
+      serves_none g.S.Store c.args.agency.now,
+      Untold told.0 told.1 told.2 refl c.in_err-print_port.field-0.0
+          (is_output c.in_err-print_port.field-0.0 c.from_residual.result c.from_residual.ensures.1),
+    )
 
 pub returns-clause-served : goal.returns-clause-served
 returns-clause-served g c =

@@ -1,7 +1,7 @@
 use Rattle.std.proofs.Common.{◌∙◌, sym}
 use Rattle.sqlite.specs.Held.{state}
 use Rattle.dh_model.specs.Runs.{part_key}
-use Rattle.dh_schema.specs.Kinds.{Parts}
+use Rattle.dh_model.specs.Kinds.{Parts}
 use Rattle.dh_schema.specs.Store.{tables}
 use Rattle.dh_runs.specs.Putting.{with_part}
 use Rattle.dh_runs.proofs.Putting.{added, changed, part_new, part_there, with_new_part}

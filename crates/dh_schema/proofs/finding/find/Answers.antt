@@ -26,6 +26,6 @@ returns-clause-found g c clean =
     let asked = subst (λ q. AreAsked T.shape T.order (asks q) old c.in_ok-rows.rows.items) c.by_key.ensures (c.in_ok-rows.ensures.rows clean) in
     let same = ap (λ (rows : List Row). rows_of T.shape {R = T.order} rows) c.deref.ensures.value ∙ asked in
     let found = found_ok laws.total laws.ties T.shape (asks (g.R.KeyedRecord.question key)) (rows_in T.shape trees)
-        (keyed_rows laws.total laws.ties T.shape trees)
+    (keyed_rows laws.total laws.ties T.shape trees)
     c.only.result (rows_of T.shape c.deref.result.now) c.only.ensures.found same in
     if_ok c.only.result (λ it of. of key (g.met.R.KeyedRecord.asks_for key)) found

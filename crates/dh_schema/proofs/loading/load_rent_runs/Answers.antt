@@ -1,6 +1,6 @@
 use Rattle.std.proofs.Common.{[], ◌∷◌}
 use Rattle.std.proofs.lemmas.Result.{err_from_is_err_and}
-use Rattle.dh_schema.specs.Kinds.{Runs, Parts}
+use Rattle.dh_model.specs.Kinds.{Runs, Parts}
 use Rattle.dh_schema.proofs.ReadTables.{and_table, one_table, still_none, still_ours, stopped}
 use Rattle.dh_schema.proofs.loading.load_rent_runs.Goals as goal
 

@@ -2,7 +2,7 @@ use Rattle.std.proofs.Common.{◌≡◌, None, OnOk, refl, sym, subst}
 use Rattle.sqlite.specs.Held.{state}
 use Rattle.dh_types.specs.declared.question.Question.{Question}
 use Rattle.dh_laws.specs.AskedAbout.{asked_about}
-use Rattle.dh_schema.specs.Kinds.{Branches}
+use Rattle.dh_model.specs.Kinds.{Branches}
 use Rattle.dh_schema.specs.Store.{tables}
 use Rattle.dh_schema.proofs.ReadTables.{on_ok}
 use Rattle.dh_store.proofs.AskedBooks.{put_whole}

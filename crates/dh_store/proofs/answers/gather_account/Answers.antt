@@ -1,7 +1,7 @@
 use Rattle.std.proofs.Common.{◌∙◌, refl, nat_eq, arith}
 use Rattle.sqlite.specs.State.{HasCleanDisk}
 use Rattle.sqlite.specs.Held.{state}
-use Rattle.dh_schema.specs.Kinds.{Charges, Leases, Receipts}
+use Rattle.dh_model.specs.Kinds.{Charges, Leases, Receipts}
 use Rattle.dh_store.proofs.AskedBooks.{put_first}
 use Rattle.dh_store.proofs.answers.gather_account.Goals as goal
 

@@ -30,7 +30,7 @@ loop-lease-preserved g c =
     let more = rw (← c.lease-item.is) at (take_more c.args.leases.now c.loop-lease.lease-index it low) in
     let with_these : List Lease → State = λ leases. record books { books = with_accounts (tables old).books books.books leases } in
     along_next {Held = c.loop-lease.books ≡ with_these so_far} old mid new c.loop-lease.invariant c.put_account.ensures.reads.crash
-        c.in_ok-put_account.ensures.reads.done
+    c.in_ok-put_account.ensures.reads.done
     (λ clean same held. one_account mid old same books c.loop-lease.books c.put_account.new.books so_far it held (c.in_ok-put_account.ensures.taken clean)
     ∙ ap with_these (sym more))
 

@@ -2,7 +2,7 @@ use Rattle.std.proofs.Common.{refl, arith}
 use Rattle.sqlite.specs.State.{HasCleanDisk}
 use Rattle.sqlite.specs.Held.{state}
 use Rattle.dh_model.specs.Checks.{is_same_text}
-use Rattle.dh_schema.specs.Kinds.{Clients}
+use Rattle.dh_model.specs.Kinds.{Clients}
 use Rattle.dh_store.proofs.AskedBooks.{put_first}
 use Rattle.dh_store.proofs.answers.gather_matching.Goals as goal
 

@@ -3,7 +3,7 @@ use Rattle.sqlite.specs.Held.{state}
 use Rattle.dh_model.specs.declared.rows.Change.{Change}
 use Rattle.dh_model.specs.Machine.{changed}
 use Rattle.dh_laws.specs.Looks.{FitsIn}
-use Rattle.dh_schema.specs.Kinds.{Branches, Staff, Owners, Properties, Clients, Registrations, Viewings, Inspections, Leases, Receipts}
+use Rattle.dh_model.specs.Kinds.{Branches, Staff, Owners, Properties, Clients, Registrations, Viewings, Inspections, Leases, Receipts}
 use Rattle.dh_schema.specs.Store.{tables}
 use Rattle.dh_store.specs.Putting.{PutsRows}
 use Rattle.dh_store.proofs.Putting.{added, amended, at_rent_there, comment_there, managed_there, nothing_put}

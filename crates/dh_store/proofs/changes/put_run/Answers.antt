@@ -4,7 +4,7 @@ use Rattle.sqlite.specs.State.{HasCleanDisk}
 use Rattle.sqlite.specs.Held.{state}
 use Rattle.dh_model.specs.declared.rows.Change.TheVariants as change
 use Rattle.dh_tables.specs.MetaTable.{SetsNext}
-use Rattle.dh_schema.specs.Kinds.{Runs}
+use Rattle.dh_model.specs.Kinds.{Runs}
 use Rattle.dh_store.proofs.Putting.{failed, opened, put_in}
 use Rattle.dh_store.proofs.changes.put_run.Goals as goal
 

@@ -1,7 +1,7 @@
 use Rattle.std.proofs.Common.{◌≤◌, sym, arith}
 use Rattle.sqlite.specs.Held.{state}
 use Rattle.dh_model.specs.Rules as rule
-use Rattle.dh_schema.specs.Kinds.{Runs}
+use Rattle.dh_model.specs.Kinds.{Runs}
 use Rattle.dh_schema.specs.Store.{tables}
 use Rattle.dh_store.proofs.LastRun.{none_before}
 use Rattle.dh_store.proofs.looks.reading.last_run.Goals as goal

@@ -2,7 +2,7 @@ use Rattle.std.proofs.Common.{◌∙◌, sym, subst, arith, Some, None}
 use Rattle.sqlite.specs.State.{HasCleanDisk}
 use Rattle.sqlite.specs.Held.{state}
 use Rattle.dh_laws.specs.Looks.{IsLast}
-use Rattle.dh_schema.specs.Kinds.{Receipts}
+use Rattle.dh_model.specs.Kinds.{Receipts}
 use Rattle.dh_schema.specs.Tables.{books_in}
 use Rattle.dh_store.proofs.Shown.{count_shown}
 use Rattle.dh_store.proofs.verdicts.gathering.receipt_count.Goals as goal
