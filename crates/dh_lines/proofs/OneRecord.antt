@@ -78,7 +78,7 @@ module _ {S : Type 0} (g : Ghosts S) (old new : Seat S) (a b : Option (List ℕ)
 
   -- the writer failed in the line
   pub answers_part : (it : Answered) (P : State → Type 0) (failed : writing.Output) (r : Result Bool Halt)
-        → IsErrAnd r (λ y. y ≡ halt.Output failed) → BreaksOff a b (numbered n it.text)
+      → IsErrAnd r (λ y. y ≡ halt.Output failed) → BreaksOff a b (numbered n it.text)
       → stand g new ≡ it.state → Answers g old new a b n it P r
   answers_part it P failed (Ok value) is broken state = absurd is
   answers_part it P failed (Err e) is broken state = subst (λ z. Answers g old new a b n it P (Err z)) (sym is) (broken, state)
@@ -91,7 +91,7 @@ module _ {S : Type 0} (g : Ghosts S) (old new : Seat S) (a b : Option (List ℕ)
     replied_whole put is_refused same = subst (λ z. Answers g old new a b n (replied z) P (Ok is_refused)) (sym is) (put, refl, same)
 
     pub replied_part : (failed : writing.Output) (r : Result Bool Halt) → IsErrAnd r (λ y. y ≡ halt.Output failed)
-          → BreaksOff a b (numbered n (reply_text answer ++ newline))
+        → BreaksOff a b (numbered n (reply_text answer ++ newline))
         → Answers g old new a b n (replied after) P r
     replied_part failed r broke put = subst (λ z. Answers g old new a b n (replied z) P r) (sym is)
         (answers_part (replied (stand g new, answer)) P failed r broke put refl)
@@ -114,7 +114,7 @@ module _ {S : Type 0} (g : Ghosts S) (old new : Seat S) (a b : Option (List ℕ)
     reported_whole put is_refused same_answer = subst (λ z. Answers g old new a b n z P (Ok is_refused)) is (put, refl, same_answer)
 
     pub reported_part : (failed : writing.Output) (r : Result Bool Halt) → IsErrAnd r (λ y. y ≡ halt.Output failed)
-          → BreaksOff a b (numbered n (reported_text shown))
+        → BreaksOff a b (numbered n (reported_text shown))
         → Answers g old new a b n (reported (stand g old) (report (stand g old) question)) P r
     reported_part failed r broke put =
         subst (λ z. Answers g old new a b n z P r) is (answers_part (reported (stand g new) shown) P failed r broke put refl)

@@ -62,7 +62,7 @@ returns-in-Err-clause-ends g c clean =
     IfSome_then (g.R.Read.remaining c.args.reader.now) (inv.follows clean)
     (λ input w. ends_unread g.S.Store c.args.agency.now c.loop-n.agency _ _ _ _ _ _ input w g.W.Write.contents _ _ (error_kind c.in-Err.error)
     c.failure-failure.result c.end_by_reading.result refl (noted_of_reader _ _ c.failure-failure.ensures) c.end_by_reading.ensures
-        (λ rests. inv.left clean rests.1 (inv.stopped ∙ rests.0)))
+    (λ rests. inv.left clean rests.1 (inv.stopped ∙ rests.0)))
 
 pub returns-in-Err-clause-crash : goal.returns-in-Err-clause-crash
 returns-in-Err-clause-crash g c clean live h =
