@@ -1,22 +1,35 @@
-//! Readers and writers that fail at a chosen call, to try what runs over them. They pass on one byte a call.
+//! A reader and a writer over memory that fail at a chosen call, to try what runs over them.
+
+ghost use Rattle.std.specs.Prelude.{◌≡◌, ◌≢◌, ◌+◌, length, min, Some, Ok, IfOk, IfErr, IsOk, IsErrAnd};
+ghost use Rattle.std.specs.Io.{ReadsAtMost, WritesAtMost};
+ghost use Rattle.std.specs.Io.KnownBytes.{Keeps, ReadConsumes, WriteAppends};
+ghost use Rattle.std.specs.IoError.{error_kind};
 
 use std::io;
-use std::io::{Read, Write};
+use std::io::{ErrorKind, Read, Write};
 
-/// A reader that fails from a read on, and until then gives a byte a read.
+/// A reader that gives a byte a read, so many times. Each read behind these fails with an error of the kind `Other` and changes nothing.
 #[derive(Drop)]
-pub struct FailingReader<R> {
-    pub inner: R,
+pub struct FailingReader<'a> {
+    pub inner: &'a [u8],
     /// How many more reads succeed.
     pub reads: u64,
 }
 
-impl<R: Read> Read for FailingReader<R> {
-    ghost remaining = { λ r. R.remaining r.inner };
+impl Read for FailingReader<'_> {
+    ghost remaining = { λ r. Some r.inner.now };
 
-    fn read(&mut self, buf: &mut [u8]) -> io::Result<usize> {
+    fn read(&mut self, buf: &mut [u8]) -> io::Result<usize>
+        ensures bound { ReadsAtMost result buf.new }
+        ensures bytes { ReadConsumes (Some self.old.inner.now) (Some self.new.inner.now) result buf.new }
+        ensures failed { self.old.reads ≡ 0 → IsErrAnd result (λ e. error_kind e ≡ ErrorKind.Other) }
+        ensures unchanged { self.old.reads ≡ 0 → self.new ≡ self.old }
+        ensures counted { self.old.reads ≢ 0 → self.new.reads + 1 ≡ self.old.reads }
+        ensures passed { self.old.reads ≢ 0
+            → result ≡ Ok (min (min 1 (length buf.old)) (length self.old.inner.now)) }
+    {
         if self.reads == 0 {
-            return Err(io::ErrorKind::Other.into());
+            return Err(ErrorKind::Other.into());
         }
         self.reads -= 1;
         let room = buf.len().min(1);
@@ -24,27 +37,40 @@ impl<R: Read> Read for FailingReader<R> {
     }
 }
 
-/// A writer that fails from a write on, and until then takes a byte a write.
+/// A writer that takes a byte a write, so many times. Each write behind these fails with an error of the kind `Other` and changes
+/// nothing. A write before these fails for want of memory alone.
 #[derive(Drop)]
-pub struct FailingWriter<W> {
-    pub inner: W,
+pub struct FailingWriter {
+    pub inner: Vec<u8>,
     /// How many more writes succeed.
     pub writes: u64,
 }
 
-impl<W: Write> Write for FailingWriter<W> {
-    ghost contents = { λ w. W.contents w.inner };
+impl Write for FailingWriter {
+    ghost contents = { λ w. Some w.inner.items };
 
-    fn write(&mut self, buf: &[u8]) -> io::Result<usize> {
+    fn write(&mut self, buf: &[u8]) -> io::Result<usize>
+        ensures bound { WritesAtMost result buf.now }
+        ensures bytes { WriteAppends (Some self.old.inner.items) (Some self.new.inner.items) result buf.now }
+        ensures failed { self.old.writes ≡ 0 → IsErrAnd result (λ e. error_kind e ≡ ErrorKind.Other) }
+        ensures unchanged { self.old.writes ≡ 0 → self.new ≡ self.old }
+        ensures counted { self.old.writes ≢ 0 → self.new.writes + 1 ≡ self.old.writes }
+        ensures passed { self.old.writes ≢ 0 → IfOk result (λ n. n ≡ min 1 (length buf.now)) }
+        ensures memory { self.old.writes ≢ 0 → IfErr result (λ e. error_kind e ≡ ErrorKind.OutOfMemory) }
+    {
         if self.writes == 0 {
-            return Err(io::ErrorKind::Other.into());
+            return Err(ErrorKind::Other.into());
         }
         self.writes -= 1;
         let some = buf.len().min(1);
         self.inner.write(&buf[..some])
     }
 
-    fn flush(&mut self) -> io::Result<()> {
+    fn flush(&mut self) -> io::Result<()>
+        ensures bytes { Keeps (Some self.old.inner.items) (Some self.new.inner.items) }
+        ensures ok { IsOk result }
+        ensures unchanged { self.new ≡ self.old }
+    {
         self.inner.flush()
     }
 }
