@@ -82,7 +82,7 @@ closed 3 --help
 closed 3 report --file nothing.db branches
 
 # A second process on a file that another holds, which goes on afterwards.
-"$program" init --file held.db --first 2025-01
+run 0 'created 2025-01' init --file held.db --first 2025-01 </dev/null
 coproc first { exec "$program" batch --file held.db; }
 first_id=$first_PID
 echo 'branch,B001,1 Main St,Leeds,LS1 1AA' >&"${first[1]}"
@@ -104,13 +104,13 @@ same 'its status' 0 $?
 run 0 'B001     Leeds' report --file held.db branches </dev/null
 
 # Folders and files without a permission. Root may do all, so as root the program is run by another user.
+mkdir shut
+run 0 'created 2025-01' init --file shut/office.db --first 2025-01 </dev/null
+before=$(sums shut/office.db)
 if [ "$(id -u)" = 0 ]; then
     as=(setpriv --reuid=65534 --regid=65534 --clear-groups)
 fi
 if "${as[@]}" true 2>/dev/null; then
-    mkdir shut
-    "$program" init --file shut/office.db --first 2025-01
-    before=$(sums shut/office.db)
     rm shut/office.db-wal
     chmod 666 shut/office.db
     chmod 555 shut
@@ -130,7 +130,7 @@ if "${as[@]}" true 2>/dev/null; then
     same 'a file that may not be written' "$before" "$(sums shut/office.db)"
     run 0 '' report --file shut/office.db branches </dev/null
 else
-    echo 'skipped: no other user may be had, so no folder lacks a permission'
+    echo 'skipped: folders and files without a permission, since the program can not be run by another user'
 fi
 as=()
 
@@ -145,13 +145,12 @@ if mount -t tmpfs -o size=16m letting disk 2>/dev/null; then
     run 0 '1 ok' batch --file disk/office.db <<<'branch,B001,1 Main St,Leeds,LS1 1AA'
     before=$(sums disk/office.db)
     head -c 16m /dev/zero >disk/filler 2>/dev/null
-    run 3 'fault 22' batch --file disk/office.db <<<'branch,B002,5 Oak Rd,York,YO1 1CC'
-    run 3 'fault 22' report --file disk/office.db branches </dev/null
+    run 3 '1 fault 22' batch --file disk/office.db <<<'branch,B002,5 Oak Rd,York,YO1 1CC'
     same 'the file on a full disk' "$before" "$(sums disk/office.db)"
     rm disk/filler
     run 0 'B001     Leeds' report --file disk/office.db branches </dev/null
     run 0 '1 ok' batch --file disk/office.db <<<'branch,B002,5 Oak Rd,York,YO1 1CC'
 else
-    echo 'skipped: no small disk may be mounted, so none is full'
+    echo 'skipped: a full disk, since no small one can be mounted'
 fi
 [ "$wrong" = 0 ]
