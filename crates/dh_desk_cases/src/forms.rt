@@ -41,14 +41,18 @@ fn answer(alloc: Global, status: &str, kind: &str, body: &str) -> Result<String,
     )
 }
 
-/// The answer to a request whose line is replied to so. The lines of a report stand behind `shown K`, and none of them has its end.
+// The report behind `shown K`, with the end of its last line.
+fn report_in(alloc: Global, reply: &str) -> Result<String, AllocError> {
+    match reply.split_once('\n') {
+        Some((_, lines)) => format!(in alloc; "{lines}\n"),
+        None => Ok(String::new(alloc)),
+    }
+}
+
+/// The answer to a request whose line is replied to so. The lines of a report stand behind `shown K`, and the last of them has no end.
 pub fn answer_of(alloc: Global, reply: &str) -> Result<String, AllocError> {
     if reply.starts_with("shown ") {
-        let mut report = String::new(alloc);
-        for line in reply.lines().skip(1) {
-            report.push_str(line)?;
-            report.push_str("\n")?;
-        }
+        let report = report_in(alloc, reply)?;
         return answer(
             alloc,
             "200 OK",
