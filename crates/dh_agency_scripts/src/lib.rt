@@ -3,13 +3,15 @@
 #![tactic(auto)]
 
 mod agencies;
+mod batches;
 mod comparing;
 mod lives;
 mod rows;
 mod scripts;
 
 pub use agencies::{in_memory, told};
+pub use batches::batch_text;
 pub use comparing::compare;
-pub use lives::{Lived, play_lives, problem_text, told_anew};
+pub use lives::{Lived, play_lives, problem_text, told_anew, told_next};
 pub use rows::{all_rows, found, rows_of};
 pub use scripts::{compare_tables, parted, play_in_memory, table_of};

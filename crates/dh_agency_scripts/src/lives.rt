@@ -6,6 +6,7 @@ ghost use Rattle.sqlite.specs.Held.{state};
 ghost use Rattle.dh_runs.specs.Taking.{IsResting};
 
 use crate::agencies::{in_memory, reply_text, told};
+use crate::batches::batch_text;
 use crate::comparing::compare;
 use crate::rows::all_rows;
 use crate::scripts::{compare_tables, parted, table_of};
@@ -67,17 +68,28 @@ fn edited<S: Alter>(alloc: Global, mut conn: Connection<S>, statement: &str) -> 
     (done.to_string(alloc), conn)
 }
 
-/// One line over tables that were just opened: `attach` and `recover` say what they are, and for every other line an agency takes the
-/// tables as they are.
-pub fn told_anew<S: Alter>(alloc: Global, conn: Connection<S>, line: &str) -> Lived<S>
+/// One line over tables that were just opened: `attach` and `recover` say what they are, `batch` is the next batch of the open run, posted
+/// without an agency, and for every other line an agency takes the tables as they are.
+pub fn told_anew<S: Alter>(alloc: Global, mut conn: Connection<S>, line: &str) -> Lived<S>
     requires { HasCleanDisk (state S.Store conn) → IsResting (state S.Store conn) }
 {
     match (line, line.strip_prefix("sql,")) {
         (_, Some(statement)) => edited(alloc, conn, statement),
         ("recover", None) => given_up(alloc, recover(alloc, conn), "recovered"),
         ("attach", None) => given_up(alloc, attach(alloc, conn), "attached"),
+        ("batch", None) => (batch_text(alloc, &mut conn), conn),
         _ => told_once(alloc, attach(alloc, conn), line),
     }
+}
+
+/// One line over tables that are opened anew for it. None where they can't be opened.
+pub fn told_next<S: Alter + Reopen + Drop>(
+    alloc: Global,
+    conn: Connection<S>,
+    line: &str,
+) -> Option<Lived<S>> {
+    let conn = next_life(alloc, conn)?;
+    Some(told_anew(alloc, conn, line))
 }
 
 // The command, told to an agency that takes the tables for it alone, and a power cut.

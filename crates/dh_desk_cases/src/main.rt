@@ -8,6 +8,7 @@ mod consoles;
 mod cracks;
 mod edits;
 mod failing;
+mod forms;
 mod imports;
 mod lives;
 mod manual;
@@ -15,6 +16,9 @@ mod many;
 mod pages;
 mod peers;
 mod runs;
+mod second_runs;
+mod unasked;
+mod ways;
 
 use dh_scripts::Tally;
 use std::io;
@@ -26,6 +30,8 @@ fn play(rt: &HostRuntime, tally: &mut Tally, kind: &str, lines: &str) -> io::Res
         "long inputs" => many::play(rt, tally, lines),
         "the manual and the examples" => manual::play(rt, tally, lines),
         "peers" => peers::play(rt, tally, lines),
+        "second runs" => second_runs::play(rt, tally, lines),
+        "unasked" => unasked::play(rt, tally, lines),
         "a reader that fails" => failing::play_reader(rt, tally, lines),
         "a writer that fails" => failing::play_writer(rt, tally, 3, lines),
         "bad words to a writer that fails" => failing::play_writer(rt, tally, 2, lines),

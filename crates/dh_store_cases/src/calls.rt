@@ -13,13 +13,13 @@ use crate::edited_tables::{load_text, version_text};
 use crate::finding::find_text;
 use crate::made_tables::install_text;
 use dh_agency_scripts::{
-    Lived, all_rows, compare, compare_tables, parted, problem_text, table_of, told_anew,
+    Lived, all_rows, batch_text, compare, compare_tables, parted, problem_text, table_of, told_anew,
 };
 use dh_fields::Request;
 use dh_histories::crashing::next_life;
 use dh_leases::Plan;
 use dh_model::{Change, Verdict};
-use dh_runs::{Batch, Problem, check, close_run, open_run, plan_run, post_batch};
+use dh_runs::{Problem, check, close_run, open_run, plan_run};
 use dh_scripts::{Block, Tally, january, request, script};
 use dh_store::ask;
 use dh_types::{Command, Reply, RunSum};
@@ -77,18 +77,6 @@ fn opened<S: Alter>(
     open_asked(alloc, conn, command)
 }
 
-// Posts the next batch of the open run that the plan is of.
-fn post_planned<S: Alter>(
-    alloc: Global,
-    conn: &mut Connection<S>,
-    plan: &Plan,
-) -> Result<Batch, Problem>
-    requires ready { HasCleanDisk (state S.Store conn.old) → IsReady (state S.Store conn.old) }
-    requires planned { HasCleanDisk (state S.Store conn.old) → IsPlanOf plan.now (tables (state S.Store conn.old)) }
-{
-    Ok(post_batch(alloc, conn)?)
-}
-
 // Closes the open run that the plan is of, which has no batch.
 fn close_planned<S: Alter>(
     alloc: Global,
@@ -100,16 +88,6 @@ fn close_planned<S: Alter>(
     requires none_left { length plan.now.batches.items ≡ 0 }
 {
     Ok(close_run(alloc, conn)?)
-}
-
-// Posts the next batch, where a run is open.
-fn post_if_open<S: Alter>(alloc: Global, conn: &mut Connection<S>) -> Result<Option<Batch>, Problem>
-    requires { HasCleanDisk (state S.Store conn.old) → IsReady (state S.Store conn.old) }
-{
-    match plan_run(alloc, conn)? {
-        Some(plan) => Ok(Some(post_planned(alloc, conn, &plan)?)),
-        None => Ok(None),
-    }
 }
 
 // Closes the run, where one is open that lacks no batch.
@@ -126,13 +104,6 @@ fn close_if_done<S: Alter>(
         return Ok(None);
     }
     Ok(Some(close_planned(alloc, conn, &plan)?))
-}
-
-fn posted<S: Alter>(alloc: Global, conn: &mut Connection<S>) -> Result<Option<Batch>, Problem>
-    requires { HasCleanDisk (state S.Store conn.old) → IsResting (state S.Store conn.old) }
-{
-    check(alloc, conn)?;
-    post_if_open(alloc, conn)
 }
 
 fn closed<S: Alter>(alloc: Global, conn: &mut Connection<S>) -> Result<Option<RunSum>, Problem>
@@ -155,17 +126,6 @@ fn opening_text<S: Alter>(
     match opened(alloc, conn, &command) {
         Ok(true) => "opened".to_string(alloc),
         Ok(false) => "not accepted".to_string(alloc),
-        Err(problem) => problem_text(alloc, problem),
-    }
-}
-
-fn batch_text<S: Alter>(alloc: Global, conn: &mut Connection<S>) -> Result<String, AllocError>
-    requires { HasCleanDisk (state S.Store conn.old) → IsResting (state S.Store conn.old) }
-{
-    match posted(alloc, conn) {
-        Ok(Some(Batch::Posted { done, of })) => format!(in alloc; "batch {done} of {of}"),
-        Ok(Some(Batch::NoneLeft)) => "none left".to_string(alloc),
-        Ok(None) => "no run".to_string(alloc),
         Err(problem) => problem_text(alloc, problem),
     }
 }
