@@ -4,19 +4,21 @@ use std::alloc::{AllocError, Global};
 use std::io;
 
 /// Lines under one heading, which is `== NAME`, and behind commas what is said of the block: `after NAME` of a block above it,
-/// whose records are its first; `to the end`, of a request that is answered only at the end of input; `with failures`, of one over
-/// which each read and each write fails in turn; `over a listener`, of one that is also sent to a listener. Lines of words stand
-/// behind `#`. The lines of a block begin with a mark:
+/// whose records are its first; `to the end`, of a request that is answered only at the end of input; `over a listener`, of one that
+/// is also sent to a listener. Lines of words stand behind `#`. The lines of a block begin with a mark:
 ///
 /// - `+ RECORD`, a record that is carried out before the request;
+/// - `= RECORD -> LINE`, a session of its own: the records of the block, then this one, and the last line of its answers;
 /// - `> LINE`, a line of the request, and `>| BYTES`, bytes of it without a line end, and `>* N LINE`, so many lines;
 /// - `< LINE` and `<| BYTES`, of the answer; without one, none is wanted; `<= NAME`, the answer of a block above;
 /// - `- WORD -> NAME`, a case of its own: the word for `~_` in the request, and the block whose answer is wanted;
-/// - `? RECORD -> REPLY`, what is replied afterwards, and `?! RECORD -> REPLY` where nothing was done.
+/// - `? RECORD -> REPLY`, what is replied afterwards.
 #[derive(Drop)]
 pub struct Block {
     pub name: String,
     pub records: String,
+    /// The records that end a session of their own, each with an arrow and the line of its answer.
+    pub sessions: Vec<String>,
     /// The request, where the block has one.
     pub request: Option<String>,
     pub answer: String,
@@ -24,10 +26,7 @@ pub struct Block {
     pub cases: Vec<String>,
     /// What is replied to records afterwards, a record to a line.
     pub replies: String,
-    /// What is replied where nothing was done.
-    pub first_replies: String,
     pub is_to_the_end: bool,
-    pub has_failures: bool,
     pub is_over_a_listener: bool,
 }
 
@@ -49,13 +48,12 @@ fn empty(alloc: Global, name: &str) -> Result<Block, AllocError> {
     Ok(Block {
         name: name.to_string(alloc)?,
         records: String::new(alloc),
+        sessions: Vec::new(alloc),
         request: None,
         answer: String::new(alloc),
         cases: Vec::new(alloc),
         replies: String::new(alloc),
-        first_replies: String::new(alloc),
         is_to_the_end: false,
-        has_failures: false,
         is_over_a_listener: false,
     })
 }
@@ -64,7 +62,6 @@ fn empty(alloc: Global, name: &str) -> Result<Block, AllocError> {
 fn add_word(block: &mut Block, blocks: &[Block], word: &str) -> io::Result<()> {
     match word {
         "to the end" => block.is_to_the_end = true,
-        "with failures" => block.has_failures = true,
         "over a listener" => block.is_over_a_listener = true,
         _ => {
             let name = word.strip_prefix("after ").ok_or(unreadable())?;
@@ -114,12 +111,12 @@ fn add_request(alloc: Global, block: &mut Block, mark: &str, text: &str) -> io::
 fn add_marked(alloc: Global, block: &mut Block, mark: &str, text: &str) -> io::Result<()> {
     match mark {
         "+" => Ok(add_line(&mut block.records, text, "\n")?),
+        "=" => Ok(block.sessions.push(text.to_string(alloc)?)?),
         ">" | ">|" | ">*" => add_request(alloc, block, mark, text),
         "<" => Ok(add_line(&mut block.answer, text, "~r~n")?),
         "<|" => Ok(block.answer.push_str(text)?),
         "-" => Ok(block.cases.push(text.to_string(alloc)?)?),
         "?" => Ok(add_line(&mut block.replies, text, "\n")?),
-        "?!" => Ok(add_line(&mut block.first_replies, text, "\n")?),
         _ => Err(unreadable()),
     }
 }

@@ -1,32 +1,16 @@
 //! Requests played: read whole and byte by byte, with failures, and over a listener.
 
-use crate::blocks::Block;
-use crate::serving::{Outcome, serve};
-use dh_agency_scripts::compare;
-use dh_lines::ends::{FailingReader, FailingWriter};
+use crate::cases::{Case, end_of, judge, judge_tables};
+use crate::failing_ends::{play_reads, play_writes};
+use crate::serving::{Outcome, agency_behind, serve, tables_of};
+use dh_http::serve_one;
+use dh_lines::ends::FailingReader;
 use dh_scripts::Tally;
+use std::io;
 use std::io::{Read, Write};
 use std::net::{TcpListener, TcpStream};
-use std::{io, str};
 
-/// A request with the answer that is wanted, and the block that it stands in.
-#[derive(Drop)]
-pub struct Case<'a> {
-    pub name: String,
-    pub block: &'a Block,
-    pub request: Vec<u8>,
-    pub answer: Vec<u8>,
-}
-
-// How a request with this answer ends.
-fn end_of(answer: &[u8]) -> &str {
-    match answer.get(9..12) {
-        Some(status) => str::from_utf8(status).unwrap_or("no status"),
-        None => "closed",
-    }
-}
-
-// How many reads of a byte each the answer waits for.
+// How many reads of a byte each the answer waits for at most.
 fn reads_of(case: &Case) -> u64 {
     let end = u64::from(case.block.is_to_the_end);
     (case.request.len() as u64).saturating_add(end)
@@ -41,102 +25,46 @@ fn answered<'a>(case: &'a Case) -> Outcome<'a> {
     }
 }
 
-// What is wanted where the reader fails before the request is answered: nothing is done, and nothing is written.
-fn unread<'a>(case: &'a Case) -> Outcome<'a> {
-    Outcome {
-        end: "input failed",
-        written: b"",
-        replies: case.block.first_replies.as_str(),
-    }
-}
-
-// What is wanted of a writer that takes so many bytes: it has a beginning of the answer, and what was asked for stands.
-fn written<'a>(case: &'a Case, writes: usize) -> Outcome<'a> {
-    match case.answer.get(..writes) {
-        Some(begun) if writes < case.answer.len() => Outcome {
-            end: "output failed",
-            written: begun,
-            replies: case.block.replies.as_str(),
-        },
-        _ => answered(case),
-    }
-}
-
-fn judge(
-    rt: &HostRuntime,
-    tally: &mut Tally,
-    case: &Case,
-    way: &str,
-    got: &Outcome,
-    want: &Outcome,
-) -> io::Result<()> {
-    let alloc = rt.alloc();
-    let name = format!(in alloc; "{}, {way}", case.name.as_str())?;
-    let (got, want) = (got.text(alloc)?, want.text(alloc)?);
-    compare(rt, tally, name.as_str(), got.as_str(), want.as_str())
-}
-
 fn play_read<R: Read>(
     rt: &HostRuntime,
     tally: &mut Tally,
     case: &Case,
     way: &str,
     reader: &mut R,
-    want: &Outcome,
 ) -> io::Result<()> {
+    let want = answered(case);
     let mut written = Vec::new(rt.alloc());
     let served = serve(rt.alloc(), case.block, want.replies, reader, &mut written)?;
-    judge(rt, tally, case, way, &served.outcome(&written), want)
+    judge(rt, tally, case, way, &served.outcome(&written), &want)
 }
 
-fn play_slowly(
-    rt: &HostRuntime,
-    tally: &mut Tally,
-    case: &Case,
-    reads: u64,
-    want: &Outcome,
-) -> io::Result<()> {
-    let way = format!(in rt.alloc(); "in {reads} reads")?;
+// Reads a byte at a time, and gives how many reads that took.
+fn play_slowly(rt: &HostRuntime, tally: &mut Tally, case: &Case) -> io::Result<u64> {
+    let most = reads_of(case);
     let mut reader = FailingReader {
         inner: case.request.as_slice(),
-        reads,
+        reads: most,
     };
-    play_read(rt, tally, case, way.as_str(), &mut reader, want)
+    play_read(rt, tally, case, "a byte at a time", &mut reader)?;
+    Ok(most.saturating_sub(reader.reads))
 }
 
-fn play_write(rt: &HostRuntime, tally: &mut Tally, case: &Case, writes: usize) -> io::Result<()> {
-    let way = format!(in rt.alloc(); "in {writes} writes")?;
-    let want = written(case, writes);
+// Whether the answer is the reply to a command, which may have changed the tables.
+fn is_done(case: &Case) -> bool {
+    case.request.starts_with(b"POST ") && end_of(&case.answer) == "200"
+}
+
+// The tables behind the request: those before it, except where a command was carried out.
+fn play_tables(rt: &HostRuntime, tally: &mut Tally, case: &Case) -> io::Result<String> {
+    let mut agency = agency_behind(rt.alloc(), case.block)?;
     let mut reader = case.request.as_slice();
-    let mut writer = FailingWriter {
-        inner: Vec::new(rt.alloc()),
-        writes: writes as u64,
-    };
-    let served = serve(
-        rt.alloc(),
-        case.block,
-        want.replies,
-        &mut reader,
-        &mut writer,
-    )?;
-    let got = served.outcome(&writer.inner);
-    judge(rt, tally, case, way.as_str(), &got, &want)
-}
-
-// Each read fails in turn.
-fn play_failing_reads(rt: &HostRuntime, tally: &mut Tally, case: &Case) -> io::Result<()> {
-    for reads in 0..reads_of(case) {
-        play_slowly(rt, tally, case, reads, &unread(case))?;
+    let mut written = Vec::new(rt.alloc());
+    let _ = serve_one(rt.alloc(), &mut agency, &mut reader, &mut written);
+    let tables = tables_of(rt.alloc(), agency)?;
+    if !is_done(case) {
+        judge_tables(rt, tally, case, "whole", tables.as_str(), case.before)?;
     }
-    Ok(())
-}
-
-// Each write fails in turn, and none.
-fn play_failing_writes(rt: &HostRuntime, tally: &mut Tally, case: &Case) -> io::Result<()> {
-    for writes in 0..=case.answer.len() {
-        play_write(rt, tally, case, writes)?;
-    }
-    Ok(())
+    Ok(tables)
 }
 
 // Sends the request to a listener, serves the connection, and then reads the answer.
@@ -160,16 +88,14 @@ fn play_sent(rt: &HostRuntime, tally: &mut Tally, case: &Case) -> io::Result<()>
     judge(rt, tally, case, "over a listener", &got, &want)
 }
 
-/// Plays the case in each way that its block asks for.
+/// Plays the case whole, a byte at a time, with each read and each write failing in turn, and over a listener where its block asks for it.
 pub fn play_case(rt: &HostRuntime, tally: &mut Tally, case: &Case) -> io::Result<()> {
-    let want = answered(case);
     let mut whole = case.request.as_slice();
-    play_read(rt, tally, case, "whole", &mut whole, &want)?;
-    play_slowly(rt, tally, case, reads_of(case), &want)?;
-    if case.block.has_failures {
-        play_failing_reads(rt, tally, case)?;
-        play_failing_writes(rt, tally, case)?;
-    }
+    play_read(rt, tally, case, "whole", &mut whole)?;
+    let reads = play_slowly(rt, tally, case)?;
+    let after = play_tables(rt, tally, case)?;
+    play_reads(rt, tally, case, reads)?;
+    play_writes(rt, tally, case, after.as_str())?;
     if case.block.is_over_a_listener {
         play_sent(rt, tally, case)?;
     }
