@@ -1,29 +1,12 @@
 //! The tables made.
 
-ghost use Rattle.std.specs.Prelude.{◌≤◌};
-ghost use Rattle.dh_days.specs.declared.limits.TheConstants.{LAST_ENTRY_MONTH};
-
-use dh_agency_scripts::{compare, found, parted};
+use dh_agency_scripts::{compare, found, install_text, parted};
 use dh_schema::{install, version};
 use dh_scripts::{Tally, january};
 use dh_types::Month;
 use sqlite::{Alter, Connection};
 use std::alloc::{AllocError, Global};
 use std::io;
-
-/// How making the tables ends.
-pub fn install_text<S: Alter>(
-    alloc: Global,
-    conn: &mut Connection<S>,
-    first: Month,
-) -> Result<String, AllocError>
-    requires { first ≤ LAST_ENTRY_MONTH }
-{
-    match install(alloc, conn, first) {
-        Ok(()) => "ok".to_string(alloc),
-        Err(fault) => format!(in alloc; "{}", fault.fault()),
-    }
-}
 
 // The version of the tables that are made.
 fn version_made<S: Alter>(alloc: Global, conn: &mut Connection<S>) -> Result<String, AllocError> {

@@ -4,29 +4,21 @@
 
 mod blocks;
 mod books;
-mod bounded;
 mod calls;
-mod disk_work;
-mod disks;
 mod drawing;
 mod drawn;
 mod edited_tables;
 mod escapes;
 mod exchanges;
-mod failing_calls;
-mod finding;
 mod made_tables;
 mod requests;
 mod rows;
 mod serving;
 mod sessions;
 mod short_reads;
-mod trial_disks;
 
 use dh_agency_scripts::{compare, play_in_memory, play_lives};
 use dh_scripts::Tally;
-use disk_work::Work;
-use disks::Failures;
 use std::io;
 
 // Plays a block whose kind has words of its own behind it.
@@ -47,15 +39,6 @@ fn play(rt: &HostRuntime, tally: &mut Tally, kind: &str, lines: &str) -> io::Res
         "agencies in memory" => play_in_memory(rt, tally, lines),
         "agencies taken anew" => play_lives(rt, tally, lines),
         "calls of each layer" => calls::play(rt, tally, lines),
-        "agencies on disks" => disks::play(rt, tally, lines, Failures::None),
-        "agencies on disks that fail" => disks::play(rt, tally, lines, Failures::Once),
-        "agencies on disks that fail and are recovered" => {
-            disks::play(rt, tally, lines, Failures::Twice)
-        }
-        "calls on disks that fail" => failing_calls::play(rt, tally, lines, Work::Look),
-        "calls on disks that fail and are recovered" => {
-            failing_calls::play(rt, tally, lines, Work::Recover)
-        }
         "files of requests" => requests::play_files(rt, tally, lines),
         "files of drawn lines" => drawn::play_files(rt, tally, lines),
         _ => play_named(rt, tally, kind, lines),

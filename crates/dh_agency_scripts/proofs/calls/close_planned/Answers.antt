@@ -3,7 +3,7 @@ use Rattle.sqlite.specs.Held.{state}
 use Rattle.dh_laws.specs.Batches.{IsAtItsEnd}
 use Rattle.dh_leases.proofs.Leading.{counted}
 use Rattle.dh_schema.specs.Store.{tables}
-use Rattle.dh_store_cases.proofs.calls.close_planned.Goals as goal
+use Rattle.dh_agency_scripts.proofs.calls.close_planned.Goals as goal
 
 pub close_run-requires-clause-end : goal.close_run-requires-clause-end
 close_run-requires-clause-end g c clean =

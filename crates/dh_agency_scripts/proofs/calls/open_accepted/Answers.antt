@@ -5,7 +5,7 @@ use Rattle.dh_model.specs.declared.rows.Verdict.TheVariants as verdict
 use Rattle.dh_model.specs.Verdicts.{verdict_on}
 use Rattle.dh_laws.proofs.Carrying.{order_accepted}
 use Rattle.dh_schema.specs.Store.{tables}
-use Rattle.dh_store_cases.proofs.calls.open_accepted.Goals as goal
+use Rattle.dh_agency_scripts.proofs.calls.open_accepted.Goals as goal
 
 pub open_run-requires-clause-none : goal.open_run-requires-clause-none
 open_run-requires-clause-none g c clean =

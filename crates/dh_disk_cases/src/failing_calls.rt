@@ -3,8 +3,9 @@
 
 use crate::disk_work::{Work, found, is_failure, text_on};
 use crate::disks::add_told;
-use crate::trial_disks::{Full, Measures, Stopping, TrialDisk, Which, copy_of, no_files};
+use crate::trial_disks::{Full, TrialDisk, name_of};
 use dh_agency_scripts::{compare, compare_tables, parted, table_of};
+use dh_lives::{Measures, Stopping, Which, copy_of, no_files};
 use dh_scripts::{Block, Tally, script};
 use sqlite::Files;
 use std::alloc::{AllocError, Global};
@@ -63,8 +64,8 @@ fn tables_kept<'a>(trial: Trial<'a>, answer: &str, tables: &'a str) -> &'a str {
 
 fn has_failed<D: TrialDisk>(files: &mut Files<D>, which: Which) -> bool {
     match which {
-        Which::Log => files.log.is_at_its_end(),
-        Which::File => files.db.is_at_its_end(),
+        Which::Journal => files.log.is_at_its_end(),
+        Which::Database => files.db.is_at_its_end(),
     }
 }
 
@@ -90,7 +91,7 @@ fn play_failure<D: TrialDisk>(
     let case = format!(in rt.alloc();
         "{}: the {} {} {measure}",
         trial.line,
-        which.name(),
+        name_of(which),
         D::words()
     )?;
     compare(rt, tally, case.as_str(), got, trial.want)?;
@@ -145,8 +146,8 @@ fn play_call<D: TrialDisk>(
         before: before.as_str(),
         after: after.as_str(),
     };
-    play_failures(rt, tally, begun, Which::Log, trial)?;
-    play_failures(rt, tally, begun, Which::File, trial)
+    play_failures(rt, tally, begun, Which::Journal, trial)?;
+    play_failures(rt, tally, begun, Which::Database, trial)
 }
 
 fn play_block<D: TrialDisk>(

@@ -5,7 +5,7 @@ ghost use Rattle.sqlite.specs.Held.{state};
 ghost use Rattle.dh_schema.specs.Store.{IsReady};
 ghost use Rattle.dh_runs.specs.Taking.{IsResting};
 
-use dh_agency_scripts::problem_text;
+use crate::lives::problem_text;
 use dh_runs::{Problem, check};
 use dh_schema::{KeyedRecord, find};
 use dh_scripts::{Fields, ToLine, Unreadable};

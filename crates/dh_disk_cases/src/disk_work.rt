@@ -1,17 +1,16 @@
 //! What is done over files on disks in memory, and what comes of it.
 
-ghost use Rattle.std.specs.Prelude.{IsTrue};
 ghost use Rattle.sqlite.specs.State.{HasCleanDisk};
 ghost use Rattle.sqlite.specs.Held.{state};
 ghost use Rattle.dh_runs.specs.Taking.{IsResting};
 
-use crate::calls::line_over;
 use crate::trial_disks::TrialDisk;
 use dh_agency::{Agency, NotOpened, create, recover};
-use dh_agency_scripts::{all_rows, parted, problem_text, told};
+use dh_agency_scripts::{all_rows, line_over, parted, problem_text, told};
+use dh_lives::{SEED, Unopened, open_on};
 use dh_scripts::january;
 use dh_types::Fault;
-use sqlite::{Alter, Connection, Error, FileStore, Files, Options};
+use sqlite::{Alter, Connection, Files, Options};
 use sqlite_disk::{Crash, Disk};
 use std::alloc::{AllocError, Global};
 
@@ -86,13 +85,14 @@ pub enum Came {
     Told(Told),
     /// The answer to the line, or the tables, or why they are not recovered.
     Text(Result<String, AllocError>),
-    NotOpened(Error),
-    /// The disks were of no use.
-    NotTried,
+    NotOpened(Unopened),
 }
 
-fn not_opened(alloc: Global, error: Error) -> Result<String, AllocError> {
-    format!(in alloc; "not opened: {error}")
+fn not_opened(alloc: Global, why: Unopened) -> Result<String, AllocError> {
+    match why {
+        Unopened::NotUsable => "not tried".to_string(alloc),
+        Unopened::Error(error) => format!(in alloc; "not opened: {error}"),
+    }
 }
 
 impl Came {
@@ -100,8 +100,7 @@ impl Came {
         match self {
             Came::Told(_) => "told".to_string(alloc),
             Came::Text(text) => text,
-            Came::NotOpened(error) => not_opened(alloc, error),
-            Came::NotTried => "not tried".to_string(alloc),
+            Came::NotOpened(why) => not_opened(alloc, why),
         }
     }
 }
@@ -146,9 +145,6 @@ fn work_over<S: Alter>(
     }
 }
 
-// A random number, which is the same each time.
-const SEED: u64 = 7;
-
 // For one line little is kept in memory, so that it reads and writes both files.
 fn options_for(work: Work<'_>) -> Options {
     match work {
@@ -162,26 +158,15 @@ fn options_for(work: Work<'_>) -> Options {
     }
 }
 
-// Opens the disks, does the work, and closes them.
-fn worked<D: Disk + Drop>(alloc: Global, files: Files<D>, work: Work<'_>) -> (Came, Files<D>)
-    requires log { IsTrue (D.Disk.is_usable files.log) }
-    requires db { IsTrue (D.Disk.is_usable files.db) }
-{
-    match Connection::open_files(alloc, files, options_for(work)) {
+// Opens the disks, does the work, and leaves them as they are.
+fn tried<D: Disk + Drop>(alloc: Global, files: Files<D>, work: Work<'_>) -> (Came, Files<D>) {
+    match open_on(alloc, files, options_for(work)) {
         Ok(conn) => {
             let (came, conn) = work_over(alloc, conn, work);
             (came, conn.into_store().close())
         }
-        Err((error, left)) => (Came::NotOpened(error), left.into_files()),
+        Err((why, left)) => (Came::NotOpened(why), left),
     }
-}
-
-// The same on disks that may be of no use, where nothing is done.
-fn tried<D: Disk + Drop>(alloc: Global, files: Files<D>, work: Work<'_>) -> (Came, Files<D>) {
-    if files.may_be_used() {
-        return worked(alloc, files, work);
-    }
-    (Came::NotTried, files)
 }
 
 /// Tells the lines to a new agency. Where no file is opened for the failure of a disk, nothing is acknowledged.
@@ -189,8 +174,10 @@ pub fn told_on<D: TrialDisk>(alloc: Global, files: Files<D>, lines: &[String]) -
     let (came, left) = tried(alloc, files, Work::Tell(lines));
     match came {
         Came::Told(told) => (told, left),
-        Came::NotOpened(error) if error == D::failure() => (Told::Acknowledged(0), left),
-        Came::NotOpened(_) | Came::Text(_) | Came::NotTried => (Told::Wrong, left),
+        Came::NotOpened(why) if why == Unopened::Error(D::failure()) => {
+            (Told::Acknowledged(0), left)
+        }
+        Came::NotOpened(_) | Came::Text(_) => (Told::Wrong, left),
     }
 }
 
@@ -219,6 +206,6 @@ pub fn found<D: TrialDisk>(
 
 /// Whether the text is what is answered where such a disk fails: fault 22, or why the files are not opened.
 pub fn is_failure<D: TrialDisk>(alloc: Global, text: &str) -> Result<bool, AllocError> {
-    let unopened = not_opened(alloc, D::failure())?;
+    let unopened = not_opened(alloc, Unopened::Error(D::failure()))?;
     Ok(text == "fault 22" || text == unopened.as_str())
 }

@@ -1,8 +1,9 @@
 //! Agencies on disks in memory: what stands there in the end, and after a failure of either disk.
 
 use crate::disk_work::{Told, Work, acknowledged, found, is_failure, text_on, told_on};
-use crate::trial_disks::{Full, Measures, Stopping, TrialDisk, Which, copy_of, no_files};
+use crate::trial_disks::{Full, TrialDisk, name_of};
 use dh_agency_scripts::{all_rows, compare, compare_tables, in_memory, parted, table_of, told};
+use dh_lives::{Measures, Stopping, Which, copy_of, no_files};
 use dh_scripts::{Block, Tally, script};
 use sqlite::{Connection, Files};
 use sqlite_disk::Crash;
@@ -17,9 +18,9 @@ fn no_tables(alloc: Global) -> Result<String, AllocError> {
     tables
 }
 
-// The tables of an agency in memory that was told the lines, and then to carry out what is left of an open run where they are
-// recovered.
-fn tables_after(alloc: Global, lines: &[String], work: Work<'_>) -> Result<String, AllocError> {
+/// The tables of an agency in memory that was told the lines, and then to carry out what is left of an open run where they are
+/// recovered.
+pub fn tables_after(alloc: Global, lines: &[String], work: Work<'_>) -> Result<String, AllocError> {
     let Some(mut agency) = in_memory(alloc)? else {
         return "no agency".to_string(alloc);
     };
@@ -138,7 +139,7 @@ fn play_second_failures<D: TrialDisk>(
         let measure = turn.saturating_mul(STRIDE).saturating_add(first % STRIDE);
         let case = format!(in rt.alloc();
             "a recovery whose {} {} {measure}",
-            which.name(),
+            name_of(which),
             D::words()
         )?;
         let measures = Measures::of(which, measure);
@@ -168,7 +169,7 @@ fn play_failure<D: TrialDisk>(
         play_second_failures(rt, tally, which, measure, told, &mut left, trial)?;
     }
     let tables = found(rt.alloc(), left, trial.work)?;
-    let case = format!(in rt.alloc(); "the {} {} {measure}", which.name(), D::words())?;
+    let case = format!(in rt.alloc(); "the {} {} {measure}", name_of(which), D::words())?;
     let got = if is_kept(told, tables.as_str(), trial.tables) {
         "kept"
     } else {
@@ -260,10 +261,10 @@ fn play_cut(
             usize::MAX
         },
     };
-    play_failures::<Stopping>(rt, tally, Which::Log, trial)?;
-    play_failures::<Stopping>(rt, tally, Which::File, trial)?;
-    play_failures::<Full>(rt, tally, Which::Log, trial)?;
-    play_failures::<Full>(rt, tally, Which::File, trial)
+    play_failures::<Stopping>(rt, tally, Which::Journal, trial)?;
+    play_failures::<Stopping>(rt, tally, Which::Database, trial)?;
+    play_failures::<Full>(rt, tally, Which::Journal, trial)?;
+    play_failures::<Full>(rt, tally, Which::Database, trial)
 }
 
 /// Tells the lines of each block to an agency on disks, and compares what a power cut leaves of its tables in the end; and

@@ -1,0 +1,204 @@
+//! Calls of the layers below an agency, and lines told to one, over tables that were just opened.
+
+ghost use Rattle.std.specs.Prelude.{◌≡◌, length};
+ghost use Rattle.sqlite.specs.State.{HasCleanDisk};
+ghost use Rattle.sqlite.specs.Held.{state};
+ghost use Rattle.dh_model.specs.declared.rows.Verdict.TheVariants as verdict;
+ghost use Rattle.dh_model.specs.Verdicts.{verdict_on};
+ghost use Rattle.dh_leases.specs.Plans.{IsPlanOf};
+ghost use Rattle.dh_schema.specs.Store.{IsReady, tables};
+ghost use Rattle.dh_runs.specs.Taking.{IsResting};
+
+use crate::finding::find_text;
+use crate::lives::{Lived, problem_text, told_anew};
+use crate::tables::{install_text, load_text, version_text};
+use dh_fields::Request;
+use dh_leases::Plan;
+use dh_model::{Change, Verdict};
+use dh_runs::{Batch, Problem, check, close_run, open_run, plan_run, post_batch};
+use dh_scripts::{january, request};
+use dh_store::ask;
+use dh_types::{Command, Reply, RunSum};
+use sqlite::{Alter, Connection};
+use std::alloc::{AllocError, Global};
+
+// Opens the run, where the command is an opening, which is accepted; and whether it is one.
+fn open_accepted<S: Alter>(
+    alloc: Global,
+    conn: &mut Connection<S>,
+    command: &Command,
+    rows: &Change,
+) -> Result<bool, Problem>
+    requires ready { HasCleanDisk (state S.Store conn.old) → IsReady (state S.Store conn.old) }
+    requires verdict { HasCleanDisk (state S.Store conn.old)
+        → verdict_on (tables (state S.Store conn.old)).books (tables (state S.Store conn.old)).open_run command.now ≡ verdict.Change rows.now }
+{
+    match command {
+        Command::Open(order) => {
+            open_run(alloc, conn, order)?;
+            Ok(true)
+        }
+        _ => Ok(false),
+    }
+}
+
+// Opens the run, where that is accepted, and whether it is.
+fn open_asked<S: Alter>(
+    alloc: Global,
+    conn: &mut Connection<S>,
+    command: &Command,
+) -> Result<bool, Problem>
+    requires { HasCleanDisk (state S.Store conn.old) → IsReady (state S.Store conn.old) }
+{
+    match ask(alloc, conn, command)? {
+        Verdict::Change(rows) => {
+            let done = open_accepted(alloc, conn, command, &rows);
+            drop(rows);
+            done
+        }
+        Verdict::Already(_) | Verdict::Refused(_) => Ok(false),
+    }
+}
+
+fn opened<S: Alter>(
+    alloc: Global,
+    conn: &mut Connection<S>,
+    command: &Command,
+) -> Result<bool, Problem>
+    requires { HasCleanDisk (state S.Store conn.old) → IsResting (state S.Store conn.old) }
+{
+    check(alloc, conn)?;
+    open_asked(alloc, conn, command)
+}
+
+// Posts the next batch of the open run that the plan is of.
+fn post_planned<S: Alter>(
+    alloc: Global,
+    conn: &mut Connection<S>,
+    plan: &Plan,
+) -> Result<Batch, Problem>
+    requires ready { HasCleanDisk (state S.Store conn.old) → IsReady (state S.Store conn.old) }
+    requires planned { HasCleanDisk (state S.Store conn.old) → IsPlanOf plan.now (tables (state S.Store conn.old)) }
+{
+    Ok(post_batch(alloc, conn)?)
+}
+
+// Closes the open run that the plan is of, which has no batch.
+fn close_planned<S: Alter>(
+    alloc: Global,
+    conn: &mut Connection<S>,
+    plan: &Plan,
+) -> Result<RunSum, Problem>
+    requires ready { HasCleanDisk (state S.Store conn.old) → IsReady (state S.Store conn.old) }
+    requires planned { HasCleanDisk (state S.Store conn.old) → IsPlanOf plan.now (tables (state S.Store conn.old)) }
+    requires none_left { length plan.now.batches.items ≡ 0 }
+{
+    Ok(close_run(alloc, conn)?)
+}
+
+// Posts the next batch, where a run is open.
+fn post_if_open<S: Alter>(alloc: Global, conn: &mut Connection<S>) -> Result<Option<Batch>, Problem>
+    requires { HasCleanDisk (state S.Store conn.old) → IsReady (state S.Store conn.old) }
+{
+    match plan_run(alloc, conn)? {
+        Some(plan) => Ok(Some(post_planned(alloc, conn, &plan)?)),
+        None => Ok(None),
+    }
+}
+
+// Closes the run, where one is open that lacks no batch.
+fn close_if_done<S: Alter>(
+    alloc: Global,
+    conn: &mut Connection<S>,
+) -> Result<Option<RunSum>, Problem>
+    requires { HasCleanDisk (state S.Store conn.old) → IsReady (state S.Store conn.old) }
+{
+    let Some(plan) = plan_run(alloc, conn)? else {
+        return Ok(None);
+    };
+    if plan.batches.len() > 0 {
+        return Ok(None);
+    }
+    Ok(Some(close_planned(alloc, conn, &plan)?))
+}
+
+fn posted<S: Alter>(alloc: Global, conn: &mut Connection<S>) -> Result<Option<Batch>, Problem>
+    requires { HasCleanDisk (state S.Store conn.old) → IsResting (state S.Store conn.old) }
+{
+    check(alloc, conn)?;
+    post_if_open(alloc, conn)
+}
+
+fn closed<S: Alter>(alloc: Global, conn: &mut Connection<S>) -> Result<Option<RunSum>, Problem>
+    requires { HasCleanDisk (state S.Store conn.old) → IsResting (state S.Store conn.old) }
+{
+    check(alloc, conn)?;
+    close_if_done(alloc, conn)
+}
+
+fn opening_text<S: Alter>(
+    alloc: Global,
+    conn: &mut Connection<S>,
+    line: &str,
+) -> Result<String, AllocError>
+    requires { HasCleanDisk (state S.Store conn.old) → IsResting (state S.Store conn.old) }
+{
+    let Ok(Request::Command(command)) = request(alloc, line) else {
+        return "no call".to_string(alloc);
+    };
+    match opened(alloc, conn, &command) {
+        Ok(true) => "opened".to_string(alloc),
+        Ok(false) => "not accepted".to_string(alloc),
+        Err(problem) => problem_text(alloc, problem),
+    }
+}
+
+fn batch_text<S: Alter>(alloc: Global, conn: &mut Connection<S>) -> Result<String, AllocError>
+    requires { HasCleanDisk (state S.Store conn.old) → IsResting (state S.Store conn.old) }
+{
+    match posted(alloc, conn) {
+        Ok(Some(Batch::Posted { done, of })) => format!(in alloc; "batch {done} of {of}"),
+        Ok(Some(Batch::NoneLeft)) => "none left".to_string(alloc),
+        Ok(None) => "no run".to_string(alloc),
+        Err(problem) => problem_text(alloc, problem),
+    }
+}
+
+fn closing_text<S: Alter>(alloc: Global, conn: &mut Connection<S>) -> Result<String, AllocError>
+    requires { HasCleanDisk (state S.Store conn.old) → IsResting (state S.Store conn.old) }
+{
+    match closed(alloc, conn) {
+        Ok(Some(sum)) => format!(in alloc; "{}", Reply::Posted(sum)),
+        Ok(None) => "no run at its end".to_string(alloc),
+        Err(problem) => problem_text(alloc, problem),
+    }
+}
+
+fn call_text<S: Alter>(
+    alloc: Global,
+    conn: &mut Connection<S>,
+    call: &str,
+) -> Result<String, AllocError>
+    requires { HasCleanDisk (state S.Store conn.old) → IsResting (state S.Store conn.old) }
+{
+    match (call, call.strip_prefix("find,")) {
+        (_, Some(words)) => find_text(alloc, conn, words),
+        ("install", None) => install_text(alloc, conn, january()),
+        ("version", None) => version_text(alloc, conn),
+        ("load", None) => load_text(alloc, conn),
+        ("batch", None) => batch_text(alloc, conn),
+        ("close", None) => closing_text(alloc, conn),
+        _ => opening_text(alloc, conn, call),
+    }
+}
+
+/// What one line comes to over tables that were just opened. Behind `call,` stands a call of the layers below an agency: `install`,
+/// `version`, `load`, `find,KIND,KEY`, an opening's line, `batch` or `close`.
+pub fn line_over<S: Alter>(alloc: Global, mut conn: Connection<S>, line: &str) -> Lived<S>
+    requires { HasCleanDisk (state S.Store conn) → IsResting (state S.Store conn) }
+{
+    match line.strip_prefix("call,") {
+        Some(call) => (call_text(alloc, &mut conn, call), conn),
+        None => told_anew(alloc, conn, line),
+    }
+}

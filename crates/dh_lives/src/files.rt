@@ -1,0 +1,94 @@
+//! Files on disks in memory: they are opened for one piece of work, and closed unless it was cut.
+
+ghost use Rattle.std.specs.Prelude.{IsTrue, IfOk};
+ghost use Rattle.sqlite.specs.Files.{file_state};
+ghost use Rattle.sqlite.specs.State.{HasCleanDisk};
+ghost use Rattle.dh_runs.specs.Taking.{IsResting};
+
+use crate::work::{Done, Work, work_over};
+use dh_agency::Problem;
+use dh_schema::fault_of;
+use dh_types::Fault;
+use sqlite::{Connection, Error, FileStore, Files, Options};
+use sqlite_disk::Disk;
+use std::alloc::Global;
+
+/// The random number that logs begin with, the same each time.
+pub const SEED: u64 = 7;
+
+/// Why files are not opened.
+#[derive(Clone, Copy, Debug, PartialEq, Eq)]
+pub enum Unopened {
+    /// A disk had failed before in such a way that nothing may be asked of it.
+    NotUsable,
+    /// The store did not open them.
+    Error(Error),
+}
+
+impl Unopened {
+    // The fault of a life that does not get its files opened.
+    fn fault(self) -> Fault {
+        match self {
+            Unopened::NotUsable => Fault::Store,
+            Unopened::Error(error) => fault_of(error),
+        }
+    }
+}
+
+// Opens files that may be used.
+fn opened<D: Disk + Drop>(
+    alloc: Global,
+    files: Files<D>,
+    options: Options,
+) -> Result<Connection<FileStore<D>>, (Unopened, Files<D>)>
+    requires log { IsTrue (D.Disk.is_usable files.log) }
+    requires db { IsTrue (D.Disk.is_usable files.db) }
+    ensures { IfOk result (λ conn. HasCleanDisk (file_state conn) → IsResting (file_state conn)) }
+{
+    match Connection::open_files(alloc, files, options) {
+        Ok(conn) => Ok(conn),
+        Err((error, left)) => Err((Unopened::Error(error), left.into_files())),
+    }
+}
+
+/// Opens the files; where that fails they are given back. Nothing is asked of files that may not be used.
+pub fn open_on<D: Disk + Drop>(
+    alloc: Global,
+    files: Files<D>,
+    options: Options,
+) -> Result<Connection<FileStore<D>>, (Unopened, Files<D>)>
+    ensures { IfOk result (λ conn. HasCleanDisk (file_state conn) → IsResting (file_state conn)) }
+{
+    if files.may_be_used() {
+        return opened(alloc, files, options);
+    }
+    Err((Unopened::NotUsable, files))
+}
+
+// Closes the files. The problem is that of a closing that failed.
+fn closed<D: Disk + Drop>(conn: Connection<FileStore<D>>) -> (Option<Problem>, Files<D>) {
+    match conn.close_files() {
+        Ok(files) => (None, files),
+        Err((error, store)) => (Some(Problem::Fault(fault_of(error))), store.close()),
+    }
+}
+
+/// Opens the files, does the work, and closes them; where the work was cut they are left as they are.
+pub(crate) fn worked<D: Disk + Drop>(
+    alloc: Global,
+    files: Files<D>,
+    work: Work<'_>,
+) -> (Done, Files<D>) {
+    match open_on(alloc, files, Options::new(SEED)) {
+        Ok(conn) => {
+            let (mut done, conn) = work_over(alloc, conn, work);
+            if done.problem.is_some() {
+                return (done, conn.into_store().close());
+            }
+            let (problem, left) = closed(conn);
+            done.problem = problem;
+            (done, left)
+        }
+        Err((why, left)) => (Done::nothing(alloc, Problem::Fault(why.fault())), left),
+    }
+}

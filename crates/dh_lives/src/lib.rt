@@ -1,0 +1,13 @@
+//! Rehearsals of stops: lives of an agency on disks in memory, one of which may stop in the middle of a life. Read [`rehearse`] first.
+#![tactic(auto)]
+
+mod disks;
+mod files;
+mod lives;
+mod rehearsing;
+mod work;
+
+pub use disks::{MeasuredDisk, Measures, Stopping, copy_of, memory, no_files};
+pub use files::{SEED, Unopened, open_on};
+pub use lives::{Account, Life, Lived, Stop, Which};
+pub use rehearsing::{Rehearsed, live_through, rehearse};

@@ -1,0 +1,165 @@
+//! Lives one after the other.
+
+ghost use Rattle.std.specs.Prelude.{◌≤◌};
+ghost use Rattle.dh_days.specs.declared.limits.TheConstants.{LAST_ENTRY_MONTH};
+
+use crate::disks::{Measures, Stopping, copy_of, no_files};
+use crate::files::worked;
+use crate::lives::{Account, Life, Lived, Stop};
+use crate::work::{Done, Work};
+use dh_agency::Problem;
+use dh_books::Books;
+use dh_types::{EntryMonth, Fault, Month};
+use sqlite::Files;
+use sqlite_disk::Crash;
+use std::alloc::{AllocError, Global};
+use std::io;
+
+/// Lives as they were lived, and the files as the last of them left them.
+#[derive(Drop)]
+pub struct Rehearsed {
+    pub lives: Vec<Lived>,
+    pub files: Files<Stopping>,
+}
+
+// The fault that a rehearsal ends with. An agency's own tables are sound, so a store that shows others is not clean.
+fn fault_of_problem(problem: Problem) -> Fault {
+    match problem {
+        Problem::Fault(fault) => fault,
+        Problem::Refused(_) => Fault::Store,
+    }
+}
+
+// Disks in memory fail to be made for want of memory alone.
+fn made(files: io::Result<Files<Stopping>>) -> Result<Files<Stopping>, Problem> {
+    match files {
+        Ok(files) => Ok(files),
+        Err(_) => Err(Problem::Fault(Fault::Memory)),
+    }
+}
+
+fn measures_of(stop: Option<Stop>) -> Measures {
+    match stop {
+        Some(stop) => Measures::of(stop.file, u64::from(stop.after)),
+        None => Measures::NO_END,
+    }
+}
+
+// Cuts the power, and sets the next stop.
+fn restarted(
+    alloc: Global,
+    mut files: Files<Stopping>,
+    stop: Option<Stop>,
+) -> Result<Files<Stopping>, Problem> {
+    files.log.crash();
+    files.db.crash();
+    made(copy_of(alloc, &files, measures_of(stop)))
+}
+
+// The files of a new agency.
+fn created(alloc: Global, first: EntryMonth) -> Result<Files<Stopping>, Problem> {
+    let files = made(no_files(alloc, Measures::NO_END))?;
+    let (done, left) = worked(alloc, files, Work::Create(first));
+    match done.problem {
+        None => Ok(left),
+        Some(problem) => Err(problem),
+    }
+}
+
+// The life as it was lived, if nothing cut it but its stop.
+fn accounted(done: Done, stop: Option<Stop>) -> Result<Lived, Problem> {
+    match (done.problem, stop) {
+        (None, _) | (Some(Problem::Fault(_)), Some(_)) => Ok(done.lived),
+        (Some(problem), _) => Err(problem),
+    }
+}
+
+// Plays one life on the files, behind a power cut.
+fn live(
+    alloc: Global,
+    files: Files<Stopping>,
+    life: &Life,
+) -> Result<(Lived, Files<Stopping>), Problem> {
+    let files = restarted(alloc, files, life.stop)?;
+    let (done, left) = worked(alloc, files, Work::Live(&life.commands));
+    Ok((accounted(done, life.stop)?, left))
+}
+
+fn keep(accounts: &mut Vec<Lived>, lived: Lived) -> Result<(), AllocError> {
+    accounts.push(lived)?;
+    Ok(())
+}
+
+fn live_each(alloc: Global, first: EntryMonth, lives: &[Life]) -> Result<Rehearsed, Problem> {
+    let mut files = created(alloc, first)?;
+    let mut accounts = Vec::new(alloc);
+    for life in lives {
+        let (lived, left) = live(alloc, files, life)?;
+        keep(&mut accounts, lived)?;
+        files = left;
+    }
+    Ok(Rehearsed {
+        lives: accounts,
+        files,
+    })
+}
+
+// The books that the tables mean, behind a power cut.
+fn loaded(alloc: Global, files: Files<Stopping>) -> Result<Option<Books>, Problem> {
+    let files = restarted(alloc, files, None)?;
+    let (done, left) = worked(alloc, files, Work::Load);
+    drop(left);
+    match done.problem {
+        None => Ok(done.books),
+        Some(problem) => Err(problem),
+    }
+}
+
+// Whether the last life has no stop.
+fn ends_whole(lives: &[Life]) -> bool {
+    match lives.last() {
+        Some(life) => life.stop.is_none(),
+        None => true,
+    }
+}
+
+fn account_of(alloc: Global, first: EntryMonth, lives: &[Life]) -> Result<Account, Problem> {
+    let Rehearsed {
+        lives: accounts,
+        files,
+    } = live_each(alloc, first, lives)?;
+    let books = if ends_whole(lives) {
+        loaded(alloc, files)?
+    } else {
+        None
+    };
+    Ok(Account {
+        lives: accounts,
+        books,
+    })
+}
+
+/// Plays the lives as [`rehearse`] does, and answers what came of each, with the files as the last of them left them. The faults are
+/// those of `rehearse`.
+pub fn live_through(alloc: Global, first: Month, lives: &[Life]) -> Result<Rehearsed, Fault>
+    requires { first ≤ LAST_ENTRY_MONTH }
+{
+    match live_each(alloc, EntryMonth::of_number(first.number()), lives) {
+        Ok(rehearsed) => Ok(rehearsed),
+        Err(problem) => Err(fault_of_problem(problem)),
+    }
+}
+
+/// Makes an agency on disks in memory, whose books begin with the month, and then plays the lives one after the other. Each life
+/// begins with a power cut and a recovery, which its stop may hit; then its commands are told. A life that nothing cut ends with its
+/// files closed. In a life with a stop each fault counts as that stop. A fault of the making or of a life without a stop is answered,
+/// and so is one of reading the books in the end: 21 where memory ran out, 22 where the store failed or shows what an agency's
+/// tables cannot.
+pub fn rehearse(alloc: Global, first: Month, lives: &[Life]) -> Result<Account, Fault>
+    requires { first ≤ LAST_ENTRY_MONTH }
+{
+    match account_of(alloc, EntryMonth::of_number(first.number()), lives) {
+        Ok(account) => Ok(account),
+        Err(problem) => Err(fault_of_problem(problem)),
+    }
+}
