@@ -212,7 +212,7 @@ fn play_recoveries(
     Ok(())
 }
 
-// The stops of one file.
+// The stops of one file. Those of the log cut both commands.
 fn play_file(
     rt: &HostRuntime,
     tally: &mut Tally,
@@ -223,6 +223,11 @@ fn play_file(
     let cuts = play_stops(rt, tally, story, file)?;
     if recoveries == Recoveries::Whole {
         return Ok(());
+    }
+    if file == Which::Journal {
+        let are_both_cut = cuts.first.is_some() && cuts.second.is_some();
+        let got = if are_both_cut { "cut" } else { "not cut" };
+        compare(rt, tally, story.block.name.as_str(), got, "cut")?;
     }
     play_recoveries(rt, tally, story, file, cuts.first)?;
     if recoveries == Recoveries::BehindThreeStops {

@@ -73,6 +73,16 @@ fn closed<D: Disk + Drop>(conn: Connection<FileStore<D>>) -> (Option<Problem>, F
     }
 }
 
+// Closes the files of work that nothing cut, and leaves those of work that was cut as they are.
+fn ended<D: Disk + Drop>(mut done: Done, conn: Connection<FileStore<D>>) -> (Done, Files<D>) {
+    if done.problem.is_some() {
+        return (done, conn.into_store().close());
+    }
+    let (problem, left) = closed(conn);
+    done.problem = problem;
+    (done, left)
+}
+
 /// Opens the files, does the work, and closes them; where the work was cut they are left as they are.
 pub(crate) fn worked<D: Disk + Drop>(
     alloc: Global,
@@ -81,13 +91,8 @@ pub(crate) fn worked<D: Disk + Drop>(
 ) -> (Done, Files<D>) {
     match open_on(alloc, files, Options::new(SEED)) {
         Ok(conn) => {
-            let (mut done, conn) = work_over(alloc, conn, work);
-            if done.problem.is_some() {
-                return (done, conn.into_store().close());
-            }
-            let (problem, left) = closed(conn);
-            done.problem = problem;
-            (done, left)
+            let (done, conn) = work_over(alloc, conn, work);
+            ended(done, conn)
         }
         Err((why, left)) => (Done::nothing(alloc, Problem::Fault(why.fault())), left),
     }

@@ -1,6 +1,6 @@
 //! Lives one after the other.
 
-ghost use Rattle.std.specs.Prelude.{◌≤◌};
+ghost use Rattle.std.specs.Prelude.{◌≡◌, ◌+◌, ◌≤◌, length, IfOk, OnOk};
 ghost use Rattle.dh_days.specs.declared.limits.TheConstants.{LAST_ENTRY_MONTH};
 
 use crate::disks::{Measures, Stopping, copy_of, no_files};
@@ -60,7 +60,14 @@ fn restarted(
 fn created(alloc: Global, first: EntryMonth) -> Result<Files<Stopping>, Problem> {
     let files = made(no_files(alloc, Measures::NO_END))?;
     let (done, left) = worked(alloc, files, Work::Create(first));
-    match done.problem {
+    let Done {
+        lived,
+        books,
+        problem,
+    } = done;
+    drop(lived);
+    drop(books);
+    match problem {
         None => Ok(left),
         Some(problem) => Err(problem),
     }
@@ -85,12 +92,17 @@ fn live(
     Ok((accounted(done, life.stop)?, left))
 }
 
-fn keep(accounts: &mut Vec<Lived>, lived: Lived) -> Result<(), AllocError> {
+fn keep(accounts: &mut Vec<Lived>, lived: Lived) -> Result<(), AllocError>
+    ensures { OnOk result (length accounts.new.items ≡ length accounts.old.items + 1) }
+{
     accounts.push(lived)?;
     Ok(())
 }
 
-fn live_each(alloc: Global, first: EntryMonth, lives: &[Life]) -> Result<Rehearsed, Problem> {
+// Makes an agency and plays the lives.
+fn live_each(alloc: Global, first: EntryMonth, lives: &[Life]) -> Result<Rehearsed, Problem>
+    ensures { IfOk result (λ it. length it.lives.items ≡ length lives.now) }
+{
     let mut files = created(alloc, first)?;
     let mut accounts = Vec::new(alloc);
     for life in lives {
@@ -109,8 +121,14 @@ fn loaded(alloc: Global, files: Files<Stopping>) -> Result<Option<Books>, Proble
     let files = restarted(alloc, files, None)?;
     let (done, left) = worked(alloc, files, Work::Load);
     drop(left);
-    match done.problem {
-        None => Ok(done.books),
+    let Done {
+        lived,
+        books,
+        problem,
+    } = done;
+    drop(lived);
+    match problem {
+        None => Ok(books),
         Some(problem) => Err(problem),
     }
 }
@@ -123,7 +141,10 @@ fn ends_whole(lives: &[Life]) -> bool {
     }
 }
 
-fn account_of(alloc: Global, first: EntryMonth, lives: &[Life]) -> Result<Account, Problem> {
+// The account of the lives, with the books in the end.
+fn account_of(alloc: Global, first: EntryMonth, lives: &[Life]) -> Result<Account, Problem>
+    ensures { IfOk result (λ it. length it.lives.items ≡ length lives.now) }
+{
     let Rehearsed {
         lives: accounts,
         files,
@@ -143,6 +164,7 @@ fn account_of(alloc: Global, first: EntryMonth, lives: &[Life]) -> Result<Accoun
 /// those of `rehearse`.
 pub fn live_through(alloc: Global, first: Month, lives: &[Life]) -> Result<Rehearsed, Fault>
     requires { first ≤ LAST_ENTRY_MONTH }
+    ensures { IfOk result (λ it. length it.lives.items ≡ length lives.now) }
 {
     match live_each(alloc, EntryMonth::of_number(first.number()), lives) {
         Ok(rehearsed) => Ok(rehearsed),
@@ -157,6 +179,7 @@ pub fn live_through(alloc: Global, first: Month, lives: &[Life]) -> Result<Rehea
 /// tables cannot.
 pub fn rehearse(alloc: Global, first: Month, lives: &[Life]) -> Result<Account, Fault>
     requires { first ≤ LAST_ENTRY_MONTH }
+    ensures { IfOk result (λ it. length it.lives.items ≡ length lives.now) }
 {
     match account_of(alloc, EntryMonth::of_number(first.number()), lives) {
         Ok(account) => Ok(account),
