@@ -1,8 +1,7 @@
 //! Steps under a limit at which whole tables can't be read.
 
-use crate::edited_tables::load_text;
 use dh_agency::{Agency, NotOpened, create};
-use dh_agency_scripts::{compare, told};
+use dh_agency_scripts::{compare, load_text, told};
 use dh_schema::install;
 use dh_scripts::{Tally, january};
 use sqlite::{Alter, Connection, MemStore, params};
