@@ -5,10 +5,10 @@ ghost use Rattle.sqlite.specs.Files.{file_state};
 ghost use Rattle.sqlite.specs.State.{HasCleanDisk};
 ghost use Rattle.dh_runs.specs.Taking.{IsResting};
 
-use crate::work::{Done, Work, work_over};
+use crate::work::{Done, create_over, live_over, load_over};
 use dh_agency::Problem;
 use dh_schema::fault_of;
-use dh_types::Fault;
+use dh_types::{Command, EntryMonth, Fault};
 use sqlite::{Connection, Error, FileStore, Files, Options};
 use sqlite_disk::Disk;
 use std::alloc::Global;
@@ -83,15 +83,41 @@ fn ended<D: Disk + Drop>(mut done: Done, conn: Connection<FileStore<D>>) -> (Don
     (done, left)
 }
 
-/// Opens the files, does the work, and closes them; where the work was cut they are left as they are.
-pub(crate) fn worked<D: Disk + Drop>(
+/// Makes an agency on the files, whose books begin with the month.
+pub(crate) fn create_on<D: Disk + Drop>(
     alloc: Global,
     files: Files<D>,
-    work: Work<'_>,
+    first: EntryMonth,
 ) -> (Done, Files<D>) {
     match open_on(alloc, files, Options::new(SEED)) {
         Ok(conn) => {
-            let (done, conn) = work_over(alloc, conn, work);
+            let (done, conn) = create_over(alloc, conn, first);
+            ended(done, conn)
+        }
+        Err((why, left)) => (Done::nothing(alloc, Problem::Fault(why.fault())), left),
+    }
+}
+
+/// Recovers the files, and tells an agency on them the commands.
+pub(crate) fn live_on<D: Disk + Drop>(
+    alloc: Global,
+    files: Files<D>,
+    commands: &[Command],
+) -> (Done, Files<D>) {
+    match open_on(alloc, files, Options::new(SEED)) {
+        Ok(conn) => {
+            let (done, conn) = live_over(alloc, conn, commands);
+            ended(done, conn)
+        }
+        Err((why, left)) => (Done::nothing(alloc, Problem::Fault(why.fault())), left),
+    }
+}
+
+/// Loads the tables of the files.
+pub(crate) fn load_on<D: Disk + Drop>(alloc: Global, files: Files<D>) -> (Done, Files<D>) {
+    match open_on(alloc, files, Options::new(SEED)) {
+        Ok(mut conn) => {
+            let done = load_over(alloc, &mut conn);
             ended(done, conn)
         }
         Err((why, left)) => (Done::nothing(alloc, Problem::Fault(why.fault())), left),

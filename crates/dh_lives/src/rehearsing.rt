@@ -4,9 +4,9 @@ ghost use Rattle.std.specs.Prelude.{◌≡◌, ◌+◌, ◌≤◌, length, IfOk,
 ghost use Rattle.dh_days.specs.declared.limits.TheConstants.{LAST_ENTRY_MONTH};
 
 use crate::disks::{Measures, Stopping, copy_of, no_files};
-use crate::files::worked;
+use crate::files::{create_on, live_on, load_on};
 use crate::lives::{Account, Life, Lived, Stop};
-use crate::work::{Done, Work};
+use crate::work::Done;
 use dh_agency::Problem;
 use dh_books::Books;
 use dh_types::{EntryMonth, Fault, Month};
@@ -59,7 +59,7 @@ fn restarted(
 // The files of a new agency.
 fn created(alloc: Global, first: EntryMonth) -> Result<Files<Stopping>, Problem> {
     let files = made(no_files(alloc, Measures::NO_END))?;
-    let (done, left) = worked(alloc, files, Work::Create(first));
+    let (done, left) = create_on(alloc, files, first);
     let Done {
         lived,
         books,
@@ -88,7 +88,7 @@ fn live(
     life: &Life,
 ) -> Result<(Lived, Files<Stopping>), Problem> {
     let files = restarted(alloc, files, life.stop)?;
-    let (done, left) = worked(alloc, files, Work::Live(&life.commands));
+    let (done, left) = live_on(alloc, files, &life.commands);
     Ok((accounted(done, life.stop)?, left))
 }
 
@@ -119,7 +119,7 @@ fn live_each(alloc: Global, first: EntryMonth, lives: &[Life]) -> Result<Rehears
 // The books that the tables mean, behind a power cut.
 fn loaded(alloc: Global, files: Files<Stopping>) -> Result<Option<Books>, Problem> {
     let files = restarted(alloc, files, None)?;
-    let (done, left) = worked(alloc, files, Work::Load);
+    let (done, left) = load_on(alloc, files);
     drop(left);
     let Done {
         lived,

@@ -1,4 +1,4 @@
-//! What is done over files that were opened.
+//! What is done over tables that were just opened.
 
 ghost use Rattle.sqlite.specs.State.{HasCleanDisk};
 ghost use Rattle.sqlite.specs.Held.{state};
@@ -11,17 +11,6 @@ use dh_schema::load;
 use dh_types::{Command, EntryMonth, Fault, Reply};
 use sqlite::{Alter, Connection};
 use std::alloc::Global;
-
-/// What is done.
-#[derive(Clone, Copy)]
-pub(crate) enum Work<'a> {
-    /// An agency is made, whose books begin with the month.
-    Create(EntryMonth),
-    /// The tables are recovered, and an agency over them is told the commands.
-    Live(&'a [Command]),
-    /// The tables are loaded.
-    Load,
-}
 
 /// What came of it.
 #[derive(Drop)]
@@ -105,7 +94,8 @@ fn tell_all<S: Alter>(alloc: Global, agency: &mut Agency<S>, commands: &[Command
     Done::answered(replies)
 }
 
-fn create_over<S: Alter>(
+/// Makes an agency, whose books begin with the month.
+pub(crate) fn create_over<S: Alter>(
     alloc: Global,
     conn: Connection<S>,
     first: EntryMonth,
@@ -116,7 +106,8 @@ fn create_over<S: Alter>(
     }
 }
 
-fn live_over<S: Alter>(
+/// Recovers the tables, and tells an agency over them the commands.
+pub(crate) fn live_over<S: Alter>(
     alloc: Global,
     conn: Connection<S>,
     commands: &[Command],
@@ -132,7 +123,8 @@ fn live_over<S: Alter>(
     }
 }
 
-fn load_over<S: Alter>(alloc: Global, conn: &mut Connection<S>) -> Done {
+/// Loads the tables.
+pub(crate) fn load_over<S: Alter>(alloc: Global, conn: &mut Connection<S>) -> Done {
     match load(alloc, conn) {
         Ok(books) => Done {
             lived: no_life(alloc),
@@ -140,20 +132,5 @@ fn load_over<S: Alter>(alloc: Global, conn: &mut Connection<S>) -> Done {
             problem: None,
         },
         Err(fault) => Done::nothing(alloc, Problem::from(fault)),
-    }
-}
-
-/// Does the work over tables that were just opened.
-pub(crate) fn work_over<S: Alter>(
-    alloc: Global,
-    mut conn: Connection<S>,
-    work: Work<'_>,
-) -> (Done, Connection<S>)
-    requires { HasCleanDisk (state S.Store conn) → IsResting (state S.Store conn) }
-{
-    match work {
-        Work::Create(first) => create_over(alloc, conn, first),
-        Work::Live(commands) => live_over(alloc, conn, commands),
-        Work::Load => (load_over(alloc, &mut conn), conn),
     }
 }
