@@ -48,7 +48,7 @@ fn standing_tables(rt: &HostRuntime) -> io::Result<String> {
 }
 
 // What a run leaves where nothing fails.
-fn left(rt: &HostRuntime, before: &[u8], words: &str, input: &str) -> io::Result<Left> {
+fn left_by(rt: &HostRuntime, before: &[u8], words: &str, input: &str) -> io::Result<Left> {
     put_back(rt, before)?;
     let mut reader = input.as_bytes();
     let mut output = Vec::new(rt.alloc());
@@ -62,12 +62,12 @@ fn left(rt: &HostRuntime, before: &[u8], words: &str, input: &str) -> io::Result
 // What runs leave for each number of records. A run without an input has one.
 fn each_left(rt: &HostRuntime, before: &[u8], words: &str, input: &str) -> io::Result<Vec<Left>> {
     let mut each = Vec::new(rt.alloc());
-    each.push(left(rt, before, words, "")?)?;
+    each.push(left_by(rt, before, words, "")?)?;
     let mut begun = String::new(rt.alloc());
     for line in input.lines() {
         begun.push_str(line)?;
         begun.push_str("\n")?;
-        each.push(left(rt, before, words, begun.as_str())?)?;
+        each.push(left_by(rt, before, words, begun.as_str())?)?;
     }
     Ok(each)
 }
@@ -95,7 +95,7 @@ fn play_whole(rt: &HostRuntime, tally: &mut Tally, line: &Line, whole: &str) -> 
         compare(rt, tally, line.words, last.as_str(), begun)?;
     }
     compare(rt, tally, line.words, last.as_str(), whole)?;
-    let _ = left(rt, &line.before, line.words, line.input.as_str())?;
+    let _ = left_by(rt, &line.before, line.words, line.input.as_str())?;
     Ok(())
 }
 
