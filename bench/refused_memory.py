@@ -154,10 +154,10 @@ class Play:
         verdict = self.job.verdict(answer)
         if verdict is None or growth is None and verdict.kind != "right":
             return self.tell(growth, f"another answer: {answer}")
-        self.counts[verdict.kind] += 1
+        self.check_file(growth, verdict, left)
         if growth is not None:
             self.check_place(growth, verdict)
-        self.check_file(growth, verdict, left)
+            self.counts[verdict.kind] += 1
 
     def begin(self):
         """How many growths the job asks for."""
@@ -165,17 +165,16 @@ class Play:
         growths, writes = self.bench.asked()
         self.written = list(zip((asked for asked, _ in writes), accumulate(count for _, count in writes)))
         self.check_writing()
-        self.counts.clear()
         return growths
 
     def run(self, first, stride):
         start = time.monotonic()
         growths = self.begin()
-        for growth, answer, left in self.job.each(self.bench, growths, first, stride, self.is_from):
+        for refused, (growth, answer, left) in enumerate(self.job.each(self.bench, growths, first, stride, self.is_from)):
             self.judge(growth, answer, left)
         counted = ", ".join(f"{count} {kind}" for kind, count in self.counts.items())
         way = "each from n on" if self.is_from else "n alone"
-        print(f"{self.job.name}, {way}: {growths} growths, {self.counts.total() - 1} refused, from {first} by {stride}: {counted}; "
+        print(f"{self.job.name}, {way}: {growths} growths, {refused} refused, from {first} by {stride}: {counted}; "
               f"{self.wrong} wrong; {time.monotonic() - start:.0f} s", flush=True)
 
 
