@@ -63,8 +63,9 @@ fn called<S: Alter>(
     agency: &mut Agency<S>,
     line: &str,
 ) -> Result<String, AllocError> {
-    match request(alloc, line) {
-        Ok(Request::Question(question)) => asked(alloc, agency, &question),
+    let read = request(alloc, line);
+    match &read {
+        Ok(Request::Question(question)) => asked(alloc, agency, question),
         _ => told_by_call(alloc, agency, line),
     }
 }
