@@ -18,8 +18,8 @@ fn charges_have_runs(books: &Books) -> bool
         .all(|charge| books.run(&charge.month).is_some())
 }
 
-/// Whether each part row is of a run that is there.
-pub(crate) fn parts_have_runs(books: &Books) -> bool
+// Whether each part row is of a run that is there.
+fn parts_have_runs(books: &Books) -> bool
     ensures { (result ≡ true) ↔ Each books.now.books.parts (λ part. IsThere books.now.books.runs part.month) }
 {
     books.parts().all(|part| books.run(&part.month).is_some())

@@ -1,11 +1,11 @@
 //! What a row names is there.
 
 ghost use Rattle.std.specs.Prelude.{◌≡◌, ◌↔◌, true, IfSome};
-ghost use Rattle.dh_model.specs.Rules.{Each, InspectionRefers, IsThere, LeaseRefers, NamesWhatIsThere, PropertyRefers, RegistrationRefers, ViewingRefers};
+ghost use Rattle.dh_model.specs.Kinds.{Kind};
+ghost use Rattle.dh_model.specs.Rules.{Each, IsThere, NamesWhatIsThere, Refers};
 
-use crate::months::parts_have_runs;
 use dh_books::Books;
-use dh_types::{Inspection, Lease, Property, Registration, Viewing};
+use dh_types::{Inspection, Lease, Part, Property, Registration, Viewing};
 
 // Whether the property's manager, if any, is there.
 fn manager_is_there(books: &Books, property: &Property) -> bool
@@ -19,7 +19,7 @@ fn manager_is_there(books: &Books, property: &Property) -> bool
 
 // Whether what the property names is there.
 fn property_refers(books: &Books, property: &Property) -> bool
-    ensures { (result ≡ true) ↔ PropertyRefers books.now.books property.now }
+    ensures { (result ≡ true) ↔ Refers books.now.books Kind.Properties property.now }
 {
     books.owner(&property.owner).is_some()
         && manager_is_there(books, property)
@@ -28,7 +28,7 @@ fn property_refers(books: &Books, property: &Property) -> bool
 
 // Whether what the registration names is there.
 fn registration_refers(books: &Books, registration: &Registration) -> bool
-    ensures { (result ≡ true) ↔ RegistrationRefers books.now.books registration.now }
+    ensures { (result ≡ true) ↔ Refers books.now.books Kind.Registrations registration.now }
 {
     books.client(&registration.client).is_some()
         && books.branch(&registration.branch).is_some()
@@ -37,21 +37,21 @@ fn registration_refers(books: &Books, registration: &Registration) -> bool
 
 // Whether what the viewing names is there.
 fn viewing_refers(books: &Books, viewing: &Viewing) -> bool
-    ensures { (result ≡ true) ↔ ViewingRefers books.now.books viewing.now }
+    ensures { (result ≡ true) ↔ Refers books.now.books Kind.Viewings viewing.now }
 {
     books.client(&viewing.client).is_some() && books.property(&viewing.property).is_some()
 }
 
 // Whether what the inspection names is there.
 fn inspection_refers(books: &Books, inspection: &Inspection) -> bool
-    ensures { (result ≡ true) ↔ InspectionRefers books.now.books inspection.now }
+    ensures { (result ≡ true) ↔ Refers books.now.books Kind.Inspections inspection.now }
 {
     books.property(&inspection.property).is_some() && books.member(&inspection.staff).is_some()
 }
 
 // Whether what the lease names is there, and its client is registered at its property's branch.
 fn lease_refers(books: &Books, lease: &Lease) -> bool
-    ensures { (result ≡ true) ↔ LeaseRefers books.now.books lease.now }
+    ensures { (result ≡ true) ↔ Refers books.now.books Kind.Leases lease.now }
 {
     let client = lease.terms.client;
     let Some(property) = books.property(&lease.terms.property) else {
@@ -60,9 +60,16 @@ fn lease_refers(books: &Books, lease: &Lease) -> bool
     books.client(&client).is_some() && books.registration(&(client, property.branch)).is_some()
 }
 
+// Whether the part row's run and branch are there.
+fn part_refers(books: &Books, part: &Part) -> bool
+    ensures { (result ≡ true) ↔ Refers books.now.books Kind.Parts part.now }
+{
+    books.run(&part.month).is_some() && books.branch(&part.branch).is_some()
+}
+
 // Whether each member of staff belongs to a branch that is there.
 fn staff_refer(books: &Books) -> bool
-    ensures { (result ≡ true) ↔ Each books.now.books.staff (λ member. IsThere books.now.books.branches member.branch) }
+    ensures { (result ≡ true) ↔ Each books.now.books.staff (Refers books.now.books Kind.Staff) }
 {
     books
         .staff()
@@ -71,7 +78,7 @@ fn staff_refer(books: &Books) -> bool
 
 // Whether what the properties name is there.
 fn properties_refer(books: &Books) -> bool
-    ensures { (result ≡ true) ↔ Each books.now.books.properties (PropertyRefers books.now.books) }
+    ensures { (result ≡ true) ↔ Each books.now.books.properties (Refers books.now.books Kind.Properties) }
 {
     books
         .properties()
@@ -80,7 +87,7 @@ fn properties_refer(books: &Books) -> bool
 
 // Whether what the registrations name is there.
 fn registrations_refer(books: &Books) -> bool
-    ensures { (result ≡ true) ↔ Each books.now.books.registrations (RegistrationRefers books.now.books) }
+    ensures { (result ≡ true) ↔ Each books.now.books.registrations (Refers books.now.books Kind.Registrations) }
 {
     books
         .registrations()
@@ -89,7 +96,7 @@ fn registrations_refer(books: &Books) -> bool
 
 // Whether what the viewings name is there.
 fn viewings_refer(books: &Books) -> bool
-    ensures { (result ≡ true) ↔ Each books.now.books.viewings (ViewingRefers books.now.books) }
+    ensures { (result ≡ true) ↔ Each books.now.books.viewings (Refers books.now.books Kind.Viewings) }
 {
     books
         .viewings()
@@ -98,7 +105,7 @@ fn viewings_refer(books: &Books) -> bool
 
 // Whether what the inspections name is there.
 fn inspections_refer(books: &Books) -> bool
-    ensures { (result ≡ true) ↔ Each books.now.books.inspections (InspectionRefers books.now.books) }
+    ensures { (result ≡ true) ↔ Each books.now.books.inspections (Refers books.now.books Kind.Inspections) }
 {
     books
         .inspections()
@@ -107,14 +114,14 @@ fn inspections_refer(books: &Books) -> bool
 
 // Whether what the leases name is there.
 fn leases_refer(books: &Books) -> bool
-    ensures { (result ≡ true) ↔ Each books.now.books.leases (LeaseRefers books.now.books) }
+    ensures { (result ≡ true) ↔ Each books.now.books.leases (Refers books.now.books Kind.Leases) }
 {
     books.leases().all(|lease| lease_refers(books, lease))
 }
 
 // Whether each charge is of a lease that is there.
 fn charges_refer(books: &Books) -> bool
-    ensures { (result ≡ true) ↔ Each books.now.books.charges (λ charge. IsThere books.now.books.leases charge.lease) }
+    ensures { (result ≡ true) ↔ Each books.now.books.charges (Refers books.now.books Kind.Charges) }
 {
     books
         .charges()
@@ -123,20 +130,18 @@ fn charges_refer(books: &Books) -> bool
 
 // Whether each receipt is for a lease that is there.
 fn receipts_refer(books: &Books) -> bool
-    ensures { (result ≡ true) ↔ Each books.now.books.receipts (λ receipt. IsThere books.now.books.leases receipt.payment.lease) }
+    ensures { (result ≡ true) ↔ Each books.now.books.receipts (Refers books.now.books Kind.Receipts) }
 {
     books
         .receipts()
         .all(|receipt| books.lease(&receipt.payment.lease).is_some())
 }
 
-// Whether each part row is of a branch that is there.
-fn parts_have_branches(books: &Books) -> bool
-    ensures { (result ≡ true) ↔ Each books.now.books.parts (λ part. IsThere books.now.books.branches part.branch) }
+// Whether the part rows' runs and branches are there.
+fn parts_refer(books: &Books) -> bool
+    ensures { (result ≡ true) ↔ Each books.now.books.parts (Refers books.now.books Kind.Parts) }
 {
-    books
-        .parts()
-        .all(|part| books.branch(&part.branch).is_some())
+    books.parts().all(|part| part_refers(books, part))
 }
 
 /// Whether all that the rows name is there, and each lease's client is registered at the branch of its property.
@@ -151,6 +156,5 @@ pub fn names_what_is_there(books: &Books) -> bool
         && leases_refer(books)
         && charges_refer(books)
         && receipts_refer(books)
-        && parts_have_runs(books)
-        && parts_have_branches(books)
+        && parts_refer(books)
 }

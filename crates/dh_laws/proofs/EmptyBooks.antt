@@ -7,11 +7,11 @@ use Rattle.std.specs.FinMap.{empty, entries, get-empty, len-empty, len-entries, 
 use Rattle.dh_types.specs.declared.lease.Receipt.{Receipt}
 use Rattle.dh_types.specs.declared.run.Run.{Run}
 use Rattle.dh_values.specs.declared.receipt_kind.ReceiptKind.TheVariants.{Deposit}
-use Rattle.dh_model.specs.Kinds.{Kind}
+use Rattle.dh_model.specs.Kinds.{Kind, key_in, order_of, records_of}
 use Rattle.dh_model.specs.Books.{empty_books}
 use Rattle.dh_model.specs.Checks.{is_same_text}
 use Rattle.dh_model.specs.Leases.{overlap}
-use Rattle.dh_model.specs.Rules.{Each, EachTwo, IsThere, MeetsRules, References, Branches, Managers, Overlaps, Starts, Terms, Deposits, Keys, Runs, Months}
+use Rattle.dh_model.specs.Rules.{Each, EachTwo, IsThere, MeetsRules, Refers, References, Branches, Managers, Overlaps, Starts, Terms, Deposits, Keys, Runs, Months}
 use Rattle.dh_model.proofs.Among.{Among, among}
 use Rattle.dh_laws.specs.InOrder.{AreKeyed, StandUnder}
 use Rattle.dh_laws.specs.Keeping.{EmptyBooksAreInOrder}
@@ -44,20 +44,12 @@ no_keys = ap (λ rows. length (map (λ (it : Receipt). it.key) rows ++ map (λ (
     ∙ ap (λ rows. length (map (λ (it : Run). it.key) rows)) (no_rows nat_cmp)
 
 module _ (size month : ℕ) where
+  none_of : (kind : Kind) → records_of kind (empty_books month) ≡ empty {R = order_of kind}
+  none_of Kind.Branches = refl
+  none_of kind = refl
+
   meets : MeetsRules (empty_books month) size
-  meets References = record {
-    staff = each_of_none _ _;
-    properties = each_of_none _ _;
-    registrations = each_of_none _ _;
-    viewings = each_of_none _ _;
-    inspections = each_of_none _ _;
-    leases = each_of_none _ _;
-    charges = each_of_none _ _;
-    receipts = each_of_none _ _;
-    part_runs =
-        each_of_none _ _;
-    part_branches = each_of_none _ _;
-  }
+  meets References = λ kind. subst (λ rows. Each rows (Refers (empty_books month) kind)) (sym (none_of kind)) (each_of_none (order_of kind) (Refers (empty_books month) kind))
   meets Branches = record { managers = each_of_none _ _; registrars = each_of_none _ _ }
   meets Managers = each_of_none _ _
   meets Overlaps = two_of_none _ (λ lease other. overlap lease.terms other.terms ≡ false)
@@ -80,19 +72,7 @@ module _ (size month : ℕ) where
   meets Months = record { closed = each_of_none _ _; under_way = each_of_none _ _; charged = each_of_none _ _; summed = each_of_none _ _ }
 
   keyed : AreKeyed (empty_books month)
-  keyed Kind.Branches = none_under _ _
-  keyed Kind.Staff = none_under _ _
-  keyed Kind.Owners = none_under _ _
-  keyed Kind.Properties = none_under _ _
-  keyed Kind.Clients = none_under _ _
-  keyed Kind.Registrations = none_under _ _
-  keyed Kind.Viewings = none_under _ _
-  keyed Kind.Inspections = none_under _ _
-  keyed Kind.Leases = none_under _ _
-  keyed Kind.Charges = none_under _ _
-  keyed Kind.Receipts = none_under _ _
-  keyed Kind.Runs = none_under _ _
-  keyed Kind.Parts = none_under _ _
+  keyed kind = subst (StandUnder (key_in kind)) (sym (none_of kind)) (none_under (order_of kind) (key_in kind))
 
 pub empty_books_are_in_order : (size : ℕ) → EmptyBooksAreInOrder size
 empty_books_are_in_order size month = record { keyed = keyed size month; rules = meets size month; shown = ap (find (λ run. not run.is_closed)) (no_rows _) }

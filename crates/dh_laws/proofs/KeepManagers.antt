@@ -168,7 +168,7 @@ module _ (books : Books) (run : Option OpenRun) (keyed : AreKeyed books) (names 
   not_yet : (it : Staff) → get books.staff it.number ≡ None → (property : Property) → Among (values books.properties) property
       → manages it.number property ≡ false
   not_yet it new property a = false_from_ne_true (manages it.number property) (λ is.
-      let refers = names.properties property (is_among (values books.properties) property a) in
+      let refers = names Kind.Properties property (is_among (values books.properties) property a) in
       let same = (optional is_same_text texts property.staff (Some it.number)).0 is in
       let known : IsThere books.staff it.number = rw same at refers.staff in
       let row = (there text_total text_ties books.staff it.number).0 known in

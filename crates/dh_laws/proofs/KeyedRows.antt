@@ -1,4 +1,4 @@
--- Books stay keyed where the records of one kind are replaced by keyed ones.
+-- What holds of the records of each kind holds where those of one kind are replaced by others of which it holds: as that they are keyed.
 use Rattle.std.proofs.Common.{◌≡◌, refl, ℕ}
 use Rattle.std.specs.FinMap.{FinMap, insert}
 use Rattle.dh_model.specs.Books.{Books}
@@ -7,28 +7,30 @@ use Rattle.dh_model.proofs.KindOrders.{ties_of, total_of}
 use Rattle.dh_laws.specs.InOrder.{AreKeyed, StandUnder}
 use Rattle.dh_laws.proofs.MapMerges.{insert_keyed}
 
-module _ (books : Books) (keyed : AreKeyed books) where
-  pub keyed_with : (kind : Kind) (rows : FinMap (order_of kind) (record_of kind)) → StandUnder (key_in kind) rows → AreKeyed (with_records kind rows books)
-  keyed_with Kind.Branches rows stand Kind.Branches = stand
-  keyed_with Kind.Staff rows stand Kind.Staff = stand
-  keyed_with Kind.Owners rows stand Kind.Owners = stand
-  keyed_with Kind.Properties rows stand Kind.Properties = stand
-  keyed_with Kind.Clients rows stand Kind.Clients = stand
-  keyed_with Kind.Registrations rows stand Kind.Registrations = stand
-  keyed_with Kind.Viewings rows stand Kind.Viewings = stand
-  keyed_with Kind.Inspections rows stand Kind.Inspections = stand
-  keyed_with Kind.Leases rows stand Kind.Leases = stand
-  keyed_with Kind.Charges rows stand Kind.Charges = stand
-  keyed_with Kind.Receipts rows stand Kind.Receipts = stand
-  keyed_with Kind.Runs rows stand Kind.Runs = stand
-  keyed_with Kind.Parts rows stand Kind.Parts = stand
-  keyed_with _ rows stand other = keyed other
+module _ (books : Books) (P : (kind : Kind) → FinMap (order_of kind) (record_of kind) → Type 0) (each : (kind : Kind) → P kind (records_of kind books)) where
+  pub each_with : (kind : Kind) (rows : FinMap (order_of kind) (record_of kind)) → P kind rows
+      → (other : Kind) → P other (records_of other (with_records kind rows books))
+  each_with Kind.Branches rows is Kind.Branches = is
+  each_with Kind.Staff rows is Kind.Staff = is
+  each_with Kind.Owners rows is Kind.Owners = is
+  each_with Kind.Properties rows is Kind.Properties = is
+  each_with Kind.Clients rows is Kind.Clients = is
+  each_with Kind.Registrations rows is Kind.Registrations = is
+  each_with Kind.Viewings rows is Kind.Viewings = is
+  each_with Kind.Inspections rows is Kind.Inspections = is
+  each_with Kind.Leases rows is Kind.Leases = is
+  each_with Kind.Charges rows is Kind.Charges = is
+  each_with Kind.Receipts rows is Kind.Receipts = is
+  each_with Kind.Runs rows is Kind.Runs = is
+  each_with Kind.Parts rows is Kind.Parts = is
+  each_with _ rows is other = each other
 
+module _ (books : Books) (keyed : AreKeyed books) where
   -- a record is put under its key
   pub keyed_put : (kind : Kind) (key : key_of kind) (it : record_of kind) → key_in kind it ≡ key
       → AreKeyed (with_records kind (insert (records_of kind books) key it) books)
   keyed_put kind key it is =
-      keyed_with kind (insert (records_of kind books) key it)
+      each_with books (λ other. StandUnder (key_in other)) keyed kind (insert (records_of kind books) key it)
       (insert_keyed (total_of kind) (ties_of kind) (key_in kind) (records_of kind books) key it is (keyed kind))
 
   pub keyed_next : (month : ℕ) → AreKeyed (record books { next = month })

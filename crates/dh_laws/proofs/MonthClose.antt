@@ -23,6 +23,7 @@ use Rattle.dh_model.proofs.KeyOrders.{nat_text_ties, nat_text_total, nat_ties, n
 use Rattle.dh_laws.specs.InOrder.{AreKeyed}
 use Rattle.dh_model.proofs.MapRows.{each_insert, got_after, of_row, there, there_after, values_old}
 use Rattle.dh_laws.proofs.KeyedRows.{keyed_put}
+use Rattle.dh_laws.proofs.KeepGrowth.{names_put}
 use Rattle.dh_laws.proofs.MapMerges.{own_row}
 use Rattle.dh_laws.proofs.MonthAlike.{closed_alike, have_trans}
 use Rattle.dh_laws.proofs.MonthKeep.{untouched}
@@ -88,18 +89,7 @@ module _ (size : ℕ) (b : Books) (row : Run) (pos : 1 ≤ size) (keyed : AreKey
       ]
 
   names_after : NamesWhatIsThere c
-  names_after = record {
-    staff = names.staff;
-    properties = λ it a. let q = names.properties it a in record { owner = q.owner; staff = q.staff; branch = q.branch };
-    registrations = λ it a. let q = names.registrations it a in record { client = q.client; branch = q.branch; staff = q.staff };
-    viewings = λ it a. let q = names.viewings it a in record { client = q.client; property = q.property };
-    inspections = λ it a. let q = names.inspections it a in record { property = q.property; staff = q.staff };
-    leases = λ it a. let q = names.leases it a in record { client = q.client; property = q.property; registered = q.registered };
-    charges = names.charges;
-    receipts = names.receipts;
-    part_runs = λ part a. still_there part.month (names.part_runs part a);
-    part_branches = names.part_branches;
-  }
+  names_after = names_put b Kind.Runs row.month done names (λ client property is. is) tt
 
   keys_put : (before after : List Run) → map (λ (run : Run). run.key) (before ++ done ∷ after) ≡ map (λ (run : Run). run.key) (before ++ row ∷ after)
   keys_put [] after = refl

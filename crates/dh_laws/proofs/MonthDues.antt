@@ -13,6 +13,7 @@ use Rattle.dh_types.proofs.SameValues.{numbers, texts}
 use Rattle.dh_model.specs.Books.{Books, text_cmp}
 use Rattle.dh_model.specs.Leases.{due, dues, dues_among, dues_of}
 use Rattle.dh_model.specs.Runs.{dues_of_branch, is_property_of, leases_of_branch}
+use Rattle.dh_model.specs.Kinds.{Kind}
 use Rattle.dh_model.specs.Rules.{IsThere, NamesWhatIsThere}
 use Rattle.dh_model.proofs.Among.{Among, in_filter, in_map, is_among}
 use Rattle.dh_model.proofs.DueLemmas.{falls_in, is_due}
@@ -102,7 +103,7 @@ module _ (books : Books) (number : List ℕ) (property : Property) where
   pub new_property : NamesWhatIsThere books → get books.properties number ≡ None → StandAsBefore books (insert books.properties number property)
   unfolding StandAsBefore
   new_property names fresh lease a branch =
-      let refers = names.leases lease (is_among (values books.leases) lease a) in
+      let refers = names Kind.Leases lease (is_among (values books.leases) lease a) in
       ap (is_property_of branch) (get_other text_total text_ties books.properties number property lease.terms.property (λ same.
       let is = (there text_total text_ties books.properties lease.terms.property).0 refers.property in
       let none : get books.properties lease.terms.property ≡ None = rw same fresh in
@@ -127,10 +128,10 @@ owing_is_there books month branch names owing =
     let some = some_of (dues_of_branch books month branch) owing in
     let d = is_due (leases_of_branch books branch) month some.0 some.1 in
     let kept = in_filter (λ lease. is_property_of branch (get books.properties lease.terms.property)) (values books.leases) d.lease d.of in
-    let refers = names.leases d.lease (is_among (values books.leases) d.lease kept.0) in
+    let refers = names Kind.Leases d.lease (is_among (values books.leases) d.lease kept.0) in
     let is = (there text_total text_ties books.properties d.lease.terms.property).0 refers.property in
     let of : is_property_of branch (Some is.0) ≡ true = ap (is_property_of branch) (sym is.1) ∙ kept.1 in
     let its = (texts is.0.branch branch).0 of in
     subst (λ b. IsThere books.branches b) its
-    ((names.properties is.0
+    ((names Kind.Properties is.0
     (is_among (values books.properties) is.0 (of_row text_total text_ties books.properties d.lease.terms.property is.0 is.1))).branch)

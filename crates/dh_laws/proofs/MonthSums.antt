@@ -14,6 +14,7 @@ use Rattle.dh_model.specs.Books.{Books, text_cmp}
 use Rattle.dh_model.specs.Leases.{due, dues, dues_among, dues_of}
 use Rattle.dh_model.specs.Runs.{batches, dues_of_branch, is_property_of, leases_of_branch, posted_charges, posted_of_branch, total_of}
 use Rattle.dh_model.specs.BatchLaws.{AreNumbered}
+use Rattle.dh_model.specs.Kinds.{Kind}
 use Rattle.dh_model.specs.Rules.{HaveTheSame, IsThere, NamesWhatIsThere}
 use Rattle.dh_model.proofs.Among.{Among, among, in_filter, in_flat_map, is_among, of_filter, of_flat_map, of_map, of_range}
 use Rattle.dh_model.proofs.BatchLemmas.{last_batch_posts_all}
@@ -107,10 +108,10 @@ module _ (books : Books) (names : NamesWhatIsThere books) where
 
   pub branch_of : (lease : Lease) → Among (values books.leases) lease → IsAt lease
   branch_of lease a =
-      let refers = names.leases lease (is_among (values books.leases) lease a) in
+      let refers = names Kind.Leases lease (is_among (values books.leases) lease a) in
       let found = (there text_total text_ties books.properties lease.terms.property).0 refers.property in
       let property = found.0 in
-      let its = (names.properties property
+      let its = (names Kind.Properties property
       (is_among (values books.properties) property (of_row text_total text_ties books.properties lease.terms.property property found.1))).branch in
       record {
         branch = property.branch;

@@ -60,28 +60,26 @@ module _ (size : ℕ) (books : Books) (keyed : AreKeyed books) (rules : MeetsRul
       run_there = (there nat_total nat_ties books.runs month).1 (row, is)
 
       names_what_is_there : NamesWhatIsThere (with_posted size books month n)
-      names_what_is_there = let r = rules Rule.References in record {
-        staff = r.staff;
-        properties = λ it a. let q = r.properties it a in record { owner = q.owner; staff = q.staff; branch = q.branch };
-        registrations = λ it a. let q = r.registrations it a in record { client = q.client; branch = q.branch; staff = q.staff };
-        viewings = λ it a. let q = r.viewings it a in record { client = q.client; property = q.property };
-        inspections = λ it a. let q = r.inspections it a in record { property = q.property; staff = q.staff };
-        leases = λ it a. let q = r.leases it a in record { client = q.client; property = q.property; registered = q.registered };
-        charges = λ charge a. elim (charge_of charge a) [
-          | inl new ↦ lease_there charge (owed_posted size books month n charge new).0
-          | inr old ↦ r.charges charge (is_among (values books.charges) charge old.0)
-        ];
-        receipts = r.receipts;
-        part_runs = λ part a. elim (part_row_of part a) [
-          | inl new ↦ subst (IsThere books.runs) (sym (month_of_begun size books month n part new)) run_there
-          | inr old ↦ r.part_runs part (is_among (values books.parts) part old.0)
-        ];
-        part_branches = λ part a. elim (part_row_of part a) [
-          | inl new ↦ let b = is_begun size books month n part new in
-              subst (IsThere books.branches) (sym (ap (λ (p : Part). p.branch) b.is)) (branch_there b.branch b.of)
-          | inr old ↦ r.part_branches part (is_among (values books.parts) part old.0)
-        ];
-      }
+      names_what_is_there Kind.Charges = λ charge a. elim (charge_of charge a) [
+        | inl new ↦ lease_there charge (owed_posted size books month n charge new).0
+        | inr old ↦ rules Rule.References Kind.Charges charge (is_among (values books.charges) charge old.0)
+      ]
+      names_what_is_there Kind.Parts = λ part a. elim (part_row_of part a) [
+        | inl new ↦ let b = is_begun size books month n part new in record {
+          run = subst (IsThere books.runs) (sym (month_of_begun size books month n part new)) run_there;
+          branch = subst (IsThere books.branches) (sym (ap (λ (p : Part). p.branch) b.is)) (branch_there b.branch b.of);
+        }
+        | inr old ↦ let q = rules Rule.References Kind.Parts part (is_among (values books.parts) part old.0) in record { run = q.run; branch = q.branch }
+      ]
+      names_what_is_there Kind.Properties = λ it a. let q = rules Rule.References Kind.Properties it a in
+          record { owner = q.owner; staff = q.staff; branch = q.branch }
+      names_what_is_there Kind.Registrations = λ it a. let q = rules Rule.References Kind.Registrations it a in
+          record { client = q.client; branch = q.branch; staff = q.staff }
+      names_what_is_there Kind.Viewings = λ it a. let q = rules Rule.References Kind.Viewings it a in record { client = q.client; property = q.property }
+      names_what_is_there Kind.Inspections = λ it a. let q = rules Rule.References Kind.Inspections it a in record { property = q.property; staff = q.staff }
+      names_what_is_there Kind.Leases = λ it a. let q = rules Rule.References Kind.Leases it a in
+          record { client = q.client; property = q.property; registered = q.registered }
+      names_what_is_there kind = rules Rule.References kind
 
       -- the batches are all that is there of the month
       pub are_posted : n ≤ batches size books month → ArePosted (with_posted size books month n) size month n

@@ -237,7 +237,7 @@ module _ (b : Books) (keyed : AreKeyed b) (settled : AreSettled b) where
             (λ k other apart e. settled.terms other (is_among (values b.leases) other (of_row nat_total nat_ties b.leases k other e)));
         deposits = record {
           amounts = λ receipt a kind.
-              let its = (there nat_total nat_ties b.leases receipt.payment.lease).0 (names.receipts receipt a) in
+              let its = (there nat_total nat_ties b.leases receipt.payment.lease).0 (names Kind.Receipts receipt a) in
               let new = adds.new in
               let apart : receipt.payment.lease ≢ it.terms.number = λ same. let none : get b.leases receipt.payment.lease ≡ None =
               ap (get b.leases) same ∙ new in let some = its.1 in cc in

@@ -16,6 +16,7 @@ use Rattle.dh_types.specs.declared.run.Part.{Part}
 use Rattle.dh_types.specs.Records.{is_same_optional}
 use Rattle.dh_model.specs.declared.limits.TheConstants.{MANAGED_AT_MOST}
 use Rattle.dh_model.specs.Books.{Books}
+use Rattle.dh_model.specs.Kinds.{Kind, record_of, records_of}
 use Rattle.dh_model.specs.Leases.{dues, overlap}
 use Rattle.dh_model.specs.Runs.{batches, dues_of_branch, part_of, posted_charges, posted_parts, total_of}
 use Rattle.dh_model.specs.Checks.{is_registered, is_same_text, works_at}
@@ -87,18 +88,26 @@ module _ (books : Books) where
     -- the client is registered at the property's branch
     pub registered : is_registered books lease.terms.client (get books.properties lease.terms.property) ≡ true
 
+  pub record PartRefers (part : Part) : Type 0 where
+    pub run : IsThere books.runs part.month
+    pub branch : IsThere books.branches part.branch
+
+  -- what a row of the kind names is there; a row of the other kinds names nothing
+  abbrev pub Refers : (kind : Kind) → record_of kind → Type 0
+  Refers Kind.Staff member = IsThere books.branches member.branch
+  Refers Kind.Properties property = PropertyRefers property
+  Refers Kind.Registrations it = RegistrationRefers it
+  Refers Kind.Viewings it = ViewingRefers it
+  Refers Kind.Inspections it = InspectionRefers it
+  Refers Kind.Leases lease = LeaseRefers lease
+  Refers Kind.Charges charge = IsThere books.leases charge.lease
+  Refers Kind.Receipts receipt = IsThere books.leases receipt.payment.lease
+  Refers Kind.Parts part = PartRefers part
+  Refers _ row = Unit {0}
+
   -- 1: what a row names is there
-  pub record NamesWhatIsThere : Type 0 where
-    pub staff : Each books.staff (λ member. IsThere books.branches member.branch)
-    pub properties : Each books.properties PropertyRefers
-    pub registrations : Each books.registrations RegistrationRefers
-    pub viewings : Each books.viewings ViewingRefers
-    pub inspections : Each books.inspections InspectionRefers
-    pub leases : Each books.leases LeaseRefers
-    pub charges : Each books.charges (λ charge. IsThere books.leases charge.lease)
-    pub receipts : Each books.receipts (λ receipt. IsThere books.leases receipt.payment.lease)
-    pub part_runs : Each books.parts (λ part. IsThere books.runs part.month)
-    pub part_branches : Each books.parts (λ part. IsThere books.branches part.branch)
+  abbrev pub NamesWhatIsThere : Type 0
+  NamesWhatIsThere = (kind : Kind) → Each (records_of kind books) (Refers kind)
 
   -- 2: a manager belongs to the property's branch, and who registers a client to the registration's
   pub record StaffOfTheBranch : Type 0 where
