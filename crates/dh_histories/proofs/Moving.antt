@@ -38,8 +38,7 @@ use Rattle.dh_laws.specs.InOrder.{AreKeyed}
 use Rattle.dh_laws.specs.Keeping.{StepsKeepTheLaw, WholeIsLawful}
 use Rattle.dh_laws.specs.Repeating as repeated
 use Rattle.dh_laws.specs.Repeating.{is_of_nothing_new, with_no_run}
-use Rattle.dh_laws.proofs.VerdictCases.{assign_case, branch_case, client_case, comment_case, inspection_case, lease_case, owner_case, post_case, property_case}
-use Rattle.dh_laws.proofs.VerdictCases.{receipt_case, register_case, rent_case, run_case, staff_case, viewing_case}
+use Rattle.dh_laws.proofs.VerdictCases.{rows_are, rows_of}
 use Rattle.dh_laws.proofs.TellingWhole.{own_state}
 use Rattle.dh_schema.specs.Tables.{IsSound, books_in, state_in, tables_in}
 use Rattle.dh_histories.specs.Answered.{AnswersKeepTheRules, AnswersMoveBalances, ChargesAreDues, SentAgainIsToldTheSame, StandAlike, added, whole_in}
@@ -119,26 +118,12 @@ module _ (s : State) (lease : ℕ) where
   so_of : (told : Command) (rows given : Change) → rows ≡ given → MovesSo told (verdict.Change given) → MovesSo told (verdict.Change rows)
   so_of told rows given is so = subst (λ (r : Change). MovesSo told (verdict.Change r)) (sym is) so
 
+  own_so : (told : Command) → MovesSo told (verdict.Change (rows_of s.books told))
+  own_so (command.Branch it) = refl
+  own_so _ = refl
+
   accepted_so : (told : Command) (rows : Change) → AcceptsSo told rows
-  accepted_so (command.Branch it) rows e = so_of (command.Branch it) rows (change.Branch it) (branch_case s.books s.open_run rows it e).0 refl
-  accepted_so (command.Staff it) rows e = so_of (command.Staff it) rows (change.Staff it) (staff_case s.books s.open_run rows it e).0 refl
-  accepted_so (command.Owner it) rows e = so_of (command.Owner it) rows (change.Owner it) (owner_case s.books s.open_run rows it e).0 refl
-  accepted_so (command.Property it) rows e = so_of (command.Property it) rows (change.Property it) (property_case s.books s.open_run rows it e).0 refl
-  accepted_so (command.Assign it) rows e = so_of (command.Assign it) rows (change.Assign it) (assign_case s.books s.open_run rows it e).0 refl
-  accepted_so (command.Rent it) rows e = so_of (command.Rent it) rows (change.Rent it) (rent_case s.books s.open_run rows it e).0 refl
-  accepted_so (command.Client it) rows e = so_of (command.Client it) rows (change.Client it) (client_case s.books s.open_run rows it e).0 refl
-  accepted_so (command.Register it) rows e = so_of (command.Register it) rows (change.Register it) (register_case s.books s.open_run rows it e).0 refl
-  accepted_so (command.Viewing it) rows e = so_of (command.Viewing it) rows (change.Viewing it) (viewing_case s.books s.open_run rows it e).0 refl
-  accepted_so (command.Comment it) rows e = so_of (command.Comment it) rows (change.Comment it) (comment_case s.books s.open_run rows it e).0 refl
-  accepted_so (command.Inspection it) rows e =
-      so_of (command.Inspection it) rows (change.Inspection it) (inspection_case s.books s.open_run rows it e).0 refl
-  accepted_so (command.Lease it) rows e = let is = (lease_case s.books s.open_run rows it e).0 in so_of (command.Lease it) rows _ is refl
-  accepted_so (command.Receipt it) rows e = let is = (receipt_case s.books s.open_run rows it e).0 in so_of (command.Receipt it) rows _ is refl
-  accepted_so (command.Run it) rows e =
-      so_of (command.Run it) rows (change.Open (opened_run s.books it)) (run_case s.books s.open_run rows it e).0 refl
-  accepted_so (command.Open it) rows e =
-      so_of (command.Open it) rows (change.Open (opened_run s.books it)) (run_case s.books s.open_run rows it e).0 refl
-  accepted_so (command.Post it) rows e = so_of (command.Post it) rows change.Post (post_case s.books s.open_run rows it e).0 refl
+  accepted_so told rows e = so_of told rows (rows_of s.books told) (rows_are s.books s.open_run rows told e) (own_so told)
 
   kept_so : (told : Command) (kept : Reply) → verdict_on s.books s.open_run told ≡ verdict.Already kept → MovesSo told (verdict.Already kept)
   kept_so (command.Receipt order) kept e =

@@ -23,8 +23,7 @@ use Rattle.dh_model.specs.Verdicts.{opened_run, run_verdict, verdict_on}
 use Rattle.dh_model.specs.Whole.{whole}
 use Rattle.dh_laws.specs.InOrder.{IsEntered, IsInOrder, run_after}
 use Rattle.dh_laws.proofs.KeepOrder.{changes_keep_order}
-use Rattle.dh_laws.proofs.VerdictCases.{assign_case, branch_case, client_case, comment_case, inspection_case, lease_case, owner_case, property_case}
-use Rattle.dh_laws.proofs.VerdictCases.{receipt_case, register_case, rent_case, run_case, staff_case, viewing_case}
+use Rattle.dh_laws.proofs.VerdictCases.{rows_are, rows_of, run_case}
 use Rattle.dh_laws.specs.Events.{Cut, Happens, IsFurtherBy, IsMovedBy, IsMovedOn, IsOfMonth, Mended, RunIfDone, RunIfUndone, Said, Torn, state_of}
 use Rattle.dh_laws.specs.StateTables.{IsStateInOrder, as_tables}
 use Rattle.dh_laws.specs.Telling.{IsTold, begun, is_opening}
@@ -300,24 +299,15 @@ is_of_run (command.Open order) = true
 is_of_run (command.Post count) = true
 is_of_run _ = false
 
+plain_of : (books : Books) (told : Command) → is_of_run told ≡ false → is_plain (rows_of books told) ≡ true
+plain_of books (command.Run order) other = cc
+plain_of books (command.Open order) other = cc
+plain_of books (command.Post count) other = cc
+plain_of books _ other = refl
+
 pub plain_rows : (books : Books) (run : Option OpenRun) (told : Command) (rows : Change) → is_of_run told ≡ false
     → verdict_on books run told ≡ verdict.Change rows → is_plain rows ≡ true
-plain_rows books run (command.Branch it) rows other h = ap is_plain (branch_case books run rows it h).0
-plain_rows books run (command.Staff it) rows other h = ap is_plain (staff_case books run rows it h).0
-plain_rows books run (command.Owner it) rows other h = ap is_plain (owner_case books run rows it h).0
-plain_rows books run (command.Property it) rows other h = ap is_plain (property_case books run rows it h).0
-plain_rows books run (command.Assign it) rows other h = ap is_plain (assign_case books run rows it h).0
-plain_rows books run (command.Rent it) rows other h = ap is_plain (rent_case books run rows it h).0
-plain_rows books run (command.Client it) rows other h = ap is_plain (client_case books run rows it h).0
-plain_rows books run (command.Register it) rows other h = ap is_plain (register_case books run rows it h).0
-plain_rows books run (command.Viewing it) rows other h = ap is_plain (viewing_case books run rows it h).0
-plain_rows books run (command.Comment it) rows other h = ap is_plain (comment_case books run rows it h).0
-plain_rows books run (command.Inspection it) rows other h = ap is_plain (inspection_case books run rows it h).0
-plain_rows books run (command.Lease it) rows other h = ap is_plain (lease_case books run rows it h).0
-plain_rows books run (command.Receipt it) rows other h = ap is_plain (receipt_case books run rows it h).0
-plain_rows books run (command.Run it) rows other h = absurd (false≢true (sym other))
-plain_rows books run (command.Open it) rows other h = absurd (false≢true (sym other))
-plain_rows books run (command.Post it) rows other h = absurd (false≢true (sym other))
+plain_rows books run told rows other h = ap is_plain (rows_are books run rows told h) ∙ plain_of books told other
 
 pub other_than : (told : Command) → ((order : RunOrder) → told ≡ command.Run order → ⊥) → ((order : RunOrder) → told ≡ command.Open order → ⊥)
     → is_post told ≡ false → is_of_run told ≡ false

@@ -38,7 +38,7 @@ use Rattle.dh_model.specs.declared.rows.Change.TheVariants as change
 use Rattle.dh_model.specs.declared.rows.Verdict.{Verdict}
 use Rattle.dh_model.specs.declared.rows.Verdict.TheVariants as verdict
 use Rattle.dh_model.specs.Books.{Books}
-use Rattle.dh_model.specs.Kinds.{Kind}
+use Rattle.dh_model.specs.Kinds.{Kind, key_in, key_of, record_of, records_of}
 use Rattle.dh_model.specs.Leases.{overlap}
 use Rattle.dh_model.specs.Checks.{Check, first_that_day, free_of_others, has_room, in_time, is_registered, is_same_text, is_twice, least, managed_besides}
 use Rattle.dh_model.specs.Checks.{names, no_deposit_yet, of_branch, receipt_of_key, run_of_key, unless, where_given, works_at}
@@ -46,7 +46,8 @@ use Rattle.dh_model.specs.Verdicts.{assigned, commented, inspection_verdict, jud
 use Rattle.dh_model.specs.Verdicts.{receipt_verdict, register_verdict, rent_changed, run_verdict, signed, unless_open, unless_paid, unless_posted}
 use Rattle.dh_model.specs.Verdicts.{unless_receipt, unless_run, unless_there, verdict_among, verdict_on, viewing_verdict}
 use Rattle.dh_model.specs.Whole.{rows_where}
-use Rattle.dh_model.proofs.KeyOrders.{nat_ties, nat_total, text_nat_ties, text_nat_total, text_ties, text_total, texts_tie, texts_total}
+use Rattle.dh_model.proofs.KeyOrders.{nat_ties, nat_total, text_ties, text_total}
+use Rattle.dh_model.proofs.KindOrders.{ties_of, total_of}
 use Rattle.dh_laws.specs.InOrder.{AreKeyed}
 use Rattle.dh_laws.specs.Looks.{Counts, JudgedByItsFacts, is_before, is_beside, looked_at, manager_in, month_open, properties_beside}
 use Rattle.dh_laws.specs.Looks.{registration_for}
@@ -65,53 +66,46 @@ where_alike (Some m) f g h = h m refl
 module _ (books : Books) (keyed : AreKeyed books) where
   -- ---- a row by its key
 
+  -- among rows where it is kept, it is found as among all
+  there : (kind : Kind) (key : key_of kind) (kept : record_of kind → Bool) → ((it : record_of kind) → key_in kind it ≡ key → kept it ≡ true)
+      → get (rows_where kept (records_of kind books)) key ≡ get (records_of kind books) key
+  there kind key kept covers = get_where (total_of kind) (ties_of kind) kept (key_in kind) (records_of kind books) key (keyed kind) covers
+
   branch_there : (n : List ℕ) → get (rows_where (λ b. is_same_text b.number n) books.branches) n ≡ get books.branches n
-  branch_there n =
-      get_where text_total text_ties (λ (b : Branch). is_same_text b.number n) (λ b. b.number) books.branches n (keyed Kind.Branches)
-      (λ b e. same_text b.number n e)
+  branch_there n = there Kind.Branches n (λ b. is_same_text b.number n) (λ b e. same_text b.number n e)
 
   member_there : (n : List ℕ) → get (rows_where (λ s. is_same_text s.number n) books.staff) n ≡ get books.staff n
-  member_there n =
-      get_where text_total text_ties (λ (s : Staff). is_same_text s.number n) (λ s. s.number) books.staff n (keyed Kind.Staff) (λ s e. same_text s.number n e)
+  member_there n = there Kind.Staff n (λ s. is_same_text s.number n) (λ s e. same_text s.number n e)
 
   owner_there : (n : List ℕ) → get (rows_where (λ o. is_same_text o.number n) books.owners) n ≡ get books.owners n
-  owner_there n =
-      get_where text_total text_ties (λ (o : Owner). is_same_text o.number n) (λ o. o.number) books.owners n (keyed Kind.Owners) (λ o e. same_text o.number n e)
+  owner_there n = there Kind.Owners n (λ o. is_same_text o.number n) (λ o e. same_text o.number n e)
 
   client_there : (n : List ℕ) → get (rows_where (λ c. is_same_text c.number n) books.clients) n ≡ get books.clients n
-  client_there n =
-      get_where text_total text_ties (λ (c : Client). is_same_text c.number n) (λ c. c.number) books.clients n (keyed Kind.Clients) (λ c e. same_text c.number n e)
+  client_there n = there Kind.Clients n (λ c. is_same_text c.number n) (λ c e. same_text c.number n e)
 
   property_there : (n : List ℕ) → get (rows_where (λ p. is_same_text p.number n) books.properties) n ≡ get books.properties n
-  property_there n =
-      get_where text_total text_ties (λ (p : Property). is_same_text p.number n) (λ p. p.number) books.properties n (keyed Kind.Properties)
-      (λ p e. same_text p.number n e)
+  property_there n = there Kind.Properties n (λ p. is_same_text p.number n) (λ p e. same_text p.number n e)
 
   viewing_there : (c p : List ℕ)
       → get (rows_where (λ v. is_same_text v.client c && is_same_text v.property p) books.viewings) (c, p) ≡ get books.viewings (c, p)
   viewing_there c p =
-      get_where texts_total texts_tie (λ (v : Viewing). is_same_text v.client c && is_same_text v.property p) (λ v. (v.client, v.property)) books.viewings
-      (c, p) (keyed Kind.Viewings)
+      there Kind.Viewings (c, p) (λ v. is_same_text v.client c && is_same_text v.property p)
       (λ v e. and_true _ _ (same_text v.client c (ap (λ k. k.0) e)) (same_text v.property p (ap (λ k. k.1) e)))
 
   registration_there : (c b : List ℕ)
       → get (rows_where (λ r. is_same_text r.client c && is_same_text r.branch b) books.registrations) (c, b) ≡ get books.registrations (c, b)
   registration_there c b =
-      get_where texts_total texts_tie (λ (r : Registration). is_same_text r.client c && is_same_text r.branch b) (λ r. (r.client, r.branch))
-      books.registrations (c, b) (keyed Kind.Registrations)
+      there Kind.Registrations (c, b) (λ r. is_same_text r.client c && is_same_text r.branch b)
       (λ r e. and_true _ _ (same_text r.client c (ap (λ k. k.0) e)) (same_text r.branch b (ap (λ k. k.1) e)))
 
   inspection_there : (p : List ℕ) (d : ℕ)
       → get (rows_where (λ v. is_same_text v.property p && nat_eq v.day d) books.inspections) (p, d) ≡ get books.inspections (p, d)
   inspection_there p d =
-      get_where text_nat_total text_nat_ties (λ (v : Inspection). is_same_text v.property p && nat_eq v.day d) (λ v. (v.property, v.day))
-      books.inspections (p, d) (keyed Kind.Inspections)
+      there Kind.Inspections (p, d) (λ v. is_same_text v.property p && nat_eq v.day d)
       (λ v e. and_true _ _ (same_text v.property p (ap (λ k. k.0) e)) ((numbers v.day d).1 (ap (λ k. k.1) e)))
 
   lease_there : (n : ℕ) → get (rows_where (λ l. nat_eq l.terms.number n) books.leases) n ≡ get books.leases n
-  lease_there n =
-      get_where nat_total nat_ties (λ (l : Lease). nat_eq l.terms.number n) (λ l. l.terms.number) books.leases n (keyed Kind.Leases)
-      (λ l e. (numbers l.terms.number n).1 e)
+  lease_there n = there Kind.Leases n (λ l. nat_eq l.terms.number n) (λ l e. (numbers l.terms.number n).1 e)
 
   -- ---- a manager, where one is given
 
@@ -125,7 +119,7 @@ module _ (books : Books) (keyed : AreKeyed books) where
     this_there : (staff : Option (List ℕ)) → get (properties_beside books.properties n staff) n ≡ get books.properties n
     this_there None = property_there n
     this_there (Some m) =
-        get_where text_total text_ties (near m) (λ p. p.number) books.properties n (keyed Kind.Properties) (λ p e. or_left _ _ (same_text p.number n e))
+        there Kind.Properties n (near m) (λ p e. or_left _ _ (same_text p.number n e))
 
     others_counted : (staff : Option (List ℕ)) (m k : List ℕ) → staff ≡ Some m
         → count_by (λ (other : Property). is_same_optional is_same_text other.staff (Some m) && not (is_same_text other.number k))
@@ -263,7 +257,7 @@ module _ (books : Books) (keyed : AreKeyed books) where
 
     numbered_there : get (rows_where (is_beside terms) books.leases) terms.number ≡ get books.leases terms.number
     numbered_there =
-        get_where nat_total nat_ties (is_beside terms) (λ l. l.terms.number) books.leases terms.number (keyed Kind.Leases)
+        there Kind.Leases terms.number (is_beside terms)
         (λ l e. or_left _ _ (or_left _ (is_same_text l.terms.property terms.property) ((numbers l.terms.number terms.number).1 e)))
 
     registered_with : (found : Option Property)
@@ -350,16 +344,7 @@ month_alike books count run other (command.Receipt it) e = frozen_alike run othe
 month_alike books count run other (command.Run it) e = frozen_alike run other _ e
 month_alike books count run other (command.Open it) e = frozen_alike run other _ e
 month_alike books count run other (command.Post it) e = posted_alike run other e
-month_alike books count run other (command.Staff it) e = refl
-month_alike books count run other (command.Owner it) e = refl
-month_alike books count run other (command.Property it) e = refl
-month_alike books count run other (command.Assign it) e = refl
-month_alike books count run other (command.Rent it) e = refl
-month_alike books count run other (command.Client it) e = refl
-month_alike books count run other (command.Register it) e = refl
-month_alike books count run other (command.Viewing it) e = refl
-month_alike books count run other (command.Comment it) e = refl
-month_alike books count run other (command.Inspection it) e = refl
+month_alike books count run other _ e = refl
 
 pub judged_by_its_facts : JudgedByItsFacts
 judged_by_its_facts books run told facts keyed cut =

@@ -39,37 +39,18 @@ module _ (size : ℕ) (books : Books) (run : Option OpenRun) (keyed : AreKeyed b
 
   pub changes_keep_months : (rows : Change) → Accepted books run rows → RunInMonths size (changed rows books) (run_after run rows)
   changes_keep_months (change.Branch it) a = where_closed (changed (change.Branch it) books) a.closed (branch_keeps size books it.number it names)
-  changes_keep_months (change.Staff it) a =
-      let c = changed (change.Staff it) books in
-      free_keeps size books c refl run refl refl refl refl (λ month. untouched books c month refl refl refl refl refl) in_order
-  changes_keep_months (change.Owner it) a =
-      let c = changed (change.Owner it) books in
-      free_keeps size books c refl run refl refl refl refl (λ month. untouched books c month refl refl refl refl refl) in_order
   changes_keep_months (change.Property it) a =
       properties_keep size books run (insert books.properties it.number it) (new_property books it.number it names a.new) in_order
   changes_keep_months (change.Assign it) a = assigned_keeps it a.row a.is
   changes_keep_months (change.Rent it) a = rent_keeps it a.0 a.1
-  changes_keep_months (change.Client it) a =
-      let c = changed (change.Client it) books in
-      free_keeps size books c refl run refl refl refl refl (λ month. untouched books c month refl refl refl refl refl) in_order
-  changes_keep_months (change.Register it) a =
-      let c = changed (change.Register it) books in
-      free_keeps size books c refl run refl refl refl refl (λ month. untouched books c month refl refl refl refl refl) in_order
-  changes_keep_months (change.Viewing it) a =
-      let c = changed (change.Viewing it) books in
-      free_keeps size books c refl run refl refl refl refl (λ month. untouched books c month refl refl refl refl refl) in_order
   changes_keep_months (change.Comment it) a =
       let c : Books = record books { viewings = insert books.viewings (it.client, it.property) (record a.0 { comment = Some it.comment }) } in
       subst (λ found. RunInMonths size (with_comment books it found) run) (sym a.1)
       (free_keeps size books c refl run refl refl refl refl (λ month. untouched books c month refl refl refl refl refl) in_order)
-  changes_keep_months (change.Inspection it) a =
-      let c = changed (change.Inspection it) books in
-      free_keeps size books c refl run refl refl refl refl (λ month. untouched books c month refl refl refl refl refl) in_order
   changes_keep_months (change.Lease it) a =
       where_closed (changed (change.Lease it) books) a.closed (lease_keeps size books it.terms.number it (keyed Kind.Runs) a.new a.in_time)
-  changes_keep_months (change.Receipt it) a =
-      let c = changed (change.Receipt it) books in
-      free_keeps size books c refl run refl refl refl refl (λ month. untouched books c month refl refl refl refl refl) in_order
   changes_keep_months (change.Open it) a =
       open_keeps size books it (keyed Kind.Runs) (subst (RunInMonths size books) a.closed in_order) a.month a.is_open a.count a.total
-  changes_keep_months change.Post a = in_order
+  changes_keep_months other a =
+      let c = changed other books in
+      free_keeps size books c refl run refl refl refl refl (λ month. untouched books c month refl refl refl refl refl) in_order

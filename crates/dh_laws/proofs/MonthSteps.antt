@@ -1,6 +1,6 @@
 -- Over whole books each step of the machine leaves them lawful.
 use Rattle.std.proofs.Common.{◌≡◌, ◌∙◌, refl, sym, ap, subst, ℕ, ◌+◌, ◌≤◌, Bool, true, false, nat_le, if◌then◌else◌, Option, Some, None}
-use Rattle.std.specs.FinMap.{get, len, values}
+use Rattle.std.specs.FinMap.{get, values}
 use Rattle.dh_types.specs.declared.command.Command.{Command}
 use Rattle.dh_types.specs.declared.command.Command.TheVariants as command
 use Rattle.dh_types.specs.declared.command.RunOrder.{RunOrder}
@@ -13,8 +13,9 @@ use Rattle.dh_model.specs.declared.rows.Verdict.{Verdict}
 use Rattle.dh_model.specs.declared.rows.Verdict.TheVariants as verdict
 use Rattle.dh_model.specs.Books.{Books, State}
 use Rattle.dh_model.specs.Rules.{IsLawful}
+use Rattle.dh_model.specs.MachineLaws.{is_post}
 use Rattle.dh_model.specs.Runs.{batches, ran}
-use Rattle.dh_model.specs.Verdicts.{opened_run, signed, verdict_on}
+use Rattle.dh_model.specs.Verdicts.{opened_run, verdict_on}
 use Rattle.dh_model.specs.Machine.{carried_out, changed, posted_sum, resumed, settled}
 use Rattle.dh_model.specs.Whole.{IsOpenAt, open_row}
 use Rattle.dh_model.proofs.Among.{is_among}
@@ -23,8 +24,7 @@ use Rattle.dh_laws.specs.Keeping.{ChangesKeepOrder, StepsKeepTheLaw, WholeIsLawf
 use Rattle.dh_laws.specs.Posting.{RunIsOpeningMadeWhole}
 use Rattle.dh_laws.proofs.MonthShown.{none_open}
 use Rattle.dh_laws.proofs.MonthWhole.{lawful_closed}
-use Rattle.dh_laws.proofs.VerdictCases.{assign_case, branch_case, client_case, comment_case, inspection_case, lease_case, owner_case, post_case, property_case}
-use Rattle.dh_laws.proofs.VerdictCases.{receipt_case, register_case, rent_case, run_case, staff_case, viewing_case}
+use Rattle.dh_laws.proofs.VerdictCases.{post_case, rows_are, rows_of, run_case}
 
 either_books : (b : Bool) (x y : State × Reply) (books : Books) → x.0.books ≡ books → y.0.books ≡ books → (if b then x else y).0.books ≡ books
 either_books true x y books p q = p
@@ -59,10 +59,12 @@ module _ (size : ℕ) (changes : ChangesKeepOrder size) (wholes : WholeIsLawful 
       subst (λ run. IsOpenAt size (changed rows s.books) run) (ap (run_after None) same ∙ none) after.shown in
       (after.keyed, lawful_closed size (changed rows s.books) pos after.keyed after.rules shown)
 
-  -- what is accepted only where no run is open
-  where_closed : (told : Command) (rows : Change) → s.open_run ≡ None → verdict_on s.books s.open_run told ≡ verdict.Change rows
+  -- what is accepted, other than batches, is so where no run is open
+  with_no_run : (run : Option OpenRun) (told : Command) (rows : Change) → is_post told ≡ false → verdict_on s.books run told ≡ verdict.Change rows
       → verdict_on s.books None told ≡ verdict.Change rows
-  where_closed told rows none h = subst (λ run. verdict_on s.books run told ≡ verdict.Change rows) none h
+  with_no_run None told rows other h = h
+  with_no_run (Some at) (command.Post count) rows other h = cc
+  with_no_run (Some at) _ rows other h = cc
 
   ran_kept : (order : RunOrder) → verdict_on s.books None (command.Open order) ≡ verdict.Change (change.Open (opened_run s.books order))
       → Law (ran size s.books order.key)
@@ -78,31 +80,10 @@ module _ (size : ℕ) (changes : ChangesKeepOrder size) (wholes : WholeIsLawful 
   opening order rows h =
       let case = run_case s.books s.open_run rows order h in
       let given = subst (λ r. verdict_on s.books s.open_run (command.Open order) ≡ verdict.Change r) case.0 h in
-      (case.0, ran_kept order (where_closed (command.Open order) (change.Open (opened_run s.books order)) case.1.closed given))
+      (case.0, ran_kept order (with_no_run s.open_run (command.Open order) (change.Open (opened_run s.books order)) refl given))
 
   carried : (told : Command) (rows : Change) → IsEntered told → verdict_on s.books s.open_run told ≡ verdict.Change rows
       → Law (carried_out size s told rows).0.books
-  carried (command.Branch it) rows e h =
-      let case = branch_case s.books s.open_run rows it h in
-      kept (command.Branch it) rows (change.Branch it) e (where_closed (command.Branch it) rows case.1.closed h) case.0 refl
-  carried (command.Staff it) rows e h = kept (command.Staff it) rows (change.Staff it) e h (staff_case s.books s.open_run rows it h).0 refl
-  carried (command.Owner it) rows e h = kept (command.Owner it) rows (change.Owner it) e h (owner_case s.books s.open_run rows it h).0 refl
-  carried (command.Property it) rows e h = kept (command.Property it) rows (change.Property it) e h (property_case s.books s.open_run rows it h).0 refl
-  carried (command.Assign it) rows e h = kept (command.Assign it) rows (change.Assign it) e h (assign_case s.books s.open_run rows it h).0 refl
-  carried (command.Rent it) rows e h = kept (command.Rent it) rows (change.Rent it) e h (rent_case s.books s.open_run rows it h).0 refl
-  carried (command.Client it) rows e h = kept (command.Client it) rows (change.Client it) e h (client_case s.books s.open_run rows it h).0 refl
-  carried (command.Register it) rows e h = kept (command.Register it) rows (change.Register it) e h (register_case s.books s.open_run rows it h).0 refl
-  carried (command.Viewing it) rows e h = kept (command.Viewing it) rows (change.Viewing it) e h (viewing_case s.books s.open_run rows it h).0 refl
-  carried (command.Comment it) rows e h = kept (command.Comment it) rows (change.Comment it) e h (comment_case s.books s.open_run rows it h).0 refl
-  carried (command.Inspection it) rows e h = kept (command.Inspection it) rows (change.Inspection it) e h (inspection_case s.books s.open_run rows it h).0 refl
-  carried (command.Lease terms) rows e h =
-      let case = lease_case s.books s.open_run rows terms h in
-      kept (command.Lease terms) rows (change.Lease (signed s.books terms (get s.books.properties terms.property))) e
-      (where_closed (command.Lease terms) rows case.1.closed h) case.0 refl
-  carried (command.Receipt order) rows e h =
-      let case = receipt_case s.books s.open_run rows order h in
-      kept (command.Receipt order) rows (change.Receipt (record { number = len s.books.receipts + 1; key = order.key; payment = order.payment })) e
-      (where_closed (command.Receipt order) rows case.1.closed h) case.0 refl
   carried (command.Run order) rows e h = let case = opening order rows h in
       subst (λ r. Law (carried_out size s (command.Run order) r).0.books) (sym case.0) case.1
   carried (command.Open order) rows e h = let case = opening order rows h in
@@ -110,6 +91,7 @@ module _ (size : ℕ) (changes : ChangesKeepOrder size) (wholes : WholeIsLawful 
   carried (command.Post count) rows e h =
       subst (λ r. Law (carried_out size s (command.Post count) r).0.books) (sym (post_case s.books s.open_run rows count h).0)
       (subst Law (sym (resumed_books size s.books count s.open_run)) (keyed, lawful))
+  carried told rows e h = kept told rows (rows_of s.books told) e (with_no_run s.open_run told rows refl h) (rows_are s.books s.open_run rows told h) refl
 
   settled_kept : (told : Command) (v : Verdict) → IsEntered told → verdict_on s.books s.open_run told ≡ v → Law (settled size s told v).0.books
   settled_kept told (verdict.Change rows) e h = carried told rows e h

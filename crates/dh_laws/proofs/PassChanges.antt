@@ -129,20 +129,13 @@ module _ (size : ℕ) (b : Books) where
 
     changes_pass : (rows : Change) → Accepted b (Some run) rows → Pass rows
     changes_pass (change.Branch it) a = never a.closed
-    changes_pass (change.Staff it) a = on_whole (changed (change.Staff it)) (λ row. refl) (open_row b)
-    changes_pass (change.Owner it) a = on_whole (changed (change.Owner it)) (λ row. refl) (open_row b)
     changes_pass (change.Property it) a = added_passes it names a.new
     changes_pass (change.Assign it) a = assigned_passes it a.row a.is
     changes_pass (change.Rent it) a = rent_passes it a.0 a.1
-    changes_pass (change.Client it) a = on_whole (changed (change.Client it)) (λ row. refl) (open_row b)
-    changes_pass (change.Register it) a = on_whole (changed (change.Register it)) (λ row. refl) (open_row b)
-    changes_pass (change.Viewing it) a = on_whole (changed (change.Viewing it)) (λ row. refl) (open_row b)
     changes_pass (change.Comment it) a = comment_passes it a.0 a.1
-    changes_pass (change.Inspection it) a = on_whole (changed (change.Inspection it)) (λ row. refl) (open_row b)
     changes_pass (change.Lease it) a = never a.closed
-    changes_pass (change.Receipt it) a = never a.closed
     changes_pass (change.Open it) a = never a.closed
-    changes_pass change.Post a = refl
+    changes_pass other a = on_whole (changed other) (λ row. refl) (open_row b)
 
 pub free_changes_pass_the_run : (size : ℕ) → FreeChangesPassTheRun size
 free_changes_pass_the_run size books run told rows pos in_order free is =

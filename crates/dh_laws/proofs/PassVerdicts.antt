@@ -1,5 +1,5 @@
 -- What is free has the verdict that it has once the open run is done.
-use Rattle.std.proofs.Common.{◌≡◌, ℕ, refl, true, Option, Some, None}
+use Rattle.std.proofs.Common.{◌≡◌, ℕ, true, Option, Some, None}
 use Rattle.std.specs.Ordering.{nat_cmp}
 use Rattle.std.specs.FinMap.{FinMap}
 use Rattle.dh_types.specs.declared.command.Command.{Command}
@@ -21,21 +21,7 @@ module _ (books : Books) (run : OpenRun) where
     -- charges, parts and runs have no say in what is free
     judged_by_the_rest : (told : Command) → is_free told ≡ true → verdict_on books (Some run) told ≡ verdict_on others None told
     judged_by_the_rest (command.Branch it) free = cc
-    judged_by_the_rest (command.Staff it) free = refl
-    judged_by_the_rest (command.Owner it) free = refl
-    judged_by_the_rest (command.Property it) free = refl
-    judged_by_the_rest (command.Assign it) free = refl
-    judged_by_the_rest (command.Rent it) free = refl
-    judged_by_the_rest (command.Client it) free = refl
-    judged_by_the_rest (command.Register it) free = refl
-    judged_by_the_rest (command.Viewing it) free = refl
-    judged_by_the_rest (command.Comment it) free = refl
-    judged_by_the_rest (command.Inspection it) free = refl
-    judged_by_the_rest (command.Lease terms) free = cc
-    judged_by_the_rest (command.Receipt order) free = cc
-    judged_by_the_rest (command.Run order) free = cc
-    judged_by_the_rest (command.Open order) free = cc
-    judged_by_the_rest (command.Post count) free = cc
+    judged_by_the_rest other free = cc
 
   -- and a run adds nothing else
   judged_alike : (size : ℕ) (told : Command) (found : Option Run) → is_free told ≡ true

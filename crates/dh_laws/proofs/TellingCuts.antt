@@ -74,21 +74,7 @@ module _ (size : ℕ) where
 -- no other command than a run stands anywhere
 pub other_stands : (before after : State) (told : Command) (count : ℕ) → is_run told ≡ false → Stands before (Some count) told after
 other_stands before after (command.Run order) count h = absurd (false≢true (sym h))
-other_stands before after (command.Branch it) count h = tt
-other_stands before after (command.Staff it) count h = tt
-other_stands before after (command.Owner it) count h = tt
-other_stands before after (command.Property it) count h = tt
-other_stands before after (command.Assign it) count h = tt
-other_stands before after (command.Rent it) count h = tt
-other_stands before after (command.Client it) count h = tt
-other_stands before after (command.Register it) count h = tt
-other_stands before after (command.Viewing it) count h = tt
-other_stands before after (command.Comment it) count h = tt
-other_stands before after (command.Inspection it) count h = tt
-other_stands before after (command.Lease it) count h = tt
-other_stands before after (command.Receipt it) count h = tt
-other_stands before after (command.Open it) count h = tt
-other_stands before after (command.Post it) count h = tt
+other_stands before after _ count h = tt
 
 -- a run stands as the verdict on it says
 pub judged_stands : (before after : State) (order : RunOrder) (count : ℕ) → before.open_run ≡ None → StandsAt order count (run_verdict before.books order) after

@@ -17,8 +17,7 @@ use Rattle.dh_laws.specs.Passing.{is_free}
 use Rattle.dh_laws.proofs.KeepOrder.{changes_keep_order}
 use Rattle.dh_laws.proofs.PassChanges.{free_changes_pass_the_run}
 use Rattle.dh_laws.proofs.PassVerdicts.{free_are_judged_alike}
-use Rattle.dh_laws.proofs.VerdictCases.{assign_case, client_case, comment_case, inspection_case, owner_case, property_case, register_case, rent_case}
-use Rattle.dh_laws.proofs.VerdictCases.{staff_case, viewing_case}
+use Rattle.dh_laws.proofs.VerdictCases.{rows_are, rows_of}
 use Rattle.dh_laws.specs.Events.{state_of}
 use Rattle.dh_laws.specs.StateTables.{as_tables}
 use Rattle.dh_laws.specs.Telling.{IsTold}
@@ -26,17 +25,10 @@ use Rattle.dh_laws.specs.Telling.{IsTold}
 module _ (size : ℕ) where
   carried_free : (s : State) (told : Command) (rows : Change) → is_free told ≡ true
       → carried_out size s told rows ≡ (record s { books = changed rows s.books }, accepted rows)
-  carried_free s (command.Staff it) rows free = refl
-  carried_free s (command.Owner it) rows free = refl
-  carried_free s (command.Property it) rows free = refl
-  carried_free s (command.Assign it) rows free = refl
-  carried_free s (command.Rent it) rows free = refl
-  carried_free s (command.Client it) rows free = refl
-  carried_free s (command.Register it) rows free = refl
-  carried_free s (command.Viewing it) rows free = refl
-  carried_free s (command.Comment it) rows free = refl
-  carried_free s (command.Inspection it) rows free = refl
-  carried_free s _ rows free = cc
+  carried_free s (command.Post count) rows free = cc
+  carried_free s (command.Run order) rows free = cc
+  carried_free s (command.Open order) rows free = cc
+  carried_free s _ rows free = refl
 
 module _ (size : ℕ) (books : Books) (run : OpenRun) (pos : 1 ≤ size) (in_order : IsInOrder size books (Some run)) where
   abbrev at : State
@@ -48,51 +40,27 @@ module _ (size : ℕ) (books : Books) (run : OpenRun) (pos : 1 ≤ size) (in_ord
   -- each command is judged as over the whole books
   pub judged_whole : (told : Command) → verdict_on (whole size books) (Some run) told ≡ verdict_on books (Some run) told
   judged_whole (command.Branch it) = refl
-  judged_whole (command.Staff it) = sym (alike (command.Staff it) refl)
-  judged_whole (command.Owner it) = sym (alike (command.Owner it) refl)
-  judged_whole (command.Property it) = sym (alike (command.Property it) refl)
-  judged_whole (command.Assign it) = sym (alike (command.Assign it) refl)
-  judged_whole (command.Rent it) = sym (alike (command.Rent it) refl)
-  judged_whole (command.Client it) = sym (alike (command.Client it) refl)
-  judged_whole (command.Register it) = sym (alike (command.Register it) refl)
-  judged_whole (command.Viewing it) = sym (alike (command.Viewing it) refl)
-  judged_whole (command.Comment it) = sym (alike (command.Comment it) refl)
-  judged_whole (command.Inspection it) = sym (alike (command.Inspection it) refl)
   judged_whole (command.Lease it) = refl
   judged_whole (command.Receipt it) = refl
   judged_whole (command.Run it) = refl
   judged_whole (command.Open it) = refl
   judged_whole (command.Post count) = refl
+  judged_whole told = sym (alike told refl)
 
   module _ (rows : Change) where
     -- what is frozen is not accepted
     accepted_free : (told : Command) → is_post told ≡ false → verdict_on books (Some run) told ≡ verdict.Change rows → is_free told ≡ true
-    accepted_free (command.Staff it) other h = refl
-    accepted_free (command.Owner it) other h = refl
-    accepted_free (command.Property it) other h = refl
-    accepted_free (command.Assign it) other h = refl
-    accepted_free (command.Rent it) other h = refl
-    accepted_free (command.Client it) other h = refl
-    accepted_free (command.Register it) other h = refl
-    accepted_free (command.Viewing it) other h = refl
-    accepted_free (command.Comment it) other h = refl
-    accepted_free (command.Inspection it) other h = refl
     accepted_free (command.Post count) other h = cc
     accepted_free _ other h = cc
 
     -- and opens no run
+    opens_none : (told : Command) → is_free told ≡ true → run_after (Some run) (rows_of books told) ≡ Some run
+    opens_none (command.Run order) free = cc
+    opens_none (command.Open order) free = cc
+    opens_none _ free = refl
+
     run_stays : (told : Command) → is_free told ≡ true → verdict_on books (Some run) told ≡ verdict.Change rows → run_after (Some run) rows ≡ Some run
-    run_stays (command.Staff it) free h = ap (run_after (Some run)) (staff_case books (Some run) rows it h).0
-    run_stays (command.Owner it) free h = ap (run_after (Some run)) (owner_case books (Some run) rows it h).0
-    run_stays (command.Property it) free h = ap (run_after (Some run)) (property_case books (Some run) rows it h).0
-    run_stays (command.Assign it) free h = ap (run_after (Some run)) (assign_case books (Some run) rows it h).0
-    run_stays (command.Rent it) free h = ap (run_after (Some run)) (rent_case books (Some run) rows it h).0
-    run_stays (command.Client it) free h = ap (run_after (Some run)) (client_case books (Some run) rows it h).0
-    run_stays (command.Register it) free h = ap (run_after (Some run)) (register_case books (Some run) rows it h).0
-    run_stays (command.Viewing it) free h = ap (run_after (Some run)) (viewing_case books (Some run) rows it h).0
-    run_stays (command.Comment it) free h = ap (run_after (Some run)) (comment_case books (Some run) rows it h).0
-    run_stays (command.Inspection it) free h = ap (run_after (Some run)) (inspection_case books (Some run) rows it h).0
-    run_stays _ free h = cc
+    run_stays told free h = ap (run_after (Some run)) (rows_are books (Some run) rows told h) ∙ opens_none told free
 
     -- rows that are put while the run is open
     pub change_told : (told : Command) → is_post told ≡ false → IsEntered told → verdict_on books (Some run) told ≡ verdict.Change rows

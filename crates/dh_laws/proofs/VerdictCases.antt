@@ -39,20 +39,46 @@ use Rattle.dh_model.specs.Verdicts.{unless_run, verdict_on}
 use Rattle.dh_laws.proofs.VerdictChecks.{CanManage, all_pass, can_manage, deposit_of, first_passes, holds_of, new_key, none_of_leases, passed, property_of}
 use Rattle.dh_laws.proofs.VerdictChecks.{starts_in_time, was_closed, was_new, was_no_receipt, was_no_run, was_unpaid, was_unposted}
 use Rattle.dh_laws.specs.InOrder.{IsEntered}
-use Rattle.dh_laws.proofs.Acceptance.{Accepted, AddsBranch, AddsInspection, AddsLease, AddsProperty, AddsReceipt, AddsStaff, AddsViewing, Assigns, OpensRun}
-use Rattle.dh_laws.proofs.Acceptance.{Registers}
+use Rattle.dh_laws.proofs.Acceptance.{Accepted, AddsLease, Assigns}
 
 same_given : (rows given : Change) → verdict.Change given ≡ verdict.Change rows → rows ≡ given
 same_given rows given h = let is : given ≡ rows = cc in sym is
 
+-- the rows of each command, where it is accepted
+module _ (books : Books) where
+  abbrev receipt_for : ReceiptOrder → Receipt
+  receipt_for order = record { number = len books.receipts + 1; key = order.key; payment = order.payment }
+
+  abbrev pub rows_of : Command → Change
+  rows_of (command.Branch it) = change.Branch it
+  rows_of (command.Staff it) = change.Staff it
+  rows_of (command.Owner it) = change.Owner it
+  rows_of (command.Property it) = change.Property it
+  rows_of (command.Assign it) = change.Assign it
+  rows_of (command.Rent it) = change.Rent it
+  rows_of (command.Client it) = change.Client it
+  rows_of (command.Register it) = change.Register it
+  rows_of (command.Viewing it) = change.Viewing it
+  rows_of (command.Comment it) = change.Comment it
+  rows_of (command.Inspection it) = change.Inspection it
+  rows_of (command.Lease terms) = change.Lease (signed books terms (get books.properties terms.property))
+  rows_of (command.Receipt order) = change.Receipt (receipt_for order)
+  rows_of (command.Run order) = change.Open (opened_run books order)
+  rows_of (command.Open order) = change.Open (opened_run books order)
+  rows_of (command.Post count) = change.Post
+
 module _ (books : Books) (run : Option OpenRun) (rows : Change) where
-  pub branch_case : (it : Branch) → verdict_on books run (command.Branch it) ≡ verdict.Change rows → (rows ≡ change.Branch it) × AddsBranch books run it
+  -- where the command is accepted the rows are its own, and were found fit
+  abbrev Case : Command → Type 0
+  Case told = verdict_on books run told ≡ verdict.Change rows → (rows ≡ rows_of books told) × Accepted books run (rows_of books told)
+
+  pub branch_case : (it : Branch) → Case (command.Branch it)
   branch_case it h =
       let free = was_closed run (branch_verdict books it) rows h in
       let new = was_new (is_same_branch it) (get books.branches it.number) (judged [] (change.Branch it)) rows free.1 in
       ((passed [] rows (change.Branch it) new.1).0, record { closed = free.0; new = new.0 })
 
-  pub staff_case : (it : Staff) → verdict_on books run (command.Staff it) ≡ verdict.Change rows → (rows ≡ change.Staff it) × AddsStaff books run it
+  pub staff_case : (it : Staff) → Case (command.Staff it)
   staff_case it h =
       let checks = names books.branches it.branch 5 ∷ [] in
       let new = was_new (is_same_staff it) (get books.staff it.number) (judged checks (change.Staff it)) rows h in
@@ -60,13 +86,12 @@ module _ (books : Books) (run : Option OpenRun) (rows : Change) where
       let branch = first_passes (names books.branches it.branch 5) [] all.1 in
       (all.0, record { new = new.0; branch = holds_of (contains_key books.branches it.branch) (refusal.Unknown 5) branch.0 })
 
-  pub owner_case : (it : Owner) → verdict_on books run (command.Owner it) ≡ verdict.Change rows → (rows ≡ change.Owner it) × (get books.owners it.number ≡ None)
+  pub owner_case : (it : Owner) → Case (command.Owner it)
   owner_case it h =
       let new = was_new (is_same_owner it) (get books.owners it.number) (judged [] (change.Owner it)) rows h in
       ((passed [] rows (change.Owner it) new.1).0, new.0)
 
-  pub property_case : (it : Property) → verdict_on books run (command.Property it) ≡ verdict.Change rows → (rows ≡ change.Property it)
-      × AddsProperty books run it
+  pub property_case : (it : Property) → Case (command.Property it)
   property_case it h =
       let new = was_new (is_same_property it) (get books.properties it.number) (judged (property_checks books it) (change.Property it)) rows h in
       let all = passed (property_checks books it) rows (change.Property it) new.1 in
@@ -110,7 +135,7 @@ module _ (books : Books) (run : Option OpenRun) (rows : Change) where
       let case = assigned_if (is_same_optional is_same_text it.staff row.staff) it row h in
       (case.0, record { row = row; is = e; staff = case.1 })
 
-  pub assign_case : (it : Assignment) → verdict_on books run (command.Assign it) ≡ verdict.Change rows → (rows ≡ change.Assign it) × Assigns books run it
+  pub assign_case : (it : Assignment) → Case (command.Assign it)
   assign_case it h = assigning it (get books.properties it.property) refl h
 
   rent_if : (b : Bool) (given : Change) → (if b then verdict.Already reply.Already else verdict.Change given) ≡ verdict.Change rows → rows ≡ given
@@ -122,18 +147,15 @@ module _ (books : Books) (run : Option OpenRun) (rows : Change) where
   renting it None e h = cc
   renting it (Some row) e h = (rent_if (nat_eq it.rent row.rent) (change.Rent it) h, (row, e))
 
-  pub rent_case : (it : RentChange) → verdict_on books run (command.Rent it) ≡ verdict.Change rows
-      → (rows ≡ change.Rent it) × ((row : Property) × (get books.properties it.property ≡ Some row))
+  pub rent_case : (it : RentChange) → Case (command.Rent it)
   rent_case it h = renting it (get books.properties it.property) refl h
 
-  pub client_case : (it : Client) → verdict_on books run (command.Client it) ≡ verdict.Change rows → (rows ≡ change.Client it)
-      × (get books.clients it.number ≡ None)
+  pub client_case : (it : Client) → Case (command.Client it)
   client_case it h =
       let new = was_new (is_same_client it) (get books.clients it.number) (judged [] (change.Client it)) rows h in
       ((passed [] rows (change.Client it) new.1).0, new.0)
 
-  pub register_case : (it : Registration) → verdict_on books run (command.Register it) ≡ verdict.Change rows → (rows ≡ change.Register it)
-      × Registers books run it
+  pub register_case : (it : Registration) → Case (command.Register it)
   register_case it h =
       let new = was_new (is_same_registration it) (get books.registrations (it.client, it.branch))
       (judged (registration_checks books it) (change.Register it)) rows h in
@@ -152,7 +174,7 @@ module _ (books : Books) (run : Option OpenRun) (rows : Change) where
         },
       )
 
-  pub viewing_case : (it : Viewing) → verdict_on books run (command.Viewing it) ≡ verdict.Change rows → (rows ≡ change.Viewing it) × AddsViewing books run it
+  pub viewing_case : (it : Viewing) → Case (command.Viewing it)
   viewing_case it h =
       let checks = names books.clients it.client 2 ∷ names books.properties it.property 3 ∷ [] in
       let new = was_new (is_same_viewing it) (get books.viewings (it.client, it.property)) (judged checks (change.Viewing it)) rows h in
@@ -172,12 +194,10 @@ module _ (books : Books) (run : Option OpenRun) (rows : Change) where
   commenting it None e h = cc
   commenting it (Some row) e h = (rent_if (is_same_optional is_same_text (Some it.comment) row.comment) (change.Comment it) h, (row, e))
 
-  pub comment_case : (it : ViewingComment) → verdict_on books run (command.Comment it) ≡ verdict.Change rows
-      → (rows ≡ change.Comment it) × ((row : Viewing) × (get books.viewings (it.client, it.property) ≡ Some row))
+  pub comment_case : (it : ViewingComment) → Case (command.Comment it)
   comment_case it h = commenting it (get books.viewings (it.client, it.property)) refl h
 
-  pub inspection_case : (it : Inspection) → verdict_on books run (command.Inspection it) ≡ verdict.Change rows → (rows ≡ change.Inspection it)
-      × AddsInspection books run it
+  pub inspection_case : (it : Inspection) → Case (command.Inspection it)
   inspection_case it h =
       let checks = names books.properties it.property 2 ∷ names books.staff it.staff 4 ∷ [] in
       let new = was_new (is_same_inspection it) (get books.inspections (it.property, it.day)) (judged checks (change.Inspection it)) rows h in
@@ -219,9 +239,7 @@ module _ (books : Books) (run : Option OpenRun) (rows : Change) where
         free = none_of_leases (λ l. overlap terms l.terms) refusal.Overlap (values books.leases) (first_passes (free_of_others books terms) [] day.1).0;
       })
 
-  pub lease_case : (terms : LeaseTerms) → verdict_on books run (command.Lease terms) ≡ verdict.Change rows
-      → (rows ≡ change.Lease (signed books terms (get books.properties terms.property)))
-      × AddsLease books run (signed books terms (get books.properties terms.property))
+  pub lease_case : (terms : LeaseTerms) → Case (command.Lease terms)
   lease_case terms h =
       let free = was_closed run (lease_verdict books terms) rows h in
       let given = change.Lease (signed books terms (get books.properties terms.property)) in
@@ -229,15 +247,10 @@ module _ (books : Books) (run : Option OpenRun) (rows : Change) where
       let all = passed (lease_checks books terms) rows given new.1 in
       (all.0, signing terms free.0 new.0 all.1)
 
-  abbrev receipt_for : ReceiptOrder → Receipt
-  receipt_for order = record { number = len books.receipts + 1; key = order.key; payment = order.payment }
-
-  pub receipt_case : (order : ReceiptOrder) → verdict_on books run (command.Receipt order) ≡ verdict.Change rows
-      → (rows ≡ change.Receipt (record { number = len books.receipts + 1; key = order.key; payment = order.payment }))
-      × AddsReceipt books run (record { number = len books.receipts + 1; key = order.key; payment = order.payment })
+  pub receipt_case : (order : ReceiptOrder) → Case (command.Receipt order)
   receipt_case order h =
       let free = was_closed run (receipt_verdict books (len books.receipts) order) rows h in
-      let given = change.Receipt (receipt_for order) in
+      let given = change.Receipt (receipt_for books order) in
       let accepted = judged (receipt_checks books (len books.receipts) order) given in
       let no_receipt = was_unpaid books order (receipt_of_key books order.key) (unless_run books (run_of_key books order.key) accepted) rows free.1 in
       let no_run = was_no_run books (run_of_key books order.key) accepted rows no_receipt.1 in
@@ -256,8 +269,7 @@ module _ (books : Books) (run : Option OpenRun) (rows : Change) where
       )
 
   -- of `run` and of `open` alike
-  pub run_case : (order : RunOrder) → verdict_on books run (command.Open order) ≡ verdict.Change rows
-      → (rows ≡ change.Open (opened_run books order)) × OpensRun books run (opened_run books order)
+  pub run_case : (order : RunOrder) → Case (command.Open order)
   run_case order h =
       let free = was_closed run (run_verdict books order) rows h in
       let given = change.Open (opened_run books order) in
@@ -282,30 +294,33 @@ module _ (books : Books) (run : Option OpenRun) (rows : Change) where
   posting None e h = cc
   posting (Some at) e h = (same_given rows change.Post h, (at, e))
 
-  pub post_case : (count : ℕ) → verdict_on books run (command.Post count) ≡ verdict.Change rows → (rows ≡ change.Post) × ((at : OpenRun) × (run ≡ Some at))
+  pub post_case : (count : ℕ) → Case (command.Post count)
   post_case count h = posting run refl h
 
-  from_case : (given : Change) → (rows ≡ given) × Accepted books run given → Accepted books run rows
-  from_case given case = subst (Accepted books run) (sym case.0) case.1
+  pub case_of : (told : Command) → Case told
+  case_of (command.Branch it) h = branch_case it h
+  case_of (command.Staff it) h = staff_case it h
+  case_of (command.Owner it) h = owner_case it h
+  case_of (command.Property it) h = property_case it h
+  case_of (command.Assign it) h = assign_case it h
+  case_of (command.Rent it) h = rent_case it h
+  case_of (command.Client it) h = client_case it h
+  case_of (command.Register it) h = register_case it h
+  case_of (command.Viewing it) h = viewing_case it h
+  case_of (command.Comment it) h = comment_case it h
+  case_of (command.Inspection it) h = inspection_case it h
+  case_of (command.Lease terms) h = lease_case terms h
+  case_of (command.Receipt order) h = receipt_case order h
+  case_of (command.Run order) h = run_case order h
+  case_of (command.Open order) h = run_case order h
+  case_of (command.Post count) h = post_case count h
+
+  pub rows_are : (told : Command) → verdict_on books run told ≡ verdict.Change rows → rows ≡ rows_of books told
+  rows_are told h = (case_of told h).0
 
   -- the rows of an accepted command were found fit
   pub accepted : (told : Command) → verdict_on books run told ≡ verdict.Change rows → Accepted books run rows
-  accepted (command.Branch it) h = from_case (change.Branch it) (branch_case it h)
-  accepted (command.Staff it) h = from_case (change.Staff it) (staff_case it h)
-  accepted (command.Owner it) h = from_case (change.Owner it) (owner_case it h)
-  accepted (command.Property it) h = from_case (change.Property it) (property_case it h)
-  accepted (command.Assign it) h = from_case (change.Assign it) (assign_case it h)
-  accepted (command.Rent it) h = from_case (change.Rent it) (rent_case it h)
-  accepted (command.Client it) h = from_case (change.Client it) (client_case it h)
-  accepted (command.Register it) h = from_case (change.Register it) (register_case it h)
-  accepted (command.Viewing it) h = from_case (change.Viewing it) (viewing_case it h)
-  accepted (command.Comment it) h = from_case (change.Comment it) (comment_case it h)
-  accepted (command.Inspection it) h = from_case (change.Inspection it) (inspection_case it h)
-  accepted (command.Lease terms) h = from_case (change.Lease (signed books terms (get books.properties terms.property))) (lease_case terms h)
-  accepted (command.Receipt order) h = from_case (change.Receipt (receipt_for order)) (receipt_case order h)
-  accepted (command.Run order) h = from_case (change.Open (opened_run books order)) (run_case order h)
-  accepted (command.Open order) h = from_case (change.Open (opened_run books order)) (run_case order h)
-  accepted (command.Post count) h = from_case change.Post (post_case count h)
+  accepted told h = let case = case_of told h in subst (Accepted books run) (sym case.0) case.1
 
 -- ---- what a line holds
 
@@ -318,32 +333,12 @@ signed_terms : (books : Books) (terms : LeaseTerms) (found : Option Property) �
 signed_terms books terms None = refl
 signed_terms books terms (Some row) = refl
 
-limited_lease : (books : Books) (run : Option OpenRun) (rows : Change) (terms : LeaseTerms) → IsEntered (command.Lease terms)
-    → verdict_on books run (command.Lease terms) ≡ verdict.Change rows → IsLimited rows
-limited_lease books run rows terms entered h =
+entered_limited : (books : Books) (told : Command) → IsEntered told → IsLimited (rows_of books told)
+entered_limited books (command.Lease terms) entered =
     let same = signed_terms books terms (get books.properties terms.property) in
-    let lease = signed books terms (get books.properties terms.property) in
-    subst IsLimited (sym (lease_case books run rows terms h).0)
-    (subst (λ (t : LeaseTerms). (3 ≤ t.months) × (t.months ≤ 12)) (sym same) entered)
+    subst (λ (t : LeaseTerms). (3 ≤ t.months) × (t.months ≤ 12)) (sym same) entered
+entered_limited books _ entered = tt
 
-unlimited : (books : Books) (run : Option OpenRun) (rows given : Change) → IsLimited given → rows ≡ given → IsLimited rows
-unlimited books run rows given fits same = subst IsLimited (sym same) fits
-
-module _ (books : Books) (run : Option OpenRun) (rows : Change) where
-  pub limited : (told : Command) → IsEntered told → verdict_on books run told ≡ verdict.Change rows → IsLimited rows
-  limited (command.Branch it) e h = unlimited books run rows (change.Branch it) tt (branch_case books run rows it h).0
-  limited (command.Staff it) e h = unlimited books run rows (change.Staff it) tt (staff_case books run rows it h).0
-  limited (command.Owner it) e h = unlimited books run rows (change.Owner it) tt (owner_case books run rows it h).0
-  limited (command.Property it) e h = unlimited books run rows (change.Property it) tt (property_case books run rows it h).0
-  limited (command.Assign it) e h = unlimited books run rows (change.Assign it) tt (assign_case books run rows it h).0
-  limited (command.Rent it) e h = unlimited books run rows (change.Rent it) tt (rent_case books run rows it h).0
-  limited (command.Client it) e h = unlimited books run rows (change.Client it) tt (client_case books run rows it h).0
-  limited (command.Register it) e h = unlimited books run rows (change.Register it) tt (register_case books run rows it h).0
-  limited (command.Viewing it) e h = unlimited books run rows (change.Viewing it) tt (viewing_case books run rows it h).0
-  limited (command.Comment it) e h = unlimited books run rows (change.Comment it) tt (comment_case books run rows it h).0
-  limited (command.Inspection it) e h = unlimited books run rows (change.Inspection it) tt (inspection_case books run rows it h).0
-  limited (command.Lease terms) e h = limited_lease books run rows terms e h
-  limited (command.Receipt order) e h = unlimited books run rows (change.Receipt (receipt_for books run rows order)) tt (receipt_case books run rows order h).0
-  limited (command.Run order) e h = unlimited books run rows (change.Open (opened_run books order)) tt (run_case books run rows order h).0
-  limited (command.Open order) e h = unlimited books run rows (change.Open (opened_run books order)) tt (run_case books run rows order h).0
-  limited (command.Post count) e h = unlimited books run rows change.Post tt (post_case books run rows count h).0
+pub limited : (books : Books) (run : Option OpenRun) (rows : Change) (told : Command) → IsEntered told → verdict_on books run told ≡ verdict.Change rows
+    → IsLimited rows
+limited books run rows told entered h = subst IsLimited (sym (rows_are books run rows told h)) (entered_limited books told entered)
