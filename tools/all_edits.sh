@@ -1,6 +1,7 @@
 #!/usr/bin/env bash
-# Tries every wrong body of the named crates, or of all: those that the gate tries (must-fail/*.edit) and those put aside, which
-# show the same form at an alike function (must-fail/*.edit.md). It works on a copy, and ends as `rt must-fail` does.
+# Tries every wrong body of the named crates, or of all: those that the gate tries (must-fail/*.edit) and those that are kept outside
+# the gate (must-fail/*.edit.md). It runs `rt ci` over these crates in a copy in which no other crate has wrong bodies, so it takes over
+# each proof that an earlier `rt ci` passed on this machine, and ends as `rt ci` does.
 #   tools/all_edits.sh [CRATE..]
 #   tools/all_edits.sh --texts     only: that each old text stands once in its file
 set -eu
@@ -28,12 +29,23 @@ print(f'{wrong} texts that do not stand once')
 sys.exit(wrong > 0)
 PY
 fi
+if [ $# -eq 0 ]; then
+    set -- $(find crates -path '*/must-fail/*.edit*' | cut -d/ -f2 | sort -u)
+fi
 copy=$(mktemp -d)
 trap 'rm -rf "$copy"' EXIT
 git ls-files -z --cached --others --exclude-standard | xargs -0 cp --parents -t "$copy" 2>/dev/null || true
 cd "$copy"
 git init -q .
-for aside in crates/*/must-fail/*.edit.md; do
-    mv "$aside" "${aside%.md}"
+for folder in crates/*/must-fail; do
+    crate=$(basename "$(dirname "$folder")")
+    case " $* " in
+        *" $crate "*)
+            for aside in "$folder"/*.edit.md; do
+                [ ! -e "$aside" ] || mv "$aside" "${aside%.md}"
+            done
+            ;;
+        *) rm -r "$folder" ;;
+    esac
 done
-rt must-fail "$@"
+rt ci "$@"
