@@ -16,6 +16,17 @@ use std::alloc::Global;
 /// The random number that logs begin with, the same each time.
 pub const SEED: u64 = 7;
 
+// More than the pages of such files, which are some forty. Room for the usual 2,000 takes longer to make than a life to play.
+const PAGES: usize = 128;
+
+/// How files are opened on which an agency lives.
+pub fn options() -> Options {
+    Options {
+        cache_pages: PAGES,
+        ..Options::new(SEED)
+    }
+}
+
 /// Why files are not opened.
 #[derive(Clone, Copy, Debug, PartialEq, Eq)]
 pub enum Unopened {
@@ -89,7 +100,7 @@ pub(crate) fn create_on<D: Disk + Drop>(
     files: Files<D>,
     first: EntryMonth,
 ) -> (Done, Files<D>) {
-    match open_on(alloc, files, Options::new(SEED)) {
+    match open_on(alloc, files, options()) {
         Ok(conn) => {
             let (done, conn) = create_over(alloc, conn, first);
             ended(done, conn)
@@ -104,7 +115,7 @@ pub(crate) fn live_on<D: Disk + Drop>(
     files: Files<D>,
     commands: &[Command],
 ) -> (Done, Files<D>) {
-    match open_on(alloc, files, Options::new(SEED)) {
+    match open_on(alloc, files, options()) {
         Ok(conn) => {
             let (done, conn) = live_over(alloc, conn, commands);
             ended(done, conn)
@@ -115,7 +126,7 @@ pub(crate) fn live_on<D: Disk + Drop>(
 
 /// Loads the tables of the files.
 pub(crate) fn load_on<D: Disk + Drop>(alloc: Global, files: Files<D>) -> (Done, Files<D>) {
-    match open_on(alloc, files, Options::new(SEED)) {
+    match open_on(alloc, files, options()) {
         Ok(mut conn) => {
             let done = load_over(alloc, &mut conn);
             ended(done, conn)

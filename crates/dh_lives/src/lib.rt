@@ -8,6 +8,6 @@ mod rehearsing;
 mod work;
 
 pub use disks::{MeasuredDisk, Measures, Stopping, copy_of, memory, no_files};
-pub use files::{SEED, Unopened, open_on};
+pub use files::{SEED, Unopened, open_on, options};
 pub use lives::{Account, Life, Lived, Stop, Which};
-pub use rehearsing::{Rehearsed, live_through, rehearse};
+pub use rehearsing::{Rehearsed, live_behind, live_through, rehearse, rehearse_behind};

@@ -15,7 +15,7 @@ use sqlite_disk::Crash;
 use std::alloc::{AllocError, Global};
 use std::io;
 
-/// Lives as they were lived, and the files as the last of them left them.
+/// Lives as they were lived, and the files as a power cut behind the last of them left them.
 #[derive(Drop)]
 pub struct Rehearsed {
     pub lives: Vec<Lived>,
@@ -45,18 +45,23 @@ fn measures_of(stop: Option<Stop>) -> Measures {
     }
 }
 
-// Cuts the power, and sets the next stop.
-fn restarted(
-    alloc: Global,
-    mut files: Files<Stopping>,
-    stop: Option<Stop>,
-) -> Result<Files<Stopping>, Problem> {
+// The files as a power cut leaves them.
+fn left_by_power_cut(mut files: Files<Stopping>) -> Files<Stopping> {
     files.log.crash();
     files.db.crash();
-    made(copy_of(alloc, &files, measures_of(stop)))
+    files
 }
 
-// The files of a new agency.
+// A copy of the files, with the next stop.
+fn copied(
+    alloc: Global,
+    files: &Files<Stopping>,
+    stop: Option<Stop>,
+) -> Result<Files<Stopping>, Problem> {
+    made(copy_of(alloc, files, measures_of(stop)))
+}
+
+// The files of a new agency, behind a power cut.
 fn created(alloc: Global, first: EntryMonth) -> Result<Files<Stopping>, Problem> {
     let files = made(no_files(alloc, Measures::NO_END))?;
     let (done, left) = create_on(alloc, files, first);
@@ -68,7 +73,7 @@ fn created(alloc: Global, first: EntryMonth) -> Result<Files<Stopping>, Problem>
     drop(lived);
     drop(books);
     match problem {
-        None => Ok(left),
+        None => Ok(left_by_power_cut(left)),
         Some(problem) => Err(problem),
     }
 }
@@ -81,15 +86,15 @@ fn accounted(done: Done, stop: Option<Stop>) -> Result<Lived, Problem> {
     }
 }
 
-// Plays one life on the files, behind a power cut.
+// Plays one life on a copy of the files, up to a power cut.
 fn live(
     alloc: Global,
-    files: Files<Stopping>,
+    files: &Files<Stopping>,
     life: &Life,
 ) -> Result<(Lived, Files<Stopping>), Problem> {
-    let files = restarted(alloc, files, life.stop)?;
+    let files = copied(alloc, files, life.stop)?;
     let (done, left) = live_on(alloc, files, &life.commands);
-    Ok((accounted(done, life.stop)?, left))
+    Ok((accounted(done, life.stop)?, left_by_power_cut(left)))
 }
 
 fn keep(accounts: &mut Vec<Lived>, lived: Lived) -> Result<(), AllocError>
@@ -99,14 +104,17 @@ fn keep(accounts: &mut Vec<Lived>, lived: Lived) -> Result<(), AllocError>
     Ok(())
 }
 
-// Makes an agency and plays the lives.
-fn live_each(alloc: Global, first: EntryMonth, lives: &[Life]) -> Result<Rehearsed, Problem>
+// Plays the lives on the files.
+fn live_each(
+    alloc: Global,
+    mut files: Files<Stopping>,
+    lives: &[Life],
+) -> Result<Rehearsed, Problem>
     ensures { IfOk result (λ it. length it.lives.items ≡ length lives.now) }
 {
-    let mut files = created(alloc, first)?;
     let mut accounts = Vec::new(alloc);
     for life in lives {
-        let (lived, left) = live(alloc, files, life)?;
+        let (lived, left) = live(alloc, &files, life)?;
         keep(&mut accounts, lived)?;
         files = left;
     }
@@ -116,9 +124,28 @@ fn live_each(alloc: Global, first: EntryMonth, lives: &[Life]) -> Result<Rehears
     })
 }
 
-// The books that the tables mean, behind a power cut.
-fn loaded(alloc: Global, files: Files<Stopping>) -> Result<Option<Books>, Problem> {
-    let files = restarted(alloc, files, None)?;
+// Makes an agency and plays the lives.
+fn live_anew(alloc: Global, first: EntryMonth, lives: &[Life]) -> Result<Rehearsed, Problem>
+    ensures { IfOk result (λ it. length it.lives.items ≡ length lives.now) }
+{
+    let files = created(alloc, first)?;
+    live_each(alloc, files, lives)
+}
+
+// Plays the lives on a copy of the files.
+fn live_on_copy(
+    alloc: Global,
+    files: &Files<Stopping>,
+    lives: &[Life],
+) -> Result<Rehearsed, Problem>
+    ensures { IfOk result (λ it. length it.lives.items ≡ length lives.now) }
+{
+    let files = copied(alloc, files, None)?;
+    live_each(alloc, files, lives)
+}
+
+// The books that the tables mean.
+fn loaded(alloc: Global, files: Files<Stopping>) -> Result<Option<Books>, Fault> {
     let (done, left) = load_on(alloc, files);
     drop(left);
     let Done {
@@ -129,7 +156,7 @@ fn loaded(alloc: Global, files: Files<Stopping>) -> Result<Option<Books>, Proble
     drop(lived);
     match problem {
         None => Ok(books),
-        Some(problem) => Err(problem),
+        Some(problem) => Err(fault_of_problem(problem)),
     }
 }
 
@@ -141,14 +168,14 @@ fn ends_whole(lives: &[Life]) -> bool {
     }
 }
 
-// The account of the lives, with the books in the end.
-fn account_of(alloc: Global, first: EntryMonth, lives: &[Life]) -> Result<Account, Problem>
-    ensures { IfOk result (λ it. length it.lives.items ≡ length lives.now) }
+// The account of the lives that were played, with the books in the end.
+fn account_of(alloc: Global, rehearsed: Rehearsed, lives: &[Life]) -> Result<Account, Fault>
+    ensures { IfOk result (λ it. length it.lives.items ≡ length rehearsed.lives.items) }
 {
     let Rehearsed {
         lives: accounts,
         files,
-    } = live_each(alloc, first, lives)?;
+    } = rehearsed;
     let books = if ends_whole(lives) {
         loaded(alloc, files)?
     } else {
@@ -160,13 +187,24 @@ fn account_of(alloc: Global, first: EntryMonth, lives: &[Life]) -> Result<Accoun
     })
 }
 
-/// Plays the lives as [`rehearse`] does, and answers what came of each, with the files as the last of them left them. The faults are
-/// those of `rehearse`.
+/// Plays the lives as [`rehearse`] does, and answers what came of each, with the files as a power cut behind the last of them left
+/// them. The faults are those of `rehearse`.
 pub fn live_through(alloc: Global, first: Month, lives: &[Life]) -> Result<Rehearsed, Fault>
     requires { first ≤ LAST_ENTRY_MONTH }
     ensures { IfOk result (λ it. length it.lives.items ≡ length lives.now) }
 {
-    match live_each(alloc, EntryMonth::of_number(first.number()), lives) {
+    match live_anew(alloc, EntryMonth::of_number(first.number()), lives) {
+        Ok(rehearsed) => Ok(rehearsed),
+        Err(problem) => Err(fault_of_problem(problem)),
+    }
+}
+
+/// Plays the lives behind others, as [`live_through`] plays them all, and answers what came of these. It works on a copy of the files
+/// that the others left, so that many lives can be tried behind them.
+pub fn live_behind(alloc: Global, behind: &Rehearsed, lives: &[Life]) -> Result<Rehearsed, Fault>
+    ensures { IfOk result (λ it. length it.lives.items ≡ length lives.now) }
+{
+    match live_on_copy(alloc, &behind.files, lives) {
         Ok(rehearsed) => Ok(rehearsed),
         Err(problem) => Err(fault_of_problem(problem)),
     }
@@ -181,8 +219,15 @@ pub fn rehearse(alloc: Global, first: Month, lives: &[Life]) -> Result<Account, 
     requires { first ≤ LAST_ENTRY_MONTH }
     ensures { IfOk result (λ it. length it.lives.items ≡ length lives.now) }
 {
-    match account_of(alloc, EntryMonth::of_number(first.number()), lives) {
-        Ok(account) => Ok(account),
-        Err(problem) => Err(fault_of_problem(problem)),
-    }
+    let rehearsed = live_through(alloc, first, lives)?;
+    account_of(alloc, rehearsed, lives)
+}
+
+/// Plays the lives behind others, as [`rehearse`] plays them all, and answers the account of these, with the books that all of them
+/// make. It works on a copy of the files that the others left, so that many lives can be tried behind them.
+pub fn rehearse_behind(alloc: Global, behind: &Rehearsed, lives: &[Life]) -> Result<Account, Fault>
+    ensures { IfOk result (λ it. length it.lives.items ≡ length lives.now) }
+{
+    let rehearsed = live_behind(alloc, behind, lives)?;
+    account_of(alloc, rehearsed, lives)
 }
