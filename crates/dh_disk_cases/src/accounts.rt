@@ -145,6 +145,24 @@ fn told(alloc: Global, account: &Account) -> Result<String, AllocError> {
     Ok(text)
 }
 
+fn is_same_life(life: &Lived, other: &Lived) -> bool {
+    life.recovered == other.recovered && life.cut == other.cut && life.replies == other.replies
+}
+
+/// Whether both accounts are of the same lives and the same books in the end.
+pub fn is_same(alloc: Global, account: &Account, other: &Account) -> Result<bool, AllocError> {
+    for (at, life) in account.lives.iter().enumerate() {
+        let Some(other) = other.lives.get(at) else {
+            return Ok(false);
+        };
+        if !is_same_life(life, other) {
+            return Ok(false);
+        }
+    }
+    let is_as_long = account.lives.len() == other.lives.len();
+    Ok(is_as_long && told(alloc, account)?.as_str() == told(alloc, other)?.as_str())
+}
+
 // Whether the account is the plain program's, with the command that was cut or without it.
 fn is_of_the_plain_program(
     alloc: Global,

@@ -22,6 +22,11 @@ pub struct Stops {
 }
 
 impl Stops {
+    pub const NONE: Stops = Stops {
+        life: None,
+        recovery: None,
+    };
+
     fn of(self, mark: Mark) -> Option<Stop> {
         match mark {
             Mark::Whole => None,
@@ -104,31 +109,26 @@ fn life_of(alloc: Global, chapter: &Chapter, stops: Stops) -> Result<Life, Unrea
     })
 }
 
-/// The lives of the chapters, up to the first that has the mark, and with the stops.
-pub fn lives_up_to(
-    alloc: Global,
-    chapters: &[Chapter],
-    mark: Mark,
-    stops: Stops,
-) -> Result<Vec<Life>, Unreadable> {
-    let mut lives = Vec::new(alloc);
-    for chapter in chapters {
-        lives.push(life_of(alloc, chapter, stops)?)?;
+/// How many chapters come before the first that has the mark.
+pub fn place_of(chapters: &[Chapter], mark: Mark) -> usize {
+    for (at, chapter) in chapters.iter().enumerate() {
         if chapter.mark == mark {
-            return Ok(lives);
+            return at;
         }
     }
-    Ok(lives)
+    chapters.len()
 }
 
-/// The lives of all chapters, with the stops.
+/// The lives of the chapters from one on up to another, which is not among them, with the stops.
 pub fn lives_of(
     alloc: Global,
     chapters: &[Chapter],
+    begin: usize,
+    end: usize,
     stops: Stops,
 ) -> Result<Vec<Life>, Unreadable> {
     let mut lives = Vec::new(alloc);
-    for chapter in chapters {
+    for chapter in chapters.iter().skip(begin).take(end.saturating_sub(begin)) {
         lives.push(life_of(alloc, chapter, stops)?)?;
     }
     Ok(lives)

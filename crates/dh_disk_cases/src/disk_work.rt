@@ -7,7 +7,7 @@ ghost use Rattle.dh_runs.specs.Taking.{IsResting};
 use crate::trial_disks::TrialDisk;
 use dh_agency::{Agency, NotOpened, create, recover};
 use dh_agency_scripts::{all_rows, line_over, parted, problem_text, told};
-use dh_lives::{SEED, Unopened, open_on};
+use dh_lives::{SEED, Unopened, open_on, options};
 use dh_scripts::january;
 use dh_types::Fault;
 use sqlite::{Alter, Connection, Files, Options};
@@ -154,7 +154,7 @@ fn options_for(work: Work<'_>) -> Options {
             checkpoint_frames: 8,
             seed: SEED,
         },
-        Work::Tell(_) | Work::Look | Work::Recover => Options::new(SEED),
+        Work::Tell(_) | Work::Look | Work::Recover => options(),
     }
 }
 
@@ -189,6 +189,54 @@ pub fn text_on<D: TrialDisk>(
 ) -> (Result<String, AllocError>, Files<D>) {
     let (came, left) = tried(alloc, files, work);
     (came.text(alloc), left)
+}
+
+/// What a work came to over files that it found so.
+#[derive(Drop)]
+pub struct Finding {
+    log: Vec<u8>,
+    db: Vec<u8>,
+    text: String,
+}
+
+impl Finding {
+    // Whether the files are as those of the finding were.
+    fn is_of<D: TrialDisk>(&self, files: &Files<D>) -> bool {
+        self.log.as_slice() == files.log.bytes() && self.db.as_slice() == files.db.bytes()
+    }
+
+    // The finding over the files.
+    fn over<D: TrialDisk>(
+        alloc: Global,
+        files: Files<D>,
+        work: Work<'_>,
+    ) -> Result<Finding, AllocError> {
+        let log = Vec::from_slice(alloc, files.log.bytes())?;
+        let db = Vec::from_slice(alloc, files.db.bytes())?;
+        let text = found(alloc, files, work)?;
+        Ok(Finding { log, db, text })
+    }
+}
+
+/// The same as [`found`], with the last finding of the same work: it is not done again over files that a power cut leaves just as it left
+/// the last ones, as it does those of most stops in turn.
+pub fn found_in_turn<D: TrialDisk>(
+    alloc: Global,
+    mut files: Files<D>,
+    work: Work<'_>,
+    last: &mut Option<Finding>,
+) -> Result<String, AllocError> {
+    files.log.crash();
+    files.db.crash();
+    if let Some(finding) = last {
+        if finding.is_of(&files) {
+            return finding.text.as_str().to_string(alloc);
+        }
+    }
+    let finding = Finding::over(alloc, files, work)?;
+    let text = finding.text.as_str().to_string(alloc)?;
+    *last = Some(finding);
+    Ok(text)
 }
 
 /// What the work comes to after a power cut.

@@ -1,6 +1,8 @@
 //! Agencies on disks in memory: what stands there in the end, and after a failure of either disk.
 
-use crate::disk_work::{Told, Work, acknowledged, found, is_failure, text_on, told_on};
+use crate::disk_work::{
+    Finding, Told, Work, acknowledged, found, found_in_turn, is_failure, text_on, told_on,
+};
 use crate::trial_disks::{Full, TrialDisk, name_of};
 use dh_agency_scripts::{all_rows, compare, compare_tables, in_memory, parted, table_of, told};
 use dh_lives::{Measures, Stopping, Which, copy_of, no_files};
@@ -54,12 +56,20 @@ fn is_whole(told: Told, lines: &[String]) -> bool {
     matches!(told, Told::Acknowledged(count) if count > lines.len())
 }
 
+// What is promised of the tables that are found after a failure.
+#[derive(Clone, Copy)]
+struct Promise<'a> {
+    told: Told,
+    // The tables before each step and after the last.
+    tables: &'a [String],
+}
+
 // Whether the tables found are those after what was acknowledged, or after the step that the failure cut.
-fn is_kept(told: Told, found: &str, tables: &[String]) -> bool {
-    let Told::Acknowledged(count) = told else {
+fn is_kept(promise: Promise<'_>, found: &str) -> bool {
+    let Told::Acknowledged(count) = promise.told else {
         return false;
     };
-    for may_be in tables.iter().skip(count).take(2) {
+    for may_be in promise.tables.iter().skip(count).take(2) {
         if may_be.as_str() == found {
             return true;
         }
@@ -103,21 +113,21 @@ fn play_second_failure<D: TrialDisk>(
     tally: &mut Tally,
     measures: Measures,
     case: &str,
-    told: Told,
+    promise: Promise<'_>,
     left: &mut Files<D>,
-    trial: Trial<'_>,
+    last: &mut Option<Finding>,
 ) -> io::Result<bool> {
     let (answer, again) = tried_again(rt.alloc(), left, measures)?;
-    let tables = found(rt.alloc(), again, Work::Recover)?;
+    let tables = found_in_turn(rt.alloc(), again, Work::Recover, last)?;
     let answer = answer?;
-    let is_ended = is_kept(told, answer.as_str(), trial.tables);
+    let is_ended = is_kept(promise, answer.as_str());
     let got = if is_ended || is_failure::<D>(rt.alloc(), answer.as_str())? {
         "as wanted"
     } else {
         answer.as_str()
     };
     compare(rt, tally, case, got, "as wanted")?;
-    let got = if is_kept(told, tables.as_str(), trial.tables) {
+    let got = if is_kept(promise, tables.as_str()) {
         "kept"
     } else {
         tables.as_str()
@@ -131,9 +141,9 @@ fn play_second_failures<D: TrialDisk>(
     tally: &mut Tally,
     which: Which,
     first: u64,
-    told: Told,
+    promise: Promise<'_>,
     left: &mut Files<D>,
-    trial: Trial<'_>,
+    last: &mut Option<Finding>,
 ) -> io::Result<()> {
     for turn in 0..MOST {
         let measure = turn.saturating_mul(STRIDE).saturating_add(first % STRIDE);
@@ -143,7 +153,7 @@ fn play_second_failures<D: TrialDisk>(
             D::words()
         )?;
         let measures = Measures::of(which, measure);
-        if play_second_failure(rt, tally, measures, case.as_str(), told, left, trial)? {
+        if play_second_failure(rt, tally, measures, case.as_str(), promise, left, last)? {
             return Ok(());
         }
     }
@@ -162,15 +172,20 @@ fn play_failure<D: TrialDisk>(
     which: Which,
     measure: u64,
     trial: Trial<'_>,
+    last: &mut Option<Finding>,
 ) -> io::Result<bool> {
     let files = no_files::<D>(rt.alloc(), Measures::of(which, measure))?;
     let (told, mut left) = told_on(rt.alloc(), files, trial.lines);
+    let promise = Promise {
+        told,
+        tables: trial.tables,
+    };
     if fails_twice(told, trial) {
-        play_second_failures(rt, tally, which, measure, told, &mut left, trial)?;
+        play_second_failures(rt, tally, which, measure, promise, &mut left, last)?;
     }
-    let tables = found(rt.alloc(), left, trial.work)?;
+    let tables = found_in_turn(rt.alloc(), left, trial.work, last)?;
     let case = format!(in rt.alloc(); "the {} {} {measure}", name_of(which), D::words())?;
-    let got = if is_kept(told, tables.as_str(), trial.tables) {
+    let got = if is_kept(promise, tables.as_str()) {
         "kept"
     } else {
         tables.as_str()
@@ -186,8 +201,9 @@ fn play_failures<D: TrialDisk>(
     which: Which,
     trial: Trial<'_>,
 ) -> io::Result<()> {
+    let mut last = None;
     for measure in 0..MOST {
-        if !play_failure::<D>(rt, tally, which, measure, trial)? {
+        if !play_failure::<D>(rt, tally, which, measure, trial, &mut last)? {
             return Ok(());
         }
     }

@@ -1,7 +1,7 @@
 //! One call over files of which a disk fails. The lines of a block are told, each to files that are opened anew, on disks that do not fail;
 //! and the last is told once more for each measure of each disk, to files as they were before it.
 
-use crate::disk_work::{Work, found, is_failure, text_on};
+use crate::disk_work::{Finding, Work, found, found_in_turn, is_failure, text_on};
 use crate::disks::add_told;
 use crate::trial_disks::{Full, TrialDisk, name_of};
 use dh_agency_scripts::{compare, compare_tables, parted, table_of};
@@ -77,11 +77,12 @@ fn play_failure<D: TrialDisk>(
     which: Which,
     measure: u64,
     trial: Trial<'_>,
+    last: &mut Option<Finding>,
 ) -> io::Result<bool> {
     let files = copy_of(rt.alloc(), begun, Measures::of(which, measure))?;
     let (answer, mut left) = text_on(rt.alloc(), files, Work::Line(trial.line));
     let has_failed = has_failed(&mut left, which);
-    let tables = found(rt.alloc(), left, trial.work)?;
+    let tables = found_in_turn(rt.alloc(), left, trial.work, last)?;
     let answer = answer?;
     let got = if has_failed && is_failure::<D>(rt.alloc(), answer.as_str())? {
         trial.want
@@ -111,8 +112,9 @@ fn play_failures<D: TrialDisk>(
     which: Which,
     trial: Trial<'_>,
 ) -> io::Result<()> {
+    let mut last = None;
     for measure in 0..MOST {
-        if !play_failure(rt, tally, begun, which, measure, trial)? {
+        if !play_failure(rt, tally, begun, which, measure, trial, &mut last)? {
             return Ok(());
         }
     }

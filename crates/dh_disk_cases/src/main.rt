@@ -11,6 +11,7 @@ mod disks;
 mod failing_calls;
 mod moments;
 mod series;
+mod stories;
 mod trial_disks;
 
 use dh_agency_scripts::compare;

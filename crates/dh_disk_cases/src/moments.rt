@@ -3,29 +3,20 @@
 //! says what the tables are then. A recovery behind it is stopped after each number of calls of the log at which the tables are left as
 //! the lines `second stop leaves,TABLE` say.
 
-use crate::chapters::{Chapter, Mark, Stops, chapters_of, lives_up_to};
-use crate::disk_work::{Work, found};
-use crate::series::{Story, compare_end, is_recovered, play_lives, play_stops};
+use crate::chapters::{Mark, Stops, chapters_of, place_of};
+use crate::disk_work::{Finding, Work, found_in_turn};
+use crate::series::{compare_end, compare_whole, is_recovered, play_lives, play_stops};
+use crate::stories::{Story, begun, if_played, played_up_to};
 use dh_agency_scripts::{compare, parted, rows_of};
-use dh_lives::{Stop, Which, live_through};
-use dh_scripts::{Block, Tally, january, script};
-use std::alloc::{AllocError, Global};
+use dh_lives::{Measures, Rehearsed, Stop, Which, copy_of};
+use dh_scripts::{Block, Tally, script};
+use std::alloc::Global;
 use std::io;
 
-// The tables that the lives leave up to the one that has the mark.
-fn left_behind(
-    alloc: Global,
-    chapters: &[Chapter],
-    mark: Mark,
-    stops: Stops,
-) -> Result<String, AllocError> {
-    let Ok(lives) = lives_up_to(alloc, chapters, mark, stops) else {
-        return "not read".to_string(alloc);
-    };
-    match live_through(alloc, january(), &lives) {
-        Ok(rehearsed) => found(alloc, rehearsed.files, Work::Look),
-        Err(fault) => fault.to_string(alloc),
-    }
+// The tables that the lives left, where these may have left the same as the ones before.
+fn left_behind(alloc: Global, lives: &Rehearsed, last: &mut Option<Finding>) -> io::Result<String> {
+    let files = copy_of(alloc, &lives.files, Measures::NO_END)?;
+    Ok(found_in_turn(alloc, files, Work::Look, last)?)
 }
 
 // Compares what the first stop leaves.
@@ -60,23 +51,25 @@ fn is_left_by_second(block: &Block, tables: &str) -> bool {
 // More than the log is asked to do in a recovery.
 const MOST: u32 = 1000;
 
-// Stops the recovery after so many calls of the log; where that is the moment, the end is compared with the rows that the block names.
-// It answers whether it is the moment, and nothing once the recovery returns.
+// Stops the recovery after so many calls of the log; where that is the moment, all lives are played again, and the end is compared with
+// the rows that the block names. It answers whether it is the moment, and nothing once the recovery returns.
 fn play_second(
     rt: &HostRuntime,
     tally: &mut Tally,
     story: Story<'_>,
-    first: Stop,
-    after: u32,
+    stops: Stops,
+    last: &mut Option<Finding>,
 ) -> io::Result<Option<bool>> {
-    let stops = Stops {
-        life: Some(first),
-        recovery: Some(Stop {
-            file: Which::Journal,
-            after,
-        }),
+    let end = place_of(story.chapters, Mark::Recovery).saturating_add(1);
+    let behind = played_up_to(rt.alloc(), story, end, stops);
+    let Some(behind) = if_played(rt, tally, story.block.name.as_str(), behind)? else {
+        return Ok(None);
     };
-    let tables = left_behind(rt.alloc(), story.chapters, Mark::Recovery, stops)?;
+    let tables = left_behind(rt.alloc(), &behind, last)?;
+    let story = Story {
+        behind: &behind,
+        ..story
+    };
     let Some(account) = play_lives(rt, tally, story, stops)? else {
         return Ok(None);
     };
@@ -85,6 +78,7 @@ fn play_second(
     }
     let is_moment = is_left_by_second(story.block, tables.as_str());
     if is_moment {
+        compare_whole(rt, tally, story, stops, &account)?;
         compare_end(rt, tally, story.block, &account)?;
     }
     Ok(Some(is_moment))
@@ -95,11 +89,19 @@ fn play_seconds(
     rt: &HostRuntime,
     tally: &mut Tally,
     story: Story<'_>,
-    first: Stop,
+    life: Stop,
+    last: &mut Option<Finding>,
 ) -> io::Result<()> {
     let mut is_met = false;
     for after in 0..MOST {
-        match play_second(rt, tally, story, first, after)? {
+        let stops = Stops {
+            life: Some(life),
+            recovery: Some(Stop {
+                file: Which::Journal,
+                after,
+            }),
+        };
+        match play_second(rt, tally, story, stops, last)? {
             Some(is_moment) => is_met = is_met || is_moment,
             None => break,
         }
@@ -113,17 +115,41 @@ fn play_story(rt: &HostRuntime, tally: &mut Tally, story: Story<'_>) -> io::Resu
     let Some(after) = cuts.second else {
         return compare(rt, tally, story.block.name.as_str(), "not cut", "cut");
     };
-    let first = Stop {
+    let life = Stop {
         file: Which::Journal,
         after,
     };
     let stops = Stops {
-        life: Some(first),
+        life: Some(life),
         recovery: None,
     };
-    let tables = left_behind(rt.alloc(), story.chapters, Mark::Life, stops)?;
+    let end = place_of(story.chapters, Mark::Life).saturating_add(1);
+    let behind = played_up_to(rt.alloc(), story, end, stops);
+    let Some(behind) = if_played(rt, tally, story.block.name.as_str(), behind)? else {
+        return Ok(());
+    };
+    let mut last = None;
+    let tables = left_behind(rt.alloc(), &behind, &mut last)?;
     compare_first(rt, tally, story.block, tables.as_str())?;
-    play_seconds(rt, tally, story, first)
+    let story = Story {
+        behind: &behind,
+        ..story
+    };
+    play_seconds(rt, tally, story, life, &mut last)
+}
+
+fn play_block(rt: &HostRuntime, tally: &mut Tally, block: &Block) -> io::Result<()> {
+    let chapters = chapters_of(rt.alloc(), block)?;
+    let behind = begun(rt.alloc(), &chapters);
+    let Some(behind) = if_played(rt, tally, block.name.as_str(), behind)? else {
+        return Ok(());
+    };
+    let story = Story {
+        block,
+        chapters: &chapters,
+        behind: &behind,
+    };
+    play_story(rt, tally, story)
 }
 
 /// Plays the lives of each block.
@@ -132,12 +158,7 @@ pub fn play(rt: &HostRuntime, tally: &mut Tally, text: &str) -> io::Result<()> {
         return compare(rt, tally, "a script", "not read", "read");
     };
     for block in &blocks {
-        let chapters = chapters_of(rt.alloc(), block)?;
-        let story = Story {
-            block,
-            chapters: &chapters,
-        };
-        play_story(rt, tally, story)?;
+        play_block(rt, tally, block)?;
     }
     Ok(())
 }

@@ -1,12 +1,13 @@
 //! Lives of which one is stopped after each number of calls of each file in turn, until nothing is cut; and recoveries that are stopped
 //! behind such a stop.
 
-use crate::accounts::compare_account;
-use crate::chapters::{Chapter, Stops, chapters_of, lives_of};
+use crate::accounts::{compare_account, is_same};
+use crate::chapters::{Mark, Stops, chapters_of, place_of};
+use crate::stories::{Story, account_of, begun, if_played, played_up_to, whole_account_of};
 use crate::trial_disks::{BOTH, name_of};
 use dh_agency_scripts::{books_text, compare, compare_tables};
-use dh_lives::{Account, Stop, Which, rehearse};
-use dh_scripts::{Block, Tally, january, script};
+use dh_lives::{Account, Stop, Which};
+use dh_scripts::{Block, Tally, script};
 use std::alloc::{AllocError, Global};
 use std::io;
 
@@ -24,13 +25,6 @@ pub enum Recoveries {
 
 /// More than either file is asked to do in a life.
 const MOST: u32 = 1000;
-
-/// A block and its lives.
-#[derive(Clone, Copy)]
-pub struct Story<'a> {
-    pub block: &'a Block,
-    pub chapters: &'a [Chapter],
-}
 
 fn add_stop(alloc: Global, text: &mut String, what: &str, stop: Stop) -> Result<(), AllocError> {
     let words = format!(in alloc;
@@ -61,21 +55,33 @@ pub fn play_lives(
     stops: Stops,
 ) -> io::Result<Option<Account>> {
     let case = case_of(rt.alloc(), story, stops)?;
-    let Ok(lives) = lives_of(rt.alloc(), story.chapters, stops) else {
-        compare(rt, tally, case.as_str(), "not read", "read")?;
+    let account = account_of(rt.alloc(), story, stops);
+    let Some(account) = if_played(rt, tally, case.as_str(), account)? else {
         return Ok(None);
     };
-    match rehearse(rt.alloc(), january(), &lives) {
-        Ok(account) => {
-            compare_account(rt, tally, case.as_str(), story.chapters, &account)?;
-            Ok(Some(account))
-        }
-        Err(fault) => {
-            let got = fault.to_string(rt.alloc())?;
-            compare(rt, tally, case.as_str(), got.as_str(), "an account")?;
-            Ok(None)
-        }
-    }
+    compare_account(rt, tally, case.as_str(), story.chapters, &account)?;
+    Ok(Some(account))
+}
+
+/// Plays all lives with these stops, the first of them too, and compares their account with this one.
+pub fn compare_whole(
+    rt: &HostRuntime,
+    tally: &mut Tally,
+    story: Story<'_>,
+    stops: Stops,
+    account: &Account,
+) -> io::Result<()> {
+    let case = case_of(rt.alloc(), story, stops)?;
+    let whole = whole_account_of(rt.alloc(), story, stops);
+    let Some(whole) = if_played(rt, tally, case.as_str(), whole)? else {
+        return Ok(());
+    };
+    let got = if is_same(rt.alloc(), &whole, account)? {
+        "the same"
+    } else {
+        "another account"
+    };
+    compare(rt, tally, case.as_str(), got, "the same")
 }
 
 /// Compares the books in the end with the rows that the block names.
@@ -114,6 +120,27 @@ pub fn is_recovered(account: &Account) -> bool {
     true
 }
 
+// What a stop hits: a recovery, or a command, or nothing.
+#[derive(Clone, Copy, PartialEq, Eq)]
+struct Hit {
+    is_recovered: bool,
+    cut: Option<usize>,
+}
+
+impl Hit {
+    const NOTHING: Hit = Hit {
+        is_recovered: true,
+        cut: None,
+    };
+
+    fn of(account: &Account) -> Hit {
+        Hit {
+            is_recovered: is_recovered(account),
+            cut: cut_of(account),
+        }
+    }
+}
+
 /// After how many calls a life is stopped for the first time in its first command, in its second, and for the last time in any.
 #[derive(Clone, Copy)]
 pub struct Cuts {
@@ -141,7 +168,8 @@ impl Cuts {
     }
 }
 
-/// Stops the life after each number of calls of the file, until nothing is cut, and answers which of these stops cut which command.
+/// Stops the life after each number of calls of the file, until nothing is cut, and answers which of these stops cut which command. All
+/// lives are played again for the first stop that hits something else than the one before it.
 pub fn play_stops(
     rt: &HostRuntime,
     tally: &mut Tally,
@@ -149,6 +177,7 @@ pub fn play_stops(
     file: Which,
 ) -> io::Result<Cuts> {
     let mut cuts = Cuts::NONE;
+    let mut last = None;
     for after in 0..MOST {
         let stops = Stops {
             life: Some(Stop { file, after }),
@@ -157,18 +186,23 @@ pub fn play_stops(
         let Some(account) = play_lives(rt, tally, story, stops)? else {
             return Ok(cuts);
         };
-        let cut = cut_of(&account);
-        cuts.note(cut, after);
-        if cut.is_none() && is_recovered(&account) {
+        let hit = Hit::of(&account);
+        cuts.note(hit.cut, after);
+        if last != Some(hit) {
+            compare_whole(rt, tally, story, stops, &account)?;
+        }
+        if hit == Hit::NOTHING {
             compare_end(rt, tally, story.block, &account)?;
             return Ok(cuts);
         }
+        last = Some(hit);
     }
     compare(rt, tally, story.block.name.as_str(), "cut", "whole")?;
     Ok(cuts)
 }
 
-// Stops the recoveries after each number of calls of the file, until each returns.
+// Stops the recoveries after each number of calls of the file, until each returns. All lives are played again for the first of these
+// stops and for the last.
 fn play_recoveries_of(
     rt: &HostRuntime,
     tally: &mut Tally,
@@ -181,9 +215,15 @@ fn play_recoveries_of(
             life: Some(life),
             recovery: Some(Stop { file, after }),
         };
-        match play_lives(rt, tally, story, stops)? {
-            Some(account) if !is_recovered(&account) => {}
-            _ => return Ok(()),
+        let Some(account) = play_lives(rt, tally, story, stops)? else {
+            return Ok(());
+        };
+        let is_last = is_recovered(&account);
+        if is_last || after == 0 {
+            compare_whole(rt, tally, story, stops, &account)?;
+        }
+        if is_last {
+            return Ok(());
         }
     }
     compare(
@@ -195,7 +235,7 @@ fn play_recoveries_of(
     )
 }
 
-// The same of each file, if there is such a stop of the life.
+// The same of each file, behind such a stop of the life, if there is one.
 fn play_recoveries(
     rt: &HostRuntime,
     tally: &mut Tally,
@@ -206,8 +246,22 @@ fn play_recoveries(
     let Some(after) = after else {
         return Ok(());
     };
+    let life = Stop { file, after };
+    let stops = Stops {
+        life: Some(life),
+        recovery: None,
+    };
+    let end = place_of(story.chapters, Mark::Recovery);
+    let behind = played_up_to(rt.alloc(), story, end, stops);
+    let Some(behind) = if_played(rt, tally, story.block.name.as_str(), behind)? else {
+        return Ok(());
+    };
+    let story = Story {
+        behind: &behind,
+        ..story
+    };
     for other in BOTH {
-        play_recoveries_of(rt, tally, story, Stop { file, after }, other)?;
+        play_recoveries_of(rt, tally, story, life, other)?;
     }
     Ok(())
 }
@@ -237,6 +291,28 @@ fn play_file(
     Ok(())
 }
 
+fn play_block(
+    rt: &HostRuntime,
+    tally: &mut Tally,
+    block: &Block,
+    recoveries: Recoveries,
+) -> io::Result<()> {
+    let chapters = chapters_of(rt.alloc(), block)?;
+    let behind = begun(rt.alloc(), &chapters);
+    let Some(behind) = if_played(rt, tally, block.name.as_str(), behind)? else {
+        return Ok(());
+    };
+    let story = Story {
+        block,
+        chapters: &chapters,
+        behind: &behind,
+    };
+    for file in BOTH {
+        play_file(rt, tally, story, recoveries, file)?;
+    }
+    Ok(())
+}
+
 /// Plays the lives of each block once for each number of calls of each file after which the marked life is stopped, and where it says so
 /// once more for each after which its recoveries are. Where nothing is cut the rows are compared that the block names.
 pub fn play(
@@ -249,13 +325,7 @@ pub fn play(
         return compare(rt, tally, "a script", "not read", "read");
     };
     for block in &blocks {
-        let chapters = chapters_of(rt.alloc(), block)?;
-        let story = Story {
-            block,
-            chapters: &chapters,
-        };
-        play_file(rt, tally, story, recoveries, Which::Journal)?;
-        play_file(rt, tally, story, recoveries, Which::Database)?;
+        play_block(rt, tally, block, recoveries)?;
     }
     Ok(())
 }
