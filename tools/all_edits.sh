@@ -1,10 +1,11 @@
 #!/usr/bin/env bash
 # Tries every wrong body of the named crates, or of all: those that the gate tries (must-fail/*.edit) and those that are kept outside
 # the gate (must-fail/*.edit.md). It runs `rt ci` over these crates in a copy in which no other crate has wrong bodies, so it takes over
-# each proof that an earlier `rt ci` passed on this machine, and ends as `rt ci` does.
+# each proof that an earlier `rt ci` passed on this machine. It ends as `rt ci` does, but fails too if a wrong body is bad, or is refused
+# only because a proof file names what it took away: `rt ci` lets both pass.
 #   tools/all_edits.sh [CRATE..]
 #   tools/all_edits.sh --texts     only: that each old text stands once in its file
-set -eu
+set -euo pipefail
 cd "$(dirname "$0")/.."
 if [ "${1:-}" = --texts ]; then
     exec python3 - <<'PY'
@@ -33,7 +34,8 @@ if [ $# -eq 0 ]; then
     set -- $(find crates -path '*/must-fail/*.edit*' | cut -d/ -f2 | sort -u)
 fi
 copy=$(mktemp -d)
-trap 'rm -rf "$copy"' EXIT
+told=$(mktemp)
+trap 'rm -rf "$copy" "$told"' EXIT
 git ls-files -z --cached --others --exclude-standard | xargs -0 cp --parents -t "$copy" 2>/dev/null || true
 cd "$copy"
 git init -q .
@@ -48,4 +50,5 @@ for folder in crates/*/must-fail; do
         *) rm -r "$folder" ;;
     esac
 done
-rt ci "$@"
+rt ci "$@" 2>&1 | tee "$told"
+! grep -E 'BAD EDIT|only because a proof file names' "$told"
