@@ -7,7 +7,7 @@ ghost use Rattle.dh_tables.specs.Calls.{HasOurTables};
 ghost use Rattle.dh_schema.specs.Store.{IsReadyWith, tables};
 ghost use Rattle.dh_schema.specs.Tables.{IsSound};
 ghost use Rattle.dh_runs.specs.Problems.{IsNotTaken};
-ghost use Rattle.dh_runs.specs.Taking.{IsFirstProblem, IsProblemOf, IsResting};
+ghost use Rattle.dh_runs.specs.Taking.{HasTablesOfAnother, IsFirstProblem, IsProblemOf, IsResting};
 ghost use Rattle.dh_agency.specs.Agency.{IsClean, LeavesItsTables, machine, shown_by};
 ghost use Rattle.dh_agency.specs.Taken.{TakesAsTheyAre, TakesForward};
 ghost use Rattle.dh_agency.specs.Told.{IsMended, IsTorn};
@@ -20,7 +20,8 @@ use std::alloc::Global;
 /// Takes the tables as they are, with the run that they show as open, and changes nothing. Refusal 16 comes exactly where `meta`
 /// gives another version, and refusal 17 exactly where the tables are not sound, with 0 where a column does not hold a value of its
 /// kind or `meta` gives no version, or the least rule of the audit that is broken. Fault 21 comes where memory runs out, and
-/// fault 22 where the store fails. Tables that are not ours are one of these, and not touched.
+/// fault 22 where the store fails. Tables that are not ours are one of these, and not touched. So it is where `meta` gives our version
+/// and the tables are not those of it.
 pub fn attach<S: Alter>(
     alloc: Global,
     conn: Connection<S>,
@@ -30,7 +31,10 @@ pub fn attach<S: Alter>(
     ensures left { IfOk result (λ a. IsClean S.Store a → LeavesItsTables S.Store a) }
     ensures refused { IfErr result (λ e. HasCleanDisk (state S.Store e.conn) → IsProblemOf (state S.Store conn).now.trees e.cause) }
     ensures cause { IfErr result (λ e. IsFirstProblem e.cause) }
-    ensures others { ¬ HasOurTables (state S.Store conn) → IsErrAnd result (λ e. IsNotTaken (Err e.cause) × (e.conn ≡ conn)) }
+    ensures others { ¬ HasOurTables (state S.Store conn) → IsErrAnd result (λ e. IsNotTaken {X = Unit {0}} (Err e.cause) × (e.conn ≡ conn)) }
+    ensures another { HasTablesOfAnother (state S.Store conn) → IfOk result (λ a. ¬ IsClean S.Store a) }
+    ensures turned_away { HasTablesOfAnother (state S.Store conn)
+        → IfErr result (λ e. HasCleanDisk (state S.Store e.conn) → IsNotTaken {X = Unit {0}} (Err e.cause)) }
     ensures kept { IfOk result (λ a. TakesAsTheyAre (state S.Store conn) (shown_by S.Store a)) }
     ensures crash { IfErr result (λ e. TakesAsTheyAre (state S.Store conn) (state S.Store e.conn)) }
 {
@@ -53,7 +57,10 @@ pub fn recover<S: Alter>(
     ensures left { IfOk result (λ a. IsClean S.Store a → LeavesItsTables S.Store a) }
     ensures refused { IfErr result (λ e. HasCleanDisk (state S.Store e.conn) → IsProblemOf (state S.Store conn).now.trees e.cause) }
     ensures cause { IfErr result (λ e. IsFirstProblem e.cause) }
-    ensures others { ¬ HasOurTables (state S.Store conn) → IsErrAnd result (λ e. IsNotTaken (Err e.cause) × (e.conn ≡ conn)) }
+    ensures others { ¬ HasOurTables (state S.Store conn) → IsErrAnd result (λ e. IsNotTaken {X = Unit {0}} (Err e.cause) × (e.conn ≡ conn)) }
+    ensures another { HasTablesOfAnother (state S.Store conn) → IfOk result (λ a. ¬ IsClean S.Store a) }
+    ensures turned_away { HasTablesOfAnother (state S.Store conn)
+        → IfErr result (λ e. HasCleanDisk (state S.Store e.conn) → IsNotTaken {X = Unit {0}} (Err e.cause)) }
     ensures made { IfOk result (λ a. TakesForward (state S.Store conn) (shown_by S.Store a)) }
     ensures crash { IfErr result (λ e. TakesForward (state S.Store conn) (state S.Store e.conn)) }
     ensures halted { IfErr result (λ e. HasCleanDisk (state S.Store e.conn) → IsTrue (state S.Store e.conn).is_open

@@ -2,6 +2,7 @@
 
 use dh_books::Books;
 use dh_scripts::{ToLine, all_lines};
+use dh_types::Version;
 use std::alloc::{AllocError, Global};
 use std::collections::btree_map::Values;
 
@@ -38,14 +39,23 @@ fn add_lettings(alloc: Global, text: &mut String, books: &Books) -> Result<(), A
 
 fn add_accounts(alloc: Global, text: &mut String, books: &Books) -> Result<(), AllocError> {
     add_rows(alloc, text, "leases", books.leases())?;
+    add_rows(alloc, text, "endings", books.endings())?;
     add_rows(alloc, text, "charges", books.charges())?;
     add_rows(alloc, text, "receipts", books.receipts())?;
     add_rows(alloc, text, "runs", books.runs())?;
     add_rows(alloc, text, "parts", books.parts())
 }
 
+/// `first` or `second`.
+pub fn version_name(version: Version) -> &'static str {
+    match version {
+        Version::First => "first",
+        Version::Second => "second",
+    }
+}
+
 /// The records of the books, each kind's on a line behind its name, rising by key; `none` where there is none; and the first and the
-/// next month.
+/// next month, and the version.
 pub fn books_text(alloc: Global, books: &Books) -> Result<String, AllocError> {
     let mut text = String::new(alloc);
     add_people(alloc, &mut text, books)?;
@@ -53,5 +63,6 @@ pub fn books_text(alloc: Global, books: &Books) -> Result<String, AllocError> {
     add_accounts(alloc, &mut text, books)?;
     let months = format!(in alloc; "{} {}", books.first(), books.next())?;
     add_line(&mut text, "months", months.as_str())?;
+    add_line(&mut text, "version", version_name(books.version()))?;
     Ok(text)
 }

@@ -6,12 +6,13 @@ ghost use Rattle.dh_schema.specs.Store.{IsReady};
 ghost use Rattle.dh_runs.specs.Taking.{IsResting};
 
 use crate::lives::problem_text;
-use dh_runs::{Problem, check};
+use crate::sound::sound_books;
+use dh_runs::Problem;
 use dh_schema::{KeyedRecord, find};
 use dh_scripts::{Fields, ToLine, Unreadable};
 use dh_types::{
-    Branch, Charge, ChargeIndex, Client, EntryDay, EntryMonth, Id, Inspection, Lease, LeaseNo,
-    Owner, Part, Property, Receipt, ReceiptNo, Registration, Run, Staff, Viewing,
+    Branch, Charge, ChargeIndex, Client, Ending, EntryDay, EntryMonth, Id, Inspection, Lease,
+    LeaseNo, Owner, Part, Property, Receipt, ReceiptNo, Registration, Run, Staff, Viewing,
 };
 use sqlite::{Alter, Connection};
 use std::alloc::{AllocError, Global};
@@ -28,6 +29,7 @@ enum Sought {
     Viewing((Id, Id)),
     Inspection((Id, EntryDay)),
     Lease(LeaseNo),
+    Ending(LeaseNo),
     Charge((LeaseNo, ChargeIndex)),
     Receipt(ReceiptNo),
     Run(EntryMonth),
@@ -37,6 +39,7 @@ enum Sought {
 fn sought_of_lease(kind: &str, fields: &mut Fields) -> Result<Sought, Unreadable> {
     match kind {
         "lease" => Ok(Sought::Lease(fields.lease_no()?)),
+        "ending" => Ok(Sought::Ending(fields.lease_no()?)),
         "charge" => Ok(Sought::Charge((fields.lease_no()?, fields.charge_index()?))),
         "receipt" => Ok(Sought::Receipt(fields.receipt_no()?)),
         "run" => Ok(Sought::Run(fields.month()?)),
@@ -85,6 +88,7 @@ fn lease_line<S: Alter>(
 {
     match sought {
         Sought::Lease(key) => line_of::<Lease, S>(alloc, conn, &key),
+        Sought::Ending(key) => line_of::<Ending, S>(alloc, conn, &key),
         Sought::Charge(key) => line_of::<Charge, S>(alloc, conn, &key),
         Sought::Receipt(key) => line_of::<Receipt, S>(alloc, conn, &key),
         Sought::Run(key) => line_of::<Run, S>(alloc, conn, &key),
@@ -120,7 +124,7 @@ fn line_found<S: Alter>(
 ) -> Result<String, Problem>
     requires { HasCleanDisk (state S.Store conn.old) → IsResting (state S.Store conn.old) }
 {
-    check(alloc, conn)?;
+    let _books = sound_books(alloc, conn)?;
     line(alloc, conn, sought)
 }
 

@@ -1,5 +1,6 @@
 //! Scripts of one store whose power is cut before each line and behind each command and recovery: it is opened anew, and an agency
-//! takes its tables as they are, or recovers them. A line `sql,STATEMENT` is what another program does to the store.
+//! takes its tables as they are, or recovers them. A line `sql,STATEMENT` is what another program does to the store, and at `later tables`
+//! it makes the tables that came with the second version.
 
 ghost use Rattle.sqlite.specs.State.{HasCleanDisk};
 ghost use Rattle.sqlite.specs.Held.{state};
@@ -11,6 +12,7 @@ use crate::comparing::compare;
 use crate::rows::all_rows;
 use crate::scripts::{compare_tables, parted, table_of};
 use dh_agency::{Agency, NotOpened, Problem, attach, recover};
+use dh_catalog::texts::{FIRST_COUNT, TEXTS};
 use dh_fields::Request;
 use dh_histories::crashing::{next_life, recovery_and_crash, step_and_crash};
 use dh_scripts::{Block, Tally, request, script};
@@ -68,6 +70,25 @@ fn edited<S: Alter>(alloc: Global, mut conn: Connection<S>, statement: &str) -> 
     (done.to_string(alloc), conn)
 }
 
+fn makes_later_tables<S: Alter>(conn: &mut Connection<S>) -> bool {
+    for text in &TEXTS[FIRST_COUNT..] {
+        if conn.execute(text, &[]).is_err() {
+            return false;
+        }
+    }
+    true
+}
+
+// The tables that came with the second version, made by another program.
+fn with_later_tables<S: Alter>(alloc: Global, mut conn: Connection<S>) -> Lived<S> {
+    let done = if makes_later_tables(&mut conn) {
+        "done"
+    } else {
+        "not done"
+    };
+    (done.to_string(alloc), conn)
+}
+
 /// One line over tables that were just opened: `attach` and `recover` say what they are, `batch` is the next batch of the open run, posted
 /// without an agency, and for every other line an agency takes the tables as they are.
 pub fn told_anew<S: Alter>(alloc: Global, mut conn: Connection<S>, line: &str) -> Lived<S>
@@ -75,6 +96,7 @@ pub fn told_anew<S: Alter>(alloc: Global, mut conn: Connection<S>, line: &str) -
 {
     match (line, line.strip_prefix("sql,")) {
         (_, Some(statement)) => edited(alloc, conn, statement),
+        ("later tables", None) => with_later_tables(alloc, conn),
         ("recover", None) => given_up(alloc, recover(alloc, conn), "recovered"),
         ("attach", None) => given_up(alloc, attach(alloc, conn), "attached"),
         ("batch", None) => (batch_text(alloc, &mut conn), conn),

@@ -5,7 +5,7 @@ use sqlite::{Alter, Connection, Row};
 use std::alloc::{AllocError, Global};
 use std::str;
 
-// The tables, each with the query for its rows, rising by key.
+// The tables of the first version, each with the query for its rows, rising by key.
 const TABLES: [(&str, &str); 14] = [
     (
         "branch",
@@ -65,6 +65,22 @@ const TABLES: [(&str, &str); 14] = [
     ),
 ];
 
+// Those that came with the second.
+const LATER_TABLES: [(&str, &str); 3] = [
+    (
+        "branch_fee",
+        "SELECT branch_no, fee FROM branch_fee ORDER BY branch_no",
+    ),
+    (
+        "part_fee",
+        "SELECT month, branch_no, fee, fee_total FROM part_fee ORDER BY month, branch_no",
+    ),
+    (
+        "ending",
+        "SELECT lease_no, months FROM ending ORDER BY lease_no",
+    ),
+];
+
 fn cell_text(alloc: Global, value: ValueRef<'_>) -> Result<String, AllocError> {
     match value {
         ValueRef::Null => "NULL".to_string(alloc),
@@ -102,10 +118,14 @@ pub fn found<S: Alter>(
     Ok(text)
 }
 
-/// The rows of all tables, each table's on a line behind its name; `none` where it has none.
-pub fn all_rows<S: Alter>(alloc: Global, conn: &mut Connection<S>) -> Result<String, AllocError> {
+// The rows of these tables, each table's on a line behind its name; `none` where it has none.
+fn rows_by<S: Alter>(
+    alloc: Global,
+    conn: &mut Connection<S>,
+    tables: &[(&str, &str)],
+) -> Result<String, AllocError> {
     let mut text = String::new(alloc);
-    for (name, sql) in TABLES {
+    for (name, sql) in tables {
         text.push_str(name)?;
         text.push_str(": ")?;
         let rows = found(alloc, conn, sql)?;
@@ -117,6 +137,16 @@ pub fn all_rows<S: Alter>(alloc: Global, conn: &mut Connection<S>) -> Result<Str
         text.push_str("\n")?;
     }
     Ok(text)
+}
+
+/// The rows of all tables of the first version, each table's on a line behind its name; `none` where it has none.
+pub fn all_rows<S: Alter>(alloc: Global, conn: &mut Connection<S>) -> Result<String, AllocError> {
+    rows_by(alloc, conn, &TABLES)
+}
+
+/// So of the tables that came with the second version; `no rows` where there is no such table.
+pub fn later_rows<S: Alter>(alloc: Global, conn: &mut Connection<S>) -> Result<String, AllocError> {
+    rows_by(alloc, conn, &LATER_TABLES)
 }
 
 /// The rows of the table that is named so, in such a text.

@@ -3,9 +3,10 @@
 ghost use Rattle.std.specs.Prelude.{◌≤◌};
 ghost use Rattle.dh_days.specs.declared.limits.TheConstants.{LAST_ENTRY_MONTH};
 
+use crate::books::version_name;
 use dh_books::Books;
-use dh_schema::{LoadFault, install, load, version};
-use dh_types::Month;
+use dh_schema::{FileVersion, LoadFault, install, load, version};
+use dh_types::{Month, Version};
 use sqlite::{Alter, Connection};
 use std::alloc::{AllocError, Global};
 
@@ -59,6 +60,7 @@ fn properties(books: &Books) -> usize {
 fn leases(books: &Books) -> usize {
     sum(&[
         books.leases().count(),
+        books.endings().count(),
         books.charges().count(),
         books.receipts().count(),
         books.runs().count(),
@@ -66,14 +68,34 @@ fn leases(books: &Books) -> usize {
     ])
 }
 
-/// How many rows the tables have, or why they are not loaded.
+// What stands behind a text of books or tables of this version: nothing of the first.
+fn of_the_version(alloc: Global, version: Version) -> Result<String, AllocError> {
+    match version {
+        Version::First => Ok(String::new(alloc)),
+        Version::Second => format!(in alloc; " of the {} version", version_name(version)),
+    }
+}
+
+fn books_loaded_text(alloc: Global, books: &Books) -> Result<String, AllocError> {
+    let rows = sum(&[people(books), properties(books), leases(books)]);
+    let version = of_the_version(alloc, books.version())?;
+    format!(in alloc; "{rows} rows{}", version.as_str())
+}
+
+/// How many rows the tables have, and of which version the books are where it is not the first; or why they are not loaded.
 pub fn load_text<S: Alter>(alloc: Global, conn: &mut Connection<S>) -> Result<String, AllocError> {
     match load(alloc, conn) {
-        Ok(books) => {
-            let rows = sum(&[people(&books), properties(&books), leases(&books)]);
-            format!(in alloc; "{rows} rows")
-        }
+        Ok(books) => books_loaded_text(alloc, &books),
         Err(fault) => fault_text(alloc, fault),
+    }
+}
+
+// The number that meta gives, and of which version the tables are where it is not the first.
+fn file_version_text(alloc: Global, found: FileVersion) -> Result<String, AllocError> {
+    let number = found.number;
+    match found.tables {
+        Version::First => format!(in alloc; "version {number}"),
+        Version::Second => format!(in alloc; "version {number} in tables of the second"),
     }
 }
 
@@ -83,7 +105,7 @@ pub fn version_text<S: Alter>(
     conn: &mut Connection<S>,
 ) -> Result<String, AllocError> {
     match version(alloc, conn) {
-        Ok(number) => format!(in alloc; "version {number}"),
+        Ok(found) => file_version_text(alloc, found),
         Err(fault) => fault_text(alloc, fault),
     }
 }

@@ -26,7 +26,7 @@ fn covered(alloc: Global, books: &Books, day: Day) -> Result<BTreeSet<Id>, Alloc
 {
     let mut numbers = BTreeSet::new(alloc);
     for lease in books.leases() {
-        if covers(&lease.terms, day) {
+        if covers(&books.running(lease), day) {
             let _is_new = numbers.insert(lease.terms.property)?;
         }
     }

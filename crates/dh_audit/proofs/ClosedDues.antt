@@ -9,8 +9,8 @@ use Rattle.dh_days.specs.Days.{month_of_day, plus_months}
 use Rattle.dh_types.specs.declared.property.Property.{Property}
 use Rattle.dh_types.specs.declared.lease.Lease.{Lease}
 use Rattle.dh_types.specs.declared.lease.Charge.{Charge}
-use Rattle.dh_model.specs.Books.{Books}
-use Rattle.dh_model.specs.Leases.{due, dues, dues_among, dues_of}
+use Rattle.dh_model.specs.Books.{Books, Endings}
+use Rattle.dh_model.specs.Leases.{due, dues, dues_among, dues_of, length_of}
 use Rattle.dh_model.specs.Runs.{dues_of_branch, is_property_of}
 use Rattle.dh_model.proofs.DueLemmas.{falls_in}
 use Rattle.dh_leases.proofs.DueIn.{its_due}
@@ -39,12 +39,12 @@ module _ (books : Books) where
   abbrev place_of : Lease → Option (List ℕ)
   place_of lease = branch_of (get books.properties lease.terms.property)
 
-  charges_of_all : (leases : List Lease) → map charge_of (flat_map (dues_at books) leases) ≡ flat_map dues_of leases
+  charges_of_all : (leases : List Lease) → map charge_of (flat_map (dues_at books) leases) ≡ flat_map (dues_of books.endings) leases
   charges_of_all [] = refl
   charges_of_all (lease ∷ leases) =
       map-append charge_of (dues_at books lease) (flat_map (dues_at books) leases)
-      ∙ ap (λ cs. cs ++ map charge_of (flat_map (dues_at books) leases)) (charges_at (place_of lease) (dues_of lease))
-      ∙ ap (λ cs. dues_of lease ++ cs) (charges_of_all leases)
+      ∙ ap (λ cs. cs ++ map charge_of (flat_map (dues_at books) leases)) (charges_at (place_of lease) (dues_of books.endings lease))
+      ∙ ap (λ cs. dues_of books.endings lease ++ cs) (charges_of_all leases)
 
   -- of all dues, those of a month are what falls due then
   pub month_of_all : (month : ℕ) → charges_of_month (all_dues books) month ≡ dues books month
@@ -81,19 +81,20 @@ module _ (books : Books) where
         ap (λ a. map charge_of (cond (nat_eq c.month month && a) (due_at place c ∷ rest) rest)) e
         ∙ one_kept b (nat_eq c.month month) (due_at place c) rest (filter (falls_in month) cs) (of_one_lease place b e cs)
 
-    with_lease : (b : Bool) (lease : Lease) (kept : List Lease) → cond b (filter (falls_in month) (dues_of lease)) []
-        ++ dues_among kept month ≡ dues_among (cond b (lease ∷ kept) kept) month
-    with_lease true lease kept = sym (filter-append (falls_in month) (dues_of lease) (flat_map dues_of kept))
+    with_lease : (b : Bool) (lease : Lease) (kept : List Lease) → cond b (filter (falls_in month) (dues_of books.endings lease)) []
+        ++ dues_among books.endings kept month ≡ dues_among books.endings (cond b (lease ∷ kept) kept) month
+    with_lease true lease kept = sym (filter-append (falls_in month) (dues_of books.endings lease) (flat_map (dues_of books.endings) kept))
     with_lease false lease kept = refl
 
-    of_leases : (leases : List Lease) → map charge_of (filter falls_here (flat_map (dues_at books) leases)) ≡ dues_among (filter of_branch leases) month
+    of_leases : (leases : List Lease) → map charge_of (filter falls_here (flat_map (dues_at books) leases))
+        ≡ dues_among books.endings (filter of_branch leases) month
     of_leases [] = refl
     of_leases (lease ∷ leases) =
         ap (map charge_of) (filter-append falls_here (dues_at books lease) (flat_map (dues_at books) leases))
         ∙ map-append charge_of (filter falls_here (dues_at books lease)) (filter falls_here (flat_map (dues_at books) leases))
         ∙ ap (λ cs. cs ++ map charge_of (filter falls_here (flat_map (dues_at books) leases)))
-        (of_one_lease (place_of lease) (of_branch lease) (same_place branch (get books.properties lease.terms.property)) (dues_of lease))
-        ∙ ap (λ cs. cond (of_branch lease) (filter (falls_in month) (dues_of lease)) [] ++ cs) (of_leases leases)
+        (of_one_lease (place_of lease) (of_branch lease) (same_place branch (get books.properties lease.terms.property)) (dues_of books.endings lease))
+        ∙ ap (λ cs. cond (of_branch lease) (filter (falls_in month) (dues_of books.endings lease)) [] ++ cs) (of_leases leases)
         ∙ with_lease (of_branch lease) lease (filter of_branch leases)
 
     -- and those of a month at a branch are what falls due there
@@ -101,23 +102,26 @@ module _ (books : Books) where
     branch_of_all = of_leases (values books.leases)
 
 -- what falls due on the lease from an index on
-abbrev pub left : Option (List ℕ) → Lease → ℕ → List Due
-left branch lease i = map (due_at branch) (map (due lease) (range_with_len i (lease.terms.months - i)))
+abbrev pub left : Endings → Option (List ℕ) → Lease → ℕ → List Due
+left endings branch lease i = map (due_at branch) (map (due lease) (range_with_len i (length_of endings lease - i)))
 
-module _ (branch : Option (List ℕ)) (lease : Lease) where
-  pub left_all : left branch lease 0 ≡ map (due_at branch) (dues_of lease)
-  left_all = let n : lease.terms.months - 0 ≡ lease.terms.months = omega arith in ap (λ n. map (due_at branch) (map (due lease) (range_with_len 0 n))) n
+module _ (endings : Endings) (branch : Option (List ℕ)) (lease : Lease) where
+  abbrev months : ℕ
+  months = length_of endings lease
 
-  pub left_none : (i : ℕ) → lease.terms.months ≤ i → left branch lease i ≡ []
-  left_none i h = let n : lease.terms.months - i ≡ 0 = omega (arith, h) in ap (λ n. map (due_at branch) (map (due lease) (range_with_len i n))) n
+  pub left_all : left endings branch lease 0 ≡ map (due_at branch) (dues_of endings lease)
+  left_all = let n : months - 0 ≡ months = omega arith in ap (λ n. map (due_at branch) (map (due lease) (range_with_len 0 n))) n
 
-  module _ (i : ℕ) (within : i < lease.terms.months) where
-    left_first : left branch lease i ≡ due_at branch (due lease i) ∷ left branch lease (i + 1)
-    left_first = let n : lease.terms.months - i ≡ suc (lease.terms.months - (i + 1)) = omega (arith, within) in
+  pub left_none : (i : ℕ) → months ≤ i → left endings branch lease i ≡ []
+  left_none i h = let n : months - i ≡ 0 = omega (arith, h) in ap (λ n. map (due_at branch) (map (due lease) (range_with_len i n))) n
+
+  module _ (i : ℕ) (within : i < months) where
+    left_first : left endings branch lease i ≡ due_at branch (due lease i) ∷ left endings branch lease (i + 1)
+    left_first = let n : months - i ≡ suc (months - (i + 1)) = omega (arith, within) in
         ap (λ n. map (due_at branch) (map (due lease) (range_with_len i n))) n
 
-    its : (month : ℕ) → month ≡ month_of_day lease.terms.start + i → due lease i ∷ [] ≡ dues_among (lease ∷ []) month
-    its month is = its_due lease month i i (month_of_day lease.terms.start + i) (plus_months lease.terms.start i) (sym is) within refl (sym is) refl
+    its : (month : ℕ) → month ≡ month_of_day lease.terms.start + i → due lease i ∷ [] ≡ dues_among endings (lease ∷ []) month
+    its month is = its_due endings lease month i i (month_of_day lease.terms.start + i) (plus_months lease.terms.start i) (sym is) within refl (sym is) refl
 
     first_of : (x y : Charge) → x ∷ [] ≡ y ∷ [] → x ≡ y
     first_of x y e = cc
@@ -125,17 +129,17 @@ module _ (branch : Option (List ℕ)) (lease : Lease) where
     none_of : (y : Charge) → [] ≡ y ∷ [] → ⊥
     none_of y e = cc
 
-    pub some_due : (month : ℕ) → month ≡ month_of_day lease.terms.start + i → [] ≡ dues_among (lease ∷ []) month → ⊥
+    pub some_due : (month : ℕ) → month ≡ month_of_day lease.terms.start + i → [] ≡ dues_among endings (lease ∷ []) month → ⊥
     some_due month is none = none_of (due lease i) (none ∙ sym (its month is))
 
     -- one due more at the end of what was made
     pub due_added : (old new all : List Due) (charge : Charge) (month : ℕ) → month ≡ month_of_day lease.terms.start + i → charge
-        ∷ [] ≡ dues_among (lease ∷ []) month
-        → new ≡ old ++ due_at branch charge ∷ [] → old ++ left branch lease i ≡ all → new ++ left branch lease (i + 1) ≡ all
+        ∷ [] ≡ dues_among endings (lease ∷ []) month
+        → new ≡ old ++ due_at branch charge ∷ [] → old ++ left endings branch lease i ≡ all → new ++ left endings branch lease (i + 1) ≡ all
     due_added old new all charge month is made added so_far =
         let same : charge ≡ due lease i = first_of charge (due lease i) (made ∙ sym (its month is)) in
-        ap (λ ds. ds ++ left branch lease (i + 1)) (added ∙ ap (λ c. old ++ due_at branch c ∷ []) same)
-        ∙ append_assoc old (due_at branch (due lease i) ∷ []) (left branch lease (i + 1))
+        ap (λ ds. ds ++ left endings branch lease (i + 1)) (added ∙ ap (λ c. old ++ due_at branch c ∷ []) same)
+        ∙ append_assoc old (due_at branch (due lease i) ∷ []) (left endings branch lease (i + 1))
         ∙ ap (λ ds. old ++ ds) (sym left_first) ∙ so_far
 
 -- the dues of the first of the leases that are left, put at the end of what was made

@@ -2,14 +2,16 @@
 use Rattle.std.proofs.Common.{◌≡◌, ◌∙◌, refl, sym, ap, subst, inl, inr, ℕ, ◌+◌, ◌<◌, ◌≤◌, List, [], ◌∷◌, slice_index_or, arith}
 use Rattle.std.proofs.lemmas.Bool.{cases_lt}
 use Rattle.dh_model.specs.Books.{Books}
-use Rattle.dh_model.specs.Rules.{Holds, Rule, References, Branches, Managers, Overlaps, Starts, Terms, Deposits, Keys, Runs, Months, MeetsRules, rule_number}
+use Rattle.dh_model.specs.Rules.{Holds, MeetsRules, Rule, rule_number}
+use Rattle.dh_model.specs.Rules.{References, Branches, Managers, Overlaps, Starts, Terms, Deposits, Keys, Runs, Months, Endings}
 use Rattle.dh_audit.specs.Audit.{HoldBelow, IsLeastBroken}
 
+-- the rules by their numbers; no rule has the numbers 0 and 11
 abbrev rules : List Rule
-rules = Months ∷ References ∷ Branches ∷ Managers ∷ Overlaps ∷ Starts ∷ Terms ∷ Deposits ∷ Keys ∷ Runs ∷ Months ∷ []
+rules = References ∷ References ∷ Branches ∷ Managers ∷ Overlaps ∷ Starts ∷ Terms ∷ Deposits ∷ Keys ∷ Runs ∷ Months ∷ References ∷ Endings ∷ []
 
 abbrev rule_of : ℕ → Rule
-rule_of number = slice_index_or rules number Months
+rule_of number = slice_index_or rules number References
 
 same_rule : (rule : Rule) → rule_of (rule_number rule) ≡ rule
 same_rule References = refl
@@ -22,6 +24,7 @@ same_rule Deposits = refl
 same_rule Keys = refl
 same_rule Runs = refl
 same_rule Months = refl
+same_rule Endings = refl
 
 at_least_one : (rule : Rule) → 1 ≤ rule_number rule
 at_least_one References = omega arith
@@ -34,18 +37,33 @@ at_least_one Deposits = omega arith
 at_least_one Keys = omega arith
 at_least_one Runs = omega arith
 at_least_one Months = omega arith
+at_least_one Endings = omega arith
 
-at_most_ten : (rule : Rule) → rule_number rule < 11
-at_most_ten References = omega arith
-at_most_ten Branches = omega arith
-at_most_ten Managers = omega arith
-at_most_ten Overlaps = omega arith
-at_most_ten Starts = omega arith
-at_most_ten Terms = omega arith
-at_most_ten Deposits = omega arith
-at_most_ten Keys = omega arith
-at_most_ten Runs = omega arith
-at_most_ten Months = omega arith
+at_most_twelve : (rule : Rule) → rule_number rule < 13
+at_most_twelve References = omega arith
+at_most_twelve Branches = omega arith
+at_most_twelve Managers = omega arith
+at_most_twelve Overlaps = omega arith
+at_most_twelve Starts = omega arith
+at_most_twelve Terms = omega arith
+at_most_twelve Deposits = omega arith
+at_most_twelve Keys = omega arith
+at_most_twelve Runs = omega arith
+at_most_twelve Months = omega arith
+at_most_twelve Endings = omega arith
+
+no_eleventh : (rule : Rule) → rule_number rule ≡ 11 → ⊥
+no_eleventh References is = omega (arith, is)
+no_eleventh Branches is = omega (arith, is)
+no_eleventh Managers is = omega (arith, is)
+no_eleventh Overlaps is = omega (arith, is)
+no_eleventh Starts is = omega (arith, is)
+no_eleventh Terms is = omega (arith, is)
+no_eleventh Deposits is = omega (arith, is)
+no_eleventh Keys is = omega (arith, is)
+no_eleventh Runs is = omega (arith, is)
+no_eleventh Months is = omega (arith, is)
+no_eleventh Endings is = omega (arith, is)
 
 module _ (books : Books) (size : ℕ) where
   pub below_first : HoldBelow books size 1
@@ -60,8 +78,15 @@ module _ (books : Books) (size : ℕ) where
         subst (Holds books size) (sym (same_rule rule) ∙ ap rule_of numbers ∙ same_rule other) holds
   ]
 
-  pub all_rules : HoldBelow books size 11 → MeetsRules books size
-  all_rules below = λ rule. below rule (at_most_ten rule)
+  -- no rule has the number 11
+  pub below_12 : HoldBelow books size 11 → HoldBelow books size 12
+  below_12 below = λ rule less. elim (cases_lt (rule_number rule) 11) [
+    | inl lesser ↦ below rule lesser
+    | inr more ↦ absurd (no_eleventh rule (omega (arith, less, more)))
+  ]
+
+  pub all_rules : HoldBelow books size 13 → MeetsRules books size
+  all_rules below = λ rule. below rule (at_most_twelve rule)
 
   abbrev It : Rule → Type 0
   It = Holds books size

@@ -14,6 +14,7 @@ pub record NamedByKind (books : Books) : Type 0 where
   pub charges : Each books.charges (Refers books Kind.Charges)
   pub receipts : Each books.receipts (Refers books Kind.Receipts)
   pub parts : Each books.parts (Refers books Kind.Parts)
+  pub endings : Each books.endings (Refers books Kind.Endings)
 
 module _ (books : Books) where
   names_of_kinds : NamedByKind books → NamesWhatIsThere books
@@ -26,7 +27,11 @@ module _ (books : Books) where
   names_of_kinds named Kind.Charges = named.charges
   names_of_kinds named Kind.Receipts = named.receipts
   names_of_kinds named Kind.Parts = named.parts
-  names_of_kinds named kind = λ row a. tt
+  names_of_kinds named Kind.Endings = named.endings
+  names_of_kinds named Kind.Branches = λ row a. tt
+  names_of_kinds named Kind.Owners = λ row a. tt
+  names_of_kinds named Kind.Clients = λ row a. tt
+  names_of_kinds named Kind.Runs = λ row a. tt
 
   kinds_of_names : NamesWhatIsThere books → NamedByKind books
   kinds_of_names names =
@@ -40,6 +45,7 @@ module _ (books : Books) where
         charges = names Kind.Charges;
         receipts = names Kind.Receipts;
         parts = names Kind.Parts;
+        endings = names Kind.Endings;
       }
 
   pub by_kind : (found : Bool) → ((found ≡ true) ↔ NamedByKind books) → (found ≡ true) ↔ NamesWhatIsThere books

@@ -11,16 +11,17 @@ use Rattle.std.proofs.lemmas.Bool.Decides.{nat_tests}
 use Rattle.std.proofs.lemmas.Cmp.{tied_itself}
 use Rattle.std.proofs.lemmas.List.Sorted.{All-permutation, IsPermutation-sym, ranks_by, sorted_far}
 use Rattle.dh_types.specs.declared.lease.Lease.{Lease}
+use Rattle.dh_types.specs.declared.lease.LeaseTerms.{LeaseTerms}
 use Rattle.dh_types.proofs.SameValues.{texts}
-use Rattle.dh_model.specs.Books.{pair_cmp, text_cmp}
+use Rattle.dh_model.specs.Books.{Endings, pair_cmp, text_cmp}
 use Rattle.dh_model.specs.Checks.{is_same_text}
-use Rattle.dh_model.specs.Leases.{overlap}
+use Rattle.dh_model.specs.Leases.{overlap, running}
 use Rattle.dh_model.proofs.Among.{Among, is_among, of_map}
 use Rattle.dh_model.proofs.KeyOrders.{nat_total, pair_total, text_ties, text_total}
 use Rattle.dh_model.proofs.LeaseLemmas.{overlap_is_by_ends}
 use Rattle.dh_model.proofs.Rising.{Rises}
 use Rattle.dh_audit.specs.declared.stays.Stay.{Stay}
-use Rattle.dh_audit.specs.Stays.{IsSound, makes_way, stay_key, stay_of}
+use Rattle.dh_audit.specs.Stays.{IsSound, makes_way, stay_key, stay_on}
 use Rattle.dh_audit.proofs.Pairs.{false_from_not, pairs_from_rises, rises_from_pairs, rises_like, rises_mapped, rises_unmapped}
 use Rattle.dh_audit.proofs.Permuted.{pairs_permuted}
 use Rattle.dh_audit.proofs.Rows.{element}
@@ -175,41 +176,49 @@ module _ (stays : List Stay) (sound : All IsSound stays) (sorted : IsSortedByKey
     λ clear. let it = element stays h.0 (omega (arith, h.1)) in absurd (never_clear h.0 it.0 h.1 (sym (h.2 it.0)) clear),
   )
 
-abbrev stay_on : Lease → Stay
-stay_on lease = stay_of lease.terms
+abbrev Apart : Endings → Lease → Lease → Type 0
+Apart endings lease other = overlap (running endings lease) (running endings other) ≡ false
 
-abbrev Apart : Lease → Lease → Type 0
-Apart lease other = overlap lease.terms other.terms ≡ false
+module _ (endings : Endings) where
+  module _ (lease other : Lease) (s : IsSound (stay_on endings lease)) (t : IsSound (stay_on endings other)) where
+    abbrev runs : LeaseTerms
+    runs = running endings lease
 
-module _ (lease other : Lease) (s : IsSound (stay_on lease)) (t : IsSound (stay_on other)) where
-  apart_if_clear : Clear (stay_on lease) (stay_on other) → Apart lease other
-  apart_if_clear clear = false_from_not (overlap lease.terms other.terms) (λ yes.
-      let ends = (overlap_is_by_ends lease.terms other.terms s.day t.day s.later t.later).0 yes in
-      clear ends.0 ends.1 ends.2)
+    abbrev other_runs : LeaseTerms
+    other_runs = running endings other
 
-  clear_if_apart : Apart lease other → Clear (stay_on lease) (stay_on other)
-  clear_if_apart apart same p q = false≢true (sym apart ∙ (overlap_is_by_ends lease.terms other.terms s.day t.day s.later t.later).1 (same, p, q))
+    apart_if_clear : Clear (stay_on endings lease) (stay_on endings other) → Apart endings lease other
+    apart_if_clear clear = false_from_not (overlap runs other_runs) (λ yes.
+        let ends = (overlap_is_by_ends runs other_runs s.day t.day s.later t.later).0 yes in
+        clear ends.0 ends.1 ends.2)
 
-sound_at : (leases : List Lease) → All IsSound (map stay_on leases) → (lease : Lease) → Among leases lease → IsSound (stay_on lease)
-sound_at leases all lease a =
-    let is = is_among (map stay_on leases) (stay_on lease) (of_map stay_on leases lease a) in
-    subst IsSound (sym is.1.1) (all is.0 (stay_on lease) is.1.0)
+    clear_if_apart : Apart endings lease other → Clear (stay_on endings lease) (stay_on endings other)
+    clear_if_apart apart same p q = false≢true (sym apart ∙ (overlap_is_by_ends runs other_runs s.day t.day s.later t.later).1 (same, p, q))
 
--- whether no two leases of one property cover a common day
-pub stays_tell : (leases : List Lease) (stays : List Stay) (b : Bool) → IsPermutation (map (λ lease. stay_of lease.terms) leases) stays → All IsSound stays
-    → IsSortedByKey stay_key (pair_cmp text_cmp nat_cmp) stays
-    → IsAllAdjacentAnswer (λ stay next free. free ≡ makes_way stay next) stays b → (b ≡ true)
-    ↔ AllPairs (λ lease other. overlap lease.terms other.terms ≡ false) leases
-stays_tell leases stays b moved sound sorted answer =
-    let back = IsPermutation-sym (map stay_on leases) stays moved in
-    let sound_on = sound_at leases (All-permutation IsSound stays (map stay_on leases) back sound) in
-    let tell = clear_tell stays sound sorted b answer in (
-      λ yes. pairs_from_rises Apart leases
-          (rises_like (λ l k. Clear (stay_on l) (stay_on k)) Apart leases (λ l k p q. apart_if_clear l k (sound_on l p) (sound_on k q))
-          (rises_unmapped Clear stay_on leases
-          (rises_from_pairs Clear (map stay_on leases) (pairs_permuted Clear clear_back stays (map stay_on leases) back (tell.0 yes))))),
-      λ apart. tell.1 (pairs_permuted Clear clear_back (map stay_on leases) stays moved (pairs_from_rises Clear (map stay_on leases)
-          (rises_mapped Clear stay_on leases
-          (rises_like Apart (λ l k. Clear (stay_on l) (stay_on k)) leases (λ l k p q. clear_if_apart l k (sound_on l p) (sound_on k q))
-          (rises_from_pairs Apart leases apart))))),
-    )
+  sound_at : (leases : List Lease) → All IsSound (map (stay_on endings) leases) → (lease : Lease) → Among leases lease → IsSound (stay_on endings lease)
+  sound_at leases all lease a =
+      let is = is_among (map (stay_on endings) leases) (stay_on endings lease) (of_map (stay_on endings) leases lease a) in
+      subst IsSound (sym is.1.1) (all is.0 (stay_on endings lease) is.1.0)
+
+  abbrev ClearOn : Lease → Lease → Type 0
+  ClearOn lease other = Clear (stay_on endings lease) (stay_on endings other)
+
+  -- whether no two leases of one property cover a common day, as long as they run
+  pub stays_tell : (leases : List Lease) (stays : List Stay) (b : Bool) → IsPermutation (map (stay_on endings) leases) stays → All IsSound stays
+      → IsSortedByKey stay_key (pair_cmp text_cmp nat_cmp) stays
+      → IsAllAdjacentAnswer (λ stay next free. free ≡ makes_way stay next) stays b → (b ≡ true)
+      ↔ AllPairs (λ lease other. overlap (running endings lease) (running endings other) ≡ false) leases
+  stays_tell leases stays b moved sound sorted answer =
+      let on = map (stay_on endings) leases in
+      let back = IsPermutation-sym on stays moved in
+      let sound_on = sound_at leases (All-permutation IsSound stays on back sound) in
+      let tell = clear_tell stays sound sorted b answer in (
+        λ yes. pairs_from_rises (Apart endings) leases
+            (rises_like ClearOn (Apart endings) leases (λ l k p q. apart_if_clear l k (sound_on l p) (sound_on k q))
+            (rises_unmapped Clear (stay_on endings) leases
+            (rises_from_pairs Clear on (pairs_permuted Clear clear_back stays on back (tell.0 yes))))),
+        λ apart. tell.1 (pairs_permuted Clear clear_back on stays moved (pairs_from_rises Clear on
+            (rises_mapped Clear (stay_on endings) leases
+            (rises_like (Apart endings) ClearOn leases (λ l k p q. clear_if_apart l k (sound_on l p) (sound_on k q))
+            (rises_from_pairs (Apart endings) leases apart))))),
+      )

@@ -31,9 +31,9 @@ branch_of (Some property) = Some property.branch
 abbrev pub due_at : Option (List ℕ) → Charge → Due
 due_at branch charge = record { charge = charge; branch = branch }
 
--- all that ever falls due on the lease, at its property's branch
+-- all that ever falls due on the lease, as long as it runs, at its property's branch
 abbrev pub dues_at : Books → Lease → List Due
-dues_at books lease = map (due_at (branch_of (fin.get books.properties lease.terms.property))) (dues_of lease)
+dues_at books lease = map (due_at (branch_of (fin.get books.properties lease.terms.property))) (dues_of books.endings lease)
 
 -- all that ever falls due
 abbrev pub all_dues : Books → List Due

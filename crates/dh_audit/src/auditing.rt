@@ -7,7 +7,7 @@ ghost use Rattle.dh_model.specs.Runs.{batch_size};
 ghost use Rattle.dh_audit.specs.Audit.{HoldBelow, IsLeastBroken};
 
 use crate::{
-    deposits_in_order, keys_in_order, leases_in_time, leases_never_overlap,
+    deposits_in_order, endings_in_order, keys_in_order, leases_in_time, leases_never_overlap,
     manages_at_most_hundred, months_in_order, names_what_is_there, one_start_a_day, runs_in_order,
     staff_of_the_branch,
 };
@@ -45,7 +45,7 @@ fn audit_of_rows(alloc: Global, books: &Books) -> Result<Result<(), u8>, AllocEr
     Ok(Ok(()))
 }
 
-/// Whether all ten rules hold; else `Err` of the least that is broken, by its number. It fails where memory runs out.
+/// Whether all rules hold; else `Err` of the least that is broken, by its number. It fails where memory runs out.
 pub fn audit(alloc: Global, books: &Books) -> Result<Result<(), u8>, AllocError>
     ensures { IfOk result (λ found. MatchResult found (λ _. MeetsRules books.now.books batch_size) (IsLeastBroken books.now.books batch_size)) }
 {
@@ -57,6 +57,9 @@ pub fn audit(alloc: Global, books: &Books) -> Result<Result<(), u8>, AllocError>
     }
     if !months_in_order(alloc, books)? {
         return Ok(Err(10));
+    }
+    if !endings_in_order(books) {
+        return Ok(Err(12));
     }
     Ok(Ok(()))
 }

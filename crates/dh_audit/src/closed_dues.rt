@@ -25,14 +25,19 @@ fn branch_of(books: &Books, lease: &Lease) -> Option<Id>
     Some(property.branch)
 }
 
-// Adds all that falls due on the lease.
-fn add_dues(dues: &mut Vec<Due>, lease: &Lease, branch: &Option<Id>) -> Result<(), AllocError>
-    ensures { OnOk result (dues.new.items ≡ dues.old.items ++ map (due_at branch.now) (dues_of lease.now)) }
+// Adds all that falls due on the lease, as long as it runs.
+fn add_dues(
+    dues: &mut Vec<Due>,
+    books: &Books,
+    lease: &Lease,
+    branch: &Option<Id>,
+) -> Result<(), AllocError>
+    ensures { OnOk result (dues.new.items ≡ dues.old.items ++ map (due_at branch.now) (dues_of books.now.books.endings lease.now)) }
 {
     let first = lease.terms.start.day().month().number();
-    for index in 0..lease.terms.months.number() {
+    for index in 0..books.length_of(lease).number() {
         let month = Month::of_number(first + index);
-        if let Some(charge) = due_in(lease, month) {
+        if let Some(charge) = due_in(books, lease, month) {
             dues.push(Due {
                 charge,
                 branch: *branch,
@@ -48,7 +53,7 @@ pub(crate) fn all_dues(alloc: Global, books: &Books) -> Result<Vec<Due>, AllocEr
 {
     let mut dues = Vec::new(alloc);
     for lease in books.leases() {
-        add_dues(&mut dues, lease, &branch_of(books, lease))?;
+        add_dues(&mut dues, books, lease, &branch_of(books, lease))?;
     }
     Ok(dues)
 }

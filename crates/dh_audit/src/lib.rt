@@ -23,7 +23,7 @@ mod stays;
 
 pub use auditing::audit;
 pub use closed_months::closed_months_are_in_order;
-pub use leases::{leases_in_time, one_start_a_day};
+pub use leases::{endings_in_order, leases_in_time, one_start_a_day};
 pub use months::months_in_order;
 pub use open_months::open_months_are_in_order;
 pub use receipts::{deposits_in_order, keys_in_order};

@@ -144,6 +144,15 @@ fn parts_refer(books: &Books) -> bool
     books.parts().all(|part| part_refers(books, part))
 }
 
+// Whether each ending is of a lease that is there.
+fn endings_refer(books: &Books) -> bool
+    ensures { (result ≡ true) ↔ Each books.now.books.endings (Refers books.now.books Kind.Endings) }
+{
+    books
+        .endings()
+        .all(|ending| books.lease(&ending.lease).is_some())
+}
+
 /// Whether all that the rows name is there, and each lease's client is registered at the branch of its property.
 pub fn names_what_is_there(books: &Books) -> bool
     ensures { (result ≡ true) ↔ NamesWhatIsThere books.now.books }
@@ -157,4 +166,5 @@ pub fn names_what_is_there(books: &Books) -> bool
         && charges_refer(books)
         && receipts_refer(books)
         && parts_refer(books)
+        && endings_refer(books)
 }

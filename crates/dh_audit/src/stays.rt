@@ -1,13 +1,12 @@
-//! What leases cover of their properties.
+//! What leases cover of their properties, as long as they run.
 
-ghost use Rattle.std.specs.Prelude.{◌≡◌, ◌↔◌, true, map, IfOk};
-ghost use Rattle.std.specs.FinMap as fin;
+ghost use Rattle.std.specs.Prelude.{◌≡◌, ◌↔◌, true, IfOk};
 ghost use Rattle.std.specs.List.{All, IsAllAdjacentAnswer};
 ghost use Rattle.std.specs.List.Sorted.{IsPermutation, IsSortedByKey};
 ghost use Rattle.std.specs.Ordering.{nat_cmp};
 ghost use Rattle.dh_model.specs.Books.{pair_cmp, text_cmp};
 ghost use Rattle.dh_model.specs.Rules.{LeasesNeverOverlap};
-ghost use Rattle.dh_audit.specs.Stays.{IsSound, makes_way, stay_key, stay_of};
+ghost use Rattle.dh_audit.specs.Stays.{IsSound, makes_way, stay_key, stay_of, stays_on};
 
 use dh_books::Books;
 use dh_leases::end_of;
@@ -38,19 +37,19 @@ impl Stay {
 
 // The stays of all leases.
 fn stays(alloc: Global, books: &Books) -> Result<Vec<Stay>, AllocError>
-    ensures rows { IfOk result (λ stays. stays.items ≡ map (λ lease. stay_of lease.terms) (fin.values books.now.books.leases)) }
+    ensures rows { IfOk result (λ stays. stays.items ≡ stays_on books.now.books) }
     ensures sound { IfOk result (λ stays. All IsSound stays.items) }
 {
     let mut stays = Vec::new(alloc);
     for lease in books.leases() {
-        stays.push(Stay::of(&lease.terms))?;
+        stays.push(Stay::of(&books.running(lease)))?;
     }
     Ok(stays)
 }
 
 // The stays of all leases, rising by property, and then by start.
 fn sorted_stays(alloc: Global, books: &Books) -> Result<Vec<Stay>, AllocError>
-    ensures rows { IfOk result (λ stays. IsPermutation (map (λ lease. stay_of lease.terms) (fin.values books.now.books.leases)) stays.items) }
+    ensures rows { IfOk result (λ stays. IsPermutation (stays_on books.now.books) stays.items) }
     ensures sound { IfOk result (λ stays. All IsSound stays.items) }
     ensures sorted { IfOk result (λ stays. IsSortedByKey stay_key (pair_cmp text_cmp nat_cmp) stays.items) }
 {

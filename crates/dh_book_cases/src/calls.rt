@@ -6,19 +6,20 @@ use dh_books::Books;
 use dh_leases::{whole, with_posted, with_run};
 use dh_rules::{Reach, cut_done, cut_undone, mended, said, step, torn};
 use dh_scripts::{Row, Unreadable, january};
-use dh_types::{Command, EntryMonth, Key};
+use dh_types::{Command, EntryMonth, Key, Version};
 use std::alloc::{AllocError, Global};
 use std::mem;
 
-/// Books that begin with 2025-01.
-pub(crate) fn empty(alloc: Global) -> Books {
-    Books::new(alloc, january(), january())
+/// Books of this version that begin with 2025-01.
+pub(crate) fn empty(alloc: Global, version: Version) -> Books {
+    Books::new(alloc, version, january(), january())
 }
 
 fn take(alloc: Global, books: &mut Books) -> Books
     ensures { result ≡ books.old }
 {
-    mem::replace(books, empty(alloc))
+    let left = empty(alloc, books.version());
+    mem::replace(books, left)
 }
 
 // The one place where books are dropped for others.
@@ -128,6 +129,7 @@ pub(crate) fn put(books: &mut Books, row: Row) -> Result<(), AllocError> {
         Row::Viewing(it) => books.put_viewing(it),
         Row::Inspection(it) => books.put_inspection(it),
         Row::Lease(it) => books.put_lease(it),
+        Row::Ending(it) => books.put_ending(it),
         Row::Charge(it) => books.put_charge(it),
         Row::Receipt(it) => books.put_receipt(it),
         Row::Run(it) => books.put_run(it),

@@ -5,7 +5,7 @@ use crate::playing::parted;
 use dh_books::Books;
 use dh_rules::Reach;
 use dh_scripts::{Block, Tally, Unreadable, command_if_any};
-use dh_types::Command;
+use dh_types::{Command, Version};
 use std::alloc::{AllocError, Global};
 use std::io;
 
@@ -82,6 +82,7 @@ fn same_properties(books: &Books, other: &Books) -> bool {
         && books.viewings().eq(other.viewings())
         && books.inspections().eq(other.inspections())
         && books.leases().eq(other.leases())
+        && books.endings().eq(other.endings())
 }
 
 fn same_runs(books: &Books, other: &Books) -> bool {
@@ -90,6 +91,7 @@ fn same_runs(books: &Books, other: &Books) -> bool {
         && books.runs().eq(other.runs())
         && books.parts().eq(other.parts())
         && books.next() == other.next()
+        && books.version() == other.version()
 }
 
 fn are_same(tables: &Books, machine: &Books) -> bool {
@@ -121,12 +123,13 @@ fn play_commands(
 // Whether the replies are one, and in the end the tables are the machine's books.
 fn ends_alike(
     alloc: Global,
+    version: Version,
     commands: &[Command],
     place: usize,
     way: Way,
 ) -> Result<bool, AllocError> {
-    let mut tables = empty(alloc);
-    let mut machine = empty(alloc);
+    let mut tables = empty(alloc, version);
+    let mut machine = empty(alloc, version);
     let replied = play_commands(alloc, &mut tables, &mut machine, commands, place, way);
     Ok(replied? && are_same(&tables, &machine))
 }
@@ -161,7 +164,7 @@ fn play_place(
     place: usize,
 ) -> io::Result<()> {
     for (number, way) in WAYS.iter().enumerate() {
-        let is_alike = ends_alike(rt.alloc(), commands, place, *way)?;
+        let is_alike = ends_alike(rt.alloc(), block.version, commands, place, *way)?;
         tally.add(is_alike);
         if !is_alike {
             println!(rt;

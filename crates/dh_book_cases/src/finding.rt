@@ -44,6 +44,7 @@ pub(crate) fn found(
         "property" => line_of(alloc, books.property(&fields.id()?)),
         "client" => line_of(alloc, books.client(&fields.id()?)),
         "lease" => line_of(alloc, books.lease(&fields.lease_no()?)),
+        "ending" => line_of(alloc, books.ending(&fields.lease_no()?)),
         "receipt" => line_of(alloc, books.receipt(&fields.receipt_no()?)),
         "run" => line_of(alloc, books.run(&fields.month()?)),
         _ => with_two_keys(alloc, books, kind, fields),

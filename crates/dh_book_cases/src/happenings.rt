@@ -78,13 +78,14 @@ fn happenings_of(alloc: Global, block: &Block) -> Result<Vec<Happening>, Unreada
     Ok(happenings)
 }
 
-// Plays the happenings from books without a row; the tables stand where those books were.
+// Plays the happenings from books without a row, of the version of the tables, which stand where those books were.
 fn play_all(
     alloc: Global,
     tables: &mut Books,
     happenings: &[Happening],
 ) -> Result<Vec<Reply>, AllocError> {
-    let played = play(alloc, empty(alloc), happenings)?;
+    let before = empty(alloc, tables.version());
+    let played = play(alloc, before, happenings)?;
     put_back(tables, played.tables);
     Ok(played.replies)
 }
@@ -167,7 +168,7 @@ pub(crate) fn play_list(rt: &HostRuntime, tally: &mut Tally, block: &Block) -> i
         tally.add(false);
         return println!(rt; "{}: a happening is not read", block.name);
     };
-    let mut tables = empty(rt.alloc());
+    let mut tables = empty(rt.alloc(), block.version);
     let replies = play_all(rt.alloc(), &mut tables, &happenings)?;
     compare_lines(rt, tally, block, &mut tables, &mut replies.iter())
 }

@@ -6,9 +6,9 @@ use crate::finding::found;
 use crate::lists::{counted, listed};
 use crate::rules::{audited, is_kept};
 use crate::runs::{
-    batched, clear_charges, clear_parts, open_run, posted, set_open_run, whole_parts,
+    batched, clear_charges, clear_parts, open_run, posted, set_open_run, version, whole_parts,
 };
-use crate::terms::{covered, due, dues_of, end, overlapping};
+use crate::terms::{branch_dues, covered, due, dues_of, end, length, overlapping};
 use dh_books::Books;
 use dh_fields::Request;
 use dh_model::Verdict;
@@ -107,11 +107,13 @@ fn of_leases(
     fields: &mut Fields,
 ) -> Result<String, Unreadable> {
     match kind {
-        "end" => end(alloc, books, fields),
+        "length" => length(alloc, books, fields),
+        "ends" => end(alloc, books, fields),
         "covers" => covered(alloc, books, fields),
         "overlap" => overlapping(alloc, books, fields),
         "due" => due(alloc, books, fields),
         "dues" => dues_of(alloc, books, fields),
+        "branch dues" => branch_dues(alloc, books, fields),
         "balance" => balanced(alloc, books, fields),
         _ => Err(Unreadable),
     }
@@ -129,6 +131,7 @@ fn of_months(
         "posted" => posted(alloc, books, fields),
         "whole parts" => whole_parts(alloc, books, fields),
         "open run" => open_run(alloc, books),
+        "version" => version(alloc, books),
         "first" => Ok(books.first().to_string(alloc)?),
         "next" => Ok(books.next().to_string(alloc)?),
         _ => of_leases(alloc, books, kind, fields),

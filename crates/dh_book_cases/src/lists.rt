@@ -24,6 +24,7 @@ fn all_keys<K: Ord + Display, T>(
 fn other_rows(alloc: Global, books: &Books, kind: &str) -> Result<String, Unreadable> {
     match kind {
         "leases" => all(alloc, books.leases()),
+        "endings" => all(alloc, books.endings()),
         "charges" => all(alloc, books.charges()),
         "receipts" => all(alloc, books.receipts()),
         "runs" => all(alloc, books.runs()),

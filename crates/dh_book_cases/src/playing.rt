@@ -82,13 +82,13 @@ fn play_in_turn(
     block: &Block,
     teller: Teller,
 ) -> io::Result<()> {
-    let mut books = empty(rt.alloc());
+    let mut books = empty(rt.alloc(), block.version);
     play_lines(rt, tally, block, teller, &mut books)
 }
 
 // Plays one line on books of its own.
 fn play_alone(rt: &HostRuntime, tally: &mut Tally, block: &Block, line: &str) -> io::Result<()> {
-    let mut books = empty(rt.alloc());
+    let mut books = empty(rt.alloc(), block.version);
     play_before(rt.alloc(), Teller::Machine, &mut books, &block.before);
     play_line(rt, tally, block, Teller::Machine, &mut books, line)
 }

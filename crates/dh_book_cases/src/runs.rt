@@ -1,10 +1,11 @@
-//! Rent runs and their batches.
+//! Rent runs and their batches, and the version of the books.
 
 use dh_books::Books;
 use dh_leases::{branch_parts, posted_charges, posted_parts};
 use dh_model::OpenRun;
 use dh_rules::batches;
 use dh_scripts::{Fields, Unreadable, add_part, lines_of};
+use dh_types::Version;
 use std::alloc::Global;
 
 /// `batches,MONTH`: how many the run takes.
@@ -48,6 +49,15 @@ pub(crate) fn open_run(alloc: Global, books: &Books) -> Result<String, Unreadabl
         Some(run) => Ok(format!(in alloc; "{} {}", run.month, run.done)?),
         None => Ok("none".to_string(alloc)?),
     }
+}
+
+/// `version`: `first` or `second`.
+pub(crate) fn version(alloc: Global, books: &Books) -> Result<String, Unreadable> {
+    let name = match books.version() {
+        Version::First => "first",
+        Version::Second => "second",
+    };
+    Ok(name.to_string(alloc)?)
 }
 
 /// `set open run,MONTH,DONE`

@@ -1,7 +1,7 @@
-//! What leases cover, and what falls due on them.
+//! How long leases run, what they cover, and what falls due on them.
 
 use dh_books::Books;
-use dh_leases::{covers, due_in, end_of, overlap};
+use dh_leases::{covers, due_in, dues_by_branch, end_of, of_branch, overlap};
 use dh_rules::dues;
 use dh_scripts::{Fields, Unreadable, lines_of};
 use dh_types::Lease;
@@ -16,9 +16,20 @@ fn yes_or_no(alloc: Global, is_so: bool) -> Result<String, Unreadable> {
     Ok(text.to_string(alloc)?)
 }
 
-/// `end,LEASE`: the day on which it no longer covers its property.
+/// `length,LEASE`: for how many months it runs.
+pub(crate) fn length(
+    alloc: Global,
+    books: &Books,
+    fields: &mut Fields,
+) -> Result<String, Unreadable> {
+    let lease = lease(books, fields)?;
+    Ok(books.length_of(lease).to_string(alloc)?)
+}
+
+/// `ends,LEASE`: the day on which it no longer covers its property.
 pub(crate) fn end(alloc: Global, books: &Books, fields: &mut Fields) -> Result<String, Unreadable> {
-    Ok(end_of(&lease(books, fields)?.terms).to_string(alloc)?)
+    let running = books.running(lease(books, fields)?);
+    Ok(end_of(&running).to_string(alloc)?)
 }
 
 /// `covers,LEASE,DAY`
@@ -28,7 +39,7 @@ pub(crate) fn covered(
     fields: &mut Fields,
 ) -> Result<String, Unreadable> {
     let lease = lease(books, fields)?;
-    yes_or_no(alloc, covers(&lease.terms, fields.day()?.day()))
+    yes_or_no(alloc, covers(&books.running(lease), fields.day()?.day()))
 }
 
 /// `overlap,LEASE,LEASE`
@@ -39,13 +50,16 @@ pub(crate) fn overlapping(
 ) -> Result<String, Unreadable> {
     let first = lease(books, fields)?;
     let second = lease(books, fields)?;
-    yes_or_no(alloc, overlap(&first.terms, &second.terms))
+    yes_or_no(
+        alloc,
+        overlap(&books.running(first), &books.running(second)),
+    )
 }
 
 /// `due,LEASE,MONTH`: the day and the amount, or `none`.
 pub(crate) fn due(alloc: Global, books: &Books, fields: &mut Fields) -> Result<String, Unreadable> {
     let lease = lease(books, fields)?;
-    match due_in(lease, fields.any_month()?) {
+    match due_in(books, lease, fields.any_month()?) {
         Some(charge) => Ok(format!(in alloc; "{} {}", charge.day, charge.amount)?),
         None => Ok("none".to_string(alloc)?),
     }
@@ -59,4 +73,15 @@ pub(crate) fn dues_of(
 ) -> Result<String, Unreadable> {
     let charges = dues(alloc, books, fields.any_month()?)?;
     Ok(lines_of(alloc, &charges)?)
+}
+
+/// `branch dues,BRANCH,MONTH`: the charges of the branch, lease by lease.
+pub(crate) fn branch_dues(
+    alloc: Global,
+    books: &Books,
+    fields: &mut Fields,
+) -> Result<String, Unreadable> {
+    let branch = fields.id()?;
+    let charges = dues_by_branch(alloc, books, fields.month()?)?;
+    Ok(lines_of(alloc, of_branch(&charges, &branch))?)
 }

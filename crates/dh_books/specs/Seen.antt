@@ -24,8 +24,10 @@ state_of b = record {
     receipts = from_entries b.receipts.entries;
     runs = from_entries b.runs.entries;
     parts = from_entries b.parts.entries;
+    endings = from_entries b.endings.entries;
     first = b.first;
     next = b.next;
+    version = b.version;
   };
   open_run = b.open_run;
 }

@@ -1,6 +1,7 @@
 //! All rows in memory, by key.
 
 mod changes;
+mod endings;
 mod leases;
 mod months;
 mod people;
@@ -13,14 +14,15 @@ ghost use Rattle.dh_model.specs.Books.{empty_books};
 
 use dh_model::OpenRun;
 use dh_types::{
-    Branch, Charge, ChargeIndex, Client, EntryDay, EntryMonth, Id, Inspection, Lease, LeaseNo,
-    Month, Owner, Part, Property, Receipt, ReceiptNo, Registration, Run, Staff, Viewing,
+    Branch, Charge, ChargeIndex, Client, Ending, EntryDay, EntryMonth, Id, Inspection, Lease,
+    LeaseNo, Month, Owner, Part, Property, Receipt, ReceiptNo, Registration, Run, Staff, Version,
+    Viewing,
 };
 use std::alloc::Global;
 use std::collections::BTreeMap;
 use std::marker::Model;
 
-/// The books: rows by key, the first month, the next month and the open run. A clause sees the machine's state.
+/// The books: rows by key, the first month, the next month, the version and the open run. A clause sees the machine's state.
 #[derive(Drop)]
 pub struct Books {
     branches: BTreeMap<Id, Branch>,
@@ -36,8 +38,10 @@ pub struct Books {
     receipts: BTreeMap<ReceiptNo, Receipt>,
     runs: BTreeMap<EntryMonth, Run>,
     parts: BTreeMap<(EntryMonth, Id), Part>,
+    endings: BTreeMap<LeaseNo, Ending>,
     first: Month,
     next: Month,
+    version: Version,
     open_run: Option<OpenRun>,
 }
 
@@ -58,9 +62,9 @@ impl Model for Books {
 }
 
 impl Books {
-    /// Books without a row or an open run.
-    pub fn new(alloc: Global, first: Month, next: Month) -> Books
-        ensures { result ≡ record { books = record (empty_books first) { next = next }; open_run = None } }
+    /// Books of this version without a row or an open run.
+    pub fn new(alloc: Global, version: Version, first: Month, next: Month) -> Books
+        ensures { result ≡ record { books = record (empty_books first) { next = next; version = version }; open_run = None } }
     {
         Books {
             branches: BTreeMap::new(alloc),
@@ -76,8 +80,10 @@ impl Books {
             receipts: BTreeMap::new(alloc),
             runs: BTreeMap::new(alloc),
             parts: BTreeMap::new(alloc),
+            endings: BTreeMap::new(alloc),
             first,
             next,
+            version,
             open_run: None,
         }
     }
@@ -94,6 +100,13 @@ impl Books {
         ensures { result ≡ self.now.books.next }
     {
         self.next
+    }
+
+    /// Which version of the books the file holds.
+    pub fn version(&self) -> Version
+        ensures { result ≡ self.now.books.version }
+    {
+        self.version
     }
 
     /// The run that is under way.

@@ -20,5 +20,8 @@ pub mod LeaseClientText
 pub mod ChargeMonthText
 pub mod ReceiptLeaseText
 pub mod ViewingPropertyText
+pub mod BranchFeeText
+pub mod PartFeeText
+pub mod EndingText
 pub mod Building
 pub mod Telling

@@ -12,7 +12,7 @@ use Rattle.sqlite_schema.specs.declared.schema.Kind.TheVariants as kind
 use Rattle.sqlite_schema.specs.declared.schema.Action.TheVariants.{NoAction, Restrict, Cascade, SetNull, SetDefault}
 use Rattle.sqlite_schema.specs.declared.schema.Schema.{Schema}
 use Rattle.sqlite_schema.specs.Rules.{kind_code}
-use Rattle.dh_catalog.specs.Layout.{our_schema}
+use Rattle.dh_catalog.specs.Versions.{IsOurs, of_both}
 use Rattle.dh_catalog.specs.Same.{are_binary, are_empty, are_idle, are_null, is_flag, is_place}
 use Rattle.dh_catalog.specs.Same.{is_same_column, is_same_index, is_same_order, is_same_reference, is_same_schema, is_same_table}
 
@@ -179,10 +179,11 @@ schemas a b h =
       views = empties a.views b.views e.1.1.0 i;
     }
 
--- ours is the same as itself
-itself : is_same_schema our_schema our_schema ≡ true
-itself = refl
+-- one of ours is the same as itself
+itself : (ours : Schema) → IsOurs ours → is_same_schema ours ours ≡ true
+itself = of_both (λ s. is_same_schema s s ≡ true) refl refl
 
--- exactly ours compares as the same
-pub is_ours : (a b : Schema) → b ≡ our_schema → (is_same_schema a b ≡ true → a ≡ our_schema) × (a ≡ our_schema → is_same_schema a b ≡ true)
-is_ours a b ours = (λ h. schemas a b h ∙ ours, λ e. ap (λ s. is_same_schema s b) e ∙ ap (is_same_schema our_schema) ours ∙ itself)
+-- exactly one of ours compares as the same with it
+pub tells_ours : (schema ours : Schema) → IsOurs ours → (is_same_schema schema ours ≡ true → schema ≡ ours)
+    × (schema ≡ ours → is_same_schema schema ours ≡ true)
+tells_ours schema ours is = (schemas schema ours, λ same. ap (λ s. is_same_schema s ours) same ∙ itself ours is)

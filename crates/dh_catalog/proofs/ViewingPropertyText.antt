@@ -6,10 +6,10 @@ use Rattle.sqlite_resolve.specs.Compile.{index_defined_by}
 use Rattle.dh_catalog.specs.declared.texts.TheConstants.{VIEWING_PROPERTY}
 use Rattle.dh_catalog.specs.ViewingTable.{viewing}
 use Rattle.dh_catalog.specs.LookIndexes.{viewing_property}
-use Rattle.dh_catalog.specs.Layout.{receipt_lease_schema, our_schema}
+use Rattle.dh_catalog.specs.Layout.{receipt_lease_schema, first_schema}
 use Rattle.dh_catalog.specs.Meanings.{MakesIndex}
 
-pub viewing_property_is : MakesIndex VIEWING_PROPERTY.now receipt_lease_schema our_schema
+pub viewing_property_is : MakesIndex VIEWING_PROPERTY.now receipt_lease_schema first_schema
 unfolding understood index_defined_by everything
 viewing_property_is = record {
   at = 7;

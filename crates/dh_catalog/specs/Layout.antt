@@ -1,5 +1,5 @@
 -- The tables and indexes, in the order in which they are made. What is new comes behind what stands, so that no tree moves.
-use Rattle.std.specs.Prelude.{ℕ, List, [], ◌∷◌, take}
+use Rattle.std.specs.Prelude.{ℕ, List, [], ◌∷◌, ◌++◌, take}
 use Rattle.sqlite_schema.specs.declared.schema.Table.{Table}
 use Rattle.sqlite_schema.specs.declared.schema.Index.{Index}
 use Rattle.sqlite_schema.specs.declared.schema.Schema.{Schema}
@@ -17,18 +17,29 @@ use Rattle.dh_catalog.specs.ChargeTable.{charge, charge_key}
 use Rattle.dh_catalog.specs.ReceiptTable.{receipt, receipt_key}
 use Rattle.dh_catalog.specs.RunTable.{run, run_key}
 use Rattle.dh_catalog.specs.PartTable.{part, part_key}
+use Rattle.dh_catalog.specs.BranchFeeTable.{branch_fee, branch_fee_key}
+use Rattle.dh_catalog.specs.PartFeeTable.{part_fee, part_fee_key}
+use Rattle.dh_catalog.specs.EndingTable.{ending}
 use Rattle.dh_catalog.specs.LookIndexes.{property_staff, lease_property, lease_client, charge_month, receipt_lease, viewing_property}
 
-abbrev pub our_tables : List Table
-our_tables =
+-- those of the first version, and those that came with the second
+abbrev pub first_tables : List Table
+first_tables =
     meta ∷ branch ∷ staff ∷ owner ∷ property ∷ client ∷ registration ∷ viewing
     ∷ inspection ∷ lease ∷ charge ∷ receipt ∷ run ∷ part ∷ []
+
+abbrev pub later_tables : List Table
+later_tables = branch_fee ∷ part_fee ∷ ending ∷ []
+
+abbrev pub our_tables : List Table
+our_tables = first_tables ++ later_tables
 
 abbrev pub our_indexes : List Index
 our_indexes =
     branch_key ∷ staff_key ∷ owner_key ∷ property_key ∷ client_key ∷ registration_key ∷ viewing_key ∷ inspection_key
     ∷ charge_key ∷ receipt_key ∷ run_key ∷ part_key
-    ∷ property_staff ∷ lease_property ∷ lease_client ∷ charge_month ∷ receipt_lease ∷ viewing_property ∷ []
+    ∷ property_staff ∷ lease_property ∷ lease_client ∷ charge_month ∷ receipt_lease ∷ viewing_property
+    ∷ branch_fee_key ∷ part_fee_key ∷ []
 
 -- the first so many tables and so many indexes
 abbrev pub first : ℕ → ℕ → Schema
@@ -94,6 +105,16 @@ charge_month_schema = first 14 16
 
 abbrev pub receipt_lease_schema : Schema
 receipt_lease_schema = first 14 17
+
+-- the schema of the first version
+abbrev pub first_schema : Schema
+first_schema = first 14 18
+
+abbrev pub branch_fee_schema : Schema
+branch_fee_schema = first 15 19
+
+abbrev pub part_fee_schema : Schema
+part_fee_schema = first 16 20
 
 -- all of them
 abbrev pub our_schema : Schema

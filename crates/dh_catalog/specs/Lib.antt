@@ -13,8 +13,12 @@ pub mod ChargeTable
 pub mod ReceiptTable
 pub mod RunTable
 pub mod PartTable
+pub mod BranchFeeTable
+pub mod PartFeeTable
+pub mod EndingTable
 pub mod LookIndexes
 pub mod Layout
+pub mod Versions
 pub mod Making
 pub mod Meanings
 pub mod Same

@@ -8,7 +8,9 @@ use Rattle.sqlite_schema.specs.declared.schema.Schema.{Schema}
 use Rattle.sqlite_catalog.specs.Change.{KeepsRows}
 use Rattle.sqlite.specs.Effect.{Database}
 use Rattle.sqlite.specs.State.{State}
-use Rattle.dh_catalog.specs.Layout.{our_schema, our_tables}
+use Rattle.dh_catalog.specs.Layout.{first_tables, later_tables, our_schema}
+use Rattle.dh_types.specs.declared.version.Version.{Version}
+use Rattle.dh_catalog.specs.Versions.{schema_of}
 use Rattle.dh_catalog.specs.Meanings.{Build}
 
 -- Within a transaction, over a store of this schema.
@@ -20,9 +22,15 @@ pub record IsWritingOn (schema : Schema) (s : State) : Type 0 where
 abbrev pub AreEmpty : List Table → Trees → Type 0
 AreEmpty tables trees = AllByRecursion (λ table. trees table.tree ≡ []) tables
 
--- Within a transaction, over a store that has our tables and indexes, and not a row.
-abbrev pub HasEmptyTables : State → Type 0
-HasEmptyTables s = IsWritingOn our_schema s × AreEmpty our_tables s.now.trees
+-- Within a transaction, over a store that has the tables and indexes of a version, and not a row.
+abbrev pub HasEmptyTables : Version → State → Type 0
+HasEmptyTables version s = IsWritingOn (schema_of version) s × AreEmpty (schema_of version).tables s.now.trees
+
+-- Within a transaction, a store of the first version has got the later tables, which have no row. The others keep theirs.
+pub record HasGrown (old new : State) : Type 0 where
+  pub writing : IsWritingOn our_schema new
+  pub kept : KeepsRows first_tables old.now.trees new.now.trees
+  pub empty : AreEmpty later_tables new.now.trees
 
 -- The tables that were there keep their rows. Those that were made come behind them and have none.
 pub record Adds (old new : Database) : Type 0 where

@@ -1,4 +1,4 @@
-//! The fourteen tables as the store reads them, how they are made, and whether a store has exactly them.
+//! Our tables as the store reads them, how they are made, and which version of them a store has exactly.
 #![tactic(auto)]
 
 mod making;
@@ -6,5 +6,5 @@ mod ours;
 mod same;
 pub mod texts;
 
-pub use making::create_all;
-pub use ours::{has_our_tables, is_ours, our_store};
+pub use making::{create_all, create_later};
+pub use ours::{has_tables_of, is_ours, store_of, tables_found};

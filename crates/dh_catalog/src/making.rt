@@ -3,10 +3,11 @@
 ghost use Rattle.std.specs.Prelude.{◌≡◌, [], ◌∷◌, IsTrue, OnOk};
 ghost use Rattle.sqlite.specs.State.{HasCleanDisk, KeepsCommit, Survives};
 ghost use Rattle.sqlite.specs.Held.{state};
-ghost use Rattle.dh_catalog.specs.Layout.{no_schema};
-ghost use Rattle.dh_catalog.specs.Making.{IsWritingOn, HasEmptyTables, Makes, all_of};
+ghost use Rattle.dh_catalog.specs.Layout.{first_schema, no_schema};
+ghost use Rattle.dh_catalog.specs.Making.{IsWritingOn, HasEmptyTables, HasGrown, Makes, all_of};
 
-use crate::texts::TEXTS;
+use crate::texts::{FIRST_COUNT, TEXTS};
+use dh_types::Version;
 use sqlite::{Alter, Error, Transaction};
 
 // Runs the text, which makes a table or an index.
@@ -38,14 +39,30 @@ fn create_each<S: Alter>(tx: &mut Transaction<'_, S>, texts: &[&str]) -> Result<
     Ok(())
 }
 
-/// Makes the tables and their indexes in a store that has none. An error comes where a text is refused or the store
-/// fails, and then nothing is committed.
-pub fn create_all<S: Alter>(tx: &mut Transaction<'_, S>) -> Result<(), Error>
+/// Makes the tables of a version and their indexes in a store that has none. An error comes where a text is refused or
+/// the store fails, and then nothing is committed.
+pub fn create_all<S: Alter>(tx: &mut Transaction<'_, S>, version: Version) -> Result<(), Error>
     requires { HasCleanDisk (state S.Store tx.old.conn.now) → IsWritingOn no_schema (state S.Store tx.old.conn.now) }
     ensures same_reference { tx.new.conn.ghost_name ≡ tx.old.conn.ghost_name }
-    ensures made { HasCleanDisk (state S.Store tx.new.conn.now) → OnOk result (HasEmptyTables (state S.Store tx.new.conn.now)) }
+    ensures made { HasCleanDisk (state S.Store tx.new.conn.now) → OnOk result (HasEmptyTables version (state S.Store tx.new.conn.now)) }
     ensures kept { HasCleanDisk (state S.Store tx.new.conn.now) → KeepsCommit (state S.Store tx.old.conn.now) (state S.Store tx.new.conn.now) }
     ensures crash { Survives (state S.Store tx.old.conn.now) (state S.Store tx.new.conn.now) (λ _. ⊥) }
 {
-    create_each(tx, &TEXTS)
+    match version {
+        Version::First => create_each(tx, &TEXTS[..FIRST_COUNT]),
+        Version::Second => create_each(tx, &TEXTS),
+    }
+}
+
+/// Makes the tables that came with the second version in a store of the first. The others keep their rows. An error comes
+/// where a text is refused or the store fails, and then nothing is committed.
+pub fn create_later<S: Alter>(tx: &mut Transaction<'_, S>) -> Result<(), Error>
+    requires { HasCleanDisk (state S.Store tx.old.conn.now) → IsWritingOn first_schema (state S.Store tx.old.conn.now) }
+    ensures same_reference { tx.new.conn.ghost_name ≡ tx.old.conn.ghost_name }
+    ensures made { HasCleanDisk (state S.Store tx.new.conn.now)
+        → OnOk result (HasGrown (state S.Store tx.old.conn.now) (state S.Store tx.new.conn.now)) }
+    ensures kept { HasCleanDisk (state S.Store tx.new.conn.now) → KeepsCommit (state S.Store tx.old.conn.now) (state S.Store tx.new.conn.now) }
+    ensures crash { Survives (state S.Store tx.old.conn.now) (state S.Store tx.new.conn.now) (λ _. ⊥) }
+{
+    create_each(tx, &TEXTS[FIRST_COUNT..])
 }

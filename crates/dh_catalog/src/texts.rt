@@ -136,8 +136,30 @@ pub const RECEIPT_LEASE: &str = "CREATE INDEX receipt_lease ON receipt (lease_no
 /// The index of the viewings of a property: who manages it can't change without a look at the rows that refer to it.
 pub const VIEWING_PROPERTY: &str = "CREATE INDEX viewing_property ON viewing (property_no)";
 
-/// The texts in the order in which they are run: the tables, then the indexes.
-pub static TEXTS: [&str; 20] = [
+/// `branch_fee`: a row a branch whose fee was set, by its number.
+pub const BRANCH_FEE: &str = "CREATE TABLE branch_fee (\
+    branch_no TEXT NOT NULL PRIMARY KEY REFERENCES branch, \
+    fee INTEGER NOT NULL) STRICT";
+
+/// `part_fee`: a row a part of a run: the fee that its branch had, and what it comes to.
+pub const PART_FEE: &str = "CREATE TABLE part_fee (\
+    month INTEGER NOT NULL, \
+    branch_no TEXT NOT NULL, \
+    fee INTEGER NOT NULL, \
+    fee_total INTEGER NOT NULL, \
+    PRIMARY KEY (month, branch_no), \
+    FOREIGN KEY (month, branch_no) REFERENCES part) STRICT";
+
+/// `ending`: a row a lease that ends early, by its number.
+pub const ENDING: &str = "CREATE TABLE ending (\
+    lease_no INTEGER PRIMARY KEY REFERENCES lease, \
+    months INTEGER NOT NULL) STRICT";
+
+/// How many texts make the tables and indexes of the first version.
+pub const FIRST_COUNT: usize = 20;
+
+/// The texts in the order in which they are run: the tables and indexes of the first version, then what came later.
+pub static TEXTS: [&str; 23] = [
     META,
     BRANCH,
     STAFF,
@@ -158,4 +180,7 @@ pub static TEXTS: [&str; 20] = [
     CHARGE_MONTH,
     RECEIPT_LEASE,
     VIEWING_PROPERTY,
+    BRANCH_FEE,
+    PART_FEE,
+    ENDING,
 ];

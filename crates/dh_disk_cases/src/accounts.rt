@@ -5,7 +5,7 @@ use dh_agency_scripts::{books_text, compare, parted};
 use dh_lives::{Account, Lived};
 use dh_rules::{Books, Happening, Reach, play};
 use dh_scripts::{Tally, Unreadable, command, january};
-use dh_types::{Command, Reply};
+use dh_types::{Command, Reply, Version};
 use std::alloc::{AllocError, Global};
 use std::io;
 
@@ -124,7 +124,7 @@ fn wanted(
     is_in: bool,
 ) -> Result<String, Unreadable> {
     let happenings = happenings_of(alloc, chapters, lives, is_in)?;
-    let start = Books::new(alloc, january(), january());
+    let start = Books::new(alloc, Version::First, january(), january());
     let played = play(alloc, start, &happenings)?;
     let mut text = String::new(alloc);
     add_replies(alloc, &mut text, &played.replies)?;

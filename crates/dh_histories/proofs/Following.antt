@@ -5,19 +5,18 @@ use Rattle.sqlite.specs.State.{State, HasCleanDisk}
 use Rattle.sqlite.specs.Effect.{Database, IsDatabase}
 use Rattle.sqlite.specs.Held.{Held, state}
 use Rattle.sqlite_trees.specs.Tree.{Trees}
-use Rattle.sqlite_trees.specs.Objects.{catalog_tree}
-use Rattle.sqlite_catalog.proofs.ReadLemmas.{lists_once}
 use Rattle.dh_types.specs.declared.command.Command.TheVariants as command
 use Rattle.dh_model.specs.Books as machine
 use Rattle.dh_model.specs.Runs.{batch_size}
 use Rattle.dh_laws.specs.Batches.{IsPostedInPart}
 use Rattle.dh_laws.specs.Events.{Event, Follow, Happens, Tables}
 use Rattle.dh_laws.specs.StateTables as tabled
-use Rattle.dh_catalog.specs.Layout.{our_schema}
+use Rattle.dh_catalog.specs.Versions.{each_is_ours}
 use Rattle.dh_tables.specs.Calls.{HasOurTables}
 use Rattle.dh_schema.specs.Store.{AreTables, tables}
-use Rattle.dh_schema.specs.Tables.{IsSound, state_in}
+use Rattle.dh_schema.specs.Tables.{IsSound, state_in, version_of_tables}
 use Rattle.dh_schema.proofs.Keyed.{sound_tables_show_their_run}
+use Rattle.dh_runs.proofs.Taken.{its_schema}
 use Rattle.dh_runs.specs.Told.{IsCut, IsMended, IsSaid, IsTorn, reply_of}
 use Rattle.dh_agency.specs.Taken.{TakesAsTheyAre}
 use Rattle.dh_histories.specs.Calls.{Answers, Breaks, BreaksRecovery, Call, IsSame, Tells}
@@ -96,9 +95,11 @@ module _ {S : Type 0} (g : Ghosts S) where
   joined None before found events sound same later = subst (λ (t : Tables). Follow batch_size t events) (ap tabled.as_tables same) later
   joined (Some event) before found events sound it later = (sound_tables_show_their_run (state g found).now.trees sound, it, later)
 
-  -- sound tables are listed by our schema, and a list tells one schema
+  -- sound tables have the schema of their version, which is one of ours
   ours : (it : Held S) → IsSoundIn g it → IsDatabase (state g it).now → HasOurTables (state g it)
-  ours it sound lists = lists_once ((state g it).now.trees catalog_tree) (state g it).now.schema our_schema lists.lists sound.in_order.listed.lists
+  ours it sound lists =
+      let now = (state g it).now in
+      each_is_ours (version_of_tables now.trees) now.schema (its_schema now lists sound)
 
   pub histories_are_events : HistoriesAreEvents g
   histories_are_events start [] sound so = (tt, tt)

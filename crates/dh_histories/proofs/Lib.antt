@@ -1,3 +1,4 @@
+pub mod SameVersion
 pub mod Following
 pub mod Taken
 pub mod Ending

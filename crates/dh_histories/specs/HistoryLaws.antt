@@ -25,7 +25,7 @@ use Rattle.dh_laws.specs.Kept.{Kept}
 use Rattle.dh_laws.specs.Lives.{IsRunFor}
 use Rattle.dh_schema.specs.Store.{tables}
 use Rattle.dh_schema.specs.Tables.{books_in}
-use Rattle.dh_runs.specs.Taking.{IsRefusedFor}
+use Rattle.dh_runs.specs.Taking.{IsOurVersion, IsRefusedFor}
 use Rattle.dh_histories.specs.Calls.{Recovered, Stepped}
 use Rattle.dh_histories.specs.Histories.{AreFoundSound, IsHistory, IsSoundIn, Moment, StayWithoutNews, events_of, tables_of}
 
@@ -36,10 +36,10 @@ module _ {S : Type 0} (g : Ghosts S) where
   HistoriesAreEvents = (first : Held S) (history : List (Moment S)) → IsSoundIn g first → IsHistory g first history
       → Follow batch_size (tables_of g first) (events_of g history) × AreFoundSound g history
 
-  -- none that is found is refused, by `attach` or `recover`: neither for its version nor for a rule
+  -- From tables of our version none that is found is refused, by `attach` or `recover`: neither for its version nor for a rule.
   abbrev pub NoneIsRefused : Type 0
   NoneIsRefused = (first : Held S) (history : List (Moment S)) (last : Moment S) (why : Refusal) → IsSoundIn g first
-      → IsHistory g first (history ++ last ∷ []) → ¬ IsRefusedFor (state g last.found).now.trees why
+      → IsOurVersion (state g first).now.trees → IsHistory g first (history ++ last ∷ []) → ¬ IsRefusedFor (state g last.found).now.trees why
 
   -- A refusal, a reply that a command was carried out before and a question leave the tables row for row, while a run is open too; so
   -- do files that are taken as they are, and a question that was cut.

@@ -14,7 +14,7 @@ pub fn histories_are_events<S: Alter>()
     ensures { HistoriesAreEvents S.Store }
 {}
 
-/// Tables that the calls of a history left are taken: no attach and no recovery refuses them.
+/// Tables of our version that the calls of a history left are taken: no attach and no recovery refuses them.
 pub fn none_is_refused<S: Alter>()
     ensures { NoneIsRefused S.Store }
 {}

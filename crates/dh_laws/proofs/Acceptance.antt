@@ -17,7 +17,7 @@ use Rattle.dh_model.specs.declared.open_run.OpenRun.{OpenRun}
 use Rattle.dh_model.specs.declared.rows.Change.{Change}
 use Rattle.dh_model.specs.declared.rows.Change.TheVariants as change
 use Rattle.dh_model.specs.Books.{Books}
-use Rattle.dh_model.specs.Leases.{overlap}
+use Rattle.dh_model.specs.Leases.{overlap, running}
 use Rattle.dh_model.specs.Rules.{IsThere}
 use Rattle.dh_model.specs.Checks.{is_same_text, works_at}
 use Rattle.dh_model.proofs.Among.{Among}
@@ -71,7 +71,7 @@ module _ (books : Books) (run : Option OpenRun) where
     pub in_time : books.next ≤ month_of_day lease.terms.start
     pub first : (other : Lease) → Among (values books.leases) other
         → (is_same_text other.terms.client lease.terms.client && nat_eq other.terms.start lease.terms.start) ≡ false
-    pub free : (other : Lease) → Among (values books.leases) other → overlap lease.terms other.terms ≡ false
+    pub free : (other : Lease) → Among (values books.leases) other → overlap lease.terms (running books.endings other) ≡ false
 
   pub record AddsReceipt (it : Receipt) : Type 0 where
     pub closed : run ≡ None

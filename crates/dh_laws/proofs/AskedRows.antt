@@ -168,7 +168,8 @@ module _ (books : Books) (keyed : AreKeyed books) where
     of_month = asked_about books (asked.Run month)
 
     run_there : get of_month.runs month ≡ get books.runs month
-    run_there = get_where nat_total nat_ties (λ (r : Run). nat_eq r.month month) (λ r. r.month) books.runs month (keyed Kind.Runs) (λ r e. same_number r.month month e)
+    run_there = get_where nat_total nat_ties (λ (r : Run). nat_eq r.month month) (λ r. r.month) books.runs month (keyed Kind.Runs)
+        (λ r e. same_number r.month month e)
 
     parts_alike : filter (λ (p : Part). nat_eq p.month month) (values of_month.parts) ≡ filter (λ p. nat_eq p.month month) (values books.parts)
     parts_alike = filter_where nat_text_total nat_text_ties (λ (p : Part). nat_eq p.month month) (λ p. nat_eq p.month month) (λ p h. h) books.parts

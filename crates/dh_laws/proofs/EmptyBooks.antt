@@ -10,8 +10,9 @@ use Rattle.dh_values.specs.declared.receipt_kind.ReceiptKind.TheVariants.{Deposi
 use Rattle.dh_model.specs.Kinds.{Kind, key_in, order_of, records_of}
 use Rattle.dh_model.specs.Books.{empty_books}
 use Rattle.dh_model.specs.Checks.{is_same_text}
-use Rattle.dh_model.specs.Leases.{overlap}
-use Rattle.dh_model.specs.Rules.{Each, EachTwo, IsThere, MeetsRules, Refers, References, Branches, Managers, Overlaps, Starts, Terms, Deposits, Keys, Runs, Months}
+use Rattle.dh_model.specs.Leases.{overlap, running}
+use Rattle.dh_model.specs.Rules.{Each, EachTwo, IsThere, MeetsRules, Refers, References, Branches, Managers, Overlaps, Starts, Terms, Deposits, Keys}
+use Rattle.dh_model.specs.Rules.{Runs, Months, Endings}
 use Rattle.dh_model.proofs.Among.{Among, among}
 use Rattle.dh_laws.specs.InOrder.{AreKeyed, StandUnder}
 use Rattle.dh_laws.specs.Keeping.{EmptyBooksAreInOrder}
@@ -33,7 +34,7 @@ module _ {K X : Type 0} (R : K → K → Ordering) where
   two_of_none : (P : X → X → Type 0) → EachTwo (empty {X = X} {R = R}) P
   two_of_none P i j d lt small = absurd (omega (arith, ap length no_rows, small))
 
-  none_under : (key : X → K) → StandUnder key (empty {X = X} {R = R})
+  pub none_under : (key : X → K) → StandUnder key (empty {X = X} {R = R})
   none_under key k row h = absurd (none_is_some row (sym (get-empty R k) ∙ h))
 
 nothing_there : {K : Type 0} (X : Type 0) (R : K → K → Ordering) (q : K) → IsThere (empty {X = X} {R = R}) q → ⊥
@@ -49,10 +50,11 @@ module _ (size month : ℕ) where
   none_of kind = refl
 
   meets : MeetsRules (empty_books month) size
-  meets References = λ kind. subst (λ rows. Each rows (Refers (empty_books month) kind)) (sym (none_of kind)) (each_of_none (order_of kind) (Refers (empty_books month) kind))
+  meets References = λ kind. subst (λ rows. Each rows (Refers (empty_books month) kind)) (sym (none_of kind))
+      (each_of_none (order_of kind) (Refers (empty_books month) kind))
   meets Branches = record { managers = each_of_none _ _; registrars = each_of_none _ _ }
   meets Managers = each_of_none _ _
-  meets Overlaps = two_of_none _ (λ lease other. overlap lease.terms other.terms ≡ false)
+  meets Overlaps = two_of_none _ (λ lease other. overlap (running empty lease) (running empty other) ≡ false)
   meets Starts = two_of_none _ (λ lease other. (is_same_text lease.terms.client other.terms.client && nat_eq lease.terms.start other.terms.start) ≡ false)
   meets Terms = each_of_none _ _
   meets Deposits = record {
@@ -70,6 +72,7 @@ module _ (size month : ℕ) where
     closed = each_of_none _ _;
   }
   meets Months = record { closed = each_of_none _ _; under_way = each_of_none _ _; charged = each_of_none _ _; summed = each_of_none _ _ }
+  meets Endings = each_of_none _ _
 
   keyed : AreKeyed (empty_books month)
   keyed kind = subst (StandUnder (key_in kind)) (sym (none_of kind)) (none_under (order_of kind) (key_in kind))

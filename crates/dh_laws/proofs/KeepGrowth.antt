@@ -56,6 +56,7 @@ module _ (books after : Books) (g : Grows books after) where
   still_refers Kind.Charges it q = g.there Kind.Leases it.lease q
   still_refers Kind.Receipts it q = g.there Kind.Leases it.payment.lease q
   still_refers Kind.Parts it q = record { run = g.there Kind.Runs it.month q.run; branch = g.there Kind.Branches it.branch q.branch }
+  still_refers Kind.Endings it q = g.there Kind.Leases it.lease q
   still_refers other it q = q
 
   pub still : NamesWhatIsThere books → (kind : Kind) → Each (records_of kind books) (Refers after kind)

@@ -23,6 +23,7 @@ module _ (books : Books) (P : (kind : Kind) → FinMap (order_of kind) (record_o
   each_with Kind.Receipts rows is Kind.Receipts = is
   each_with Kind.Runs rows is Kind.Runs = is
   each_with Kind.Parts rows is Kind.Parts = is
+  each_with Kind.Endings rows is Kind.Endings = is
   each_with _ rows is other = each other
 
 module _ (books : Books) (keyed : AreKeyed books) where

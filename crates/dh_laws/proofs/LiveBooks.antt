@@ -52,7 +52,7 @@ mended_books_are_lawful size start after events pos in_order entered f =
     kept size pos start after events entered (whole_is_lawful size start.books start.run pos in_order) f
 
 month_of_due : (books : Books) (month : ℕ) (charge : Charge) → IsAmong (dues books month) charge → charge.month ≡ month
-month_of_due books month charge a = (is_due (values books.leases) month charge (among (dues books month) charge a)).month_is
+month_of_due books month charge a = (is_due books.endings (values books.leases) month charge (among (dues books month) charge a)).month_is
 
 module _ (size : ℕ) (pos : 1 ≤ size) (books : Books) (keyed : AreKeyed books) (lawful : IsLawful books size) (month : ℕ) (charge : Charge) where
   is_of_run : IsAmong (values books.charges) charge → charge.month ≡ month → IsThere books.runs month × IsAmong (dues books month) charge

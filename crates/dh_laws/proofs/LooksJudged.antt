@@ -1,5 +1,5 @@
 -- What a command looks at decides its verdict: each look-up finds in it what it finds in the books.
-use Rattle.std.proofs.Common.{◌≡◌, ◌∙◌, refl, sym, ap, ap₂, ℕ, ◌+◌, Bool, true, false, List, [], ◌∷◌, ◌++◌, map, Option, Some, None, is_some, option_map}
+use Rattle.std.proofs.Common.{◌≡◌, ◌∙◌, refl, sym, ap, ap₂, ℕ, ◌+◌, Bool, true, false, List, [], ◌∷◌, ◌++◌, map, subst, Option, Some, None, is_some, option_map}
 use Rattle.std.proofs.Common.{nat_eq, nat_lt, not, ◌&&◌, ◌||◌, if◌then◌else◌}
 use Rattle.std.specs.List.{count_by}
 use Rattle.std.specs.List as list
@@ -20,6 +20,7 @@ use Rattle.dh_types.specs.declared.viewing.Viewing.{Viewing}
 use Rattle.dh_types.specs.declared.viewing.Inspection.{Inspection}
 use Rattle.dh_types.specs.declared.lease.LeaseTerms.{LeaseTerms}
 use Rattle.dh_types.specs.declared.lease.Lease.{Lease}
+use Rattle.dh_types.specs.declared.lease.Ending.{Ending}
 use Rattle.dh_types.specs.declared.lease.Receipt.{Receipt}
 use Rattle.dh_types.specs.declared.run.Run.{Run}
 use Rattle.dh_types.specs.declared.command.Command.{Command}
@@ -39,7 +40,7 @@ use Rattle.dh_model.specs.declared.rows.Verdict.{Verdict}
 use Rattle.dh_model.specs.declared.rows.Verdict.TheVariants as verdict
 use Rattle.dh_model.specs.Books.{Books}
 use Rattle.dh_model.specs.Kinds.{Kind, key_in, key_of, record_of, records_of}
-use Rattle.dh_model.specs.Leases.{overlap}
+use Rattle.dh_model.specs.Leases.{overlap, running, months_in}
 use Rattle.dh_model.specs.Checks.{Check, first_that_day, free_of_others, has_room, in_time, is_registered, is_same_text, is_twice, least, managed_besides}
 use Rattle.dh_model.specs.Checks.{names, no_deposit_yet, of_branch, receipt_of_key, run_of_key, unless, where_given, works_at}
 use Rattle.dh_model.specs.Verdicts.{assigned, commented, inspection_verdict, judged, lease_verdict, opened_run, post_verdict}
@@ -49,9 +50,12 @@ use Rattle.dh_model.specs.Whole.{rows_where}
 use Rattle.dh_model.proofs.KeyOrders.{nat_ties, nat_total, text_ties, text_total}
 use Rattle.dh_model.proofs.KindOrders.{ties_of, total_of}
 use Rattle.dh_laws.specs.InOrder.{AreKeyed}
-use Rattle.dh_laws.specs.Looks.{Counts, JudgedByItsFacts, is_before, is_beside, looked_at, manager_in, month_open, properties_beside}
+use Rattle.dh_laws.specs.Looks.{Counts, JudgedByItsFacts, is_before, is_beside, looked_at, manager_in, month_open, properties_beside, is_some_beside}
 use Rattle.dh_laws.specs.Looks.{registration_for}
-use Rattle.dh_laws.proofs.RowsNarrowed.{any_where, count_where, filter_where, find_where, get_where}
+use Rattle.dh_laws.proofs.RowsNarrowed.{any_where, count_where, filter_where, find_where, get_where, values_where}
+use Rattle.dh_laws.proofs.MonthDues.{kept_alike}
+use Rattle.dh_laws.proofs.MapMerges.{own_row}
+use Rattle.dh_model.proofs.Among.{Among, in_filter}
 
 same_text : (s t : List ℕ) → s ≡ t → is_same_text s t ≡ true
 same_text s t e = (texts s t).1 e
@@ -276,10 +280,23 @@ module _ (books : Books) (keyed : AreKeyed books) where
         (filter_where nat_total nat_ties (is_beside terms) (λ l. is_same_text l.terms.client terms.client && nat_eq l.terms.start terms.start)
         (λ l h. or_right _ _ h) books.leases)
 
+    -- a lease beside runs as long there
+    runs_alike : (l : Lease) → Among (values near_terms.leases) l
+        → overlap terms (running near_terms.endings l) ≡ overlap terms (running books.endings l)
+    runs_alike l a =
+        let kept = in_filter (is_beside terms) (values books.leases) l
+        (subst (λ ls. Among ls l) (values_where nat_total nat_ties (is_beside terms) books.leases) a) in
+        let own = own_row nat_total nat_ties (λ (it : Lease). it.terms.number) books.leases (keyed Kind.Leases) l kept.0 in
+        let ending = get_where nat_total nat_ties (λ (it : Ending). is_some_beside terms (get books.leases it.lease)) (λ it. it.lease)
+        books.endings l.terms.number (keyed Kind.Endings)
+        (λ it e. ap (λ n. is_some_beside terms (get books.leases n)) e ∙ ap (is_some_beside terms) own ∙ kept.1) in
+        ap (λ found. overlap terms (record l.terms { months = months_in l.terms.months found })) ending
+
     others_alike : free_of_others near_terms terms ≡ free_of_others books terms
     others_alike =
         ap (λ ls. option_map refusal.Overlap (least (map (λ (l : Lease). l.terms.number) ls)))
-        (filter_where nat_total nat_ties (is_beside terms) (λ l. overlap terms l.terms)
+        (kept_alike (λ l. overlap terms (running near_terms.endings l)) (λ l. overlap terms (running books.endings l)) (values near_terms.leases) runs_alike
+        ∙ filter_where nat_total nat_ties (is_beside terms) (λ l. overlap terms (running books.endings l))
         (λ l h. or_left _ _ (or_right (nat_eq l.terms.number terms.number) _
         (same_text l.terms.property terms.property (sym ((texts terms.property l.terms.property).0 (and_parts _ _ h).0))))) books.leases)
 

@@ -46,11 +46,11 @@ module _ (size : ℕ) (books : Books) (run : Option OpenRun) (keyed : AreKeyed b
   changes_keep_months (change.Comment it) a =
       let c : Books = record books { viewings = insert books.viewings (it.client, it.property) (record a.0 { comment = Some it.comment }) } in
       subst (λ found. RunInMonths size (with_comment books it found) run) (sym a.1)
-      (free_keeps size books c refl run refl refl refl refl (λ month. untouched books c month refl refl refl refl refl) in_order)
+      (free_keeps size books c refl run refl refl refl refl (λ month. untouched books c month refl refl refl refl refl refl) in_order)
   changes_keep_months (change.Lease it) a =
       where_closed (changed (change.Lease it) books) a.closed (lease_keeps size books it.terms.number it (keyed Kind.Runs) a.new a.in_time)
   changes_keep_months (change.Open it) a =
       open_keeps size books it (keyed Kind.Runs) (subst (RunInMonths size books) a.closed in_order) a.month a.is_open a.count a.total
   changes_keep_months other a =
       let c = changed other books in
-      free_keeps size books c refl run refl refl refl refl (λ month. untouched books c month refl refl refl refl refl) in_order
+      free_keeps size books c refl run refl refl refl refl (λ month. untouched books c month refl refl refl refl refl refl) in_order

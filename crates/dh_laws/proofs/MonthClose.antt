@@ -159,7 +159,7 @@ module _ (size : ℕ) (b : Books) (row : Run) (pos : 1 ≤ size) (keyed : AreKey
       let months = rules Rule.Months in
       record {
         closed = each_insert nat_total nat_ties b.runs row.month done (λ run. run.is_closed ≡ true → MonthIsClosed c run) (λ is. closed_after)
-            (λ k run other e is. let same = untouched b c run.month refl refl refl refl refl in
+            (λ k run other e is. let same = untouched b c run.month refl refl refl refl refl refl in
             closed_alike b c run same.same (months.closed run (is_among (values b.runs) run (of_row nat_total nat_ties b.runs k run e)) is));
         under_way = each_insert nat_total nat_ties b.runs row.month done (λ run. run.is_closed ≡ false → MonthIsOpen c size run)
             (λ is. absurd (let closed : true ≡ false = is in cc))
@@ -179,6 +179,7 @@ module _ (size : ℕ) (b : Books) (row : Run) (pos : 1 ≤ size) (keyed : AreKey
   rules_after Rule.Keys = keys_after
   rules_after Rule.Runs = runs_after
   rules_after Rule.Months = months_after
+  rules_after Rule.Endings = rules Rule.Endings
 
   pub closing_is_lawful : AreKeyed
       (record b { runs = insert b.runs row.month (closed_run row.month row.key (posted_charges size b row.month (batches size b row.month))) })

@@ -10,8 +10,8 @@ use Rattle.dh_types.specs.declared.property.Property.{Property}
 use Rattle.dh_types.specs.declared.lease.Lease.{Lease}
 use Rattle.dh_types.specs.declared.lease.Charge.{Charge}
 use Rattle.dh_types.proofs.SameValues.{numbers, texts}
-use Rattle.dh_model.specs.Books.{Books, text_cmp}
-use Rattle.dh_model.specs.Leases.{due, dues, dues_among, dues_of}
+use Rattle.dh_model.specs.Books.{Books, text_cmp, Endings}
+use Rattle.dh_model.specs.Leases.{due, dues, dues_among, dues_of, length_of}
 use Rattle.dh_model.specs.Runs.{dues_of_branch, is_property_of, leases_of_branch}
 use Rattle.dh_model.specs.Kinds.{Kind}
 use Rattle.dh_model.specs.Rules.{IsThere, NamesWhatIsThere}
@@ -38,50 +38,54 @@ module _ {X : Type 0} where
 
 -- ---- a new lease
 
-module _ (month : ℕ) where
-  pub dues_first : (lease : Lease) (leases : List Lease) → dues_among (lease ∷ leases) month ≡ filter (falls_in month) (dues_of lease)
-      ++ dues_among leases month
-  dues_first lease leases = filter-append (falls_in month) (dues_of lease) (flat_map dues_of leases)
+module _ (endings : Endings) (month : ℕ) where
+  pub dues_first : (lease : Lease) (leases : List Lease) → dues_among endings (lease ∷ leases) month ≡ filter (falls_in month) (dues_of endings lease)
+      ++ dues_among endings leases month
+  dues_first lease leases = filter-append (falls_in month) (dues_of endings lease) (flat_map (dues_of endings) leases)
 
-  module _ (lease : Lease) (none : filter (falls_in month) (dues_of lease) ≡ []) where
-    dues_besides : (before after : List Lease) → dues_among (before ++ lease ∷ after) month ≡ dues_among (before ++ after) month
-    dues_besides [] after = dues_first lease after ∙ ap (λ xs. xs ++ dues_among after month) none
+  module _ (lease : Lease) (none : filter (falls_in month) (dues_of endings lease) ≡ []) where
+    dues_besides : (before after : List Lease) → dues_among endings (before ++ lease ∷ after) month ≡ dues_among endings (before ++ after) month
+    dues_besides [] after = dues_first lease after ∙ ap (λ xs. xs ++ dues_among endings after month) none
     dues_besides (x ∷ before) after =
-        dues_first x (before ++ lease ∷ after) ∙ ap (λ ds. filter (falls_in month) (dues_of x) ++ ds) (dues_besides before after)
+        dues_first x (before ++ lease ∷ after) ∙ ap (λ ds. filter (falls_in month) (dues_of endings x) ++ ds) (dues_besides before after)
         ∙ sym (dues_first x (before ++ after))
 
     besides_if : (b : Bool) (p : Lease → Bool) (before after : List Lease)
-        → dues_among (filter p before ++ cond b (lease ∷ filter p after) (filter p after)) month ≡ dues_among (filter p before ++ filter p after) month
+        → dues_among endings (filter p before ++ cond b (lease ∷ filter p after) (filter p after)) month
+        ≡ dues_among endings (filter p before ++ filter p after) month
     besides_if true p before after = dues_besides (filter p before) (filter p after)
     besides_if false p before after = refl
 
     kept_besides : (p : Lease → Bool) (before after : List Lease)
-        → dues_among (filter p (before ++ lease ∷ after)) month ≡ dues_among (filter p (before ++ after)) month
+        → dues_among endings (filter p (before ++ lease ∷ after)) month ≡ dues_among endings (filter p (before ++ after)) month
     kept_besides p before after =
-        ap (λ ls. dues_among ls month) (filter-append p before (lease ∷ after)) ∙ besides_if (p lease) p before after
-        ∙ ap (λ ls. dues_among ls month) (sym (filter-append p before after))
+        ap (λ ls. dues_among endings ls month) (filter-append p before (lease ∷ after)) ∙ besides_if (p lease) p before after
+        ∙ ap (λ ls. dues_among endings ls month) (sym (filter-append p before after))
 
   -- a lease that starts later has nothing due
-  pub later_owes_none : (lease : Lease) → month < month_of_day lease.terms.start → filter (falls_in month) (dues_of lease) ≡ []
-  later_owes_none lease later = none_kept (falls_in month) (dues_of lease) (λ charge a. false_from_ne_true (falls_in month charge) (λ yes.
-      let of = in_map (due lease) (range_with_len 0 lease.terms.months) charge a in
+  pub later_owes_none : (lease : Lease) → month < month_of_day lease.terms.start → filter (falls_in month) (dues_of endings lease) ≡ []
+  later_owes_none lease later = none_kept (falls_in month) (dues_of endings lease) (λ charge a. false_from_ne_true (falls_in month charge) (λ yes.
+      let of = in_map (due lease) (range_with_len 0 (length_of endings lease)) charge a in
       let is = ap (λ (c : Charge). c.month) of.2 in
       let there = (numbers charge.month month).0 yes in
       omega (arith, is, there, later)))
 
+module _ (month : ℕ) where
   module _ (books : Books) (number : ℕ) (lease : Lease) (fresh : get books.leases number ≡ None) (later : month < month_of_day lease.terms.start) where
     pub dues_after_lease : dues (record books { leases = insert books.leases number lease }) month ≡ dues books month
     dues_after_lease =
         let p = values_new nat_total nat_ties books.leases number lease fresh in
-        ap (λ ls. dues_among ls month) p.is ∙ dues_besides lease (later_owes_none lease later) p.before p.after ∙ ap (λ ls. dues_among ls month) (sym p.was)
+        ap (λ ls. dues_among books.endings ls month) p.is ∙ dues_besides books.endings month lease
+        (later_owes_none books.endings month lease later) p.before p.after ∙ ap (λ ls. dues_among books.endings ls month) (sym p.was)
 
     pub branch_after_lease : (branch : List ℕ)
         → dues_of_branch (record books { leases = insert books.leases number lease }) month branch ≡ dues_of_branch books month branch
     branch_after_lease branch =
         let p = values_new nat_total nat_ties books.leases number lease fresh in
         let of = λ (it : Lease). is_property_of branch (get books.properties it.terms.property) in
-        ap (λ ls. dues_among (filter of ls) month) p.is ∙ kept_besides lease (later_owes_none lease later) of p.before p.after
-        ∙ ap (λ ls. dues_among (filter of ls) month) (sym p.was)
+        ap (λ ls. dues_among books.endings (filter of ls) month) p.is
+        ∙ kept_besides books.endings month lease (later_owes_none books.endings month lease later) of p.before p.after
+        ∙ ap (λ ls. dues_among books.endings (filter of ls) month) (sym p.was)
 
 -- ---- properties
 
@@ -94,7 +98,7 @@ module _ (books : Books) (properties : FinMap text_cmp Property) where
   pub branch_after_property : StandAsBefore → (month : ℕ) (branch : List ℕ)
       → dues_of_branch (record books { properties = properties }) month branch ≡ dues_of_branch books month branch
   unfolding StandAsBefore
-  branch_after_property same month branch = ap (λ ls. dues_among ls month)
+  branch_after_property same month branch = ap (λ ls. dues_among books.endings ls month)
       (kept_alike (λ lease. is_property_of branch (get properties lease.terms.property))
       (λ lease. is_property_of branch (get books.properties lease.terms.property)) (values books.leases) (λ lease a. same lease a branch))
 
@@ -126,7 +130,7 @@ pub owing_is_there : (books : Books) (month : ℕ) (branch : List ℕ) → Names
     → IsThere books.branches branch
 owing_is_there books month branch names owing =
     let some = some_of (dues_of_branch books month branch) owing in
-    let d = is_due (leases_of_branch books branch) month some.0 some.1 in
+    let d = is_due books.endings (leases_of_branch books branch) month some.0 some.1 in
     let kept = in_filter (λ lease. is_property_of branch (get books.properties lease.terms.property)) (values books.leases) d.lease d.of in
     let refers = names Kind.Leases d.lease (is_among (values books.leases) d.lease kept.0) in
     let is = (there text_total text_ties books.properties d.lease.terms.property).0 refers.property in

@@ -23,9 +23,10 @@ pub record RunInMonths (size : ℕ) (books : Books) (run : Option OpenRun) : Typ
   pub shown : IsOpenAt size books run
 
 -- of a month nothing is added
-pub untouched : (b c : Books) (month : ℕ) → c.leases ≡ b.leases → c.properties ≡ b.properties → c.branches ≡ b.branches → c.charges ≡ b.charges
+pub untouched : (b c : Books) (month : ℕ) → c.leases ≡ b.leases → c.endings ≡ b.endings → c.properties ≡ b.properties → c.branches ≡ b.branches
+    → c.charges ≡ b.charges
     → c.parts ≡ b.parts → SameBatches b c month
-untouched b c month leases properties branches charges parts = record {
+untouched b c month leases endings properties branches charges parts = record {
   same = record {
     charges = have_instead (charges_in b month) (charges_in b month) (charges_in c month) (charges_in b month)
         (ap (λ rows. filter (λ charge. nat_eq charge.month month) (values rows)) charges) refl (have_same (charges_in b month));
@@ -33,8 +34,9 @@ untouched b c month leases properties branches charges parts = record {
         (ap (λ rows. filter (λ part. nat_eq part.month month) (values rows)) parts) refl (have_same (parts_in b month));
     part = λ branch h. subst (λ rows. IsThere rows (month, branch)) (sym parts) h;
     branches = λ branch h owing. subst (λ rows. IsThere rows branch) branches h;
-    dues = ap (λ rows. dues_among (values rows) month) leases;
-    of_branch = λ branch i. dues_among (filter (λ lease. is_property_of branch (get (properties i) lease.terms.property)) (values (leases i))) month;
+    dues = λ i. dues_among (endings i) (values (leases i)) month;
+    of_branch = λ branch i. dues_among (endings i) (filter (λ lease. is_property_of branch (get (properties i) lease.terms.property))
+        (values (leases i))) month;
   };
   branches = branches;
 }

@@ -138,7 +138,7 @@ module _ (size : ℕ) (b : Books) (row : Run) (keyed : StandUnder (λ (it : Run)
   months_after = record {
     closed = each_insert nat_total nat_ties b.runs row.month row (λ run. run.is_closed ≡ true → MonthIsClosed after run)
         (λ is. absurd (let closed = is in cc))
-        (λ q run other e is. let same = untouched b after run.month refl refl refl refl refl in
+        (λ q run other e is. let same = untouched b after run.month refl refl refl refl refl refl in
         closed_alike b after run same.same (in_order.months.closed run (is_among (values b.runs) run (of_row nat_total nat_ties b.runs q run e)) is));
     under_way = each_insert nat_total nat_ties b.runs row.month row (λ run. run.is_closed ≡ false → MonthIsOpen after size run)
         (λ is. record { done = 0; posted = none_done; count = count; total = total })

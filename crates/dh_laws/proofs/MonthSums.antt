@@ -10,8 +10,8 @@ use Rattle.std.proofs.lemmas.List.Sums.{sum_by-append, sum_by-cons}
 use Rattle.dh_types.specs.declared.lease.Lease.{Lease}
 use Rattle.dh_types.specs.declared.lease.Charge.{Charge}
 use Rattle.dh_types.proofs.SameValues.{numbers, texts}
-use Rattle.dh_model.specs.Books.{Books, text_cmp}
-use Rattle.dh_model.specs.Leases.{due, dues, dues_among, dues_of}
+use Rattle.dh_model.specs.Books.{Books, text_cmp, Endings}
+use Rattle.dh_model.specs.Leases.{due, dues, dues_among, dues_of, length_of}
 use Rattle.dh_model.specs.Runs.{batches, dues_of_branch, is_property_of, leases_of_branch, posted_charges, posted_of_branch, total_of}
 use Rattle.dh_model.specs.BatchLaws.{AreNumbered}
 use Rattle.dh_model.specs.Kinds.{Kind}
@@ -86,10 +86,11 @@ module _ {K : Type 0} (R : K → K → Ordering) (o : IsTotalOrder R) (q : K →
       let rest = sum_one ks r.1 a in
       omega (arith, all, first, rest)
 
-due_made : (lease : Lease) (k : ℕ) (charge : Charge) → charge ≡ due lease k → k < lease.terms.months → Among (dues_of lease) charge
-due_made lease k charge is within =
-    subst (Among (dues_of lease)) (sym is)
-    (of_map (due lease) (range_with_len 0 lease.terms.months) k (of_range 0 lease.terms.months k (omega arith) (omega (arith, within))))
+due_made : (endings : Endings) (lease : Lease) (k : ℕ) (charge : Charge) → charge ≡ due lease k → k < length_of endings lease
+    → Among (dues_of endings lease) charge
+due_made endings lease k charge is within =
+    subst (Among (dues_of endings lease)) (sym is)
+    (of_map (due lease) (range_with_len 0 (length_of endings lease)) k (of_range 0 (length_of endings lease) k (omega arith) (omega (arith, within))))
 
 -- ---- a lease's branch
 
@@ -125,34 +126,35 @@ module _ (books : Books) (names : NamesWhatIsThere books) where
     pub due_at_branch : (charge : Charge) → Among (dues books month) charge → (branch : List ℕ) × Among (keys books.branches) branch
         × Among (dues_of_branch books month branch) charge
     due_at_branch charge a =
-        let d = is_due (values books.leases) month charge a in
+        let d = is_due books.endings (values books.leases) month charge a in
         let at = branch_of d.lease d.of in
-        let made = due_made d.lease d.k charge d.is d.within in (
+        let made = due_made books.endings d.lease d.k charge d.is d.within in (
           at.branch,
           at.of,
-          of_filter (falls_in month) (flat_map dues_of (leases_of_branch books at.branch)) charge ((numbers charge.month month).1 d.month_is)
-              (of_flat_map dues_of (leases_of_branch books at.branch) d.lease charge
+          of_filter (falls_in month) (flat_map (dues_of books.endings) (leases_of_branch books at.branch)) charge ((numbers charge.month month).1 d.month_is)
+              (of_flat_map (dues_of books.endings) (leases_of_branch books at.branch) d.lease charge
               (of_filter (λ lease. is_property_of at.branch (get books.properties lease.terms.property)) (values books.leases) d.lease at.is d.of) made),
         )
 
     -- and what is a branch's is due
     pub of_due_at_branch : (branch : List ℕ) (charge : Charge) → Among (dues_of_branch books month branch) charge → Among (dues books month) charge
     of_due_at_branch branch charge a =
-        let d = is_due (leases_of_branch books branch) month charge a in
+        let d = is_due books.endings (leases_of_branch books branch) month charge a in
         let kept = in_filter (λ lease. is_property_of branch (get books.properties lease.terms.property)) (values books.leases) d.lease d.of in
-        let made = due_made d.lease d.k charge d.is d.within in
-        of_filter (falls_in month) (flat_map dues_of (values books.leases)) charge ((numbers charge.month month).1 d.month_is)
-        (of_flat_map dues_of (values books.leases) d.lease charge kept.0 made)
+        let made = due_made books.endings d.lease d.k charge d.is d.within in
+        of_filter (falls_in month) (flat_map (dues_of books.endings) (values books.leases)) charge ((numbers charge.month month).1 d.month_is)
+        (of_flat_map (dues_of books.endings) (values books.leases) d.lease charge kept.0 made)
 
     module _ (w : Charge → ℕ) where
       abbrev of_lease : Lease → ℕ
-      of_lease lease = sum_by w (filter (falls_in month) (dues_of lease))
+      of_lease lease = sum_by w (filter (falls_in month) (dues_of books.endings lease))
 
-      sum_of_leases : (leases : List Lease) → sum_by w (dues_among leases month) ≡ sum_by of_lease leases
+      sum_of_leases : (leases : List Lease) → sum_by w (dues_among books.endings leases month) ≡ sum_by of_lease leases
       sum_of_leases [] = refl
       sum_of_leases (lease ∷ leases) =
           let rest = sum_of_leases leases in
-          let all = ap (sum_by w) (dues_first month lease leases) ∙ sum_by-append w (filter (falls_in month) (dues_of lease)) (dues_among leases month) in
+          let all = ap (sum_by w) (dues_first books.endings month lease leases)
+          ∙ sum_by-append w (filter (falls_in month) (dues_of books.endings lease)) (dues_among books.endings leases month) in
           let own = sum_by-cons of_lease lease leases in
           omega (arith, rest, all, own)
 

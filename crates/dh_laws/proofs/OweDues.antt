@@ -37,13 +37,13 @@ by_lease x y less e =
 dues_apart : (books : Books) (month : ℕ) → AreKeyed books → Rises (Apart nats_total nats_tie charge_key) (dues books month)
 dues_apart books month keyed =
     rises_by (Lesser lease_of) (Apart nats_total nats_tie charge_key) by_lease (dues books month)
-    (dues_rise (values books.leases) month (leases_rise books (keyed Kind.Leases)))
+    (dues_rise books.endings (values books.leases) month (leases_rise books (keyed Kind.Leases)))
 
 -- two dues of one key fall in one month
 one_month : (books : Books) → AreKeyed books → (m n : ℕ) (a b : Charge) → Among (dues books m) a → Among (dues books n) b → charge_key a ≡ charge_key b → m ≡ n
 one_month books keyed m n a b p q e =
-    let x = is_due (values books.leases) m a p in
-    let y = is_due (values books.leases) n b q in
+    let x = is_due books.endings (values books.leases) m a p in
+    let y = is_due books.endings (values books.leases) n b q in
     let lease = ap (λ (k : ℕ × ℕ). k.0) e in
     let index = ap (λ (k : ℕ × ℕ). k.1) e in
     let number : x.lease.terms.number ≡ y.lease.terms.number = sym (ap (λ (c : Charge). c.lease) x.is) ∙ lease ∙ ap (λ (c : Charge). c.lease) y.is in
@@ -68,7 +68,8 @@ module _ (size : ℕ) (books : Books) (keyed : AreKeyed books) (lawful : IsLawfu
   not_charged charge a = none_if (get books.charges (charge_key charge)) (λ x e.
       let of = of_row nats_total nats_tie books.charges (charge_key charge) x e in
       let early = run_is_early x.month (charged_was_run size books keyed lawful x of) in
-      let same = one_month books keyed x.month books.next x charge (charged_is_due size books keyed lawful x of) a (keyed Kind.Charges (charge_key charge) x e) in
+      let same = one_month books keyed x.month books.next x charge (charged_is_due size books keyed lawful x of) a
+      (keyed Kind.Charges (charge_key charge) x e) in
       omega (arith, early, same))
 
   -- a run adds its due

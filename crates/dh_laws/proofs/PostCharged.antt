@@ -40,7 +40,8 @@ module _ (size : ℕ) (books : Books) (keyed : AreKeyed books) (rules : MeetsRul
   pub owed_charge : (charge : Charge) → Among (values books.charges) charge → IsOwed books charge
   owed_charge charge a =
       let run = (there nat_total nat_ties books.runs charge.month).0 ((rules Rule.Months).charged charge (is_among (values books.charges) charge a)) in
-      owed_in run.0.is_closed run.0 charge refl (of_row nat_total nat_ties books.runs charge.month run.0 run.1) (sym (keyed Kind.Runs charge.month run.0 run.1)) a
+      owed_in run.0.is_closed run.0 charge refl (of_row nat_total nat_ties books.runs charge.month run.0 run.1)
+      (sym (keyed Kind.Runs charge.month run.0 run.1)) a
 
   pub charges_fit : (month n : ℕ) → Fits charge_key charge_month books.charges month (posted_charges size books month n)
   charges_fit month n = record {

@@ -45,7 +45,7 @@ module _ (size : ℕ) (books : Books) (pos : 1 ≤ size) (keyed : AreKeyed books
       (rows_differ nats_total nats_tie charge_key books.charges (keyed Kind.Charges))
 
   dues_differ : Rises Differ (dues books run.month)
-  dues_differ = lesser_differ lease_of (dues books run.month) (dues_rise (values books.leases) run.month (leases_rise books (keyed Kind.Leases)))
+  dues_differ = lesser_differ lease_of (dues books run.month) (dues_rise books.endings (values books.leases) run.month (leases_rise books (keyed Kind.Leases)))
 
   same_count : length (posted_charges size books run.month (batches size books run.month)) ≡ length (charges_in books run.month)
   same_count =

@@ -5,7 +5,7 @@ use Rattle.dh_types.specs.declared.lease.Lease.{Lease}
 use Rattle.dh_types.specs.declared.lease.Charge.{Charge}
 use Rattle.dh_types.specs.declared.run.Part.{Part}
 use Rattle.dh_model.specs.Books.{Books}
-use Rattle.dh_model.specs.Leases.{due, dues, dues_among}
+use Rattle.dh_model.specs.Leases.{due, dues, dues_among, length_of}
 use Rattle.dh_model.specs.Runs.{batch_of, batches_before, begun_branches, charge_key, dues_of_branch, is_property_of, leases_of_branch, part_key, part_of}
 use Rattle.dh_model.specs.Runs.{posted_charges, posted_of_branch, posted_parts}
 use Rattle.dh_model.proofs.Among.{Among, in_filter, in_flat_map, in_map, of_filter, of_flat_map}
@@ -20,14 +20,14 @@ pub record IsOwed (books : Books) (charge : Charge) : Type 0 where
   pub lease : Lease
   pub k : ℕ
   pub of : Among (values books.leases) lease
-  pub within : k < lease.terms.months
+  pub within : k < length_of books.endings lease
   pub is : charge ≡ due lease k
 
 module _ (books : Books) where
   owed_among : (month : ℕ) (leases : List Lease) (charge : Charge) → ((lease : Lease) → Among leases lease → Among (values books.leases) lease)
-      → Among (dues_among leases month) charge → IsOwed books charge × (charge.month ≡ month)
+      → Among (dues_among books.endings leases month) charge → IsOwed books charge × (charge.month ≡ month)
   owed_among month leases charge some a =
-      let d = is_due leases month charge a in
+      let d = is_due books.endings leases month charge a in
       (record { lease = d.lease; k = d.k; of = some d.lease d.of; within = d.within; is = d.is }, d.month_is)
 
   pub owed_due : (month : ℕ) (charge : Charge) → Among (dues books month) charge → IsOwed books charge × (charge.month ≡ month)

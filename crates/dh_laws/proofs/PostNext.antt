@@ -174,7 +174,8 @@ module _ (size : ℕ) (books : Books) (month done : ℕ) (pos : 1 ≤ size) (key
         let late : batch_of size books month key later < done + 1 = elim (was_or_posted later a) [
           | inl is ↦
               let p = is_posted size books month (done + 1) later is in
-              subst (λ b. batch_of size books month b later < done + 1) (one_branch_of_due books month (keyed Kind.Leases) p.branch key later p.due later_due) p.early
+              subst (λ b. batch_of size books month b later < done + 1)
+              (one_branch_of_due books month (keyed Kind.Leases) p.branch key later p.due later_due) p.early
           | inr old ↦ absurd (old.1 (owed_of_branch books month key later later_due).1)
         ] in
         newly charge (of_posted size books month (done + 1) charge

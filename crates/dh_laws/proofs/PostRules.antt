@@ -172,3 +172,4 @@ module _ (size : ℕ) (books : Books) (keyed : AreKeyed books) (rules : MeetsRul
         posted_rules Rule.Keys = let r = rules Rule.Keys in record { keys = r.keys; numbers = r.numbers }
         posted_rules Rule.Runs = let r = rules Rule.Runs in record { months = r.months; run = r.run; closed = r.closed }
         posted_rules Rule.Months = months_in_order
+        posted_rules Rule.Endings = rules Rule.Endings

@@ -1,10 +1,11 @@
 -- Leases, receipts and keys stay in order after every change.
-use Rattle.std.proofs.Common.{◌≡◌, ◌≢◌, ◌∙◌, refl, sym, ap, subst, inl, inr, ℕ, ◌+◌, ◌*◌, ◌≤◌, false, ◌&&◌, cond, nat_eq, List, [], ◌∷◌, ◌++◌, map, Option}
+use Rattle.std.proofs.Common.{◌≡◌, ◌≢◌, ◌∙◌, refl, sym, ap, subst, inl, inr, ℕ, ◌+◌, ◌*◌, ◌≤◌, ◌<◌, false, ◌&&◌, cond, nat_eq, List, [], ◌∷◌, ◌++◌, map, Option}
 use Rattle.std.proofs.Common.{Some, None, IfSome, AllPairs, is_some, arith}
 use Rattle.std.specs.FinMap.{get, insert, len, len-insert, values}
 use Rattle.std.proofs.lemmas.Bool.{false_from_ne_true, and_parts, and_from}
 use Rattle.dh_values.specs.declared.receipt_kind.ReceiptKind.TheVariants.{Deposit}
 use Rattle.dh_days.specs.Days.{month_of_day}
+use Rattle.dh_types.specs.declared.lease.LeaseTerms.{LeaseTerms}
 use Rattle.dh_types.specs.declared.lease.Lease.{Lease}
 use Rattle.dh_types.specs.declared.lease.Receipt.{Receipt}
 use Rattle.dh_types.specs.declared.run.Run.{Run}
@@ -15,9 +16,10 @@ use Rattle.dh_model.specs.declared.rows.Change.TheVariants as change
 use Rattle.dh_model.specs.Books.{Books}
 use Rattle.dh_model.specs.Kinds.{Kind}
 use Rattle.dh_model.specs.Checks.{is_same_text}
-use Rattle.dh_model.specs.Leases.{overlap}
+use Rattle.dh_model.specs.Leases.{overlap, running, months_in}
 use Rattle.dh_model.specs.Machine.{at_rent, changed, managed, with_comment}
-use Rattle.dh_model.specs.Rules.{DepositsInOrder, Each, EachTwo, KeysInOrder, LeasesInTime, LeasesNeverOverlap, NamesWhatIsThere, OneStartADay, RunsInOrder}
+use Rattle.dh_model.specs.Rules.{DepositsInOrder, Each, EachTwo, EndingsInOrder, KeysInOrder, LeasesInTime, LeasesNeverOverlap, NamesWhatIsThere}
+use Rattle.dh_model.specs.Rules.{OneStartADay, RunsInOrder}
 use Rattle.dh_model.proofs.Among.{Among, in_append, in_map, is_among}
 use Rattle.dh_model.proofs.KeyOrders.{nat_total, nat_ties}
 use Rattle.dh_model.proofs.LeaseLemmas.{overlap_goes_both_ways}
@@ -29,13 +31,14 @@ use Rattle.dh_model.proofs.Pairs.{pairs_rise, rises_put, rising_pairs}
 use Rattle.dh_laws.proofs.VerdictCases.{IsLimited}
 use Rattle.dh_laws.proofs.VerdictChecks.{IsNewKey}
 
--- the rules of leases, deposits and keys
+-- the rules of leases, endings, deposits and keys
 pub record AreSettled (books : Books) : Type 0 where
   pub overlaps : LeasesNeverOverlap books
   pub starts : OneStartADay books
   pub terms : LeasesInTime books
   pub deposits : DepositsInOrder books
   pub keys : KeysInOrder books
+  pub endings : EndingsInOrder books
 
 absent : {X : Type 0} (found : Option X) → ((x : X) → found ≡ Some x → ⊥) → found ≡ None
 absent None never = refl
@@ -45,6 +48,7 @@ absent (Some x) never = absurd (never x refl)
 
 record SameContracts (b c : Books) : Type 0 where
   leases : c.leases ≡ b.leases
+  endings : c.endings ≡ b.endings
   receipts : c.receipts ≡ b.receipts
   runs : c.runs ≡ b.runs
   first : c.first ≡ b.first
@@ -54,7 +58,8 @@ settled_alike b c same s =
     let deposits = s.deposits in
     let keys = s.keys in
     record {
-      overlaps = subst (λ leases. EachTwo leases (λ lease other. overlap lease.terms other.terms ≡ false)) (sym same.leases) s.overlaps;
+      overlaps = subst (λ leases. EachTwo leases (λ lease other. overlap (running c.endings lease) (running c.endings other) ≡ false)) (sym same.leases)
+          (subst (λ endings. EachTwo b.leases (λ lease other. overlap (running endings lease) (running endings other) ≡ false)) (sym same.endings) s.overlaps);
       starts = subst (λ leases. EachTwo leases (λ lease other. (is_same_text lease.terms.client other.terms.client
           && nat_eq lease.terms.start other.terms.start) ≡ false)) (sym same.leases) s.starts;
       terms = subst (λ leases. Each leases (λ lease. (3 ≤ lease.terms.months) × (lease.terms.months ≤ 12) × (c.first ≤ month_of_day lease.terms.start)))
@@ -76,6 +81,10 @@ settled_alike b c same s =
             ++ map (λ run. run.key) (values runs))) (sym same.runs) keys.keys);
         numbers = subst (λ receipts. Each receipts (λ receipt. (1 ≤ receipt.number) × (receipt.number ≤ len receipts))) (sym same.receipts) keys.numbers;
       };
+      endings = subst (λ endings. Each endings (λ it. (3 ≤ it.months) × IfSome (get c.leases it.lease) (λ lease. it.months < lease.terms.months)))
+          (sym same.endings)
+          (subst (λ leases. Each b.endings (λ it. (3 ≤ it.months) × IfSome (get leases it.lease) (λ lease. it.months < lease.terms.months)))
+          (sym same.leases) s.endings);
     }
 
 -- ---- keys
@@ -181,7 +190,14 @@ module _ (b : Books) (keyed : AreKeyed b) (settled : AreSettled b) where
 
     pub settled_with_receipt : AreSettled (record b { receipts = insert b.receipts it.number it })
     settled_with_receipt =
-        record { overlaps = settled.overlaps; starts = settled.starts; terms = settled.terms; deposits = deposits_after_receipt; keys = receipt_keys_after }
+        record {
+          overlaps = settled.overlaps;
+          starts = settled.starts;
+          terms = settled.terms;
+          deposits = deposits_after_receipt;
+          keys = receipt_keys_after;
+          endings = settled.endings;
+        }
 
   pub settled_with_run : (run : Option OpenRun) (it : Run) → OpensRun b run it → RunsInOrder b
       → AreSettled (record b { runs = insert b.runs it.month it; next = it.month + 1 })
@@ -203,6 +219,7 @@ module _ (b : Books) (keyed : AreKeyed b) (settled : AreSettled b) where
               (ap (λ rows. receipt_keys ++ map (λ (run : Run). run.key) rows) p.is ∙ map_back (λ (run : Run). run.key) p.before (it ∷ p.after) receipt_keys);
           numbers = keys.numbers;
         };
+        endings = settled.endings;
       }
 
   -- ---- a new lease
@@ -218,16 +235,20 @@ module _ (b : Books) (keyed : AreKeyed b) (settled : AreSettled b) where
 
   pub settled_with_lease : (run : Option OpenRun) (it : Lease) → AddsLease b run it → (3 ≤ it.terms.months) × (it.terms.months ≤ 12) → RunsInOrder b
       → NamesWhatIsThere b
+      → (get b.endings it.terms.number ≡ None)
       → AreSettled (record b { leases = insert b.leases it.terms.number it })
-  settled_with_lease run it adds limits runs names =
+  settled_with_lease run it adds limits runs names unended =
       let deposits = settled.deposits in
       let keys = settled.keys in
       let number = it.terms.number in
       record {
         overlaps = each_two_insert nat_total nat_ties b.leases it.terms.number it
-            (λ lease other. overlap lease.terms other.terms ≡ false) adds.new settled.overlaps
-            (λ k other e. let free = adds.free other (of_row nat_total nat_ties b.leases k other e) in
-            (overlap_goes_both_ways other.terms it.terms ∙ free, free));
+            (λ lease other. overlap (running b.endings lease) (running b.endings other) ≡ false) adds.new settled.overlaps
+            (λ k other e.
+            let own : running b.endings it ≡ it.terms = ap (λ found. let t : LeaseTerms =
+            record it.terms { months = months_in it.terms.months found } in t) unended in
+            let free = ap (λ t. overlap t (running b.endings other)) own ∙ adds.free other (of_row nat_total nat_ties b.leases k other e) in
+            (overlap_goes_both_ways (running b.endings other) (running b.endings it) ∙ free, free));
         starts = each_two_insert nat_total nat_ties b.leases it.terms.number it
             (λ lease other. (is_same_text lease.terms.client other.terms.client && nat_eq lease.terms.start other.terms.start) ≡ false) adds.new settled.starts
             (λ k other e. let first = adds.first other (of_row nat_total nat_ties b.leases k other e) in (first, starts_back it other first));
@@ -246,20 +267,33 @@ module _ (b : Books) (keyed : AreKeyed b) (settled : AreSettled b) where
           one_each = deposits.one_each;
         };
         keys = record { keys = keys.keys; numbers = keys.numbers };
+        endings = λ ending a.
+            let its = (there nat_total nat_ties b.leases ending.lease).0 (names Kind.Endings ending a) in
+            let new = adds.new in
+            let apart : ending.lease ≢ it.terms.number = λ same. let none : get b.leases ending.lease ≡ None =
+            ap (get b.leases) same ∙ new in let some = its.1 in cc in
+            let was = settled.endings ending a in (
+              was.0,
+              subst (λ found. IfSome found (λ lease. ending.months < lease.terms.months))
+                  (sym (get_other nat_total nat_ties b.leases it.terms.number it ending.lease apart)) was.1,
+            );
       }
 
 -- ---- each change
 
-module _ (b : Books) (run : Option OpenRun) (keyed : AreKeyed b) (settled : AreSettled b) (runs : RunsInOrder b) (names : NamesWhatIsThere b) where
-  as_before : (c : Books) → c.leases ≡ b.leases → c.receipts ≡ b.receipts → c.runs ≡ b.runs → c.first ≡ b.first → AreSettled c
-  as_before c leases receipts same_runs first = settled_alike b c (record { leases = leases; receipts = receipts; runs = same_runs; first = first }) settled
+module _ (b : Books) (run : Option OpenRun) (keyed : AreKeyed b) (settled : AreSettled b) (runs : RunsInOrder b) (names : NamesWhatIsThere b)
+    (unended : (number : ℕ) → get b.leases number ≡ None → get b.endings number ≡ None) where
+  as_before : (c : Books) → c.leases ≡ b.leases → c.endings ≡ b.endings → c.receipts ≡ b.receipts → c.runs ≡ b.runs → c.first ≡ b.first → AreSettled c
+  as_before c leases endings receipts same_runs first = settled_alike b c
+      (record { leases = leases; endings = endings; receipts = receipts; runs = same_runs; first = first }) settled
 
   pub keeps_settled : (rows : Change) → Accepted b run rows → IsLimited rows → AreSettled (changed rows b)
-  keeps_settled (change.Assign it) a l = subst (λ found. AreSettled (managed b it found)) (sym a.is) (as_before (managed b it (Some a.row)) refl refl refl refl)
-  keeps_settled (change.Rent it) a l = subst (λ found. AreSettled (at_rent b it found)) (sym a.1) (as_before (at_rent b it (Some a.0)) refl refl refl refl)
+  keeps_settled (change.Assign it) a l = subst (λ found. AreSettled (managed b it found)) (sym a.is)
+      (as_before (managed b it (Some a.row)) refl refl refl refl refl)
+  keeps_settled (change.Rent it) a l = subst (λ found. AreSettled (at_rent b it found)) (sym a.1) (as_before (at_rent b it (Some a.0)) refl refl refl refl refl)
   keeps_settled (change.Comment it) a l =
-      subst (λ found. AreSettled (with_comment b it found)) (sym a.1) (as_before (with_comment b it (Some a.0)) refl refl refl refl)
-  keeps_settled (change.Lease it) a l = settled_with_lease b keyed settled run it a l runs names
+      subst (λ found. AreSettled (with_comment b it found)) (sym a.1) (as_before (with_comment b it (Some a.0)) refl refl refl refl refl)
+  keeps_settled (change.Lease it) a l = settled_with_lease b keyed settled run it a l runs names (unended it.terms.number a.new)
   keeps_settled (change.Receipt it) a l = settled_with_receipt b keyed settled run it a
   keeps_settled (change.Open it) a l = settled_with_run b keyed settled run it a runs
-  keeps_settled rows a l = as_before (changed rows b) refl refl refl refl
+  keeps_settled rows a l = as_before (changed rows b) refl refl refl refl refl

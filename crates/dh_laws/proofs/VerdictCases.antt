@@ -30,7 +30,7 @@ use Rattle.dh_model.specs.declared.rows.Change.{Change}
 use Rattle.dh_model.specs.declared.rows.Change.TheVariants as change
 use Rattle.dh_model.specs.declared.rows.Verdict.TheVariants as verdict
 use Rattle.dh_model.specs.Books.{Books}
-use Rattle.dh_model.specs.Leases.{overlap}
+use Rattle.dh_model.specs.Leases.{overlap, running}
 use Rattle.dh_model.specs.Checks.{deposit_checks, first_failing, first_that_day, free_of_others, has_room, in_time, is_same_text, names, of_branch}
 use Rattle.dh_model.specs.Checks.{receipt_of_key, registered, run_of_key, unless, where_given, works_at}
 use Rattle.dh_model.specs.Verdicts.{assigned, branch_verdict, commented, judged, lease_checks, lease_verdict, manager_checks, opened_run, post_verdict}
@@ -236,7 +236,8 @@ module _ (books : Books) (run : Option OpenRun) (rows : Change) where
         in_time = starts_in_time books terms.start start.0;
         first = none_of_leases (λ l. is_same_text l.terms.client terms.client && nat_eq l.terms.start terms.start) refusal.ClientStart
             (values books.leases) day.0;
-        free = none_of_leases (λ l. overlap terms l.terms) refusal.Overlap (values books.leases) (first_passes (free_of_others books terms) [] day.1).0;
+        free = none_of_leases (λ l. overlap terms (running books.endings l)) refusal.Overlap (values books.leases)
+            (first_passes (free_of_others books terms) [] day.1).0;
       })
 
   pub lease_case : (terms : LeaseTerms) → Case (command.Lease terms)

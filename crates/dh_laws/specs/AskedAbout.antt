@@ -22,7 +22,7 @@ no_row = empty_books FIRST_MONTH
 module _ (books : Books) where
   -- the properties, and the leases on them
   abbrev pub let_or_vacant : Books
-  let_or_vacant = record no_row { properties = books.properties; leases = books.leases }
+  let_or_vacant = record no_row { properties = books.properties; leases = books.leases; endings = books.endings }
 
   -- the lease, and what was charged and paid on it
   abbrev pub account_of : ℕ → Books

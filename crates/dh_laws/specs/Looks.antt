@@ -1,5 +1,5 @@
 -- What a command looks at: few rows, among which are all that have a say in its verdict.
-use Rattle.std.specs.Prelude.{◌≡◌, ◌≤◌, ℕ, ◌-◌, Bool, nat_eq, ◌&&◌, ◌||◌, if◌then◌else◌, List, Option, Some, None, option_map}
+use Rattle.std.specs.Prelude.{◌≡◌, ◌≤◌, ℕ, ◌-◌, Bool, false, nat_eq, ◌&&◌, ◌||◌, if◌then◌else◌, List, Option, Some, None, option_map}
 use Rattle.std.specs.Ordering.{nat_cmp}
 use Rattle.std.specs.FinMap.{FinMap, empty, get, len}
 use Rattle.dh_values.specs.declared.receipt_kind.ReceiptKind.TheVariants.{Deposit}
@@ -51,15 +51,20 @@ is_beside terms lease =
     (nat_eq lease.terms.number terms.number || is_same_text lease.terms.property terms.property)
     || (is_same_text lease.terms.client terms.client && nat_eq lease.terms.start terms.start)
 
+-- and so is that of an ending
+abbrev pub is_some_beside : LeaseTerms → Option Lease → Bool
+is_some_beside terms None = false
+is_some_beside terms (Some lease) = is_beside terms lease
+
 -- the receipt has this key, or is the deposit on the lease
 abbrev pub is_before : ReceiptOrder → Receipt → Bool
 is_before order receipt =
     is_same_text receipt.key order.key || (nat_eq receipt.payment.lease order.payment.lease && is_same_receipt_kind receipt.payment.kind Deposit)
 
 module _ (books : Books) where
-  -- the months alone
+  -- the months and the version alone
   abbrev pub no_rows : Books
-  no_rows = record (empty_books books.first) { next = books.next }
+  no_rows = record (empty_books books.first) { next = books.next; version = books.version }
 
   -- the receipt and the run that have this key
   abbrev pub of_key : List ℕ → Books
@@ -114,6 +119,7 @@ module _ (books : Books) where
     clients = rows_where (λ client. is_same_text client.number it.client) books.clients;
     registrations = registration_for books.registrations it.client (get books.properties it.property);
     leases = rows_where (is_beside it) books.leases;
+    endings = rows_where (λ ending. is_some_beside it (get books.leases ending.lease)) books.endings;
   }
   looked_at (command.Receipt it) = record (of_key it.key) {
     leases = rows_where (λ lease. nat_eq lease.terms.number it.payment.lease) books.leases;

@@ -6,7 +6,8 @@ use Rattle.std.proofs.lemmas.Bool.Decides.{nat_tests}
 use Rattle.dh_days.specs.Days.{month_of_day, plus_months}
 use Rattle.dh_types.specs.declared.lease.Lease.{Lease}
 use Rattle.dh_types.specs.declared.lease.Charge.{Charge}
-use Rattle.dh_model.specs.Leases.{due, dues_among, dues_of}
+use Rattle.dh_model.specs.Books.{Endings}
+use Rattle.dh_model.specs.Leases.{due, dues_among, dues_of, length_of}
 
 differs : (m n : ℕ) → (m < n) ⊎ (n < m) → nat_eq m n ≡ false
 differs m n (inl h) = grind (arith, nat_tests)
@@ -27,7 +28,10 @@ rest_out : (first month a n : ℕ) → Outside first month a (suc n) → Outside
 rest_out first month a n (inl h) = inl (omega (arith, h))
 rest_out first month a n (inr h) = inr (omega (arith, h))
 
-module _ (lease : Lease) (month : ℕ) where
+module _ (endings : Endings) (lease : Lease) (month : ℕ) where
+  abbrev months : ℕ
+  months = length_of endings lease
+
   abbrev falls : Charge → Bool
   falls charge = nat_eq charge.month month
 
@@ -55,20 +59,20 @@ module _ (lease : Lease) (month : ℕ) where
       step a n false (differs (first + a) month (inl (omega (arith, e)))) ∙ one_due (a + 1) n k (omega (arith, e)) (omega (arith, h))
       ∙ ap (λ i. due lease i ∷ []) here
 
-  of_one : dues_among (lease ∷ []) month ≡ those 0 lease.terms.months
-  of_one = ap (filter falls) (append-nil (dues_of lease))
+  of_one : dues_among endings (lease ∷ []) month ≡ those 0 months
+  of_one = ap (filter falls) (append-nil (dues_of endings lease))
 
   before_all : month < first → month < first + 0
   before_all h = omega (arith, h)
 
-  pub none_before : month < first → [] ≡ dues_among (lease ∷ []) month
-  none_before h = sym (of_one ∙ no_due 0 lease.terms.months (inl (before_all h)))
+  pub none_before : month < first → [] ≡ dues_among endings (lease ∷ []) month
+  none_before h = sym (of_one ∙ no_due 0 months (inl (before_all h)))
 
-  after_all : first + lease.terms.months ≤ month → first + (0 + lease.terms.months) ≤ month
+  after_all : first + months ≤ month → first + (0 + months) ≤ month
   after_all h = omega (arith, h)
 
-  pub none_after : first + lease.terms.months ≤ month → [] ≡ dues_among (lease ∷ []) month
-  none_after h = sym (of_one ∙ no_due 0 lease.terms.months (inr (after_all h)))
+  pub none_after : first + months ≤ month → [] ≡ dues_among endings (lease ∷ []) month
+  none_after h = sym (of_one ∙ no_due 0 months (inr (after_all h)))
 
   at_start : (k : ℕ) → first + k ≡ month → first + (0 + k) ≡ month
   at_start k e = omega (arith, e)
@@ -81,9 +85,10 @@ module _ (lease : Lease) (month : ℕ) where
       ∙ ap (λ (x : ℕ). let c : Charge = record { lease = lease.terms.number; index = k; month = first + k; day = x; amount = lease.rent } in c) r
 
   -- the charge with these parts is what falls due
-  pub its_due : (k i m d : ℕ) → first + k ≡ month → k < lease.terms.months → i ≡ k → m ≡ month → d ≡ plus_months lease.terms.start k
-      → ◌≡◌ {A = List Charge} (record { lease = lease.terms.number; index = i; month = m; day = d; amount = lease.rent } ∷ []) (dues_among (lease ∷ []) month)
+  pub its_due : (k i m d : ℕ) → first + k ≡ month → k < months → i ≡ k → m ≡ month → d ≡ plus_months lease.terms.start k
+      → ◌≡◌ {A = List Charge} (record { lease = lease.terms.number; index = i; month = m; day = d; amount = lease.rent } ∷ [])
+      (dues_among endings (lease ∷ []) month)
   its_due k i m d e h p q r =
       let here : 0 + k ≡ k = omega arith in
       ap (λ c. c ∷ []) (charged k i m d p (q ∙ sym e) r) ∙ ap (λ x. due lease x ∷ []) (sym here)
-      ∙ sym (of_one ∙ one_due 0 lease.terms.months k (at_start k e) h)
+      ∙ sym (of_one ∙ one_due 0 months k (at_start k e) h)

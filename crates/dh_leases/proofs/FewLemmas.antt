@@ -89,7 +89,7 @@ module _ (size : ℕ) (books : Books) (month done : ℕ) where
   few_of_branch : (branch : List ℕ) → length (posted_of_branch size books month done branch) ≤ length (leases_of_branch books branch)
   few_of_branch branch =
       let kept = no_more_kept (λ charge. nat_lt (batch_of size books month branch charge) done) (dues_of_branch books month branch) in
-      let dues = no_more_dues (leases_of_branch books branch) month in
+      let dues = no_more_dues books.endings (leases_of_branch books branch) month in
       omega (arith, kept, dues)
 
   pub few_posted : length (posted_charges size books month done) ≤ length (values books.leases)
@@ -104,6 +104,6 @@ module _ (size : ℕ) (books : Books) (month done : ℕ) where
 
 pub few_dues : (books : Books) (month : ℕ) (branch : List ℕ) → length (dues_of_branch books month branch) ≤ length (values books.leases)
 few_dues books month branch =
-    let dues = no_more_dues (leases_of_branch books branch) month in
+    let dues = no_more_dues books.endings (leases_of_branch books branch) month in
     let kept = no_more_kept (λ lease. is_property_of branch (get books.properties lease.terms.property)) (values books.leases) in
     omega (arith, dues, kept)

@@ -10,8 +10,8 @@ use Rattle.dh_days.proofs.DayMonths.{month_of_months_later}
 use Rattle.dh_types.specs.declared.lease.Charge.{Charge}
 use Rattle.dh_types.specs.declared.lease.Lease.{Lease}
 use Rattle.dh_types.specs.declared.run.Part.{Part}
-use Rattle.dh_model.specs.Books.{Books}
-use Rattle.dh_model.specs.Leases.{due, dues_among, dues_of}
+use Rattle.dh_model.specs.Books.{Books, Endings}
+use Rattle.dh_model.specs.Leases.{due, dues_among, dues_of, length_of}
 use Rattle.dh_model.specs.Runs.{batch_size, batches_before, batches_for, dues_of_branch, leases_of_branch}
 use Rattle.dh_leases.specs.declared.planning.BatchRows.{BatchRows}
 use Rattle.dh_leases.specs.declared.planning.Plan.{Plan}
@@ -39,18 +39,18 @@ all_mapped P f (x ∷ xs) all =
     All-cons (λ y. P (f y)) x xs (All-head P (f x) (map f xs) all) (all_mapped P f xs (All-tail P (f x) (map f xs) all))
 
 -- each due falls in its month
-in_their_months : (lease : Lease) → All IsInMonth (dues_of lease)
-in_their_months lease =
-    let indices = range_with_len 0 lease.terms.months in
+in_their_months : (endings : Endings) (lease : Lease) → All IsInMonth (dues_of endings lease)
+in_their_months endings lease =
+    let indices = range_with_len 0 (length_of endings lease) in
     All-map IsInMonth (due lease) indices (λ k d below. month_of_months_later lease.terms.start (slice_index_or indices k d))
 
 module _ (month : ℕ) (known : month ≤ LAST_ENTRY_MONTH) where
-  dues_in_time : (leases : List Lease) → All IsInTime (dues_among leases month)
-  dues_in_time leases k d below =
+  dues_in_time : (endings : Endings) (leases : List Lease) → All IsInTime (dues_among endings leases month)
+  dues_in_time endings leases k d below =
       let its : Charge → Bool = λ charge. nat_eq charge.month month in
-      let dues = flat_map dues_of leases in
-      let own = All-filter its IsInMonth dues (all_of_each IsInMonth dues_of leases in_their_months) k d below in
-      let run = eqb-true (slice_index_or (dues_among leases month) k d).month month (filter_passes its dues k d below) in
+      let dues = flat_map (dues_of endings) leases in
+      let own = All-filter its IsInMonth dues (all_of_each IsInMonth (dues_of endings) leases (in_their_months endings)) k d below in
+      let run = eqb-true (slice_index_or (dues_among endings leases month) k d).month month (filter_passes its dues k d below) in
       omega (arith, known, own, run)
 
   rows_in_time : (books : Books) (done : ℕ) (branch : List ℕ) → All AreInTime (rows_left batch_size books month done branch)
@@ -58,7 +58,7 @@ module _ (month : ℕ) (known : month ≤ LAST_ENTRY_MONTH) where
       let dues = dues_of_branch books month branch in
       let first = done - batches_before batch_size books month branch in
       let numbers = range_with_len first (batches_for batch_size (length dues) - first) in
-      let own = dues_in_time (leases_of_branch books branch) in
+      let own = dues_in_time books.endings (leases_of_branch books branch) in
       All-map AreInTime (rows_at batch_size month branch dues) numbers
       (λ k d below. let number = slice_index_or numbers k d in
       let so_far = take ((number + 1) * batch_size) dues in

@@ -14,42 +14,43 @@ use Rattle.dh_days.specs.Days.{month_of_day, plus_months}
 use Rattle.dh_types.specs.declared.property.Property.{Property}
 use Rattle.dh_types.specs.declared.lease.Lease.{Lease}
 use Rattle.dh_types.specs.declared.lease.Charge.{Charge}
-use Rattle.dh_model.specs.Books.{text_cmp}
-use Rattle.dh_model.specs.Leases.{dues_among, dues_of}
+use Rattle.dh_model.specs.Books.{Endings, text_cmp}
+use Rattle.dh_model.specs.Leases.{dues_among, dues_of, length_of}
 use Rattle.dh_model.specs.Runs.{is_property_of}
 use Rattle.dh_model.proofs.KeyOrders.{text_ties, text_total}
 use Rattle.dh_types.proofs.SameValues.{texts}
 use Rattle.dh_leases.proofs.DueIn.{its_due, none_after, none_before}
 
 -- of one lease's dues a month has one at most
-pub at_most_one : (lease : Lease) (month : ℕ) → length (dues_among (lease ∷ []) month) ≤ 1
-at_most_one lease month =
+pub at_most_one : (endings : Endings) (lease : Lease) (month : ℕ) → length (dues_among endings (lease ∷ []) month) ≤ 1
+at_most_one endings lease month =
     let first = month_of_day lease.terms.start in
     elim (cases_lt month first) [
-      | inl early ↦ let none = ap length (none_before lease month early) in omega (arith, none)
-      | inr reached ↦ elim (cases_lt month (first + lease.terms.months)) [
+      | inl early ↦ let none = ap length (none_before endings lease month early) in omega (arith, none)
+      | inr reached ↦ elim (cases_lt month (first + length_of endings lease)) [
         | inl within ↦
             let k = month - first in
-            let one = ap length (its_due lease month k k month (plus_months lease.terms.start k) (omega (arith, reached))
+            let one = ap length (its_due endings lease month k k month (plus_months lease.terms.start k) (omega (arith, reached))
             (omega (arith, reached, within)) refl refl refl) in
             omega (arith, one)
-        | inr late ↦ let none = ap length (none_after lease month late) in omega (arith, none)
+        | inr late ↦ let none = ap length (none_after endings lease month late) in omega (arith, none)
       ]
     ]
 
-pub dues_of_two : (xs ys : List Lease) (month : ℕ) → dues_among (xs ++ ys) month ≡ dues_among xs month ++ dues_among ys month
-dues_of_two xs ys month =
-    ap (filter (λ charge. nat_eq charge.month month)) (flat_map-append dues_of xs ys)
-    ∙ filter-append (λ charge. nat_eq charge.month month) (flat_map dues_of xs) (flat_map dues_of ys)
+pub dues_of_two : (endings : Endings) (xs ys : List Lease) (month : ℕ)
+    → dues_among endings (xs ++ ys) month ≡ dues_among endings xs month ++ dues_among endings ys month
+dues_of_two endings xs ys month =
+    ap (filter (λ charge. nat_eq charge.month month)) (flat_map-append (dues_of endings) xs ys)
+    ∙ filter-append (λ charge. nat_eq charge.month month) (flat_map (dues_of endings) xs) (flat_map (dues_of endings) ys)
 
 -- leases have no more dues in a month than they are
-pub no_more_dues : (leases : List Lease) (month : ℕ) → length (dues_among leases month) ≤ length leases
-no_more_dues [] month = omega arith
-no_more_dues (lease ∷ leases) month =
-    let one = at_most_one lease month in
-    let rest = no_more_dues leases month in
-    let all = ap length (dues_of_two (lease ∷ []) leases month) in
-    let both = length-append (dues_among (lease ∷ []) month) (dues_among leases month) in
+pub no_more_dues : (endings : Endings) (leases : List Lease) (month : ℕ) → length (dues_among endings leases month) ≤ length leases
+no_more_dues endings [] month = omega arith
+no_more_dues endings (lease ∷ leases) month =
+    let one = at_most_one endings lease month in
+    let rest = no_more_dues endings leases month in
+    let all = ap length (dues_of_two endings (lease ∷ []) leases month) in
+    let both = length-append (dues_among endings (lease ∷ []) month) (dues_among endings leases month) in
     omega (arith, one, rest, all, both)
 
 module _ {X : Type 0} (p : X → Bool) where
@@ -65,7 +66,7 @@ module _ {X : Type 0} (p : X → Bool) where
 abbrev pub of_branch : FinMap text_cmp Property → List ℕ → Lease → Bool
 of_branch properties branch lease = is_property_of branch (get properties lease.terms.property)
 
-module _ (properties : FinMap text_cmp Property) (month : ℕ) where
+module _ (endings : Endings) (properties : FinMap text_cmp Property) (month : ℕ) where
   kept_last : (branch : List ℕ) (leases : List Lease) (lease : Lease) → of_branch properties branch lease ≡ true
       → filter (of_branch properties branch) (leases ++ lease ∷ []) ≡ filter (of_branch properties branch) leases ++ lease ∷ []
   kept_last branch leases lease e =
@@ -92,34 +93,34 @@ module _ (properties : FinMap text_cmp Property) (month : ℕ) where
 
   -- the charge comes behind those of its branch
   pub due_put : (leases : List Lease) (lease : Lease) (property : Property) (charge : Charge) (q : List ℕ) → get properties lease.terms.property ≡ Some property
-      → charge ∷ [] ≡ dues_among (lease ∷ []) month
-      → dues_among (filter (of_branch properties q) leases) month
-      ++ cond (is_at (text_cmp property.branch) q) (charge ∷ []) [] ≡ dues_among (filter (of_branch properties q) (leases ++ lease ∷ [])) month
+      → charge ∷ [] ≡ dues_among endings (lease ∷ []) month
+      → dues_among endings (filter (of_branch properties q) leases) month
+      ++ cond (is_at (text_cmp property.branch) q) (charge ∷ []) [] ≡ dues_among endings (filter (of_branch properties q) (leases ++ lease ∷ [])) month
   due_put leases lease property charge q there its =
-      let dues = dues_among (filter (of_branch properties q) leases) month in
+      let dues = dues_among endings (filter (of_branch properties q) leases) month in
       elim (cases_Bool (is_at (text_cmp property.branch) q)) [
         | inl same ↦
             ap (λ b. dues ++ cond b (charge ∷ []) []) same ∙ ap (λ cs. dues ++ cs) its
-            ∙ sym (dues_of_two (filter (of_branch properties q) leases) (lease ∷ []) month)
-            ∙ ap (λ ls. dues_among ls month)
+            ∙ sym (dues_of_two endings (filter (of_branch properties q) leases) (lease ∷ []) month)
+            ∙ ap (λ ls. dues_among endings ls month)
             (sym (kept_last q leases lease (ap (is_property_of q) there ∙ (texts property.branch q).1 (same_branch property.branch q same))))
         | inr other ↦
             ap (λ b. dues ++ cond b (charge ∷ []) []) other ∙ append-nil dues
-            ∙ ap (λ ls. dues_among ls month) (sym (left_last q leases lease (ap (is_property_of q) there ∙ other_branch property.branch q other)))
+            ∙ ap (λ ls. dues_among endings ls month) (sym (left_last q leases lease (ap (is_property_of q) there ∙ other_branch property.branch q other)))
       ]
 
   -- what is not due, or at no branch, changes nothing
-  pub no_due_more : (leases : List Lease) (lease : Lease) (q : List ℕ) → [] ≡ dues_among (lease ∷ []) month
-      → dues_among (filter (of_branch properties q) leases) month ≡ dues_among (filter (of_branch properties q) (leases ++ lease ∷ [])) month
+  pub no_due_more : (leases : List Lease) (lease : Lease) (q : List ℕ) → [] ≡ dues_among endings (lease ∷ []) month
+      → dues_among endings (filter (of_branch properties q) leases) month ≡ dues_among endings (filter (of_branch properties q) (leases ++ lease ∷ [])) month
   no_due_more leases lease q none =
-      let dues = dues_among (filter (of_branch properties q) leases) month in
+      let dues = dues_among endings (filter (of_branch properties q) leases) month in
       elim (cases_Bool (of_branch properties q lease)) [
         | inl its ↦
-            sym (append-nil dues) ∙ ap (λ cs. dues ++ cs) none ∙ sym (dues_of_two (filter (of_branch properties q) leases) (lease ∷ []) month)
-            ∙ ap (λ ls. dues_among ls month) (sym (kept_last q leases lease its))
-        | inr other ↦ ap (λ ls. dues_among ls month) (sym (left_last q leases lease other))
+            sym (append-nil dues) ∙ ap (λ cs. dues ++ cs) none ∙ sym (dues_of_two endings (filter (of_branch properties q) leases) (lease ∷ []) month)
+            ∙ ap (λ ls. dues_among endings ls month) (sym (kept_last q leases lease its))
+        | inr other ↦ ap (λ ls. dues_among endings ls month) (sym (left_last q leases lease other))
       ]
 
   pub no_branch_more : (leases : List Lease) (lease : Lease) (q : List ℕ) → get properties lease.terms.property ≡ None
-      → dues_among (filter (of_branch properties q) leases) month ≡ dues_among (filter (of_branch properties q) (leases ++ lease ∷ [])) month
-  no_branch_more leases lease q none = ap (λ ls. dues_among ls month) (sym (left_last q leases lease (ap (is_property_of q) none)))
+      → dues_among endings (filter (of_branch properties q) leases) month ≡ dues_among endings (filter (of_branch properties q) (leases ++ lease ∷ [])) month
+  no_branch_more leases lease q none = ap (λ ls. dues_among endings ls month) (sym (left_last q leases lease (ap (is_property_of q) none)))

@@ -19,11 +19,11 @@ use Rattle.dh_leases.proofs.BatchParts.{had_part, parts_led}
 use Rattle.dh_leases.proofs.Counted.{AreTheRest, all_counted}
 use Rattle.dh_leases.proofs.Places.{AreFrom}
 
--- batches depend on branches, properties and leases alone
+-- batches depend on branches, properties, leases and endings alone
 same_rows_left : (books others : Books) (month done : ℕ) → HaveTheLeases books others
     → all_rows_left batch_size books month done ≡ all_rows_left batch_size others month done
 same_rows_left books others month done h =
-    λ i. let other : Books = record books { branches = h.branches i; properties = h.properties i; leases = h.leases i } in
+    λ i. let other : Books = record books { branches = h.branches i; properties = h.properties i; leases = h.leases i; endings = h.endings i } in
     all_rows_left batch_size other month done
 
 module _ (books : Books) (month done : ℕ) (order : IsInOrder batch_size books (Some (record { month = month; done = done }))) where

@@ -71,8 +71,9 @@ abbrev pub IsPlanned : State → Option Plan → Type 0
 IsPlanned s None = s.open_run ≡ None
 IsPlanned s (Some plan) = IsPlanOf plan s
 
--- the books have the branches, the properties and the leases of others
+-- the books have the branches, the properties, the leases and the endings of others
 pub record HaveTheLeases (books others : Books) : Type 0 where
   pub branches : books.branches ≡ others.branches
   pub properties : books.properties ≡ others.properties
   pub leases : books.leases ≡ others.leases
+  pub endings : books.endings ≡ others.endings

@@ -43,7 +43,7 @@ pub fn dues_by_branch(
 {
     let mut dues = BTreeMap::new(alloc);
     for lease in books.leases() {
-        let Some(charge) = due_in(lease, month.month()) else {
+        let Some(charge) = due_in(books, lease, month.month()) else {
             continue;
         };
         let Some(property) = books.property(&lease.terms.property) else {

@@ -8,12 +8,12 @@ use dh_types::{Charge, ChargeIndex, EntryMonth, Lease, Month};
 use std::alloc::{AllocError, Global};
 
 /// The charge of the lease that falls due in the month: the whole of its own rent, on the day that lies
-/// as many months after the start. `None` where the lease has none in that month.
-pub fn due_in(lease: &Lease, month: Month) -> Option<Charge>
-    ensures { option_to_list result ≡ dues_among (lease.now ∷ []) month }
+/// as many months after the start. `None` where the lease has none in that month, as long as it runs in these books.
+pub fn due_in(books: &Books, lease: &Lease, month: Month) -> Option<Charge>
+    ensures { option_to_list result ≡ dues_among books.now.books.endings (lease.now ∷ []) month }
 {
     let start = lease.terms.start.day();
-    let months = lease.terms.months.number();
+    let months = books.length_of(lease).number();
     let index = month.number().checked_sub(start.month().number())?;
     if index >= months {
         return None;
@@ -33,7 +33,7 @@ pub fn dues(alloc: Global, books: &Books, month: Month) -> Result<Vec<Charge>, A
 {
     let mut charges = Vec::new(alloc);
     for lease in books.leases() {
-        if let Some(charge) = due_in(lease, month) {
+        if let Some(charge) = due_in(books, lease, month) {
             charges.push(charge)?;
         }
     }

@@ -87,7 +87,7 @@ fn put_batches(
     Ok(())
 }
 
-/// The batches that the open run lacks, over the branches, the properties and the leases of books. Each of their charges falls due
+/// The batches that the open run lacks, over the branches, the properties, the leases and the endings of books. Each of their charges falls due
 /// in a month that lines know. It fails where memory runs out.
 pub fn plan_of(alloc: Global, books: &Books, run: OpenRun) -> Result<Plan, AllocError>
     ensures plan { IfOk result (λ plan. (t : State) → IsStateInOrder t → t.open_run ≡ Some run → HaveTheLeases books.now.books t.books → IsPlanOf plan t) }

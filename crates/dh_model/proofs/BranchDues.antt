@@ -13,8 +13,8 @@ use Rattle.dh_types.specs.declared.property.Property.{Property}
 use Rattle.dh_types.specs.declared.lease.Lease.{Lease}
 use Rattle.dh_types.specs.declared.lease.Charge.{Charge}
 use Rattle.dh_types.proofs.SameValues.{numbers, texts}
-use Rattle.dh_model.specs.Books.{Books}
-use Rattle.dh_model.specs.Leases.{due, dues_among, dues_of}
+use Rattle.dh_model.specs.Books.{Books, Endings}
+use Rattle.dh_model.specs.Leases.{due, dues_among, dues_of, length_of}
 use Rattle.dh_model.specs.Runs.{dues_of_branch, is_property_of, leases_of_branch}
 use Rattle.dh_model.specs.BatchLaws.{AreNumbered}
 use Rattle.dh_model.proofs.Among.{Among, in_filter, in_map, in_range}
@@ -132,23 +132,24 @@ module _ (lease : Lease) (month : ℕ) where
   one_rises k zero = tt
   one_rises k (suc n) = one_by_month (falls_in month (due lease k)) k n refl (one_rises (k + 1) n)
 
-  of_lease : (charge : Charge) → Among (filter (falls_in month) (dues_of lease)) charge → charge.lease ≡ lease.terms.number
-  of_lease charge a =
-      let kept = in_filter (falls_in month) (dues_of lease) charge a in
-      let of = in_map (due lease) (range_with_len 0 lease.terms.months) charge kept.0 in
+  of_lease : (endings : Endings) (charge : Charge) → Among (filter (falls_in month) (dues_of endings lease)) charge → charge.lease ≡ lease.terms.number
+  of_lease endings charge a =
+      let kept = in_filter (falls_in month) (dues_of endings lease) charge a in
+      let of = in_map (due lease) (range_with_len 0 (length_of endings lease)) charge kept.0 in
       ap (λ (c : Charge). c.lease) of.2
 
 -- the dues of leases that rise by number rise by lease
-pub dues_rise : (leases : List Lease) (month : ℕ) → Rises (Lesser number_of) leases → Rises (Lesser lease_of) (dues_among leases month)
-dues_rise [] month r = tt
-dues_rise (lease ∷ leases) month r =
-    rw (filter-append (falls_in month) (dues_of lease) (flat_map dues_of leases))
-    (append_rises (Lesser lease_of) (filter (falls_in month) (dues_of lease)) (dues_among leases month)
-    (one_rises lease month 0 lease.terms.months)
-    (dues_rise leases month r.1)
+pub dues_rise : (endings : Endings) (leases : List Lease) (month : ℕ) → Rises (Lesser number_of) leases
+    → Rises (Lesser lease_of) (dues_among endings leases month)
+dues_rise endings [] month r = tt
+dues_rise endings (lease ∷ leases) month r =
+    rw (filter-append (falls_in month) (dues_of endings lease) (flat_map (dues_of endings) leases))
+    (append_rises (Lesser lease_of) (filter (falls_in month) (dues_of endings lease)) (dues_among endings leases month)
+    (one_rises lease month 0 (length_of endings lease))
+    (dues_rise endings leases month r.1)
     (λ c d a b.
-    let d_is = is_due leases month d b in
-    let c_lease = of_lease lease month c a in
+    let d_is = is_due endings leases month d b in
+    let c_lease = of_lease lease month endings c a in
     let d_lease = ap (λ (e : Charge). e.lease) d_is.is in
     let less = r.0 d_is.lease d_is.of in
     omega (arith, c_lease, d_lease, less)))
@@ -164,7 +165,7 @@ module _ (books : Books) (month : ℕ) (are : AreNumbered books) where
   -- the dues of a branch rise by lease
   pub dues_of_branch_rise : (branch : List ℕ) → Rises (Lesser lease_of) (dues_of_branch books month branch)
   dues_of_branch_rise branch =
-      dues_rise (leases_of_branch books branch) month
+      dues_rise books.endings (leases_of_branch books branch) month
       (filter_rises (Lesser number_of) (λ lease. is_property_of branch (get books.properties lease.terms.property)) (values books.leases)
       (leases_rise books are))
 
@@ -177,7 +178,7 @@ module _ (books : Books) (month : ℕ) (are : AreNumbered books) where
 
   due_of_branch : (branch : List ℕ) (charge : Charge) → Among (dues_of_branch books month branch) charge → IsDueOf branch charge
   due_of_branch branch charge a =
-      let d = is_due (leases_of_branch books branch) month charge a in
+      let d = is_due books.endings (leases_of_branch books branch) month charge a in
       let kept = in_filter (λ lease. is_property_of branch (get books.properties lease.terms.property)) (values books.leases) d.lease d.of in
       let number = ap (λ (e : Charge). e.lease) d.is in
       record { lease = d.lease; number = number; is = ap (get books.leases) number ∙ got_by_number books are d.lease kept.0; of = kept.1 }

@@ -9,7 +9,7 @@ use Rattle.dh_model.proofs.Pairs.{rising_pairs}
 
 pub dues_rise_by_lease : DuesRiseByLease
 dues_rise_by_lease books month are =
-    rising_pairs (λ charge other. charge.lease < other.lease) (dues books month) (dues_rise (values books.leases) month (leases_rise books are))
+    rising_pairs (λ charge other. charge.lease < other.lease) (dues books month) (dues_rise books.endings (values books.leases) month (leases_rise books are))
 
 pub each_due_is_listed_once : EachDueIsListedOnce
 each_due_is_listed_once books month are =

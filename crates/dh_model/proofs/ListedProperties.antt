@@ -16,7 +16,7 @@ use Rattle.dh_types.specs.declared.lease.Lease.{Lease}
 use Rattle.dh_types.specs.Records.{is_same_property_type}
 use Rattle.dh_types.proofs.SameValues.{property_types, texts}
 use Rattle.dh_model.specs.Books.{Books, pair_cmp, text_cmp}
-use Rattle.dh_model.specs.Leases.{Covers, covers, end_of}
+use Rattle.dh_model.specs.Leases.{Covers, covers, end_of, running}
 use Rattle.dh_model.specs.Checks.{is_same_text}
 use Rattle.dh_model.specs.Answers.{is_vacant, matches, matching, vacant}
 use Rattle.dh_model.specs.ListLaws.{IsCheaper, IsNotLet, MatchingRiseByRent, MatchingSuitTheClient, PropertiesAreNumbered, Suits, VacantAreNotLet}
@@ -47,12 +47,13 @@ not_from false h = refl
 
 module _ (books : Books) (day : ℕ) (property : Property) where
   abbrev lets : Lease → Bool
-  lets lease = is_same_text lease.terms.property property.number && covers lease.terms day
+  lets lease = is_same_text lease.terms.property property.number && covers (running books.endings lease) day
 
-  let_by : (lease : Lease) → lease.terms.property ≡ property.number → Covers lease.terms day → lets lease ≡ true
+  let_by : (lease : Lease) → lease.terms.property ≡ property.number → Covers (running books.endings lease) day → lets lease ≡ true
   let_by lease same h =
-      and_from (is_same_text lease.terms.property property.number) (covers lease.terms day) ((texts lease.terms.property property.number).1 same)
-      (of_covered lease.terms day h)
+      and_from (is_same_text lease.terms.property property.number) (covers (running books.endings lease) day)
+      ((texts lease.terms.property property.number).1 same)
+      (of_covered (running books.endings lease) day h)
 
   not_let : is_vacant books day property ≡ true → IsNotLet books day property
   not_let h lease a same c =
@@ -61,8 +62,9 @@ module _ (books : Books) (day : ℕ) (property : Property) where
   of_not_let : IsNotLet books day property → is_vacant books day property ≡ true
   of_not_let h = not_from (list_any lets (values books.leases)) (λ some.
       let by = some_passes lets (values books.leases) some in
-      let parts = and_parts (is_same_text by.0.terms.property property.number) (covers by.0.terms day) by.2 in
-      h by.0 (is_among (values books.leases) by.0 by.1) ((texts by.0.terms.property property.number).0 parts.0) (covered by.0.terms day parts.1))
+      let parts = and_parts (is_same_text by.0.terms.property property.number) (covers (running books.endings by.0) day) by.2 in
+      h by.0 (is_among (values books.leases) by.0 by.1) ((texts by.0.terms.property property.number).0 parts.0)
+      (covered (running books.endings by.0) day parts.1))
 
 pub vacant_are_not_let : VacantAreNotLet
 vacant_are_not_let books day property =

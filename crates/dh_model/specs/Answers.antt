@@ -19,14 +19,15 @@ use Rattle.dh_types.specs.Records.{is_same_property_type, is_same_receipt_kind}
 use Rattle.dh_types.specs.Reports.{Report, BranchList, VacantList, MatchingList, LeaseStatement, BranchArrears, RunParts, NoReport}
 use Rattle.dh_model.specs.declared.open_run.OpenRun.{OpenRun}
 use Rattle.dh_model.specs.Books.{Books, State, pair_cmp, text_cmp}
-use Rattle.dh_model.specs.Leases.{covers}
+use Rattle.dh_model.specs.Leases.{covers, running}
 use Rattle.dh_model.specs.Runs.{leases_of_branch, sum_of, total_of}
 use Rattle.dh_model.specs.Checks.{is_same_text}
 
 module _ (books : Books) where
   -- no lease of the property covers the day
   abbrev pub is_vacant : ℕ → Property → Bool
-  is_vacant day property = not (list_any (λ lease. is_same_text lease.terms.property property.number && covers lease.terms day) (values books.leases))
+  is_vacant day property = not (list_any (λ lease. is_same_text lease.terms.property property.number && covers (running books.endings lease) day)
+      (values books.leases))
 
   -- rising by number
   abbrev pub vacant : ℕ → List Property

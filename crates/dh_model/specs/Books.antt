@@ -15,8 +15,11 @@ use Rattle.dh_types.specs.declared.viewing.Inspection.{Inspection}
 use Rattle.dh_types.specs.declared.lease.Lease.{Lease}
 use Rattle.dh_types.specs.declared.lease.Charge.{Charge}
 use Rattle.dh_types.specs.declared.lease.Receipt.{Receipt}
+use Rattle.dh_types.specs.declared.lease.Ending.{Ending}
 use Rattle.dh_types.specs.declared.run.Run.{Run}
 use Rattle.dh_types.specs.declared.run.Part.{Part}
+use Rattle.dh_types.specs.declared.version.Version.{Version}
+use Rattle.dh_types.specs.declared.version.Version.TheVariants.{First}
 use Rattle.dh_model.specs.declared.open_run.OpenRun.{OpenRun}
 
 -- codes go by their bytes
@@ -26,6 +29,10 @@ text_cmp = slice_cmp nat_cmp
 -- pairs go by their first part, and then by their second
 abbrev pub pair_cmp : {A B : Type 0} → (A → A → Ordering) → (B → B → Ordering) → A × B → A × B → Ordering
 pair_cmp R Q x y = ordering_then (R x.0 y.0) (Q x.1 y.1)
+
+-- leases that were ended early, by lease
+abbrev pub Endings : Type 0
+Endings = FinMap nat_cmp Ending
 
 pub record Books : Type 0 where
   pub branches : FinMap text_cmp Branch
@@ -47,9 +54,13 @@ pub record Books : Type 0 where
   pub runs : FinMap nat_cmp Run
   -- by month and branch
   pub parts : FinMap (pair_cmp nat_cmp text_cmp) Part
+  -- the leases that were ended early
+  pub endings : Endings
   -- the month that the books begin with, and the next one whose rent is to be run
   pub first : ℕ
   pub next : ℕ
+  -- which version of the books the file holds
+  pub version : Version
 
 -- where the machine stands: the books, and the rent run that is under way, if any
 pub record State : Type 0 where
@@ -72,8 +83,10 @@ empty_books month = record {
   receipts = empty;
   runs = empty;
   parts = empty;
+  endings = empty;
   first = month;
   next = month;
+  version = First;
 }
 
 abbrev pub start : ℕ → State

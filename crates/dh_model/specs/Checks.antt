@@ -20,7 +20,7 @@ use Rattle.dh_types.specs.declared.reply.Refusal.TheVariants as refusal
 use Rattle.dh_types.specs.Records.{is_same_optional, is_same_receipt_kind}
 use Rattle.dh_model.specs.declared.limits.TheConstants.{MANAGED_AT_MOST}
 use Rattle.dh_model.specs.Books.{Books}
-use Rattle.dh_model.specs.Leases.{overlap}
+use Rattle.dh_model.specs.Leases.{overlap, running}
 
 abbrev pub is_same_text : List ℕ → List ℕ → Bool
 is_same_text = pointwise nat_eq
@@ -94,7 +94,7 @@ first_that_day books client day =
 -- no lease of the property covers a common day
 abbrev pub free_of_others : Books → LeaseTerms → Check
 free_of_others books terms =
-    option_map refusal.Overlap (least (map (λ lease. lease.terms.number) (filter (λ lease. overlap terms lease.terms) (values books.leases))))
+    option_map refusal.Overlap (least (map (λ lease. lease.terms.number) (filter (λ lease. overlap terms (running books.endings lease)) (values books.leases))))
 
 -- the lease has no deposit receipt
 abbrev pub no_deposit_yet : Books → ℕ → Check

@@ -25,8 +25,11 @@ use Rattle.dh_types.specs.declared.lease.Lease.{Lease}
 use Rattle.dh_types.specs.declared.lease.Charge.{Charge}
 use Rattle.dh_types.specs.declared.lease.Payment.{Payment}
 use Rattle.dh_types.specs.declared.lease.Receipt.{Receipt}
+use Rattle.dh_types.specs.declared.lease.Ending.{Ending}
 use Rattle.dh_types.specs.declared.run.Run.{Run}
 use Rattle.dh_types.specs.declared.run.Part.{Part}
+use Rattle.dh_types.specs.declared.version.Version.{Version}
+use Rattle.dh_types.specs.declared.version.Version.TheVariants.{First, Second}
 use Rattle.dh_model.specs.declared.open_run.OpenRun.{OpenRun}
 use Rattle.dh_model.specs.Books.{Books, State, pair_cmp, text_cmp}
 
@@ -102,6 +105,21 @@ receipt_kind_back receipt_kind.Deposit = refl
 
 abbrev pub receipt_kind_code : Coded ReceiptKind
 receipt_kind_code = code_by Bool coded_bool receipt_kind_bits receipt_kind_again receipt_kind_back
+
+abbrev version_bits : Version → Bool
+version_bits First = true
+version_bits Second = false
+
+abbrev version_again : Bool → Version
+version_again true = First
+version_again false = Second
+
+pub version_back : (x : Version) → version_again (version_bits x) ≡ x
+version_back First = refl
+version_back Second = refl
+
+abbrev pub version_code : Coded Version
+version_code = code_by Bool coded_bool version_bits version_again version_back
 
 abbrev pub branch_code : Coded Branch
 branch_code =
@@ -223,6 +241,9 @@ part_code =
 abbrev pub open_run_code : Coded OpenRun
 open_run_code = code_by (ℕ × ℕ) (coded× coded_ℕ coded_ℕ) (λ x. (x.month, x.done)) (λ p. record { month = p.0; done = p.1 }) (λ _. refl)
 
+abbrev pub ending_code : Coded Ending
+ending_code = code_by (ℕ × ℕ) (coded× coded_ℕ coded_ℕ) (λ e. (e.lease, e.months)) (λ p. record { lease = p.0; months = p.1 }) (λ _. refl)
+
 abbrev pub books_code : Coded Books
 books_code =
     code_by (FinMap text_cmp Branch
@@ -235,7 +256,7 @@ books_code =
     × (FinMap (pair_cmp text_cmp nat_cmp) Inspection
     × (FinMap nat_cmp Lease
     × (FinMap (pair_cmp nat_cmp nat_cmp) Charge
-    × (FinMap nat_cmp Receipt × (FinMap nat_cmp Run × (FinMap (pair_cmp nat_cmp text_cmp) Part × (ℕ × ℕ))))))))))))))
+    × (FinMap nat_cmp Receipt × (FinMap nat_cmp Run × (FinMap (pair_cmp nat_cmp text_cmp) Part × (FinMap nat_cmp Ending × (ℕ × (ℕ × Version))))))))))))))))
     (coded× (fin.code coded_text branch_code)
     (coded× (fin.code coded_text staff_code)
     (coded× (fin.code coded_text owner_code)
@@ -247,7 +268,8 @@ books_code =
     (coded× (fin.code coded_ℕ lease_code)
     (coded× (fin.code (coded× coded_ℕ coded_ℕ) charge_code)
     (coded× (fin.code coded_ℕ receipt_code)
-    (coded× (fin.code coded_ℕ run_code) (coded× (fin.code (coded× coded_ℕ coded_text) part_code) (coded× coded_ℕ coded_ℕ))))))))))))))
+    (coded× (fin.code coded_ℕ run_code) (coded× (fin.code (coded× coded_ℕ coded_text) part_code)
+    (coded× (fin.code coded_ℕ ending_code) (coded× coded_ℕ (coded× coded_ℕ version_code))))))))))))))))
     (λ x. (
       x.branches,
       (
@@ -256,7 +278,19 @@ books_code =
           x.owners,
           (
             x.properties,
-            (x.clients, (x.registrations, (x.viewings, (x.inspections, (x.leases, (x.charges, (x.receipts, (x.runs, (x.parts, (x.first, x.next)))))))))),
+            (
+              x.clients,
+              (
+                x.registrations,
+                (
+                  x.viewings,
+                  (
+                    x.inspections,
+                    (x.leases, (x.charges, (x.receipts, (x.runs, (x.parts, (x.endings, (x.first, (x.next, x.version)))))))),
+                  ),
+                ),
+              ),
+            ),
           ),
         ),
       ),
@@ -276,9 +310,12 @@ books_code =
           p.1.1.1.1.1.1.1.1.1.1.0;
       runs = p.1.1.1.1.1.1.1.1.1.1.1.0;
       parts = p.1.1.1.1.1.1.1.1.1.1.1.1.0;
-      first = p.1.1.1.1.1.1.1.1.1.1.1.1.1.0;
+      endings = p.1.1.1.1.1.1.1.1.1.1.1.1.1.0;
+      first = p.1.1.1.1.1.1.1.1.1.1.1.1.1.1.0;
       next =
-          p.1.1.1.1.1.1.1.1.1.1.1.1.1.1;
+          p.1.1.1.1.1.1.1.1.1.1.1.1.1.1.1.0;
+      version =
+          p.1.1.1.1.1.1.1.1.1.1.1.1.1.1.1.1;
     }) (λ _. refl)
 
 abbrev pub state_code : Coded State

@@ -1,5 +1,5 @@
--- The thirteen kinds of record that books have: their keys, the order of these, and where the books have them.
-use Rattle.std.specs.Prelude.{ℕ, List}
+-- The kinds of record that books have: their keys, the order of these, and where the books have them.
+use Rattle.std.specs.Prelude.{◌≡◌, ℕ, List}
 use Rattle.std.specs.declared.cmp.Ordering.{Ordering}
 use Rattle.std.specs.Ordering.{nat_cmp}
 use Rattle.std.specs.FinMap.{FinMap}
@@ -14,8 +14,11 @@ use Rattle.dh_types.specs.declared.viewing.Inspection.{Inspection}
 use Rattle.dh_types.specs.declared.lease.Lease.{Lease}
 use Rattle.dh_types.specs.declared.lease.Charge.{Charge}
 use Rattle.dh_types.specs.declared.lease.Receipt.{Receipt}
+use Rattle.dh_types.specs.declared.lease.Ending.{Ending}
 use Rattle.dh_types.specs.declared.run.Run.{Run}
 use Rattle.dh_types.specs.declared.run.Part.{Part}
+use Rattle.dh_types.specs.declared.version.Version.{Version}
+use Rattle.dh_types.specs.declared.version.Version.TheVariants.{First, Second}
 use Rattle.dh_model.specs.Books.{Books, pair_cmp, text_cmp}
 use Rattle.dh_model.specs.Runs.{charge_key, part_key}
 
@@ -33,6 +36,21 @@ pub data Kind : Type 0 where
   Receipts : Kind
   Runs : Kind
   Parts : Kind
+  Endings : Kind
+
+-- the version that a kind came with
+abbrev pub came_with : Kind → Version
+came_with Endings = Second
+came_with _ = First
+
+-- What came with the first version is in both, and what came with the second in that alone.
+abbrev pub IsSince : Version → Version → Type 0
+IsSince First version = Unit {0}
+IsSince Second version = version ≡ Second
+
+-- books of the version have rows of the kind
+abbrev pub HasKind : Version → Kind → Type 0
+HasKind version kind = IsSince (came_with kind) version
 
 abbrev pub key_of : Kind → Type 0
 key_of Branches = List ℕ
@@ -48,6 +66,7 @@ key_of Charges = ℕ × ℕ
 key_of Receipts = ℕ
 key_of Runs = ℕ
 key_of Parts = ℕ × List ℕ
+key_of Endings = ℕ
 
 abbrev pub record_of : Kind → Type 0
 record_of Branches = Branch
@@ -63,6 +82,7 @@ record_of Charges = Charge
 record_of Receipts = Receipt
 record_of Runs = Run
 record_of Parts = Part
+record_of Endings = Ending
 
 -- the order of the keys
 abbrev pub order_of : (kind : Kind) → key_of kind → key_of kind → Ordering
@@ -79,6 +99,7 @@ order_of Charges = pair_cmp nat_cmp nat_cmp
 order_of Receipts = nat_cmp
 order_of Runs = nat_cmp
 order_of Parts = pair_cmp nat_cmp text_cmp
+order_of Endings = nat_cmp
 
 -- the key of a record
 abbrev pub key_in : (kind : Kind) → record_of kind → key_of kind
@@ -95,6 +116,7 @@ key_in Charges it = charge_key it
 key_in Receipts it = it.number
 key_in Runs it = it.month
 key_in Parts it = part_key it
+key_in Endings it = it.lease
 
 -- the records of a kind
 abbrev pub records_of : (kind : Kind) → Books → FinMap (order_of kind) (record_of kind)
@@ -111,6 +133,7 @@ records_of Charges books = books.charges
 records_of Receipts books = books.receipts
 records_of Runs books = books.runs
 records_of Parts books = books.parts
+records_of Endings books = books.endings
 
 -- the books with other records of a kind
 abbrev pub with_records : (kind : Kind) → FinMap (order_of kind) (record_of kind) → Books → Books
@@ -127,3 +150,4 @@ with_records Charges rows books = record books { charges = rows }
 with_records Receipts rows books = record books { receipts = rows }
 with_records Runs rows books = record books { runs = rows }
 with_records Parts rows books = record books { parts = rows }
+with_records Endings rows books = record books { endings = rows }

@@ -6,8 +6,8 @@ use Rattle.dh_days.specs.Days.{IsDay, month_of_day}
 use Rattle.dh_types.specs.declared.lease.LeaseTerms.{LeaseTerms}
 use Rattle.dh_types.specs.declared.lease.Lease.{Lease}
 use Rattle.dh_types.specs.declared.lease.Charge.{Charge}
-use Rattle.dh_model.specs.Books.{Books}
-use Rattle.dh_model.specs.Leases.{Covers, due, dues, dues_of, end_of, overlap}
+use Rattle.dh_model.specs.Books.{Books, Endings}
+use Rattle.dh_model.specs.Leases.{Covers, due, dues, dues_of, end_of, length_of, overlap, running}
 
 -- leases overlap exactly where they are of one property and cover a common day
 abbrev pub OverlapIsCommonDay : Type 0
@@ -26,7 +26,8 @@ OverlapIsByEnds = (lease other : LeaseTerms) → IsDay lease.start → IsDay oth
 -- a charge falls due in a month exactly where it is some lease's, of an index below its months, and of that month
 abbrev pub DuesAreThoseOfLeases : Type 0
 DuesAreThoseOfLeases = (books : Books) (month : ℕ) (charge : Charge)
-    → IsAmong (dues books month) charge ↔ ((lease : Lease) × (k : ℕ) × IsAmong (values books.leases) lease × (k < lease.terms.months) × (charge ≡ due lease k)
+    → IsAmong (dues books month) charge ↔ ((lease : Lease) × (k : ℕ) × IsAmong (values books.leases) lease × (k < length_of books.endings lease)
+    × (charge ≡ due lease k)
     × (charge.month ≡ month))
 
 -- a charge that falls due in two months does so in one
@@ -35,7 +36,7 @@ MonthsShareNoDue = (books : Books) (m n : ℕ) (charge : Charge) → IsAmong (du
 
 -- a lease has as many dues as months
 abbrev pub DuesNumberTheMonths : Type 0
-DuesNumberTheMonths = (lease : Lease) → length (dues_of lease) ≡ lease.terms.months
+DuesNumberTheMonths = (endings : Endings) (lease : Lease) → length (dues_of endings lease) ≡ length_of endings lease
 
 -- a due's day lies in its month
 abbrev pub DuesLieInTheirMonth : Type 0
@@ -47,4 +48,5 @@ OneDueInAMonth = (lease : Lease) (j k : ℕ) → (due lease j).month ≡ (due le
 
 -- each due lies on a day that the lease covers
 abbrev pub DuesAreCovered : Type 0
-DuesAreCovered = (lease : Lease) (k : ℕ) → IsDay lease.terms.start → k < lease.terms.months → Covers lease.terms (due lease k).day
+DuesAreCovered = (endings : Endings) (lease : Lease) (k : ℕ) → IsDay lease.terms.start → k < length_of endings lease
+    → Covers (running endings lease) (due lease k).day

@@ -7,7 +7,7 @@ use Rattle.dh_types.specs.declared.property.Property.{Property}
 use Rattle.dh_types.specs.declared.client.Client.{Client}
 use Rattle.dh_types.specs.declared.lease.Lease.{Lease}
 use Rattle.dh_model.specs.Books.{Books, text_cmp}
-use Rattle.dh_model.specs.Leases.{Covers, dues}
+use Rattle.dh_model.specs.Leases.{Covers, dues, running}
 use Rattle.dh_model.specs.Runs.{charge_key}
 use Rattle.dh_model.specs.Answers.{matching, vacant}
 use Rattle.dh_model.specs.BatchLaws.{AreNumbered}
@@ -27,7 +27,8 @@ PropertiesAreNumbered properties = (number : List ℕ) (property : Property) →
 
 -- no lease of the property covers the day
 abbrev pub IsNotLet : Books → ℕ → Property → Type 0
-IsNotLet books day property = (lease : Lease) → IsAmong (values books.leases) lease → lease.terms.property ≡ property.number → ¬ Covers lease.terms day
+IsNotLet books day property = (lease : Lease) → IsAmong (values books.leases) lease → lease.terms.property ≡ property.number
+    → ¬ Covers (running books.endings lease) day
 
 -- vacant are the properties that no lease covers that day, and no others
 abbrev pub VacantAreNotLet : Type 0

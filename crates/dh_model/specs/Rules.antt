@@ -17,7 +17,7 @@ use Rattle.dh_types.specs.Records.{is_same_optional}
 use Rattle.dh_model.specs.declared.limits.TheConstants.{MANAGED_AT_MOST}
 use Rattle.dh_model.specs.Books.{Books}
 use Rattle.dh_model.specs.Kinds.{Kind, record_of, records_of}
-use Rattle.dh_model.specs.Leases.{dues, overlap}
+use Rattle.dh_model.specs.Leases.{dues, overlap, running}
 use Rattle.dh_model.specs.Runs.{batches, dues_of_branch, part_of, posted_charges, posted_parts, total_of}
 use Rattle.dh_model.specs.Checks.{is_registered, is_same_text, works_at}
 
@@ -33,6 +33,7 @@ pub data Rule : Type 0 where
   Keys : Rule
   Runs : Rule
   Months : Rule
+  Endings : Rule
 
 -- by which a damaged file is refused
 abbrev pub rule_number : Rule → ℕ
@@ -46,6 +47,7 @@ rule_number Deposits = 7
 rule_number Keys = 8
 rule_number Runs = 9
 rule_number Months = 10
+rule_number Endings = 12
 
 -- this holds of each row
 abbrev pub Each : {K X : Type 0} {R : K → K → Ordering} → FinMap R X → (X → Type 0) → Type 0
@@ -92,18 +94,22 @@ module _ (books : Books) where
     pub run : IsThere books.runs part.month
     pub branch : IsThere books.branches part.branch
 
-  -- what a row of the kind names is there; a row of the other kinds names nothing
+  -- what a row of the kind names is there; branches, owners, clients and runs name nothing
   abbrev pub Refers : (kind : Kind) → record_of kind → Type 0
+  Refers Kind.Branches branch = Unit {0}
   Refers Kind.Staff member = IsThere books.branches member.branch
+  Refers Kind.Owners owner = Unit {0}
   Refers Kind.Properties property = PropertyRefers property
+  Refers Kind.Clients client = Unit {0}
   Refers Kind.Registrations it = RegistrationRefers it
   Refers Kind.Viewings it = ViewingRefers it
   Refers Kind.Inspections it = InspectionRefers it
   Refers Kind.Leases lease = LeaseRefers lease
   Refers Kind.Charges charge = IsThere books.leases charge.lease
   Refers Kind.Receipts receipt = IsThere books.leases receipt.payment.lease
+  Refers Kind.Runs run = Unit {0}
   Refers Kind.Parts part = PartRefers part
-  Refers _ row = Unit {0}
+  Refers Kind.Endings it = IsThere books.leases it.lease
 
   -- 1: what a row names is there
   abbrev pub NamesWhatIsThere : Type 0
@@ -123,7 +129,7 @@ module _ (books : Books) where
 
   -- 4: no two leases of one property cover a common day
   abbrev pub LeasesNeverOverlap : Type 0
-  LeasesNeverOverlap = EachTwo books.leases (λ lease other. overlap lease.terms other.terms ≡ false)
+  LeasesNeverOverlap = EachTwo books.leases (λ lease other. overlap (running books.endings lease) (running books.endings other) ≡ false)
 
   -- 5: no two leases of one client start on one day
   abbrev pub OneStartADay : Type 0
@@ -168,6 +174,10 @@ module _ (books : Books) where
     pub count : run.count ≡ length (dues books run.month)
     pub total : run.total ≡ total_of (dues books run.month)
 
+  -- 12: a lease that was ended early runs three months or more, and fewer than it was signed for
+  abbrev pub EndingsInOrder : Type 0
+  EndingsInOrder = Each books.endings (λ it. (3 ≤ it.months) × IfSome (get books.leases it.lease) (λ lease. it.months < lease.terms.months))
+
   module _ (size : ℕ) where
     -- so many batches of the month are in the books, and nothing else of it
     pub record ArePosted (month done : ℕ) : Type 0 where
@@ -201,6 +211,7 @@ module _ (books : Books) where
     Holds Keys = KeysInOrder
     Holds Runs = RunsInOrder
     Holds Months = MonthsInOrder
+    Holds Endings = EndingsInOrder
 
     -- all rules hold
     abbrev pub MeetsRules : Type 0

@@ -28,7 +28,7 @@ leases_of_branch books branch = filter (λ lease. is_property_of branch (get boo
 
 -- what falls due in the month on the branch's properties
 abbrev pub dues_of_branch : Books → ℕ → List ℕ → List Charge
-dues_of_branch books month branch = dues_among (leases_of_branch books branch) month
+dues_of_branch books month branch = dues_among books.endings (leases_of_branch books branch) month
 
 -- the sum of the amounts
 abbrev pub total_of : List Charge → ℕ

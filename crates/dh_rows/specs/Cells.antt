@@ -9,6 +9,8 @@ use Rattle.dh_values.specs.declared.limits.TheConstants.{MOST_AMOUNT, MOST_NUMBE
 use Rattle.dh_days.specs.Days.{day_of, day_text, due_day_of}
 use Rattle.dh_days.specs.declared.limits.TheConstants.{FIRST_MONTH, LAST_ENTRY_MONTH, LAST_MONTH_OF_ENTRY_DAYS}
 use Rattle.dh_days.proofs.ReadDays.{text_read_again}
+use Rattle.dh_types.specs.declared.version.Version.{Version}
+use Rattle.dh_types.specs.declared.version.Version.TheVariants.{First, Second}
 use Rattle.dh_rows.specs.declared.limits.TheConstants.{MOST_COUNT}
 
 -- ---- texts
@@ -109,6 +111,22 @@ flag_number false = 0
 abbrev pub flag_in : Value → Bool
 flag_in v = nat_eq (number_in v) 1
 
+-- the version of the books
+abbrev pub is_version_cell : Value → Bool
+is_version_cell v = is_number_cell 1 2 v
+
+abbrev pub version_number : Version → ℕ
+version_number First = 1
+version_number Second = 2
+
+-- the version of this number, and else the second
+abbrev pub version_of : ℕ → Version
+version_of (suc zero) = First
+version_of _ = Second
+
+abbrev pub version_in : Value → Version
+version_in v = version_of (number_in v)
+
 -- ---- what may be absent
 
 -- NULL, or a value that passes the test
@@ -154,6 +172,10 @@ due_day_back day good = ap (λ o. unwrap_or o 0) (text_read_again LAST_ENTRY_MON
 pub flag_back : (flag : Bool) → flag_in (Int (pos (flag_number flag))) ≡ flag
 flag_back true = refl
 flag_back false = refl
+
+pub version_back : (version : Version) → version_in (Int (pos (version_number version))) ≡ version
+version_back First = refl
+version_back Second = refl
 
 pub optional_back : (text : Option (List ℕ)) → optional_text_in (optional_text text) ≡ text
 optional_back None = refl

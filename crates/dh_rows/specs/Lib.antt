@@ -11,6 +11,7 @@ pub mod RegistrationRows
 pub mod ViewingRows
 pub mod InspectionRows
 pub mod LeaseRows
+pub mod EndingRows
 pub mod ChargeRows
 pub mod ReceiptRows
 pub mod RunRows

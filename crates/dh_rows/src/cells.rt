@@ -8,12 +8,12 @@ ghost use Rattle.dh_values.specs.Kinds.{receipt_kind_of, receipt_kind_text};
 ghost use Rattle.dh_days.specs.Days.{day_text};
 ghost use Rattle.dh_rows.specs.Cells.{IsTextCell, is_id_cell, is_key_cell, is_text_cell, is_read_cell, is_day_cell, is_due_day_cell};
 ghost use Rattle.dh_rows.specs.Cells.{is_number_cell, is_month_cell, is_rent_cell, is_amount_cell, is_pence_cell, is_flag_cell, flag_number};
-ghost use Rattle.dh_rows.specs.Cells.{is_optional, is_through_cell, optional_text, through_value};
+ghost use Rattle.dh_rows.specs.Cells.{is_optional, is_through_cell, is_version_cell, optional_text, through_value, version_number};
 
 use dh_days::limits::{FIRST_MONTH, LAST_ENTRY_MONTH};
 use dh_types::{
     Amount, Comment, Day, EntryDay, EntryMonth, Id, Key, LeaseNo, PaymentMethod, Pence, Position,
-    PropertyType, ReceiptKind, Rent, Text60,
+    PropertyType, ReceiptKind, Rent, Text60, Version,
 };
 use dh_values::limits::{MOST_AMOUNT, MOST_NUMBER, MOST_RENT};
 use dh_values::{Bounded, Bounds};
@@ -288,6 +288,19 @@ pub(crate) fn flag_at(row: &Row, at: usize) -> Option<bool>
 {
     match number_at(row, at, 0, 1) {
         Some(number) => Some(number == 1),
+        None => None,
+    }
+}
+
+/// The version of the books in the column, where it is one.
+pub(crate) fn version_at(row: &Row, at: usize) -> Option<Version>
+    requires { at < length row.now }
+    ensures read { IfSome result (λ version. column row.now at ≡ Int (pos (version_number version))) }
+    ensures exact { IsSome result ↔ (is_version_cell (column row.now at) ≡ true) }
+{
+    match number_at(row, at, 1, 2) {
+        Some(1) => Some(Version::First),
+        Some(_) => Some(Version::Second),
         None => None,
     }
 }

@@ -5,6 +5,7 @@ mod branch;
 mod cells;
 mod charge;
 mod client;
+mod ending;
 mod inspection;
 pub mod laws;
 mod lease;

@@ -1,6 +1,6 @@
 //! The bounds of columns that have no type of their own, and the version.
 
-/// The version of the tables.
+/// The version that this program makes and takes.
 pub const VERSION: u32 = 1;
 
 /// The most charges of a run or of a part of one.

@@ -9,12 +9,12 @@ ghost use Rattle.dh_days.specs.declared.limits.TheConstants.{LAST_ENTRY_MONTH};
 ghost use Rattle.dh_values.specs.Kinds.{payment_method_of, payment_method_text, position_of, position_text, property_type_of, property_type_text};
 ghost use Rattle.dh_values.specs.Kinds.{receipt_kind_of, receipt_kind_text};
 ghost use Rattle.dh_rows.specs.Cells.{is_id_cell, is_key_cell, is_text_cell, is_read_cell, is_day_cell, is_due_day_cell, is_optional};
-ghost use Rattle.dh_rows.specs.Cells.{is_flag_cell, is_through_cell, flag_number};
-ghost use Rattle.dh_rows.specs.Cells.{optional_text, through_value};
+ghost use Rattle.dh_rows.specs.Cells.{is_flag_cell, is_through_cell, is_version_cell, flag_number};
+ghost use Rattle.dh_rows.specs.Cells.{optional_text, through_value, version_number};
 
 use dh_types::{
     Comment, Day, EntryDay, Id, Key, LeaseNo, PaymentMethod, Position, PropertyType, ReceiptKind,
-    Text60,
+    Text60, Version,
 };
 use sqlite::types::ValueRef;
 
@@ -143,6 +143,17 @@ pub(crate) fn flag_param(flag: bool) -> ValueRef<'static>
         ValueRef::Int(1)
     } else {
         ValueRef::Int(0)
+    }
+}
+
+/// 1 for the first version, and 2 for the second.
+pub(crate) fn version_param(version: Version) -> ValueRef<'static>
+    ensures value { bound_value (owned result) ≡ Int (pos (version_number version)) }
+    ensures grammar { is_version_cell (Int (pos (version_number version))) ≡ true }
+{
+    match version {
+        Version::First => ValueRef::Int(1),
+        Version::Second => ValueRef::Int(2),
     }
 }
 

@@ -52,4 +52,4 @@ module _ {S : Type 0} (g : Ghosts S) (turned : Books → Books) (after : machine
 
     pub ready_with : HasCleanDisk (state g last) → Shows (state g last) (state g new) (state g last).now (state g last).now false
         → IsReady (state g new) × After (tables (state g new))
-    ready_with clean shown = ready_after After (state g last) (state g new) (puts.put clean).0.schema shown (sound clean)
+    ready_with clean shown = ready_after After (state g last) (state g new) (puts.put clean).0.version shown (sound clean)

@@ -11,15 +11,15 @@ use Rattle.dh_types.specs.declared.run.Part.{Part}
 use Rattle.dh_model.specs.Books.{Books, with_rows}
 use Rattle.dh_model.specs.Runs.{charge_key, part_key}
 use Rattle.dh_model.proofs.KeyOrders.{nat_text_ties, nat_text_total, nats_tie, nats_total}
-use Rattle.dh_catalog.specs.Layout.{our_schema}
 use Rattle.dh_sql.specs.Changes.{Becomes}
+use Rattle.dh_sql.specs.Shape.{rows_in}
 use Rattle.dh_tables.specs.Calls.{Amends, CommitsNothing, StaysInTransaction, IsUndone}
 use Rattle.dh_tables.proofs.AmendedRecord.{becomes_there}
-use Rattle.dh_model.specs.Kinds.{Kind, key_of, order_of, record_of}
+use Rattle.dh_model.specs.Kinds.{HasKind, Kind, key_of, order_of, record_of}
 use Rattle.dh_schema.specs.Kinds.{shape_of, shelf_of}
 use Rattle.dh_model.specs.Kinds.{Parts}
 use Rattle.dh_schema.specs.Store.{IsWriting, tables}
-use Rattle.dh_schema.specs.Tables.{AreInOrder, loaded_from, records_in}
+use Rattle.dh_schema.specs.Tables.{loaded_from, version_of_tables}
 use Rattle.dh_schema.proofs.Crashing.{survives_both}
 use Rattle.dh_schema.proofs.Keyed.{keyed}
 use Rattle.dh_store.proofs.Putting.{keeps_both, keeps_commit, put_in}
@@ -36,18 +36,18 @@ module _ {K X : Type 0} {R : K → K → Ordering} (o : IsTotalOrder R) (anti : 
 
 -- ---- one table
 
-module _ (kind : Kind) (records : FinMap (order_of kind) (record_of kind)) (old new : State) where
+module _ (kind : Kind) (records : FinMap (order_of kind) (record_of kind)) (old new : State) (has : HasKind (version_of_tables old.now.trees) kind) where
   abbrev Turns : Type 0
-  Turns = Becomes (shape_of kind) (order_of kind) our_schema records old new
+  Turns = Becomes (shape_of kind) (order_of kind) old.now.schema records old new
 
   -- the books with these records are what this makes of them
   abbrev pub Means : (Books → Books) → Type 0
   Means turned = ((shelf_of kind).with (loaded_from old.now.trees) records).books ≡ turned (tables old).books
 
-  on_ok : {X E : Type 0} (turned : Books → Books) (r : Result X E) → AreInOrder old.now.trees → Means turned
+  on_ok : {X E : Type 0} (turned : Books → Books) (r : Result X E) → IsWriting old → Means turned
       → OnOk r (StaysInTransaction old new) → OnOk r Turns
       → OnOk r (IsWriting new × ((tables new).books ≡ turned (tables old).books))
-  on_ok turned (Ok x) order means on done = let here = put_in kind records old new order on done in (here.0, here.1 ∙ means)
+  on_ok turned (Ok x) order means on done = let here = put_in kind records old new has order on done in (here.0, here.1 ∙ means)
   on_ok turned (Err e) order means on done = tt
 
   -- a record was added
@@ -55,25 +55,26 @@ module _ (kind : Kind) (records : FinMap (order_of kind) (record_of kind)) (old 
       → (HasCleanDisk new → OnOk r (StaysInTransaction old new)) → (HasCleanDisk new → OnOk r Turns) → (HasCleanDisk new → OnErr r (IsUndone old new))
       → CommitsNothing old new → TurnsBooks turned r old new
   added turned r writing means on done undone crash = record {
-    put = λ clean. on_ok turned r (writing (omega (arith, crash.clean, clean))).in_order means (on clean) (done clean);
+    put = λ clean. on_ok turned r (writing (omega (arith, crash.clean, clean))) means (on clean) (done clean);
     kept = λ clean. keeps_commit r old new (on clean) (undone clean);
     crash = crash;
   }
 
-module _ (kind : Kind) (key : key_of kind) (amended : record_of kind → record_of kind) (old new : State) where
+module _ (kind : Kind) (key : key_of kind) (amended : record_of kind → record_of kind) (old new : State)
+    (has : HasKind (version_of_tables old.now.trees) kind) where
   abbrev held : FinMap (order_of kind) (record_of kind)
-  held = records_in kind old.now.trees
+  held = rows_in (shape_of kind) old.now.trees
 
   -- the record is there, and with what it becomes the books are what this makes of them
   abbrev pub IsThere : (Books → Books) → Type 0
-  IsThere turned = (there : record_of kind) × (get held key ≡ Some there) × Means kind (insert held key (amended there)) old new turned
+  IsThere turned = (there : record_of kind) × (get held key ≡ Some there) × Means kind (insert held key (amended there)) old new has turned
 
-  on_ok_there : {X E : Type 0} (turned : Books → Books) (r : Result X E) → AreInOrder old.now.trees → IsThere turned → OnOk r (StaysInTransaction old new)
+  on_ok_there : {X E : Type 0} (turned : Books → Books) (r : Result X E) → IsWriting old → IsThere turned → OnOk r (StaysInTransaction old new)
       → OnOk r (Amends (shape_of kind) (order_of kind) key amended old new)
       → OnOk r (IsWriting new × ((tables new).books ≡ turned (tables old).books))
   on_ok_there turned (Ok x) order it on done =
       let becomes = becomes_there (shape_of kind) (order_of kind) key amended old new in
-      let here = put_in kind (insert held key (amended it.0)) old new order on (becomes done it.0 it.1) in (here.0, here.1 ∙ it.2)
+      let here = put_in kind (insert held key (amended it.0)) old new has order on (becomes done it.0 it.1) in (here.0, here.1 ∙ it.2)
   on_ok_there turned (Err e) order it on done = tt
 
   -- a record was changed
@@ -83,7 +84,7 @@ module _ (kind : Kind) (key : key_of kind) (amended : record_of kind → record_
   changed turned r writing is_there on done undone crash = record {
     put = λ clean.
         let early : HasCleanDisk old = omega (arith, crash.clean, clean) in
-        on_ok_there turned r (writing early).in_order (is_there early) (on clean) (done clean);
+        on_ok_there turned r (writing early) (is_there early) (on clean) (done clean);
     kept = λ clean. keeps_commit r old new (on clean) (undone clean);
     crash = crash;
   }
@@ -164,7 +165,7 @@ found (Some x) h = (x, refl)
 
 -- what its branch has of the run becomes this
 pub part_there : (part : Part) (old new : State) → is_some (get (tables old).books.parts (part_key part)) ≡ true
-    → IsThere Parts (part_key part) (λ it. record it { through = part.through; count = part.count; total = part.total }) old new (with_part part)
+    → IsThere Parts (part_key part) (λ it. record it { through = part.through; count = part.count; total = part.total }) old new tt (with_part part)
 part_there part old new some =
     let books = (tables old).books in
     let it = found (get books.parts (part_key part)) some in

@@ -1,16 +1,23 @@
 -- Tables that were only looked at, as what a recovery may leave.
 use Rattle.std.proofs.Common.{◌≡◌, ◌∙◌, sym, ap, subst}
+use Rattle.sqlite_trees.specs.Objects.{catalog_tree}
 use Rattle.sqlite_trees.specs.Tree.{Trees}
-use Rattle.sqlite.specs.Effect.{Database}
+use Rattle.sqlite_catalog.proofs.ReadLemmas.{lists_once}
+use Rattle.sqlite.specs.Effect.{Database, IsDatabase}
 use Rattle.sqlite.specs.State.{State}
 use Rattle.dh_model.specs.Books as machine
 use Rattle.dh_laws.proofs.Carrying.{part_torn}
 use Rattle.dh_laws.proofs.Standing.{same_in_part}
-use Rattle.dh_tables.specs.Calls.{HasOurTables}
+use Rattle.dh_catalog.specs.Versions.{each_is_ours, schema_of}
 use Rattle.dh_schema.specs.Store.{AreTables, IsReadyWith, tables}
-use Rattle.dh_schema.specs.Tables.{IsSound, state_in}
+use Rattle.dh_schema.specs.Tables.{IsSound, state_in, version_of_tables}
 use Rattle.dh_runs.specs.Taking.{IsResting}
 use Rattle.dh_runs.specs.Told.{IsTorn}
+
+-- sound tables are listed by the schema of their version, and a list tells one schema
+pub its_schema : (d : Database) → IsDatabase d → IsSound d.trees → d.schema ≡ schema_of (version_of_tables d.trees)
+its_schema d lists sound =
+    lists_once (d.trees catalog_tree) d.schema (schema_of (version_of_tables d.trees)) lists.lists sound.in_order.listed.lists
 
 -- a recovery that was stopped before its first batch
 same_is_torn : (s t : machine.State) → t ≡ s → IsTorn s t
@@ -31,13 +38,15 @@ module _ (old new : State) where
       let trees : old.now.trees ≡ new.now.trees = ap (λ (d : Database). d.trees) (sym it.1) in
       (it.0, subst IsSound trees sound, same_is_torn (tables old) (tables new) (same_tables it))
 
-  pub torn_still : HasOurTables old → IsSound old.now.trees → IsResting new × (new.now ≡ old.now) → IsReadyWith new (IsTorn (tables old))
-  torn_still ours sound it =
-      let rests = rests_torn sound it in (
+  pub torn_still : IsDatabase old.now → IsSound old.now.trees → IsResting new × (new.now ≡ old.now) → IsReadyWith new (IsTorn (tables old))
+  torn_still lists sound it =
+      let rests = rests_torn sound it in
+      let its = its_schema new.now (subst IsDatabase (sym it.1) lists) rests.1 in (
         record {
           is_open = it.0.is_open;
           autocommit = it.0.autocommit;
-          schema = ap (λ (d : Database). d.schema) it.1 ∙ ours;
+          schema = each_is_ours (version_of_tables new.now.trees) new.now.schema its;
+          version = its;
           settled = it.0.settled;
           sound = rests.1;
         },

@@ -27,6 +27,6 @@ IsFoundIn books (problem.Refused why) = IsBroken books why
 IsFoundIn books (problem.Fault fault) = IsFirstFault fault
 
 -- so tables are answered that are not ours, and not read
-abbrev pub IsNotTaken : Result (Unit {0}) Problem → Type 0
+abbrev pub IsNotTaken : {X : Type 0} → Result X Problem → Type 0
 IsNotTaken (Err (problem.Fault fault)) = IsFirstFault fault
 IsNotTaken _ = ⊥

@@ -10,7 +10,7 @@ use Rattle.dh_audit.specs.Audit.{IsLeastBroken}
 use Rattle.dh_tables.specs.MetaTable.{meta_rows}
 use Rattle.dh_schema.specs.Faults.{IsFirstFault}
 use Rattle.dh_schema.specs.Tables.{HasValues, books_in}
-use Rattle.dh_schema.specs.Version.{only_version}
+use Rattle.dh_schema.specs.Version.{GivesAnother, only_version}
 use Rattle.dh_runs.specs.declared.problem.Problem.{Problem}
 use Rattle.dh_runs.specs.declared.problem.Problem.TheVariants as problem
 
@@ -23,6 +23,10 @@ pub record IsResting (s : State) : Type 0 where
 -- meta gives our version
 abbrev pub IsOurVersion : Trees → Type 0
 IsOurVersion trees = only_version (meta_rows trees) ≡ Some (pos VERSION)
+
+-- it gives our version, and the tables are those of another
+abbrev pub HasTablesOfAnother : State → Type 0
+HasTablesOfAnother s = IsOurVersion s.now.trees × GivesAnother s
 
 -- rule 0 is broken, where the version is not another one: a column does not hold a value of its kind, or meta gives no version
 abbrev pub BreaksRuleZero : Trees → Type 0

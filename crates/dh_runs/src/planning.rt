@@ -20,7 +20,7 @@ use dh_books::Books;
 use dh_leases::{Plan, batches_for, plan_of};
 use dh_model::OpenRun;
 use dh_schema::StoreFault;
-use dh_store::{find_open_run, look, look_at_all, months_now, no_rows};
+use dh_store::{find_open_run, look, look_at_all, look_at_endings, months_now, no_rows};
 use dh_tables::PartsOfMonth;
 use dh_types::{Branch, EntryMonth, Lease, Property};
 use sqlite::{Alter, Connection};
@@ -76,7 +76,7 @@ fn run_now<S: Alter>(alloc: Global, conn: &mut Connection<S>) -> Result<Option<O
     }))
 }
 
-// Puts the branches, the properties and the leases into books that have no row.
+// Puts the branches, the properties, the leases and the endings into books that have no row.
 fn look_at_leases<S: Alter>(
     alloc: Global,
     conn: &mut Connection<S>,
@@ -89,7 +89,8 @@ fn look_at_leases<S: Alter>(
 {
     look_at_all::<Branch, S>(alloc, conn, books)?;
     look_at_all::<Property, S>(alloc, conn, books)?;
-    look_at_all::<Lease, S>(alloc, conn, books)
+    look_at_all::<Lease, S>(alloc, conn, books)?;
+    look_at_endings(alloc, conn, books)
 }
 
 // The batches that the run lacks, which is the open one.
@@ -113,8 +114,8 @@ fn plan_open<S: Alter>(
     }
 }
 
-/// The batches that the open run lacks, or `None` where no run is open. It reads the branches, the properties, the leases and what
-/// the run has so far, once, and changes nothing, at a fault too.
+/// The batches that the open run lacks, or `None` where no run is open. It reads the branches, the properties, the leases, the endings
+/// and what the run has so far, once, and changes nothing, at a fault too.
 pub fn plan_run<S: Alter>(
     alloc: Global,
     conn: &mut Connection<S>,

@@ -10,7 +10,7 @@ ghost use Rattle.dh_schema.specs.Faults.{IsFirstFault};
 ghost use Rattle.dh_schema.specs.Store.{IsReady, IsReadyWith, Leaves, tables};
 ghost use Rattle.dh_schema.specs.Tables.{IsSound};
 ghost use Rattle.dh_runs.specs.Problems.{IsNotTaken};
-ghost use Rattle.dh_runs.specs.Taking.{IsFirstProblem, IsProblemOf, IsResting};
+ghost use Rattle.dh_runs.specs.Taking.{HasTablesOfAnother, IsFirstProblem, IsProblemOf, IsResting};
 ghost use Rattle.dh_runs.specs.Told.{IsMended, IsTorn};
 
 use crate::problem::Problem;
@@ -38,8 +38,8 @@ fn finish<S: Alter>(alloc: Global, conn: &mut Connection<S>) -> Result<(), Store
 }
 
 /// Takes the tables where they are sound, and makes the open run to its end. Refusals 16 and 17 come as [`check`] tells them, and
-/// change nothing; fault 21 or 22 comes where memory ran out or the store failed, or the tables are not ours. Whatever cuts it, sound
-/// tables stay sound with the same whole books, and the open run is moved on.
+/// change nothing; fault 21 or 22 comes where memory ran out or the store failed, or the tables are not ours, or not those of the
+/// version that `meta` gives. Whatever cuts it, sound tables stay sound with the same whole books, and the open run is moved on.
 pub fn recover_in<S: Alter>(alloc: Global, conn: &mut Connection<S>) -> Result<(), Problem>
     requires { HasCleanDisk (state S.Store conn.old) → IsResting (state S.Store conn.old) }
     ensures mended { HasCleanDisk (state S.Store conn.new)
@@ -59,8 +59,11 @@ pub fn recover_in<S: Alter>(alloc: Global, conn: &mut Connection<S>) -> Result<(
     ensures unchanged { HasCleanDisk (state S.Store conn.new) → IsTrue (state S.Store conn.new).is_open
         → ¬ IsSound (state S.Store conn.old).now.trees → IsResting (state S.Store conn.new) × ((state S.Store conn.new).now ≡ (state S.Store conn.old).now) }
     ensures others { ¬ HasOurTables (state S.Store conn.old) → IsNotTaken result × (conn.new ≡ conn.old) }
+    ensures another { HasCleanDisk (state S.Store conn.new) → HasTablesOfAnother (state S.Store conn.old) → IsNotTaken result }
     ensures was_clean { doubt (state S.Store conn.old).is_clean ≤ doubt (state S.Store conn.new).is_clean }
 {
+    // That the trees list the schema is what each connection keeps true of itself.
+    let _listed = conn.schema();
     check(alloc, conn)?;
     finish(alloc, conn)?;
     Ok(())

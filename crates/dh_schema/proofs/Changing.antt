@@ -1,10 +1,13 @@
 -- A change of one table, as one of the books.
-use Rattle.std.proofs.Common.{◌≡◌, ◌∙◌, inl, inr, refl, sym, ap, subst, ℕ, nat_eq, false, List, map, Option, arith}
+use Rattle.std.proofs.Common.{◌≡◌, ◌∙◌, inl, inr, refl, sym, ap, subst, ℕ, nat_eq, false, List, map, Option, Some, slice_get, arith}
 use Rattle.std.proofs.lemmas.Bool.{cases_Bool}
 use Rattle.std.specs.FinMap.{FinMap}
 use Rattle.sqlite_value.specs.Order.{Row}
+use Rattle.sqlite_schema.specs.declared.schema.Schema.{Schema}
+use Rattle.sqlite_catalog.specs.Listing as catalog
 use Rattle.sqlite_trees.specs.Tree.{Trees}
 use Rattle.sqlite.specs.State.{State}
+use Rattle.dh_types.specs.declared.version.Version.{Version}
 use Rattle.dh_model.specs.declared.open_run.OpenRun.{OpenRun}
 use Rattle.dh_model.specs.declared.rows.Change.{Change}
 use Rattle.dh_model.specs.Books.{Books}
@@ -17,44 +20,86 @@ use Rattle.dh_laws.specs.InOrder.{run_after}
 use Rattle.dh_laws.specs.StateTables as office
 use Rattle.dh_laws.proofs.ShownRun.{run_shown_is_reckoned}
 use Rattle.dh_rows.specs.Months.{Months}
-use Rattle.dh_catalog.specs.Layout.{our_schema}
+use Rattle.dh_rows.specs.MetaRows.{months_back}
+use Rattle.dh_catalog.specs.Versions.{schema_of}
 use Rattle.dh_catalog.specs.MetaTable.{meta}
 use Rattle.dh_sql.specs.Changes.{Becomes, IsSame}
+use Rattle.dh_sql.specs.Shape.{rows_in}
 use Rattle.dh_sql.proofs.Staying.{same_beside}
-use Rattle.dh_tables.specs.MetaTable.{AreMonths, SetsMonths, SetsNext, meta_columns}
-use Rattle.dh_model.specs.Kinds.{Kind, order_of, record_of}
+use Rattle.dh_tables.specs.MetaTable.{AreMonths, HasMonths, SetsMonths, SetsNext, meta_columns, meta_rows}
+use Rattle.dh_model.specs.Kinds.{HasKind, Kind, came_with, order_of, record_of}
 use Rattle.dh_schema.specs.Kinds.{shape_of, shelf_of}
-use Rattle.dh_model.specs.Kinds.{Branches, Staff, Owners, Properties, Clients, Registrations, Viewings, Inspections, Leases, Charges, Receipts, Runs, Parts}
-use Rattle.dh_schema.specs.Store.{AreTables, with_change}
-use Rattle.dh_schema.specs.Tables.{AreInOrder, IsTableInOrder, books_in, loaded_from, months_of}
-use Rattle.dh_schema.proofs.EachKind.{beside_meta, held_beside, held_in, listed, months_beside, one_kind, place_of, same_books, table_of, tree_is}
+use Rattle.dh_model.specs.Kinds.{Branches, Staff, Owners, Properties, Clients, Registrations, Viewings, Inspections, Leases, Charges, Receipts, Runs}
+use Rattle.dh_model.specs.Kinds.{Parts, Endings}
+use Rattle.dh_schema.specs.Store.{AreTables, HasItsSchema, with_change}
+use Rattle.dh_schema.specs.Tables.{AreInOrder, IsTableInOrder, books_in, loaded_from, months_of, records_in, rows_since, version_of_tables}
+use Rattle.dh_schema.proofs.EachKind.{all_since, beside_meta, held_beside, held_in, listed, meta_listed, months_beside, one_kind, place_of}
+use Rattle.dh_schema.proofs.EachKind.{same_books, same_since, table_of, tree_is}
 use Rattle.dh_schema.proofs.Keyed.{books_are_keyed}
 
-module _ (k : Kind) (m : FinMap (order_of k) (record_of k)) (old new : State) (is : Becomes (shape_of k) (order_of k) our_schema m old new) where
-  was : (j : Kind) → nat_eq (shape_of j).tree (shape_of k).tree ≡ false → IsSame (shape_of j) (order_of j) old.now.trees new.now.trees
-  was j apart =
-      same_beside (shape_of j) (order_of j) old.now.trees new.now.trees our_schema (shape_of k).tree is.others (place_of j) (table_of j) (listed j) (tree_is j)
-      apart
+-- ---- the version and the months that meta gives
+
+pub told : (months : Months) (trees : Trees) → HasMonths months trees → months_of (meta_rows trees) ≡ months
+told months trees has = ap months_of has.rows_are ∙ months_back months has.grammar
+
+module _ (s : State) (its : HasItsSchema s) where
+  -- each table of the version stands at its place in the schema
+  listed_there : (kind : Kind) → HasKind (version_of_tables s.now.trees) kind → slice_get s.now.schema.tables (place_of kind) ≡ Some (table_of kind)
+  listed_there kind has =
+      subst (λ (schema : Schema). slice_get schema.tables (place_of kind) ≡ Some (table_of kind)) (sym its) (listed (version_of_tables s.now.trees) kind has)
+
+  meta_there : slice_get s.now.schema.tables 0 ≡ Some meta
+  meta_there = subst (λ (schema : Schema). slice_get schema.tables 0 ≡ Some meta) (sym its) (meta_listed (version_of_tables s.now.trees))
+
+-- ---- the records of one kind
+
+module _ (k : Kind) (m : FinMap (order_of k) (record_of k)) (old new : State) (its : HasItsSchema old) (has : HasKind (version_of_tables old.now.trees) k)
+    (is : Becomes (shape_of k) (order_of k) old.now.schema m old new) where
+  was : (j : Kind) → HasKind (version_of_tables old.now.trees) j → nat_eq (shape_of j).tree (shape_of k).tree ≡ false
+      → IsSame (shape_of j) (order_of j) old.now.trees new.now.trees
+  was j here apart =
+      same_beside (shape_of j) (order_of j) old.now.trees new.now.trees old.now.schema (shape_of k).tree is.others (place_of j) (table_of j)
+      (listed_there old its j here) (tree_is j) apart
 
   meta_stays : new.now.trees 0 ≡ old.now.trees 0
-  meta_stays = is.others 0 meta refl (beside_meta k).0
+  meta_stays = is.others 0 meta (meta_there old its) (beside_meta k).0
+
+  pub version_stays : version_of_tables new.now.trees ≡ version_of_tables old.now.trees
+  version_stays = ap (λ (rows : List Row). (months_of (map meta_columns rows)).version) meta_stays
+
+  -- the schema is still that of the version
+  pub schema_after : HasItsSchema new
+  schema_after = is.schema_is ∙ its ∙ ap schema_of (sym version_stays)
 
   -- the tables are in order after it
   pub in_order_after : AreInOrder old.now.trees → AreInOrder new.now.trees
   in_order_after before = record {
-    listed = is.listed;
+    listed = subst (λ (schema : Schema). catalog.IsSound schema new.now.trees) (its ∙ ap schema_of (sym version_stays)) is.listed;
     months = before.months;
     meta = subst (λ rows. AreMonths before.months (map meta_columns rows)) (sym meta_stays) before.meta;
     tables = each;
   }
     where
-      each : (j : Kind) → IsTableInOrder j new.now.trees
-      each j = elim (cases_Bool (nat_eq (shape_of j).tree (shape_of k).tree)) [
+      each : (j : Kind) → HasKind (version_of_tables new.now.trees) j → IsTableInOrder j new.now.trees
+      each j there = let here = subst (λ (v : Version). HasKind v j) version_stays there in elim (cases_Bool (nat_eq (shape_of j).tree (shape_of k).tree)) [
         | inl same ↦
-            let its : IsTableInOrder k new.now.trees = record { kept = is.kept; apart = is.apart (before.tables k).apart } in
-            subst (λ kind. IsTableInOrder kind new.now.trees) (sym (one_kind j k same)) its
-        | inr apart ↦ record { kept = (was j apart).kept (before.tables j).kept; apart = (was j apart).apart (before.tables j).apart }
+            let its_own : IsTableInOrder k new.now.trees = record { kept = is.kept; apart = is.apart (before.tables k has).apart } in
+            subst (λ kind. IsTableInOrder kind new.now.trees) (sym (one_kind j k same)) its_own
+        | inr apart ↦
+            record { kept = (was j here apart).kept (before.tables j here).kept; apart = (was j here apart).apart (before.tables j here).apart }
       ]
+
+  records_are : records_in k new.now.trees ≡ m
+  records_are =
+      all_since (came_with k) (version_of_tables new.now.trees) (rows_in (shape_of k) new.now.trees)
+      (subst (λ (v : Version). HasKind v k) (sym version_stays) has)
+      ∙ is.rows
+
+  records_stay : (j : Kind) → nat_eq (shape_of j).tree (shape_of k).tree ≡ false → records_in j new.now.trees ≡ records_in j old.now.trees
+  records_stay j apart =
+      ap (λ (v : Version). rows_since (came_with j) v (rows_in (shape_of j) {R = order_of j} new.now.trees)) version_stays
+      ∙ same_since (came_with j) (version_of_tables old.now.trees) (rows_in (shape_of j) new.now.trees) (rows_in (shape_of j) old.now.trees)
+      (λ here. (was j here apart).rows)
 
   -- and the books have these records of its kind
   pub books_after : loaded_from new.now.trees ≡ (shelf_of k).with (loaded_from old.now.trees) m
@@ -64,6 +109,7 @@ module _ (k : Kind) (m : FinMap (order_of k) (record_of k)) (old new : State) (i
       same_books (loaded_from new.now.trees) ((shelf_of k).with before m) each
       (ap (λ (rows : List Row). (months_of (map meta_columns rows)).first) meta_stays ∙ sym beside.first)
       (ap (λ (rows : List Row). (months_of (map meta_columns rows)).next) meta_stays ∙ sym beside.next)
+      (version_stays ∙ sym beside.version)
       (sym beside.open_run)
     where
       each : (j : Kind) → (shelf_of j).held (loaded_from new.now.trees) ≡ (shelf_of j).held ((shelf_of k).with (loaded_from old.now.trees) m)
@@ -72,33 +118,47 @@ module _ (k : Kind) (m : FinMap (order_of k) (record_of k)) (old new : State) (i
             let after = loaded_from new.now.trees in
             let with_it = (shelf_of k).with (loaded_from old.now.trees) m in
             subst (λ kind. (shelf_of kind).held after ≡ (shelf_of kind).held with_it) (sym (one_kind j k same))
-            (held_in k new.now.trees ∙ is.rows ∙ sym ((shelf_of k).held_with (loaded_from old.now.trees) m))
+            (held_in k new.now.trees ∙ records_are ∙ sym ((shelf_of k).held_with (loaded_from old.now.trees) m))
         | inr apart ↦
-            held_in j new.now.trees ∙ (was j apart).rows ∙ sym (held_in j old.now.trees)
-            ∙ sym (held_beside j k (loaded_from old.now.trees) m apart)
+            held_in j new.now.trees ∙ records_stay j apart ∙ sym (held_in j old.now.trees) ∙ sym (held_beside j k (loaded_from old.now.trees) m apart)
       ]
 
 -- ---- the month to be run next
 
-module _ (next : ℕ) (old new : State) (before : AreInOrder old.now.trees) (is : SetsNext next old new) where
+module _ (next : ℕ) (old new : State) (its : HasItsSchema old) (before : AreInOrder old.now.trees) (is : SetsNext next old new) where
   abbrev months : Months
   months = record is.0 { next = next }
 
   set : SetsMonths months old new
   set = is.2
 
-  as_it_was : (j : Kind) → IsSame (shape_of j) (order_of j) old.now.trees new.now.trees
-  as_it_was j =
-      same_beside (shape_of j) (order_of j) old.now.trees new.now.trees our_schema 0 set.others (place_of j) (table_of j) (listed j) (tree_is j)
-      (beside_meta j).1
+  version_goes_on : version_of_tables new.now.trees ≡ version_of_tables old.now.trees
+  version_goes_on =
+      ap (λ (m : Months). m.version) (told months new.now.trees set.months_are) ∙ sym (ap (λ (m : Months). m.version) (told is.0 old.now.trees is.1))
+
+  -- the schema is still that of the version
+  pub schema_with_next : HasItsSchema new
+  schema_with_next = set.schema_is ∙ its ∙ ap schema_of (sym version_goes_on)
+
+  as_it_was : (j : Kind) → HasKind (version_of_tables old.now.trees) j → IsSame (shape_of j) (order_of j) old.now.trees new.now.trees
+  as_it_was j here =
+      same_beside (shape_of j) (order_of j) old.now.trees new.now.trees old.now.schema 0 set.others (place_of j) (table_of j)
+      (listed_there old its j here) (tree_is j) (beside_meta j).1
+
+  records_go_on : (j : Kind) → records_in j new.now.trees ≡ records_in j old.now.trees
+  records_go_on j =
+      ap (λ (v : Version). rows_since (came_with j) v (rows_in (shape_of j) {R = order_of j} new.now.trees)) version_goes_on
+      ∙ same_since (came_with j) (version_of_tables old.now.trees) (rows_in (shape_of j) new.now.trees) (rows_in (shape_of j) old.now.trees)
+      (λ here. (as_it_was j here).rows)
 
   -- the tables are in order after it
   pub in_order_with_next : AreInOrder new.now.trees
   in_order_with_next = record {
-    listed = set.listed;
+    listed = subst (λ (schema : Schema). catalog.IsSound schema new.now.trees) (its ∙ ap schema_of (sym version_goes_on)) set.listed;
     months = months;
     meta = set.months_are;
-    tables = λ j. record { kept = (as_it_was j).kept (before.tables j).kept; apart = (as_it_was j).apart (before.tables j).apart };
+    tables = λ j there. let here = subst (λ (v : Version). HasKind v j) version_goes_on there in
+        record { kept = (as_it_was j here).kept (before.tables j here).kept; apart = (as_it_was j here).apart (before.tables j here).apart };
   }
 
   -- and the books have this month
@@ -108,21 +168,23 @@ module _ (next : ℕ) (old new : State) (before : AreInOrder old.now.trees) (is 
       ∙ sym (ap (λ (rows : List Row). (months_of rows).first) is.1.rows_are) in
       let later = ap (λ (rows : List Row). (months_of rows).next) set.months_are.rows_are in
       λ i. record {
-        branches = (as_it_was Branches).rows i;
-        staff = (as_it_was Staff).rows i;
-        owners = (as_it_was Owners).rows i;
-        properties = (as_it_was Properties).rows i;
-        clients = (as_it_was Clients).rows i;
-        registrations = (as_it_was Registrations).rows i;
-        viewings = (as_it_was Viewings).rows i;
-        inspections = (as_it_was Inspections).rows i;
-        leases = (as_it_was Leases).rows i;
-        charges = (as_it_was Charges).rows i;
-        receipts = (as_it_was Receipts).rows i;
-        runs = (as_it_was Runs).rows i;
-        parts = (as_it_was Parts).rows i;
+        branches = records_go_on Branches i;
+        staff = records_go_on Staff i;
+        owners = records_go_on Owners i;
+        properties = records_go_on Properties i;
+        clients = records_go_on Clients i;
+        registrations = records_go_on Registrations i;
+        viewings = records_go_on Viewings i;
+        inspections = records_go_on Inspections i;
+        leases = records_go_on Leases i;
+        charges = records_go_on Charges i;
+        receipts = records_go_on Receipts i;
+        runs = records_go_on Runs i;
+        parts = records_go_on Parts i;
+        endings = records_go_on Endings i;
         first = first i;
         next = later i;
+        version = version_goes_on i;
       }
 
 -- ---- the open run

@@ -1,11 +1,15 @@
 -- Each kind at its place among the tables and in the books, apart from the others.
 use Rattle.std.proofs.Common.{◌≡◌, refl, ℕ, nat_eq, true, false, Some, slice_get}
+use Rattle.std.specs.declared.cmp.Ordering.{Ordering}
 use Rattle.std.specs.FinMap.{FinMap, empty}
 use Rattle.sqlite_schema.specs.declared.schema.Table.{Table}
 use Rattle.sqlite_trees.specs.Tree.{Trees}
 use Rattle.dh_model.specs.Books.{State}
 use Rattle.dh_rows.specs.Months.{Months}
-use Rattle.dh_catalog.specs.Layout.{our_schema}
+use Rattle.dh_types.specs.declared.version.Version.{Version}
+use Rattle.dh_types.specs.declared.version.Version.TheVariants.{First, Second}
+use Rattle.dh_catalog.specs.Versions.{schema_of}
+use Rattle.dh_catalog.specs.MetaTable.{meta}
 use Rattle.dh_catalog.specs.BranchTable.{branch}
 use Rattle.dh_catalog.specs.StaffTable.{staff}
 use Rattle.dh_catalog.specs.OwnerTable.{owner}
@@ -19,12 +23,18 @@ use Rattle.dh_catalog.specs.ChargeTable.{charge}
 use Rattle.dh_catalog.specs.ReceiptTable.{receipt}
 use Rattle.dh_catalog.specs.RunTable.{run}
 use Rattle.dh_catalog.specs.PartTable.{part}
-use Rattle.dh_model.specs.Kinds.{Kind, order_of, record_of}
+use Rattle.dh_catalog.specs.EndingTable.{ending}
+use Rattle.dh_model.specs.Kinds.{HasKind, IsSince, Kind, came_with, order_of, record_of}
 use Rattle.dh_schema.specs.Kinds.{shape_of, shelf_of}
-use Rattle.dh_model.specs.Kinds.{Branches, Staff, Owners, Properties, Clients, Registrations, Viewings, Inspections, Leases, Charges, Receipts, Runs, Parts}
-use Rattle.dh_schema.specs.Tables.{empty_over, loaded_from, records_in}
+use Rattle.dh_model.specs.Kinds.{Branches, Staff, Owners, Properties, Clients, Registrations, Viewings, Inspections, Leases, Charges, Receipts, Runs}
+use Rattle.dh_model.specs.Kinds.{Parts, Endings}
+use Rattle.dh_schema.specs.Tables.{empty_over, loaded_from, records_in, rows_since, version_of_tables}
 
 -- ---- the table
+
+pub meta_listed : (version : Version) → slice_get (schema_of version).tables 0 ≡ Some meta
+meta_listed First = refl
+meta_listed Second = refl
 
 abbrev pub place_of : Kind → ℕ
 place_of Branches = 1
@@ -40,6 +50,7 @@ place_of Charges = 10
 place_of Receipts = 11
 place_of Runs = 12
 place_of Parts = 13
+place_of Endings = 16
 
 abbrev pub table_of : Kind → Table
 table_of Branches = branch
@@ -55,21 +66,38 @@ table_of Charges = charge
 table_of Receipts = receipt
 table_of Runs = run
 table_of Parts = part
+table_of Endings = ending
 
-pub listed : (kind : Kind) → slice_get our_schema.tables (place_of kind) ≡ Some (table_of kind)
-listed Branches = refl
-listed Staff = refl
-listed Owners = refl
-listed Properties = refl
-listed Clients = refl
-listed Registrations = refl
-listed Viewings = refl
-listed Inspections = refl
-listed Leases = refl
-listed Charges = refl
-listed Receipts = refl
-listed Runs = refl
-listed Parts = refl
+-- each table that the version has stands at its place
+pub listed : (version : Version) (kind : Kind) → HasKind version kind → slice_get (schema_of version).tables (place_of kind) ≡ Some (table_of kind)
+listed First Endings has = let none : First ≡ Second = has in cc
+listed First Branches has = refl
+listed First Staff has = refl
+listed First Owners has = refl
+listed First Properties has = refl
+listed First Clients has = refl
+listed First Registrations has = refl
+listed First Viewings has = refl
+listed First Inspections has = refl
+listed First Leases has = refl
+listed First Charges has = refl
+listed First Receipts has = refl
+listed First Runs has = refl
+listed First Parts has = refl
+listed Second Branches has = refl
+listed Second Staff has = refl
+listed Second Owners has = refl
+listed Second Properties has = refl
+listed Second Clients has = refl
+listed Second Registrations has = refl
+listed Second Viewings has = refl
+listed Second Inspections has = refl
+listed Second Leases has = refl
+listed Second Charges has = refl
+listed Second Receipts has = refl
+listed Second Runs has = refl
+listed Second Parts has = refl
+listed Second Endings has = refl
 
 pub tree_is : (kind : Kind) → (table_of kind).tree ≡ (shape_of kind).tree
 tree_is Branches = refl
@@ -85,6 +113,7 @@ tree_is Charges = refl
 tree_is Receipts = refl
 tree_is Runs = refl
 tree_is Parts = refl
+tree_is Endings = refl
 
 -- no kind has meta's tree
 pub beside_meta : (kind : Kind) → (nat_eq 0 (shape_of kind).tree ≡ false) × (nat_eq (shape_of kind).tree 0 ≡ false)
@@ -101,6 +130,7 @@ beside_meta Charges = (refl, refl)
 beside_meta Receipts = (refl, refl)
 beside_meta Runs = (refl, refl)
 beside_meta Parts = (refl, refl)
+beside_meta Endings = (refl, refl)
 
 -- and no two have one
 pub one_kind : (j k : Kind) → nat_eq (shape_of j).tree (shape_of k).tree ≡ true → j ≡ k
@@ -117,14 +147,15 @@ one_kind Charges Charges h = refl
 one_kind Receipts Receipts h = refl
 one_kind Runs Runs h = refl
 one_kind Parts Parts h = refl
+one_kind Endings Endings h = refl
 one_kind _ _ h = cc
 
 -- ---- the books
 
--- books are the same where they have the same of each kind, and the same months
+-- books are the same where they have the same of each kind, the same months and the same version
 pub same_books : (a b : State) → ((kind : Kind) → (shelf_of kind).held a ≡ (shelf_of kind).held b) → a.books.first ≡ b.books.first
-    → a.books.next ≡ b.books.next → a.open_run ≡ b.open_run → a ≡ b
-same_books a b held first next run = λ i. record {
+    → a.books.next ≡ b.books.next → a.books.version ≡ b.books.version → a.open_run ≡ b.open_run → a ≡ b
+same_books a b held first next version run = λ i. record {
   books = record {
     branches = held Branches i;
     staff = held Staff i;
@@ -139,8 +170,10 @@ same_books a b held first next run = λ i. record {
     receipts = held Receipts i;
     runs = held Runs i;
     parts = held Parts i;
+    endings = held Endings i;
     first = first i;
     next = next i;
+    version = version i;
   };
   open_run = run i;
 }
@@ -159,6 +192,20 @@ held_in Charges trees = refl
 held_in Receipts trees = refl
 held_in Runs trees = refl
 held_in Parts trees = refl
+held_in Endings trees = refl
+
+-- the rows of what the version has are all that the table has
+pub all_since : {K X : Type 0} {R : K → K → Ordering} (came version : Version) (rows : FinMap R X) → IsSince came version → rows_since came version rows ≡ rows
+all_since First version rows has = refl
+all_since Second First rows has = let none : First ≡ Second = has in cc
+all_since Second Second rows has = refl
+
+-- they are the same where the rows are, of tables that the version has
+pub same_since : {K X : Type 0} {R : K → K → Ordering} (came version : Version) (rows others : FinMap R X) → (IsSince came version → rows ≡ others)
+    → rows_since came version rows ≡ rows_since came version others
+same_since First version rows others same = same tt
+same_since Second First rows others same = refl
+same_since Second Second rows others same = same refl
 
 pub none_held : (kind : Kind) (months : Months) → (shelf_of kind).held (empty_over months) ≡ empty
 none_held Branches months = refl
@@ -174,6 +221,7 @@ none_held Charges months = refl
 none_held Receipts months = refl
 none_held Runs months = refl
 none_held Parts months = refl
+none_held Endings months = refl
 
 -- records put in beside those of another kind leave these
 pub held_beside : (j k : Kind) (s : State) (m : FinMap (order_of k) (record_of k)) → nat_eq (shape_of j).tree (shape_of k).tree ≡ false
@@ -191,25 +239,28 @@ held_beside Charges Charges s m h = cc
 held_beside Receipts Receipts s m h = cc
 held_beside Runs Runs s m h = cc
 held_beside Parts Parts s m h = cc
+held_beside Endings Endings s m h = cc
 held_beside _ _ s m h = refl
 
--- and the months, and the open run
+-- and the months, the version and the open run
 pub record AreBeside (old new : State) : Type 0 where
   pub first : new.books.first ≡ old.books.first
   pub next : new.books.next ≡ old.books.next
+  pub version : new.books.version ≡ old.books.version
   pub open_run : new.open_run ≡ old.open_run
 
 pub months_beside : (k : Kind) (s : State) (m : FinMap (order_of k) (record_of k)) → AreBeside s ((shelf_of k).with s m)
-months_beside Branches s m = record { first = refl; next = refl; open_run = refl }
-months_beside Staff s m = record { first = refl; next = refl; open_run = refl }
-months_beside Owners s m = record { first = refl; next = refl; open_run = refl }
-months_beside Properties s m = record { first = refl; next = refl; open_run = refl }
-months_beside Clients s m = record { first = refl; next = refl; open_run = refl }
-months_beside Registrations s m = record { first = refl; next = refl; open_run = refl }
-months_beside Viewings s m = record { first = refl; next = refl; open_run = refl }
-months_beside Inspections s m = record { first = refl; next = refl; open_run = refl }
-months_beside Leases s m = record { first = refl; next = refl; open_run = refl }
-months_beside Charges s m = record { first = refl; next = refl; open_run = refl }
-months_beside Receipts s m = record { first = refl; next = refl; open_run = refl }
-months_beside Runs s m = record { first = refl; next = refl; open_run = refl }
-months_beside Parts s m = record { first = refl; next = refl; open_run = refl }
+months_beside Branches s m = record { first = refl; next = refl; version = refl; open_run = refl }
+months_beside Staff s m = record { first = refl; next = refl; version = refl; open_run = refl }
+months_beside Owners s m = record { first = refl; next = refl; version = refl; open_run = refl }
+months_beside Properties s m = record { first = refl; next = refl; version = refl; open_run = refl }
+months_beside Clients s m = record { first = refl; next = refl; version = refl; open_run = refl }
+months_beside Registrations s m = record { first = refl; next = refl; version = refl; open_run = refl }
+months_beside Viewings s m = record { first = refl; next = refl; version = refl; open_run = refl }
+months_beside Inspections s m = record { first = refl; next = refl; version = refl; open_run = refl }
+months_beside Leases s m = record { first = refl; next = refl; version = refl; open_run = refl }
+months_beside Charges s m = record { first = refl; next = refl; version = refl; open_run = refl }
+months_beside Receipts s m = record { first = refl; next = refl; version = refl; open_run = refl }
+months_beside Runs s m = record { first = refl; next = refl; version = refl; open_run = refl }
+months_beside Parts s m = record { first = refl; next = refl; version = refl; open_run = refl }
+months_beside Endings s m = record { first = refl; next = refl; version = refl; open_run = refl }

@@ -1,25 +1,33 @@
 -- Calls that only read, one after the other, and the books that they make.
-use Rattle.std.proofs.Common.{◌≡◌, ◌⊎◌, ◌∙◌, ◌++◌, inl, inr, refl, sym, ap, subst, arith, List, [], ◌∷◌, Result, Ok, Err, IsTrue, OnOk, OnErr}
+use Rattle.std.proofs.Common.{◌≡◌, ◌⊎◌, ◌∙◌, ◌++◌, inl, inr, refl, sym, ap, subst, arith, List, [], ◌∷◌, ℤ, pos, Some, Result, Ok, Err, IsTrue, OnOk, OnErr}
 use Rattle.std.specs.List.{AllByRecursion}
 use Rattle.sqlite_value.specs.Order.{Row}
+use Rattle.sqlite_schema.specs.declared.schema.Schema.{Schema}
 use Rattle.sqlite_trees.specs.Tree.{Trees}
-use Rattle.sqlite_catalog.specs.Listing as catalog
 use Rattle.sqlite.specs.Effect.{Database}
 use Rattle.sqlite.specs.State.{HasCleanDisk, IsRolledBack, IsUnchanged, State}
 use Rattle.sqlite.proofs.Callers.{unchanged_then}
 use Rattle.dh_model.specs.Books as machine
 use Rattle.dh_rows.specs.Months.{Months}
-use Rattle.dh_catalog.specs.Layout.{our_schema}
+use Rattle.dh_types.specs.declared.version.Version.{Version}
+use Rattle.dh_types.specs.declared.version.Version.TheVariants.{First, Second}
+use Rattle.dh_rows.specs.Cells.{version_number}
+use Rattle.sqlite_catalog.specs.Listing as catalog
+use Rattle.dh_catalog.specs.Versions.{IsOurs, schema_of}
+use Rattle.dh_sql.specs.Shape.{rows_in}
 use Rattle.dh_tables.specs.Calls.{HasOurTables, IsUndone}
 use Rattle.dh_tables.specs.Listing.{IsLoaded}
-use Rattle.dh_tables.specs.MetaTable.{HasMonths}
+use Rattle.dh_tables.specs.MetaTable.{HasMonths, meta_rows}
 use Rattle.dh_schema.specs.declared.load_fault.LoadFault.{LoadFault}
-use Rattle.dh_model.specs.Kinds.{Kind, order_of}
+use Rattle.dh_model.specs.Kinds.{HasKind, Kind, order_of}
 use Rattle.dh_schema.specs.Kinds.{shape_of, shelf_of}
-use Rattle.dh_model.specs.Kinds.{Branches, Staff, Owners, Properties, Clients, Registrations, Viewings, Inspections, Leases, Charges, Receipts, Runs, Parts}
-use Rattle.dh_schema.specs.Loaded.{AllAreRecords, AreLoaded, HasNone, Loads, Reads, all_kinds, with_records}
+use Rattle.dh_model.specs.Kinds.{Branches, Staff, Owners, Properties, Clients, Registrations, Viewings, Inspections, Leases, Charges, Receipts, Runs}
+use Rattle.dh_model.specs.Kinds.{Parts, Endings}
+use Rattle.dh_schema.specs.Loaded.{AllAreRecords, AreLoaded, HasNone, Loads, Reads, first_kinds, kinds_of, with_records}
 use Rattle.dh_schema.specs.Store.{Keeps}
-use Rattle.dh_schema.specs.Tables.{AreInOrder, AreRecords, HasValues, IsTableInOrder, empty_over, loaded_from, months_of}
+use Rattle.dh_schema.specs.Tables.{AreInOrder, AreRecords, HasValues, IsTableInOrder, empty_over, loaded_from, rows_since, version_of_tables}
+use Rattle.dh_schema.specs.Version.{only_version}
+use Rattle.dh_schema.proofs.Changing.{told}
 use Rattle.dh_schema.proofs.Crashing.{survives_both}
 
 -- ---- what they leave
@@ -69,24 +77,87 @@ all_both : {X : Type 0} (P : X → Type 0) (xs ys : List X) → AllByRecursion P
 all_both P [] ys first rest = rest
 all_both P (x ∷ xs) ys first rest = (first.0, all_both P xs ys first.1 rest)
 
-pub of_each : (P : Kind → Type 0) → ((kind : Kind) → P kind) → (kinds : List Kind) → AllByRecursion P kinds
-of_each P each [] = tt
-of_each P each (kind ∷ kinds) = (each kind, of_each P each kinds)
+pub all_of : (P : Kind → Type 0) → ((kind : Kind) → P kind) → (kinds : List Kind) → AllByRecursion P kinds
+all_of P each [] = tt
+all_of P each (kind ∷ kinds) = (each kind, all_of P each kinds)
 
-pub each_of : (P : Kind → Type 0) → AllByRecursion P all_kinds → (kind : Kind) → P kind
-each_of P all Branches = all.0
-each_of P all Staff = all.1.0
-each_of P all Owners = all.1.1.0
-each_of P all Clients = all.1.1.1.0
-each_of P all Properties = all.1.1.1.1.0
-each_of P all Registrations = all.1.1.1.1.1.0
-each_of P all Viewings = all.1.1.1.1.1.1.0
-each_of P all Inspections = all.1.1.1.1.1.1.1.0
-each_of P all Leases = all.1.1.1.1.1.1.1.1.0
-each_of P all Charges = all.1.1.1.1.1.1.1.1.1.0
-each_of P all Receipts = all.1.1.1.1.1.1.1.1.1.1.0
-each_of P all Runs = all.1.1.1.1.1.1.1.1.1.1.1.0
-each_of P all Parts = all.1.1.1.1.1.1.1.1.1.1.1.1.0
+-- what holds of each kind that the version has holds of all that are read
+pub of_each : (P : Kind → Type 0) (version : Version) → ((kind : Kind) → HasKind version kind → P kind) → AllByRecursion P (kinds_of version)
+of_each P First each = (
+  each Branches tt,
+  (
+    each Staff tt,
+    (
+      each Owners tt,
+      (
+        each Clients tt,
+        (
+          each Properties tt,
+          (
+            each Registrations tt,
+            (
+              each Viewings tt,
+              (each Inspections tt, (each Leases tt, (each Charges tt, (each Receipts tt, (each Runs tt, (each Parts tt, tt)))))),
+            ),
+          ),
+        ),
+      ),
+    ),
+  ),
+)
+of_each P Second each = (
+  each Branches tt,
+  (
+    each Staff tt,
+    (
+      each Owners tt,
+      (
+        each Clients tt,
+        (
+          each Properties tt,
+          (
+            each Registrations tt,
+            (
+              each Viewings tt,
+              (each Inspections tt, (each Leases tt, (each Charges tt, (each Receipts tt, (each Runs tt, (each Parts tt, (each Endings refl, tt))))))),
+            ),
+          ),
+        ),
+      ),
+    ),
+  ),
+)
+
+-- and the other way round
+pub each_of : (P : Kind → Type 0) (version : Version) → AllByRecursion P (kinds_of version) → (kind : Kind) → HasKind version kind → P kind
+each_of P First all Endings has = let none : First ≡ Second = has in cc
+each_of P First all Branches has = all.0
+each_of P First all Staff has = all.1.0
+each_of P First all Owners has = all.1.1.0
+each_of P First all Clients has = all.1.1.1.0
+each_of P First all Properties has = all.1.1.1.1.0
+each_of P First all Registrations has = all.1.1.1.1.1.0
+each_of P First all Viewings has = all.1.1.1.1.1.1.0
+each_of P First all Inspections has = all.1.1.1.1.1.1.1.0
+each_of P First all Leases has = all.1.1.1.1.1.1.1.1.0
+each_of P First all Charges has = all.1.1.1.1.1.1.1.1.1.0
+each_of P First all Receipts has = all.1.1.1.1.1.1.1.1.1.1.0
+each_of P First all Runs has = all.1.1.1.1.1.1.1.1.1.1.1.0
+each_of P First all Parts has = all.1.1.1.1.1.1.1.1.1.1.1.1.0
+each_of P Second all Branches has = all.0
+each_of P Second all Staff has = all.1.0
+each_of P Second all Owners has = all.1.1.0
+each_of P Second all Clients has = all.1.1.1.0
+each_of P Second all Properties has = all.1.1.1.1.0
+each_of P Second all Registrations has = all.1.1.1.1.1.0
+each_of P Second all Viewings has = all.1.1.1.1.1.1.0
+each_of P Second all Inspections has = all.1.1.1.1.1.1.1.0
+each_of P Second all Leases has = all.1.1.1.1.1.1.1.1.0
+each_of P Second all Charges has = all.1.1.1.1.1.1.1.1.1.0
+each_of P Second all Receipts has = all.1.1.1.1.1.1.1.1.1.1.0
+each_of P Second all Runs has = all.1.1.1.1.1.1.1.1.1.1.1.0
+each_of P Second all Parts has = all.1.1.1.1.1.1.1.1.1.1.1.1.0
+each_of P Second all Endings has = all.1.1.1.1.1.1.1.1.1.1.1.1.1.0
 
 -- ---- one table after the other
 
@@ -122,9 +193,12 @@ one_table kind {r = r} it = record {
 
 module _ {ks : List Kind} {done : Unit {0}} {old mid : State} {before between : machine.State} (first : Loads ks (Ok done) old mid before between) where
   -- the store is as it was
+  pub still_has : (P : Schema → Type 0) → (HasCleanDisk old → P old.now.schema) → HasCleanDisk mid → P mid.now.schema
+  still_has P has clean =
+      subst P (sym (ap (λ (d : Database). d.schema) (first.reads.same clean).0.now_is)) (has (omega (arith, first.reads.crash.clean, clean)))
+
   pub still_ours : (HasCleanDisk old → HasOurTables old) → HasCleanDisk mid → HasOurTables mid
-  still_ours ours clean =
-      ap (λ (d : Database). d.schema) (first.reads.same clean).0.now_is ∙ ours (omega (arith, first.reads.crash.clean, clean))
+  still_ours = still_has IsOurs
 
   -- and books that lack records of other kinds still lack them
   pub still_none : (kinds : List Kind) → (HasCleanDisk old → HasNone kinds (with_records ks old.now.trees before)) → HasCleanDisk mid
@@ -177,16 +251,75 @@ stopped {ks = ks} ls {fault = fault} {old = old} {new = new} {before = before} {
 -- ---- all of them
 
 module _ (trees : Trees) (months : Months) (meta : HasMonths months trees) where
-  pub loaded_books : (books : machine.State) → AreLoaded all_kinds trees (empty_over months) books → books ≡ loaded_from trees
-  loaded_books books it =
-      let all = with_records all_kinds trees (empty_over months) in
-      let at : Months → machine.State = λ m. record all { books = record all.books { first = m.first; next = m.next } } in
-      it.books ∙ ap (λ (rows : List Row). at (months_of rows)) (sym meta.rows_are)
+  -- the books with these months, and with the endings that the version has
+  abbrev over : machine.State → Months → machine.State
+  over read m = record read {
+    books = record read.books {
+      endings = rows_since Second m.version (rows_in (shape_of Endings) {R = order_of Endings} trees);
+      first = m.first;
+      next = m.next;
+      version = m.version;
+    };
+  }
 
-  pub loaded_order : (before books : machine.State) → catalog.IsSound our_schema trees → AreLoaded all_kinds trees before books → AreInOrder trees
-  loaded_order before books listed it =
-      record { listed = listed; months = months; meta = meta; tables = each_of (λ kind. IsTableInOrder kind trees) it.in_order }
+  read_over : (version : Version) → months.version ≡ version
+      → with_records (kinds_of version) trees (empty_over months) ≡ over (with_records first_kinds trees (empty_over months)) months
+  read_over First is =
+      let read = with_records first_kinds trees (empty_over months) in
+      ap (λ (v : Version). let s : machine.State = record read {
+        books = record read.books { endings = rows_since Second v (rows_in (shape_of Endings) {R = order_of Endings} trees) };
+      } in s) (sym is)
+  read_over Second is =
+      let read = with_records first_kinds trees (empty_over months) in
+      ap (λ (v : Version). let s : machine.State = record read {
+        books = record read.books { endings = rows_since Second v (rows_in (shape_of Endings) {R = order_of Endings} trees) };
+      } in s) (sym is)
+
+  pub loaded_books : (version : Version) → months.version ≡ version → (books : machine.State) → AreLoaded (kinds_of version) trees (empty_over months) books
+      → books ≡ loaded_from trees
+  loaded_books version is books it =
+      it.books ∙ read_over version is ∙ ap (over (with_records first_kinds trees (empty_over months))) (sym (told months trees meta))
+
+  -- the version that meta gives
+  pub given : (version : Version) → months.version ≡ version → version_of_tables trees ≡ version
+  given version is = ap (λ (m : Months). m.version) (told months trees meta) ∙ is
+
+  pub loaded_order : (version : Version) → months.version ≡ version → (before books : machine.State) → catalog.IsSound (schema_of version) trees
+      → AreLoaded (kinds_of version) trees before books → AreInOrder trees
+  loaded_order version is before books listed it = record {
+    listed = subst (λ (v : Version). catalog.IsSound (schema_of v) trees) (sym (given version is)) listed;
+    months = months;
+    meta = meta;
+    tables = λ kind has. each_of (λ kind. IsTableInOrder kind trees) version it.in_order kind (subst (λ (v : Version). HasKind v kind) (given version is) has);
+  }
+
+-- meta gives one version
+one_version : (v w : Version) → pos (version_number v) ≡ pos (version_number w) → v ≡ w
+one_version First First e = refl
+one_version First Second e = cc
+one_version Second First e = cc
+one_version Second Second e = refl
+
+some_number : (m n : ℤ) → Some m ≡ Some n → m ≡ n
+some_number m n e = cc
+
+pub months_have : (months : Months) (version : Version) (trees : Trees) → HasMonths months trees
+    → only_version (meta_rows trees) ≡ Some (pos (version_number version)) → months.version ≡ version
+months_have months version trees has is =
+    one_version months.version version (some_number _ _ (sym (ap only_version has.rows_are) ∙ is))
+
+-- the version that meta gives is that of tables in order
+pub version_given : (version : Version) (trees : Trees) → AreInOrder trees → only_version (meta_rows trees) ≡ Some (pos (version_number version))
+    → version_of_tables trees ≡ version
+version_given version trees order is = given trees order.months order.meta version (months_have order.months version trees order.meta is)
+
+-- where meta gives no version of ours, not all columns hold values of their kinds
+pub no_version : (trees : Trees) → ((version : Version) → only_version (meta_rows trees) ≡ Some (pos (version_number version)) → ⊥) → ¬ HasValues trees
+no_version trees none has = none has.months.version (ap only_version has.meta.rows_are)
 
 -- damage in some rows is damage
-pub no_values : (kinds : List Kind) (trees : Trees) → (¬ AllAreRecords kinds trees) → ¬ HasValues trees
-no_values kinds trees damaged has = damaged (of_each (λ kind. AreRecords kind trees) has.rows kinds)
+pub no_values : (version : Version) (trees : Trees) → only_version (meta_rows trees) ≡ Some (pos (version_number version))
+    → (¬ AllAreRecords (kinds_of version) trees) → ¬ HasValues trees
+no_values version trees is damaged has =
+    let its = given trees has.months has.meta version (months_have has.months version trees has.meta is) in
+    damaged (of_each (λ kind. AreRecords kind trees) version (λ kind here. has.rows kind (subst (λ (v : Version). HasKind v kind) (sym its) here)))

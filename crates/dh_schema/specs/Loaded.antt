@@ -4,15 +4,19 @@ use Rattle.std.specs.List.{AllByRecursion}
 use Rattle.std.specs.FinMap.{empty}
 use Rattle.sqlite_trees.specs.Tree.{Trees}
 use Rattle.sqlite.specs.State.{HasCleanDisk, IsUnchanged, State}
+use Rattle.dh_types.specs.declared.version.Version.{Version}
+use Rattle.dh_types.specs.declared.version.Version.TheVariants.{First, Second}
 use Rattle.dh_model.specs.Books as machine
+use Rattle.dh_sql.specs.Shape.{rows_in}
 use Rattle.dh_tables.specs.Calls.{CommitsNothing, IsUndone}
 use Rattle.dh_schema.specs.declared.load_fault.LoadFault.{LoadFault}
 use Rattle.dh_schema.specs.declared.load_fault.LoadFault.TheVariants.{Damaged}
 use Rattle.dh_schema.specs.LoadFaults.{IsLoadFault}
 use Rattle.dh_model.specs.Kinds.{Kind}
-use Rattle.dh_schema.specs.Kinds.{shelf_of}
-use Rattle.dh_model.specs.Kinds.{Branches, Staff, Owners, Properties, Clients, Registrations, Viewings, Inspections, Leases, Charges, Receipts, Runs, Parts}
-use Rattle.dh_schema.specs.Tables.{AreRecords, IsTableInOrder, records_in}
+use Rattle.dh_schema.specs.Kinds.{shape_of, shelf_of}
+use Rattle.dh_model.specs.Kinds.{Branches, Staff, Owners, Properties, Clients, Registrations, Viewings, Inspections, Leases, Charges, Receipts, Runs}
+use Rattle.dh_model.specs.Kinds.{Parts, Endings}
+use Rattle.dh_schema.specs.Tables.{AreRecords, IsTableInOrder}
 
 -- ---- the kinds in the order in which they are read
 
@@ -28,8 +32,17 @@ accounts = Leases ∷ Charges ∷ Receipts ∷ []
 abbrev pub rent_runs : List Kind
 rent_runs = Runs ∷ Parts ∷ []
 
-abbrev pub all_kinds : List Kind
-all_kinds = people ++ lettings ++ accounts ++ rent_runs
+-- those of the first version
+abbrev pub first_kinds : List Kind
+first_kinds = people ++ lettings ++ accounts ++ rent_runs
+
+-- and those that came with the second
+abbrev pub later_kinds : List Kind
+later_kinds = Endings ∷ []
+
+abbrev pub kinds_of : Version → List Kind
+kinds_of First = first_kinds
+kinds_of Second = first_kinds ++ later_kinds
 
 -- ---- what was read
 
@@ -40,7 +53,7 @@ HasNone kinds books = AllByRecursion (λ kind. (shelf_of kind).held books ≡ em
 -- the books with the records that the tables of these kinds have
 abbrev pub with_records : List Kind → Trees → machine.State → machine.State
 with_records [] trees books = books
-with_records (kind ∷ kinds) trees books = with_records kinds trees ((shelf_of kind).with books (records_in kind trees))
+with_records (kind ∷ kinds) trees books = with_records kinds trees ((shelf_of kind).with books (rows_in (shape_of kind) trees))
 
 -- each row of these kinds is a record
 abbrev pub AllAreRecords : List Kind → Trees → Type 0

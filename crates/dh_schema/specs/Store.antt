@@ -6,18 +6,24 @@ use Rattle.dh_model.specs.declared.rows.Change.{Change}
 use Rattle.dh_model.specs.Books as machine
 use Rattle.dh_model.specs.Machine.{changed}
 use Rattle.dh_laws.specs.InOrder.{run_after}
+use Rattle.dh_catalog.specs.Versions.{schema_of}
 use Rattle.dh_tables.specs.Calls.{HasOurTables}
-use Rattle.dh_schema.specs.Tables.{AreInOrder, IsSound, state_in}
+use Rattle.dh_schema.specs.Tables.{AreInOrder, IsSound, state_in, version_of_tables}
 
 -- the tables that the connection reads
 abbrev pub tables : State → machine.State
 tables s = state_in s.now.trees
+
+-- the schema is that of the version that meta gives
+abbrev pub HasItsSchema : State → Type 0
+HasItsSchema s = s.now.schema ≡ schema_of (version_of_tables s.now.trees)
 
 -- Open, between transactions, with sound tables that are the last commit.
 pub record IsReady (s : State) : Type 0 where
   pub is_open : IsTrue s.is_open
   pub autocommit : s.in_transaction ≡ false
   pub schema : HasOurTables s
+  pub version : HasItsSchema s
   pub settled : s.now ≡ s.committed
   pub sound : IsSound s.now.trees
 
@@ -34,6 +40,7 @@ pub record IsWriting (s : State) : Type 0 where
   pub is_open : IsTrue s.is_open
   pub inside : IsTrue s.in_transaction
   pub schema : HasOurTables s
+  pub version : HasItsSchema s
   pub in_order : AreInOrder s.now.trees
 
 -- A crash now leaves the tables that the connection reads, and nothing else; they are sound.

@@ -1,10 +1,13 @@
 -- What the tables mean: the books that their rows are, the open run that they show, and when they are in order.
 use Rattle.std.specs.Prelude.{List, [], ◌∷◌, None}
 use Rattle.std.specs.List.{AllByRecursion}
-use Rattle.std.specs.FinMap.{FinMap}
+use Rattle.std.specs.declared.cmp.Ordering.{Ordering}
+use Rattle.std.specs.FinMap.{FinMap, empty}
 use Rattle.sqlite_value.specs.Order.{Row}
 use Rattle.sqlite_trees.specs.Tree.{Trees}
 use Rattle.sqlite_catalog.specs.Listing as catalog
+use Rattle.dh_types.specs.declared.version.Version.{Version}
+use Rattle.dh_types.specs.declared.version.Version.TheVariants.{First, Second}
 use Rattle.dh_model.specs.Books.{Books, empty_books}
 use Rattle.dh_model.specs.Books as machine
 use Rattle.dh_model.specs.Rules.{MeetsRules}
@@ -13,21 +16,32 @@ use Rattle.dh_model.specs.Whole.{run_shown}
 use Rattle.dh_laws.specs.Events.{Tables}
 use Rattle.dh_rows.specs.Months.{Months}
 use Rattle.dh_rows.specs.MetaRows.{months_in}
-use Rattle.dh_catalog.specs.Layout.{our_schema}
+use Rattle.dh_catalog.specs.Versions.{schema_of}
 use Rattle.dh_sql.specs.Shape.{AreApart, IsKept, IsStored, rows_in}
 use Rattle.dh_tables.specs.MetaTable.{HasMonths, meta_rows}
-use Rattle.dh_model.specs.Kinds.{Kind, order_of, record_of}
+use Rattle.dh_model.specs.Kinds.{HasKind, Kind, came_with, order_of, record_of}
 use Rattle.dh_schema.specs.Kinds.{shape_of}
-use Rattle.dh_model.specs.Kinds.{Branches, Staff, Owners, Properties, Clients, Registrations, Viewings, Inspections, Leases, Charges, Receipts, Runs, Parts}
+use Rattle.dh_model.specs.Kinds.{Branches, Staff, Owners, Properties, Clients, Registrations, Viewings, Inspections, Leases, Charges, Receipts, Runs}
+use Rattle.dh_model.specs.Kinds.{Parts, Endings}
+
+-- the version and the months of meta's only row
+abbrev pub months_of : List Row → Months
+months_of [] = record { version = First; first = 0; next = 0 }
+months_of (row ∷ rows) = months_in row
+
+-- the version that meta gives
+abbrev pub version_of_tables : Trees → Version
+version_of_tables trees = (months_of (meta_rows trees)).version
+
+-- the rows of a table that came with a version: tables of an earlier one have none
+abbrev pub rows_since : {K X : Type 0} {R : K → K → Ordering} → Version → Version → FinMap R X → FinMap R X
+rows_since First version rows = rows
+rows_since Second First rows = empty
+rows_since Second Second rows = rows
 
 -- the records of a kind
 abbrev pub records_in : (kind : Kind) → Trees → FinMap (order_of kind) (record_of kind)
-records_in kind trees = rows_in (shape_of kind) trees
-
--- the months of meta's only row
-abbrev pub months_of : List Row → Months
-months_of [] = record { first = 0; next = 0 }
-months_of (row ∷ rows) = months_in row
+records_in kind trees = rows_since (came_with kind) (version_of_tables trees) (rows_in (shape_of kind) trees)
 
 -- the books as the rows give them
 abbrev pub books_in : Trees → Books
@@ -45,8 +59,10 @@ books_in trees = record {
   receipts = records_in Receipts trees;
   runs = records_in Runs trees;
   parts = records_in Parts trees;
+  endings = records_in Endings trees;
   first = (months_of (meta_rows trees)).first;
   next = (months_of (meta_rows trees)).next;
+  version = version_of_tables trees;
 }
 
 -- they, and the open run that they show
@@ -61,31 +77,31 @@ state_in trees = record { books = (tables_in trees).books; open_run = (tables_in
 abbrev pub loaded_from : Trees → machine.State
 loaded_from trees = record { books = books_in trees; open_run = None }
 
--- empty books of these months
+-- empty books of this version and these months
 abbrev pub empty_over : Months → machine.State
-empty_over months = record { books = record (empty_books months.first) { next = months.next }; open_run = None }
+empty_over months = record { books = record (empty_books months.first) { next = months.next; version = months.version }; open_run = None }
 
 -- each row of the kind is a record
 abbrev pub AreRecords : Kind → Trees → Type 0
 AreRecords kind trees = AllByRecursion (IsStored (shape_of kind)) (trees (shape_of kind).tree)
 
--- The version is ours and each column holds a value of its kind: rule 0 of the audit.
+-- Meta gives a version, and each column of its tables holds a value of its kind: rule 0 of the audit.
 pub record HasValues (trees : Trees) : Type 0 where
   pub months : Months
   pub meta : HasMonths months trees
-  pub rows : (kind : Kind) → AreRecords kind trees
+  pub rows : (kind : Kind) → HasKind (version_of_tables trees) kind → AreRecords kind trees
 
 -- So it is in one table, each rowid tells one row, and each key is there once.
 pub record IsTableInOrder (kind : Kind) (trees : Trees) : Type 0 where
   pub kept : IsKept (shape_of kind) (order_of kind) trees
   pub apart : AreApart (trees (shape_of kind).tree)
 
--- So it is in all tables, and the catalog lists our tables and indexes and nothing else.
+-- So it is in all tables of the version that meta gives, and the catalog lists the tables and indexes of this version and nothing else.
 pub record AreInOrder (trees : Trees) : Type 0 where
-  pub listed : catalog.IsSound our_schema trees
+  pub listed : catalog.IsSound (schema_of (version_of_tables trees)) trees
   pub months : Months
   pub meta : HasMonths months trees
-  pub tables : (kind : Kind) → IsTableInOrder kind trees
+  pub tables : (kind : Kind) → HasKind (version_of_tables trees) kind → IsTableInOrder kind trees
 
 -- Tables in order whose books meet the rules of the audit.
 pub record IsSound (trees : Trees) : Type 0 where

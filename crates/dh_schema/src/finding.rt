@@ -1,20 +1,23 @@
 //! The record that has a key.
 
-ghost use Rattle.std.specs.Prelude.{◌≡◌, IfErr, IfOk, OnErr, OnOk};
+ghost use Rattle.std.specs.Prelude.{◌≡◌, true, false, IfErr, IfOk, OnErr, OnOk};
 ghost use Rattle.std.specs.FinMap.{get};
 ghost use Rattle.sqlite_trees.specs.Tree.{Trees};
 ghost use Rattle.sqlite.specs.State.{HasCleanDisk, IsUnchanged};
 ghost use Rattle.sqlite.specs.Held.{state};
+ghost use Rattle.dh_types.specs.declared.version.Version.TheVariants.{First, Second};
+ghost use Rattle.dh_model.specs.Kinds.{IsSince};
 ghost use Rattle.dh_sql.specs.Shape.{IsKept, rows_in, rows_of};
 ghost use Rattle.dh_tables.specs.Calls.{CommitsNothing, HasOurTables};
 ghost use Rattle.dh_tables.specs.Questions.{AsksFor, only_record};
 ghost use Rattle.dh_schema.specs.LoadFaults.{IsLoadFault, IsTurnedAway};
 ghost use Rattle.dh_schema.specs.Store.{Keeps};
-ghost use Rattle.dh_schema.specs.Tables.{AreInOrder};
+ghost use Rattle.dh_schema.specs.Tables.{AreInOrder, rows_since, version_of_tables};
 
 use crate::load_fault::LoadFault;
-use crate::reading::check_tables;
+use crate::reading::agreed_version;
 use dh_tables::{Look, Tabled, rows_asked};
+use dh_types::Version;
 use sqlite::{Alter, Connection, Row};
 use std::alloc::Global;
 
@@ -31,7 +34,19 @@ pub trait KeyedRecord: Tabled {
 
     ghost asks_for: { (key : Self.Key) → AsksFor Self.Tabled.shape (Self.ByKey.asks (question key)) key };
 
-    ghost is_kept: { (trees : Trees) → AreInOrder trees → IsKept Self.Tabled.shape Self.Tabled.order trees };
+    ghost is_kept: { (trees : Trees) → AreInOrder trees → IsSince Self.Tabled.since (version_of_tables trees)
+        → IsKept Self.Tabled.shape Self.Tabled.order trees };
+}
+
+// Whether tables of this version have what came with the other.
+fn is_since(came: Version, version: Version) -> bool
+    ensures yes { result ≡ true → IsSince came version }
+    ensures no { result ≡ false → (came ≡ Second) × (version ≡ First) }
+{
+    match came {
+        Version::First => true,
+        Version::Second => version == Version::Second,
+    }
 }
 
 // The record that the rows are, of which there is at most one.
@@ -49,8 +64,8 @@ fn only<R: Tabled>(alloc: Global, rows: &[Row]) -> Result<Option<R>, LoadFault>
     }
 }
 
-/// The record that has the key, in tables that are in order where they are ours; `None` where none has it. Other tables are a fault
-/// of the store. `Damaged` comes where a row of the key is no record, or two have it. It changes nothing.
+/// The record that has the key, in tables that are in order where they are ours; `None` where none has it, or the version of the file
+/// has no such records. Other tables are a fault of the store. `Damaged` comes where a row of the key is no record, or two have it. It changes nothing.
 pub fn find<R: KeyedRecord, S: Alter>(
     alloc: Global,
     conn: &mut Connection<S>,
@@ -59,14 +74,18 @@ pub fn find<R: KeyedRecord, S: Alter>(
     requires { HasCleanDisk (state S.Store conn.old) → HasOurTables (state S.Store conn.old) → AreInOrder (state S.Store conn.old).now.trees }
     ensures ours { OnOk result (HasOurTables (state S.Store conn.old)) }
     ensures found { HasCleanDisk (state S.Store conn.new)
-        → IfOk result (λ found. found ≡ get (rows_in R.shape {R = R.order} (state S.Store conn.old).now.trees) key.now) }
+        → IfOk result (λ found. found ≡ get (rows_since R.since (version_of_tables (state S.Store conn.old).now.trees)
+        (rows_in R.shape {R = R.order} (state S.Store conn.old).now.trees)) key.now) }
     ensures cause { IfErr result IsLoadFault }
     ensures others { ¬ HasOurTables (state S.Store conn.old) → IsTurnedAway result × (conn.new ≡ conn.old) }
     ensures same { HasCleanDisk (state S.Store conn.new) → OnOk result (IsUnchanged (state S.Store conn.old) (state S.Store conn.new)) }
     ensures kept { HasCleanDisk (state S.Store conn.new) → Keeps (state S.Store conn.old) (state S.Store conn.new) }
     ensures crash { CommitsNothing (state S.Store conn.old) (state S.Store conn.new) }
 {
-    check_tables(alloc, conn)?;
+    let version = agreed_version(alloc, conn)?;
+    if !is_since(R::came_with(), version) {
+        return Ok(None);
+    }
     let rows = rows_asked(alloc, conn, &R::by_key(key))?;
     only::<R>(alloc, &rows)
 }

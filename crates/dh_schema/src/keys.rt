@@ -1,13 +1,14 @@
-//! The thirteen kinds of record by their keys.
+//! The kinds of record by their keys.
 
 use crate::finding::KeyedRecord;
 use dh_tables::{
-    BranchNumbered, ChargeOf, ClientNumbered, InspectionOf, LeaseNumbered, MemberNumbered,
-    OwnerNumbered, PartOf, PropertyNumbered, ReceiptNumbered, RegistrationAt, RunOf, ViewingOf,
+    BranchNumbered, ChargeOf, ClientNumbered, EndingOf, InspectionOf, LeaseNumbered,
+    MemberNumbered, OwnerNumbered, PartOf, PropertyNumbered, ReceiptNumbered, RegistrationAt,
+    RunOf, ViewingOf,
 };
 use dh_types::{
-    Branch, Charge, ChargeIndex, Client, EntryDay, EntryMonth, Id, Inspection, Lease, LeaseNo,
-    Owner, Part, Property, Receipt, ReceiptNo, Registration, Run, Staff, Viewing,
+    Branch, Charge, ChargeIndex, Client, Ending, EntryDay, EntryMonth, Id, Inspection, Lease,
+    LeaseNo, Owner, Part, Property, Receipt, ReceiptNo, Registration, Run, Staff, Viewing,
 };
 
 impl KeyedRecord for Branch {
@@ -25,7 +26,7 @@ impl KeyedRecord for Branch {
 
     ghost asks_for = { by_text branch_shape };
 
-    ghost is_kept = { λ trees order. (order.tables Branches).kept };
+    ghost is_kept = { λ trees order since. (order.tables Branches since).kept };
 }
 
 impl KeyedRecord for Staff {
@@ -43,7 +44,7 @@ impl KeyedRecord for Staff {
 
     ghost asks_for = { by_text staff_shape };
 
-    ghost is_kept = { λ trees order. (order.tables Staff).kept };
+    ghost is_kept = { λ trees order since. (order.tables Staff since).kept };
 }
 
 impl KeyedRecord for Owner {
@@ -61,7 +62,7 @@ impl KeyedRecord for Owner {
 
     ghost asks_for = { by_text owner_shape };
 
-    ghost is_kept = { λ trees order. (order.tables Owners).kept };
+    ghost is_kept = { λ trees order since. (order.tables Owners since).kept };
 }
 
 impl KeyedRecord for Property {
@@ -79,7 +80,7 @@ impl KeyedRecord for Property {
 
     ghost asks_for = { by_text property_shape };
 
-    ghost is_kept = { λ trees order. (order.tables Properties).kept };
+    ghost is_kept = { λ trees order since. (order.tables Properties since).kept };
 }
 
 impl KeyedRecord for Client {
@@ -97,7 +98,7 @@ impl KeyedRecord for Client {
 
     ghost asks_for = { by_text client_shape };
 
-    ghost is_kept = { λ trees order. (order.tables Clients).kept };
+    ghost is_kept = { λ trees order since. (order.tables Clients since).kept };
 }
 
 impl KeyedRecord for Registration {
@@ -118,7 +119,7 @@ impl KeyedRecord for Registration {
 
     ghost asks_for = { by_texts registration_shape };
 
-    ghost is_kept = { λ trees order. (order.tables Registrations).kept };
+    ghost is_kept = { λ trees order since. (order.tables Registrations since).kept };
 }
 
 impl KeyedRecord for Viewing {
@@ -139,7 +140,7 @@ impl KeyedRecord for Viewing {
 
     ghost asks_for = { by_texts viewing_shape };
 
-    ghost is_kept = { λ trees order. (order.tables Viewings).kept };
+    ghost is_kept = { λ trees order since. (order.tables Viewings since).kept };
 }
 
 impl KeyedRecord for Inspection {
@@ -160,7 +161,7 @@ impl KeyedRecord for Inspection {
 
     ghost asks_for = { by_text_and_number inspection_shape };
 
-    ghost is_kept = { λ trees order. (order.tables Inspections).kept };
+    ghost is_kept = { λ trees order since. (order.tables Inspections since).kept };
 }
 
 impl KeyedRecord for Lease {
@@ -178,7 +179,7 @@ impl KeyedRecord for Lease {
 
     ghost asks_for = { by_number lease_shape };
 
-    ghost is_kept = { λ trees order. (order.tables Leases).kept };
+    ghost is_kept = { λ trees order since. (order.tables Leases since).kept };
 }
 
 impl KeyedRecord for Charge {
@@ -199,7 +200,7 @@ impl KeyedRecord for Charge {
 
     ghost asks_for = { by_numbers charge_shape };
 
-    ghost is_kept = { λ trees order. (order.tables Charges).kept };
+    ghost is_kept = { λ trees order since. (order.tables Charges since).kept };
 }
 
 impl KeyedRecord for Receipt {
@@ -217,7 +218,7 @@ impl KeyedRecord for Receipt {
 
     ghost asks_for = { by_number receipt_shape };
 
-    ghost is_kept = { λ trees order. (order.tables Receipts).kept };
+    ghost is_kept = { λ trees order since. (order.tables Receipts since).kept };
 }
 
 impl KeyedRecord for Run {
@@ -235,7 +236,7 @@ impl KeyedRecord for Run {
 
     ghost asks_for = { by_number run_shape };
 
-    ghost is_kept = { λ trees order. (order.tables Runs).kept };
+    ghost is_kept = { λ trees order since. (order.tables Runs since).kept };
 }
 
 impl KeyedRecord for Part {
@@ -256,5 +257,23 @@ impl KeyedRecord for Part {
 
     ghost asks_for = { by_number_and_text part_shape };
 
-    ghost is_kept = { λ trees order. (order.tables Parts).kept };
+    ghost is_kept = { λ trees order since. (order.tables Parts since).kept };
+}
+
+impl KeyedRecord for Ending {
+    ghost use Rattle.dh_tables.specs.EndingTable.{ending_shape};
+    ghost use Rattle.dh_model.specs.Kinds.{Endings};
+    ghost use Rattle.dh_tables.proofs.ByKey.{by_number};
+
+    type ByKey = EndingOf;
+
+    ghost question = { λ key. record { lease = key } };
+
+    fn by_key(key: &LeaseNo) -> EndingOf {
+        EndingOf { lease: *key }
+    }
+
+    ghost asks_for = { by_number ending_shape };
+
+    ghost is_kept = { λ trees order since. (order.tables Endings since).kept };
 }

@@ -2,6 +2,7 @@
 #![tactic(auto)]
 
 mod fault;
+mod file_version;
 mod finding;
 mod keys;
 mod laws;
@@ -12,6 +13,7 @@ mod open_run;
 mod reading;
 
 pub use fault::{StoreFault, fault_of};
+pub use file_version::FileVersion;
 pub use finding::{KeyedRecord, find};
 pub use laws::{books_are_keyed, order_has_values, sound_tables_show_their_run};
 pub use load_fault::LoadFault;

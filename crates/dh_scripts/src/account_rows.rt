@@ -1,8 +1,8 @@
-//! The rows of leases, of what is charged and paid on them, and of rent runs.
+//! The rows of leases, of their early ends, of what is charged and paid on them, and of rent runs.
 
 use crate::fields::{Fields, Unreadable};
 use crate::requests::command;
-use dh_types::{Charge, Command, Lease, Part, Receipt, ReceiptNo, Rent, Run};
+use dh_types::{Charge, Command, Ending, Lease, Part, Receipt, ReceiptNo, Rent, Run};
 use std::alloc::Global;
 
 // The lease that the command makes, at this rent.
@@ -21,6 +21,14 @@ pub(crate) fn lease(alloc: Global, words: &str) -> Result<Lease, Unreadable> {
     let (made, rent) = words.rsplit_once(',').ok_or(Unreadable)?;
     let rent = Rent::read(rent)?;
     lease_made(&command(alloc, made)?, rent)
+}
+
+/// `LEASE,MONTHS`
+pub(crate) fn ending(fields: &mut Fields) -> Result<Ending, Unreadable> {
+    Ok(Ending {
+        lease: fields.lease_no()?,
+        months: fields.lease_months()?,
+    })
 }
 
 /// `LEASE,INDEX,MONTH,DAY,AMOUNT`

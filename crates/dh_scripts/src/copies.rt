@@ -45,6 +45,9 @@ fn copy_leases(from: &Books, to: &mut Books) -> Result<(), AllocError> {
     for receipt in from.receipts() {
         to.put_receipt(*receipt)?;
     }
+    for ending in from.endings() {
+        to.put_ending(*ending)?;
+    }
     Ok(())
 }
 
@@ -58,9 +61,9 @@ fn copy_runs(from: &Books, to: &mut Books) -> Result<(), AllocError> {
     Ok(())
 }
 
-/// A copy of the books. It fails where memory runs out.
+/// A copy of the books, of the same version. It fails where memory runs out.
 pub fn copy_of(alloc: Global, books: &Books) -> Result<Books, AllocError> {
-    let mut copy = Books::new(alloc, books.first(), books.next());
+    let mut copy = Books::new(alloc, books.version(), books.first(), books.next());
     copy.set_open_run(books.open_run());
     copy_people(alloc, books, &mut copy)?;
     copy_properties(alloc, books, &mut copy)?;

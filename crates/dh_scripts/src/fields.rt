@@ -1,8 +1,8 @@
 //! The fields of a line that is no request.
 
 use dh_types::{
-    BadText, ChargeIndex, Day, EntryDay, EntryMonth, Id, Key, LeaseNo, Month, Pence, ReceiptNo,
-    Rent,
+    BadText, ChargeIndex, Day, EntryDay, EntryMonth, Id, Key, LeaseMonths, LeaseNo, Month, Pence,
+    ReceiptNo, Rent,
 };
 use std::alloc::{AllocError, AllocFailed};
 use std::num::ParseIntError;
@@ -64,6 +64,10 @@ impl<'a> Fields<'a> {
 
     pub fn lease_no(&mut self) -> Result<LeaseNo, Unreadable> {
         Ok(LeaseNo::read(self.text()?)?)
+    }
+
+    pub fn lease_months(&mut self) -> Result<LeaseMonths, Unreadable> {
+        Ok(LeaseMonths::read(self.text()?)?)
     }
 
     pub fn rent(&mut self) -> Result<Rent, Unreadable> {

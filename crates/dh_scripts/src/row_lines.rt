@@ -1,8 +1,8 @@
 //! Rows, written as the fields of their lines.
 
 use dh_types::{
-    Branch, Charge, Client, Inspection, Lease, Owner, Part, Property, Receipt, Registration, Run,
-    Staff, Viewing,
+    Branch, Charge, Client, Ending, Inspection, Lease, Owner, Part, Property, Receipt,
+    Registration, Run, Staff, Viewing,
 };
 use std::alloc::{AllocError, Global};
 
@@ -108,6 +108,12 @@ impl ToLine for Lease {
             terms.method,
             self.rent
         )
+    }
+}
+
+impl ToLine for Ending {
+    fn to_line(&self, alloc: Global) -> Result<String, AllocError> {
+        format!(in alloc; "{},{}", self.lease, self.months)
     }
 }
 

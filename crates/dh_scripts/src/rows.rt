@@ -1,11 +1,11 @@
 //! The rows of the books.
 
-use crate::account_rows::{charge, lease, part, receipt, run};
+use crate::account_rows::{charge, ending, lease, part, receipt, run};
 use crate::fields::{Fields, Unreadable};
 use crate::requests::command;
 use dh_types::{
-    Branch, Charge, Client, Command, Inspection, Lease, Month, Owner, Part, Property, Receipt,
-    Registration, Run, Staff, Viewing,
+    Branch, Charge, Client, Command, Ending, Inspection, Lease, Month, Owner, Part, Property,
+    Receipt, Registration, Run, Staff, Viewing,
 };
 use std::alloc::Global;
 
@@ -21,6 +21,7 @@ pub enum Row {
     Viewing(Viewing),
     Inspection(Inspection),
     Lease(Lease),
+    Ending(Ending),
     Charge(Charge),
     Receipt(Receipt),
     Run(Run),
@@ -50,6 +51,7 @@ pub fn row_of(alloc: Global, words: &str) -> Result<Row, Unreadable> {
     let mut fields = Fields::of(rest);
     match kind {
         "lease" => lease(alloc, words).map(Row::Lease),
+        "ending" => ending(&mut fields).map(Row::Ending),
         "charge" => charge(&mut fields).map(Row::Charge),
         "receipt" => receipt(alloc, rest).map(Row::Receipt),
         "run" => run(&mut fields).map(Row::Run),

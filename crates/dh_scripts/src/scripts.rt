@@ -1,6 +1,7 @@
 //! Blocks of lines under headings.
 
 use crate::fields::Unreadable;
+use dh_types::Version;
 use std::alloc::{AllocError, Global};
 
 /// How the lines of a block are played.
@@ -19,13 +20,14 @@ pub enum Manner {
 }
 
 /// Lines under one heading, which is `== NAME`, and behind commas `after NAME` of a block above it and the manner. Books begin
-/// with 2025-01 and no row. Between blocks may stand empty lines, and lines of words behind `#`. A line
-/// `99 times from 102: property,P{n},.. -> ok` stands for 99 lines with the numbers from 102 on. A line that begins with `/ `
-/// goes on with the one above it.
+/// with 2025-01 and no row; they are of the first version, but behind `of the second version`. Between blocks may stand empty
+/// lines, and lines of words behind `#`. A line `99 times from 102: property,P{n},.. -> ok` stands for 99 lines with the numbers
+/// from 102 on. A line that begins with `/ ` goes on with the one above it.
 #[derive(Drop)]
 pub struct Block {
     pub name: String,
     pub manner: Manner,
+    pub version: Version,
     /// The lines of the blocks that it stands after, the first block's first.
     pub before: Vec<String>,
     pub lines: Vec<String>,
@@ -80,9 +82,10 @@ fn add_words(
     words: &str,
 ) -> Result<(), Unreadable> {
     for word in words.split(", ") {
-        match manner_of(word) {
-            Some(manner) => block.manner = manner,
-            None => put_before(alloc, &mut block.before, blocks, word)?,
+        match (word, manner_of(word)) {
+            ("of the second version", _) => block.version = Version::Second,
+            (_, Some(manner)) => block.manner = manner,
+            (_, None) => put_before(alloc, &mut block.before, blocks, word)?,
         }
     }
     Ok(())
@@ -92,6 +95,7 @@ fn without_lines(alloc: Global, name: &str) -> Result<Block, AllocError> {
     Ok(Block {
         name: name.to_string(alloc)?,
         manner: Manner::InTurn,
+        version: Version::First,
         before: Vec::new(alloc),
         lines: Vec::new(alloc),
     })

@@ -36,6 +36,12 @@ same sql params old new rows plain h =
     let none = (subst IsPlain h.1.is plain).0 in
     (subst (ShowsRows old new sql h.0 _ rows) none h.2).3
 
+-- and commits nothing
+pub commits_none : (text : List ℕ) (params : Row) (old new : State) → (HasCleanDisk old → IsPlain (understood old.now.schema text))
+    → Survives old new (CommitsShowing text params old) → Survives old new (λ _. ⊥)
+commits_none text params old new plain s =
+    survives_weaker old new _ _ (λ clean db. never_commits text params old db (plain (omega (arith, s.clean, clean)))) s
+
 -- what holds of any query with no RETURNING
 module _ (text : List ℕ) (schema : Schema) (params : Row) (plain : IsPlain (understood schema text)) where
   plain_at : (old : State) → old.now.schema ≡ schema → IsPlain (understood old.now.schema text)

@@ -12,13 +12,14 @@ use Rattle.dh_model.specs.Whole.{rows_where}
 use Rattle.dh_model.proofs.KeyOrders.{nat_ties, nat_total, nats_tie, nats_total, text_ties, text_total}
 use Rattle.dh_laws.specs.AskedAbout.{with_accounts}
 use Rattle.dh_laws.proofs.AskedRows.{none_where, one_more}
+use Rattle.dh_sql.specs.Shape.{rows_in}
 use Rattle.dh_tables.specs.Calls.{CommitsNothing, HasFetchedMore}
-use Rattle.dh_model.specs.Kinds.{Charges, Clients, Kind, Receipts, order_of, record_of}
+use Rattle.dh_model.specs.Kinds.{Charges, Clients, HasKind, Kind, Receipts, came_with, order_of, record_of}
 use Rattle.dh_schema.specs.Kinds.{shape_of, shelf_of}
 use Rattle.dh_schema.specs.Store.{StaysReady, tables}
-use Rattle.dh_schema.specs.Tables.{records_in}
+use Rattle.dh_schema.specs.Tables.{records_in, version_of_tables}
 use Rattle.dh_schema.proofs.Crashing.{survives_both}
-use Rattle.dh_schema.proofs.EachKind.{held_in}
+use Rattle.dh_schema.proofs.EachKind.{all_since, held_in}
 use Rattle.dh_model.proofs.KindOrders.{ties_of, total_of}
 
 -- ---- along some look-ups
@@ -55,22 +56,28 @@ pub at_kind : (kind : Kind) (s old : State) → tables s ≡ tables old → reco
 at_kind kind s old same =
     sym (held_in kind s.now.trees) ∙ ap (λ (t : machine.State). (shelf_of kind).held (record t { open_run = None })) same ∙ held_in kind old.now.trees
 
-module _ (kind : Kind) (s old : State) (same : tables s ≡ tables old) where
+module _ (kind : Kind) (s old : State) (same : tables s ≡ tables old) (has : HasKind (version_of_tables s.now.trees) kind) where
   abbrev rows : FinMap (order_of kind) (record_of kind)
   rows = records_in kind old.now.trees
 
+  abbrev there : FinMap (order_of kind) (record_of kind)
+  there = rows_in (shape_of kind) s.now.trees
+
+  are_there : there ≡ rows
+  are_there = sym (all_since (came_with kind) (version_of_tables s.now.trees) there has) ∙ at_kind kind s old same
+
   module _ {a b base : machine.State} where
     -- a whole table, for books that have none of it
-    pub put_whole : a ≡ base → b ≡ (shelf_of kind).with a (records_in kind s.now.trees) → b ≡ (shelf_of kind).with base rows
-    put_whole is put = put ∙ (λ i. (shelf_of kind).with (is i) (at_kind kind s old same i))
+    pub put_whole : a ≡ base → b ≡ (shelf_of kind).with a there → b ≡ (shelf_of kind).with base rows
+    put_whole is put = put ∙ (λ i. (shelf_of kind).with (is i) (are_there i))
 
     -- the rows that are asked for
     pub put_first : a ≡ base → (shelf_of kind).held base ≡ empty → (asks : record_of kind → Bool)
         → HasFetchedMore (shape_of kind) (order_of kind) (shelf_of kind) asks s a b → b ≡ (shelf_of kind).with base (rows_where asks rows)
     put_first is none asks put =
-        let nothing : (shelf_of kind).held a ≡ rows_where (λ _. false) (records_in kind s.now.trees)
-        = ap (shelf_of kind).held is ∙ none ∙ sym (none_where (total_of kind) (ties_of kind) (records_in kind s.now.trees)) in
-        put (λ _. false) nothing ∙ (λ i. (shelf_of kind).with (is i) (rows_where asks (at_kind kind s old same i)))
+        let nothing : (shelf_of kind).held a ≡ rows_where (λ _. false) there
+        = ap (shelf_of kind).held is ∙ none ∙ sym (none_where (total_of kind) (ties_of kind) there) in
+        put (λ _. false) nothing ∙ (λ i. (shelf_of kind).with (is i) (rows_where asks (are_there i)))
 
   -- those that are asked for, beside those that were asked for before
   pub put_next : {A : Type 0} {a b : machine.State} (base : machine.State) (asks : record_of kind → A → Bool) (before : List A) (x : A)
@@ -81,9 +88,9 @@ module _ (kind : Kind) (s old : State) (same : tables s ≡ tables old) where
       let it = shelf_of kind in
       let test : record_of kind → Bool = λ r. list_any (asks r) before in
       let more : record_of kind → Bool = λ r. list_any (asks r) (before ++ x ∷ []) in
-      let held = ap it.held is ∙ it.held_with base (rows_where test rows) ∙ ap (rows_where test) (sym (at_kind kind s old same)) in
+      let held = ap it.held is ∙ it.held_with base (rows_where test rows) ∙ ap (rows_where test) (sym are_there) in
       put test held
-      ∙ (λ i. it.with (is i) (rows_where (one_more asks before x i) (at_kind kind s old same i)))
+      ∙ (λ i. it.with (is i) (rows_where (one_more asks before x i) (are_there i)))
       ∙ it.with_with base (rows_where test rows) (rows_where more rows)
 
 -- ---- accounts of leases
@@ -121,9 +128,9 @@ module _ (old one two : State) (first : tables one ≡ tables old) (second : tab
       let s1 : machine.State = record a { books = record was { clients = more.clients } } in
       let s2 : machine.State = record a { books = record was { clients = more.clients; charges = more.charges } } in
       let at0 : a ≡ s0 = λ i. record a { books = is i } in
-      let at1 : b ≡ s1 = put_next Clients old old refl s0 (λ r (l : Lease). is_same_text r.number l.terms.client) before it at0 clients in
-      let at2 : c ≡ s2 = put_next Charges one old first s1 (λ r (l : Lease). nat_eq r.lease l.terms.number) before it at1 charges in
-      put_next Receipts two old second s2 (λ r (l : Lease). nat_eq r.payment.lease l.terms.number) before it at2 receipts
+      let at1 : b ≡ s1 = put_next Clients old old refl tt s0 (λ r (l : Lease). is_same_text r.number l.terms.client) before it at0 clients in
+      let at2 : c ≡ s2 = put_next Charges one old first tt s1 (λ r (l : Lease). nat_eq r.lease l.terms.number) before it at1 charges in
+      put_next Receipts two old second tt s2 (λ r (l : Lease). nat_eq r.payment.lease l.terms.number) before it at2 receipts
 
 -- ---- what a result says
 

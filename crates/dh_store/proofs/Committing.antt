@@ -47,4 +47,4 @@ module _ {S : Type 0} (g : Ghosts S) (rows : Change) (x : Unit {0}) (old begun l
 
     pub ready_with : HasCleanDisk (state g last) → Shows (state g last) (state g new) (state g last).now (state g last).now false
         → IsReady (state g new) × After (tables (state g new))
-    ready_with clean shown = ready_after After (state g last) (state g new) (puts.put clean).0.schema shown (sound clean)
+    ready_with clean shown = ready_after After (state g last) (state g new) (puts.put clean).0.version shown (sound clean)

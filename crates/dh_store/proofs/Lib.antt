@@ -6,3 +6,5 @@ pub mod AskedBooks
 pub mod PutOff
 pub mod Committing
 pub mod Putting
+pub mod EndingsBeside
+pub mod ReadsInTurn

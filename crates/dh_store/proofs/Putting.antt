@@ -14,18 +14,19 @@ use Rattle.dh_model.specs.Books.{Books}
 use Rattle.dh_model.specs.Books as machine
 use Rattle.dh_model.specs.Machine.{at_rent, changed, managed, with_comment}
 use Rattle.dh_laws.specs.Looks.{FitsIn}
-use Rattle.dh_catalog.specs.Layout.{our_schema}
+use Rattle.dh_catalog.specs.Versions.{IsOurs}
 use Rattle.dh_sql.specs.Changes.{Becomes}
+use Rattle.dh_sql.specs.Shape.{rows_in}
 use Rattle.dh_tables.specs.Calls.{Adds, Amends, CommitsNothing, StaysInTransaction, IsUndone}
 use Rattle.dh_tables.specs.MetaTable.{SetsNext}
 use Rattle.dh_tables.specs.RunTable.{run_shape}
 use Rattle.dh_tables.proofs.AmendedRecord.{becomes_there}
-use Rattle.dh_model.specs.Kinds.{Kind, key_of, order_of, record_of}
+use Rattle.dh_model.specs.Kinds.{HasKind, Kind, key_of, order_of, record_of}
 use Rattle.dh_schema.specs.Kinds.{shape_of, shelf_of}
 use Rattle.dh_model.specs.Kinds.{Properties, Runs, Viewings}
 use Rattle.dh_schema.specs.Store.{IsWriting, tables}
-use Rattle.dh_schema.specs.Tables.{AreInOrder, loaded_from, records_in}
-use Rattle.dh_schema.proofs.Changing.{books_after, books_with_next, in_order_after, in_order_with_next}
+use Rattle.dh_schema.specs.Tables.{AreInOrder, loaded_from, records_in, version_of_tables}
+use Rattle.dh_schema.proofs.Changing.{books_after, books_with_next, in_order_after, in_order_with_next, schema_after, schema_with_next}
 use Rattle.dh_schema.proofs.Crashing.{survives_both}
 use Rattle.dh_store.specs.Putting.{PutsRows}
 
@@ -47,22 +48,28 @@ keeps_both a b c one two = record {
 
 -- ---- one table
 
-module _ (kind : Kind) (records : FinMap (order_of kind) (record_of kind)) (old new : State) where
+module _ (kind : Kind) (records : FinMap (order_of kind) (record_of kind)) (old new : State) (has : HasKind (version_of_tables old.now.trees) kind) where
   abbrev Turns : Type 0
-  Turns = Becomes (shape_of kind) (order_of kind) our_schema records old new
+  Turns = Becomes (shape_of kind) (order_of kind) old.now.schema records old new
 
   -- the books with these records are those with the rows of the change
   abbrev pub Means : Change → Type 0
   Means rows = ((shelf_of kind).with (loaded_from old.now.trees) records).books ≡ changed rows (tables old).books
 
-  pub put_in : AreInOrder old.now.trees → StaysInTransaction old new → Turns → IsWriting new
+  pub put_in : IsWriting old → StaysInTransaction old new → Turns → IsWriting new
       × ((tables new).books ≡ ((shelf_of kind).with (loaded_from old.now.trees) records).books)
   put_in order on done = (
-    record { is_open = on.is_open; inside = on.mode; schema = done.schema_is; in_order = in_order_after kind records old new done order },
-    ap (λ (s : machine.State). s.books) (books_after kind records old new done),
+    record {
+      is_open = on.is_open;
+      inside = on.mode;
+      schema = subst IsOurs (sym done.schema_is) order.schema;
+      version = schema_after kind records old new order.version has done;
+      in_order = in_order_after kind records old new order.version has done order.in_order;
+    },
+    ap (λ (s : machine.State). s.books) (books_after kind records old new order.version has done),
   )
 
-  on_ok : {X E : Type 0} (rows : Change) (r : Result X E) → AreInOrder old.now.trees → Means rows → OnOk r (StaysInTransaction old new) → OnOk r Turns
+  on_ok : {X E : Type 0} (rows : Change) (r : Result X E) → IsWriting old → Means rows → OnOk r (StaysInTransaction old new) → OnOk r Turns
       → OnOk r (IsWriting new × ((tables new).books ≡ changed rows (tables old).books))
   on_ok rows (Ok x) order means on done = let here = put_in order on done in (here.0, here.1 ∙ means)
   on_ok rows (Err e) order means on done = tt
@@ -72,28 +79,29 @@ module _ (kind : Kind) (records : FinMap (order_of kind) (record_of kind)) (old 
       → (HasCleanDisk new → OnOk r (StaysInTransaction old new))
       → (HasCleanDisk new → OnOk r Turns) → (HasCleanDisk new → OnErr r (IsUndone old new)) → CommitsNothing old new → PutsRows rows r old new
   added rows r writing means on done undone crash = record {
-    put = λ clean. on_ok rows r (writing (omega (arith, crash.clean, clean))).in_order means (on clean) (done clean);
+    put = λ clean. on_ok rows r (writing (omega (arith, crash.clean, clean))) means (on clean) (done clean);
     kept = λ clean. keeps_commit r old new (on clean) (undone clean);
     crash = crash;
   }
 
-module _ (kind : Kind) (key : key_of kind) (turned : record_of kind → record_of kind) (old new : State) where
+module _ (kind : Kind) (key : key_of kind) (turned : record_of kind → record_of kind) (old new : State)
+    (has : HasKind (version_of_tables old.now.trees) kind) where
   abbrev Record : Type 0
   Record = record_of kind
 
   abbrev held : FinMap (order_of kind) (record_of kind)
-  held = records_in kind old.now.trees
+  held = rows_in (shape_of kind) old.now.trees
 
   -- the record is there, and what it becomes is what the change makes of it
   abbrev pub IsThere : Change → Type 0
-  IsThere rows = (there : Record) × (get held key ≡ Some there) × Means kind (insert held key (turned there)) old new rows
+  IsThere rows = (there : Record) × (get held key ≡ Some there) × Means kind (insert held key (turned there)) old new has rows
 
-  on_ok_there : {X E : Type 0} (rows : Change) (r : Result X E) → AreInOrder old.now.trees → IsThere rows → OnOk r (StaysInTransaction old new)
+  on_ok_there : {X E : Type 0} (rows : Change) (r : Result X E) → IsWriting old → IsThere rows → OnOk r (StaysInTransaction old new)
       → OnOk r (Amends (shape_of kind) (order_of kind) key turned old new)
       → OnOk r (IsWriting new × ((tables new).books ≡ changed rows (tables old).books))
   on_ok_there rows (Ok x) order it on done =
       let becomes = becomes_there (shape_of kind) (order_of kind) key turned old new in
-      let here = put_in kind (insert held key (turned it.0)) old new order on (becomes done it.0 it.1) in (here.0, here.1 ∙ it.2)
+      let here = put_in kind (insert held key (turned it.0)) old new has order on (becomes done it.0 it.1) in (here.0, here.1 ∙ it.2)
   on_ok_there rows (Err e) order it on done = tt
 
   -- a record was changed
@@ -103,7 +111,7 @@ module _ (kind : Kind) (key : key_of kind) (turned : record_of kind → record_o
   amended rows r writing is_there on done undone crash = record {
     put = λ clean.
         let early : HasCleanDisk old = omega (arith, crash.clean, clean) in
-        on_ok_there rows r (writing early).in_order (is_there early) (on clean) (done clean);
+        on_ok_there rows r (writing early) (is_there early) (on clean) (done clean);
     kept = λ clean. keeps_commit r old new (on clean) (undone clean);
     crash = crash;
   }
@@ -112,20 +120,20 @@ module _ (kind : Kind) (key : key_of kind) (turned : record_of kind → record_o
 
 module _ (rows : Change) (old new : State) (fits : FitsIn rows (tables old).books) where
   pub managed_there : (it : Assignment) → rows ≡ change.Assign it
-      → IsThere Properties it.property (λ p. record p { staff = it.staff }) old new rows
+      → IsThere Properties it.property (λ p. record p { staff = it.staff }) old new tt rows
   managed_there it is =
       let books = (tables old).books in
       let found = subst (λ (said : Change). FitsIn said books) is fits in
       (found.0, found.1, sym (ap (managed books it) found.1) ∙ ap (λ (said : Change). changed said books) (sym is))
 
-  pub at_rent_there : (it : RentChange) → rows ≡ change.Rent it → IsThere Properties it.property (λ p. record p { rent = it.rent }) old new rows
+  pub at_rent_there : (it : RentChange) → rows ≡ change.Rent it → IsThere Properties it.property (λ p. record p { rent = it.rent }) old new tt rows
   at_rent_there it is =
       let books = (tables old).books in
       let found = subst (λ (said : Change). FitsIn said books) is fits in
       (found.0, found.1, sym (ap (at_rent books it) found.1) ∙ ap (λ (said : Change). changed said books) (sym is))
 
   pub comment_there : (it : ViewingComment) → rows ≡ change.Comment it
-      → IsThere Viewings (it.client, it.property) (λ v. record v { comment = Some it.comment }) old new rows
+      → IsThere Viewings (it.client, it.property) (λ v. record v { comment = Some it.comment }) old new tt rows
   comment_there it is =
       let books = (tables old).books in
       let found = subst (λ (said : Change). FitsIn said books) is fits in
@@ -137,23 +145,25 @@ module _ (run : Run) (old mid new : State) where
   abbrev Opened : Type 0
   Opened = IsWriting new × ((tables new).books ≡ changed (change.Open run) (tables old).books)
 
-  after_both : AreInOrder old.now.trees → StaysInTransaction old mid → Adds run_shape nat_cmp run old mid
+  after_both : IsWriting old → StaysInTransaction old mid → Adds run_shape nat_cmp run old mid
       → StaysInTransaction mid new → SetsNext (run.month + 1) mid new → Opened
   after_both order on added on_next set =
       let records = insert (records_in Runs old.now.trees) run.month run in
-      let first = put_in Runs records old mid order on added in
+      let first = put_in Runs records old mid tt order on added in
       let in_order = first.0.in_order in
       let moved = set.2 in (
         record {
           is_open = on_next.is_open;
           inside = on_next.mode;
-          schema = moved.schema_is;
-          in_order = in_order_with_next (run.month + 1) mid new in_order set;
+          schema = subst IsOurs (sym moved.schema_is) first.0.schema;
+          version = schema_with_next (run.month + 1) mid new first.0.version in_order set;
+          in_order = in_order_with_next (run.month + 1) mid new first.0.version in_order set;
         },
-        books_with_next (run.month + 1) mid new in_order set ∙ ap (λ (books : Books). let it : Books = record books { next = run.month + 1 } in it) first.1,
+        books_with_next (run.month + 1) mid new first.0.version in_order set
+            ∙ ap (λ (books : Books). let it : Books = record books { next = run.month + 1 } in it) first.1,
       )
 
-  on_ok_next : {X E : Type 0} (r : Result X E) → AreInOrder old.now.trees → StaysInTransaction old mid
+  on_ok_next : {X E : Type 0} (r : Result X E) → IsWriting old → StaysInTransaction old mid
       → Adds run_shape nat_cmp run old mid → OnOk r (StaysInTransaction mid new)
       → OnOk r (SetsNext (run.month + 1) mid new) → OnOk r Opened
   on_ok_next (Ok x) order on added on_next set = after_both order on added on_next set
@@ -170,7 +180,7 @@ module _ (run : Run) (old mid new : State) where
         put = λ clean.
             let half : HasCleanDisk mid = omega (arith, after.clean, clean) in
             let early : HasCleanDisk old = omega (arith, both.clean, clean) in
-            on_ok_next r (writing early).in_order (on half) (added half) (on_next clean) (set clean);
+            on_ok_next r (writing early) (on half) (added half) (on_next clean) (set clean);
         kept = λ clean.
             let half : HasCleanDisk mid = omega (arith, after.clean, clean) in
             let first : KeepsCommit old mid = record { was_open = λ _. (on half).was_open; committed = λ _. (on half).committed_is } in

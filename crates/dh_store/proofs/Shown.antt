@@ -4,6 +4,7 @@ use Rattle.std.specs.FinMap.{get, len}
 use Rattle.sqlite_trees.specs.Tree.{Trees}
 use Rattle.dh_types.proofs.SameValues.{texts}
 use Rattle.dh_types.specs.declared.property.Property.{Property}
+use Rattle.dh_types.specs.declared.version.Version.{Version}
 use Rattle.dh_types.specs.declared.command.Command.{Command}
 use Rattle.dh_types.specs.declared.lease.Receipt.{Receipt}
 use Rattle.dh_types.specs.declared.reply.Refusal.{Refusal}
@@ -56,10 +57,13 @@ cut_of told t t1 run count gathered books same rows set month counted = record {
   month = ap (λ (s : State). month_open s.open_run) set ∙ month;
 }
 
--- books of the tables' months that have no rows
-pub bare_of : (t : State) (first next : ℕ) → first ≡ t.books.first → next ≡ t.books.next
-    → record { books = record (empty_books first) { next = next }; open_run = None } ≡ bare t
-bare_of t first next is_first is_next = λ i. record { books = record (empty_books (is_first i)) { next = is_next i }; open_run = None }
+-- books of the tables' version and months that have no rows
+pub bare_of : (t : State) (version : Version) (first next : ℕ) → version ≡ t.books.version → first ≡ t.books.first → next ≡ t.books.next
+    → record { books = record (empty_books first) { next = next; version = version }; open_run = None } ≡ bare t
+bare_of t version first next is_version is_first is_next = λ i. record {
+  books = record (empty_books (is_first i)) { next = is_next i; version = is_version i };
+  open_run = None;
+}
 
 -- what an open run refuses, a run of the same month refuses
 of_month : (run : Option OpenRun) → refusal_of run ≡ option_map refusal.RunOpen (month_open run)

@@ -20,7 +20,9 @@ ghost use Rattle.dh_schema.specs.Faults.{IsFirstFault};
 ghost use Rattle.dh_schema.specs.Store.{IsReady, Leaves, StaysReady, tables};
 ghost use Rattle.dh_store.specs.Reading.{OnlyReads};
 
-use crate::looks::{find_open_run, look, look_at_all, months_now, no_rows};
+use crate::looks::{
+    find_open_run, held_leases, look, look_at_all, look_at_endings, months_now, no_rows,
+};
 use dh_answers::{answer, is_put_off};
 use dh_books::Books;
 use dh_schema::StoreFault;
@@ -32,7 +34,7 @@ use dh_types::{Answer, Branch, EntryMonth, Id, Lease, LeaseNo, Property, Questio
 use sqlite::{Alter, Connection};
 use std::alloc::{AllocError, Global};
 
-// The properties, and the leases on them.
+// The properties, the leases on them, and the endings of these.
 fn gather_lettings<S: Alter>(
     alloc: Global,
     conn: &mut Connection<S>,
@@ -46,6 +48,7 @@ fn gather_lettings<S: Alter>(
 {
     look_at_all::<Property, S>(alloc, conn, books)?;
     look_at_all::<Lease, S>(alloc, conn, books)?;
+    look_at_endings(alloc, conn, books)?;
     Ok(())
 }
 
@@ -189,28 +192,6 @@ fn gather_accounts<S: Alter>(
         put_account(alloc, conn, lease, books)?;
     }
     Ok(())
-}
-
-// The leases that the books have.
-fn listed_leases(alloc: Global, books: &Books) -> Result<Vec<Lease>, AllocError>
-    ensures { IfOk result (λ leases. leases.items ≡ fin.values books.now.books.leases) }
-{
-    let mut leases = Vec::new(alloc);
-    for lease in books.leases() {
-        leases.push(*lease)?;
-    }
-    Ok(leases)
-}
-
-// The same, where want of memory is told as the fault that it is.
-fn held_leases(alloc: Global, books: &Books) -> Result<Vec<Lease>, StoreFault>
-    ensures leases { IfOk result (λ leases. leases.items ≡ fin.values books.now.books.leases) }
-    ensures cause { IfErr result IsFirstFault }
-{
-    match listed_leases(alloc, books) {
-        Ok(leases) => Ok(leases),
-        Err(error) => Err(error.into()),
-    }
 }
 
 // The branch, all properties, and the leases of the branch's properties.

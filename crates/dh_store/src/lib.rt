@@ -9,5 +9,7 @@ mod verdicts;
 
 pub use answers::look_up;
 pub use changes::apply;
-pub use looks::{KeptRecord, find_open_run, look, look_at_all, months_now, no_rows};
+pub use looks::{
+    KeptRecord, find_open_run, look, look_at_all, look_at_endings, months_now, no_rows,
+};
 pub use verdicts::ask;

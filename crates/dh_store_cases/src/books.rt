@@ -4,13 +4,13 @@ use dh_agency_scripts::{books_text, compare, rows_of};
 use dh_fields::Request;
 use dh_rules::{Books, answer, step};
 use dh_scripts::{Tally, Unreadable, answer_text, copy_of, january, request};
-use dh_types::{Command, Question};
+use dh_types::{Command, Question, Version};
 use std::alloc::{AllocError, Global};
 use std::{io, mem};
 
-/// Books that begin with 2025-01.
+/// Books of the first version that begin with 2025-01.
 pub fn empty(alloc: Global) -> Books {
-    Books::new(alloc, january(), january())
+    Books::new(alloc, Version::First, january(), january())
 }
 
 // The machine's step: the text of its reply.

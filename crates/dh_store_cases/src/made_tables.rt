@@ -1,7 +1,7 @@
 //! The tables made.
 
-use dh_agency_scripts::{compare, found, install_text, parted};
-use dh_schema::{install, version};
+use dh_agency_scripts::{compare, found, install_text, parted, version_text};
+use dh_schema::install;
 use dh_scripts::{Tally, january};
 use dh_types::Month;
 use sqlite::{Alter, Connection};
@@ -13,10 +13,7 @@ fn version_made<S: Alter>(alloc: Global, conn: &mut Connection<S>) -> Result<Str
     if let Err(fault) = install(alloc, conn, january()) {
         return format!(in alloc; "{}", fault.fault());
     }
-    match version(alloc, conn) {
-        Ok(number) => format!(in alloc; "version {number}"),
-        Err(_) => "no version".to_string(alloc),
-    }
+    version_text(alloc, conn)
 }
 
 fn made_over<S: Alter>(

@@ -29,7 +29,10 @@ fn play_named(rt: &HostRuntime, tally: &mut Tally, kind: &str, lines: &str) -> i
         return rows::play_rows(rt, tally, record, lines);
     }
     if let Some(statements) = kind.strip_prefix("tables behind ") {
-        return edited_tables::play(rt, tally, statements, lines);
+        return edited_tables::play_first(rt, tally, statements, lines);
+    }
+    if let Some(statements) = kind.strip_prefix("later tables behind ") {
+        return edited_tables::play_second(rt, tally, statements, lines);
     }
     compare(rt, tally, kind, "no such kind", "a kind")
 }

@@ -4,8 +4,8 @@ use dh_agency_scripts::{compare, parted};
 use dh_rows::{Meta, Record};
 use dh_scripts::{Row as Words, Tally, ToLine, Unreadable, row_of};
 use dh_types::{
-    Branch, Charge, Client, Inspection, Lease, Owner, Part, Property, Receipt, Registration, Run,
-    Staff, Viewing,
+    Branch, Charge, Client, Ending, Inspection, Lease, Owner, Part, Property, Receipt,
+    Registration, Run, Staff, Version, Viewing,
 };
 use sqlite::types::ValueRef;
 use sqlite::{Alter, Connection, Row};
@@ -20,10 +20,18 @@ fn read<R: Record + ToLine + Drop>(alloc: Global, row: &Row) -> Result<String, A
     }
 }
 
-// The numbers of the months that the row is.
+// The numbers of the months that the row is, and of which version it is where that is not the first.
+fn months_text(alloc: Global, months: Meta) -> Result<String, AllocError> {
+    let (first, next) = (months.first().number(), months.next().number());
+    match months.version() {
+        Version::First => format!(in alloc; "{first} {next}"),
+        Version::Second => format!(in alloc; "{first} {next} of the second version"),
+    }
+}
+
 fn months(alloc: Global, row: &Row) -> Result<String, AllocError> {
     match Meta::from_row(alloc, row)? {
-        Some(months) => format!(in alloc; "{} {}", months.first().number(), months.next().number()),
+        Some(months) => months_text(alloc, months),
         None => "none".to_string(alloc),
     }
 }
@@ -32,6 +40,7 @@ fn months(alloc: Global, row: &Row) -> Result<String, AllocError> {
 fn lease_row_as(alloc: Global, kind: &str, row: &Row) -> Result<String, AllocError> {
     match kind {
         "lease" => read::<Lease>(alloc, row),
+        "ending" => read::<Ending>(alloc, row),
         "charge" => read::<Charge>(alloc, row),
         "receipt" => read::<Receipt>(alloc, row),
         "run" => read::<Run>(alloc, row),
@@ -103,6 +112,7 @@ fn lease_back<S: Alter>(
 ) -> Result<String, AllocError> {
     match words {
         Words::Lease(it) => back(alloc, conn, it),
+        Words::Ending(it) => back(alloc, conn, it),
         Words::Charge(it) => back(alloc, conn, it),
         Words::Receipt(it) => back(alloc, conn, it),
         Words::Run(it) => back(alloc, conn, it),

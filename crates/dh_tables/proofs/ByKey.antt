@@ -1,5 +1,5 @@
 -- A test of the whole key asks for exactly the record that has it.
-use Rattle.std.proofs.Common.{◌≡◌, true, refl, ℕ, Bool, List}
+use Rattle.std.proofs.Common.{refl, ℕ, Bool, List}
 use Rattle.std.proofs.lemmas.Bool.{and_parts}
 use Rattle.std.specs.Prelude.{◌&&◌, nat_eq}
 use Rattle.dh_types.specs.Laws.{TellsApart}

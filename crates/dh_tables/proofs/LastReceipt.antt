@@ -1,14 +1,14 @@
 -- The row of the greatest number, as the last receipt.
 use Rattle.std.proofs.Common.{◌≡◌, ◌∙◌, ◌≤◌, pos, inl, inr, refl, sym, ap, subst, ℕ, List, [], ◌∷◌, codes, map, cond, Bool, true, false}
 use Rattle.std.proofs.Common.{Option, Some, None, Result, Ok, Err, IfOk, is_eq, nat_cmp, arith}
-use Rattle.std.specs.List.{AllByRecursion, IsDistinct}
+use Rattle.std.specs.List.{IsDistinct}
 use Rattle.std.specs.Ordering.{eq_by_cmp}
 use Rattle.std.specs.FinMap.{FinMap, empty, find, get, get-empty, get-from_entries, from_entries}
 use Rattle.std.proofs.lemmas.Bool.Decides.{nat_tests}
 use Rattle.std.proofs.lemmas.Cmp.{tied_itself}
 use Rattle.sqlite_value.specs.declared.value.Value.TheVariants.{Int}
 use Rattle.sqlite_value.specs.Order.{Row, column}
-use Rattle.sqlite_sql.specs.Term.{Term, col}
+use Rattle.sqlite_sql.specs.Term.{col}
 use Rattle.sqlite_tied.specs.Compute.{everything}
 use Rattle.sqlite_trees.specs.Tree.{Trees}
 use Rattle.sqlite_rules.specs.Lists.{Has}
@@ -19,7 +19,9 @@ use Rattle.dh_model.proofs.Among.{in_map}
 use Rattle.dh_model.proofs.KeyOrders.{nat_ties, nat_total}
 use Rattle.dh_model.proofs.MapRows.{found_entry, get_new}
 use Rattle.dh_laws.specs.Looks.{IsLast}
-use Rattle.dh_catalog.specs.Layout.{our_schema}
+use Rattle.sqlite_schema.specs.declared.schema.Schema.{Schema}
+use Rattle.dh_types.specs.declared.version.Version.TheVariants.{First}
+use Rattle.dh_catalog.specs.Versions.{HasSince, of_both}
 use Rattle.dh_sql.specs.Shape.{IsGreatest, IsKept, IsStored, entry_in, number_at, rows_in, rows_of, stored_in}
 use Rattle.dh_sql.specs.Texts.{IsLastText}
 use Rattle.dh_sql.proofs.Casting.{pass_each}
@@ -31,9 +33,11 @@ use Rattle.dh_tables.specs.ReceiptTable.{receipt_cells, receipt_columns, receipt
 abbrev pub last_text : List ℕ
 last_text = codes "SELECT receipt_no, req_key, lease_no, kind, amount, day FROM receipt ORDER BY receipt_no DESC LIMIT 1"
 
-pub last_is : IsLastText last_text our_schema 20 receipt_project (col 1 0) receipt_names
+pub last_is : (s : Schema) → HasSince First s → IsLastText last_text s 20 receipt_project (col 1 0) receipt_names
 unfolding understood everything
-last_is = record { command = refl; unlisted = refl; plain = (refl, refl); stored = λ db. refl }
+last_is = of_both (λ s. IsLastText last_text s 20 receipt_project (col 1 0) receipt_names)
+    (record { command = refl; unlisted = refl; plain = (refl, refl); stored = λ db. refl })
+    (record { command = refl; unlisted = refl; plain = (refl, refl); stored = λ db. refl })
 
 -- the rowid is the number
 pub numbered : (r : Row) → IsStored receipt_shape r → column r 0 ≡ Int (pos (number_at receipt_shape r))

@@ -11,9 +11,11 @@ use Rattle.sqlite_rules.specs.Edit.{with_rowid}
 use Rattle.sqlite_rules.specs.declared.error.Rowids.TheVariants.{Chosen}
 use Rattle.sqlite_trees.specs.Tree.{put_row}
 use Rattle.sqlite.specs.State.{Executes, Shown, State}
+use Rattle.dh_rows.specs.Cells.{version_number}
 use Rattle.dh_rows.specs.Months.{Months}
 use Rattle.dh_rows.specs.MetaRows.{meta_row, is_meta_row}
-use Rattle.dh_catalog.specs.Layout.{our_schema}
+use Rattle.dh_types.specs.declared.version.Version.TheVariants.{First}
+use Rattle.dh_catalog.specs.Versions.{HasSince}
 use Rattle.dh_catalog.specs.MetaTable.{meta}
 use Rattle.dh_sql.proofs.Casting.{cast_int, cast_null}
 use Rattle.dh_sql.proofs.Inserting.{inserts}
@@ -29,26 +31,28 @@ abbrev stored : Months → Row
 stored m = own_rowid meta_row m
 
 cast_stored : (m : Months) → cast_row meta (stored m) ≡ stored m
-cast_stored m = rw (cast_int (pos 1), cast_null, cast_int (pos m.first), cast_int (pos m.next)) refl
+cast_stored m = rw (cast_int (pos 1), cast_null, cast_int (pos (version_number m.version)), cast_int (pos m.first), cast_int (pos m.next)) refl
 
-pub adds_meta : (old new : State) (m : Months) (count : ℕ) → old.now.schema ≡ our_schema → old.now.trees 0 ≡ [] → is_meta_row (meta_row m) ≡ true
+pub adds_meta : (old new : State) (m : Months) (count : ℕ) → HasSince First old.now.schema → old.now.trees 0 ≡ [] → is_meta_row (meta_row m) ≡ true
     → Executes meta_inserts (meta_row m) old new (Ok count) → SetsMonths m old new
 adds_meta old new m count has empty good h =
-    let it = inserts meta_inserts our_schema 0 meta meta_terms 5 (meta_row m) (stored m) quiet (meta_inserts_is m) old new count has h in
+    let it = inserts meta_inserts old.now.schema 0 meta meta_terms 5 (meta_row m) (stored m) (quiet old.now.schema has)
+    (meta_inserts_is old.now.schema has m) old new count refl h in
     let row = ap (with_rowid Chosen (old.now.trees 0)) (cast_stored m) in
     let rows = it.1.rows ∙ ap (λ (r : Row). put_row r (old.now.trees 0)) row ∙ ap (put_row (stored m)) empty in
     record {
       schema_is = it.0;
       listed = it.2;
       months_are = record { rows_are = ap (map meta_columns) rows; grammar = good };
-      others = others_stay our_schema 0 old.now.trees new.now.trees it.1.others;
+      others = others_stay old.now.schema 0 old.now.trees new.now.trees it.1.others;
     }
 
 -- ---- the rows that are shown
 
-pub all_shown : (r : Result (Vec Row Global) Error) (old new : State) → old.now.schema ≡ our_schema
+pub all_shown : (r : Result (Vec Row Global) Error) (old new : State) → HasSince First old.now.schema
     → IfOk r (λ rows. Shown meta_shown [] old new rows.items) → IfOk r (λ rows. IsPermutation (meta_rows old.now.trees) rows.items)
-all_shown r old new has = shows_all meta_shown our_schema 0 meta_project meta_names meta_shown_is meta_columns (λ row. refl) old new has r
+all_shown r old new has =
+    shows_all meta_shown old.now.schema 0 meta_project meta_names (meta_shown_is old.now.schema has) meta_columns (λ row. refl) old new refl r
 
 -- rows in another order have the same months
 moved_months : (m : Months) (rows shown : List Row) → IsPermutation rows shown → AreMonths m rows → AreMonths m shown

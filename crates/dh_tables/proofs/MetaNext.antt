@@ -1,5 +1,5 @@
 -- What an UPDATE of the next month leaves.
-use Rattle.std.proofs.Common.{◌≡◌, ◌≤◌, ◌∙◌, ap, arith, subst, sym, inl, inr, refl, true, ℕ, pos, negsuc, List, [], ◌∷◌, map, drop, Ok, Some}
+use Rattle.std.proofs.Common.{◌≡◌, ◌≤◌, ◌∙◌, ap, arith, subst, sym, inl, inr, refl, true, ℕ, zero, suc, pos, negsuc, List, [], ◌∷◌, map, drop, Ok, Some}
 use Rattle.std.specs.List.{AllByRecursion, IsDistinct}
 use Rattle.std.specs.FinMap.{find, get, get-from_entries, insert}
 use Rattle.std.specs.Ordering.{eq_by_cmp, nat_cmp}
@@ -14,11 +14,11 @@ use Rattle.sqlite.specs.State.{Executes, State}
 use Rattle.dh_days.specs.declared.limits.TheConstants.{FIRST_MONTH, LAST_ENTRY_MONTH, LAST_NEXT_MONTH}
 use Rattle.dh_model.proofs.KeyOrders.{nat_total, nat_ties}
 use Rattle.dh_model.proofs.MapRows.{get_new}
-use Rattle.dh_rows.specs.declared.limits.TheConstants.{VERSION}
-use Rattle.dh_rows.specs.Cells.{is_number_cell, number_in}
+use Rattle.dh_rows.specs.Cells.{is_number_cell, is_version_cell, number_in, version_in, version_number}
 use Rattle.dh_rows.specs.Months.{Months}
-use Rattle.dh_rows.specs.MetaRows.{meta_row, is_meta_row, months_in}
-use Rattle.dh_catalog.specs.Layout.{our_schema}
+use Rattle.dh_rows.specs.MetaRows.{meta_row, is_meta_row, months_back, months_in}
+use Rattle.dh_types.specs.declared.version.Version.TheVariants.{First}
+use Rattle.dh_catalog.specs.Versions.{HasSince}
 use Rattle.dh_catalog.specs.MetaTable.{meta}
 use Rattle.dh_sql.specs.CellTests.{AreCells, Cell}
 use Rattle.dh_sql.specs.Changes.{Becomes, IsTurnedInto}
@@ -33,7 +33,7 @@ use Rattle.dh_tables.proofs.Quiet.{quiet}
 
 abbrev meta_cells : List Cell
 meta_cells =
-    number_from 1 1 ∷ number_from VERSION VERSION ∷ number_from FIRST_MONTH LAST_ENTRY_MONTH ∷ number_from FIRST_MONTH LAST_NEXT_MONTH ∷ []
+    number_from 1 1 ∷ number_from 1 2 ∷ number_from FIRST_MONTH LAST_ENTRY_MONTH ∷ number_from FIRST_MONTH LAST_NEXT_MONTH ∷ []
 
 -- each row has the same key
 abbrev meta_shape : Shape ℕ Months
@@ -49,6 +49,17 @@ exact_number n Null h = cc
 exact_number n (Real x) h = cc
 exact_number n (Text t) h = cc
 exact_number n (Blob b) h = cc
+
+exact_version : (v : Value) → is_version_cell v ≡ true → v ≡ Int (pos (version_number (version_in v)))
+exact_version (Int (pos zero)) h = cc
+exact_version (Int (pos (suc zero))) h = refl
+exact_version (Int (pos (suc (suc zero)))) h = refl
+exact_version (Int (pos (suc (suc (suc k))))) h = absurd (grind (arith, nat_tests))
+exact_version (Int (negsuc k)) h = cc
+exact_version Null h = cc
+exact_version (Real x) h = cc
+exact_version (Text t) h = cc
+exact_version (Blob b) h = cc
 
 -- ---- a table that has its row
 
@@ -77,6 +88,7 @@ module _ (m : Months) (trees : Trees) (has : HasMonths m trees) (r : Row) (rows_
   meta_there =
       get-from_entries nat_total (map (entry_in meta_shape) (trees 0)) 1
       ∙ ap (λ (rows : List Row). find nat_cmp 1 (map (entry_in meta_shape) rows)) rows_is ∙ ap (λ (row : Row). Some (months_in row)) columns_are
+      ∙ ap Some (months_back m has.grammar)
 
 -- ---- the text finds the row and turns it
 
@@ -106,7 +118,7 @@ whole : (r : Row) → IsStored meta_shape r → meta_columns r ≡ meta_row (sto
 whole r good =
     let c = (pass_each meta_cells true (meta_columns r) good).1 in
     let id = exact_number 1 (column r 0) c.0 in
-    let version = exact_number VERSION (column r 2) c.1.0 in
+    let version = exact_version (column r 2) c.1.0 in
     let first = is_number FIRST_MONTH LAST_ENTRY_MONTH (column r 3) c.1.1.0 in
     let next = is_number FIRST_MONTH LAST_NEXT_MONTH (column r 4) c.1.1.1.0 in
     λ i. id i ∷ version i ∷ first i ∷ next i ∷ []
@@ -121,7 +133,7 @@ months_there m (r ∷ []) all d h =
     record { rows_are = ap (λ (row : Row). row ∷ []) columns; grammar = sym (ap is_meta_row columns) ∙ all.0 }
 months_there m (r ∷ s ∷ rows) all d h = let no = d.0.0 in absurd (cc)
 
-pub sets_next : (old new : State) (next count : ℕ) → old.now.schema ≡ our_schema → FIRST_MONTH ≤ next → next ≤ LAST_NEXT_MONTH
+pub sets_next : (old new : State) (next count : ℕ) → HasSince First old.now.schema → FIRST_MONTH ≤ next → next ≤ LAST_NEXT_MONTH
     → Executes meta_updates (given next) old new (Ok count) → (m : Months) → HasMonths m old.now.trees → SetsMonths (record m { next = next }) old new
 sets_next old new next count schema from to h m has =
     let row = the_row m (old.now.trees 0) has.rows_are in
@@ -130,9 +142,10 @@ sets_next old new next count schema from to h m has =
     let now = new.now.trees in
     let y : Months = record m { next = next } in
     let there = meta_there m was has r row.1 row.2 in
-    let done : Becomes meta_shape nat_cmp our_schema (insert (rows_in meta_shape was) 1 y) old new =
-    amends nat_total nat_ties meta_shape meta_updates our_schema quiet 0 meta meta_tests meta_becomes meta_updates_is refl old new (given next) count 1 m y
-    schema (meta_kept m was has r row.1 row.2) (meta_apart m was has r row.1 row.2) (meta_finds next) (λ r. refl) (meta_turns next m from to) there refl h in
+    let done : Becomes meta_shape nat_cmp old.now.schema (insert (rows_in meta_shape was) 1 y) old new =
+    amends nat_total nat_ties meta_shape meta_updates old.now.schema (quiet old.now.schema schema) 0 meta meta_tests meta_becomes
+    (meta_updates_is old.now.schema schema) refl old new (given next) count 1 m y
+    refl (meta_kept m was has r row.1 row.2) (meta_apart m was has r row.1 row.2) (meta_finds next) (λ r. refl) (meta_turns next m from to) there refl h in
     let found = sym (get-from_entries nat_total (map (entry_in meta_shape) (now 0)) 1) ∙ ap (λ n. get n 1) done.rows
     ∙ get_new nat_total nat_ties (rows_in meta_shape was) 1 y in
     record {

@@ -9,7 +9,9 @@ use Rattle.sqlite_tied.specs.Compute.{everything}
 use Rattle.sqlite.specs.Listing.{understood}
 use Rattle.dh_rows.specs.Months.{Months}
 use Rattle.dh_rows.specs.MetaRows.{meta_row}
-use Rattle.dh_catalog.specs.Layout.{our_schema}
+use Rattle.sqlite_schema.specs.declared.schema.Schema.{Schema}
+use Rattle.dh_types.specs.declared.version.Version.TheVariants.{First}
+use Rattle.dh_catalog.specs.Versions.{HasSince, of_both}
 use Rattle.dh_catalog.specs.MetaTable.{meta}
 use Rattle.dh_sql.specs.Texts.{IsInsertText, IsSelectText, IsUpdateText}
 use Rattle.dh_tables.specs.Tables.{own_rowid}
@@ -20,9 +22,11 @@ meta_inserts = codes "INSERT INTO meta (id, version, first_month, next_month) VA
 abbrev pub meta_terms : List Term
 meta_terms = col 0 0 ∷ lit Null ∷ col 0 1 ∷ col 0 2 ∷ col 0 3 ∷ []
 
-pub meta_inserts_is : (m : Months) → IsInsertText meta_inserts our_schema 0 meta meta_terms 5 (meta_row m) (own_rowid meta_row m)
+pub meta_inserts_is : (s : Schema) → HasSince First s → (m : Months) → IsInsertText meta_inserts s 0 meta meta_terms 5 (meta_row m) (own_rowid meta_row m)
 unfolding understood everything
-meta_inserts_is m = record { command = refl; plain = (refl, refl); listed = refl; is_uncounted = refl; value = refl }
+meta_inserts_is = of_both (λ s. (m : Months) → IsInsertText meta_inserts s 0 meta meta_terms 5 (meta_row m) (own_rowid meta_row m))
+    (λ m. record { command = refl; plain = (refl, refl); listed = refl; is_uncounted = refl; value = refl })
+    (λ m. record { command = refl; plain = (refl, refl); listed = refl; is_uncounted = refl; value = refl })
 
 abbrev pub meta_shown : List ℕ
 meta_shown = codes "SELECT id, version, first_month, next_month FROM meta"
@@ -33,9 +37,11 @@ meta_project = col 1 0 ∷ col 1 2 ∷ col 1 3 ∷ col 1 4 ∷ []
 abbrev pub meta_names : List (List ℕ)
 meta_names = codes "id" ∷ codes "version" ∷ codes "first_month" ∷ codes "next_month" ∷ []
 
-pub meta_shown_is : IsSelectText meta_shown our_schema 0 [] meta_project [] meta_names
+pub meta_shown_is : (s : Schema) → HasSince First s → IsSelectText meta_shown s 0 [] meta_project [] meta_names
 unfolding understood everything
-meta_shown_is = record { command = refl; unlisted = refl; plain = (refl, refl); stored = λ db. refl }
+meta_shown_is = of_both (λ s. IsSelectText meta_shown s 0 [] meta_project [] meta_names)
+    (record { command = refl; unlisted = refl; plain = (refl, refl); stored = λ db. refl })
+    (record { command = refl; unlisted = refl; plain = (refl, refl); stored = λ db. refl })
 
 abbrev pub meta_updates : List ℕ
 meta_updates = codes "UPDATE meta SET next_month = ?1 WHERE id = 1"
@@ -46,6 +52,8 @@ meta_tests = op2 (Compare Eq Binary) (col 1 0) (lit (Int (pos 1))) ∷ []
 abbrev pub meta_becomes : List Term
 meta_becomes = col 1 0 ∷ col 1 0 ∷ lit Null ∷ col 1 2 ∷ col 1 3 ∷ col 0 0 ∷ []
 
-pub meta_updates_is : IsUpdateText meta_updates our_schema 0 meta meta_tests meta_becomes
+pub meta_updates_is : (s : Schema) → HasSince First s → IsUpdateText meta_updates s 0 meta meta_tests meta_becomes
 unfolding understood everything
-meta_updates_is = record { command = refl; plain = (refl, refl); listed = refl; stored = λ db. refl }
+meta_updates_is = of_both (λ s. IsUpdateText meta_updates s 0 meta meta_tests meta_becomes)
+    (record { command = refl; plain = (refl, refl); listed = refl; stored = λ db. refl })
+    (record { command = refl; plain = (refl, refl); listed = refl; stored = λ db. refl })

@@ -5,7 +5,9 @@ use Rattle.sqlite_sql.specs.Term.{Term}
 use Rattle.sqlite_schema.specs.declared.schema.Table.{Table}
 use Rattle.sqlite_trees.specs.Tree.{rowid}
 use Rattle.sqlite_trees.specs.View.{is_int}
-use Rattle.dh_catalog.specs.Layout.{our_schema}
+use Rattle.sqlite_schema.specs.declared.schema.Schema.{Schema}
+use Rattle.dh_types.specs.declared.version.Version.{Version}
+use Rattle.dh_catalog.specs.Versions.{HasSince}
 use Rattle.dh_sql.specs.Changes.{IsTurnedInto}
 use Rattle.dh_sql.specs.Queries.{passes_all, shows}
 use Rattle.dh_sql.specs.Shape.{IsStored, Shape, stored_in}
@@ -20,9 +22,10 @@ pub record Amending : Type 0 where
   pub project : List Term
 
 -- the text finds the row of the key and makes it that of the amended record
-pub record IsAmending {K X Q : Type 0} (it : Shape K X) (amending : Amending) (can_amend : Q → Type 0) (given : Q → Row) (key : Q → K) (amended : Q → X → X)
+pub record IsAmending {K X Q : Type 0} (since : Version) (it : Shape K X) (amending : Amending) (can_amend : Q → Type 0) (given : Q → Row)
+    (key : Q → K) (amended : Q → X → X)
     : Type 0 where
-  pub means : IsUpdateText amending.text our_schema amending.place amending.table amending.tests amending.project
+  pub means : (s : Schema) → HasSince since s → IsUpdateText amending.text s amending.place amending.table amending.tests amending.project
   pub tree_is : amending.table.tree ≡ it.tree
   pub finds : (q : Q) (r : Row) → IsStored it r
       → (passes_all (given q) amending.tests r ≡ true → it.key (stored_in it r) ≡ key q)

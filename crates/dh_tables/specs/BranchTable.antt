@@ -13,7 +13,9 @@ use Rattle.dh_types.specs.declared.branch.Branch.{Branch}
 use Rattle.dh_model.specs.Books.{text_cmp}
 use Rattle.dh_model.specs.Checks.{is_same_text}
 use Rattle.dh_rows.specs.BranchRows.{branch_in, branch_row, is_branch_row}
-use Rattle.dh_catalog.specs.Layout.{our_schema}
+use Rattle.sqlite_schema.specs.declared.schema.Schema.{Schema}
+use Rattle.dh_types.specs.declared.version.Version.TheVariants.{First}
+use Rattle.dh_catalog.specs.Versions.{HasSince, of_both}
 use Rattle.dh_catalog.specs.BranchTable.{branch}
 use Rattle.dh_sql.specs.CellTests.{Cell}
 use Rattle.dh_sql.specs.Shape.{Shape}
@@ -55,12 +57,14 @@ branch_adding = record {
   source = without_rowid branch_row;
 }
 
-inserts : (x : Branch)
-    → IsInsertText branch_adding.text our_schema 1 branch branch_adding.terms 5 (branch_row x) (branch_adding.source x)
+inserts : (s : Schema) → HasSince First s → (x : Branch)
+    → IsInsertText branch_adding.text s 1 branch branch_adding.terms 5 (branch_row x) (branch_adding.source x)
 unfolding understood everything
-inserts x = record { command = refl; plain = (refl, refl); listed = refl; is_uncounted = refl; value = refl }
+inserts = of_both (λ s. (x : Branch) → IsInsertText branch_adding.text s 1 branch branch_adding.terms 5 (branch_row x) (branch_adding.source x))
+    (λ x. record { command = refl; plain = (refl, refl); listed = refl; is_uncounted = refl; value = refl })
+    (λ x. record { command = refl; plain = (refl, refl); listed = refl; is_uncounted = refl; value = refl })
 
-pub branch_is_adding : IsAdding branch_shape branch_row is_branch_row branch_adding
+pub branch_is_adding : IsAdding First branch_shape branch_row is_branch_row branch_adding
 branch_is_adding = record {
   tree_is = refl;
   listed = refl;
@@ -89,12 +93,16 @@ branch_listing = record {
   rowid_name = codes "rowid";
 }
 
-pub branch_is_listing : IsListing 1 branch_columns branch_listing
+pub branch_is_listing : IsListing First 1 branch_columns branch_listing
 unfolding understood everything
 branch_is_listing = record {
-  selects = record { command = refl; unlisted = refl; plain = (refl, refl); stored = λ db. refl };
+  selects = of_both (λ s. IsSelectText branch_listing.text s 1 [] branch_listing.project [] branch_listing.names)
+      (record { command = refl; unlisted = refl; plain = (refl, refl); stored = λ db. refl })
+      (record { command = refl; unlisted = refl; plain = (refl, refl); stored = λ db. refl });
   shows_columns = λ r. refl;
-  selects_rowid = record { command = refl; unlisted = refl; plain = (refl, refl); stored = λ db. refl };
+  selects_rowid = of_both (λ s. IsSelectText branch_listing.rowid_text s 1 [] (col 1 0 ∷ []) [] (branch_listing.rowid_name ∷ []))
+      (record { command = refl; unlisted = refl; plain = (refl, refl); stored = λ db. refl })
+      (record { command = refl; unlisted = refl; plain = (refl, refl); stored = λ db. refl });
 }
 
 -- ---- the branch with a number
@@ -107,11 +115,13 @@ branch_numbered = record {
   names = branch_names;
 }
 
-selects : IsSelectText branch_numbered.text our_schema 1 branch_numbered.tests branch_numbered.project [] branch_numbered.names
+selects : (s : Schema) → HasSince First s → IsSelectText branch_numbered.text s 1 branch_numbered.tests branch_numbered.project [] branch_numbered.names
 unfolding understood everything
-selects = record { command = refl; unlisted = refl; plain = (refl, refl); stored = λ db. refl }
+selects = of_both (λ s. IsSelectText branch_numbered.text s 1 branch_numbered.tests branch_numbered.project [] branch_numbered.names)
+    (record { command = refl; unlisted = refl; plain = (refl, refl); stored = λ db. refl })
+    (record { command = refl; unlisted = refl; plain = (refl, refl); stored = λ db. refl })
 
-pub branch_is_numbered : IsAsking branch_shape branch_numbered
+pub branch_is_numbered : IsAsking First branch_shape branch_numbered
     (λ (q : BranchNumbered). Unit {0}) (λ q. Text q.number ∷ []) (λ q b. is_same_text b.number q.number)
 branch_is_numbered = record {
   selects = selects;

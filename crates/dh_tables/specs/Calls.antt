@@ -6,7 +6,8 @@ use Rattle.sqlite_value.specs.Order.{Row}
 use Rattle.sqlite.specs.State.{IsRolledBack, IsUnchanged, Shows, State, Survives}
 use Rattle.dh_model.specs.Books as machine
 use Rattle.dh_model.specs.Whole.{rows_where}
-use Rattle.dh_catalog.specs.Layout.{our_schema}
+use Rattle.dh_types.specs.declared.version.Version.{Version}
+use Rattle.dh_catalog.specs.Versions.{HasSince, IsOurs}
 use Rattle.dh_sql.specs.Changes.{Becomes}
 use Rattle.dh_sql.specs.Shape.{Shape, rows_in, rows_of}
 use Rattle.dh_tables.specs.Questions.{AsksFor}
@@ -14,13 +15,22 @@ use Rattle.dh_tables.specs.Tables.{Shelf}
 
 -- the tables are ours; of their rows nothing is known
 abbrev pub HasOurTables : State → Type 0
-HasOurTables s = s.now.schema ≡ our_schema
+HasOurTables s = IsOurs s.now.schema
+
+-- they have those of this version
+abbrev pub HasTables : Version → State → Type 0
+HasTables since s = HasSince since s.now.schema
+
+-- within a transaction, over such tables
+pub record IsWritingSince (since : Version) (s : State) : Type 0 where
+  pub inside : IsTrue s.in_transaction
+  pub has : HasSince since s.now.schema
 
 -- open, within a transaction, with our tables
 pub record IsInTransaction (s : State) : Type 0 where
   pub is_open : IsTrue s.is_open
   pub inside : IsTrue s.in_transaction
-  pub schema : s.now.schema ≡ our_schema
+  pub schema : IsOurs s.now.schema
 
 -- a call that failed and left the store open has changed nothing, or has ended the transaction
 abbrev pub IsUndone : State → State → Type 0
@@ -41,7 +51,7 @@ module _ {K X : Type 0} (it : Shape K X) (R : K → K → Ordering) where
 
   -- the table has this record too
   abbrev pub Adds : X → State → State → Type 0
-  Adds x old new = Becomes it R our_schema (insert (rows_in it old.now.trees) (it.key x) x) old new
+  Adds x old new = Becomes it R old.now.schema (insert (rows_in it old.now.trees) (it.key x) x) old new
 
   -- a record of the table has this key
   abbrev pub IsThere : K → State → Type 0
@@ -50,7 +60,7 @@ module _ {K X : Type 0} (it : Shape K X) (R : K → K → Ordering) where
   -- the record that has the key has become another
   abbrev pub Amends : K → (X → X) → State → State → Type 0
   Amends key amended old new =
-      (x : X) × (get (rows_in it {R = R} old.now.trees) key ≡ Some x) × Becomes it R our_schema (insert (rows_in it old.now.trees) key (amended x)) old new
+      (x : X) × (get (rows_in it {R = R} old.now.trees) key ≡ Some x) × Becomes it R old.now.schema (insert (rows_in it old.now.trees) key (amended x)) old new
 
   -- the records that are asked for
   abbrev pub asked_in : (X → Bool) → State → FinMap R X

@@ -15,7 +15,9 @@ use Rattle.dh_days.specs.Days.{due_day_of}
 use Rattle.dh_types.specs.declared.lease.Charge.{Charge}
 use Rattle.dh_model.specs.Books.{pair_cmp}
 use Rattle.dh_rows.specs.ChargeRows.{charge_in, charge_row, is_charge_row}
-use Rattle.dh_catalog.specs.Layout.{our_schema}
+use Rattle.sqlite_schema.specs.declared.schema.Schema.{Schema}
+use Rattle.dh_types.specs.declared.version.Version.TheVariants.{First}
+use Rattle.dh_catalog.specs.Versions.{HasSince, of_both}
 use Rattle.dh_catalog.specs.ChargeTable.{charge}
 use Rattle.dh_sql.specs.CellTests.{Cell}
 use Rattle.dh_sql.specs.Shape.{Shape}
@@ -61,11 +63,14 @@ charge_adding = record {
   source = without_rowid charge_row;
 }
 
-inserts : (x : Charge) → IsInsertText charge_adding.text our_schema 10 charge charge_adding.terms 6 (charge_row x) (charge_adding.source x)
+inserts : (s : Schema) → HasSince First s → (x : Charge)
+    → IsInsertText charge_adding.text s 10 charge charge_adding.terms 6 (charge_row x) (charge_adding.source x)
 unfolding understood everything
-inserts x = record { command = refl; plain = (refl, refl); listed = refl; is_uncounted = refl; value = refl }
+inserts = of_both (λ s. (x : Charge) → IsInsertText charge_adding.text s 10 charge charge_adding.terms 6 (charge_row x) (charge_adding.source x))
+    (λ x. record { command = refl; plain = (refl, refl); listed = refl; is_uncounted = refl; value = refl })
+    (λ x. record { command = refl; plain = (refl, refl); listed = refl; is_uncounted = refl; value = refl })
 
-pub charge_is_adding : IsAdding charge_shape charge_row is_charge_row charge_adding
+pub charge_is_adding : IsAdding First charge_shape charge_row is_charge_row charge_adding
 charge_is_adding = record {
   tree_is = refl;
   listed = refl;
@@ -94,12 +99,16 @@ charge_listing = record {
   rowid_name = codes "rowid";
 }
 
-pub charge_is_listing : IsListing 18 charge_columns charge_listing
+pub charge_is_listing : IsListing First 18 charge_columns charge_listing
 unfolding understood everything
 charge_is_listing = record {
-  selects = record { command = refl; unlisted = refl; plain = (refl, refl); stored = λ db. refl };
+  selects = of_both (λ s. IsSelectText charge_listing.text s 18 [] charge_listing.project [] charge_listing.names)
+      (record { command = refl; unlisted = refl; plain = (refl, refl); stored = λ db. refl })
+      (record { command = refl; unlisted = refl; plain = (refl, refl); stored = λ db. refl });
   shows_columns = λ r. refl;
-  selects_rowid = record { command = refl; unlisted = refl; plain = (refl, refl); stored = λ db. refl };
+  selects_rowid = of_both (λ s. IsSelectText charge_listing.rowid_text s 18 [] (col 1 0 ∷ []) [] (charge_listing.rowid_name ∷ []))
+      (record { command = refl; unlisted = refl; plain = (refl, refl); stored = λ db. refl })
+      (record { command = refl; unlisted = refl; plain = (refl, refl); stored = λ db. refl });
 }
 
 -- ---- the charge of a lease with an index
@@ -112,11 +121,13 @@ charge_of = record {
   names = charge_names;
 }
 
-charge_of_selects : IsSelectText charge_of.text our_schema 18 charge_of.tests charge_project [] charge_names
+charge_of_selects : (s : Schema) → HasSince First s → IsSelectText charge_of.text s 18 charge_of.tests charge_project [] charge_names
 unfolding understood everything
-charge_of_selects = record { command = refl; unlisted = refl; plain = (refl, refl); stored = λ db. refl }
+charge_of_selects = of_both (λ s. IsSelectText charge_of.text s 18 charge_of.tests charge_project [] charge_names)
+    (record { command = refl; unlisted = refl; plain = (refl, refl); stored = λ db. refl })
+    (record { command = refl; unlisted = refl; plain = (refl, refl); stored = λ db. refl })
 
-pub charge_of_is : IsAsking charge_shape charge_of
+pub charge_of_is : IsAsking First charge_shape charge_of
     (λ (q : ChargeOf). Unit {0}) (λ q. Int (pos q.lease) ∷ Int (pos q.index) ∷ []) (λ q c. nat_eq c.lease q.lease && nat_eq c.index q.index)
 charge_of_is = record {
   selects = charge_of_selects;
@@ -137,11 +148,13 @@ charges_of_lease = record {
   names = charge_names;
 }
 
-charges_of_lease_selects : IsSelectText charges_of_lease.text our_schema 18 charges_of_lease.tests charge_project [] charge_names
+charges_of_lease_selects : (s : Schema) → HasSince First s → IsSelectText charges_of_lease.text s 18 charges_of_lease.tests charge_project [] charge_names
 unfolding understood everything
-charges_of_lease_selects = record { command = refl; unlisted = refl; plain = (refl, refl); stored = λ db. refl }
+charges_of_lease_selects = of_both (λ s. IsSelectText charges_of_lease.text s 18 charges_of_lease.tests charge_project [] charge_names)
+    (record { command = refl; unlisted = refl; plain = (refl, refl); stored = λ db. refl })
+    (record { command = refl; unlisted = refl; plain = (refl, refl); stored = λ db. refl })
 
-pub charges_of_lease_is : IsAsking charge_shape charges_of_lease
+pub charges_of_lease_is : IsAsking First charge_shape charges_of_lease
     (λ (q : ChargesOfLease). Unit {0}) (λ q. Int (pos q.lease) ∷ []) (λ q c. nat_eq c.lease q.lease)
 charges_of_lease_is = record {
   selects = charges_of_lease_selects;
@@ -161,11 +174,13 @@ charges_of_month = record {
   names = charge_names;
 }
 
-charges_of_month_selects : IsSelectText charges_of_month.text our_schema 18 charges_of_month.tests charge_project [] charge_names
+charges_of_month_selects : (s : Schema) → HasSince First s → IsSelectText charges_of_month.text s 18 charges_of_month.tests charge_project [] charge_names
 unfolding understood everything
-charges_of_month_selects = record { command = refl; unlisted = refl; plain = (refl, refl); stored = λ db. refl }
+charges_of_month_selects = of_both (λ s. IsSelectText charges_of_month.text s 18 charges_of_month.tests charge_project [] charge_names)
+    (record { command = refl; unlisted = refl; plain = (refl, refl); stored = λ db. refl })
+    (record { command = refl; unlisted = refl; plain = (refl, refl); stored = λ db. refl })
 
-pub charges_of_month_is : IsAsking charge_shape charges_of_month
+pub charges_of_month_is : IsAsking First charge_shape charges_of_month
     (λ (q : ChargesOfMonth). Unit {0}) (λ q. Int (pos q.month) ∷ []) (λ q c. nat_eq c.month q.month)
 charges_of_month_is = record {
   selects = charges_of_month_selects;

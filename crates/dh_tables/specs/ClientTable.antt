@@ -15,7 +15,9 @@ use Rattle.dh_types.specs.declared.client.Client.{Client}
 use Rattle.dh_model.specs.Books.{text_cmp}
 use Rattle.dh_model.specs.Checks.{is_same_text}
 use Rattle.dh_rows.specs.ClientRows.{client_in, client_row, is_client_row}
-use Rattle.dh_catalog.specs.Layout.{our_schema}
+use Rattle.sqlite_schema.specs.declared.schema.Schema.{Schema}
+use Rattle.dh_types.specs.declared.version.Version.TheVariants.{First}
+use Rattle.dh_catalog.specs.Versions.{HasSince, of_both}
 use Rattle.dh_catalog.specs.ClientTable.{client}
 use Rattle.dh_sql.specs.CellTests.{Cell}
 use Rattle.dh_sql.specs.Shape.{Shape}
@@ -57,11 +59,14 @@ client_adding = record {
   source = without_rowid client_row;
 }
 
-inserts : (x : Client) → IsInsertText client_adding.text our_schema 5 client client_adding.terms 6 (client_row x) (client_adding.source x)
+inserts : (s : Schema) → HasSince First s → (x : Client)
+    → IsInsertText client_adding.text s 5 client client_adding.terms 6 (client_row x) (client_adding.source x)
 unfolding understood everything
-inserts x = record { command = refl; plain = (refl, refl); listed = refl; is_uncounted = refl; value = refl }
+inserts = of_both (λ s. (x : Client) → IsInsertText client_adding.text s 5 client client_adding.terms 6 (client_row x) (client_adding.source x))
+    (λ x. record { command = refl; plain = (refl, refl); listed = refl; is_uncounted = refl; value = refl })
+    (λ x. record { command = refl; plain = (refl, refl); listed = refl; is_uncounted = refl; value = refl })
 
-pub client_is_adding : IsAdding client_shape client_row is_client_row client_adding
+pub client_is_adding : IsAdding First client_shape client_row is_client_row client_adding
 client_is_adding = record {
   tree_is = refl;
   listed = refl;
@@ -90,12 +95,16 @@ client_listing = record {
   rowid_name = codes "rowid";
 }
 
-pub client_is_listing : IsListing 9 client_columns client_listing
+pub client_is_listing : IsListing First 9 client_columns client_listing
 unfolding understood everything
 client_is_listing = record {
-  selects = record { command = refl; unlisted = refl; plain = (refl, refl); stored = λ db. refl };
+  selects = of_both (λ s. IsSelectText client_listing.text s 9 [] client_listing.project [] client_listing.names)
+      (record { command = refl; unlisted = refl; plain = (refl, refl); stored = λ db. refl })
+      (record { command = refl; unlisted = refl; plain = (refl, refl); stored = λ db. refl });
   shows_columns = λ r. refl;
-  selects_rowid = record { command = refl; unlisted = refl; plain = (refl, refl); stored = λ db. refl };
+  selects_rowid = of_both (λ s. IsSelectText client_listing.rowid_text s 9 [] (col 1 0 ∷ []) [] (client_listing.rowid_name ∷ []))
+      (record { command = refl; unlisted = refl; plain = (refl, refl); stored = λ db. refl })
+      (record { command = refl; unlisted = refl; plain = (refl, refl); stored = λ db. refl });
 }
 
 -- ---- the client with a number
@@ -108,11 +117,13 @@ client_numbered = record {
   names = client_names;
 }
 
-client_numbered_selects : IsSelectText client_numbered.text our_schema 9 client_numbered.tests client_project [] client_names
+client_numbered_selects : (s : Schema) → HasSince First s → IsSelectText client_numbered.text s 9 client_numbered.tests client_project [] client_names
 unfolding understood everything
-client_numbered_selects = record { command = refl; unlisted = refl; plain = (refl, refl); stored = λ db. refl }
+client_numbered_selects = of_both (λ s. IsSelectText client_numbered.text s 9 client_numbered.tests client_project [] client_names)
+    (record { command = refl; unlisted = refl; plain = (refl, refl); stored = λ db. refl })
+    (record { command = refl; unlisted = refl; plain = (refl, refl); stored = λ db. refl })
 
-pub client_numbered_is : IsAsking client_shape client_numbered
+pub client_numbered_is : IsAsking First client_shape client_numbered
     (λ (q : ClientNumbered). Unit {0}) (λ q. Text q.number ∷ []) (λ q c. is_same_text c.number q.number)
 client_numbered_is = record {
   selects = client_numbered_selects;

@@ -15,14 +15,16 @@ use Rattle.dh_types.specs.declared.viewing.Inspection.{Inspection}
 use Rattle.dh_model.specs.Books.{pair_cmp, text_cmp}
 use Rattle.dh_model.specs.Checks.{is_same_text}
 use Rattle.dh_rows.specs.InspectionRows.{inspection_in, inspection_row, is_inspection_row}
-use Rattle.dh_catalog.specs.Layout.{our_schema}
+use Rattle.sqlite_schema.specs.declared.schema.Schema.{Schema}
+use Rattle.dh_types.specs.declared.version.Version.TheVariants.{First}
+use Rattle.dh_catalog.specs.Versions.{HasSince, of_both}
 use Rattle.dh_catalog.specs.InspectionTable.{inspection}
 use Rattle.dh_sql.specs.CellTests.{Cell}
 use Rattle.dh_sql.specs.Shape.{Shape}
 use Rattle.dh_sql.specs.Texts.{IsInsertText, IsSelectText}
 use Rattle.dh_sql.proofs.Casting.{cast_null, pass_each, row_stays}
 use Rattle.dh_tables.specs.declared.inspection.InspectionOf.{InspectionOf}
-use Rattle.dh_tables.specs.Cells.{is_text as text_is, pass_both, pass_one, read_as, same_day, same_text, text_that}
+use Rattle.dh_tables.specs.Cells.{is_text as text_is, pass_both, read_as, same_day, same_text, text_that}
 use Rattle.dh_tables.specs.Listing.{IsListing, Listing}
 use Rattle.dh_tables.specs.Questions.{Asking, IsAsking}
 use Rattle.dh_tables.specs.Tables.{Adding, IsAdding, Shelf, without_rowid}
@@ -57,12 +59,15 @@ inspection_adding = record {
   source = without_rowid inspection_row;
 }
 
-inserts : (x : Inspection)
-    → IsInsertText inspection_adding.text our_schema 8 inspection inspection_adding.terms 5 (inspection_row x) (inspection_adding.source x)
+inserts : (s : Schema) → HasSince First s → (x : Inspection)
+    → IsInsertText inspection_adding.text s 8 inspection inspection_adding.terms 5 (inspection_row x) (inspection_adding.source x)
 unfolding understood everything
-inserts x = record { command = refl; plain = (refl, refl); listed = refl; is_uncounted = refl; value = refl }
+inserts = of_both (λ s. (x : Inspection)
+    → IsInsertText inspection_adding.text s 8 inspection inspection_adding.terms 5 (inspection_row x) (inspection_adding.source x))
+    (λ x. record { command = refl; plain = (refl, refl); listed = refl; is_uncounted = refl; value = refl })
+    (λ x. record { command = refl; plain = (refl, refl); listed = refl; is_uncounted = refl; value = refl })
 
-pub inspection_is_adding : IsAdding inspection_shape inspection_row is_inspection_row inspection_adding
+pub inspection_is_adding : IsAdding First inspection_shape inspection_row is_inspection_row inspection_adding
 inspection_is_adding = record {
   tree_is = refl;
   listed = refl;
@@ -92,12 +97,16 @@ inspection_listing = record {
   rowid_name = codes "rowid";
 }
 
-pub inspection_is_listing : IsListing 15 inspection_columns inspection_listing
+pub inspection_is_listing : IsListing First 15 inspection_columns inspection_listing
 unfolding understood everything
 inspection_is_listing = record {
-  selects = record { command = refl; unlisted = refl; plain = (refl, refl); stored = λ db. refl };
+  selects = of_both (λ s. IsSelectText inspection_listing.text s 15 [] inspection_listing.project [] inspection_listing.names)
+      (record { command = refl; unlisted = refl; plain = (refl, refl); stored = λ db. refl })
+      (record { command = refl; unlisted = refl; plain = (refl, refl); stored = λ db. refl });
   shows_columns = λ r. refl;
-  selects_rowid = record { command = refl; unlisted = refl; plain = (refl, refl); stored = λ db. refl };
+  selects_rowid = of_both (λ s. IsSelectText inspection_listing.rowid_text s 15 [] (col 1 0 ∷ []) [] (inspection_listing.rowid_name ∷ []))
+      (record { command = refl; unlisted = refl; plain = (refl, refl); stored = λ db. refl })
+      (record { command = refl; unlisted = refl; plain = (refl, refl); stored = λ db. refl });
 }
 
 -- ---- the inspection of a property on a day
@@ -110,11 +119,13 @@ inspection_of = record {
   names = inspection_names;
 }
 
-inspection_of_selects : IsSelectText inspection_of.text our_schema 15 inspection_of.tests inspection_project [] inspection_names
+inspection_of_selects : (s : Schema) → HasSince First s → IsSelectText inspection_of.text s 15 inspection_of.tests inspection_project [] inspection_names
 unfolding understood everything
-inspection_of_selects = record { command = refl; unlisted = refl; plain = (refl, refl); stored = λ db. refl }
+inspection_of_selects = of_both (λ s. IsSelectText inspection_of.text s 15 inspection_of.tests inspection_project [] inspection_names)
+    (record { command = refl; unlisted = refl; plain = (refl, refl); stored = λ db. refl })
+    (record { command = refl; unlisted = refl; plain = (refl, refl); stored = λ db. refl })
 
-pub inspection_of_is : IsAsking inspection_shape inspection_of
+pub inspection_of_is : IsAsking First inspection_shape inspection_of
     (λ (q : InspectionOf). IsEntryDay q.day) (λ q. Text q.property ∷ Text (day_text q.day) ∷ [])
     (λ q n. is_same_text n.property q.property && nat_eq n.day q.day)
 inspection_of_is = record {

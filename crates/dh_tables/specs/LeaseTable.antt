@@ -17,7 +17,9 @@ use Rattle.dh_days.specs.Days.{IsEntryDay, day_of, day_text}
 use Rattle.dh_types.specs.declared.lease.Lease.{Lease}
 use Rattle.dh_model.specs.Checks.{is_same_text}
 use Rattle.dh_rows.specs.LeaseRows.{lease_in, lease_row, is_lease_row}
-use Rattle.dh_catalog.specs.Layout.{our_schema}
+use Rattle.sqlite_schema.specs.declared.schema.Schema.{Schema}
+use Rattle.dh_types.specs.declared.version.Version.TheVariants.{First}
+use Rattle.dh_catalog.specs.Versions.{HasSince, of_both}
 use Rattle.dh_catalog.specs.LeaseTable.{lease}
 use Rattle.dh_sql.specs.CellTests.{Cell}
 use Rattle.dh_sql.specs.Shape.{Shape}
@@ -65,9 +67,11 @@ lease_adding = record {
   source = own_rowid lease_row;
 }
 
-inserts : (x : Lease) → IsInsertText lease_adding.text our_schema 9 lease lease_adding.terms 8 (lease_row x) (lease_adding.source x)
+inserts : (s : Schema) → HasSince First s → (x : Lease) → IsInsertText lease_adding.text s 9 lease lease_adding.terms 8 (lease_row x) (lease_adding.source x)
 unfolding understood everything
-inserts x = record { command = refl; plain = (refl, refl); listed = refl; is_uncounted = refl; value = refl }
+inserts = of_both (λ s. (x : Lease) → IsInsertText lease_adding.text s 9 lease lease_adding.terms 8 (lease_row x) (lease_adding.source x))
+    (λ x. record { command = refl; plain = (refl, refl); listed = refl; is_uncounted = refl; value = refl })
+    (λ x. record { command = refl; plain = (refl, refl); listed = refl; is_uncounted = refl; value = refl })
 
 stays : (x : Lease) → is_lease_row (lease_row x) ≡ true → cast_row lease (lease_adding.source x) ≡ lease_adding.source x
 stays x good =
@@ -75,7 +79,7 @@ stays x good =
     row_stays (rowid_column ∷ drop 1 lease_cells) lease (Int (pos x.terms.number)) (drop 1 (lease_adding.source x))
     refl (cast_int (pos x.terms.number)) (refl, cells.1)
 
-pub lease_is_adding : IsAdding lease_shape lease_row is_lease_row lease_adding
+pub lease_is_adding : IsAdding First lease_shape lease_row is_lease_row lease_adding
 lease_is_adding = record {
   tree_is = refl;
   listed = refl;
@@ -104,12 +108,16 @@ lease_listing = record {
   rowid_name = codes "lease_no";
 }
 
-pub lease_is_listing : IsListing 17 lease_columns lease_listing
+pub lease_is_listing : IsListing First 17 lease_columns lease_listing
 unfolding understood everything
 lease_is_listing = record {
-  selects = record { command = refl; unlisted = refl; plain = (refl, refl); stored = λ db. refl };
+  selects = of_both (λ s. IsSelectText lease_listing.text s 17 [] lease_listing.project [] lease_listing.names)
+      (record { command = refl; unlisted = refl; plain = (refl, refl); stored = λ db. refl })
+      (record { command = refl; unlisted = refl; plain = (refl, refl); stored = λ db. refl });
   shows_columns = λ r. refl;
-  selects_rowid = record { command = refl; unlisted = refl; plain = (refl, refl); stored = λ db. refl };
+  selects_rowid = of_both (λ s. IsSelectText lease_listing.rowid_text s 17 [] (col 1 0 ∷ []) [] (lease_listing.rowid_name ∷ []))
+      (record { command = refl; unlisted = refl; plain = (refl, refl); stored = λ db. refl })
+      (record { command = refl; unlisted = refl; plain = (refl, refl); stored = λ db. refl });
 }
 
 -- ---- the lease with a number
@@ -122,11 +130,13 @@ lease_numbered = record {
   names = lease_names;
 }
 
-lease_numbered_selects : IsSelectText lease_numbered.text our_schema 17 lease_numbered.tests lease_project [] lease_names
+lease_numbered_selects : (s : Schema) → HasSince First s → IsSelectText lease_numbered.text s 17 lease_numbered.tests lease_project [] lease_names
 unfolding understood everything
-lease_numbered_selects = record { command = refl; unlisted = refl; plain = (refl, refl); stored = λ db. refl }
+lease_numbered_selects = of_both (λ s. IsSelectText lease_numbered.text s 17 lease_numbered.tests lease_project [] lease_names)
+    (record { command = refl; unlisted = refl; plain = (refl, refl); stored = λ db. refl })
+    (record { command = refl; unlisted = refl; plain = (refl, refl); stored = λ db. refl })
 
-pub lease_numbered_is : IsAsking lease_shape lease_numbered
+pub lease_numbered_is : IsAsking First lease_shape lease_numbered
     (λ (q : LeaseNumbered). Unit {0}) (λ q. Int (pos q.number) ∷ []) (λ q l. nat_eq l.terms.number q.number)
 lease_numbered_is = record {
   selects = lease_numbered_selects;
@@ -146,11 +156,13 @@ leases_of_property = record {
   names = lease_names;
 }
 
-leases_of_property_selects : IsSelectText leases_of_property.text our_schema 17 leases_of_property.tests lease_project [] lease_names
+leases_of_property_selects : (s : Schema) → HasSince First s → IsSelectText leases_of_property.text s 17 leases_of_property.tests lease_project [] lease_names
 unfolding understood everything
-leases_of_property_selects = record { command = refl; unlisted = refl; plain = (refl, refl); stored = λ db. refl }
+leases_of_property_selects = of_both (λ s. IsSelectText leases_of_property.text s 17 leases_of_property.tests lease_project [] lease_names)
+    (record { command = refl; unlisted = refl; plain = (refl, refl); stored = λ db. refl })
+    (record { command = refl; unlisted = refl; plain = (refl, refl); stored = λ db. refl })
 
-pub leases_of_property_is : IsAsking lease_shape leases_of_property
+pub leases_of_property_is : IsAsking First lease_shape leases_of_property
     (λ (q : LeasesOfProperty). Unit {0}) (λ q. Text q.property ∷ []) (λ q l. is_same_text l.terms.property q.property)
 leases_of_property_is = record {
   selects = leases_of_property_selects;
@@ -170,11 +182,14 @@ leases_of_client_from = record {
   names = lease_names;
 }
 
-leases_of_client_from_selects : IsSelectText leases_of_client_from.text our_schema 17 leases_of_client_from.tests lease_project [] lease_names
+leases_of_client_from_selects : (s : Schema) → HasSince First s
+    → IsSelectText leases_of_client_from.text s 17 leases_of_client_from.tests lease_project [] lease_names
 unfolding understood everything
-leases_of_client_from_selects = record { command = refl; unlisted = refl; plain = (refl, refl); stored = λ db. refl }
+leases_of_client_from_selects = of_both (λ s. IsSelectText leases_of_client_from.text s 17 leases_of_client_from.tests lease_project [] lease_names)
+    (record { command = refl; unlisted = refl; plain = (refl, refl); stored = λ db. refl })
+    (record { command = refl; unlisted = refl; plain = (refl, refl); stored = λ db. refl })
 
-pub leases_of_client_from_is : IsAsking lease_shape leases_of_client_from
+pub leases_of_client_from_is : IsAsking First lease_shape leases_of_client_from
     (λ (q : LeasesOfClientFrom). IsEntryDay q.start) (λ q. Text q.client ∷ Text (day_text q.start) ∷ [])
     (λ q l. is_same_text l.terms.client q.client && nat_eq l.terms.start q.start)
 leases_of_client_from_is = record {

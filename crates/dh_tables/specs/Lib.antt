@@ -16,6 +16,7 @@ pub mod ChargeTable
 pub mod ReceiptTable
 pub mod RunTable
 pub mod PartTable
+pub mod EndingTable
 pub mod Amendments
 pub mod PropertyChanges
 pub mod ViewingChanges

@@ -9,7 +9,9 @@ use Rattle.sqlite_trees.specs.Tree.{Trees, rowid}
 use Rattle.sqlite_trees.specs.View.{is_int}
 use Rattle.sqlite_rules.specs.Edit.{id_in}
 use Rattle.dh_model.specs.Books as machine
-use Rattle.dh_catalog.specs.Layout.{our_schema}
+use Rattle.sqlite_schema.specs.declared.schema.Schema.{Schema}
+use Rattle.dh_types.specs.declared.version.Version.{Version}
+use Rattle.dh_catalog.specs.Versions.{HasSince}
 use Rattle.dh_sql.specs.Queries.{shows}
 use Rattle.dh_sql.specs.Shape.{AreApart, IsKept, IsStored, Shape, rows_in, stored_in}
 use Rattle.dh_sql.specs.Texts.{IsSelectText}
@@ -24,10 +26,10 @@ pub record Listing : Type 0 where
   pub rowid_name : List ℕ
 
 -- the texts show the columns of each row, and the rowid of each
-pub record IsListing (tree : ℕ) (columns : Row → Row) (listing : Listing) : Type 0 where
-  pub selects : IsSelectText listing.text our_schema tree [] listing.project [] listing.names
+pub record IsListing (since : Version) (tree : ℕ) (columns : Row → Row) (listing : Listing) : Type 0 where
+  pub selects : (s : Schema) → HasSince since s → IsSelectText listing.text s tree [] listing.project [] listing.names
   pub shows_columns : (r : Row) → shows listing.project [] r ≡ columns r
-  pub selects_rowid : IsSelectText listing.rowid_text our_schema tree [] (col 1 0 ∷ []) [] (listing.rowid_name ∷ [])
+  pub selects_rowid : (s : Schema) → HasSince since s → IsSelectText listing.rowid_text s tree [] (col 1 0 ∷ []) [] (listing.rowid_name ∷ [])
 
 -- the row of a rowid alone
 abbrev pub rowid_alone : Row → Row

@@ -6,7 +6,6 @@ use Rattle.sqlite_catalog.specs.Listing as catalog
 use Rattle.sqlite.specs.State.{State}
 use Rattle.dh_rows.specs.Months.{Months}
 use Rattle.dh_rows.specs.MetaRows.{meta_row, is_meta_row}
-use Rattle.dh_catalog.specs.Layout.{our_schema}
 use Rattle.dh_sql.specs.Changes.{OthersStay}
 
 -- the key is the rowid, and its own column holds NULL
@@ -31,10 +30,10 @@ AreFound rows (Some m) = AreMonths m rows
 
 -- the table has these months now, and all else is as it was
 pub record SetsMonths (months : Months) (old new : State) : Type 0 where
-  pub schema_is : new.now.schema ≡ our_schema
-  pub listed : catalog.IsSound our_schema new.now.trees
+  pub schema_is : new.now.schema ≡ old.now.schema
+  pub listed : catalog.IsSound old.now.schema new.now.trees
   pub months_are : HasMonths months new.now.trees
-  pub others : OthersStay our_schema 0 old.now.trees new.now.trees
+  pub others : OthersStay old.now.schema 0 old.now.trees new.now.trees
 
 -- the table has its row
 abbrev pub HasItsRow : Trees → Type 0

@@ -13,7 +13,9 @@ use Rattle.dh_types.specs.declared.owner.Owner.{Owner}
 use Rattle.dh_model.specs.Books.{text_cmp}
 use Rattle.dh_model.specs.Checks.{is_same_text}
 use Rattle.dh_rows.specs.OwnerRows.{owner_in, owner_row, is_owner_row}
-use Rattle.dh_catalog.specs.Layout.{our_schema}
+use Rattle.sqlite_schema.specs.declared.schema.Schema.{Schema}
+use Rattle.dh_types.specs.declared.version.Version.TheVariants.{First}
+use Rattle.dh_catalog.specs.Versions.{HasSince, of_both}
 use Rattle.dh_catalog.specs.OwnerTable.{owner}
 use Rattle.dh_sql.specs.CellTests.{Cell}
 use Rattle.dh_sql.specs.Shape.{Shape}
@@ -55,11 +57,13 @@ owner_adding = record {
   source = without_rowid owner_row;
 }
 
-inserts : (x : Owner) → IsInsertText owner_adding.text our_schema 3 owner owner_adding.terms 5 (owner_row x) (owner_adding.source x)
+inserts : (s : Schema) → HasSince First s → (x : Owner) → IsInsertText owner_adding.text s 3 owner owner_adding.terms 5 (owner_row x) (owner_adding.source x)
 unfolding understood everything
-inserts x = record { command = refl; plain = (refl, refl); listed = refl; is_uncounted = refl; value = refl }
+inserts = of_both (λ s. (x : Owner) → IsInsertText owner_adding.text s 3 owner owner_adding.terms 5 (owner_row x) (owner_adding.source x))
+    (λ x. record { command = refl; plain = (refl, refl); listed = refl; is_uncounted = refl; value = refl })
+    (λ x. record { command = refl; plain = (refl, refl); listed = refl; is_uncounted = refl; value = refl })
 
-pub owner_is_adding : IsAdding owner_shape owner_row is_owner_row owner_adding
+pub owner_is_adding : IsAdding First owner_shape owner_row is_owner_row owner_adding
 owner_is_adding = record {
   tree_is = refl;
   listed = refl;
@@ -88,12 +92,16 @@ owner_listing = record {
   rowid_name = codes "rowid";
 }
 
-pub owner_is_listing : IsListing 5 owner_columns owner_listing
+pub owner_is_listing : IsListing First 5 owner_columns owner_listing
 unfolding understood everything
 owner_is_listing = record {
-  selects = record { command = refl; unlisted = refl; plain = (refl, refl); stored = λ db. refl };
+  selects = of_both (λ s. IsSelectText owner_listing.text s 5 [] owner_listing.project [] owner_listing.names)
+      (record { command = refl; unlisted = refl; plain = (refl, refl); stored = λ db. refl })
+      (record { command = refl; unlisted = refl; plain = (refl, refl); stored = λ db. refl });
   shows_columns = λ r. refl;
-  selects_rowid = record { command = refl; unlisted = refl; plain = (refl, refl); stored = λ db. refl };
+  selects_rowid = of_both (λ s. IsSelectText owner_listing.rowid_text s 5 [] (col 1 0 ∷ []) [] (owner_listing.rowid_name ∷ []))
+      (record { command = refl; unlisted = refl; plain = (refl, refl); stored = λ db. refl })
+      (record { command = refl; unlisted = refl; plain = (refl, refl); stored = λ db. refl });
 }
 
 -- ---- the owner with a number
@@ -106,11 +114,13 @@ owner_numbered = record {
   names = owner_names;
 }
 
-owner_numbered_selects : IsSelectText owner_numbered.text our_schema 5 owner_numbered.tests owner_project [] owner_names
+owner_numbered_selects : (s : Schema) → HasSince First s → IsSelectText owner_numbered.text s 5 owner_numbered.tests owner_project [] owner_names
 unfolding understood everything
-owner_numbered_selects = record { command = refl; unlisted = refl; plain = (refl, refl); stored = λ db. refl }
+owner_numbered_selects = of_both (λ s. IsSelectText owner_numbered.text s 5 owner_numbered.tests owner_project [] owner_names)
+    (record { command = refl; unlisted = refl; plain = (refl, refl); stored = λ db. refl })
+    (record { command = refl; unlisted = refl; plain = (refl, refl); stored = λ db. refl })
 
-pub owner_numbered_is : IsAsking owner_shape owner_numbered
+pub owner_numbered_is : IsAsking First owner_shape owner_numbered
     (λ (q : OwnerNumbered). Unit {0}) (λ q. Text q.number ∷ []) (λ q o. is_same_text o.number q.number)
 owner_numbered_is = record {
   selects = owner_numbered_selects;

@@ -17,7 +17,9 @@ use Rattle.dh_model.specs.Books.{pair_cmp, text_cmp}
 use Rattle.dh_model.specs.Checks.{is_same_text}
 use Rattle.dh_rows.specs.declared.limits.TheConstants.{MOST_COUNT}
 use Rattle.dh_rows.specs.PartRows.{part_in, part_row, is_part_row}
-use Rattle.dh_catalog.specs.Layout.{our_schema}
+use Rattle.sqlite_schema.specs.declared.schema.Schema.{Schema}
+use Rattle.dh_types.specs.declared.version.Version.TheVariants.{First}
+use Rattle.dh_catalog.specs.Versions.{HasSince, of_both}
 use Rattle.dh_catalog.specs.PartTable.{part}
 use Rattle.dh_sql.specs.CellTests.{Cell}
 use Rattle.dh_sql.specs.Shape.{Shape}
@@ -61,11 +63,13 @@ part_adding = record {
   source = without_rowid part_row;
 }
 
-inserts : (x : Part) → IsInsertText part_adding.text our_schema 13 part part_adding.terms 6 (part_row x) (part_adding.source x)
+inserts : (s : Schema) → HasSince First s → (x : Part) → IsInsertText part_adding.text s 13 part part_adding.terms 6 (part_row x) (part_adding.source x)
 unfolding understood everything
-inserts x = record { command = refl; plain = (refl, refl); listed = refl; is_uncounted = refl; value = refl }
+inserts = of_both (λ s. (x : Part) → IsInsertText part_adding.text s 13 part part_adding.terms 6 (part_row x) (part_adding.source x))
+    (λ x. record { command = refl; plain = (refl, refl); listed = refl; is_uncounted = refl; value = refl })
+    (λ x. record { command = refl; plain = (refl, refl); listed = refl; is_uncounted = refl; value = refl })
 
-pub part_is_adding : IsAdding part_shape part_row is_part_row part_adding
+pub part_is_adding : IsAdding First part_shape part_row is_part_row part_adding
 part_is_adding = record {
   tree_is = refl;
   listed = refl;
@@ -94,12 +98,16 @@ part_listing = record {
   rowid_name = codes "rowid";
 }
 
-pub part_is_listing : IsListing 24 part_columns part_listing
+pub part_is_listing : IsListing First 24 part_columns part_listing
 unfolding understood everything
 part_is_listing = record {
-  selects = record { command = refl; unlisted = refl; plain = (refl, refl); stored = λ db. refl };
+  selects = of_both (λ s. IsSelectText part_listing.text s 24 [] part_listing.project [] part_listing.names)
+      (record { command = refl; unlisted = refl; plain = (refl, refl); stored = λ db. refl })
+      (record { command = refl; unlisted = refl; plain = (refl, refl); stored = λ db. refl });
   shows_columns = λ r. refl;
-  selects_rowid = record { command = refl; unlisted = refl; plain = (refl, refl); stored = λ db. refl };
+  selects_rowid = of_both (λ s. IsSelectText part_listing.rowid_text s 24 [] (col 1 0 ∷ []) [] (part_listing.rowid_name ∷ []))
+      (record { command = refl; unlisted = refl; plain = (refl, refl); stored = λ db. refl })
+      (record { command = refl; unlisted = refl; plain = (refl, refl); stored = λ db. refl });
 }
 
 -- ---- the part of a run at a branch
@@ -112,11 +120,13 @@ part_of = record {
   names = part_names;
 }
 
-part_of_selects : IsSelectText part_of.text our_schema 24 part_of.tests part_project [] part_names
+part_of_selects : (s : Schema) → HasSince First s → IsSelectText part_of.text s 24 part_of.tests part_project [] part_names
 unfolding understood everything
-part_of_selects = record { command = refl; unlisted = refl; plain = (refl, refl); stored = λ db. refl }
+part_of_selects = of_both (λ s. IsSelectText part_of.text s 24 part_of.tests part_project [] part_names)
+    (record { command = refl; unlisted = refl; plain = (refl, refl); stored = λ db. refl })
+    (record { command = refl; unlisted = refl; plain = (refl, refl); stored = λ db. refl })
 
-pub part_of_is : IsAsking part_shape part_of
+pub part_of_is : IsAsking First part_shape part_of
     (λ (q : PartOf). Unit {0}) (λ q. Int (pos q.month) ∷ Text q.branch ∷ []) (λ q p. nat_eq p.month q.month && is_same_text p.branch q.branch)
 part_of_is = record {
   selects = part_of_selects;
@@ -137,11 +147,13 @@ parts_of_month = record {
   names = part_names;
 }
 
-parts_of_month_selects : IsSelectText parts_of_month.text our_schema 24 parts_of_month.tests part_project [] part_names
+parts_of_month_selects : (s : Schema) → HasSince First s → IsSelectText parts_of_month.text s 24 parts_of_month.tests part_project [] part_names
 unfolding understood everything
-parts_of_month_selects = record { command = refl; unlisted = refl; plain = (refl, refl); stored = λ db. refl }
+parts_of_month_selects = of_both (λ s. IsSelectText parts_of_month.text s 24 parts_of_month.tests part_project [] part_names)
+    (record { command = refl; unlisted = refl; plain = (refl, refl); stored = λ db. refl })
+    (record { command = refl; unlisted = refl; plain = (refl, refl); stored = λ db. refl })
 
-pub parts_of_month_is : IsAsking part_shape parts_of_month (λ (q : PartsOfMonth). Unit {0}) (λ q. Int (pos q.month) ∷ []) (λ q p. nat_eq p.month q.month)
+pub parts_of_month_is : IsAsking First part_shape parts_of_month (λ (q : PartsOfMonth). Unit {0}) (λ q. Int (pos q.month) ∷ []) (λ q p. nat_eq p.month q.month)
 parts_of_month_is = record {
   selects = parts_of_month_selects;
   shows_columns = λ q r. refl;

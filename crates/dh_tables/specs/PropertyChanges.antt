@@ -15,7 +15,9 @@ use Rattle.dh_types.specs.declared.property.Property.{Property}
 use Rattle.dh_types.specs.declared.command.Assignment.{Assignment}
 use Rattle.dh_types.specs.declared.command.RentChange.{RentChange}
 use Rattle.dh_rows.specs.Cells.{optional_back, optional_text}
-use Rattle.dh_catalog.specs.Layout.{our_schema}
+use Rattle.sqlite_schema.specs.declared.schema.Schema.{Schema}
+use Rattle.dh_types.specs.declared.version.Version.TheVariants.{First}
+use Rattle.dh_catalog.specs.Versions.{HasSince, of_both}
 use Rattle.dh_catalog.specs.PropertyTable.{property}
 use Rattle.dh_sql.specs.CellTests.{AreCells}
 use Rattle.dh_sql.specs.Changes.{IsTurnedInto}
@@ -42,9 +44,11 @@ manager_amending = record {
 abbrev pub manager_given : Assignment → Row
 manager_given q = Text q.property ∷ optional_text q.staff ∷ []
 
-manager_means : IsUpdateText manager_amending.text our_schema 4 property property_numbered.tests manager_amending.project
+manager_means : (s : Schema) → HasSince First s → IsUpdateText manager_amending.text s 4 property property_numbered.tests manager_amending.project
 unfolding understood everything
-manager_means = record { command = refl; plain = (refl, refl); listed = refl; stored = λ db. refl }
+manager_means = of_both (λ s. IsUpdateText manager_amending.text s 4 property property_numbered.tests manager_amending.project)
+    (record { command = refl; plain = (refl, refl); listed = refl; stored = λ db. refl })
+    (record { command = refl; plain = (refl, refl); listed = refl; stored = λ db. refl })
 
 -- the row of the number, whatever else is given
 finds : (number : List ℕ) (more r : Row) → IsStored property_shape r
@@ -82,7 +86,7 @@ manager_turns q r known good own =
       record_is = ap (λ (staff : Option (List ℕ)). let p : Property = record (stored_in property_shape r) { staff = staff } in p) (optional_back q.staff);
     }
 
-pub manager_is : IsAmending property_shape manager_amending (λ q. IfSome q.staff (λ id. is_id id ≡ true)) manager_given (λ q. q.property)
+pub manager_is : IsAmending First property_shape manager_amending (λ q. IfSome q.staff (λ id. is_id id ≡ true)) manager_given (λ q. q.property)
     (λ q p. record p { staff = q.staff })
 manager_is = record {
   means = manager_means;
@@ -108,9 +112,11 @@ rent_amending = record {
 abbrev pub rent_given : RentChange → Row
 rent_given q = Text q.property ∷ Int (pos q.rent) ∷ []
 
-rent_means : IsUpdateText rent_amending.text our_schema 4 property property_numbered.tests rent_amending.project
+rent_means : (s : Schema) → HasSince First s → IsUpdateText rent_amending.text s 4 property property_numbered.tests rent_amending.project
 unfolding understood everything
-rent_means = record { command = refl; plain = (refl, refl); listed = refl; stored = λ db. refl }
+rent_means = of_both (λ s. IsUpdateText rent_amending.text s 4 property property_numbered.tests rent_amending.project)
+    (record { command = refl; plain = (refl, refl); listed = refl; stored = λ db. refl })
+    (record { command = refl; plain = (refl, refl); listed = refl; stored = λ db. refl })
 
 rent_turns : (q : RentChange) (r : Row) → IsRent q.rent → IsStored property_shape r → is_int (rowid r) ≡ true
     → IsTurnedInto property_shape property r (drop 1 (shows rent_amending.project (rent_given q) r)) (record (stored_in property_shape r) { rent = q.rent })
@@ -128,7 +134,7 @@ rent_turns q r known good own =
       record_is = refl;
     }
 
-pub rent_is : IsAmending property_shape rent_amending (λ q. IsRent q.rent) rent_given (λ q. q.property) (λ q p. record p { rent = q.rent })
+pub rent_is : IsAmending First property_shape rent_amending (λ q. IsRent q.rent) rent_given (λ q. q.property) (λ q p. record p { rent = q.rent })
 rent_is = record {
   means = rent_means;
   tree_is = refl;

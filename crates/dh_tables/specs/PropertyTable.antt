@@ -16,7 +16,9 @@ use Rattle.dh_types.specs.Records.{is_same_optional}
 use Rattle.dh_model.specs.Books.{text_cmp}
 use Rattle.dh_model.specs.Checks.{is_same_text}
 use Rattle.dh_rows.specs.PropertyRows.{property_in, property_row, is_property_row}
-use Rattle.dh_catalog.specs.Layout.{our_schema}
+use Rattle.sqlite_schema.specs.declared.schema.Schema.{Schema}
+use Rattle.dh_types.specs.declared.version.Version.TheVariants.{First}
+use Rattle.dh_catalog.specs.Versions.{HasSince, of_both}
 use Rattle.dh_catalog.specs.PropertyTable.{property}
 use Rattle.dh_sql.specs.CellTests.{Cell}
 use Rattle.dh_sql.specs.Shape.{Shape}
@@ -67,11 +69,14 @@ property_adding = record {
   source = without_rowid property_row;
 }
 
-inserts : (x : Property) → IsInsertText property_adding.text our_schema 4 property property_adding.terms 11 (property_row x) (property_adding.source x)
+inserts : (s : Schema) → HasSince First s → (x : Property)
+    → IsInsertText property_adding.text s 4 property property_adding.terms 11 (property_row x) (property_adding.source x)
 unfolding understood everything
-inserts x = record { command = refl; plain = (refl, refl); listed = refl; is_uncounted = refl; value = refl }
+inserts = of_both (λ s. (x : Property) → IsInsertText property_adding.text s 4 property property_adding.terms 11 (property_row x) (property_adding.source x))
+    (λ x. record { command = refl; plain = (refl, refl); listed = refl; is_uncounted = refl; value = refl })
+    (λ x. record { command = refl; plain = (refl, refl); listed = refl; is_uncounted = refl; value = refl })
 
-pub property_is_adding : IsAdding property_shape property_row is_property_row property_adding
+pub property_is_adding : IsAdding First property_shape property_row is_property_row property_adding
 property_is_adding = record {
   tree_is = refl;
   listed = refl;
@@ -102,12 +107,16 @@ property_listing = record {
   rowid_name = codes "rowid";
 }
 
-pub property_is_listing : IsListing 7 property_columns property_listing
+pub property_is_listing : IsListing First 7 property_columns property_listing
 unfolding understood everything
 property_is_listing = record {
-  selects = record { command = refl; unlisted = refl; plain = (refl, refl); stored = λ db. refl };
+  selects = of_both (λ s. IsSelectText property_listing.text s 7 [] property_listing.project [] property_listing.names)
+      (record { command = refl; unlisted = refl; plain = (refl, refl); stored = λ db. refl })
+      (record { command = refl; unlisted = refl; plain = (refl, refl); stored = λ db. refl });
   shows_columns = λ r. refl;
-  selects_rowid = record { command = refl; unlisted = refl; plain = (refl, refl); stored = λ db. refl };
+  selects_rowid = of_both (λ s. IsSelectText property_listing.rowid_text s 7 [] (col 1 0 ∷ []) [] (property_listing.rowid_name ∷ []))
+      (record { command = refl; unlisted = refl; plain = (refl, refl); stored = λ db. refl })
+      (record { command = refl; unlisted = refl; plain = (refl, refl); stored = λ db. refl });
 }
 
 -- ---- the property with a number
@@ -120,11 +129,14 @@ property_numbered = record {
   names = property_names;
 }
 
-property_numbered_selects : IsSelectText property_numbered.text our_schema 7 property_numbered.tests property_project [] property_names
+property_numbered_selects : (s : Schema) → HasSince First s
+    → IsSelectText property_numbered.text s 7 property_numbered.tests property_project [] property_names
 unfolding understood everything
-property_numbered_selects = record { command = refl; unlisted = refl; plain = (refl, refl); stored = λ db. refl }
+property_numbered_selects = of_both (λ s. IsSelectText property_numbered.text s 7 property_numbered.tests property_project [] property_names)
+    (record { command = refl; unlisted = refl; plain = (refl, refl); stored = λ db. refl })
+    (record { command = refl; unlisted = refl; plain = (refl, refl); stored = λ db. refl })
 
-pub property_numbered_is : IsAsking property_shape property_numbered
+pub property_numbered_is : IsAsking First property_shape property_numbered
     (λ (q : PropertyNumbered). Unit {0}) (λ q. Text q.number ∷ []) (λ q p. is_same_text p.number q.number)
 property_numbered_is = record {
   selects = property_numbered_selects;
@@ -144,11 +156,14 @@ properties_managed = record {
   names = property_names;
 }
 
-properties_managed_selects : IsSelectText properties_managed.text our_schema 7 properties_managed.tests property_project [] property_names
+properties_managed_selects : (s : Schema) → HasSince First s
+    → IsSelectText properties_managed.text s 7 properties_managed.tests property_project [] property_names
 unfolding understood everything
-properties_managed_selects = record { command = refl; unlisted = refl; plain = (refl, refl); stored = λ db. refl }
+properties_managed_selects = of_both (λ s. IsSelectText properties_managed.text s 7 properties_managed.tests property_project [] property_names)
+    (record { command = refl; unlisted = refl; plain = (refl, refl); stored = λ db. refl })
+    (record { command = refl; unlisted = refl; plain = (refl, refl); stored = λ db. refl })
 
-pub properties_managed_is : IsAsking property_shape properties_managed
+pub properties_managed_is : IsAsking First property_shape properties_managed
     (λ (q : PropertiesManaged). Unit {0}) (λ q. Text q.staff ∷ []) (λ q p. is_same_optional is_same_text p.staff (Some q.staff))
 properties_managed_is = record {
   selects = properties_managed_selects;

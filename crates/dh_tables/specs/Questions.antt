@@ -4,7 +4,9 @@ use Rattle.std.specs.declared.cmp.Ordering.{Ordering}
 use Rattle.std.specs.FinMap.{FinMap, empty, insert}
 use Rattle.sqlite_value.specs.Order.{Row}
 use Rattle.sqlite_sql.specs.Term.{Term}
-use Rattle.dh_catalog.specs.Layout.{our_schema}
+use Rattle.sqlite_schema.specs.declared.schema.Schema.{Schema}
+use Rattle.dh_types.specs.declared.version.Version.{Version}
+use Rattle.dh_catalog.specs.Versions.{HasSince}
 use Rattle.dh_sql.specs.Queries.{passes_all, shows}
 use Rattle.dh_sql.specs.Shape.{IsStored, Shape, stored_in}
 use Rattle.dh_sql.specs.Texts.{IsSelectText}
@@ -17,8 +19,9 @@ pub record Asking : Type 0 where
   pub names : List (List ℕ)
 
 -- the text shows the columns of the rows that are asked for
-pub record IsAsking {K X Q : Type 0} (it : Shape K X) (asking : Asking) (can_ask : Q → Type 0) (given : Q → Row) (asks : Q → X → Bool) : Type 0 where
-  pub selects : IsSelectText asking.text our_schema it.tree asking.tests asking.project [] asking.names
+pub record IsAsking {K X Q : Type 0} (since : Version) (it : Shape K X) (asking : Asking) (can_ask : Q → Type 0) (given : Q → Row)
+    (asks : Q → X → Bool) : Type 0 where
+  pub selects : (s : Schema) → HasSince since s → IsSelectText asking.text s it.tree asking.tests asking.project [] asking.names
   pub shows_columns : (q : Q) (r : Row) → shows asking.project (given q) r ≡ it.columns r
   pub passes : (q : Q) (r : Row) → can_ask q → IsStored it r → passes_all (given q) asking.tests r ≡ asks q (stored_in it r)
 

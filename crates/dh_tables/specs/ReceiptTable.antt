@@ -25,7 +25,9 @@ use Rattle.dh_types.specs.Records.{is_same_receipt_kind}
 use Rattle.dh_model.specs.Checks.{is_same_text}
 use Rattle.dh_rows.specs.ReceiptRows.{receipt_in, receipt_row, is_receipt_row}
 use Rattle.dh_rows.specs.Cells.{is_read_cell, read_in}
-use Rattle.dh_catalog.specs.Layout.{our_schema}
+use Rattle.sqlite_schema.specs.declared.schema.Schema.{Schema}
+use Rattle.dh_types.specs.declared.version.Version.TheVariants.{First}
+use Rattle.dh_catalog.specs.Versions.{HasSince, of_both}
 use Rattle.dh_catalog.specs.ReceiptTable.{receipt}
 use Rattle.dh_sql.specs.CellTests.{Cell}
 use Rattle.dh_sql.specs.Shape.{Shape}
@@ -74,9 +76,12 @@ receipt_adding = record {
   source = own_rowid receipt_row;
 }
 
-inserts : (x : Receipt) → IsInsertText receipt_adding.text our_schema 11 receipt receipt_adding.terms 7 (receipt_row x) (receipt_adding.source x)
+inserts : (s : Schema) → HasSince First s → (x : Receipt)
+    → IsInsertText receipt_adding.text s 11 receipt receipt_adding.terms 7 (receipt_row x) (receipt_adding.source x)
 unfolding understood everything
-inserts x = record { command = refl; plain = (refl, refl); listed = refl; is_uncounted = refl; value = refl }
+inserts = of_both (λ s. (x : Receipt) → IsInsertText receipt_adding.text s 11 receipt receipt_adding.terms 7 (receipt_row x) (receipt_adding.source x))
+    (λ x. record { command = refl; plain = (refl, refl); listed = refl; is_uncounted = refl; value = refl })
+    (λ x. record { command = refl; plain = (refl, refl); listed = refl; is_uncounted = refl; value = refl })
 
 stays : (x : Receipt) → is_receipt_row (receipt_row x) ≡ true → cast_row receipt (receipt_adding.source x) ≡ receipt_adding.source x
 stays x good =
@@ -84,7 +89,7 @@ stays x good =
     row_stays (rowid_column ∷ drop 1 receipt_cells) receipt (Int (pos x.number)) (drop 1 (receipt_adding.source x))
     refl (cast_int (pos x.number)) (refl, cells.1)
 
-pub receipt_is_adding : IsAdding receipt_shape receipt_row is_receipt_row receipt_adding
+pub receipt_is_adding : IsAdding First receipt_shape receipt_row is_receipt_row receipt_adding
 receipt_is_adding = record {
   tree_is = refl;
   listed = refl;
@@ -113,12 +118,16 @@ receipt_listing = record {
   rowid_name = codes "receipt_no";
 }
 
-pub receipt_is_listing : IsListing 20 receipt_columns receipt_listing
+pub receipt_is_listing : IsListing First 20 receipt_columns receipt_listing
 unfolding understood everything
 receipt_is_listing = record {
-  selects = record { command = refl; unlisted = refl; plain = (refl, refl); stored = λ db. refl };
+  selects = of_both (λ s. IsSelectText receipt_listing.text s 20 [] receipt_listing.project [] receipt_listing.names)
+      (record { command = refl; unlisted = refl; plain = (refl, refl); stored = λ db. refl })
+      (record { command = refl; unlisted = refl; plain = (refl, refl); stored = λ db. refl });
   shows_columns = λ r. refl;
-  selects_rowid = record { command = refl; unlisted = refl; plain = (refl, refl); stored = λ db. refl };
+  selects_rowid = of_both (λ s. IsSelectText receipt_listing.rowid_text s 20 [] (col 1 0 ∷ []) [] (receipt_listing.rowid_name ∷ []))
+      (record { command = refl; unlisted = refl; plain = (refl, refl); stored = λ db. refl })
+      (record { command = refl; unlisted = refl; plain = (refl, refl); stored = λ db. refl });
 }
 
 -- ---- the receipt with a number
@@ -131,11 +140,13 @@ receipt_numbered = record {
   names = receipt_names;
 }
 
-receipt_numbered_selects : IsSelectText receipt_numbered.text our_schema 20 receipt_numbered.tests receipt_project [] receipt_names
+receipt_numbered_selects : (s : Schema) → HasSince First s → IsSelectText receipt_numbered.text s 20 receipt_numbered.tests receipt_project [] receipt_names
 unfolding understood everything
-receipt_numbered_selects = record { command = refl; unlisted = refl; plain = (refl, refl); stored = λ db. refl }
+receipt_numbered_selects = of_both (λ s. IsSelectText receipt_numbered.text s 20 receipt_numbered.tests receipt_project [] receipt_names)
+    (record { command = refl; unlisted = refl; plain = (refl, refl); stored = λ db. refl })
+    (record { command = refl; unlisted = refl; plain = (refl, refl); stored = λ db. refl })
 
-pub receipt_numbered_is : IsAsking receipt_shape receipt_numbered
+pub receipt_numbered_is : IsAsking First receipt_shape receipt_numbered
     (λ (q : ReceiptNumbered). Unit {0}) (λ q. Int (pos q.number) ∷ []) (λ q r. nat_eq r.number q.number)
 receipt_numbered_is = record {
   selects = receipt_numbered_selects;
@@ -155,11 +166,13 @@ receipt_keyed = record {
   names = receipt_names;
 }
 
-receipt_keyed_selects : IsSelectText receipt_keyed.text our_schema 20 receipt_keyed.tests receipt_project [] receipt_names
+receipt_keyed_selects : (s : Schema) → HasSince First s → IsSelectText receipt_keyed.text s 20 receipt_keyed.tests receipt_project [] receipt_names
 unfolding understood everything
-receipt_keyed_selects = record { command = refl; unlisted = refl; plain = (refl, refl); stored = λ db. refl }
+receipt_keyed_selects = of_both (λ s. IsSelectText receipt_keyed.text s 20 receipt_keyed.tests receipt_project [] receipt_names)
+    (record { command = refl; unlisted = refl; plain = (refl, refl); stored = λ db. refl })
+    (record { command = refl; unlisted = refl; plain = (refl, refl); stored = λ db. refl })
 
-pub receipt_keyed_is : IsAsking receipt_shape receipt_keyed (λ (q : ReceiptKeyed). Unit {0}) (λ q. Text q.key ∷ []) (λ q r. is_same_text r.key q.key)
+pub receipt_keyed_is : IsAsking First receipt_shape receipt_keyed (λ (q : ReceiptKeyed). Unit {0}) (λ q. Text q.key ∷ []) (λ q r. is_same_text r.key q.key)
 receipt_keyed_is = record {
   selects = receipt_keyed_selects;
   shows_columns = λ q r. refl;
@@ -178,11 +191,13 @@ receipts_of_lease = record {
   names = receipt_names;
 }
 
-receipts_of_lease_selects : IsSelectText receipts_of_lease.text our_schema 20 receipts_of_lease.tests receipt_project [] receipt_names
+receipts_of_lease_selects : (s : Schema) → HasSince First s → IsSelectText receipts_of_lease.text s 20 receipts_of_lease.tests receipt_project [] receipt_names
 unfolding understood everything
-receipts_of_lease_selects = record { command = refl; unlisted = refl; plain = (refl, refl); stored = λ db. refl }
+receipts_of_lease_selects = of_both (λ s. IsSelectText receipts_of_lease.text s 20 receipts_of_lease.tests receipt_project [] receipt_names)
+    (record { command = refl; unlisted = refl; plain = (refl, refl); stored = λ db. refl })
+    (record { command = refl; unlisted = refl; plain = (refl, refl); stored = λ db. refl })
 
-pub receipts_of_lease_is : IsAsking receipt_shape receipts_of_lease
+pub receipts_of_lease_is : IsAsking First receipt_shape receipts_of_lease
     (λ (q : ReceiptsOfLease). Unit {0}) (λ q. Int (pos q.lease) ∷ []) (λ q r. nat_eq r.payment.lease q.lease)
 receipts_of_lease_is = record {
   selects = receipts_of_lease_selects;
@@ -202,9 +217,11 @@ deposits_of_lease = record {
   names = receipt_names;
 }
 
-deposits_of_lease_selects : IsSelectText deposits_of_lease.text our_schema 20 deposits_of_lease.tests receipt_project [] receipt_names
+deposits_of_lease_selects : (s : Schema) → HasSince First s → IsSelectText deposits_of_lease.text s 20 deposits_of_lease.tests receipt_project [] receipt_names
 unfolding understood everything
-deposits_of_lease_selects = record { command = refl; unlisted = refl; plain = (refl, refl); stored = λ db. refl }
+deposits_of_lease_selects = of_both (λ s. IsSelectText deposits_of_lease.text s 20 deposits_of_lease.tests receipt_project [] receipt_names)
+    (record { command = refl; unlisted = refl; plain = (refl, refl); stored = λ db. refl })
+    (record { command = refl; unlisted = refl; plain = (refl, refl); stored = λ db. refl })
 
 -- the name of a kind is that of the deposit where the kind is
 named_deposit : (t : List ℕ) → is_some (receipt_kind_of t) ≡ true
@@ -232,7 +249,7 @@ same_deposit (Int n) good = cc
 same_deposit (Real x) good = cc
 same_deposit (Blob b) good = cc
 
-pub deposits_of_lease_is : IsAsking receipt_shape deposits_of_lease (λ (q : DepositsOfLease). Unit {0}) (λ q. Int (pos q.lease) ∷ [])
+pub deposits_of_lease_is : IsAsking First receipt_shape deposits_of_lease (λ (q : DepositsOfLease). Unit {0}) (λ q. Int (pos q.lease) ∷ [])
     (λ q r. nat_eq r.payment.lease q.lease && is_same_receipt_kind r.payment.kind Deposit)
 deposits_of_lease_is = record {
   selects = deposits_of_lease_selects;

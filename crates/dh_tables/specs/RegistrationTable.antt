@@ -14,7 +14,9 @@ use Rattle.dh_types.specs.declared.client.Registration.{Registration}
 use Rattle.dh_model.specs.Books.{pair_cmp, text_cmp}
 use Rattle.dh_model.specs.Checks.{is_same_text}
 use Rattle.dh_rows.specs.RegistrationRows.{registration_in, registration_row, is_registration_row}
-use Rattle.dh_catalog.specs.Layout.{our_schema}
+use Rattle.sqlite_schema.specs.declared.schema.Schema.{Schema}
+use Rattle.dh_types.specs.declared.version.Version.TheVariants.{First}
+use Rattle.dh_catalog.specs.Versions.{HasSince, of_both}
 use Rattle.dh_catalog.specs.RegistrationTable.{registration}
 use Rattle.dh_sql.specs.CellTests.{Cell}
 use Rattle.dh_sql.specs.Shape.{Shape}
@@ -62,12 +64,15 @@ registration_adding = record {
   source = without_rowid registration_row;
 }
 
-inserts : (x : Registration)
-    → IsInsertText registration_adding.text our_schema 6 registration registration_adding.terms 5 (registration_row x) (registration_adding.source x)
+inserts : (s : Schema) → HasSince First s → (x : Registration)
+    → IsInsertText registration_adding.text s 6 registration registration_adding.terms 5 (registration_row x) (registration_adding.source x)
 unfolding understood everything
-inserts x = record { command = refl; plain = (refl, refl); listed = refl; is_uncounted = refl; value = refl }
+inserts = of_both (λ s. (x : Registration)
+    → IsInsertText registration_adding.text s 6 registration registration_adding.terms 5 (registration_row x) (registration_adding.source x))
+    (λ x. record { command = refl; plain = (refl, refl); listed = refl; is_uncounted = refl; value = refl })
+    (λ x. record { command = refl; plain = (refl, refl); listed = refl; is_uncounted = refl; value = refl })
 
-pub registration_is_adding : IsAdding registration_shape registration_row is_registration_row registration_adding
+pub registration_is_adding : IsAdding First registration_shape registration_row is_registration_row registration_adding
 registration_is_adding = record {
   tree_is = refl;
   listed = refl;
@@ -97,12 +102,16 @@ registration_listing = record {
   rowid_name = codes "rowid";
 }
 
-pub registration_is_listing : IsListing 11 registration_columns registration_listing
+pub registration_is_listing : IsListing First 11 registration_columns registration_listing
 unfolding understood everything
 registration_is_listing = record {
-  selects = record { command = refl; unlisted = refl; plain = (refl, refl); stored = λ db. refl };
+  selects = of_both (λ s. IsSelectText registration_listing.text s 11 [] registration_listing.project [] registration_listing.names)
+      (record { command = refl; unlisted = refl; plain = (refl, refl); stored = λ db. refl })
+      (record { command = refl; unlisted = refl; plain = (refl, refl); stored = λ db. refl });
   shows_columns = λ r. refl;
-  selects_rowid = record { command = refl; unlisted = refl; plain = (refl, refl); stored = λ db. refl };
+  selects_rowid = of_both (λ s. IsSelectText registration_listing.rowid_text s 11 [] (col 1 0 ∷ []) [] (registration_listing.rowid_name ∷ []))
+      (record { command = refl; unlisted = refl; plain = (refl, refl); stored = λ db. refl })
+      (record { command = refl; unlisted = refl; plain = (refl, refl); stored = λ db. refl });
 }
 
 -- ---- the registration of a client at a branch
@@ -115,11 +124,14 @@ registration_at = record {
   names = registration_names;
 }
 
-registration_at_selects : IsSelectText registration_at.text our_schema 11 registration_at.tests registration_project [] registration_names
+registration_at_selects : (s : Schema) → HasSince First s
+    → IsSelectText registration_at.text s 11 registration_at.tests registration_project [] registration_names
 unfolding understood everything
-registration_at_selects = record { command = refl; unlisted = refl; plain = (refl, refl); stored = λ db. refl }
+registration_at_selects = of_both (λ s. IsSelectText registration_at.text s 11 registration_at.tests registration_project [] registration_names)
+    (record { command = refl; unlisted = refl; plain = (refl, refl); stored = λ db. refl })
+    (record { command = refl; unlisted = refl; plain = (refl, refl); stored = λ db. refl })
 
-pub registration_at_is : IsAsking registration_shape registration_at
+pub registration_at_is : IsAsking First registration_shape registration_at
     (λ (q : RegistrationAt). Unit {0}) (λ q. Text q.client ∷ Text q.branch ∷ [])
     (λ q r. is_same_text r.client q.client && is_same_text r.branch q.branch)
 registration_at_is = record {

@@ -15,7 +15,9 @@ use Rattle.dh_types.specs.declared.run.Part.{Part}
 use Rattle.dh_types.specs.declared.run.RunSum.{RunSum}
 use Rattle.dh_rows.specs.declared.limits.TheConstants.{MOST_COUNT}
 use Rattle.dh_rows.specs.Cells.{is_through_cell, through_back, through_value}
-use Rattle.dh_catalog.specs.Layout.{our_schema}
+use Rattle.sqlite_schema.specs.declared.schema.Schema.{Schema}
+use Rattle.dh_types.specs.declared.version.Version.TheVariants.{First}
+use Rattle.dh_catalog.specs.Versions.{HasSince, of_both}
 use Rattle.dh_catalog.specs.RunTable.{run}
 use Rattle.dh_catalog.specs.PartTable.{part}
 use Rattle.dh_sql.specs.CellTests.{AreCells}
@@ -48,9 +50,11 @@ closing_given q = Int (pos q.month) ∷ Int (pos q.count) ∷ Int (pos q.total) 
 abbrev pub AreSums : ℕ → ℕ → Type 0
 AreSums count total = (count ≤ MOST_COUNT) × (total ≤ MOST_PENCE)
 
-closing_means : IsUpdateText closing.text our_schema 12 run run_of.tests closing.project
+closing_means : (s : Schema) → HasSince First s → IsUpdateText closing.text s 12 run run_of.tests closing.project
 unfolding understood everything
-closing_means = record { command = refl; plain = (refl, refl); listed = refl; stored = λ db. refl }
+closing_means = of_both (λ s. IsUpdateText closing.text s 12 run run_of.tests closing.project)
+    (record { command = refl; plain = (refl, refl); listed = refl; stored = λ db. refl })
+    (record { command = refl; plain = (refl, refl); listed = refl; stored = λ db. refl })
 
 closing_finds : (q : RunSum) (r : Row) → IsStored run_shape r
     → (passes_all (closing_given q) run_of.tests r ≡ true → (stored_in run_shape r).month ≡ q.month)
@@ -75,7 +79,7 @@ closing_turns q r known good own =
       record_is = refl;
     }
 
-pub closing_is : IsAmending run_shape closing (λ q. AreSums q.count q.total) closing_given (λ q. q.month)
+pub closing_is : IsAmending First run_shape closing (λ q. AreSums q.count q.total) closing_given (λ q. q.month)
     (λ q r. record r { count = q.count; total = q.total; is_closed = true })
 closing_is = record {
   means = closing_means;
@@ -103,9 +107,11 @@ part_given q = Int (pos q.month) ∷ Text q.branch ∷ through_value q.through �
 abbrev pub IsPart : Part → Type 0
 IsPart q = (is_through_cell (through_value q.through) ≡ true) × AreSums q.count q.total
 
-part_means : IsUpdateText part_amending.text our_schema 13 part part_of.tests part_amending.project
+part_means : (s : Schema) → HasSince First s → IsUpdateText part_amending.text s 13 part part_of.tests part_amending.project
 unfolding understood everything
-part_means = record { command = refl; plain = (refl, refl); listed = refl; stored = λ db. refl }
+part_means = of_both (λ s. IsUpdateText part_amending.text s 13 part part_of.tests part_amending.project)
+    (record { command = refl; plain = (refl, refl); listed = refl; stored = λ db. refl })
+    (record { command = refl; plain = (refl, refl); listed = refl; stored = λ db. refl })
 
 part_finds : (q : Part) (r : Row) → IsStored part_shape r
     → (passes_all (part_given q) part_of.tests r ≡ true → part_shape.key (stored_in part_shape r) ≡ (q.month, q.branch))
@@ -133,7 +139,7 @@ part_turns q r known good own =
       record_is = ap amended (through_back q.through known.0);
     }
 
-pub part_is : IsAmending part_shape part_amending IsPart part_given (λ q. (q.month, q.branch))
+pub part_is : IsAmending First part_shape part_amending IsPart part_given (λ q. (q.month, q.branch))
     (λ q p. record p { through = q.through; count = q.count; total = q.total })
 part_is = record {
   means = part_means;

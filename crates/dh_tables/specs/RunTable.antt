@@ -17,7 +17,9 @@ use Rattle.dh_types.specs.declared.run.Run.{Run}
 use Rattle.dh_model.specs.Checks.{is_same_text}
 use Rattle.dh_rows.specs.declared.limits.TheConstants.{MOST_COUNT}
 use Rattle.dh_rows.specs.RunRows.{run_in, run_row, is_run_row}
-use Rattle.dh_catalog.specs.Layout.{our_schema}
+use Rattle.sqlite_schema.specs.declared.schema.Schema.{Schema}
+use Rattle.dh_types.specs.declared.version.Version.TheVariants.{First}
+use Rattle.dh_catalog.specs.Versions.{HasSince, of_both}
 use Rattle.dh_catalog.specs.RunTable.{run}
 use Rattle.dh_sql.specs.CellTests.{Cell}
 use Rattle.dh_sql.specs.Shape.{Shape}
@@ -61,16 +63,18 @@ run_adding = record {
   source = own_rowid run_row;
 }
 
-inserts : (x : Run) → IsInsertText run_adding.text our_schema 12 run run_adding.terms 6 (run_row x) (run_adding.source x)
+inserts : (s : Schema) → HasSince First s → (x : Run) → IsInsertText run_adding.text s 12 run run_adding.terms 6 (run_row x) (run_adding.source x)
 unfolding understood everything
-inserts x = record { command = refl; plain = (refl, refl); listed = refl; is_uncounted = refl; value = refl }
+inserts = of_both (λ s. (x : Run) → IsInsertText run_adding.text s 12 run run_adding.terms 6 (run_row x) (run_adding.source x))
+    (λ x. record { command = refl; plain = (refl, refl); listed = refl; is_uncounted = refl; value = refl })
+    (λ x. record { command = refl; plain = (refl, refl); listed = refl; is_uncounted = refl; value = refl })
 
 stays : (x : Run) → is_run_row (run_row x) ≡ true → cast_row run (run_adding.source x) ≡ run_adding.source x
 stays x good =
     let cells = (pass_each run_cells true (run_row x) good).1 in
     row_stays (rowid_column ∷ drop 1 run_cells) run (Int (pos x.month)) (drop 1 (run_adding.source x)) refl (cast_int (pos x.month)) (refl, cells.1)
 
-pub run_is_adding : IsAdding run_shape run_row is_run_row run_adding
+pub run_is_adding : IsAdding First run_shape run_row is_run_row run_adding
 run_is_adding = record {
   tree_is = refl;
   listed = refl;
@@ -99,12 +103,16 @@ run_listing = record {
   rowid_name = codes "month";
 }
 
-pub run_is_listing : IsListing 22 run_columns run_listing
+pub run_is_listing : IsListing First 22 run_columns run_listing
 unfolding understood everything
 run_is_listing = record {
-  selects = record { command = refl; unlisted = refl; plain = (refl, refl); stored = λ db. refl };
+  selects = of_both (λ s. IsSelectText run_listing.text s 22 [] run_listing.project [] run_listing.names)
+      (record { command = refl; unlisted = refl; plain = (refl, refl); stored = λ db. refl })
+      (record { command = refl; unlisted = refl; plain = (refl, refl); stored = λ db. refl });
   shows_columns = λ r. refl;
-  selects_rowid = record { command = refl; unlisted = refl; plain = (refl, refl); stored = λ db. refl };
+  selects_rowid = of_both (λ s. IsSelectText run_listing.rowid_text s 22 [] (col 1 0 ∷ []) [] (run_listing.rowid_name ∷ []))
+      (record { command = refl; unlisted = refl; plain = (refl, refl); stored = λ db. refl })
+      (record { command = refl; unlisted = refl; plain = (refl, refl); stored = λ db. refl });
 }
 
 -- ---- the run of a month
@@ -117,11 +125,13 @@ run_of = record {
   names = run_names;
 }
 
-run_of_selects : IsSelectText run_of.text our_schema 22 run_of.tests run_project [] run_names
+run_of_selects : (s : Schema) → HasSince First s → IsSelectText run_of.text s 22 run_of.tests run_project [] run_names
 unfolding understood everything
-run_of_selects = record { command = refl; unlisted = refl; plain = (refl, refl); stored = λ db. refl }
+run_of_selects = of_both (λ s. IsSelectText run_of.text s 22 run_of.tests run_project [] run_names)
+    (record { command = refl; unlisted = refl; plain = (refl, refl); stored = λ db. refl })
+    (record { command = refl; unlisted = refl; plain = (refl, refl); stored = λ db. refl })
 
-pub run_of_is : IsAsking run_shape run_of (λ (q : RunOf). Unit {0}) (λ q. Int (pos q.month) ∷ []) (λ q r. nat_eq r.month q.month)
+pub run_of_is : IsAsking First run_shape run_of (λ (q : RunOf). Unit {0}) (λ q. Int (pos q.month) ∷ []) (λ q r. nat_eq r.month q.month)
 run_of_is = record {
   selects = run_of_selects;
   shows_columns = λ q r. refl;
@@ -140,11 +150,13 @@ run_keyed = record {
   names = run_names;
 }
 
-run_keyed_selects : IsSelectText run_keyed.text our_schema 22 run_keyed.tests run_project [] run_names
+run_keyed_selects : (s : Schema) → HasSince First s → IsSelectText run_keyed.text s 22 run_keyed.tests run_project [] run_names
 unfolding understood everything
-run_keyed_selects = record { command = refl; unlisted = refl; plain = (refl, refl); stored = λ db. refl }
+run_keyed_selects = of_both (λ s. IsSelectText run_keyed.text s 22 run_keyed.tests run_project [] run_names)
+    (record { command = refl; unlisted = refl; plain = (refl, refl); stored = λ db. refl })
+    (record { command = refl; unlisted = refl; plain = (refl, refl); stored = λ db. refl })
 
-pub run_keyed_is : IsAsking run_shape run_keyed (λ (q : RunKeyed). Unit {0}) (λ q. Text q.key ∷ []) (λ q r. is_same_text r.key q.key)
+pub run_keyed_is : IsAsking First run_shape run_keyed (λ (q : RunKeyed). Unit {0}) (λ q. Text q.key ∷ []) (λ q r. is_same_text r.key q.key)
 run_keyed_is = record {
   selects = run_keyed_selects;
   shows_columns = λ q r. refl;

@@ -14,7 +14,9 @@ use Rattle.dh_types.specs.declared.staff.Staff.{Staff}
 use Rattle.dh_model.specs.Books.{text_cmp}
 use Rattle.dh_model.specs.Checks.{is_same_text}
 use Rattle.dh_rows.specs.StaffRows.{staff_in, staff_row, is_staff_row}
-use Rattle.dh_catalog.specs.Layout.{our_schema}
+use Rattle.sqlite_schema.specs.declared.schema.Schema.{Schema}
+use Rattle.dh_types.specs.declared.version.Version.TheVariants.{First}
+use Rattle.dh_catalog.specs.Versions.{HasSince, of_both}
 use Rattle.dh_catalog.specs.StaffTable.{staff}
 use Rattle.dh_sql.specs.CellTests.{Cell}
 use Rattle.dh_sql.specs.Shape.{Shape}
@@ -56,11 +58,13 @@ staff_adding = record {
   source = without_rowid staff_row;
 }
 
-inserts : (x : Staff) → IsInsertText staff_adding.text our_schema 2 staff staff_adding.terms 5 (staff_row x) (staff_adding.source x)
+inserts : (s : Schema) → HasSince First s → (x : Staff) → IsInsertText staff_adding.text s 2 staff staff_adding.terms 5 (staff_row x) (staff_adding.source x)
 unfolding understood everything
-inserts x = record { command = refl; plain = (refl, refl); listed = refl; is_uncounted = refl; value = refl }
+inserts = of_both (λ s. (x : Staff) → IsInsertText staff_adding.text s 2 staff staff_adding.terms 5 (staff_row x) (staff_adding.source x))
+    (λ x. record { command = refl; plain = (refl, refl); listed = refl; is_uncounted = refl; value = refl })
+    (λ x. record { command = refl; plain = (refl, refl); listed = refl; is_uncounted = refl; value = refl })
 
-pub staff_is_adding : IsAdding staff_shape staff_row is_staff_row staff_adding
+pub staff_is_adding : IsAdding First staff_shape staff_row is_staff_row staff_adding
 staff_is_adding = record {
   tree_is = refl;
   listed = refl;
@@ -89,12 +93,16 @@ staff_listing = record {
   rowid_name = codes "rowid";
 }
 
-pub staff_is_listing : IsListing 3 staff_columns staff_listing
+pub staff_is_listing : IsListing First 3 staff_columns staff_listing
 unfolding understood everything
 staff_is_listing = record {
-  selects = record { command = refl; unlisted = refl; plain = (refl, refl); stored = λ db. refl };
+  selects = of_both (λ s. IsSelectText staff_listing.text s 3 [] staff_listing.project [] staff_listing.names)
+      (record { command = refl; unlisted = refl; plain = (refl, refl); stored = λ db. refl })
+      (record { command = refl; unlisted = refl; plain = (refl, refl); stored = λ db. refl });
   shows_columns = λ r. refl;
-  selects_rowid = record { command = refl; unlisted = refl; plain = (refl, refl); stored = λ db. refl };
+  selects_rowid = of_both (λ s. IsSelectText staff_listing.rowid_text s 3 [] (col 1 0 ∷ []) [] (staff_listing.rowid_name ∷ []))
+      (record { command = refl; unlisted = refl; plain = (refl, refl); stored = λ db. refl })
+      (record { command = refl; unlisted = refl; plain = (refl, refl); stored = λ db. refl });
 }
 
 -- ---- the member of staff with a number
@@ -107,11 +115,13 @@ member_numbered = record {
   names = staff_names;
 }
 
-member_numbered_selects : IsSelectText member_numbered.text our_schema 3 member_numbered.tests staff_project [] staff_names
+member_numbered_selects : (s : Schema) → HasSince First s → IsSelectText member_numbered.text s 3 member_numbered.tests staff_project [] staff_names
 unfolding understood everything
-member_numbered_selects = record { command = refl; unlisted = refl; plain = (refl, refl); stored = λ db. refl }
+member_numbered_selects = of_both (λ s. IsSelectText member_numbered.text s 3 member_numbered.tests staff_project [] staff_names)
+    (record { command = refl; unlisted = refl; plain = (refl, refl); stored = λ db. refl })
+    (record { command = refl; unlisted = refl; plain = (refl, refl); stored = λ db. refl })
 
-pub member_numbered_is : IsAsking staff_shape member_numbered
+pub member_numbered_is : IsAsking First staff_shape member_numbered
     (λ (q : MemberNumbered). Unit {0}) (λ q. Text q.number ∷ []) (λ q s. is_same_text s.number q.number)
 member_numbered_is = record {
   selects = member_numbered_selects;

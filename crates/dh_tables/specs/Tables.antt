@@ -12,7 +12,10 @@ use Rattle.sqlite_rules.specs.Cast.{cast_row}
 use Rattle.sqlite_rules.specs.Edit.{with_rowid}
 use Rattle.sqlite_rules.specs.declared.error.Rowids.TheVariants.{Chosen}
 use Rattle.dh_model.specs.Books.{State}
+use Rattle.sqlite_schema.specs.declared.schema.Schema.{Schema}
 use Rattle.dh_catalog.specs.Layout.{our_schema}
+use Rattle.dh_types.specs.declared.version.Version.{Version}
+use Rattle.dh_catalog.specs.Versions.{HasSince}
 use Rattle.dh_sql.specs.Shape.{Shape}
 use Rattle.dh_sql.specs.Texts.{IsInsertText}
 
@@ -43,10 +46,11 @@ abbrev pub own_rowid : {X : Type 0} → (X → Row) → X → Row
 own_rowid row x = take 1 (row x) ++ Null ∷ drop 1 (row x)
 
 -- the text adds the row of a record, which is read back as the record
-pub record IsAdding {K X : Type 0} (it : Shape K X) (row : X → Row) (is_row : Row → Bool) (adding : Adding X) : Type 0 where
+pub record IsAdding {K X : Type 0} (since : Version) (it : Shape K X) (row : X → Row) (is_row : Row → Bool) (adding : Adding X) : Type 0 where
   pub tree_is : adding.table.tree ≡ it.tree
   pub listed : slice_get our_schema.tables adding.place ≡ Some adding.table
-  pub inserts : (x : X) → IsInsertText adding.text our_schema adding.place adding.table adding.terms adding.width (row x) (adding.source x)
+  pub inserts : (s : Schema) → HasSince since s → (x : X)
+      → IsInsertText adding.text s adding.place adding.table adding.terms adding.width (row x) (adding.source x)
   pub stays : (x : X) → is_row (row x) ≡ true → cast_row adding.table (adding.source x) ≡ adding.source x
   pub columns : (x : X) (rows : List Row) → it.columns (with_rowid Chosen rows (adding.source x)) ≡ row x
   pub keyed : (x : X) (rows : List Row) → is_int (rowid (with_rowid Chosen rows (adding.source x))) ≡ true

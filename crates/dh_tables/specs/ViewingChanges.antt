@@ -9,7 +9,9 @@ use Rattle.sqlite_trees.specs.View.{is_int}
 use Rattle.sqlite.specs.Listing.{understood}
 use Rattle.dh_values.specs.Texts.{is_id, is_text}
 use Rattle.dh_types.specs.declared.command.ViewingComment.{ViewingComment}
-use Rattle.dh_catalog.specs.Layout.{our_schema}
+use Rattle.sqlite_schema.specs.declared.schema.Schema.{Schema}
+use Rattle.dh_types.specs.declared.version.Version.TheVariants.{First}
+use Rattle.dh_catalog.specs.Versions.{HasSince, of_both}
 use Rattle.dh_catalog.specs.ViewingTable.{viewing}
 use Rattle.dh_sql.specs.CellTests.{AreCells}
 use Rattle.dh_sql.specs.Changes.{IsTurnedInto}
@@ -33,9 +35,11 @@ comment_amending = record {
 abbrev pub comment_given : ViewingComment → Row
 comment_given q = Text q.client ∷ Text q.property ∷ Text q.comment ∷ []
 
-means : IsUpdateText comment_amending.text our_schema 7 viewing viewing_of.tests comment_amending.project
+means : (s : Schema) → HasSince First s → IsUpdateText comment_amending.text s 7 viewing viewing_of.tests comment_amending.project
 unfolding understood everything
-means = record { command = refl; plain = (refl, refl); listed = refl; stored = λ db. refl }
+means = of_both (λ s. IsUpdateText comment_amending.text s 7 viewing viewing_of.tests comment_amending.project)
+    (record { command = refl; plain = (refl, refl); listed = refl; stored = λ db. refl })
+    (record { command = refl; plain = (refl, refl); listed = refl; stored = λ db. refl })
 
 finds : (q : ViewingComment) (r : Row) → IsStored viewing_shape r
     → (passes_all (comment_given q) viewing_of.tests r ≡ true → viewing_shape.key (stored_in viewing_shape r) ≡ (q.client, q.property))
@@ -61,7 +65,7 @@ turns q r known good own =
       record_is = refl;
     }
 
-pub comment_is : IsAmending viewing_shape comment_amending (λ q. is_text 200 q.comment ≡ true) comment_given (λ q. (q.client, q.property))
+pub comment_is : IsAmending First viewing_shape comment_amending (λ q. is_text 200 q.comment ≡ true) comment_given (λ q. (q.client, q.property))
     (λ q v. record v { comment = Some q.comment })
 comment_is = record {
   means = means;

@@ -14,7 +14,9 @@ use Rattle.dh_types.specs.declared.viewing.Viewing.{Viewing}
 use Rattle.dh_model.specs.Books.{pair_cmp, text_cmp}
 use Rattle.dh_model.specs.Checks.{is_same_text}
 use Rattle.dh_rows.specs.ViewingRows.{viewing_in, viewing_row, is_viewing_row}
-use Rattle.dh_catalog.specs.Layout.{our_schema}
+use Rattle.sqlite_schema.specs.declared.schema.Schema.{Schema}
+use Rattle.dh_types.specs.declared.version.Version.TheVariants.{First}
+use Rattle.dh_catalog.specs.Versions.{HasSince, of_both}
 use Rattle.dh_catalog.specs.ViewingTable.{viewing}
 use Rattle.dh_sql.specs.CellTests.{Cell}
 use Rattle.dh_sql.specs.Shape.{Shape}
@@ -56,11 +58,14 @@ viewing_adding = record {
   source = without_rowid viewing_row;
 }
 
-inserts : (x : Viewing) → IsInsertText viewing_adding.text our_schema 7 viewing viewing_adding.terms 5 (viewing_row x) (viewing_adding.source x)
+inserts : (s : Schema) → HasSince First s → (x : Viewing)
+    → IsInsertText viewing_adding.text s 7 viewing viewing_adding.terms 5 (viewing_row x) (viewing_adding.source x)
 unfolding understood everything
-inserts x = record { command = refl; plain = (refl, refl); listed = refl; is_uncounted = refl; value = refl }
+inserts = of_both (λ s. (x : Viewing) → IsInsertText viewing_adding.text s 7 viewing viewing_adding.terms 5 (viewing_row x) (viewing_adding.source x))
+    (λ x. record { command = refl; plain = (refl, refl); listed = refl; is_uncounted = refl; value = refl })
+    (λ x. record { command = refl; plain = (refl, refl); listed = refl; is_uncounted = refl; value = refl })
 
-pub viewing_is_adding : IsAdding viewing_shape viewing_row is_viewing_row viewing_adding
+pub viewing_is_adding : IsAdding First viewing_shape viewing_row is_viewing_row viewing_adding
 viewing_is_adding = record {
   tree_is = refl;
   listed = refl;
@@ -89,12 +94,16 @@ viewing_listing = record {
   rowid_name = codes "rowid";
 }
 
-pub viewing_is_listing : IsListing 13 viewing_columns viewing_listing
+pub viewing_is_listing : IsListing First 13 viewing_columns viewing_listing
 unfolding understood everything
 viewing_is_listing = record {
-  selects = record { command = refl; unlisted = refl; plain = (refl, refl); stored = λ db. refl };
+  selects = of_both (λ s. IsSelectText viewing_listing.text s 13 [] viewing_listing.project [] viewing_listing.names)
+      (record { command = refl; unlisted = refl; plain = (refl, refl); stored = λ db. refl })
+      (record { command = refl; unlisted = refl; plain = (refl, refl); stored = λ db. refl });
   shows_columns = λ r. refl;
-  selects_rowid = record { command = refl; unlisted = refl; plain = (refl, refl); stored = λ db. refl };
+  selects_rowid = of_both (λ s. IsSelectText viewing_listing.rowid_text s 13 [] (col 1 0 ∷ []) [] (viewing_listing.rowid_name ∷ []))
+      (record { command = refl; unlisted = refl; plain = (refl, refl); stored = λ db. refl })
+      (record { command = refl; unlisted = refl; plain = (refl, refl); stored = λ db. refl });
 }
 
 -- ---- the viewing of a property by a client
@@ -107,11 +116,13 @@ viewing_of = record {
   names = viewing_names;
 }
 
-viewing_of_selects : IsSelectText viewing_of.text our_schema 13 viewing_of.tests viewing_project [] viewing_names
+viewing_of_selects : (s : Schema) → HasSince First s → IsSelectText viewing_of.text s 13 viewing_of.tests viewing_project [] viewing_names
 unfolding understood everything
-viewing_of_selects = record { command = refl; unlisted = refl; plain = (refl, refl); stored = λ db. refl }
+viewing_of_selects = of_both (λ s. IsSelectText viewing_of.text s 13 viewing_of.tests viewing_project [] viewing_names)
+    (record { command = refl; unlisted = refl; plain = (refl, refl); stored = λ db. refl })
+    (record { command = refl; unlisted = refl; plain = (refl, refl); stored = λ db. refl })
 
-pub viewing_of_is : IsAsking viewing_shape viewing_of
+pub viewing_of_is : IsAsking First viewing_shape viewing_of
     (λ (q : ViewingOf). Unit {0}) (λ q. Text q.client ∷ Text q.property ∷ [])
     (λ q v. is_same_text v.client q.client && is_same_text v.property q.property)
 viewing_of_is = record {

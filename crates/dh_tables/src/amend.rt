@@ -6,12 +6,10 @@ ghost use Rattle.sqlite_value.specs.Order.{Row as SqlRow};
 ghost use Rattle.sqlite.specs.Values.{bound};
 ghost use Rattle.sqlite.specs.State.{HasCleanDisk, Shows};
 ghost use Rattle.sqlite.specs.Held.{state};
-ghost use Rattle.dh_catalog.specs.Layout.{our_schema};
-ghost use Rattle.dh_catalog.specs.Making.{IsWritingOn};
 ghost use Rattle.dh_sql.specs.Shape.{AreApart, IsKept, rows_in};
 ghost use Rattle.dh_sql.specs.Changes.{Becomes};
 ghost use Rattle.dh_tables.specs.Amendments.{Amending, IsAmending};
-ghost use Rattle.dh_tables.specs.Calls.{Amends, CommitsNothing, StaysInTransaction, IsThere, IsUndone};
+ghost use Rattle.dh_tables.specs.Calls.{Amends, CommitsNothing, StaysInTransaction, IsThere, IsUndone, IsWritingSince};
 
 use crate::Tabled;
 use sqlite::types::ValueRef;
@@ -45,7 +43,7 @@ pub trait Amend {
         ensures values { IfOk result (λ values. bound values.items ≡ given self.now) }
         ensures known { IfOk result (λ _. can_amend self.now) };
 
-    ghost is_amending: { IsAmending Self.Record.shape amending can_amend given key amended };
+    ghost is_amending: { IsAmending Self.Record.since Self.Record.shape amending can_amend given key amended };
 }
 
 /// Changes the record that has the key, which is there. An error has changed nothing or ended the
@@ -55,7 +53,7 @@ pub fn update<A: Amend, S: Alter>(
     tx: &mut Transaction<'_, S>,
     change: &A,
 ) -> Result<(), Error>
-    requires writing { HasCleanDisk (state S.Store tx.old.conn.now) → IsWritingOn our_schema (state S.Store tx.old.conn.now) }
+    requires writing { HasCleanDisk (state S.Store tx.old.conn.now) → IsWritingSince A.Record.since (state S.Store tx.old.conn.now) }
     requires kept { HasCleanDisk (state S.Store tx.old.conn.now) → IsKept A.Record.shape A.Record.order (state S.Store tx.old.conn.now).now.trees }
     requires apart { HasCleanDisk (state S.Store tx.old.conn.now) → AreApart ((state S.Store tx.old.conn.now).now.trees A.Record.shape.tree) }
     requires there { HasCleanDisk (state S.Store tx.old.conn.now)

@@ -2,11 +2,12 @@
 
 use crate::{Listed, Look, Tabled};
 use dh_books::Books;
-use dh_types::{Branch, Id};
+use dh_types::{Branch, Id, Version};
 use sqlite::types::ValueRef;
 use std::alloc::{AllocError, Global};
 
 impl Tabled for Branch {
+    ghost use Rattle.dh_types.specs.declared.version.Version.TheVariants.{First};
     ghost use Rattle.std.specs.Prelude.{refl};
     ghost use Rattle.dh_model.specs.Books.{text_cmp};
     ghost use Rattle.dh_model.proofs.KeyOrders.{text_total, text_ties};
@@ -15,6 +16,12 @@ impl Tabled for Branch {
     ghost shape = { branch_shape };
 
     ghost order = { text_cmp };
+
+    ghost since = { First };
+
+    fn came_with() -> Version {
+        Version::First
+    }
 
     ghost adding = { branch_adding };
 

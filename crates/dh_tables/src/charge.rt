@@ -2,11 +2,12 @@
 
 use crate::{Listed, Look, Tabled};
 use dh_books::Books;
-use dh_types::{Charge, ChargeIndex, EntryMonth, LeaseNo};
+use dh_types::{Charge, ChargeIndex, EntryMonth, LeaseNo, Version};
 use sqlite::types::ValueRef;
 use std::alloc::{AllocError, Global};
 
 impl Tabled for Charge {
+    ghost use Rattle.dh_types.specs.declared.version.Version.TheVariants.{First};
     ghost use Rattle.std.specs.Prelude.{refl};
     ghost use Rattle.std.specs.Ordering.{nat_cmp};
     ghost use Rattle.dh_model.specs.Books.{pair_cmp};
@@ -16,6 +17,12 @@ impl Tabled for Charge {
     ghost shape = { charge_shape };
 
     ghost order = { pair_cmp nat_cmp nat_cmp };
+
+    ghost since = { First };
+
+    fn came_with() -> Version {
+        Version::First
+    }
 
     ghost adding = { charge_adding };
 

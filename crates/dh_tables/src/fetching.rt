@@ -5,7 +5,7 @@ ghost use Rattle.sqlite.specs.State.{HasCleanDisk, IsUnchanged};
 ghost use Rattle.sqlite.specs.Held.{state};
 ghost use Rattle.dh_model.specs.Whole.{rows_where};
 ghost use Rattle.dh_sql.specs.Shape.{IsKept, rows_in};
-ghost use Rattle.dh_tables.specs.Calls.{CommitsNothing, HasFetchedMore, HasOurTables, IsUndone};
+ghost use Rattle.dh_tables.specs.Calls.{CommitsNothing, HasFetchedMore, HasTables, IsUndone};
 
 use crate::{Look, gather, rows_asked};
 use dh_books::Books;
@@ -20,7 +20,7 @@ pub fn fetch_more<L: Look, S: Alter>(
     question: &L,
     books: &mut Books,
 ) -> Result<bool, Error>
-    requires reading { HasCleanDisk (state S.Store conn.old) → HasOurTables (state S.Store conn.old) }
+    requires reading { HasCleanDisk (state S.Store conn.old) → HasTables L.Record.since (state S.Store conn.old) }
     requires kept { HasCleanDisk (state S.Store conn.old) → IsKept L.Record.shape L.Record.order (state S.Store conn.old).now.trees }
     ensures fetched { HasCleanDisk (state S.Store conn.new)
         → IfOk result (λ done. done ≡ true

@@ -7,7 +7,7 @@ ghost use Rattle.sqlite.specs.Held.{state};
 ghost use Rattle.dh_model.specs.Whole.{rows_where};
 ghost use Rattle.dh_sql.specs.Shape.{IsKept, rows_in, rows_of};
 ghost use Rattle.dh_tables.specs.Questions.{AsksFor, only_record};
-ghost use Rattle.dh_tables.specs.Calls.{CommitsNothing, HasOurTables, IsFound, IsUndone, asked_in};
+ghost use Rattle.dh_tables.specs.Calls.{CommitsNothing, HasTables, IsFound, IsUndone, asked_in};
 
 use crate::{Look, Tabled, rows_asked};
 use sqlite::{Alter, Connection, Error, ErrorCode, Row};
@@ -34,7 +34,7 @@ pub fn find<L: Look, S: Alter>(
     conn: &mut Connection<S>,
     question: &L,
 ) -> Result<Option<L::Record>, Error>
-    requires reading { HasCleanDisk (state S.Store conn.old) → HasOurTables (state S.Store conn.old) }
+    requires reading { HasCleanDisk (state S.Store conn.old) → HasTables L.Record.since (state S.Store conn.old) }
     requires kept { HasCleanDisk (state S.Store conn.old) → IsKept L.Record.shape L.Record.order (state S.Store conn.old).now.trees }
     ensures only { HasCleanDisk (state S.Store conn.new)
         → IfOk result (λ found. asked_in L.Record.shape L.Record.order (L.asks question.now) (state S.Store conn.old) ≡ only_record L.Record.shape found) }

@@ -2,11 +2,12 @@
 
 use crate::{Listed, Look, Tabled};
 use dh_books::Books;
-use dh_types::{EntryDay, Id, Inspection};
+use dh_types::{EntryDay, Id, Inspection, Version};
 use sqlite::types::ValueRef;
 use std::alloc::{AllocError, Global};
 
 impl Tabled for Inspection {
+    ghost use Rattle.dh_types.specs.declared.version.Version.TheVariants.{First};
     ghost use Rattle.std.specs.Prelude.{refl};
     ghost use Rattle.std.specs.Ordering.{nat_cmp};
     ghost use Rattle.dh_model.specs.Books.{pair_cmp, text_cmp};
@@ -16,6 +17,12 @@ impl Tabled for Inspection {
     ghost shape = { inspection_shape };
 
     ghost order = { pair_cmp text_cmp nat_cmp };
+
+    ghost since = { First };
+
+    fn came_with() -> Version {
+        Version::First
+    }
 
     ghost adding = { inspection_adding };
 

@@ -4,7 +4,7 @@ ghost use Rattle.std.specs.Prelude.{◌≡◌, length, map, IfOk, OnOk, OnErr, I
 ghost use Rattle.std.specs.FinMap as fin;
 ghost use Rattle.sqlite.specs.State.{HasCleanDisk, IsUnchanged};
 ghost use Rattle.sqlite.specs.Held.{state};
-ghost use Rattle.dh_tables.specs.Calls.{CommitsNothing, HasOurTables, IsUndone};
+ghost use Rattle.dh_tables.specs.Calls.{CommitsNothing, HasTables, IsUndone};
 ghost use Rattle.dh_tables.specs.Listing.{IsListing, Listing, rowid_alone};
 
 use crate::Tabled;
@@ -28,12 +28,12 @@ pub trait Listed: Tabled {
     fn held_count(books: &Books) -> usize
         ensures { result ≡ length (fin.values (Self.shelf.held books.now)) };
 
-    ghost is_listing: { IsListing Self.shape.tree Self.shape.columns listing };
+    ghost is_listing: { IsListing Self.since Self.shape.tree Self.shape.columns listing };
 }
 
 /// The columns of each row of the table, in some order. It changes nothing.
 pub fn rows_listed<R: Listed, S: Alter>(conn: &mut Connection<S>) -> Result<Vec<Row>, Error>
-    requires reading { HasCleanDisk (state S.Store conn.old) → HasOurTables (state S.Store conn.old) }
+    requires reading { HasCleanDisk (state S.Store conn.old) → HasTables R.since (state S.Store conn.old) }
     ensures rows { HasCleanDisk (state S.Store conn.new)
         → IfOk result (λ rows. IsPermutation (map R.shape.columns ((state S.Store conn.old).now.trees R.shape.tree)) rows.items) }
     ensures same { HasCleanDisk (state S.Store conn.new) → OnOk result (IsUnchanged (state S.Store conn.old) (state S.Store conn.new)) }
@@ -45,7 +45,7 @@ pub fn rows_listed<R: Listed, S: Alter>(conn: &mut Connection<S>) -> Result<Vec<
 
 /// The rowid of each row of the table, as a row of its own, in some order. It changes nothing.
 pub fn rowids_listed<R: Listed, S: Alter>(conn: &mut Connection<S>) -> Result<Vec<Row>, Error>
-    requires reading { HasCleanDisk (state S.Store conn.old) → HasOurTables (state S.Store conn.old) }
+    requires reading { HasCleanDisk (state S.Store conn.old) → HasTables R.since (state S.Store conn.old) }
     ensures rows { HasCleanDisk (state S.Store conn.new)
         → IfOk result (λ rows. IsPermutation (map rowid_alone ((state S.Store conn.old).now.trees R.shape.tree)) rows.items) }
     ensures same { HasCleanDisk (state S.Store conn.new) → OnOk result (IsUnchanged (state S.Store conn.old) (state S.Store conn.new)) }

@@ -6,7 +6,7 @@ ghost use Rattle.std.specs.FinMap as fin;
 ghost use Rattle.sqlite.specs.State.{HasCleanDisk, IsUnchanged};
 ghost use Rattle.sqlite.specs.Held.{state};
 ghost use Rattle.dh_sql.specs.Shape.{IsStored};
-ghost use Rattle.dh_tables.specs.Calls.{CommitsNothing, HasOurTables, IsUndone};
+ghost use Rattle.dh_tables.specs.Calls.{CommitsNothing, HasTables, IsUndone};
 ghost use Rattle.dh_tables.specs.Listing.{HasRowids, IsGathered, IsLoaded};
 
 use crate::{Listed, are_numbered, gather, rowids_listed, rows_listed};
@@ -16,7 +16,7 @@ use std::alloc::Global;
 
 // Whether rowids are whole numbers, and each is of one row. It changes no table.
 fn has_rowids<R: Listed, S: Alter>(alloc: Global, conn: &mut Connection<S>) -> Result<bool, Error>
-    requires reading { HasCleanDisk (state S.Store conn.old) → HasOurTables (state S.Store conn.old) }
+    requires reading { HasCleanDisk (state S.Store conn.old) → HasTables R.since (state S.Store conn.old) }
     ensures rowids { HasCleanDisk (state S.Store conn.new)
         → IfOk result (λ good. good ≡ true → HasRowids ((state S.Store conn.old).now.trees R.shape.tree)) }
     ensures same { HasCleanDisk (state S.Store conn.new) → OnOk result (IsUnchanged (state S.Store conn.old) (state S.Store conn.new)) }
@@ -34,7 +34,7 @@ pub fn gather_all<R: Listed, S: Alter>(
     conn: &mut Connection<S>,
     books: &mut Books,
 ) -> Result<bool, Error>
-    requires reading { HasCleanDisk (state S.Store conn.old) → HasOurTables (state S.Store conn.old) }
+    requires reading { HasCleanDisk (state S.Store conn.old) → HasTables R.since (state S.Store conn.old) }
     requires none { HasCleanDisk (state S.Store conn.old) → R.shelf.held books.old ≡ fin.empty }
     ensures gathered { HasCleanDisk (state S.Store conn.new)
         → IfOk result (λ done. done ≡ true → IsGathered R.shape R.order R.shelf (state S.Store conn.old).now.trees books.old books.new) }
@@ -62,7 +62,7 @@ pub fn load_all<R: Listed, S: Alter>(
     conn: &mut Connection<S>,
     books: &mut Books,
 ) -> Result<bool, Error>
-    requires reading { HasCleanDisk (state S.Store conn.old) → HasOurTables (state S.Store conn.old) }
+    requires reading { HasCleanDisk (state S.Store conn.old) → HasTables R.since (state S.Store conn.old) }
     requires none { HasCleanDisk (state S.Store conn.old) → R.shelf.held books.old ≡ fin.empty }
     ensures loaded { HasCleanDisk (state S.Store conn.new)
         → IfOk result (λ done. done ≡ true → IsLoaded R.shape R.order R.shelf (state S.Store conn.old).now.trees books.old books.new) }

@@ -10,7 +10,7 @@ ghost use Rattle.sqlite.specs.Held.{state};
 ghost use Rattle.dh_model.specs.Whole.{rows_where};
 ghost use Rattle.dh_sql.specs.Shape.{IsKept, rows_in, rows_of, shown_keys};
 ghost use Rattle.dh_tables.specs.Questions.{Asking, IsAsking};
-ghost use Rattle.dh_tables.specs.Calls.{AreAsked, CommitsNothing, HasOurTables, IsUndone};
+ghost use Rattle.dh_tables.specs.Calls.{AreAsked, CommitsNothing, HasTables, IsUndone};
 
 use crate::Tabled;
 use sqlite::types::ValueRef;
@@ -50,7 +50,7 @@ pub trait Look {
         ensures values { IfOk result (λ values. bound values.items ≡ given self.now) }
         ensures known { IfOk result (λ _. can_ask self.now) };
 
-    ghost is_asking: { IsAsking Self.Record.shape asking can_ask given asks };
+    ghost is_asking: { IsAsking Self.Record.since Self.Record.shape asking can_ask given asks };
 }
 
 /// The rows that are asked for, in some order, none twice. It changes nothing.
@@ -59,7 +59,7 @@ pub fn rows_asked<L: Look, S: Alter>(
     conn: &mut Connection<S>,
     question: &L,
 ) -> Result<Vec<Row>, Error>
-    requires reading { HasCleanDisk (state S.Store conn.old) → HasOurTables (state S.Store conn.old) }
+    requires reading { HasCleanDisk (state S.Store conn.old) → HasTables L.Record.since (state S.Store conn.old) }
     requires kept { HasCleanDisk (state S.Store conn.old) → IsKept L.Record.shape L.Record.order (state S.Store conn.old).now.trees }
     ensures rows { HasCleanDisk (state S.Store conn.new)
         → IfOk result (λ rows. AreAsked L.Record.shape L.Record.order (L.asks question.now) (state S.Store conn.old) rows.items) }

@@ -7,9 +7,8 @@ ghost use Rattle.sqlite.specs.Values.{bound_value};
 ghost use Rattle.sqlite.specs.State.{HasCleanDisk, IsUnchanged, Shows};
 ghost use Rattle.sqlite.specs.Held.{state};
 ghost use Rattle.dh_days.specs.declared.limits.TheConstants.{FIRST_MONTH, LAST_NEXT_MONTH};
-ghost use Rattle.dh_catalog.specs.Layout.{our_schema};
-ghost use Rattle.dh_catalog.specs.Making.{IsWritingOn};
-ghost use Rattle.dh_tables.specs.Calls.{CommitsNothing, StaysInTransaction, HasOurTables, IsUndone, IsInTransaction};
+ghost use Rattle.dh_types.specs.declared.version.Version.TheVariants.{First};
+ghost use Rattle.dh_tables.specs.Calls.{CommitsNothing, StaysInTransaction, HasOurTables, IsUndone, IsInTransaction, IsWritingSince};
 ghost use Rattle.dh_tables.specs.MetaTable.{AreFound, HasItsRow, SetsMonths, SetsNext, meta_rows};
 
 use dh_rows::{Meta, Record};
@@ -25,7 +24,7 @@ pub fn insert_meta<S: Alter>(
     tx: &mut Transaction<'_, S>,
     months: &Meta,
 ) -> Result<(), Error>
-    requires writing { HasCleanDisk (state S.Store tx.old.conn.now) → IsWritingOn our_schema (state S.Store tx.old.conn.now) }
+    requires writing { HasCleanDisk (state S.Store tx.old.conn.now) → IsWritingSince First (state S.Store tx.old.conn.now) }
     requires empty { HasCleanDisk (state S.Store tx.old.conn.now) → (state S.Store tx.old.conn.now).now.trees 0 ≡ [] }
     ensures same_reference { tx.new.conn.ghost_name ≡ tx.old.conn.ghost_name }
     ensures writing { HasCleanDisk (state S.Store tx.new.conn.now) → OnOk result (IsInTransaction (state S.Store tx.new.conn.now)) }
@@ -66,7 +65,7 @@ pub fn meta_rows_shown<S: Alter>(conn: &mut Connection<S>) -> Result<Vec<Row>, E
     conn.query_all("SELECT id, version, first_month, next_month FROM meta", &[])
 }
 
-/// The months of the file; None where the table does not have one row, of this version. It changes no table.
+/// The months of the file, with its version; None where the table does not have one row, of either version. It changes no table.
 pub fn find_meta<S: Alter>(alloc: Global, conn: &mut Connection<S>) -> Result<Option<Meta>, Error>
     requires reading { HasCleanDisk (state S.Store conn.old) → HasOurTables (state S.Store conn.old) }
     ensures found { HasCleanDisk (state S.Store conn.new) → IfOk result (AreFound (meta_rows (state S.Store conn.old).now.trees)) }
@@ -89,7 +88,7 @@ fn number(month: Month) -> ValueRef<'static>
 /// Sets the month whose rent is to be run next, in a table that has its row. An error has changed nothing or ended
 /// the transaction, where the store is still open.
 pub fn set_next_month<S: Alter>(tx: &mut Transaction<'_, S>, next: Month) -> Result<(), Error>
-    requires writing { HasCleanDisk (state S.Store tx.old.conn.now) → IsWritingOn our_schema (state S.Store tx.old.conn.now) }
+    requires writing { HasCleanDisk (state S.Store tx.old.conn.now) → IsWritingSince First (state S.Store tx.old.conn.now) }
     requires there { HasCleanDisk (state S.Store tx.old.conn.now) → HasItsRow (state S.Store tx.old.conn.now).now.trees }
     requires range { next ≤ LAST_NEXT_MONTH }
     ensures same_reference { tx.new.conn.ghost_name ≡ tx.old.conn.ghost_name }

@@ -2,11 +2,12 @@
 
 use crate::{Listed, Look, Tabled};
 use dh_books::Books;
-use dh_types::{Key, LeaseNo, Receipt, ReceiptNo};
+use dh_types::{Key, LeaseNo, Receipt, ReceiptNo, Version};
 use sqlite::types::ValueRef;
 use std::alloc::{AllocError, Global};
 
 impl Tabled for Receipt {
+    ghost use Rattle.dh_types.specs.declared.version.Version.TheVariants.{First};
     ghost use Rattle.std.specs.Prelude.{refl};
     ghost use Rattle.std.specs.Ordering.{nat_cmp};
     ghost use Rattle.dh_model.proofs.KeyOrders.{nat_total, nat_ties};
@@ -15,6 +16,12 @@ impl Tabled for Receipt {
     ghost shape = { receipt_shape };
 
     ghost order = { nat_cmp };
+
+    ghost since = { First };
+
+    fn came_with() -> Version {
+        Version::First
+    }
 
     ghost adding = { receipt_adding };
 

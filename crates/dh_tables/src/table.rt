@@ -6,15 +6,15 @@ ghost use Rattle.std.specs.Cmp.{IsTotalOrder};
 ghost use Rattle.std.specs.FinMap as fin;
 ghost use Rattle.sqlite.specs.State.{HasCleanDisk, Shows};
 ghost use Rattle.sqlite.specs.Held.{state};
-ghost use Rattle.dh_catalog.specs.Layout.{our_schema};
-ghost use Rattle.dh_catalog.specs.Making.{IsWritingOn};
+ghost use Rattle.dh_types.specs.declared.version.Version.{Version};
 ghost use Rattle.dh_sql.specs.Shape.{Shape, IsKept, rows_in};
 ghost use Rattle.dh_sql.specs.Changes.{Becomes};
 ghost use Rattle.dh_tables.specs.Tables.{Adding, HasShape, IsAdding, Shelf};
-ghost use Rattle.dh_tables.specs.Calls.{Adds, CommitsNothing, StaysInTransaction, IsNew, IsUndone, IsInTransaction};
+ghost use Rattle.dh_tables.specs.Calls.{Adds, CommitsNothing, StaysInTransaction, IsNew, IsUndone, IsInTransaction, IsWritingSince};
 
 use dh_books::Books;
 use dh_rows::Record;
+use dh_types::Version;
 use sqlite::{Alter, Error, Transaction};
 use std::alloc::{AllocError, Global};
 
@@ -24,6 +24,13 @@ pub trait Tabled: Record {
     ghost shape: { Shape Self.Key Self };
 
     ghost order: { Self.Key → Self.Key → Ordering };
+
+    /// The version that the table came with.
+    ghost since: { Version };
+
+    /// The version that the table came with.
+    fn came_with() -> Version
+        ensures { result ≡ since };
 
     /// The text that adds a row.
     ghost adding: { Adding Self };
@@ -45,7 +52,7 @@ pub trait Tabled: Record {
 
     ghost has_shape: { HasShape shape Self.Record.is_row Self.Record.decode Self.Record.key_of };
 
-    ghost is_adding: { IsAdding shape Self.Record.row Self.Record.is_row adding };
+    ghost is_adding: { IsAdding since shape Self.Record.row Self.Record.is_row adding };
 }
 
 /// Adds the record, whose key is new. An error has changed nothing or ended the transaction,
@@ -55,7 +62,7 @@ pub fn insert<R: Tabled, S: Alter>(
     tx: &mut Transaction<'_, S>,
     row: &R,
 ) -> Result<(), Error>
-    requires writing { HasCleanDisk (state S.Store tx.old.conn.now) → IsWritingOn our_schema (state S.Store tx.old.conn.now) }
+    requires writing { HasCleanDisk (state S.Store tx.old.conn.now) → IsWritingSince R.since (state S.Store tx.old.conn.now) }
     requires kept { HasCleanDisk (state S.Store tx.old.conn.now) → IsKept R.shape R.order (state S.Store tx.old.conn.now).now.trees }
     requires fresh { HasCleanDisk (state S.Store tx.old.conn.now) → IsNew R.shape R.order row.now (state S.Store tx.old.conn.now) }
     requires keeps { R.Record.can_keep row.now }

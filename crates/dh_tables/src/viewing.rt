@@ -2,11 +2,12 @@
 
 use crate::{Listed, Look, Tabled};
 use dh_books::Books;
-use dh_types::{Id, Viewing};
+use dh_types::{Id, Version, Viewing};
 use sqlite::types::ValueRef;
 use std::alloc::{AllocError, Global};
 
 impl Tabled for Viewing {
+    ghost use Rattle.dh_types.specs.declared.version.Version.TheVariants.{First};
     ghost use Rattle.std.specs.Prelude.{refl};
     ghost use Rattle.dh_model.specs.Books.{pair_cmp, text_cmp};
     ghost use Rattle.dh_model.proofs.KeyOrders.{texts_total, texts_tie};
@@ -15,6 +16,12 @@ impl Tabled for Viewing {
     ghost shape = { viewing_shape };
 
     ghost order = { pair_cmp text_cmp text_cmp };
+
+    ghost since = { First };
+
+    fn came_with() -> Version {
+        Version::First
+    }
 
     ghost adding = { viewing_adding };
 

@@ -34,6 +34,22 @@ impl Lease {
     }
 }
 
+/// A lease that was ended early lasts so many months, fewer than it was signed for. There is one for a lease.
+#[derive(Clone, Copy, Debug, PartialEq, Eq)]
+pub struct Ending {
+    pub lease: LeaseNo,
+    pub months: LeaseMonths,
+}
+
+impl Ending {
+    /// The lease, which no other ending has.
+    pub fn key(&self) -> LeaseNo
+        ensures { result ≡ self.now.lease }
+    {
+        self.lease
+    }
+}
+
 /// Rent that fell due on a lease. There is one for a lease and an index.
 #[derive(Clone, Copy, PartialEq, Eq, PartialOrd, Ord)]
 pub struct Charge {

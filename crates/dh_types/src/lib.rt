@@ -17,6 +17,7 @@ mod reply;
 mod reply_text;
 mod run;
 mod staff;
+mod version;
 mod viewing;
 mod wording;
 pub mod writing;
@@ -30,7 +31,7 @@ pub use dh_values::{
     Amount, BadText, Balance, BatchCount, ChargeIndex, Comment, Id, Key, LeaseMonths, LeaseNo,
     PaymentMethod, Pence, Position, PropertyType, ReceiptKind, ReceiptNo, Rent, Rooms, Text60,
 };
-pub use lease::{Charge, Lease, LeaseTerms, Payment, Receipt};
+pub use lease::{Charge, Ending, Lease, LeaseTerms, Payment, Receipt};
 pub use output::Output;
 pub use owner::Owner;
 pub use property::Property;
@@ -39,4 +40,5 @@ pub use reply::{Fault, Progress, Refusal, Reply};
 pub use reply_text::{put_fault, put_month, put_refusal, put_reply};
 pub use run::{Part, Run, RunSum};
 pub use staff::Staff;
+pub use version::Version;
 pub use viewing::{Inspection, Viewing};

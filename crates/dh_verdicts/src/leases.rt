@@ -5,7 +5,7 @@ ghost use Rattle.std.specs.List.{filter};
 ghost use Rattle.std.specs.FinMap as fin;
 ghost use Rattle.dh_types.specs.declared.reply.Refusal.TheVariants as refusal;
 ghost use Rattle.dh_model.specs.Checks.{at_most, first_failing, first_that_day, free_of_others, in_time, is_same_text, least, unless};
-ghost use Rattle.dh_model.specs.Leases.{overlap};
+ghost use Rattle.dh_model.specs.Leases.{overlap, running};
 ghost use Rattle.dh_model.specs.Verdicts.{lease_verdict};
 
 use dh_books::Books;
@@ -36,13 +36,14 @@ fn lease_that_day(books: &Books, client: &Id, day: EntryDay) -> Option<LeaseNo>
         .fold(None, |least, number| Some(at_most(least, number)))
 }
 
-// The least number of a lease that overlaps these terms.
+// The least number of a lease that overlaps these terms, as long as it runs.
 fn overlapping(books: &Books, terms: &LeaseTerms) -> Option<LeaseNo>
-    ensures { result ≡ least (map (λ lease. lease.terms.number) (filter (λ lease. overlap terms.now lease.terms) (fin.values books.now.books.leases))) }
+    ensures { result ≡ least (map (λ lease. lease.terms.number)
+        (filter (λ lease. overlap terms.now (running books.now.books.endings lease)) (fin.values books.now.books.leases))) }
 {
     books
         .leases()
-        .filter(|lease| overlap(terms, &lease.terms))
+        .filter(|lease| overlap(terms, &books.running(lease)))
         .map(|lease| lease.terms.number)
         .fold(None, |least, number| Some(at_most(least, number)))
 }

@@ -17,19 +17,19 @@ use dh_days::limits::FIRST_MONTH;
 use dh_rows::Meta;
 use dh_schema::StoreFault;
 use dh_tables::{RunOf, find, find_meta};
-use dh_types::{EntryMonth, Month, Run};
+use dh_types::{EntryMonth, Month, Run, Version};
 use sqlite::{Alter, Connection};
 use std::alloc::Global;
 
-/// Books without a row, for those that are looked at. Their months stand for nothing.
+/// Books without a row, for those that are looked at. Their months and their version stand for nothing.
 pub fn no_rows(alloc: Global) -> Books
     ensures { result ≡ start FIRST_MONTH }
 {
     let month = Month::of_number(FIRST_MONTH);
-    Books::new(alloc, month, month)
+    Books::new(alloc, Version::First, month, month)
 }
 
-/// The months of the tables. That they have none comes only from a store that is not clean.
+/// The version and the months of the tables. That they have none comes only from a store that is not clean.
 pub fn months_now<S: Alter>(alloc: Global, conn: &mut Connection<S>) -> Result<Meta, StoreFault>
     requires { HasCleanDisk (state S.Store conn.old) → IsReady (state S.Store conn.old) }
     ensures found { HasCleanDisk (state S.Store conn.new) → IfOk result (λ months. AreMonthsOf months (tables (state S.Store conn.old)).books) }

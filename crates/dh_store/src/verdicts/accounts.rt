@@ -11,9 +11,9 @@ ghost use Rattle.dh_model.specs.Whole.{rows_where};
 ghost use Rattle.dh_schema.specs.Store.{IsReady};
 ghost use Rattle.dh_store.specs.Looked.{AreBoth};
 ghost use Rattle.dh_store.specs.Reading.{OnlyReads};
-ghost use Rattle.dh_store.specs.Gathered.{Gathers, with_leases, with_registration};
+ghost use Rattle.dh_store.specs.Gathered.{Gathers, with_endings, with_leases, with_registration};
 
-use crate::looks::look;
+use crate::looks::{held_leases, look, look_at_endings_of};
 use dh_books::Books;
 use dh_schema::StoreFault;
 use dh_tables::{
@@ -84,7 +84,24 @@ fn leases<S: Alter>(
     look(alloc, conn, &from, books)
 }
 
-/// The leases beside it, the property, the client and its registration.
+// These leases, and the endings of those that were ended early.
+fn leases_with_endings<S: Alter>(
+    alloc: Global,
+    conn: &mut Connection<S>,
+    terms: &LeaseTerms,
+    books: &mut Books,
+) -> Result<(), StoreFault>
+    requires { HasCleanDisk (state S.Store conn.old) → IsReady (state S.Store conn.old) }
+    ensures gathered { (t b : State) → AreBoth t b (state S.Store conn.old) books.old → b.books.leases ≡ fin.empty → b.books.endings ≡ fin.empty
+        → OnOk result (AreBoth t (with_endings terms.now t (with_leases terms.now t b)) (state S.Store conn.new) books.new) }
+    ensures reads { OnlyReads (state S.Store conn.old) (state S.Store conn.new) result }
+{
+    leases(alloc, conn, terms, books)?;
+    let beside = held_leases(alloc, books)?;
+    look_at_endings_of(alloc, conn, &beside, books)
+}
+
+/// The leases beside it with their endings, the property, the client and its registration.
 pub(crate) fn at_lease<S: Alter>(
     alloc: Global,
     conn: &mut Connection<S>,
@@ -112,7 +129,7 @@ pub(crate) fn at_lease<S: Alter>(
         books,
     )?;
     registration(alloc, conn, terms, books)?;
-    leases(alloc, conn, terms, books)
+    leases_with_endings(alloc, conn, terms, books)
 }
 
 /// What has the key, the lease, and the deposit on it.

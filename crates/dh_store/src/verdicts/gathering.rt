@@ -141,7 +141,7 @@ pub(crate) fn gather<S: Alter>(
         → IfOk result (λ facts. IsCutOf (facts_of facts) (tables (state S.Store conn.old)).books (tables (state S.Store conn.old)).open_run command.now) }
     ensures reads { OnlyReads (state S.Store conn.old) (state S.Store conn.new) result }
 {
-    let books = Books::new(alloc, months.first(), months.next());
+    let books = Books::new(alloc, months.version(), months.first(), months.next());
     let mut facts = Facts { books, receipts: 0 };
     match gather_into(alloc, conn, command, run, &mut facts) {
         Ok(()) => Ok(facts),

@@ -6,8 +6,9 @@ use Rattle.dh_types.specs.declared.reply.Reply.TheVariants as reply
 use Rattle.dh_model.specs.declared.rows.Verdict.TheVariants as verdict
 use Rattle.dh_model.specs.Verdicts.{verdict_on}
 use Rattle.dh_schema.specs.Store.{Leaves, tables}
-use Rattle.dh_laws.proofs.Carrying.{order_accepted, other_than, plain_rows}
+use Rattle.dh_laws.proofs.Carrying.{order_accepted, other_than, plain_rows, same_cut}
 use Rattle.dh_runs.specs.Told.{IsCut, IsSaid}
+use Rattle.dh_runs.proofs.Carried.{on_err}
 use Rattle.dh_agency.proofs.Carried.{open_crash, open_said}
 use Rattle.dh_agency.proofs.carrying.accept.Goals as goal
 
@@ -46,3 +47,10 @@ put_rows-requires-clause-plain g c was =
     let s = tables (state g.S.Store c.args.conn.now) in
     let other = other_than c.args.command.now c.in_default.not-Run c.in_default.not-Open c.requires.other in
     plain_rows s.books s.open_run c.args.command.now c.args.change.now other (c.requires.verdict was)
+
+pub returns-in_err-open_run-in-Open-clause-halted : goal.returns-in_err-open_run-in-Open-clause-halted
+returns-in_err-open_run-in-Open-clause-halted g c clean is_open =
+    let s = tables (state g.S.Store c.args.conn.now) in
+    let new = state g.S.Store c.open_run.new.conn in
+    let it = c.in_err-open_run-in-Open.ensures.undone clean is_open in
+    on_err c.from_residual-in_err-open_run-in-Open.result (it.0, same_cut c.args.command.now s (tables new) it.1)

@@ -5,4 +5,5 @@ use Rattle.dh_audit.proofs.ClosedDues.{left}
 use Rattle.dh_audit.proofs.closed_dues.add_dues.Given as goal
 
 abbrev pub invariant-loop-index : goal.invariant-loop-index
-invariant-loop-index l = l.dues.items ++ left l.branch l.lease l.index ≡ l.fn.dues.items ++ map (due_at l.branch) (dues_of l.lease)
+invariant-loop-index l =
+    l.dues.items ++ left l.books.books.endings l.branch l.lease l.index ≡ l.fn.dues.items ++ map (due_at l.branch) (dues_of l.books.books.endings l.lease)

@@ -10,4 +10,4 @@ pub loop-lease-preserved : goal.loop-lease-preserved
 loop-lease-preserved c =
     let lease = c.in-Some.lease.now in
     dues_added (dues_at c.args.books.now.books) lease _ _ _ _ _ _ (rest_more deref _ _ _ _ c.in-Some.is c.next.ensures.steps) c.in_ok-add_dues.ensures
-    (ap (λ place. map (due_at place) (dues_of lease)) c.branch_of.ensures) c.loop-lease.invariant
+    (ap (λ place. map (due_at place) (dues_of c.args.books.now.books.endings lease)) c.branch_of.ensures) c.loop-lease.invariant

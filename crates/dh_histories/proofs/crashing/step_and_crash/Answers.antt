@@ -1,9 +1,12 @@
 use Rattle.std.proofs.Common.{sym, subst}
 use Rattle.sqlite.specs.Held.{Held, state}
 use Rattle.dh_types.specs.declared.reply.Reply.{Reply}
+use Rattle.dh_schema.specs.Store.{AreTables}
+use Rattle.dh_runs.specs.Told.{IsSaid}
+use Rattle.dh_agency.specs.Agency.{machine}
 use Rattle.dh_histories.specs.Calls.{StepCut, Stepped, Tells}
 use Rattle.dh_histories.specs.Histories.{IsFoundAfter}
-use Rattle.dh_histories.proofs.Reopened.{if_ok, on_err, opened_anew}
+use Rattle.dh_histories.proofs.Reopened.{if_ok, on_err, opened_anew, said_found}
 use Rattle.dh_histories.proofs.crashing.step_and_crash.Goals as goal
 
 pub returns-clause-answered : goal.returns-clause-answered
@@ -31,3 +34,13 @@ returns-clause-broken g c clean going =
     (StepCut told) c.step_tells-told.ensures.line
     (subst (λ (h : Held g.row.S.Denot). Tells (StepCut told) (state g.S.Store old) (state g.S.Store h)) (sym c.into_store.ensures) tells))
     (c.step_tells-told.ensures.cut going)
+
+pub returns-clause-said : goal.returns-clause-said
+returns-clause-said g c clean going =
+    let old = c.args.agency.conn in
+    let again = c.in_ok-again.again in
+    let told = c.args.command.now in
+    if_ok c.step_tells-told.result (λ (reply : Reply). IsFoundAfter g.S.Store old (Stepped told reply) again)
+    (λ (reply : Reply). AreTables (IsSaid told reply (machine g.S.Store c.args.agency)) (state g.S.Store again).now.trees)
+    (λ reply found. said_found g.S.Store old again told reply found)
+    (returns-clause-answered g c clean going)

@@ -8,4 +8,5 @@ use Rattle.dh_leases.proofs.by_branch.dues_by_branch.Given as goal
 
 abbrev pub invariant-loop-lease : goal.invariant-loop-lease
 invariant-loop-lease l =
-    (branch : List ℕ) → charges_at l.dues branch ≡ dues_among (filter (of_branch l.books.books.properties branch) (map deref l.yielded)) l.month
+    (branch : List ℕ) → charges_at l.dues branch ≡ dues_among l.books.books.endings
+    (filter (of_branch l.books.books.properties branch) (map deref l.yielded)) l.month

@@ -8,4 +8,4 @@ pub returns : goal.returns
 returns c =
     let all = (iter_end deref _ _ _ _ _ _ (c.into_iter-lease-iterator.ensures.into_iter_gives
     ∙ c.leases-lease-items.ensures.rows) c.loop-lease.yielded_by c.in-None.is c.next.ensures.steps).0 in
-    c.loop-lease.invariant ∙ ap (λ leases. dues_among leases c.args.month) all
+    c.loop-lease.invariant ∙ ap (λ leases. dues_among c.args.books.now.books.endings leases c.args.month) all

@@ -13,8 +13,10 @@ returns-in_err-check-clause-crash g c clean sound left may = left_torn (state g.
 
 pub returns-in_err-check-clause-halted : goal.returns-in_err-check-clause-halted
 returns-in_err-check-clause-halted g c clean still ours sound =
-    on_err c.from_residual.result
-    (torn_still (state g.S.Store c.args.conn.now) (state g.S.Store c.check.new.conn) ours sound (c.check.ensures.same clean still))
+    let old = state g.S.Store c.args.conn.now in
+    let early : HasCleanDisk old = omega (arith, c.check.ensures.was_clean, clean) in
+    let lists = (c.schema-listed.ensures.live (c.requires early).is_open).0 in
+    on_err c.from_residual.result (torn_still old (state g.S.Store c.check.new.conn) lists sound (c.check.ensures.same clean still))
 
 pub returns-in_err-check-clause-resting : goal.returns-in_err-check-clause-resting
 returns-in_err-check-clause-resting g c clean still sound =

@@ -6,10 +6,10 @@ use Rattle.dh_runs.proofs.Putting.{added}
 use Rattle.dh_runs.proofs.rows.put_charge.Goals as goal
 
 pub insert-requires-clause-kept : goal.insert-requires-clause-kept
-insert-requires-clause-kept g c clean = ((c.requires.writing clean).in_order.tables Charges).kept
+insert-requires-clause-kept g c clean = ((c.requires.writing clean).in_order.tables Charges tt).kept
 
 pub returns-clause-puts : goal.returns-clause-puts
 returns-clause-puts g c =
     let call = c.insert.ensures in
-    added Charges _ (state g.S.Store c.args.tx.now.conn.now) (state g.S.Store c.insert.new.tx.conn.now) (with_charge c.args.charge.now) c.insert.result
+    added Charges _ (state g.S.Store c.args.tx.now.conn.now) (state g.S.Store c.insert.new.tx.conn.now) tt (with_charge c.args.charge.now) c.insert.result
     c.requires.writing refl call.shown call.added call.undone call.crash

@@ -8,10 +8,10 @@ use Rattle.dh_runs.proofs.Putting.{added, changed, part_new, part_there, with_ne
 use Rattle.dh_runs.proofs.rows.put_part.Goals as goal
 
 pub update-requires-clause-kept : goal.update-requires-clause-kept
-update-requires-clause-kept g c clean = ((c.requires.writing clean).in_order.tables Parts).kept
+update-requires-clause-kept g c clean = ((c.requires.writing clean).in_order.tables Parts tt).kept
 
 pub update-requires-clause-apart : goal.update-requires-clause-apart
-update-requires-clause-apart g c clean = ((c.requires.writing clean).in_order.tables Parts).apart
+update-requires-clause-apart g c clean = ((c.requires.writing clean).in_order.tables Parts tt).apart
 
 pub update-requires-clause-there : goal.update-requires-clause-there
 update-requires-clause-there g c clean =
@@ -25,12 +25,12 @@ returns-then-has_part-clause-puts g c =
     let new = state g.S.Store c.update.new.tx.conn.now in
     let part = c.args.part.now in
     let call = c.update.ensures in
-    changed Parts (part_key part) (λ it. record it { through = part.through; count = part.count; total = part.total }) old new (with_part part)
+    changed Parts (part_key part) (λ it. record it { through = part.through; count = part.count; total = part.total }) old new tt (with_part part)
     c.update.result c.requires.writing (λ clean. part_there part old new (sym (c.requires.known clean) ∙ c.if-has_part.true))
     call.shown call.amended call.undone call.crash
 
 pub insert-requires-clause-kept : goal.insert-requires-clause-kept
-insert-requires-clause-kept g c clean = ((c.requires.writing clean).in_order.tables Parts).kept
+insert-requires-clause-kept g c clean = ((c.requires.writing clean).in_order.tables Parts tt).kept
 
 pub insert-requires-clause-fresh : goal.insert-requires-clause-fresh
 insert-requires-clause-fresh g c clean = part_new _ (sym (c.requires.known clean) ∙ c.if-has_part.false)
@@ -41,5 +41,5 @@ returns-else-has_part-clause-puts g c =
     let new = state g.S.Store c.insert.new.tx.conn.now in
     let part = c.args.part.now in
     let call = c.insert.ensures in
-    added Parts _ old new (with_part part) c.insert.result c.requires.writing (with_new_part part (tables old).books)
+    added Parts _ old new tt (with_part part) c.insert.result c.requires.writing (with_new_part part (tables old).books)
     call.shown call.added call.undone call.crash

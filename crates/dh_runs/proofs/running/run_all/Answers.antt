@@ -2,7 +2,8 @@ use Rattle.std.proofs.Common.{ap, arith}
 use Rattle.sqlite.specs.State.{HasCleanDisk}
 use Rattle.sqlite.specs.Held.{state}
 use Rattle.dh_model.specs.Books.{State}
-use Rattle.dh_laws.proofs.Carrying.{run_cut}
+use Rattle.dh_types.specs.declared.command.Command.TheVariants as command
+use Rattle.dh_laws.proofs.Carrying.{run_cut, same_cut}
 use Rattle.dh_schema.specs.Store.{tables}
 use Rattle.dh_runs.proofs.RunFound.{run_is_found}
 use Rattle.dh_runs.proofs.Along.{in_order}
@@ -63,3 +64,10 @@ unclean-requires g c clean =
     let is = ap (λ (t : State). t.open_run) (c.in_ok-open_run.ensures.done between).1 in
     run_is_found _ (tables (state g.S.Store opened)) (tables (state g.S.Store c.post_some.new.conn)) _ c.in_ok-sum.field-0 is c.in-NoRun.is
     (c.in_ok-sum.ensures.said clean)
+
+pub returns-in_err-open_run-clause-halted : goal.returns-in_err-open_run-clause-halted
+returns-in_err-open_run-clause-halted g c clean is_open =
+    let old = state g.S.Store c.args.conn.now in
+    let new = state g.S.Store c.open_run.new.conn in
+    let it = c.in_err-open_run.ensures.undone clean is_open in
+    on_err c.from_residual.result (it.0, same_cut (command.Run c.args.order.now) (tables old) (tables new) it.1)

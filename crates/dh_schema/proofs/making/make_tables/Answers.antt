@@ -1,10 +1,14 @@
-use Rattle.std.proofs.Common.{◌≡◌, rules, sym, subst, arith}
+use Rattle.std.proofs.Common.{◌≡◌, ◌∙◌, ap, rules, sym, subst, arith}
+use Rattle.sqlite.specs.Effect.{Database}
 use Rattle.sqlite.specs.State.{HasCleanDisk, Survives}
 use Rattle.sqlite.specs.Held.{state}
 use Rattle.dh_model.specs.Books.{start}
+use Rattle.dh_catalog.specs.Versions.{schema_of}
+use Rattle.dh_rows.specs.Months.{Months}
 use Rattle.dh_tables.specs.MetaTable.{SetsMonths}
 use Rattle.dh_schema.specs.Store.{AreTables, IsReady, tables}
 use Rattle.dh_schema.proofs.Crashing.{ready_leaves, survives_committed, survives_both}
+use Rattle.dh_schema.proofs.Changing.{told}
 use Rattle.dh_schema.proofs.Installing.{new_tables, ready_after}
 use Rattle.dh_schema.proofs.making.make_tables.Goals as goal
 
@@ -17,10 +21,11 @@ returns-clause-done g c clean =
     let early : HasCleanDisk (state g.S.Store last) = omega (arith, c.commit.ensures.survives.clean, done) in
     let bare = c.in_ok-create_all.ensures.made (omega (arith, c.insert_meta.ensures.crash.clean, early)) in
     let set = subst (λ m. SetsMonths m (state g.S.Store first) (state g.S.Store last)) c.new.ensures (c.in_ok-insert_meta.ensures.written early) in
-    let made = new_tables c.args.first (state g.S.Store first) (state g.S.Store last) bare.1 set in
+    let made = new_tables c.args.first (state g.S.Store first) (state g.S.Store last) bare.0.schema_is bare.1 set in
     let shown = c.in_ok-commit.ensures.ok done in
     subst (λ h. IsReady (state g.S.Store h) × (tables (state g.S.Store h) ≡ start c.args.first)) same
-    (ready_after (λ t. t ≡ start c.args.first) (state g.S.Store last) (state g.S.Store c.commit.new.self.0) set.schema_is shown.1 made)
+    (ready_after (λ t. t ≡ start c.args.first) (state g.S.Store last) (state g.S.Store c.commit.new.self.0) (set.schema_is ∙ bare.0.schema_is
+    ∙ ap schema_of (sym (ap (λ (m : Months). m.version) (told _ (state g.S.Store last).now.trees set.months_are)))) shown.1 made)
 
 pub returns-clause-left : goal.returns-clause-left
 returns-clause-left g c clean =
@@ -36,7 +41,7 @@ returns-clause-survives g c =
     let inside = survives_both _ _ _ c.create_all.ensures.crash c.insert_meta.ensures.crash in
     let made = λ (clean : HasCleanDisk (state g.S.Store last)).
     let bare = c.in_ok-create_all.ensures.made (omega (arith, c.insert_meta.ensures.crash.clean, clean)) in
-    new_tables c.args.first (state g.S.Store first) (state g.S.Store last) bare.1
+    new_tables c.args.first (state g.S.Store first) (state g.S.Store last) bare.0.schema_is bare.1
     (subst (λ m. SetsMonths m (state g.S.Store first) (state g.S.Store last)) c.new.ensures (c.in_ok-insert_meta.ensures.written clean)) in
     let whole = survives_committed g.S.Store old c.transaction-tx.result.conn.now last c.commit.new.self.0 P c.transaction-tx.ensures.begun inside made
     c.commit.ensures.survives in
@@ -52,7 +57,7 @@ returns-in_err-commit-clause-survives g c =
     let inside = survives_both _ _ _ c.create_all.ensures.crash c.insert_meta.ensures.crash in
     let made = λ (clean : HasCleanDisk (state g.S.Store last)).
     let bare = c.in_ok-create_all.ensures.made (omega (arith, c.insert_meta.ensures.crash.clean, clean)) in
-    new_tables c.args.first (state g.S.Store first) (state g.S.Store last) bare.1
+    new_tables c.args.first (state g.S.Store first) (state g.S.Store last) bare.0.schema_is bare.1
     (subst (λ m. SetsMonths m (state g.S.Store first) (state g.S.Store last)) c.new.ensures (c.in_ok-insert_meta.ensures.written clean)) in
     let whole = survives_committed g.S.Store old c.transaction-tx.result.conn.now last c.commit.new.self.0 P c.transaction-tx.ensures.begun inside made
     c.commit.ensures.survives in

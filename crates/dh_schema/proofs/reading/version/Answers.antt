@@ -1,13 +1,16 @@
-use Rattle.std.proofs.Common.{◌≡◌, ◌∙◌, Some, IfOk, Option, ℤ, sym, subst}
+use Rattle.std.proofs.Common.{◌≡◌, ◌∙◌, Err, Some, ap, rules, sym}
+use Rattle.std.proofs.lemmas.Result.{err_from_is_err_and}
+use Rattle.dh_schema.proofs.ReadTables.{same_fault}
 use Rattle.dh_schema.proofs.Versions.{version_moved}
 use Rattle.dh_schema.proofs.reading.version.Goals as goal
 
 pub returns-clause-found : goal.returns-clause-found
 returns-clause-found g c clean =
-    let same = version_moved _ _ (rw (← c.deref.ensures.value) at (c.in_ok-rows.ensures.rows clean)) in
-    subst (λ (o : Option ℤ). IfOk c.version_of.result (λ n. o ≡ Some n)) (sym same) c.version_of.ensures.found
+    version_moved _ _ (rw (← c.deref.ensures.value) at (c.in_ok-rows.ensures.rows clean)) ∙ c.in_ok-number.ensures.found
+    ∙ ap Some (search rules)
 
-pub returns-clause-damaged : goal.returns-clause-damaged
-returns-clause-damaged g c clean e =
+pub returns-in_err-number-clause-damaged : goal.returns-in_err-number-clause-damaged
+returns-in_err-number-clause-damaged g c clean told =
     let same = version_moved _ _ (rw (← c.deref.ensures.value) at (c.in_ok-rows.ensures.rows clean)) in
-    (c.in_ok-check_tables.ensures.ours, same ∙ c.version_of.ensures.damaged e)
+    let is = err_from_is_err_and c.from_residual-in_err-number.result c.from_residual-in_err-number.ensures.1 in
+    (c.in_ok-tables.ensures.ours, same ∙ c.in_err-number.ensures.damaged (ap Err (same_fault (sym (is.1 ∙ ap Err is.2) ∙ told))))

@@ -13,7 +13,7 @@ returns-in-Branches-clause-taken g c clean =
     let old = state g.S.Store c.args.conn.now in
     subst (λ (q : Question). OnOk c.look_at_all.result (c.look_at_all.new.books ≡ record { books = asked_about (tables old).books q; open_run = None }))
     (sym c.in-Branches.is)
-    (on_ok c.look_at_all.result (put_whole Branches old old refl c.requires.none) (c.look_at_all.ensures.taken clean))
+    (on_ok c.look_at_all.result (put_whole Branches old old refl tt c.requires.none) (c.look_at_all.ensures.taken clean))
 
 pub returns-in-Vacant-clause-taken : goal.returns-in-Vacant-clause-taken
 returns-in-Vacant-clause-taken g c clean =

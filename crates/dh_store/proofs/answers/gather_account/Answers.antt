@@ -13,7 +13,7 @@ returns-clause-taken g c clean =
     let late : HasCleanDisk two = omega (arith, c.look-3.ensures.reads.crash.clean, clean) in
     let early : HasCleanDisk one = omega (arith, c.look-2.ensures.reads.crash.clean, late) in
     let same = (c.in_ok-look.ensures.reads.done early).1 in
-    let lease = put_first Leases old old refl c.requires.none refl (λ it. nat_eq it.terms.number c.args.lease) (c.in_ok-look.ensures.put early) in
-    let charges = put_first Charges one old same lease refl (λ it. nat_eq it.lease c.args.lease) (c.in_ok-look-2.ensures.put late) in
-    put_first Receipts two old ((c.in_ok-look-2.ensures.reads.done late).1 ∙ same) charges refl (λ it. nat_eq it.payment.lease c.args.lease)
+    let lease = put_first Leases old old refl tt c.requires.none refl (λ it. nat_eq it.terms.number c.args.lease) (c.in_ok-look.ensures.put early) in
+    let charges = put_first Charges one old same tt lease refl (λ it. nat_eq it.lease c.args.lease) (c.in_ok-look-2.ensures.put late) in
+    put_first Receipts two old ((c.in_ok-look-2.ensures.reads.done late).1 ∙ same) tt charges refl (λ it. nat_eq it.payment.lease c.args.lease)
     (c.in_ok-look-3.ensures.put clean)

@@ -40,7 +40,7 @@ loop-property-preserved g c =
     let step : HasCleanDisk new → tables mid ≡ tables old → c.loop-property.books ≡ with_leases so_far
     → c.look.new.books ≡ with_leases (so_far ++ it ∷ [])
     = λ clean same held.
-    put_next Leases mid old same c.args.books.now (λ r (number : List ℕ). is_same_text r.terms.property number) so_far it held
+    put_next Leases mid old same tt c.args.books.now (λ r (number : List ℕ). is_same_text r.terms.property number) so_far it held
     (c.in_ok-look.ensures.put clean) in
     along_next {Held = c.loop-property.books ≡ with_leases so_far} old mid new c.loop-property.invariant c.look.ensures.reads.crash
     c.in_ok-look.ensures.reads.done (λ clean same held. step clean same held ∙ ap with_leases (sym more))

@@ -1,6 +1,7 @@
-use Rattle.std.proofs.Common.{refl, arith}
+use Rattle.std.proofs.Common.{◌∙◌, ap, refl, arith}
 use Rattle.sqlite.specs.State.{HasCleanDisk}
 use Rattle.sqlite.specs.Held.{state}
+use Rattle.dh_model.specs.Books.{State}
 use Rattle.dh_model.specs.Kinds.{Leases, Properties}
 use Rattle.dh_store.proofs.AskedBooks.{put_whole}
 use Rattle.dh_store.proofs.answers.gather_lettings.Goals as goal
@@ -9,6 +10,12 @@ pub returns-clause-taken : goal.returns-clause-taken
 returns-clause-taken g c clean =
     let old = state g.S.Store c.args.conn.now in
     let one = state g.S.Store c.look_at_all.new.conn in
-    let early : HasCleanDisk one = omega (arith, c.look_at_all-2.ensures.reads.crash.clean, clean) in
-    let properties = put_whole Properties old old refl c.requires.none (c.in_ok-look_at_all.ensures.taken early) in
-    put_whole Leases one old (c.in_ok-look_at_all.ensures.reads.done early).1 properties (c.in_ok-look_at_all-2.ensures.taken clean)
+    let two = state g.S.Store c.look_at_all-2.new.conn in
+    let late : HasCleanDisk two = omega (arith, c.look_at_endings.ensures.reads.crash.clean, clean) in
+    let early : HasCleanDisk one = omega (arith, c.look_at_all-2.ensures.reads.crash.clean, late) in
+    let same = (c.in_ok-look_at_all.ensures.reads.done early).1 in
+    let properties = put_whole Properties old old refl tt c.requires.none (c.in_ok-look_at_all.ensures.taken early) in
+    let leases = put_whole Leases one old same tt properties (c.in_ok-look_at_all-2.ensures.taken late) in
+    let tables_are = (c.in_ok-look_at_all-2.ensures.reads.done late).1 ∙ same in
+    c.in_ok-look_at_endings.ensures.taken clean
+    ∙ (λ i. record (leases i) { books = record (leases i).books { endings = (tables_are i).books.endings } })

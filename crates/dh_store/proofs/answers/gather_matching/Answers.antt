@@ -11,5 +11,5 @@ returns-clause-taken g c clean =
     let old = state g.S.Store c.args.conn.now in
     let one = state g.S.Store c.gather_lettings.new.conn in
     let early : HasCleanDisk one = omega (arith, c.look.ensures.reads.crash.clean, clean) in
-    put_first Clients one old (c.in_ok-gather_lettings.ensures.reads.done early).1 (c.in_ok-gather_lettings.ensures.taken early) refl
+    put_first Clients one old (c.in_ok-gather_lettings.ensures.reads.done early).1 tt (c.in_ok-gather_lettings.ensures.taken early) refl
     (λ it. is_same_text it.number c.args.client) (c.in_ok-look.ensures.put clean)

@@ -10,5 +10,5 @@ returns-clause-taken g c clean =
     let old = state g.S.Store c.args.conn.now in
     let one = state g.S.Store c.look.new.conn in
     let early : HasCleanDisk one = omega (arith, c.look-2.ensures.reads.crash.clean, clean) in
-    let run = put_first Runs old old refl c.requires.none refl (λ it. nat_eq it.month c.args.month) (c.in_ok-look.ensures.put early) in
-    put_first Parts one old (c.in_ok-look.ensures.reads.done early).1 run refl (λ it. nat_eq it.month c.args.month) (c.in_ok-look-2.ensures.put clean)
+    let run = put_first Runs old old refl tt c.requires.none refl (λ it. nat_eq it.month c.args.month) (c.in_ok-look.ensures.put early) in
+    put_first Parts one old (c.in_ok-look.ensures.reads.done early).1 tt run refl (λ it. nat_eq it.month c.args.month) (c.in_ok-look-2.ensures.put clean)

@@ -12,7 +12,7 @@ use Rattle.dh_store.proofs.changes.put_rows.Goals as goal
 -- ---- a record that is added
 
 pub insert-requires-clause-kept : goal.insert-requires-clause-kept
-insert-requires-clause-kept g c clean = ((c.requires.writing clean).in_order.tables Branches).kept
+insert-requires-clause-kept g c clean = ((c.requires.writing clean).in_order.tables Branches tt).kept
 
 pub insert-requires-clause-fresh : goal.insert-requires-clause-fresh
 insert-requires-clause-fresh g c clean =
@@ -22,11 +22,11 @@ pub returns-in-Branch-clause-puts : goal.returns-in-Branch-clause-puts
 returns-in-Branch-clause-puts g c =
     let old = state g.S.Store c.args.tx.now.conn.now in
     let call = c.insert.ensures in
-    added Branches _ old (state g.S.Store c.insert.new.tx.conn.now) c.args.change.now c.insert.result c.requires.writing
+    added Branches _ old (state g.S.Store c.insert.new.tx.conn.now) tt c.args.change.now c.insert.result c.requires.writing
     (ap (λ (rows : Change). changed rows (tables old).books) (sym c.in-Branch.is)) call.shown call.added call.undone call.crash
 
 pub insert-requires-in-Staff-clause-kept : goal.insert-requires-in-Staff-clause-kept
-insert-requires-in-Staff-clause-kept g c clean = ((c.requires.writing clean).in_order.tables Staff).kept
+insert-requires-in-Staff-clause-kept g c clean = ((c.requires.writing clean).in_order.tables Staff tt).kept
 
 pub insert-requires-in-Staff-clause-fresh : goal.insert-requires-in-Staff-clause-fresh
 insert-requires-in-Staff-clause-fresh g c clean =
@@ -36,11 +36,11 @@ pub returns-in-Staff-clause-puts : goal.returns-in-Staff-clause-puts
 returns-in-Staff-clause-puts g c =
     let old = state g.S.Store c.args.tx.now.conn.now in
     let call = c.insert-in-Staff.ensures in
-    added Staff _ old (state g.S.Store c.insert-in-Staff.new.tx.conn.now) c.args.change.now c.insert-in-Staff.result c.requires.writing
+    added Staff _ old (state g.S.Store c.insert-in-Staff.new.tx.conn.now) tt c.args.change.now c.insert-in-Staff.result c.requires.writing
     (ap (λ (rows : Change). changed rows (tables old).books) (sym c.in-Staff.is)) call.shown call.added call.undone call.crash
 
 pub insert-requires-in-Owner-clause-kept : goal.insert-requires-in-Owner-clause-kept
-insert-requires-in-Owner-clause-kept g c clean = ((c.requires.writing clean).in_order.tables Owners).kept
+insert-requires-in-Owner-clause-kept g c clean = ((c.requires.writing clean).in_order.tables Owners tt).kept
 
 pub insert-requires-in-Owner-clause-fresh : goal.insert-requires-in-Owner-clause-fresh
 insert-requires-in-Owner-clause-fresh g c clean =
@@ -50,11 +50,11 @@ pub returns-in-Owner-clause-puts : goal.returns-in-Owner-clause-puts
 returns-in-Owner-clause-puts g c =
     let old = state g.S.Store c.args.tx.now.conn.now in
     let call = c.insert-in-Owner.ensures in
-    added Owners _ old (state g.S.Store c.insert-in-Owner.new.tx.conn.now) c.args.change.now c.insert-in-Owner.result c.requires.writing
+    added Owners _ old (state g.S.Store c.insert-in-Owner.new.tx.conn.now) tt c.args.change.now c.insert-in-Owner.result c.requires.writing
     (ap (λ (rows : Change). changed rows (tables old).books) (sym c.in-Owner.is)) call.shown call.added call.undone call.crash
 
 pub insert-requires-in-Property-clause-kept : goal.insert-requires-in-Property-clause-kept
-insert-requires-in-Property-clause-kept g c clean = ((c.requires.writing clean).in_order.tables Properties).kept
+insert-requires-in-Property-clause-kept g c clean = ((c.requires.writing clean).in_order.tables Properties tt).kept
 
 pub insert-requires-in-Property-clause-fresh : goal.insert-requires-in-Property-clause-fresh
 insert-requires-in-Property-clause-fresh g c clean =
@@ -64,11 +64,11 @@ pub returns-in-Property-clause-puts : goal.returns-in-Property-clause-puts
 returns-in-Property-clause-puts g c =
     let old = state g.S.Store c.args.tx.now.conn.now in
     let call = c.insert-in-Property.ensures in
-    added Properties _ old (state g.S.Store c.insert-in-Property.new.tx.conn.now) c.args.change.now c.insert-in-Property.result c.requires.writing
+    added Properties _ old (state g.S.Store c.insert-in-Property.new.tx.conn.now) tt c.args.change.now c.insert-in-Property.result c.requires.writing
     (ap (λ (rows : Change). changed rows (tables old).books) (sym c.in-Property.is)) call.shown call.added call.undone call.crash
 
 pub insert-requires-in-Client-clause-kept : goal.insert-requires-in-Client-clause-kept
-insert-requires-in-Client-clause-kept g c clean = ((c.requires.writing clean).in_order.tables Clients).kept
+insert-requires-in-Client-clause-kept g c clean = ((c.requires.writing clean).in_order.tables Clients tt).kept
 
 pub insert-requires-in-Client-clause-fresh : goal.insert-requires-in-Client-clause-fresh
 insert-requires-in-Client-clause-fresh g c clean =
@@ -78,11 +78,11 @@ pub returns-in-Client-clause-puts : goal.returns-in-Client-clause-puts
 returns-in-Client-clause-puts g c =
     let old = state g.S.Store c.args.tx.now.conn.now in
     let call = c.insert-in-Client.ensures in
-    added Clients _ old (state g.S.Store c.insert-in-Client.new.tx.conn.now) c.args.change.now c.insert-in-Client.result c.requires.writing
+    added Clients _ old (state g.S.Store c.insert-in-Client.new.tx.conn.now) tt c.args.change.now c.insert-in-Client.result c.requires.writing
     (ap (λ (rows : Change). changed rows (tables old).books) (sym c.in-Client.is)) call.shown call.added call.undone call.crash
 
 pub insert-requires-in-Register-clause-kept : goal.insert-requires-in-Register-clause-kept
-insert-requires-in-Register-clause-kept g c clean = ((c.requires.writing clean).in_order.tables Registrations).kept
+insert-requires-in-Register-clause-kept g c clean = ((c.requires.writing clean).in_order.tables Registrations tt).kept
 
 pub insert-requires-in-Register-clause-fresh : goal.insert-requires-in-Register-clause-fresh
 insert-requires-in-Register-clause-fresh g c clean =
@@ -92,11 +92,11 @@ pub returns-in-Register-clause-puts : goal.returns-in-Register-clause-puts
 returns-in-Register-clause-puts g c =
     let old = state g.S.Store c.args.tx.now.conn.now in
     let call = c.insert-in-Register.ensures in
-    added Registrations _ old (state g.S.Store c.insert-in-Register.new.tx.conn.now) c.args.change.now c.insert-in-Register.result c.requires.writing
+    added Registrations _ old (state g.S.Store c.insert-in-Register.new.tx.conn.now) tt c.args.change.now c.insert-in-Register.result c.requires.writing
     (ap (λ (rows : Change). changed rows (tables old).books) (sym c.in-Register.is)) call.shown call.added call.undone call.crash
 
 pub insert-requires-in-Viewing-clause-kept : goal.insert-requires-in-Viewing-clause-kept
-insert-requires-in-Viewing-clause-kept g c clean = ((c.requires.writing clean).in_order.tables Viewings).kept
+insert-requires-in-Viewing-clause-kept g c clean = ((c.requires.writing clean).in_order.tables Viewings tt).kept
 
 pub insert-requires-in-Viewing-clause-fresh : goal.insert-requires-in-Viewing-clause-fresh
 insert-requires-in-Viewing-clause-fresh g c clean =
@@ -106,11 +106,11 @@ pub returns-in-Viewing-clause-puts : goal.returns-in-Viewing-clause-puts
 returns-in-Viewing-clause-puts g c =
     let old = state g.S.Store c.args.tx.now.conn.now in
     let call = c.insert-in-Viewing.ensures in
-    added Viewings _ old (state g.S.Store c.insert-in-Viewing.new.tx.conn.now) c.args.change.now c.insert-in-Viewing.result c.requires.writing
+    added Viewings _ old (state g.S.Store c.insert-in-Viewing.new.tx.conn.now) tt c.args.change.now c.insert-in-Viewing.result c.requires.writing
     (ap (λ (rows : Change). changed rows (tables old).books) (sym c.in-Viewing.is)) call.shown call.added call.undone call.crash
 
 pub insert-requires-in-Inspection-clause-kept : goal.insert-requires-in-Inspection-clause-kept
-insert-requires-in-Inspection-clause-kept g c clean = ((c.requires.writing clean).in_order.tables Inspections).kept
+insert-requires-in-Inspection-clause-kept g c clean = ((c.requires.writing clean).in_order.tables Inspections tt).kept
 
 pub insert-requires-in-Inspection-clause-fresh : goal.insert-requires-in-Inspection-clause-fresh
 insert-requires-in-Inspection-clause-fresh g c clean =
@@ -120,11 +120,11 @@ pub returns-in-Inspection-clause-puts : goal.returns-in-Inspection-clause-puts
 returns-in-Inspection-clause-puts g c =
     let old = state g.S.Store c.args.tx.now.conn.now in
     let call = c.insert-in-Inspection.ensures in
-    added Inspections _ old (state g.S.Store c.insert-in-Inspection.new.tx.conn.now) c.args.change.now c.insert-in-Inspection.result c.requires.writing
+    added Inspections _ old (state g.S.Store c.insert-in-Inspection.new.tx.conn.now) tt c.args.change.now c.insert-in-Inspection.result c.requires.writing
     (ap (λ (rows : Change). changed rows (tables old).books) (sym c.in-Inspection.is)) call.shown call.added call.undone call.crash
 
 pub insert-requires-in-Lease-clause-kept : goal.insert-requires-in-Lease-clause-kept
-insert-requires-in-Lease-clause-kept g c clean = ((c.requires.writing clean).in_order.tables Leases).kept
+insert-requires-in-Lease-clause-kept g c clean = ((c.requires.writing clean).in_order.tables Leases tt).kept
 
 pub insert-requires-in-Lease-clause-fresh : goal.insert-requires-in-Lease-clause-fresh
 insert-requires-in-Lease-clause-fresh g c clean =
@@ -134,11 +134,11 @@ pub returns-in-Lease-clause-puts : goal.returns-in-Lease-clause-puts
 returns-in-Lease-clause-puts g c =
     let old = state g.S.Store c.args.tx.now.conn.now in
     let call = c.insert-in-Lease.ensures in
-    added Leases _ old (state g.S.Store c.insert-in-Lease.new.tx.conn.now) c.args.change.now c.insert-in-Lease.result c.requires.writing
+    added Leases _ old (state g.S.Store c.insert-in-Lease.new.tx.conn.now) tt c.args.change.now c.insert-in-Lease.result c.requires.writing
     (ap (λ (rows : Change). changed rows (tables old).books) (sym c.in-Lease.is)) call.shown call.added call.undone call.crash
 
 pub insert-requires-in-Receipt-clause-kept : goal.insert-requires-in-Receipt-clause-kept
-insert-requires-in-Receipt-clause-kept g c clean = ((c.requires.writing clean).in_order.tables Receipts).kept
+insert-requires-in-Receipt-clause-kept g c clean = ((c.requires.writing clean).in_order.tables Receipts tt).kept
 
 pub insert-requires-in-Receipt-clause-fresh : goal.insert-requires-in-Receipt-clause-fresh
 insert-requires-in-Receipt-clause-fresh g c clean =
@@ -148,16 +148,16 @@ pub returns-in-Receipt-clause-puts : goal.returns-in-Receipt-clause-puts
 returns-in-Receipt-clause-puts g c =
     let old = state g.S.Store c.args.tx.now.conn.now in
     let call = c.insert-in-Receipt.ensures in
-    added Receipts _ old (state g.S.Store c.insert-in-Receipt.new.tx.conn.now) c.args.change.now c.insert-in-Receipt.result c.requires.writing
+    added Receipts _ old (state g.S.Store c.insert-in-Receipt.new.tx.conn.now) tt c.args.change.now c.insert-in-Receipt.result c.requires.writing
     (ap (λ (rows : Change). changed rows (tables old).books) (sym c.in-Receipt.is)) call.shown call.added call.undone call.crash
 
 -- ---- a record that is changed
 
 pub update-requires-clause-kept : goal.update-requires-clause-kept
-update-requires-clause-kept g c clean = ((c.requires.writing clean).in_order.tables Properties).kept
+update-requires-clause-kept g c clean = ((c.requires.writing clean).in_order.tables Properties tt).kept
 
 pub update-requires-clause-apart : goal.update-requires-clause-apart
-update-requires-clause-apart g c clean = ((c.requires.writing clean).in_order.tables Properties).apart
+update-requires-clause-apart g c clean = ((c.requires.writing clean).in_order.tables Properties tt).apart
 
 pub update-requires-clause-there : goal.update-requires-clause-there
 update-requires-clause-there g c clean =
@@ -169,14 +169,14 @@ returns-in-Assign-clause-puts g c =
     let new = state g.S.Store c.update.new.tx.conn.now in
     let it = c.in-Assign.it in
     let call = c.update.ensures in
-    amended Properties it.property (λ p. record p { staff = it.staff }) old new c.args.change.now c.update.result c.requires.writing
+    amended Properties it.property (λ p. record p { staff = it.staff }) old new tt c.args.change.now c.update.result c.requires.writing
     (λ clean. managed_there c.args.change.now old new (c.requires.fits clean) it c.in-Assign.is) call.shown call.amended call.undone call.crash
 
 pub update-requires-in-Rent-clause-kept : goal.update-requires-in-Rent-clause-kept
-update-requires-in-Rent-clause-kept g c clean = ((c.requires.writing clean).in_order.tables Properties).kept
+update-requires-in-Rent-clause-kept g c clean = ((c.requires.writing clean).in_order.tables Properties tt).kept
 
 pub update-requires-in-Rent-clause-apart : goal.update-requires-in-Rent-clause-apart
-update-requires-in-Rent-clause-apart g c clean = ((c.requires.writing clean).in_order.tables Properties).apart
+update-requires-in-Rent-clause-apart g c clean = ((c.requires.writing clean).in_order.tables Properties tt).apart
 
 pub update-requires-in-Rent-clause-there : goal.update-requires-in-Rent-clause-there
 update-requires-in-Rent-clause-there g c clean =
@@ -188,14 +188,14 @@ returns-in-Rent-clause-puts g c =
     let new = state g.S.Store c.update-in-Rent.new.tx.conn.now in
     let it = c.in-Rent.it in
     let call = c.update-in-Rent.ensures in
-    amended Properties it.property (λ p. record p { rent = it.rent }) old new c.args.change.now c.update-in-Rent.result c.requires.writing
+    amended Properties it.property (λ p. record p { rent = it.rent }) old new tt c.args.change.now c.update-in-Rent.result c.requires.writing
     (λ clean. at_rent_there c.args.change.now old new (c.requires.fits clean) it c.in-Rent.is) call.shown call.amended call.undone call.crash
 
 pub update-requires-in-Comment-clause-kept : goal.update-requires-in-Comment-clause-kept
-update-requires-in-Comment-clause-kept g c clean = ((c.requires.writing clean).in_order.tables Viewings).kept
+update-requires-in-Comment-clause-kept g c clean = ((c.requires.writing clean).in_order.tables Viewings tt).kept
 
 pub update-requires-in-Comment-clause-apart : goal.update-requires-in-Comment-clause-apart
-update-requires-in-Comment-clause-apart g c clean = ((c.requires.writing clean).in_order.tables Viewings).apart
+update-requires-in-Comment-clause-apart g c clean = ((c.requires.writing clean).in_order.tables Viewings tt).apart
 
 pub update-requires-in-Comment-clause-there : goal.update-requires-in-Comment-clause-there
 update-requires-in-Comment-clause-there g c clean =
@@ -207,7 +207,7 @@ returns-in-Comment-clause-puts g c =
     let new = state g.S.Store c.update-in-Comment.new.tx.conn.now in
     let it = c.in-Comment.it in
     let call = c.update-in-Comment.ensures in
-    amended Viewings (it.client, it.property) (λ v. record v { comment = Some it.comment }) old new c.args.change.now
+    amended Viewings (it.client, it.property) (λ v. record v { comment = Some it.comment }) old new tt c.args.change.now
     c.update-in-Comment.result c.requires.writing (λ clean. comment_there c.args.change.now old new (c.requires.fits clean) it c.in-Comment.is)
     call.shown call.amended call.undone call.crash
 

@@ -9,7 +9,7 @@ use Rattle.dh_store.proofs.Putting.{failed, opened, put_in}
 use Rattle.dh_store.proofs.changes.put_run.Goals as goal
 
 pub insert-requires-clause-kept : goal.insert-requires-clause-kept
-insert-requires-clause-kept g c clean = ((c.requires.writing clean).in_order.tables Runs).kept
+insert-requires-clause-kept g c clean = ((c.requires.writing clean).in_order.tables Runs tt).kept
 
 pub insert-requires-clause-fresh : goal.insert-requires-clause-fresh
 insert-requires-clause-fresh g c clean = c.requires.fresh clean
@@ -17,7 +17,7 @@ insert-requires-clause-fresh g c clean = c.requires.fresh clean
 pub set_next_month-requires-clause-writing : goal.set_next_month-requires-clause-writing
 set_next_month-requires-clause-writing g c clean =
     let it = c.in_ok-insert.ensures.writing clean in
-    record { inside = it.inside; schema_is = it.schema }
+    record { inside = it.inside; has = it.schema }
 
 pub set_next_month-requires-clause-there : goal.set_next_month-requires-clause-there
 set_next_month-requires-clause-there g c clean =
@@ -25,7 +25,7 @@ set_next_month-requires-clause-there g c clean =
     let mid = state g.S.Store c.insert.new.tx.conn.now in
     let early : HasCleanDisk old = omega (arith, c.insert.ensures.crash.clean, clean) in
     let row = c.in_ok-insert.ensures in
-    let done = put_in Runs _ old mid (c.requires.writing early).in_order (row.shown clean) (row.added clean) in
+    let done = put_in Runs _ old mid tt (c.requires.writing early) (row.shown clean) (row.added clean) in
     (done.0.in_order.months, done.0.in_order.meta)
 
 pub returns-in_err-insert-clause-puts : goal.returns-in_err-insert-clause-puts

@@ -1,8 +1,8 @@
-use Rattle.std.proofs.Common.{◌∙◌, subst, arith, List, ℕ, Ok, drop}
+use Rattle.std.proofs.Common.{◌∙◌, refl, subst, arith, List, ℕ, Ok, drop}
 use Rattle.sqlite_value.specs.Order.{Row}
 use Rattle.sqlite.specs.State.{Executes, HasCleanDisk}
 use Rattle.sqlite.specs.Held.{state}
-use Rattle.dh_catalog.specs.Layout.{our_schema}
+use Rattle.dh_catalog.specs.Versions.{is_ours}
 use Rattle.dh_sql.specs.Changes.{IsTurnedInto}
 use Rattle.dh_sql.specs.Queries.{shows}
 use Rattle.dh_sql.proofs.Changing.{amends}
@@ -32,8 +32,9 @@ returns-clause-amended g c clean =
     let becomes : Row → Row = λ r. drop 1 (shows how.project given r) in
     let key = keyed_rows table.total table.ties it old.now.trees (g.A.Amend.key q) x there in
     let done =
-    amends table.total table.ties it how.text our_schema quiet how.place how.table how.tests how.project law.means law.tree_is old new given
-    c.in_ok-execute.field-0 (g.A.Amend.key q) x (g.A.Amend.amended q x) was.schema_is (c.requires.kept early) (c.requires.apart early) (law.finds q)
+    amends table.total table.ties it how.text old.now.schema (quiet old.now.schema (is_ours g.A.Record.Tabled.since old.now.schema was.has))
+    how.place how.table how.tests how.project (law.means old.now.schema was.has) law.tree_is old new given
+    c.in_ok-execute.field-0 (g.A.Amend.key q) x (g.A.Amend.amended q x) refl (c.requires.kept early) (c.requires.apart early) (law.finds q)
     (law.keeps_rowid q)
     (λ r stored own is.
     subst (λ y. IsTurnedInto it how.table r (becomes r) (g.A.Amend.amended q y)) is (law.turns q r known stored own))

@@ -2,9 +2,8 @@ use Rattle.std.proofs.Common.{[], arith, refl}
 use Rattle.sqlite_sql.specs.Term.{col}
 use Rattle.sqlite.specs.State.{HasCleanDisk}
 use Rattle.sqlite.specs.Held.{state}
-use Rattle.dh_catalog.specs.Layout.{our_schema}
 use Rattle.dh_sql.proofs.LastRow.{greatest_shown}
-use Rattle.dh_sql.proofs.Selecting.{plain_commits, plain_same, plain_undone}
+use Rattle.dh_sql.proofs.Selecting.{commits_none, plain_same, plain_undone}
 use Rattle.dh_tables.specs.ReceiptTable.{receipt_names, receipt_project, receipt_shape}
 use Rattle.dh_tables.proofs.LastReceipt.{last_is, last_text, numbered}
 use Rattle.dh_tables.proofs.Undone.{undone_from}
@@ -14,14 +13,16 @@ pub returns-clause-greatest : goal.returns-clause-greatest
 returns-clause-greatest g c clean =
     let old = state g.S.Store c.args.conn.now in
     let early : HasCleanDisk old = omega (arith, c.query_all.ensures.survives.clean, clean) in
-    greatest_shown receipt_shape last_text our_schema receipt_project (col 1 0) receipt_names last_is (λ r. refl) numbered old
-    (state g.S.Store c.query_all.new.self) (c.requires.reading early) (c.requires.kept early).values c.query_all.result (c.query_all.ensures.ok clean)
+    greatest_shown receipt_shape last_text old.now.schema receipt_project (col 1 0) receipt_names
+    (last_is old.now.schema (c.requires.reading early)) (λ r. refl) numbered old
+    (state g.S.Store c.query_all.new.self) refl (c.requires.kept early).values c.query_all.result (c.query_all.ensures.ok clean)
 
 pub returns-clause-same : goal.returns-clause-same
 returns-clause-same g c clean =
     let old = state g.S.Store c.args.conn.now in
     let early : HasCleanDisk old = omega (arith, c.query_all.ensures.survives.clean, clean) in
-    plain_same last_text our_schema [] last_is.plain c.query_all.result old (state g.S.Store c.query_all.new.self) (c.requires.reading early)
+    plain_same last_text old.now.schema [] (last_is old.now.schema (c.requires.reading early)).plain c.query_all.result old
+    (state g.S.Store c.query_all.new.self) refl
     (c.query_all.ensures.ok clean)
 
 pub returns-clause-undone : goal.returns-clause-undone
@@ -30,9 +31,11 @@ returns-clause-undone g c clean =
     let new = state g.S.Store c.query_all.new.self in
     let early : HasCleanDisk old = omega (arith, c.query_all.ensures.survives.clean, clean) in
     undone_from c.query_all.result old new
-    (plain_undone last_text our_schema [] last_is.plain c.query_all.result old new (c.requires.reading early) (c.query_all.ensures.err clean))
+    (plain_undone last_text old.now.schema [] (last_is old.now.schema (c.requires.reading early)).plain c.query_all.result old new refl
+    (c.query_all.ensures.err clean))
 
 pub returns-clause-crash : goal.returns-clause-crash
 returns-clause-crash g c =
-    plain_commits last_text our_schema [] last_is.plain (state g.S.Store c.args.conn.now) (state g.S.Store c.query_all.new.self) c.requires.reading
+    let old = state g.S.Store c.args.conn.now in
+    commits_none last_text [] old (state g.S.Store c.query_all.new.self) (λ clean. (last_is old.now.schema (c.requires.reading clean)).plain)
     c.query_all.ensures.survives

@@ -1,9 +1,8 @@
-use Rattle.std.proofs.Common.{[], List, ℕ, IfErr, IfOk, arith, subst}
+use Rattle.std.proofs.Common.{[], refl, List, ℕ, IfErr, IfOk, arith, subst}
 use Rattle.sqlite.specs.State.{CommitsShowing, FailsToQuery, HasCleanDisk, Shown, Survives}
 use Rattle.sqlite.specs.Held.{state}
-use Rattle.dh_catalog.specs.Layout.{our_schema}
 use Rattle.dh_sql.proofs.WholeTable.{shows_all}
-use Rattle.dh_sql.proofs.Selecting.{commits_nothing, same_ok, undone_err}
+use Rattle.dh_sql.proofs.Selecting.{commits_none, same_ok, undone_err}
 use Rattle.dh_tables.proofs.Undone.{undone_from}
 use Rattle.dh_tables.proofs.listing.rows_listed.Goals as goal
 
@@ -16,8 +15,8 @@ returns-clause-rows g c clean =
     let how = g.R.Listed.listing in
     let law = g.met.R.Listed.is_listing in
     let told = subst (λ (t : List ℕ). IfOk c.query_all.result (λ rows. Shown t [] old new rows.items)) c.list_text.ensures (c.query_all.ensures.ok clean) in
-    shows_all how.text our_schema it.tree how.project how.names law.selects it.columns law.shows_columns
-    old new (c.requires.reading early) c.query_all.result told
+    shows_all how.text old.now.schema it.tree how.project how.names (law.selects old.now.schema (c.requires.reading early)) it.columns law.shows_columns
+    old new refl c.query_all.result told
 
 pub returns-clause-same : goal.returns-clause-same
 returns-clause-same g c clean =
@@ -27,7 +26,8 @@ returns-clause-same g c clean =
     let how = g.R.Listed.listing in
     let law = g.met.R.Listed.is_listing in
     let told = subst (λ (t : List ℕ). IfOk c.query_all.result (λ rows. Shown t [] old new rows.items)) c.list_text.ensures (c.query_all.ensures.ok clean) in
-    same_ok how.text our_schema g.R.Tabled.shape.tree [] how.project [] how.names [] law.selects c.query_all.result old new (c.requires.reading early) told
+    same_ok how.text old.now.schema g.R.Tabled.shape.tree [] how.project [] how.names []
+    (law.selects old.now.schema (c.requires.reading early)) c.query_all.result old new refl told
 
 pub returns-clause-undone : goal.returns-clause-undone
 returns-clause-undone g c clean =
@@ -38,7 +38,8 @@ returns-clause-undone g c clean =
     let law = g.met.R.Listed.is_listing in
     let told = subst (λ (t : List ℕ). IfErr c.query_all.result (FailsToQuery t [] old new)) c.list_text.ensures (c.query_all.ensures.err clean) in
     undone_from c.query_all.result old new
-    (undone_err how.text our_schema g.R.Tabled.shape.tree [] how.project [] how.names [] law.selects c.query_all.result old new (c.requires.reading early) told)
+    (undone_err how.text old.now.schema g.R.Tabled.shape.tree [] how.project [] how.names []
+    (law.selects old.now.schema (c.requires.reading early)) c.query_all.result old new refl told)
 
 pub returns-clause-crash : goal.returns-clause-crash
 returns-clause-crash g c =
@@ -47,4 +48,4 @@ returns-clause-crash g c =
     let how = g.R.Listed.listing in
     let law = g.met.R.Listed.is_listing in
     let told = subst (λ (t : List ℕ). Survives old new (CommitsShowing t [] old)) c.list_text.ensures c.query_all.ensures.survives in
-    commits_nothing how.text our_schema g.R.Tabled.shape.tree [] how.project [] how.names [] law.selects old new c.requires.reading told
+    commits_none how.text [] old new (λ clean. (law.selects old.now.schema (c.requires.reading clean)).plain) told

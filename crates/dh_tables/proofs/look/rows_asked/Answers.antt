@@ -1,9 +1,8 @@
-use Rattle.std.proofs.Common.{[], List, ℕ, IfErr, IfOk, arith, subst}
+use Rattle.std.proofs.Common.{[], refl, List, ℕ, IfErr, IfOk, arith, subst}
 use Rattle.sqlite.specs.State.{CommitsShowing, FailsToQuery, HasCleanDisk, Shown, Survives}
 use Rattle.sqlite.specs.Held.{state}
-use Rattle.dh_catalog.specs.Layout.{our_schema}
 use Rattle.dh_sql.proofs.Asking.{asked, asked_once}
-use Rattle.dh_sql.proofs.Selecting.{commits_nothing, same_ok, undone_err}
+use Rattle.dh_sql.proofs.Selecting.{commits_none, same_ok, undone_err}
 use Rattle.dh_tables.proofs.Undone.{undone_from}
 use Rattle.dh_tables.proofs.look.rows_asked.Given.{Over}
 use Rattle.dh_tables.proofs.look.rows_asked.Goals as goal
@@ -29,9 +28,9 @@ returns-clause-rows g c clean =
     let how = g.L.Look.asking in
     let table = g.met.L.Record.Tabled in
     let law = g.met.L.Look.is_asking in
-    asked table.total table.ties it how.text our_schema how.tests how.project how.names (g.L.Look.given q) (g.L.Look.asks q)
-    law.selects (law.shows_columns q) (λ r. law.passes q r c.in_ok-params.ensures.known)
-    old new (c.requires.reading early) (c.requires.kept early) c.query_all.result (shown g c clean)
+    asked table.total table.ties it how.text old.now.schema how.tests how.project how.names (g.L.Look.given q) (g.L.Look.asks q)
+    (law.selects old.now.schema (c.requires.reading early)) (law.shows_columns q) (λ r. law.passes q r c.in_ok-params.ensures.known)
+    old new refl (c.requires.kept early) c.query_all.result (shown g c clean)
 
 pub returns-clause-distinct : goal.returns-clause-distinct
 returns-clause-distinct g c clean =
@@ -43,9 +42,9 @@ returns-clause-distinct g c clean =
     let how = g.L.Look.asking in
     let table = g.met.L.Record.Tabled in
     let law = g.met.L.Look.is_asking in
-    asked_once table.total table.ties it how.text our_schema how.tests how.project how.names (g.L.Look.given q) (g.L.Look.asks q)
-    law.selects (law.shows_columns q) (λ r. law.passes q r c.in_ok-params.ensures.known)
-    old new (c.requires.reading early) (c.requires.kept early) c.query_all.result (shown g c clean)
+    asked_once table.total table.ties it how.text old.now.schema how.tests how.project how.names (g.L.Look.given q) (g.L.Look.asks q)
+    (law.selects old.now.schema (c.requires.reading early)) (law.shows_columns q) (λ r. law.passes q r c.in_ok-params.ensures.known)
+    old new refl (c.requires.kept early) c.query_all.result (shown g c clean)
 
 pub returns-clause-same : goal.returns-clause-same
 returns-clause-same g c clean =
@@ -53,8 +52,8 @@ returns-clause-same g c clean =
     let new = state g.S.Store c.query_all.new.self in
     let early : HasCleanDisk old = omega (arith, c.query_all.ensures.survives.clean, clean) in
     let how = g.L.Look.asking in
-    same_ok how.text our_schema g.L.Record.Tabled.shape.tree how.tests how.project [] how.names (g.L.Look.given c.args.question.now)
-    g.met.L.Look.is_asking.selects c.query_all.result old new (c.requires.reading early) (shown g c clean)
+    same_ok how.text old.now.schema g.L.Record.Tabled.shape.tree how.tests how.project [] how.names (g.L.Look.given c.args.question.now)
+    (g.met.L.Look.is_asking.selects old.now.schema (c.requires.reading early)) c.query_all.result old new refl (shown g c clean)
 
 pub returns-clause-undone : goal.returns-clause-undone
 returns-clause-undone g c clean =
@@ -66,8 +65,8 @@ returns-clause-undone g c clean =
     let given = rw (c.deref-2.ensures.value, c.in_ok-params.ensures.values) at (c.query_all.ensures.err clean) in
     let told = subst (λ (t : List ℕ). IfErr c.query_all.result (FailsToQuery t (g.L.Look.given q) old new)) c.text.ensures given in
     undone_from c.query_all.result old new
-    (undone_err how.text our_schema g.L.Record.Tabled.shape.tree how.tests how.project [] how.names (g.L.Look.given q)
-    g.met.L.Look.is_asking.selects c.query_all.result old new (c.requires.reading early) told)
+    (undone_err how.text old.now.schema g.L.Record.Tabled.shape.tree how.tests how.project [] how.names (g.L.Look.given q)
+    (g.met.L.Look.is_asking.selects old.now.schema (c.requires.reading early)) c.query_all.result old new refl told)
 
 pub returns-clause-crash : goal.returns-clause-crash
 returns-clause-crash g c =
@@ -77,5 +76,4 @@ returns-clause-crash g c =
     let q = c.args.question.now in
     let given = rw (c.deref-2.ensures.value, c.in_ok-params.ensures.values) at c.query_all.ensures.survives in
     let told = subst (λ (t : List ℕ). Survives old new (CommitsShowing t (g.L.Look.given q) old)) c.text.ensures given in
-    commits_nothing how.text our_schema g.L.Record.Tabled.shape.tree how.tests how.project [] how.names (g.L.Look.given q)
-    g.met.L.Look.is_asking.selects old new c.requires.reading told
+    commits_none how.text (g.L.Look.given q) old new (λ clean. (g.met.L.Look.is_asking.selects old.now.schema (c.requires.reading clean)).plain) told

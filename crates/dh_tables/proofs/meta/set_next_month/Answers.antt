@@ -13,4 +13,4 @@ returns-clause-set g c clean =
     let ran = c.in_ok-execute.ensures.runs clean was.inside in
     let one = rw c.number.ensures.value at ran.0 in
     let row = c.requires.there early in
-    (row.0, row.1, sets_next old new c.args.next c.in_ok-execute.field-0 was.schema_is c.number.ensures.range c.requires.range one row.0 row.1)
+    (row.0, row.1, sets_next old new c.args.next c.in_ok-execute.field-0 was.has c.number.ensures.range c.requires.range one row.0 row.1)

@@ -1,8 +1,8 @@
-use Rattle.std.proofs.Common.{◌∙◌, subst, arith, List, ℕ, Ok}
+use Rattle.std.proofs.Common.{◌∙◌, refl, sym, subst, arith, List, ℕ, Ok}
 use Rattle.std.specs.FinMap as fin
 use Rattle.sqlite.specs.State.{Executes, HasCleanDisk}
 use Rattle.sqlite.specs.Held.{state}
-use Rattle.dh_catalog.specs.Layout.{our_schema}
+use Rattle.dh_catalog.specs.Versions.{IsOurs, is_ours}
 use Rattle.dh_sql.specs.Changes.{Becomes}
 use Rattle.dh_sql.specs.Shape.{rows_in}
 use Rattle.dh_sql.proofs.Adding.{adds}
@@ -11,7 +11,7 @@ use Rattle.dh_tables.proofs.table.insert.Given.{Over}
 use Rattle.dh_tables.proofs.table.insert.Goals as goal
 
 did : (g : Over) (c : goal.After-drop-day-2 g) → HasCleanDisk (state g.S.Store c.execute.new.self.conn.now)
-    → Becomes g.R.Tabled.shape g.R.Tabled.order our_schema
+    → Becomes g.R.Tabled.shape g.R.Tabled.order (state g.S.Store c.args.tx.now.conn.now).now.schema
     (fin.insert (rows_in g.R.Tabled.shape (state g.S.Store c.args.tx.now.conn.now).now.trees) (g.R.Tabled.shape.key c.args.row.now) c.args.row.now)
     (state g.S.Store c.args.tx.now.conn.now) (state g.S.Store c.execute.new.self.conn.now)
 did g c clean =
@@ -27,14 +27,15 @@ did g c clean =
     let good = c.in_ok-values.ensures.grammar c.requires.keeps in
     let one = rw (c.deref-2.ensures.value, c.in_ok-values.ensures.columns) at ran.0 in
     let told = subst (λ (t : List ℕ). Executes t (g.R.Record.row x) old new (Ok c.in_ok-execute.field-0)) c.insert_text.ensures one in
-    adds laws.total laws.ties it our_schema quiet how.text how.place how.table how.terms how.width (g.R.Record.row x) (how.source x) x
-    laws.is_adding.tree_is (laws.is_adding.inserts x) old new c.in_ok-execute.field-0 (record {
+    adds laws.total laws.ties it old.now.schema (quiet old.now.schema (is_ours g.R.Tabled.since old.now.schema was.has))
+    how.text how.place how.table how.terms how.width (g.R.Record.row x) (how.source x) x
+    laws.is_adding.tree_is (laws.is_adding.inserts old.now.schema was.has x) old new c.in_ok-execute.field-0 (record {
       stays = laws.is_adding.stays x good;
       columns = laws.is_adding.columns x (old.now.trees how.table.tree);
       keyed = laws.is_adding.keyed x (old.now.trees how.table.tree);
       record_is = laws.has_shape.row_in_is (g.R.Record.row x) ∙ g.met.R.Record.decodes x good;
       grammar = laws.has_shape.is_row_is (g.R.Record.row x) ∙ good;
-    }) was.schema_is (c.requires.kept early) (c.requires.fresh early) told
+    }) refl (c.requires.kept early) (c.requires.fresh early) told
 
 pub returns-clause-added : goal.returns-clause-added
 returns-clause-added g c clean = did g c clean
@@ -44,4 +45,5 @@ returns-clause-writing g c clean =
     let old = state g.S.Store c.args.tx.now.conn.now in
     let early : HasCleanDisk old = omega (arith, c.execute.ensures.survives.clean, clean) in
     let ran = c.in_ok-execute.ensures.runs clean (c.requires.writing early).inside in
-    record { is_open = ran.1.is_open; inside = ran.1.mode; schema = (did g c clean).schema_is }
+    let ours = is_ours g.R.Tabled.since old.now.schema (c.requires.writing early).has in
+    record { is_open = ran.1.is_open; inside = ran.1.mode; schema = subst IsOurs (sym (did g c clean).schema_is) ours }

@@ -1,13 +1,22 @@
-use Rattle.std.proofs.Common.{◌∙◌, ap, arith}
+use Rattle.std.proofs.Common.{◌≡◌, ◌∙◌, ap, arith}
 use Rattle.sqlite.specs.Effect.{Database}
 use Rattle.sqlite.specs.State.{HasCleanDisk}
 use Rattle.sqlite.specs.Held.{state}
-use Rattle.dh_schema.specs.Tables.{state_in}
+use Rattle.dh_sql.specs.Shape.{rows_in}
+use Rattle.dh_schema.specs.Tables.{state_in, version_of_tables}
+use Rattle.dh_schema.proofs.EachKind.{all_since}
+use Rattle.dh_schema.proofs.Versions.{has_since}
 use Rattle.dh_store.proofs.Taken.{taken, taken_more}
 use Rattle.dh_store.proofs.looks.looking.look.Goals as goal
 
+pub fetch_more-requires-clause-reading : goal.fetch_more-requires-clause-reading
+fetch_more-requires-clause-reading g c clean =
+    let now = (state g.S.Store c.args.conn.now).now in
+    has_since g.L.Record.Tabled.since (version_of_tables now.trees) now.schema (c.requires.ready clean).version (c.requires.since clean)
+
 pub fetch_more-requires-clause-kept : goal.fetch_more-requires-clause-kept
-fetch_more-requires-clause-kept g c clean = g.met.L.Record.KeptRecord.is_kept _ (c.requires clean).sound.in_order
+fetch_more-requires-clause-kept g c clean =
+    g.met.L.Record.KeptRecord.is_kept _ (c.requires.ready clean).sound.in_order (c.requires.since clean)
 
 pub returns-in-Ok-true-clause-brought : goal.returns-in-Ok-true-clause-brought
 returns-in-Ok-true-clause-brought g c =
@@ -18,20 +27,21 @@ returns-in-Ok-true-clause-brought g c =
     let trees = old.now.trees in
     let books = c.args.books.now in
     let after = c.fetch_more.new.books in
-    let holds = g.met.L.Record.KeptRecord.holds trees in
+    let holds : HasCleanDisk old → T.shelf.held (state_in trees) ≡ rows_in T.shape {R = T.order} trees = λ early. g.met.L.Record.KeptRecord.holds trees
+    ∙ all_since T.since (version_of_tables trees) (rows_in T.shape {R = T.order} trees) (c.requires.since early) in
     record {
       first = λ t b both none clean.
           let early : HasCleanDisk old = omega (arith, c.fetch_more.ensures.crash.clean, clean) in
           let same = both early in
           let fetched = c.in-Ok-true.ensures.fetched clean c.in-Ok-true.field-0-test in (
             ap (λ (d : Database). state_in d.trees) (c.in-Ok-true.ensures.same clean).0.now_is ∙ same.0,
-            taken laws.total laws.ties T.shape T.shelf asks trees t b books after holds same.0 same.1 fetched none,
+            taken laws.total laws.ties T.shape T.shelf asks trees t b books after (holds early) same.0 same.1 fetched none,
           );
       more = λ t b test both had clean.
           let early : HasCleanDisk old = omega (arith, c.fetch_more.ensures.crash.clean, clean) in
           let same = both early in
           let fetched = c.in-Ok-true.ensures.fetched clean c.in-Ok-true.field-0-test in (
             ap (λ (d : Database). state_in d.trees) (c.in-Ok-true.ensures.same clean).0.now_is ∙ same.0,
-            taken_more laws.total laws.ties T.shape T.shelf asks trees t b books after holds same.0 same.1 fetched test had,
+            taken_more laws.total laws.ties T.shape T.shelf asks trees t b books after (holds early) same.0 same.1 fetched test had,
           );
     }

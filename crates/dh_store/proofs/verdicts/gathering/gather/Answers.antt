@@ -10,4 +10,5 @@ returns-in-Ok-clause-cut g c clean =
     let old = state g.S.Store c.args.conn.now in
     let early : HasCleanDisk old = omega (arith, c.gather_into.ensures.reads.crash.clean, clean) in
     let months = c.requires.months early in
-    c.in-Ok.ensures.cut clean (c.new-books.ensures ∙ bare_of (tables old) _ _ (c.first.ensures ∙ months.0) (c.next.ensures ∙ months.1))
+    c.in-Ok.ensures.cut clean (c.new-books.ensures ∙ bare_of (tables old) _ _ _ (c.version.ensures ∙ months.2) (c.first.ensures ∙ months.0) (c.next.ensures
+    ∙ months.1))

@@ -8,7 +8,7 @@ use Rattle.dh_store.proofs.Shown.{count_shown}
 use Rattle.dh_store.proofs.verdicts.gathering.receipt_count.Goals as goal
 
 pub last_receipt-requires-clause-kept : goal.last_receipt-requires-clause-kept
-last_receipt-requires-clause-kept g c clean = ((c.requires clean).sound.in_order.tables Receipts).kept
+last_receipt-requires-clause-kept g c clean = ((c.requires clean).sound.in_order.tables Receipts tt).kept
 
 pub returns-in-Ok-Some-clause-counted : goal.returns-in-Ok-Some-clause-counted
 returns-in-Ok-Some-clause-counted g c clean =

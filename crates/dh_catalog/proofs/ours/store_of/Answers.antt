@@ -1,12 +1,12 @@
 use Rattle.std.proofs.Common.{◌≡◌, ◌∙◌, rules, ap}
 use Rattle.sqlite.specs.Effect.{Database}
 use Rattle.sqlite.proofs.Callers.{memory_is_clean}
-use Rattle.dh_catalog.specs.Layout.{our_schema}
-use Rattle.dh_catalog.proofs.ours.our_store.Goals as goal
+use Rattle.dh_catalog.specs.Versions.{schema_of}
+use Rattle.dh_catalog.proofs.ours.store_of.Goals as goal
 
 pub returns : goal.returns
 returns c =
     let made = c.in_ok-create_all.ensures.made (memory_is_clean c.create_all.new.tx.conn.now) in
     let shown = c.in_ok-commit.ensures.ok (memory_is_clean c.commit.new.self.0) in
-    let has : c.commit.new.self.0.schema ≡ our_schema = ap (λ (d : Database). d.schema) shown.1.now_is ∙ made.0.schema_is in
+    let has : c.commit.new.self.0.schema ≡ schema_of c.args.version = ap (λ (d : Database). d.schema) shown.1.now_is ∙ made.0.schema_is in
     search rules

@@ -2,7 +2,7 @@ use Rattle.std.proofs.Common.{◌++◌, []}
 use Rattle.std.proofs.lemmas.Result.{err_from_is_err_and}
 use Rattle.dh_schema.specs.Loaded.{accounts, lettings, rent_runs}
 use Rattle.dh_schema.proofs.ReadTables.{and_more, still_none, still_ours, stopped}
-use Rattle.dh_schema.proofs.loading.load_records.Goals as goal
+use Rattle.dh_schema.proofs.loading.load_first.Goals as goal
 
 pub load_lettings-requires-clause-reading : goal.load_lettings-requires-clause-reading
 load_lettings-requires-clause-reading g c =

@@ -1,7 +1,7 @@
 use Rattle.std.proofs.Common.{◌∙◌}
 use Rattle.std.specs.Map.Iter.{deref}
 use Rattle.std.proofs.lemmas.Map.Iter.{iter_end}
-use Rattle.dh_store.proofs.answers.listed_leases.Goals as goal
+use Rattle.dh_store.proofs.looks.endings.listed_leases.Goals as goal
 
 pub returns : goal.returns
 returns c =

@@ -1,0 +1,142 @@
+//! Verdicts, answers and plans over sound tables of either version, each beside what the plain program makes of the books that are loaded
+//! from the same tables.
+
+ghost use Rattle.sqlite.specs.State.{HasCleanDisk};
+ghost use Rattle.sqlite.specs.Held.{state};
+ghost use Rattle.dh_runs.specs.Taking.{IsResting};
+
+use crate::lives::problem_text;
+use crate::sound::sound_books;
+use dh_answers::answer;
+use dh_books::Books;
+use dh_fields::Request;
+use dh_leases::{BatchRows, Plan, plan_of};
+use dh_model::Verdict;
+use dh_runs::{Problem, plan_run};
+use dh_scripts::{add_part, answer_text, request};
+use dh_store::{ask, look_up};
+use dh_types::{Command, Question};
+use dh_verdicts::decide;
+use sqlite::{Alter, Connection};
+use std::alloc::{AllocError, Global};
+
+fn verdict_text(alloc: Global, verdict: &Verdict) -> Result<String, AllocError> {
+    match verdict {
+        Verdict::Change(_) => "ok".to_string(alloc),
+        Verdict::Already(reply) => reply.to_string(alloc),
+        Verdict::Refused(refusal) => format!(in alloc; "{refusal}"),
+    }
+}
+
+// What was found over the tables, and what the books have where that is something else.
+fn both(alloc: Global, found: String, plain: String) -> Result<String, AllocError> {
+    if found.as_str() == plain.as_str() {
+        return Ok(found);
+    }
+    format!(in alloc; "{}, but by the books {}", found.as_str(), plain.as_str())
+}
+
+fn asked<S: Alter>(
+    alloc: Global,
+    conn: &mut Connection<S>,
+    command: &Command,
+) -> Result<String, Problem>
+    requires { HasCleanDisk (state S.Store conn.old) → IsResting (state S.Store conn.old) }
+{
+    let books = sound_books(alloc, conn)?;
+    let found = verdict_text(alloc, &ask(alloc, conn, command)?)?;
+    let plain = verdict_text(alloc, &decide(alloc, &books, command)?)?;
+    Ok(both(alloc, found, plain)?)
+}
+
+fn looked_up<S: Alter>(
+    alloc: Global,
+    conn: &mut Connection<S>,
+    question: &Question,
+) -> Result<String, Problem>
+    requires { HasCleanDisk (state S.Store conn.old) → IsResting (state S.Store conn.old) }
+{
+    let books = sound_books(alloc, conn)?;
+    let found = answer_text(alloc, &look_up(alloc, conn, question)?)?;
+    let plain = answer_text(alloc, &answer(alloc, books, question)?)?;
+    Ok(both(alloc, found, plain)?)
+}
+
+// The verdict on a command, or the answer to a question.
+fn judged<S: Alter>(
+    alloc: Global,
+    conn: &mut Connection<S>,
+    request: &Request,
+) -> Result<String, Problem>
+    requires { HasCleanDisk (state S.Store conn.old) → IsResting (state S.Store conn.old) }
+{
+    match request {
+        Request::Command(command) => asked(alloc, conn, command),
+        Request::Question(question) => looked_up(alloc, conn, question),
+    }
+}
+
+fn told(alloc: Global, said: Result<String, Problem>) -> Result<String, AllocError> {
+    match said {
+        Ok(text) => Ok(text),
+        Err(problem) => problem_text(alloc, problem),
+    }
+}
+
+/// The verdict on the command that the line is, or the answer to the question, over tables that were just opened.
+pub fn judge_text<S: Alter>(
+    alloc: Global,
+    conn: &mut Connection<S>,
+    line: &str,
+) -> Result<String, AllocError>
+    requires { HasCleanDisk (state S.Store conn.old) → IsResting (state S.Store conn.old) }
+{
+    let Ok(request) = request(alloc, line) else {
+        return "not read".to_string(alloc);
+    };
+    told(alloc, judged(alloc, conn, &request))
+}
+
+fn batch_of_plan(alloc: Global, batch: &BatchRows) -> Result<String, AllocError> {
+    let part = &batch.part;
+    let charges = batch.charges.len();
+    format!(in alloc;
+        "{} {charges} of {} {}",
+        part.branch, part.count, part.total
+    )
+}
+
+// The batches that the run lacks: of each its branch and how many charges it adds, and how many of what sum the branch has with them.
+fn plan_text(alloc: Global, plan: Option<Plan>) -> Result<String, AllocError> {
+    let Some(plan) = plan else {
+        return "no run".to_string(alloc);
+    };
+    let mut text = format!(in alloc; "{} behind {}", plan.month, plan.done)?;
+    for batch in &plan.batches {
+        add_part(&mut text, batch_of_plan(alloc, batch)?.as_str())?;
+    }
+    Ok(text)
+}
+
+fn plan_by_books(alloc: Global, books: &Books) -> Result<Option<Plan>, AllocError> {
+    match books.open_run() {
+        Some(run) => Ok(Some(plan_of(alloc, books, run)?)),
+        None => Ok(None),
+    }
+}
+
+fn planned<S: Alter>(alloc: Global, conn: &mut Connection<S>) -> Result<String, Problem>
+    requires { HasCleanDisk (state S.Store conn.old) → IsResting (state S.Store conn.old) }
+{
+    let books = sound_books(alloc, conn)?;
+    let found = plan_text(alloc, plan_run(alloc, conn)?)?;
+    let plain = plan_text(alloc, plan_by_books(alloc, &books)?)?;
+    Ok(both(alloc, found, plain)?)
+}
+
+/// The plan of the open run over tables that were just opened.
+pub fn planned_text<S: Alter>(alloc: Global, conn: &mut Connection<S>) -> Result<String, AllocError>
+    requires { HasCleanDisk (state S.Store conn.old) → IsResting (state S.Store conn.old) }
+{
+    told(alloc, planned(alloc, conn))
+}

@@ -1,0 +1,20 @@
+-- CREATE TABLE ending.
+use Rattle.std.proofs.Common.{refl}
+use Rattle.sqlite_tied.specs.Compute.{everything}
+use Rattle.sqlite.specs.Listing.{understood}
+use Rattle.dh_catalog.specs.declared.texts.TheConstants.{ENDING}
+use Rattle.dh_catalog.specs.EndingTable.{ending}
+use Rattle.dh_catalog.specs.Layout.{part_fee_schema, our_schema}
+use Rattle.dh_catalog.specs.Meanings.{MakesTable}
+
+pub ending_is : MakesTable ENDING.now part_fee_schema our_schema
+unfolding understood everything
+ending_is = record {
+  table = record ending { tree = 0 };
+  command = refl;
+  whole = refl;
+  defines = refl;
+  plain = (refl, refl);
+  grows = refl;
+  uncounted = refl;
+}

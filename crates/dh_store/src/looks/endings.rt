@@ -1,0 +1,136 @@
+//! Looks at endings, of which a file of the first version has no table.
+
+ghost use Rattle.std.specs.Prelude.{◌≡◌, ◌||◌, Bool, nat_eq, IfErr, IfOk, OnOk};
+ghost use Rattle.std.specs.List.{list_any};
+ghost use Rattle.std.specs.FinMap as fin;
+ghost use Rattle.sqlite.specs.State.{HasCleanDisk};
+ghost use Rattle.sqlite.specs.Held.{state};
+ghost use Rattle.dh_types.specs.declared.lease.Ending.{Ending as ending_row};
+ghost use Rattle.dh_model.specs.Whole.{rows_where};
+ghost use Rattle.dh_schema.specs.Faults.{IsFirstFault};
+ghost use Rattle.dh_schema.specs.Store.{IsReady, tables};
+ghost use Rattle.dh_store.specs.Reading.{OnlyReads};
+
+use crate::looks::{look, look_at_all, months_now};
+use dh_books::Books;
+use dh_schema::StoreFault;
+use dh_tables::EndingOf;
+use dh_types::{Ending, Lease, LeaseNo, Version};
+use sqlite::{Alter, Connection};
+use std::alloc::{AllocError, Global};
+
+/// Puts all endings into books that have none.
+pub fn look_at_endings<S: Alter>(
+    alloc: Global,
+    conn: &mut Connection<S>,
+    books: &mut Books,
+) -> Result<(), StoreFault>
+    requires ready { HasCleanDisk (state S.Store conn.old) → IsReady (state S.Store conn.old) }
+    requires none { HasCleanDisk (state S.Store conn.old) → books.old.books.endings ≡ fin.empty }
+    ensures taken { HasCleanDisk (state S.Store conn.new)
+        → OnOk result (books.new ≡ record books.old {
+          books = record books.old.books { endings = (tables (state S.Store conn.old)).books.endings };
+        }) }
+    ensures reads { OnlyReads (state S.Store conn.old) (state S.Store conn.new) result }
+{
+    let months = months_now(alloc, conn)?;
+    match months.version() {
+        Version::First => Ok(()),
+        Version::Second => look_at_all::<Ending, S>(alloc, conn, books),
+    }
+}
+
+// Puts the ending of the lease beside those that the books have. The version is that of the tables.
+fn look_at_ending<S: Alter>(
+    alloc: Global,
+    conn: &mut Connection<S>,
+    version: Version,
+    lease: LeaseNo,
+    books: &mut Books,
+) -> Result<(), StoreFault>
+    requires ready { HasCleanDisk (state S.Store conn.old) → IsReady (state S.Store conn.old) }
+    requires version { HasCleanDisk (state S.Store conn.old) → version ≡ (tables (state S.Store conn.old)).books.version }
+    ensures put { HasCleanDisk (state S.Store conn.new) → OnOk result ((test : ending_row → Bool)
+        → books.old.books.endings ≡ rows_where test (tables (state S.Store conn.old)).books.endings
+        → books.new ≡ record books.old {
+          books = record books.old.books {
+            endings = rows_where (λ ending. test ending || nat_eq ending.lease lease) (tables (state S.Store conn.old)).books.endings;
+          };
+        }) }
+    ensures reads { OnlyReads (state S.Store conn.old) (state S.Store conn.new) result }
+{
+    match version {
+        Version::First => Ok(()),
+        Version::Second => look(alloc, conn, &EndingOf { lease }, books),
+    }
+}
+
+// So for each of these leases.
+fn look_at_each_ending<S: Alter>(
+    alloc: Global,
+    conn: &mut Connection<S>,
+    version: Version,
+    leases: &[Lease],
+    books: &mut Books,
+) -> Result<(), StoreFault>
+    requires ready { HasCleanDisk (state S.Store conn.old) → IsReady (state S.Store conn.old) }
+    requires version { HasCleanDisk (state S.Store conn.old) → version ≡ (tables (state S.Store conn.old)).books.version }
+    ensures taken { HasCleanDisk (state S.Store conn.new) → OnOk result (books.old.books.endings ≡ fin.empty
+        → books.new ≡ record books.old {
+          books = record books.old.books {
+            endings = rows_where (λ ending. list_any (λ lease. nat_eq ending.lease lease.terms.number) leases.now)
+                (tables (state S.Store conn.old)).books.endings;
+          };
+        }) }
+    ensures reads { OnlyReads (state S.Store conn.old) (state S.Store conn.new) result }
+{
+    for lease in leases {
+        let number = lease.terms.number;
+        look_at_ending(alloc, conn, version, number, books)?;
+    }
+    Ok(())
+}
+
+/// Puts the endings of these leases into books that have none.
+pub(crate) fn look_at_endings_of<S: Alter>(
+    alloc: Global,
+    conn: &mut Connection<S>,
+    leases: &[Lease],
+    books: &mut Books,
+) -> Result<(), StoreFault>
+    requires ready { HasCleanDisk (state S.Store conn.old) → IsReady (state S.Store conn.old) }
+    ensures taken { HasCleanDisk (state S.Store conn.new) → OnOk result (books.old.books.endings ≡ fin.empty
+        → books.new ≡ record books.old {
+          books = record books.old.books {
+            endings = rows_where (λ ending. list_any (λ lease. nat_eq ending.lease lease.terms.number) leases.now)
+                (tables (state S.Store conn.old)).books.endings;
+          };
+        }) }
+    ensures reads { OnlyReads (state S.Store conn.old) (state S.Store conn.new) result }
+{
+    let months = months_now(alloc, conn)?;
+    let version = months.version();
+    look_at_each_ending(alloc, conn, version, leases, books)
+}
+
+// The leases that the books have.
+fn listed_leases(alloc: Global, books: &Books) -> Result<Vec<Lease>, AllocError>
+    ensures { IfOk result (λ leases. leases.items ≡ fin.values books.now.books.leases) }
+{
+    let mut leases = Vec::new(alloc);
+    for lease in books.leases() {
+        leases.push(*lease)?;
+    }
+    Ok(leases)
+}
+
+/// The leases that the books have. Want of memory is told as the fault that it is.
+pub(crate) fn held_leases(alloc: Global, books: &Books) -> Result<Vec<Lease>, StoreFault>
+    ensures leases { IfOk result (λ leases. leases.items ≡ fin.values books.now.books.leases) }
+    ensures cause { IfErr result IsFirstFault }
+{
+    match listed_leases(alloc, books) {
+        Ok(leases) => Ok(leases),
+        Err(error) => Err(error.into()),
+    }
+}
