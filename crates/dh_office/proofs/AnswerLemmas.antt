@@ -1,5 +1,5 @@
 -- Lines and questions, in the words of jobs.
-use Rattle.std.proofs.Common.{◌≡◌, ◌∙◌, Bool, ℕ, ◌+◌, Option, List, ◌++◌, length, take, Result, Ok}
+use Rattle.std.proofs.Common.{◌≡◌, ◌∙◌, ◌⊎◌, inl, inr, Bool, true, false, ℕ, ◌+◌, Option, List, ◌++◌, length, take, Result, Ok}
 use Rattle.std.proofs.Common.{Err, sym, ap, subst, arith}
 use Rattle.std.specs.Io.KnownBytes.{Appends}
 use Rattle.std.proofs.lemmas.List.{take_all}
@@ -12,16 +12,17 @@ use Rattle.dh_model.specs.Runs.{batch_size}
 use Rattle.dh_laws.specs.Asking.{AnswersPassTheRun, OpenRunsRefusePutOff}
 use Rattle.dh_laws.specs.StateTables.{IsStateInOrder}
 use Rattle.dh_agency.specs.Seat.{Seat}
-use Rattle.dh_agency.specs.Agency.{LeavesItsTables, machine, shown_by, stand}
+use Rattle.dh_agency.specs.Agency.{Leaves, LeavesItsTables, machine, shown_by, stand}
 use Rattle.dh_agency.proofs.Standing.{reads_in_order, report_stands}
 use Rattle.dh_lines.specs.declared.outcome.BatchFault.{BatchFault}
 use Rattle.dh_lines.specs.declared.outcome.BatchFault.TheVariants as ended
 use Rattle.dh_lines.specs.Session as session
 use Rattle.dh_lines.specs.Session.{lines_from, records_of}
-use Rattle.dh_lines.specs.Batch.{EndsSo, PutsBehind}
+use Rattle.dh_lines.specs.Batch.{AreAfter, EndsSo, LeavesAnswered, PutsBehind}
 use Rattle.dh_office.specs.Jobs.{report_shown}
 use Rattle.dh_office.specs.Texts.{report_lines}
 use Rattle.dh_office.specs.Ends.{AtFault, AtReading, AtWriting, Stops}
+use Rattle.dh_office.specs.Leaving.{LinesLeave}
 
 -- whole or not, a beginning of the second text stands behind the first
 behind : {T E : Type 0} (a b : Option (List ℕ)) (first second : List ℕ) (outcome : Result T E) → PutsBehind a b first outcome second
@@ -38,6 +39,27 @@ stops g old new a b (ended.Agency fault) input (outcome, h) =
     AtFault h.count fault told.0 h.few told.1 h.state
 stops g old new a b (ended.Input cause) input h = AtReading h.count h.few h.written h.state
 stops g old new a b (ended.Output failed) input h = AtWriting h.count h.fields h.cut h.here h.part h.written h.state
+
+-- a batch that answered its lines has not stopped
+pub goes_on : (was is : Bool) → was ≡ false → (is ≡ was) ⊎ (⊥ × (is ≡ true)) → is ≡ false
+goes_on was is before (inl same) = same ∙ before
+goes_on was is before (inr (never, stopped)) = absurd never
+
+-- what a crash leaves behind a batch, where no more than the end of the job was asked for since
+pub lines_left : {S : Type 0} (g : Ghosts S) (old mid new : Seat S) → LeavesAnswered g old mid → LeavesItsTables g mid
+    → Leaves g new (λ left. left ≡ machine g mid) → LinesLeave (shown_by g new) (stand g old)
+lines_left g old mid new h rests same = record {
+  rows = h.rows;
+  within = h.within;
+  one = h.one;
+  left = λ left may.
+      let it = same left may in
+      (
+        it.0,
+        subst (λ (t : State). AreAfter (stand g old) h.rows t ⊎ AreAfter (stand g old) (h.rows ++ h.within) t) (sym it.1)
+        (h.left (shown_by g mid).now.trees rests.some).1,
+      );
+}
 
 -- ---- a question
 

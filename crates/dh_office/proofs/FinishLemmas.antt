@@ -20,7 +20,7 @@ use Rattle.dh_office.specs.Texts.{reply_line}
 use Rattle.dh_office.specs.Printed.{Behind, Prints, Whole, Within}
 use Rattle.dh_agency.specs.Agency.{stand_of}
 use Rattle.dh_office.specs.Jobs.{says_open, stand_in}
-use Rattle.dh_office.specs.Ends.{Comes, Finishes, Told, Unasked}
+use Rattle.dh_office.specs.Ends.{Comes, Finishes, Told, Unasked, Unheard}
 use Rattle.dh_office.proofs.TextLemmas.{same_behind, told_behind}
 
 -- ---- whether a run is open
@@ -86,6 +86,11 @@ module _ (mid new : conn.State) (a m b : Option (List ℕ)) (is_refused : Bool) 
       → HasCleanDisk new → Finishes mid new m b is_refused status → Comes new a b (replied told) status
   run_finished told reply is refused h clean finish =
       subst (λ it. Comes new a b (replied it) status) (sym is) (comes_finished (replied (stand_in mid, reply)) refused h clean refl finish)
+
+-- the writer failed in the reply
+pub run_unheard : (new : conn.State) (a b : Option (List ℕ)) (told : State × Reply) (reply : Reply) → told ≡ (stand_in new, reply)
+    → BreaksOff a b (reply_line reply) → Comes new a b (replied told) Failed
+run_unheard new a b told reply is h = subst (λ it. Comes new a b (replied it) Failed) (sym is) (Unheard h refl refl)
 
 pub finished_alike : (old new : conn.State) (a b : Option (List ℕ)) (is_refused same : Bool) (status : Status) → is_refused ≡ same
     → Finishes old new a b is_refused status → Finishes old new a b same status

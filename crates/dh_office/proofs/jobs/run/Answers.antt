@@ -4,7 +4,7 @@ use Rattle.dh_agency.specs.Agency.{shown_by, stand}
 use Rattle.dh_office.specs.Jobs.{run_told}
 use Rattle.dh_office.specs.Printed.{IsRunEnd}
 use Rattle.dh_office.specs.Texts.{reply_line}
-use Rattle.dh_office.proofs.FinishLemmas.{finished_alike, prints_finished, prints_within, run_finished}
+use Rattle.dh_office.proofs.FinishLemmas.{finished_alike, prints_finished, prints_within, run_finished, run_unheard}
 use Rattle.dh_office.proofs.TextLemmas.{broken_text, whole_text}
 use Rattle.dh_office.proofs.jobs.run.Goals as goal
 
@@ -13,6 +13,13 @@ returns-then-is_err-clause-printed g c =
     let reply = c.in-Ok.reply in
     prints_within IsRunEnd (reply_line reply) (is_refusal reply) _ _ (λ last ends. (reply, refl, ends))
     (broken_text c.print_reply.result _ _ (reply_line reply) (sym c.is_err.ensures.value ∙ c.if-is_err.true) c.print_reply.ensures)
+
+pub returns-then-is_err-clause-ends : goal.returns-then-is_err-clause-ends
+returns-then-is_err-clause-ends g c clean =
+    let reply = c.in-Ok.reply in
+    inl (run_unheard (shown_by g.S.Store c.tell_run.new.agency) _ _ (run_told (stand g.S.Store c.args.agency.now) c.args.order c.args.batches) reply
+    (c.in-Ok.ensures.said clean)
+    (broken_text c.print_reply.result _ _ (reply_line reply) (sym c.is_err.ensures.value ∙ c.if-is_err.true) c.print_reply.ensures))
 
 pub returns-else-is_err-clause-printed : goal.returns-else-is_err-clause-printed
 returns-else-is_err-clause-printed g c =
