@@ -53,11 +53,10 @@ lines_left g old mid new h rests same = record {
   within = h.within;
   one = h.one;
   left = λ left may.
-      let it = same left may in
-      (
+      let it = same left may in (
         it.0,
         subst (λ (t : State). AreAfter (stand g old) h.rows t ⊎ AreAfter (stand g old) (h.rows ++ h.within) t) (sym it.1)
-        (h.left (shown_by g mid).now.trees rests.some).1,
+            (h.left (shown_by g mid).now.trees rests.some).1,
       );
 }
 
