@@ -46,6 +46,11 @@ fn add_accounts(alloc: Global, text: &mut String, books: &Books) -> Result<(), A
     add_rows(alloc, text, "parts", books.parts())
 }
 
+fn add_fees(alloc: Global, text: &mut String, books: &Books) -> Result<(), AllocError> {
+    add_rows(alloc, text, "branch fees", books.branch_fees())?;
+    add_rows(alloc, text, "part fees", books.part_fees())
+}
+
 /// `first` or `second`.
 pub fn version_name(version: Version) -> &'static str {
     match version {
@@ -61,6 +66,7 @@ pub fn books_text(alloc: Global, books: &Books) -> Result<String, AllocError> {
     add_people(alloc, &mut text, books)?;
     add_lettings(alloc, &mut text, books)?;
     add_accounts(alloc, &mut text, books)?;
+    add_fees(alloc, &mut text, books)?;
     let months = format!(in alloc; "{} {}", books.first(), books.next())?;
     add_line(&mut text, "months", months.as_str())?;
     add_line(&mut text, "version", version_name(books.version()))?;

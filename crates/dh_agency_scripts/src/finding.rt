@@ -11,8 +11,9 @@ use dh_runs::Problem;
 use dh_schema::{KeyedRecord, find};
 use dh_scripts::{Fields, ToLine, Unreadable};
 use dh_types::{
-    Branch, Charge, ChargeIndex, Client, Ending, EntryDay, EntryMonth, Id, Inspection, Lease,
-    LeaseNo, Owner, Part, Property, Receipt, ReceiptNo, Registration, Run, Staff, Viewing,
+    Branch, BranchFee, Charge, ChargeIndex, Client, Ending, EntryDay, EntryMonth, Id, Inspection,
+    Lease, LeaseNo, Owner, Part, PartFee, Property, Receipt, ReceiptNo, Registration, Run, Staff,
+    Viewing,
 };
 use sqlite::{Alter, Connection};
 use std::alloc::{AllocError, Global};
@@ -34,6 +35,16 @@ enum Sought {
     Receipt(ReceiptNo),
     Run(EntryMonth),
     Part((EntryMonth, Id)),
+    BranchFee(Id),
+    PartFee((EntryMonth, Id)),
+}
+
+fn sought_of_fee(kind: &str, fields: &mut Fields) -> Result<Sought, Unreadable> {
+    match kind {
+        "branch fee" => Ok(Sought::BranchFee(fields.id()?)),
+        "part fee" => Ok(Sought::PartFee((fields.month()?, fields.id()?))),
+        _ => Err(Unreadable),
+    }
 }
 
 fn sought_of_lease(kind: &str, fields: &mut Fields) -> Result<Sought, Unreadable> {
@@ -44,7 +55,7 @@ fn sought_of_lease(kind: &str, fields: &mut Fields) -> Result<Sought, Unreadable
         "receipt" => Ok(Sought::Receipt(fields.receipt_no()?)),
         "run" => Ok(Sought::Run(fields.month()?)),
         "part" => Ok(Sought::Part((fields.month()?, fields.id()?))),
-        _ => Err(Unreadable),
+        _ => sought_of_fee(kind, fields),
     }
 }
 
@@ -93,6 +104,8 @@ fn lease_line<S: Alter>(
         Sought::Receipt(key) => line_of::<Receipt, S>(alloc, conn, &key),
         Sought::Run(key) => line_of::<Run, S>(alloc, conn, &key),
         Sought::Part(key) => line_of::<Part, S>(alloc, conn, &key),
+        Sought::BranchFee(key) => line_of::<BranchFee, S>(alloc, conn, &key),
+        Sought::PartFee(key) => line_of::<PartFee, S>(alloc, conn, &key),
         _ => Ok("no kind".to_string(alloc)?),
     }
 }

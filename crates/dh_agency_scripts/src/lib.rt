@@ -22,6 +22,6 @@ pub use calls::line_over;
 pub use comparing::compare;
 pub use either::{judge_text, planned_text};
 pub use lives::{Lived, play_lives, problem_text, told_anew, told_next};
-pub use rows::{all_rows, found, later_rows, rows_of};
+pub use rows::{all_rows, found, rows_of};
 pub use scripts::{compare_tables, parted, play_in_memory, table_of};
 pub use tables::{install_text, load_text, version_text};

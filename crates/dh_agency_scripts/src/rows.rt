@@ -5,8 +5,8 @@ use sqlite::{Alter, Connection, Row};
 use std::alloc::{AllocError, Global};
 use std::str;
 
-// The tables of the first version, each with the query for its rows, rising by key.
-const TABLES: [(&str, &str); 14] = [
+// The tables, each with the query for its rows, rising by key.
+const TABLES: [(&str, &str); 17] = [
     (
         "branch",
         "SELECT branch_no, street, city, postcode FROM branch ORDER BY branch_no",
@@ -60,14 +60,6 @@ const TABLES: [(&str, &str); 14] = [
         "SELECT month, branch_no, through_lease, due_count, due_total FROM part ORDER BY month, branch_no",
     ),
     (
-        "meta",
-        "SELECT id, version, first_month, next_month FROM meta",
-    ),
-];
-
-// Those that came with the second.
-const LATER_TABLES: [(&str, &str); 3] = [
-    (
         "branch_fee",
         "SELECT branch_no, fee FROM branch_fee ORDER BY branch_no",
     ),
@@ -78,6 +70,10 @@ const LATER_TABLES: [(&str, &str); 3] = [
     (
         "ending",
         "SELECT lease_no, months FROM ending ORDER BY lease_no",
+    ),
+    (
+        "meta",
+        "SELECT id, version, first_month, next_month FROM meta",
     ),
 ];
 
@@ -118,14 +114,10 @@ pub fn found<S: Alter>(
     Ok(text)
 }
 
-// The rows of these tables, each table's on a line behind its name; `none` where it has none.
-fn rows_by<S: Alter>(
-    alloc: Global,
-    conn: &mut Connection<S>,
-    tables: &[(&str, &str)],
-) -> Result<String, AllocError> {
+/// The rows of all tables, each table's on a line behind its name; `none` where it has none, and `no rows` where there is no such table.
+pub fn all_rows<S: Alter>(alloc: Global, conn: &mut Connection<S>) -> Result<String, AllocError> {
     let mut text = String::new(alloc);
-    for (name, sql) in tables {
+    for (name, sql) in &TABLES {
         text.push_str(name)?;
         text.push_str(": ")?;
         let rows = found(alloc, conn, sql)?;
@@ -137,16 +129,6 @@ fn rows_by<S: Alter>(
         text.push_str("\n")?;
     }
     Ok(text)
-}
-
-/// The rows of all tables of the first version, each table's on a line behind its name; `none` where it has none.
-pub fn all_rows<S: Alter>(alloc: Global, conn: &mut Connection<S>) -> Result<String, AllocError> {
-    rows_by(alloc, conn, &TABLES)
-}
-
-/// So of the tables that came with the second version; `no rows` where there is no such table.
-pub fn later_rows<S: Alter>(alloc: Global, conn: &mut Connection<S>) -> Result<String, AllocError> {
-    rows_by(alloc, conn, &LATER_TABLES)
 }
 
 /// The rows of the table that is named so, in such a text.

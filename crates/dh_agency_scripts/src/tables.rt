@@ -68,21 +68,25 @@ fn leases(books: &Books) -> usize {
     ])
 }
 
-// What stands behind a text of books or tables of this version: nothing of the first.
+fn fees(books: &Books) -> usize {
+    sum(&[books.branch_fees().count(), books.part_fees().count()])
+}
+
+// What stands behind a text of books or tables of this version: nothing of the second.
 fn of_the_version(alloc: Global, version: Version) -> Result<String, AllocError> {
     match version {
-        Version::First => Ok(String::new(alloc)),
-        Version::Second => format!(in alloc; " of the {} version", version_name(version)),
+        Version::First => format!(in alloc; " of the {} version", version_name(version)),
+        Version::Second => Ok(String::new(alloc)),
     }
 }
 
 fn books_loaded_text(alloc: Global, books: &Books) -> Result<String, AllocError> {
-    let rows = sum(&[people(books), properties(books), leases(books)]);
+    let rows = sum(&[people(books), properties(books), leases(books), fees(books)]);
     let version = of_the_version(alloc, books.version())?;
     format!(in alloc; "{rows} rows{}", version.as_str())
 }
 
-/// How many rows the tables have, and of which version the books are where it is not the first; or why they are not loaded.
+/// How many rows the tables have, and of which version the books are where it is not the second; or why they are not loaded.
 pub fn load_text<S: Alter>(alloc: Global, conn: &mut Connection<S>) -> Result<String, AllocError> {
     match load(alloc, conn) {
         Ok(books) => books_loaded_text(alloc, &books),
@@ -90,12 +94,12 @@ pub fn load_text<S: Alter>(alloc: Global, conn: &mut Connection<S>) -> Result<St
     }
 }
 
-// The number that meta gives, and of which version the tables are where it is not the first.
+// The number that meta gives, and of which version the tables are where it is not the second.
 fn file_version_text(alloc: Global, found: FileVersion) -> Result<String, AllocError> {
     let number = found.number;
     match found.tables {
-        Version::First => format!(in alloc; "version {number}"),
-        Version::Second => format!(in alloc; "version {number} in tables of the second"),
+        Version::First => format!(in alloc; "version {number} in tables of the first"),
+        Version::Second => format!(in alloc; "version {number}"),
     }
 }
 

@@ -14,6 +14,8 @@ pub record NamedByKind (books : Books) : Type 0 where
   pub charges : Each books.charges (Refers books Kind.Charges)
   pub receipts : Each books.receipts (Refers books Kind.Receipts)
   pub parts : Each books.parts (Refers books Kind.Parts)
+  pub branch_fees : Each books.branch_fees (Refers books Kind.BranchFees)
+  pub part_fees : Each books.part_fees (Refers books Kind.PartFees)
   pub endings : Each books.endings (Refers books Kind.Endings)
 
 module _ (books : Books) where
@@ -27,6 +29,8 @@ module _ (books : Books) where
   names_of_kinds named Kind.Charges = named.charges
   names_of_kinds named Kind.Receipts = named.receipts
   names_of_kinds named Kind.Parts = named.parts
+  names_of_kinds named Kind.BranchFees = named.branch_fees
+  names_of_kinds named Kind.PartFees = named.part_fees
   names_of_kinds named Kind.Endings = named.endings
   names_of_kinds named Kind.Branches = λ row a. tt
   names_of_kinds named Kind.Owners = λ row a. tt
@@ -45,6 +49,8 @@ module _ (books : Books) where
         charges = names Kind.Charges;
         receipts = names Kind.Receipts;
         parts = names Kind.Parts;
+        branch_fees = names Kind.BranchFees;
+        part_fees = names Kind.PartFees;
         endings = names Kind.Endings;
       }
 

@@ -3,6 +3,7 @@ pub mod Months
 pub mod Audit
 pub mod Counts
 pub mod Endings
+pub mod Fees
 pub mod Receipts
 pub mod Staff
 pub mod Stays

@@ -7,9 +7,9 @@ ghost use Rattle.dh_model.specs.Runs.{batch_size};
 ghost use Rattle.dh_audit.specs.Audit.{HoldBelow, IsLeastBroken};
 
 use crate::{
-    deposits_in_order, endings_in_order, keys_in_order, leases_in_time, leases_never_overlap,
-    manages_at_most_hundred, months_in_order, names_what_is_there, one_start_a_day, runs_in_order,
-    staff_of_the_branch,
+    deposits_in_order, endings_in_order, fees_in_order, keys_in_order, leases_in_time,
+    leases_never_overlap, manages_at_most_hundred, months_in_order, names_what_is_there,
+    one_start_a_day, runs_in_order, staff_of_the_branch,
 };
 use dh_books::Books;
 use std::alloc::{AllocError, Global};
@@ -57,6 +57,9 @@ pub fn audit(alloc: Global, books: &Books) -> Result<Result<(), u8>, AllocError>
     }
     if !months_in_order(alloc, books)? {
         return Ok(Err(10));
+    }
+    if !fees_in_order(alloc, books)? {
+        return Ok(Err(11));
     }
     if !endings_in_order(books) {
         return Ok(Err(12));

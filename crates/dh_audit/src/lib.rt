@@ -9,6 +9,7 @@ mod closed_months;
 mod closed_parts;
 mod closed_sums;
 mod distinct;
+mod fees;
 mod leases;
 mod months;
 mod open_months;
@@ -23,6 +24,7 @@ mod stays;
 
 pub use auditing::audit;
 pub use closed_months::closed_months_are_in_order;
+pub use fees::fees_in_order;
 pub use leases::{endings_in_order, leases_in_time, one_start_a_day};
 pub use months::months_in_order;
 pub use open_months::open_months_are_in_order;

@@ -144,6 +144,22 @@ fn parts_refer(books: &Books) -> bool
     books.parts().all(|part| part_refers(books, part))
 }
 
+// Whether each branch that has a fee is there.
+fn branch_fees_refer(books: &Books) -> bool
+    ensures { (result ≡ true) ↔ Each books.now.books.branch_fees (Refers books.now.books Kind.BranchFees) }
+{
+    books
+        .branch_fees()
+        .all(|it| books.branch(&it.branch).is_some())
+}
+
+// Whether each fee row is of a part that is there.
+fn part_fees_refer(books: &Books) -> bool
+    ensures { (result ≡ true) ↔ Each books.now.books.part_fees (Refers books.now.books Kind.PartFees) }
+{
+    books.part_fees().all(|it| books.part(&it.key()).is_some())
+}
+
 // Whether each ending is of a lease that is there.
 fn endings_refer(books: &Books) -> bool
     ensures { (result ≡ true) ↔ Each books.now.books.endings (Refers books.now.books Kind.Endings) }
@@ -166,5 +182,7 @@ pub fn names_what_is_there(books: &Books) -> bool
         && charges_refer(books)
         && receipts_refer(books)
         && parts_refer(books)
+        && branch_fees_refer(books)
+        && part_fees_refer(books)
         && endings_refer(books)
 }

@@ -134,6 +134,8 @@ pub(crate) fn put(books: &mut Books, row: Row) -> Result<(), AllocError> {
         Row::Receipt(it) => books.put_receipt(it),
         Row::Run(it) => books.put_run(it),
         Row::Part(it) => books.put_part(it),
+        Row::BranchFee(it) => books.put_branch_fee(it),
+        Row::PartFee(it) => books.put_part_fee(it),
         Row::Next(month) => {
             books.set_next(month);
             Ok(())

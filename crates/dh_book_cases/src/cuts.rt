@@ -94,8 +94,15 @@ fn same_runs(books: &Books, other: &Books) -> bool {
         && books.version() == other.version()
 }
 
+fn same_fees(books: &Books, other: &Books) -> bool {
+    books.branch_fees().eq(other.branch_fees()) && books.part_fees().eq(other.part_fees())
+}
+
 fn are_same(tables: &Books, machine: &Books) -> bool {
-    same_people(tables, machine) && same_properties(tables, machine) && same_runs(tables, machine)
+    same_people(tables, machine)
+        && same_properties(tables, machine)
+        && same_runs(tables, machine)
+        && same_fees(tables, machine)
 }
 
 // Plays the commands, that of this place cut in this way, and whether all replies were one.

@@ -26,6 +26,7 @@ fn with_two_keys(
             books.charge(&(fields.lease_no()?, fields.charge_index()?)),
         ),
         "part" => line_of(alloc, books.part(&(fields.month()?, fields.id()?))),
+        "part fee" => line_of(alloc, books.part_fee(&(fields.month()?, fields.id()?))),
         _ => Err(Unreadable),
     }
 }
@@ -45,6 +46,7 @@ pub(crate) fn found(
         "client" => line_of(alloc, books.client(&fields.id()?)),
         "lease" => line_of(alloc, books.lease(&fields.lease_no()?)),
         "ending" => line_of(alloc, books.ending(&fields.lease_no()?)),
+        "branch fee" => line_of(alloc, books.branch_fee(&fields.id()?)),
         "receipt" => line_of(alloc, books.receipt(&fields.receipt_no()?)),
         "run" => line_of(alloc, books.run(&fields.month()?)),
         _ => with_two_keys(alloc, books, kind, fields),

@@ -6,7 +6,8 @@ use crate::finding::found;
 use crate::lists::{counted, listed};
 use crate::rules::{audited, is_kept};
 use crate::runs::{
-    batched, clear_charges, clear_parts, open_run, posted, set_open_run, version, whole_parts,
+    batched, clear_charges, clear_parts, fees_posted, open_run, posted, set_open_run, version,
+    whole_fees, whole_parts,
 };
 use crate::terms::{branch_dues, covered, due, dues_of, end, length, overlapping};
 use dh_books::Books;
@@ -130,6 +131,8 @@ fn of_months(
         "batches" => batched(alloc, books, fields),
         "posted" => posted(alloc, books, fields),
         "whole parts" => whole_parts(alloc, books, fields),
+        "posted fees" => fees_posted(alloc, books, fields),
+        "whole fees" => whole_fees(alloc, books, fields),
         "open run" => open_run(alloc, books),
         "version" => version(alloc, books),
         "first" => Ok(books.first().to_string(alloc)?),

@@ -25,6 +25,8 @@ fn other_rows(alloc: Global, books: &Books, kind: &str) -> Result<String, Unread
     match kind {
         "leases" => all(alloc, books.leases()),
         "endings" => all(alloc, books.endings()),
+        "branch fees" => all(alloc, books.branch_fees()),
+        "part fees" => all(alloc, books.part_fees()),
         "charges" => all(alloc, books.charges()),
         "receipts" => all(alloc, books.receipts()),
         "runs" => all(alloc, books.runs()),
@@ -55,6 +57,7 @@ pub(crate) fn counted(alloc: Global, books: &Books, kind: &str) -> Result<String
     let count = match kind {
         "charges" => books.charges().count(),
         "parts" => books.parts().count(),
+        "part fees" => books.part_fees().count(),
         "runs" => books.runs().count(),
         "receipts" => books.receipt_count(),
         _ => return Err(Unreadable),

@@ -1,9 +1,10 @@
 //! The rules of the audit, all at once and one by one.
 
 use dh_audit::{
-    closed_months_are_in_order, deposits_in_order, endings_in_order, keys_in_order, leases_in_time,
-    leases_never_overlap, manages_at_most_hundred, months_in_order, names_what_is_there,
-    one_start_a_day, open_months_are_in_order, runs_in_order, staff_of_the_branch,
+    closed_months_are_in_order, deposits_in_order, endings_in_order, fees_in_order, keys_in_order,
+    leases_in_time, leases_never_overlap, manages_at_most_hundred, months_in_order,
+    names_what_is_there, one_start_a_day, open_months_are_in_order, runs_in_order,
+    staff_of_the_branch,
 };
 use dh_books::Books;
 use dh_rules::audit;
@@ -35,6 +36,7 @@ fn holds(alloc: Global, books: &Books, rule: &str) -> Result<bool, Unreadable> {
         "8" => Ok(keys_in_order(alloc, books)?),
         "9" => Ok(runs_in_order(books)),
         "10" => Ok(months_in_order(alloc, books)?),
+        "11" => Ok(fees_in_order(alloc, books)?),
         "12" => Ok(endings_in_order(books)),
         "10 closed" => Ok(closed_months_are_in_order(alloc, books)?),
         "10 open" => Ok(open_months_are_in_order(alloc, books)?),

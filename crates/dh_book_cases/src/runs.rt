@@ -1,7 +1,7 @@
 //! Rent runs and their batches, and the version of the books.
 
 use dh_books::Books;
-use dh_leases::{branch_parts, posted_charges, posted_parts};
+use dh_leases::{branch_fees, branch_parts, posted_charges, posted_fees, posted_parts};
 use dh_model::OpenRun;
 use dh_rules::batches;
 use dh_scripts::{Fields, Unreadable, add_part, lines_of};
@@ -31,6 +31,28 @@ pub(crate) fn posted(
     let mut text = charges.to_string(alloc)?;
     add_part(&mut text, lines_of(alloc, &parts)?.as_str())?;
     Ok(text)
+}
+
+/// `posted fees,MONTH,DONE`: the fee rows after so many batches.
+pub(crate) fn fees_posted(
+    alloc: Global,
+    books: &Books,
+    fields: &mut Fields,
+) -> Result<String, Unreadable> {
+    let month = fields.month()?;
+    let done = u128::from(fields.number()?);
+    let fees = posted_fees(alloc, books, month, done)?;
+    Ok(lines_of(alloc, &fees)?)
+}
+
+/// `whole fees,MONTH`: the fee rows after the last batch.
+pub(crate) fn whole_fees(
+    alloc: Global,
+    books: &Books,
+    fields: &mut Fields,
+) -> Result<String, Unreadable> {
+    let fees = branch_fees(alloc, books, fields.month()?)?;
+    Ok(lines_of(alloc, &fees)?)
 }
 
 /// `whole parts,MONTH`: the part rows after the last batch.

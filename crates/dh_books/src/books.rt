@@ -2,6 +2,7 @@
 
 mod changes;
 mod endings;
+mod fees;
 mod leases;
 mod months;
 mod people;
@@ -14,9 +15,9 @@ ghost use Rattle.dh_model.specs.Books.{empty_books};
 
 use dh_model::OpenRun;
 use dh_types::{
-    Branch, Charge, ChargeIndex, Client, Ending, EntryDay, EntryMonth, Id, Inspection, Lease,
-    LeaseNo, Month, Owner, Part, Property, Receipt, ReceiptNo, Registration, Run, Staff, Version,
-    Viewing,
+    Branch, BranchFee, Charge, ChargeIndex, Client, Ending, EntryDay, EntryMonth, Id, Inspection,
+    Lease, LeaseNo, Month, Owner, Part, PartFee, Property, Receipt, ReceiptNo, Registration, Run,
+    Staff, Version, Viewing,
 };
 use std::alloc::Global;
 use std::collections::BTreeMap;
@@ -38,6 +39,8 @@ pub struct Books {
     receipts: BTreeMap<ReceiptNo, Receipt>,
     runs: BTreeMap<EntryMonth, Run>,
     parts: BTreeMap<(EntryMonth, Id), Part>,
+    branch_fees: BTreeMap<Id, BranchFee>,
+    part_fees: BTreeMap<(EntryMonth, Id), PartFee>,
     endings: BTreeMap<LeaseNo, Ending>,
     first: Month,
     next: Month,
@@ -80,6 +83,8 @@ impl Books {
             receipts: BTreeMap::new(alloc),
             runs: BTreeMap::new(alloc),
             parts: BTreeMap::new(alloc),
+            branch_fees: BTreeMap::new(alloc),
+            part_fees: BTreeMap::new(alloc),
             endings: BTreeMap::new(alloc),
             first,
             next,

@@ -124,7 +124,7 @@ fn wanted(
     is_in: bool,
 ) -> Result<String, Unreadable> {
     let happenings = happenings_of(alloc, chapters, lives, is_in)?;
-    let start = Books::new(alloc, Version::First, january(), january());
+    let start = Books::new(alloc, Version::Second, january(), january());
     let played = play(alloc, start, &happenings)?;
     let mut text = String::new(alloc);
     add_replies(alloc, &mut text, &played.replies)?;

@@ -12,7 +12,7 @@ use Rattle.dh_model.specs.Books.{empty_books}
 use Rattle.dh_model.specs.Checks.{is_same_text}
 use Rattle.dh_model.specs.Leases.{overlap, running}
 use Rattle.dh_model.specs.Rules.{Each, EachTwo, IsThere, MeetsRules, Refers, References, Branches, Managers, Overlaps, Starts, Terms, Deposits, Keys}
-use Rattle.dh_model.specs.Rules.{Runs, Months, Endings}
+use Rattle.dh_model.specs.Rules.{Runs, Months, Fees, Endings}
 use Rattle.dh_model.proofs.Among.{Among, among}
 use Rattle.dh_laws.specs.InOrder.{AreKeyed, StandUnder}
 use Rattle.dh_laws.specs.Keeping.{EmptyBooksAreInOrder}
@@ -28,7 +28,7 @@ module _ {K X : Type 0} (R : K → K → Ordering) where
   no_rows : values (empty {X = X} {R = R}) ≡ []
   no_rows = ap (map (λ e. e.1)) (none_left (entries (empty {X = X} {R = R})) (sym (len-entries (empty {X = X} {R = R})) ∙ len-empty R X))
 
-  each_of_none : (P : X → Type 0) → Each (empty {X = X} {R = R}) P
+  pub each_of_none : (P : X → Type 0) → Each (empty {X = X} {R = R}) P
   each_of_none P row h = absurd (subst (λ rows. Among rows row) no_rows (among (values empty) row h))
 
   two_of_none : (P : X → X → Type 0) → EachTwo (empty {X = X} {R = R}) P
@@ -72,6 +72,7 @@ module _ (size month : ℕ) where
     closed = each_of_none _ _;
   }
   meets Months = record { closed = each_of_none _ _; under_way = each_of_none _ _; charged = each_of_none _ _; summed = each_of_none _ _ }
+  meets Fees = each_of_none _ _
   meets Endings = each_of_none _ _
 
   keyed : AreKeyed (empty_books month)

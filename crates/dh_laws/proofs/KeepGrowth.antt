@@ -56,6 +56,8 @@ module _ (books after : Books) (g : Grows books after) where
   still_refers Kind.Charges it q = g.there Kind.Leases it.lease q
   still_refers Kind.Receipts it q = g.there Kind.Leases it.payment.lease q
   still_refers Kind.Parts it q = record { run = g.there Kind.Runs it.month q.run; branch = g.there Kind.Branches it.branch q.branch }
+  still_refers Kind.BranchFees it q = g.there Kind.Branches it.branch q
+  still_refers Kind.PartFees it q = g.there Kind.Parts (it.month, it.branch) q
   still_refers Kind.Endings it q = g.there Kind.Leases it.lease q
   still_refers other it q = q
 

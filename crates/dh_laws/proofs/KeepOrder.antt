@@ -14,6 +14,7 @@ use Rattle.dh_model.specs.Rules.{MeetsRules, Rule}
 use Rattle.dh_laws.specs.InOrder.{IsInOrder, run_after}
 use Rattle.dh_laws.specs.Keeping.{ChangesKeepOrder}
 use Rattle.dh_laws.proofs.Acceptance.{Accepted}
+use Rattle.dh_laws.proofs.KeepFees.{keeps_fees}
 use Rattle.dh_laws.proofs.KeepKeys.{keeps_keys}
 use Rattle.dh_laws.proofs.Settled.{AreSettled, keeps_settled}
 use Rattle.dh_laws.proofs.KeepManagers.{keeps_managers}
@@ -66,6 +67,7 @@ module _ (size : ℕ) (books : Books) (run : Option OpenRun) (in_order : IsInOrd
   rules_kept Rule.Keys = settled.keys
   rules_kept Rule.Runs = in_months.runs
   rules_kept Rule.Months = in_months.months
+  rules_kept Rule.Fees = keeps_fees books run (in_order.rules Rule.References) (in_order.rules Rule.Runs) rows accepted (in_order.rules Rule.Fees)
   rules_kept Rule.Endings = settled.endings
 
   order_kept : IsInOrder size (changed rows books) (run_after run rows)

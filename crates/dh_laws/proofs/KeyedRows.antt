@@ -23,6 +23,8 @@ module _ (books : Books) (P : (kind : Kind) → FinMap (order_of kind) (record_o
   each_with Kind.Receipts rows is Kind.Receipts = is
   each_with Kind.Runs rows is Kind.Runs = is
   each_with Kind.Parts rows is Kind.Parts = is
+  each_with Kind.BranchFees rows is Kind.BranchFees = is
+  each_with Kind.PartFees rows is Kind.PartFees = is
   each_with Kind.Endings rows is Kind.Endings = is
   each_with _ rows is other = each other
 

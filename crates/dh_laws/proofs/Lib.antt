@@ -19,6 +19,7 @@ pub mod PassVerdicts
 pub mod PostCharged
 pub mod PostDues
 pub mod PostMonth
+pub mod PostFees
 pub mod PostRules
 pub mod MonthWhole
 pub mod MonthSteps
@@ -26,6 +27,7 @@ pub mod PostWhole
 pub mod KeyedRows
 pub mod KeepKeys
 pub mod Settled
+pub mod KeepFees
 pub mod KeepGrowth
 pub mod KeepReferences
 pub mod KeepStaff

@@ -1,11 +1,12 @@
 -- Books that have the same of a month.
 use Rattle.std.proofs.Common.{◌≡◌, ◌≢◌, ◌∙◌, refl, sym, ap, subst, ℕ, ◌+◌, ◌/◌, ◌≤◌, nat_lt, List, [], length, map, is_lt}
 use Rattle.std.specs.List.{filter, flat_map, sum_by}
-use Rattle.std.specs.FinMap.{keys}
+use Rattle.std.specs.FinMap.{get, keys}
 use Rattle.dh_types.specs.declared.run.Run.{Run}
 use Rattle.dh_model.specs.Books.{Books, text_cmp}
 use Rattle.dh_model.specs.Leases.{dues}
 use Rattle.dh_model.specs.Runs.{batches, batches_before, batches_for, dues_of_branch, part_of, place_among, posted_charges, posted_of_branch, posted_parts}
+use Rattle.dh_model.specs.Runs.{fee_in, fees_of_parts, part_fee_of, posted_fees, since_second}
 use Rattle.dh_model.specs.Runs.{total_of}
 use Rattle.dh_model.specs.Rules.{ArePosted, HaveTheSame, IsThere, MonthIsClosed, MonthIsOpen, charges_in, parts_in}
 
@@ -73,6 +74,13 @@ module _ (size : ℕ) (b c : Books) (month : ℕ) (alike : SameBatches b c month
   pub parts_alike : (done : ℕ) → posted_parts size c month done ≡ posted_parts size b month done
   parts_alike done = λ i. map (λ branch. part_of month branch (of_branch_alike done i branch))
       (filter (λ branch. nat_lt (before_alike i branch) done) (keys_alike i))
+
+  pub fees_alike : (done : ℕ) → c.branch_fees ≡ b.branch_fees → c.version ≡ b.version → posted_fees size c month done ≡ posted_fees size b month done
+  fees_alike done fees version =
+      let rows : fees_of_parts size c month done ≡ fees_of_parts size b month done =
+      λ i. map (λ branch. part_fee_of month branch (fee_in (get (fees i) branch)) (of_branch_alike done i branch))
+      (filter (λ branch. nat_lt (before_alike i branch) done) (keys_alike i)) in
+      λ i. since_second (version i) (rows i)
 
   -- so the same batches are posted
   pub posted_alike : (done : ℕ) → ArePosted b size month done → ArePosted c size month done

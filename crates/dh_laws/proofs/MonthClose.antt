@@ -14,7 +14,8 @@ use Rattle.dh_model.specs.Runs.{batches, begun_branches, closed_run, dues_of_bra
 use Rattle.dh_model.specs.Runs.{batches_before}
 use Rattle.dh_model.specs.BatchLaws.{AreNumbered}
 use Rattle.dh_model.specs.Checks.{is_same_text}
-use Rattle.dh_model.specs.Rules.{ArePosted, IsLawful, IsThere, KeysInOrder, MeetsRules, MonthIsClosed, MonthIsOpen, MonthsInOrder, NamesWhatIsThere, Rule}
+use Rattle.dh_model.specs.Rules.{ArePosted, HasFees, IsLawful, IsThere, KeysInOrder, MeetsRules, MonthIsClosed}
+use Rattle.dh_model.specs.Rules.{MonthIsOpen, MonthsInOrder, NamesWhatIsThere, Rule}
 use Rattle.dh_model.specs.Rules.{RunsInOrder, charges_in, parts_in}
 use Rattle.dh_model.specs.Whole.{open_row}
 use Rattle.dh_model.proofs.Among.{Among, among, in_filter, in_map, is_among, of_map}
@@ -22,6 +23,7 @@ use Rattle.dh_model.proofs.BatchLemmas.{last_batch_posts_all}
 use Rattle.dh_model.proofs.KeyOrders.{nat_text_ties, nat_text_total, nat_ties, nat_total}
 use Rattle.dh_laws.specs.InOrder.{AreKeyed}
 use Rattle.dh_model.proofs.MapRows.{each_insert, got_after, of_row, there, there_after, values_old}
+use Rattle.dh_laws.proofs.KeepFees.{at_alike, fees_stay}
 use Rattle.dh_laws.proofs.KeyedRows.{keyed_put}
 use Rattle.dh_laws.proofs.KeepGrowth.{names_put}
 use Rattle.dh_laws.proofs.MapMerges.{own_row}
@@ -168,6 +170,21 @@ module _ (size : ℕ) (b : Books) (row : Run) (pos : 1 ≤ size) (keyed : AreKey
         summed = λ part a. still_there part.month (months.summed part a);
       }
 
+  -- the run is closed, so each part keeps its fee
+  fees_after : HasFees c b.version
+  fees_after = fees_stay b c (record {
+    version = refl;
+    charges = refl;
+    parts = refl;
+    rows = refl;
+    fee = λ branch. refl;
+    of = λ charge a branch. at_alike b c refl branch (get b.leases charge.lease);
+    run = λ part a run is unclosed. elim (got_after nat_total nat_ties b.runs row.month done part.month run is) [
+      | inl new ↦ absurd (let closed : run.is_closed ≡ true = ap (λ (r : Run). r.is_closed) new.1 in let still = unclosed in cc)
+      | inr old ↦ old.1
+    ];
+  }) (rules Rule.Fees)
+
   rules_after : MeetsRules c size
   rules_after Rule.References = names_after
   rules_after Rule.Branches = let r = rules Rule.Branches in record { managers = r.managers; registrars = r.registrars }
@@ -179,6 +196,7 @@ module _ (size : ℕ) (b : Books) (row : Run) (pos : 1 ≤ size) (keyed : AreKey
   rules_after Rule.Keys = keys_after
   rules_after Rule.Runs = runs_after
   rules_after Rule.Months = months_after
+  rules_after Rule.Fees = fees_after
   rules_after Rule.Endings = rules Rule.Endings
 
   pub closing_is_lawful : AreKeyed

@@ -95,6 +95,11 @@ module _ (books : Books) (properties : FinMap text_cmp Property) where
   StandAsBefore = (lease : Lease) → Among (values books.leases) lease → (branch : List ℕ)
       → is_property_of branch (get properties lease.terms.property) ≡ is_property_of branch (get books.properties lease.terms.property)
 
+  pub stands : StandAsBefore → (lease : Lease) → Among (values books.leases) lease → (branch : List ℕ)
+      → is_property_of branch (get properties lease.terms.property) ≡ is_property_of branch (get books.properties lease.terms.property)
+  unfolding StandAsBefore
+  stands same = same
+
   pub branch_after_property : StandAsBefore → (month : ℕ) (branch : List ℕ)
       → dues_of_branch (record books { properties = properties }) month branch ≡ dues_of_branch books month branch
   unfolding StandAsBefore

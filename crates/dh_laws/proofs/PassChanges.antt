@@ -8,19 +8,20 @@ use Rattle.dh_types.specs.declared.command.RentChange.{RentChange}
 use Rattle.dh_types.specs.declared.command.ViewingComment.{ViewingComment}
 use Rattle.dh_types.specs.declared.lease.Charge.{Charge}
 use Rattle.dh_types.specs.declared.run.Part.{Part}
+use Rattle.dh_types.specs.declared.fee.PartFee.{PartFee}
 use Rattle.dh_types.specs.declared.run.Run.{Run}
 use Rattle.dh_model.specs.declared.open_run.OpenRun.{OpenRun}
 use Rattle.dh_model.specs.declared.rows.Change.{Change}
 use Rattle.dh_model.specs.declared.rows.Change.TheVariants as change
 use Rattle.dh_model.specs.Books.{Books, text_cmp, with_rows}
-use Rattle.dh_model.specs.Runs.{batches, charge_key, closed_run, part_key, posted_charges, posted_parts}
+use Rattle.dh_model.specs.Runs.{batches, charge_key, closed_run, part_fee_key, part_key, posted_charges, posted_fees, posted_parts}
 use Rattle.dh_model.specs.Machine.{at_rent, changed, managed, with_comment}
 use Rattle.dh_model.specs.Rules.{NamesWhatIsThere, Rule}
 use Rattle.dh_model.specs.Whole.{completed, open_row, rows_where, whole}
 use Rattle.dh_laws.specs.Passing.{FreeChangesPassTheRun}
 use Rattle.dh_laws.proofs.Acceptance.{Accepted}
 use Rattle.dh_laws.proofs.VerdictCases.{accepted}
-use Rattle.dh_laws.proofs.MonthAlike.{batches_alike, charges_alike, parts_alike}
+use Rattle.dh_laws.proofs.MonthAlike.{batches_alike, charges_alike, fees_alike, parts_alike}
 use Rattle.dh_laws.proofs.MonthDues.{StandAsBefore, new_property, same_property}
 use Rattle.dh_laws.proofs.MonthKeep.{properties_alike}
 
@@ -40,16 +41,22 @@ module _ (size : ℕ) (b : Books) where
         let alike = properties_alike b properties stand month in
         parts_alike size b after month alike (batches size after month) ∙ ap (posted_parts size b month) (batches_alike size b after month alike)
 
-    abbrev with_all : Run → List Charge → List Part → Books
-    with_all run charges parts = record after {
+    all_fees : (month : ℕ) → posted_fees size after month (batches size after month) ≡ posted_fees size b month (batches size b month)
+    all_fees month =
+        let alike = properties_alike b properties stand month in
+        fees_alike size b after month alike (batches size after month) refl refl ∙ ap (posted_fees size b month) (batches_alike size b after month alike)
+
+    abbrev with_all : Run → List Charge → List Part → List PartFee → Books
+    with_all run charges parts fees = record after {
       charges = with_rows charge_key charges (rows_where (λ charge. not (nat_eq charge.month run.month)) b.charges);
       parts = with_rows part_key parts (rows_where (λ part. not (nat_eq part.month run.month)) b.parts);
+      part_fees = with_rows part_fee_key fees (rows_where (λ it. not (nat_eq it.month run.month)) b.part_fees);
       runs = insert b.runs run.month (closed_run run.month run.key charges);
     }
 
     completed_alike : (found : Option Run) → completed size after found ≡ record (completed size b found) { properties = properties }
     completed_alike None = refl
-    completed_alike (Some run) = λ i. with_all run (all_charges run.month i) (all_parts run.month i)
+    completed_alike (Some run) = λ i. with_all run (all_charges run.month i) (all_parts run.month i) (all_fees run.month i)
 
     properties_pass : whole size after ≡ record (whole size b) { properties = properties }
     properties_pass = completed_alike (open_row b)

@@ -4,23 +4,27 @@ use Rattle.std.specs.FinMap.{values}
 use Rattle.dh_types.specs.declared.lease.Charge.{Charge}
 use Rattle.dh_types.specs.declared.run.Run.{Run}
 use Rattle.dh_types.specs.declared.run.Part.{Part}
+use Rattle.dh_types.specs.declared.fee.PartFee.{PartFee}
 use Rattle.dh_model.specs.Books.{Books}
 use Rattle.dh_model.specs.Kinds.{Kind}
 use Rattle.dh_model.specs.Leases.{dues}
-use Rattle.dh_model.specs.Runs.{charge_key, part_key, posted_charges, posted_parts}
+use Rattle.dh_model.specs.Runs.{charge_key, part_fee_key, part_key, posted_charges, posted_fees, posted_parts}
 use Rattle.dh_model.specs.Rules.{MeetsRules, Rule, charges_in}
 use Rattle.dh_model.proofs.Among.{Among, among, is_among}
 use Rattle.dh_model.proofs.KeyOrders.{nat_ties, nat_total, nats_tie, nats_total}
 use Rattle.dh_laws.specs.InOrder.{AreKeyed}
 use Rattle.dh_model.proofs.MapRows.{of_row, there}
 use Rattle.dh_laws.proofs.PostMonth.{Fits, of_rows}
-use Rattle.dh_laws.proofs.PostDues.{IsOwed, month_of_begun, one_begun, one_charge, one_posted, owed_due, owed_posted}
+use Rattle.dh_laws.proofs.PostDues.{IsOwed, month_of_begun, month_of_fee, one_begun, one_charge, one_fee, one_posted, owed_due, owed_posted}
 
 abbrev pub charge_month : Charge → ℕ
 charge_month charge = charge.month
 
 abbrev pub part_month : Part → ℕ
 part_month part = part.month
+
+abbrev pub fee_month : PartFee → ℕ
+fee_month fee = fee.month
 
 module _ (size : ℕ) (books : Books) (keyed : AreKeyed books) (rules : MeetsRules books size) where
   owed_in : (b : Bool) (run : Run) (charge : Charge) → run.is_closed ≡ b → Among (values books.runs) run → charge.month ≡ run.month
@@ -61,4 +65,12 @@ module _ (size : ℕ) (books : Books) (keyed : AreKeyed books) (rules : MeetsRul
     one = one_begun size books month n;
     of_month = month_of_begun size books month n;
     apart = λ x y k a h e. sym (ap (λ (key : ℕ × List ℕ). key.0) (e ∙ sym (keyed Kind.Parts k y h))) ∙ month_of_begun size books month n x a;
+  }
+
+  pub fees_fit : (month n : ℕ) → Fits part_fee_key fee_month books.part_fees month (posted_fees size books month n)
+  fees_fit month n = record {
+    keyed = keyed Kind.PartFees;
+    one = one_fee size books month n;
+    of_month = month_of_fee size books month n;
+    apart = λ x y k a h e. sym (ap (λ (key : ℕ × List ℕ). key.0) (e ∙ sym (keyed Kind.PartFees k y h))) ∙ month_of_fee size books month n x a;
   }

@@ -6,7 +6,7 @@ use Rattle.dh_types.specs.declared.run.Run.{Run}
 use Rattle.dh_model.specs.Books.{Books}
 use Rattle.dh_model.specs.Kinds.{Kind}
 use Rattle.dh_model.specs.Leases.{dues}
-use Rattle.dh_model.specs.Runs.{batches, charge_key, closed_run, part_key, posted_charges, posted_parts, total_of}
+use Rattle.dh_model.specs.Runs.{batches, charge_key, closed_run, part_fee_key, part_key, posted_charges, posted_fees, posted_parts, total_of}
 use Rattle.dh_model.specs.Rules.{ArePosted, MeetsRules, Rule, charges_in}
 use Rattle.dh_model.specs.Whole.{completed}
 use Rattle.dh_model.proofs.Among.{Among, among, is_among}
@@ -18,7 +18,9 @@ use Rattle.dh_laws.specs.Posting.{ClosingMakesWhole, closed}
 use Rattle.dh_model.proofs.MapRows.{inside}
 use Rattle.dh_laws.proofs.MonthSums.{all_are_dues, count_of_all, total_of_all}
 use Rattle.dh_laws.proofs.PostMonth.{stays}
-use Rattle.dh_laws.proofs.PostCharged.{charge_month, charges_fit, part_month, parts_fit}
+use Rattle.dh_laws.proofs.PostCharged.{charge_month, charges_fit, fee_month, fees_fit, part_month, parts_fit}
+use Rattle.dh_laws.proofs.PostFees.{fees_posted}
+use Rattle.dh_laws.proofs.PostWhole.{IsOpen, is_open}
 use Rattle.dh_laws.proofs.PostCounts.{Differ, lesser_differ, rows_differ, same_length, same_sum}
 
 pub closed_alike : (month : ℕ) (key : List ℕ) (xs ys : List Charge) → length xs ≡ length ys → total_of xs ≡ total_of ys
@@ -57,20 +59,24 @@ module _ (size : ℕ) (books : Books) (pos : 1 ≤ size) (keyed : AreKeyed books
       total_of_all books (rules Rule.References) run.month size pos (keyed Kind.Leases)
       ∙ sym (same_sum (λ charge. charge.amount) (charges_in books run.month) (dues books run.month) charges_differ dues_differ to_due of_due)
 
-  completed_is_closed : completed size books (Some run) ≡ closed books run
-  completed_is_closed =
+  completed_is_closed : IsOpen books run → completed size books (Some run) ≡ closed books run
+  completed_is_closed at =
       let all = posted_charges size books run.month (batches size books run.month) in
       let begun = posted_parts size books run.month (batches size books run.month) in
       let charges = stays charge_key charge_month nats_total nats_tie books.charges run.month all
       (charges_fit size books keyed rules run.month (batches size books run.month)) posted.charges in
       let parts = stays part_key part_month nat_text_total nat_text_ties books.parts run.month begun
       (parts_fit size books keyed rules run.month (batches size books run.month)) posted.parts in
+      let fees = stays part_fee_key fee_month nat_text_total nat_text_ties books.part_fees run.month
+      (posted_fees size books run.month (batches size books run.month))
+      (fees_fit size books keyed rules run.month (batches size books run.month))
+      (fees_posted size books keyed rules run.month (batches size books run.month) posted run at.is at.open_still) in
       let row = closed_alike run.month run.key all (charges_in books run.month) same_count same_total in
-      λ i. record books { charges = charges i; parts = parts i; runs = insert books.runs run.month (row i) }
+      λ i. record books { charges = charges i; parts = parts i; part_fees = fees i; runs = insert books.runs run.month (row i) }
 
 pub closing_makes_whole : (size : ℕ) → ClosingMakesWhole size
 closing_makes_whole size books month run pos order shown =
     let same : order.shown.0 ≡ run = inside order.shown.0 run (sym order.shown.1 ∙ shown) in
     let own : month ≡ run.month = sym order.shown.2 ∙ ap (λ (row : Run). row.month) same in
     let posted = subst (λ m. ArePosted books size m (batches size books m)) own order.shown.3 in
-    sym (ap (completed size books) shown ∙ completed_is_closed size books pos order.keyed order.rules run posted)
+    sym (ap (completed size books) shown ∙ completed_is_closed size books pos order.keyed order.rules run posted (is_open books run order.keyed shown))

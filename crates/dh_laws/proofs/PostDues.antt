@@ -1,14 +1,17 @@
 -- What is charged falls due on a lease of the books, and a lease and an index say what.
-use Rattle.std.proofs.Common.{◌≡◌, ◌∙◌, sym, ap, ℕ, ◌<◌, nat_lt, List, ltb-true, lt-ltb}
+use Rattle.std.proofs.Common.{◌≡◌, ◌∙◌, refl, sym, ap, subst, ℕ, ◌<◌, nat_lt, List, ltb-true, lt-ltb}
 use Rattle.std.specs.FinMap.{get, keys, values}
 use Rattle.dh_types.specs.declared.lease.Lease.{Lease}
 use Rattle.dh_types.specs.declared.lease.Charge.{Charge}
 use Rattle.dh_types.specs.declared.run.Part.{Part}
+use Rattle.dh_types.specs.declared.fee.PartFee.{PartFee}
+use Rattle.dh_types.specs.declared.version.Version.{Version}
+use Rattle.dh_types.specs.declared.version.Version.TheVariants.{First, Second}
 use Rattle.dh_model.specs.Books.{Books}
 use Rattle.dh_model.specs.Leases.{due, dues, dues_among, length_of}
 use Rattle.dh_model.specs.Runs.{batch_of, batches_before, begun_branches, charge_key, dues_of_branch, is_property_of, leases_of_branch, part_key, part_of}
-use Rattle.dh_model.specs.Runs.{posted_charges, posted_of_branch, posted_parts}
-use Rattle.dh_model.proofs.Among.{Among, in_filter, in_flat_map, in_map, of_filter, of_flat_map}
+use Rattle.dh_model.specs.Runs.{fee_at, fees_of_parts, part_fee_key, part_fee_of, posted_charges, posted_fees, posted_of_branch, posted_parts, since_second}
+use Rattle.dh_model.proofs.Among.{Among, in_filter, in_flat_map, in_map, of_filter, of_flat_map, of_map}
 use Rattle.dh_model.proofs.DueLemmas.{is_due}
 use Rattle.dh_model.proofs.KeyOrders.{nat_ties, nat_total}
 use Rattle.dh_laws.specs.InOrder.{StandUnder}
@@ -100,3 +103,40 @@ module _ (size : ℕ) (books : Books) (month n : ℕ) where
 
   pub month_of_begun : (part : Part) → Among (posted_parts size books month n) part → part.month ≡ month
   month_of_begun part a = ap (λ (p : Part). p.month) (is_begun part a).is
+
+-- what stands among rows that came with the second version
+pub in_second : {X : Type 0} (version : Version) (rows : List X) (x : X) → Among (since_second version rows) x → (version ≡ Second) × Among rows x
+in_second First rows x a = absurd a
+in_second Second rows x a = (refl, a)
+
+pub of_second : {X : Type 0} (version : Version) (rows : List X) (x : X) → version ≡ Second → Among rows x → Among (since_second version rows) x
+of_second version rows x is a = subst (λ v. Among (since_second v rows) x) (sym is) a
+
+-- a fee row after n batches is that of a branch, whose first batch is among them
+pub record IsFeeOf (size : ℕ) (books : Books) (month n : ℕ) (fee : PartFee) : Type 0 where
+  pub branch : List ℕ
+  pub begun : Among (begun_branches size books month n) branch
+  pub is : fee ≡ part_fee_of month branch (fee_at books branch) (posted_of_branch size books month n branch)
+
+module _ (size : ℕ) (books : Books) (month n : ℕ) where
+  pub fee_of_begun : (branch : List ℕ) → Among (begun_branches size books month n) branch
+      → Among (fees_of_parts size books month n) (part_fee_of month branch (fee_at books branch) (posted_of_branch size books month n branch))
+  fee_of_begun branch a =
+      of_map (λ b. part_fee_of month b (fee_at books b) (posted_of_branch size books month n b)) (begun_branches size books month n) branch a
+
+  pub is_fee_of : (fee : PartFee) → Among (posted_fees size books month n) fee → IsFeeOf size books month n fee
+  is_fee_of fee a =
+      let of = in_map (λ b. part_fee_of month b (fee_at books b) (posted_of_branch size books month n b)) (begun_branches size books month n) fee
+      (in_second books.version (fees_of_parts size books month n) fee a).1 in
+      record { branch = of.0; begun = of.1; is = of.2 }
+
+  pub month_of_fee : (fee : PartFee) → Among (posted_fees size books month n) fee → fee.month ≡ month
+  month_of_fee fee a = ap (λ (f : PartFee). f.month) (is_fee_of fee a).is
+
+  pub one_fee : OneEach part_fee_key (posted_fees size books month n)
+  one_fee x y a b same =
+      let p = is_fee_of x a in
+      let q = is_fee_of y b in
+      let branch : p.branch ≡ q.branch =
+      sym (ap (λ (f : PartFee). f.branch) p.is) ∙ ap (λ (k : ℕ × List ℕ). k.1) same ∙ ap (λ (f : PartFee). f.branch) q.is in
+      p.is ∙ ap (λ branch. part_fee_of month branch (fee_at books branch) (posted_of_branch size books month n branch)) branch ∙ sym q.is

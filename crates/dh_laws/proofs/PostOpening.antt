@@ -6,12 +6,13 @@ use Rattle.std.specs.FinMap.{FinMap, IsAntisymmetric, get, get-insert, insert, s
 use Rattle.dh_types.specs.declared.lease.Charge.{Charge}
 use Rattle.dh_types.specs.declared.run.Run.{Run}
 use Rattle.dh_types.specs.declared.run.Part.{Part}
+use Rattle.dh_types.specs.declared.fee.PartFee.{PartFee}
 use Rattle.dh_model.specs.declared.rows.Change.TheVariants as change
 use Rattle.dh_model.specs.Books.{Books, with_rows}
 use Rattle.dh_model.specs.Kinds.{Kind}
 use Rattle.dh_model.specs.Leases.{dues}
 use Rattle.dh_model.specs.Machine.{changed}
-use Rattle.dh_model.specs.Runs.{batches, charge_key, closed_run, part_key, posted_charges, posted_parts, ran}
+use Rattle.dh_model.specs.Runs.{batches, charge_key, closed_run, part_fee_key, part_key, posted_charges, posted_fees, posted_parts, ran}
 use Rattle.dh_model.specs.Rules.{HaveTheSame, IsThere, MeetsRules, Rule}
 use Rattle.dh_model.specs.Verdicts.{opened_run}
 use Rattle.dh_model.specs.Whole.{completed, open_row}
@@ -19,14 +20,14 @@ use Rattle.dh_model.proofs.Among.{Among, among, is_among}
 use Rattle.dh_model.proofs.KeyOrders.{nat_text_ties, nat_text_total, nat_ties, nat_total, nats_tie, nats_total}
 use Rattle.dh_laws.specs.InOrder.{AreKeyed}
 use Rattle.dh_laws.specs.Posting.{RunIsOpeningMadeWhole}
-use Rattle.dh_model.proofs.MapRows.{got_after, of_row, row_of}
+use Rattle.dh_model.proofs.MapRows.{got_after, of_row, row_of, there}
 use Rattle.dh_laws.proofs.MapMerges.{get_of_rows, get_past_rows, got_with_rows, row_at_own}
 use Rattle.dh_laws.proofs.MonthKeep.{RunInMonths}
 use Rattle.dh_laws.proofs.MonthOpen.{open_keeps}
 use Rattle.dh_laws.proofs.MonthShown.{all_closed, shown_row}
 use Rattle.dh_laws.proofs.MonthSums.{all_are_dues, count_of_all, total_of_all}
 use Rattle.dh_laws.proofs.PostClosing.{closed_alike}
-use Rattle.dh_laws.proofs.PostCharged.{charge_month, part_month}
+use Rattle.dh_laws.proofs.PostCharged.{charge_month, fee_month, part_month}
 use Rattle.dh_laws.proofs.PostDues.{one_charge, one_posted, owed_due}
 use Rattle.dh_laws.proofs.PostMonth.{Has, OneEach, none_of_month, same_rows}
 use Rattle.dh_laws.proofs.VerdictCases.{run_case}
@@ -79,6 +80,13 @@ module _ (size : ℕ) (books : Books) (pos : 1 ≤ size) (keyed : AreKeyed books
   not_summed k part h e =
       not_there part.month ((rules Rule.Months).summed part (is_among (values books.parts) part (of_row nat_text_total nat_text_ties books.parts k part h))) e
 
+  not_taken : (k : ℕ × List ℕ) (fee : PartFee) → Has books.part_fees k fee → fee.month ≡ row.month → ⊥
+  not_taken k fee h e =
+      let stands = is_among (values books.part_fees) fee (of_row nat_text_total nat_text_ties books.part_fees k fee h) in
+      let part = (there nat_text_total nat_text_ties books.parts (fee.month, fee.branch)).0 (rules Rule.References Kind.PartFees fee stands) in
+      let key = keyed Kind.Parts (fee.month, fee.branch) part.0 part.1 in
+      not_summed (fee.month, fee.branch) part.0 part.1 (ap (λ (k : ℕ × List ℕ). k.0) key ∙ e)
+
   abbrev all : List Charge
   all = posted_charges size books row.month (batches size books row.month)
 
@@ -95,6 +103,9 @@ module _ (size : ℕ) (books : Books) (pos : 1 ≤ size) (keyed : AreKeyed books
       let charges = ap (with_rows charge_key all) (none_of_month charge_key charge_month nats_total nats_tie books.charges row.month not_charged)
       ∙ charges_alike in
       let parts = ap (with_rows part_key begun) (none_of_month part_key part_month nat_text_total nat_text_ties books.parts row.month not_summed) in
+      let taken = posted_fees size books row.month (batches size books row.month) in
+      let fees = ap (with_rows part_fee_key taken)
+      (none_of_month part_fee_key fee_month nat_text_total nat_text_ties books.part_fees row.month not_taken) in
       let names = rules Rule.References in
       let done = closed_alike row.month row.key all (dues books row.month) (count_of_all books names row.month size pos (keyed Kind.Leases))
       (total_of_all books names row.month size pos (keyed Kind.Leases)) in
@@ -102,12 +113,14 @@ module _ (size : ℕ) (books : Books) (pos : 1 ≤ size) (keyed : AreKeyed books
       let at_month : completed size opened (Some row) ≡ record books {
         charges = with_rows charge_key (dues books row.month) books.charges;
         parts = with_rows part_key begun books.parts;
+        part_fees = with_rows part_fee_key taken books.part_fees;
         runs = insert books.runs row.month (closed_run row.month row.key (dues books row.month));
         next = row.month + 1;
-      } = λ i. record books { charges = charges i; parts = parts i; runs = runs i; next = row.month + 1 } in
+      } = λ i. record books { charges = charges i; parts = parts i; part_fees = fees i; runs = runs i; next = row.month + 1 } in
       at_month ∙ (λ i. record books {
         charges = with_rows charge_key (dues books (next i)) books.charges;
         parts = with_rows part_key (posted_parts size books (next i) (batches size books (next i))) books.parts;
+        part_fees = with_rows part_fee_key (posted_fees size books (next i) (batches size books (next i))) books.part_fees;
         runs = insert books.runs (next i) (closed_run (next i) row.key (dues books (next i)));
         next = next i + 1;
       })

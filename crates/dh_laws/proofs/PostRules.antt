@@ -7,19 +7,22 @@ use Rattle.std.proofs.lemmas.Bool.{cases_lt, true≢false}
 use Rattle.dh_types.specs.declared.lease.Charge.{Charge}
 use Rattle.dh_types.specs.declared.run.Run.{Run}
 use Rattle.dh_types.specs.declared.run.Part.{Part}
+use Rattle.dh_types.specs.declared.fee.PartFee.{PartFee}
 use Rattle.dh_model.specs.Books.{Books, text_cmp}
 use Rattle.dh_model.specs.Kinds.{Kind}
-use Rattle.dh_model.specs.Runs.{batches, charge_key, part_key, posted_charges, posted_parts}
+use Rattle.dh_model.specs.Runs.{batches, begun_branches, charge_key, part_fee_key, part_key, part_of}
+use Rattle.dh_model.specs.Runs.{posted_charges, posted_fees, posted_of_branch, posted_parts}
 use Rattle.dh_model.specs.Rules.{ArePosted, IsThere, MeetsRules, MonthIsClosed, MonthsInOrder, NamesWhatIsThere, Rule}
 use Rattle.dh_model.specs.Whole.{with_posted}
-use Rattle.dh_model.proofs.Among.{Among, among, is_among, of_passes}
+use Rattle.dh_model.proofs.Among.{Among, among, is_among, of_map, of_passes}
 use Rattle.dh_model.proofs.KeyOrders.{nat_text_ties, nat_text_total, nat_ties, nat_total, nats_tie, nats_total, text_ties, text_total}
 use Rattle.dh_laws.specs.InOrder.{AreKeyed}
 use Rattle.dh_model.proofs.MapRows.{key_itself, of_row, there}
 use Rattle.dh_laws.proofs.MapMerges.{one_row, own_row}
-use Rattle.dh_laws.proofs.PostMonth.{in_month, in_other_month, keyed_replaced, of_old, value_of_replaced}
-use Rattle.dh_laws.proofs.PostDues.{IsOwed, is_begun, month_of_begun, owed_posted}
-use Rattle.dh_laws.proofs.PostCharged.{charge_month, charges_fit, part_month, parts_fit}
+use Rattle.dh_laws.proofs.PostMonth.{in_month, in_other_month, keyed_replaced, of_new, of_old, value_of_replaced}
+use Rattle.dh_laws.proofs.PostDues.{IsOwed, is_begun, is_fee_of, month_of_begun, owed_posted}
+use Rattle.dh_laws.proofs.PostCharged.{charge_month, charges_fit, fee_month, fees_fit, part_month, parts_fit}
+use Rattle.dh_laws.proofs.PostFees.{fees_after}
 
 module _ (size : ℕ) (books : Books) (keyed : AreKeyed books) (rules : MeetsRules books size) where
   branch_there : (branch : List ℕ) → Among (keys books.branches) branch → IsThere books.branches branch
@@ -48,16 +51,46 @@ module _ (size : ℕ) (books : Books) (keyed : AreKeyed books) (rules : MeetsRul
         (parts_fit size books keyed rules month n) part
         (among (values (with_posted size books month n).parts) part a)
 
+    fee_row_of : (fee : PartFee) → IsAmong (values (with_posted size books month n).part_fees) fee
+        → Among (posted_fees size books month n) fee ⊎ (Among (values books.part_fees) fee × (fee.month ≡ month → ⊥))
+    fee_row_of fee a =
+        value_of_replaced part_fee_key fee_month nat_text_total nat_text_ties books.part_fees month (posted_fees size books month n)
+        (fees_fit size books keyed rules month n) fee
+        (among (values (with_posted size books month n).part_fees) fee a)
+
+    -- the part of a fee row
+    part_of_fee : (fee : PartFee) → Among (posted_fees size books month n) fee → IsThere (with_posted size books month n).parts (fee.month, fee.branch)
+    part_of_fee fee a =
+        let f = is_fee_of size books month n fee a in
+        let part = part_of month f.branch (posted_of_branch size books month n f.branch) in
+        let made = of_map (λ b. part_of month b (posted_of_branch size books month n b)) (begun_branches size books month n) f.branch f.begun in
+        let stands = of_new part_key part_month nat_text_total nat_text_ties books.parts month (posted_parts size books month n)
+        (parts_fit size books keyed rules month n) part made in
+        let key : part_key part ≡ (fee.month, fee.branch) = λ i. (sym (ap (λ (x : PartFee). x.month) f.is) i, sym (ap (λ (x : PartFee). x.branch) f.is) i) in
+        subst (IsThere (with_posted size books month n).parts) key
+        ((there nat_text_total nat_text_ties (with_posted size books month n).parts (part_key part)).1 (part, stands))
+
     pub posted_keyed : AreKeyed (with_posted size books month n)
     posted_keyed Kind.Charges = keyed_replaced charge_key charge_month nats_total nats_tie books.charges month (posted_charges size books month n)
         (charges_fit size books keyed rules month n)
     posted_keyed Kind.Parts = keyed_replaced part_key part_month nat_text_total nat_text_ties books.parts month (posted_parts size books month n)
         (parts_fit size books keyed rules month n)
+    posted_keyed Kind.PartFees = keyed_replaced part_fee_key fee_month nat_text_total nat_text_ties books.part_fees month (posted_fees size books month n)
+        (fees_fit size books keyed rules month n)
     posted_keyed kind = keyed kind
 
     module _ (row : Run) (is : get books.runs month ≡ Some row) where
       run_there : IsThere books.runs month
       run_there = (there nat_total nat_ties books.runs month).1 (row, is)
+
+      part_stays : (other : ℕ) (branch : List ℕ) → (other ≡ month → ⊥) → IsThere books.parts (other, branch)
+          → IsThere (with_posted size books month n).parts (other, branch)
+      part_stays other branch apart h =
+          let at = (there nat_text_total nat_text_ties books.parts (other, branch)).0 h in
+          let own : at.0.month ≡ other = ap (λ (k : ℕ × List ℕ). k.0) (keyed Kind.Parts (other, branch) at.0 at.1) in
+          let stays = of_old part_key part_month nat_text_total nat_text_ties books.parts month (posted_parts size books month n)
+          (parts_fit size books keyed rules month n) (other, branch) at.0 at.1 (λ e. apart (sym own ∙ e)) in
+          (there nat_text_total nat_text_ties (with_posted size books month n).parts (other, branch)).1 (at.0, stays)
 
       names_what_is_there : NamesWhatIsThere (with_posted size books month n)
       names_what_is_there Kind.Charges = λ charge a. elim (charge_of charge a) [
@@ -70,6 +103,10 @@ module _ (size : ℕ) (books : Books) (keyed : AreKeyed books) (rules : MeetsRul
           branch = subst (IsThere books.branches) (sym (ap (λ (p : Part). p.branch) b.is)) (branch_there b.branch b.of);
         }
         | inr old ↦ let q = rules Rule.References Kind.Parts part (is_among (values books.parts) part old.0) in record { run = q.run; branch = q.branch }
+      ]
+      names_what_is_there Kind.PartFees = λ fee a. elim (fee_row_of fee a) [
+        | inl new ↦ part_of_fee fee new
+        | inr old ↦ part_stays fee.month fee.branch old.1 (rules Rule.References Kind.PartFees fee (is_among (values books.part_fees) fee old.0))
       ]
       names_what_is_there Kind.Properties = λ it a. let q = rules Rule.References Kind.Properties it a in
           record { owner = q.owner; staff = q.staff; branch = q.branch }
@@ -90,15 +127,6 @@ module _ (size : ℕ) (books : Books) (keyed : AreKeyed books) (rules : MeetsRul
         parts = in_month part_key part_month nat_text_total nat_text_ties books.parts month (posted_parts size books month n)
             (parts_fit size books keyed rules month n);
       }
-
-      part_stays : (other : ℕ) (branch : List ℕ) → (other ≡ month → ⊥) → IsThere books.parts (other, branch)
-          → IsThere (with_posted size books month n).parts (other, branch)
-      part_stays other branch apart h =
-          let at = (there nat_text_total nat_text_ties books.parts (other, branch)).0 h in
-          let own : at.0.month ≡ other = ap (λ (k : ℕ × List ℕ). k.0) (keyed Kind.Parts (other, branch) at.0 at.1) in
-          let stays = of_old part_key part_month nat_text_total nat_text_ties books.parts month (posted_parts size books month n)
-          (parts_fit size books keyed rules month n) (other, branch) at.0 at.1 (λ e. apart (sym own ∙ e)) in
-          (there nat_text_total nat_text_ties (with_posted size books month n).parts (other, branch)).1 (at.0, stays)
 
       -- and of another month nothing changes
       still_closed : (run : Run) → (run.month ≡ month → ⊥) → MonthIsClosed books run → MonthIsClosed (with_posted size books month n) run
@@ -172,4 +200,5 @@ module _ (size : ℕ) (books : Books) (keyed : AreKeyed books) (rules : MeetsRul
         posted_rules Rule.Keys = let r = rules Rule.Keys in record { keys = r.keys; numbers = r.numbers }
         posted_rules Rule.Runs = let r = rules Rule.Runs in record { months = r.months; run = r.run; closed = r.closed }
         posted_rules Rule.Months = months_in_order
+        posted_rules Rule.Fees = fees_after size books keyed rules month n
         posted_rules Rule.Endings = rules Rule.Endings

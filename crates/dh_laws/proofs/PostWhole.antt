@@ -4,7 +4,7 @@ use Rattle.std.specs.FinMap.{get, insert, values}
 use Rattle.dh_types.specs.declared.run.Run.{Run}
 use Rattle.dh_model.specs.Books.{Books, with_rows}
 use Rattle.dh_model.specs.Kinds.{Kind}
-use Rattle.dh_model.specs.Runs.{batches, charge_key, closed_run, part_key, posted_charges, posted_parts}
+use Rattle.dh_model.specs.Runs.{batches, charge_key, closed_run, part_fee_key, part_key, posted_charges, posted_fees, posted_parts}
 use Rattle.dh_model.specs.Rules.{MeetsRules}
 use Rattle.dh_model.specs.Whole.{completed, open_row, with_posted}
 use Rattle.dh_model.proofs.Among.{Among}
@@ -14,7 +14,7 @@ use Rattle.dh_laws.specs.Posting.{NextBatchKeepsTheWhole}
 use Rattle.dh_laws.proofs.MapMerges.{own_row}
 use Rattle.dh_laws.proofs.MonthShown.{shown_row}
 use Rattle.dh_laws.proofs.PostMonth.{others_stay}
-use Rattle.dh_laws.proofs.PostCharged.{charge_month, charges_fit, part_month, parts_fit}
+use Rattle.dh_laws.proofs.PostCharged.{charge_month, charges_fit, fee_month, fees_fit, part_month, parts_fit}
 use Rattle.dh_laws.proofs.PostRules.{are_posted, posted_keyed, posted_rules}
 
 -- the open run stands among the runs
@@ -37,9 +37,12 @@ module _ (size : ℕ) (books : Books) (keyed : AreKeyed books) (rules : MeetsRul
       (charges_fit size books keyed rules row.month n) in
       let parts = others_stay part_key part_month nat_text_total nat_text_ties books.parts row.month (posted_parts size books row.month n)
       (parts_fit size books keyed rules row.month n) in
+      let fees = others_stay part_fee_key fee_month nat_text_total nat_text_ties books.part_fees row.month (posted_fees size books row.month n)
+      (fees_fit size books keyed rules row.month n) in
       λ i. record books {
         charges = with_rows charge_key (posted_charges size books row.month all) (charges i);
         parts = with_rows part_key (posted_parts size books row.month all) (parts i);
+        part_fees = with_rows part_fee_key (posted_fees size books row.month all) (fees i);
         runs = insert books.runs row.month (closed_run row.month row.key (posted_charges size books row.month all));
       }
 

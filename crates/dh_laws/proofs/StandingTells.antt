@@ -5,11 +5,12 @@ use Rattle.std.specs.FinMap.{FinMap, IsAntisymmetric, get, insert, same_map, val
 use Rattle.dh_types.specs.declared.lease.Charge.{Charge}
 use Rattle.dh_types.specs.declared.reply.Reply.{Reply}
 use Rattle.dh_types.specs.declared.run.Part.{Part}
+use Rattle.dh_types.specs.declared.fee.PartFee.{PartFee}
 use Rattle.dh_types.specs.declared.run.Run.{Run}
 use Rattle.dh_model.specs.declared.open_run.OpenRun.{OpenRun}
 use Rattle.dh_model.specs.Books.{Books, State, with_rows}
 use Rattle.dh_model.specs.Rules.{ArePosted, MeetsRules, MonthIsOpen, Rule}
-use Rattle.dh_model.specs.Runs.{batches, charge_key, closed_run, part_key, posted_charges, posted_parts}
+use Rattle.dh_model.specs.Runs.{batches, charge_key, closed_run, part_fee_key, part_key, posted_charges, posted_fees, posted_parts}
 use Rattle.dh_model.specs.Whole.{completed, open_row}
 use Rattle.dh_model.proofs.Among.{is_among}
 use Rattle.dh_model.proofs.KeyOrders.{nat_text_ties, nat_text_total, nat_ties, nat_total, nats_tie, nats_total}
@@ -18,7 +19,8 @@ use Rattle.dh_laws.specs.Events.{state_of}
 use Rattle.dh_laws.specs.InOrder.{AreKeyed, IsInOrder}
 use Rattle.dh_laws.specs.Repeating.{is_of_nothing_new}
 use Rattle.dh_laws.specs.Standings.{NothingNewLeavesTheTables, StandingMakesTheTables, StandingTellsTheTables, led_from, still_open, tables_at, with_open}
-use Rattle.dh_laws.proofs.PostCharged.{charge_month, charges_fit, part_month, parts_fit}
+use Rattle.dh_laws.proofs.PostCharged.{charge_month, charges_fit, fee_month, fees_fit, part_month, parts_fit}
+use Rattle.dh_laws.proofs.PostFees.{fees_posted}
 use Rattle.dh_laws.proofs.PostMonth.{others_stay, stays}
 use Rattle.dh_laws.proofs.PostWhole.{is_open}
 use Rattle.dh_laws.proofs.RepeatReplies.{nothing_new_changes_nothing}
@@ -68,8 +70,14 @@ module _ (size : ℕ) (books : Books) (keyed : AreKeyed books) (rules : MeetsRul
         let parts = ap (with_rows part_key (parts_at n))
         (others_stay part_key part_month nat_text_total nat_text_ties books.parts month (parts_at all) (parts_fit size books keyed rules month all))
         ∙ stays part_key part_month nat_text_total nat_text_ties books.parts month (parts_at n) (parts_fit size books keyed rules month n) posted.parts in
+        let fees_at : ℕ → List PartFee = posted_fees size books month in
+        let at = is_open books row keyed shown in
+        let fees = ap (with_rows part_fee_key (fees_at n))
+        (others_stay part_fee_key fee_month nat_text_total nat_text_ties books.part_fees month (fees_at all) (fees_fit size books keyed rules month all))
+        ∙ stays part_fee_key fee_month nat_text_total nat_text_ties books.part_fees month (fees_at n) (fees_fit size books keyed rules month n)
+        (fees_posted size books keyed rules month n posted row at.is at.open_still) in
         let runs = runs_again in
-        λ i. record books { charges = charges i; parts = parts i; runs = runs i }
+        λ i. record books { charges = charges i; parts = parts i; part_fees = fees i; runs = runs i }
 
 module _ (size : ℕ) where
   -- the books lead to their whole, and are made again from it

@@ -1,10 +1,9 @@
 -- The branch of a batch.
-use Rattle.std.proofs.Common.{◌≡◌, ◌∙◌, refl, sym, ap, ℕ, Bool, ◌+◌, ◌-◌, ◌*◌, ◌/◌, ◌≤◌, List, ◌++◌, take, Ordering, Less, Equal, Greater, is_lt}
+use Rattle.std.proofs.Common.{◌≡◌, ◌∙◌, refl, sym, ap, ℕ, ◌+◌, ◌-◌, ◌*◌, ◌/◌, ◌≤◌, List, ◌++◌, take, Ordering, Less, Equal, Greater, is_lt}
 use Rattle.std.proofs.Common.{le-add_right, arith}
 use Rattle.std.specs.Ordering.{ordering_reverse}
 use Rattle.std.specs.FinMap.{keys}
 use Rattle.dh_types.specs.declared.lease.Charge.{Charge}
-use Rattle.dh_types.specs.declared.run.Part.{Part}
 use Rattle.dh_model.specs.Books.{Books, text_cmp}
 use Rattle.dh_model.specs.Runs.{batch_of, batches_before, batches_of_branch, dues_of_branch, place_among, posted_of_branch}
 use Rattle.dh_model.specs.BatchLaws.{AreNumbered}
@@ -14,7 +13,7 @@ use Rattle.dh_model.proofs.BranchSums.{Holds}
 use Rattle.dh_model.proofs.KeyOrders.{text_ties, text_total}
 use Rattle.dh_laws.proofs.PostSmall.{own_is_before}
 use Rattle.dh_leases.proofs.PostedLemmas.{first_posted}
-use Rattle.dh_leases.specs.Rows.{charges_at, rows_at}
+use Rattle.dh_leases.specs.Rows.{Rows, branch_run, charges_at, rows_at}
 use Rattle.dh_leases.proofs.Cuts.{cut_once}
 
 -- the branch that has the batch of this number
@@ -22,9 +21,9 @@ abbrev pub IsHeld : ℕ → Books → ℕ → ℕ → Type 0
 IsHeld size books month number = Holds (batches_of_branch size books month) text_cmp text_total (keys books.branches) number
 
 -- the rows are those of the batch of this number
-pub record IsBatch (size : ℕ) (books : Books) (month number : ℕ) (rows : List Charge × Part × Bool) : Type 0 where
+pub record IsBatch (size : ℕ) (books : Books) (month number : ℕ) (rows : Rows) : Type 0 where
   pub held : IsHeld size books month number
-  pub is : rows ≡ rows_at size month held.key (dues_of_branch books month held.key) (number - batches_before size books month held.key)
+  pub is : rows ≡ rows_at size (branch_run books month held.key) (dues_of_branch books month held.key) (number - batches_before size books month held.key)
 
 module _ (size : ℕ) (books : Books) (month number : ℕ) where
   by_order : (r : Ordering) (a b : IsHeld size books month number) → text_cmp a.key b.key ≡ r → a.key ≡ b.key

@@ -20,7 +20,7 @@ use Rattle.dh_leases.proofs.MonthRows.{led, was_free}
 use Rattle.dh_leases.proofs.Places.{filter_alike}
 
 -- a branch that has begun has its part row
-of_begun : (size : ℕ) (books : Books) (month n : ℕ) (branch : List ℕ) → Among (keys books.branches) branch → batches_before size books month branch < n
+pub of_begun : (size : ℕ) (books : Books) (month n : ℕ) (branch : List ℕ) → Among (keys books.branches) branch → batches_before size books month branch < n
     → Among (posted_parts size books month n) (part_of month branch (posted_of_branch size books month n branch))
 of_begun size books month n branch a early =
     of_map (λ b. part_of month b (posted_of_branch size books month n b)) (begun_branches size books month n) branch
@@ -48,7 +48,7 @@ module _ (size : ℕ) (books : Books) (month number : ℕ) (pos : 1 ≤ size) (k
   part_is = ap (part_of month key) (sym (posted_with size books month number pos (keyed Kind.Leases) held))
 
   -- the other branches have what they had
-  others_stay : (branch : List ℕ) → Among (keys books.branches) branch → (branch ≡ key → ⊥)
+  pub others_stay : (branch : List ℕ) → Among (keys books.branches) branch → (branch ≡ key → ⊥)
       → posted_of_branch size books month number branch ≡ posted_of_branch size books month (number + 1) branch
   others_stay branch of apart =
       filter_alike (λ charge. nat_lt (batch_of size books month branch charge) number)
@@ -58,7 +58,7 @@ module _ (size : ℕ) (books : Books) (month number : ℕ) (pos : 1 ≤ size) (k
       (λ is. apart (branch_of_due size books month number pos (keyed Kind.Leases) held branch x of due is)))
 
   -- and begin with another batch
-  others_begin : (branch : List ℕ) → Among (keys books.branches) branch → (branch ≡ key → ⊥) → batches_before size books month branch < number + 1
+  pub others_begin : (branch : List ℕ) → Among (keys books.branches) branch → (branch ≡ key → ⊥) → batches_before size books month branch < number + 1
       → batches_before size books month branch < number
   others_begin branch of apart early = elim (cases_lt (batches_before size books month branch) number) [
     | inl less ↦ less

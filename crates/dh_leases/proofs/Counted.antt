@@ -1,19 +1,17 @@
 -- The rows that are left of a run are those of its batches, one after the other.
-use Rattle.std.proofs.Common.{◌≡◌, ap, subst, inl, inr, ℕ, Bool, ◌+◌, ◌-◌, ◌≤◌, max, List, [], ◌∷◌, length, arith}
+use Rattle.std.proofs.Common.{◌≡◌, ap, subst, inl, inr, ℕ, ◌+◌, ◌-◌, ◌≤◌, max, List, [], ◌∷◌, length, arith}
 use Rattle.std.specs.List.{flat_map, sum_by}
 use Rattle.std.specs.FinMap.{entries, entries_sorted, is_sorted, keys}
 use Rattle.std.proofs.lemmas.List.{length-append}
 use Rattle.std.proofs.lemmas.List.FromFn.{length-map-range_with_len}
 use Rattle.std.proofs.lemmas.List.Sums.{sum_by-cons}
-use Rattle.dh_types.specs.declared.lease.Charge.{Charge}
-use Rattle.dh_types.specs.declared.run.Part.{Part}
 use Rattle.dh_model.specs.Books.{Books, text_cmp}
 use Rattle.dh_model.specs.Runs.{batches, batches_before, batches_of_branch, dues_of_branch}
 use Rattle.dh_model.proofs.Among.{Among}
 use Rattle.dh_model.proofs.BranchDues.{holds, keys_rise}
 use Rattle.dh_model.proofs.BranchSums.{Follows, sums_follow}
 use Rattle.dh_model.proofs.KeyOrders.{text_total}
-use Rattle.dh_leases.specs.Rows.{all_rows_left, rows_at, rows_left}
+use Rattle.dh_leases.specs.Rows.{Rows, all_rows_left, branch_run, rows_at, rows_left}
 use Rattle.dh_leases.proofs.BatchBranch.{IsBatch}
 use Rattle.dh_leases.proofs.Places.{AreFrom, from_both, from_range}
 
@@ -24,26 +22,27 @@ module _ (size : ℕ) (books : Books) (month done : ℕ) where
   abbrev before : List ℕ → ℕ
   before branch = batches_before size books month branch
 
-  abbrev left : List ℕ → List (List Charge × Part × Bool)
+  abbrev left : List ℕ → List Rows
   left branch = rows_left size books month done branch
 
-  abbrev Batch : ℕ → List Charge × Part × Bool → Type 0
+  abbrev Batch : ℕ → Rows → Type 0
   Batch number rows = IsBatch size books month number rows
 
   length_left : (branch : List ℕ) → length (left branch) ≡ own branch - (done - before branch)
   length_left branch =
-      length-map-range_with_len (rows_at size month branch (dues_of_branch books month branch)) (done - before branch)
+      length-map-range_with_len (rows_at size (branch_run books month branch) (dues_of_branch books month branch)) (done - before branch)
       (own branch - (done - before branch))
 
   branch_from : (branch : List ℕ) → Among (keys books.branches) branch → AreFrom Batch (max done (before branch)) (left branch)
   branch_from branch of =
       let dues = dues_of_branch books month branch in
-      from_range Batch (rows_at size month branch dues) (done - before branch) (own branch - (done - before branch)) (max done (before branch))
+      from_range Batch (rows_at size (branch_run books month branch) dues) (done - before branch) (own branch - (done - before branch))
+      (max done (before branch))
       (λ i at from until is.
       let place : i ≡ at - before branch = omega (arith, from, until, is) in
       record {
         held = record { key = branch; of = of; from = omega (arith, from, until, is); until = omega (arith, from, until, is) };
-        is = ap (rows_at size month branch dues) place;
+        is = ap (rows_at size (branch_run books month branch) dues) place;
       })
 
   -- those of some branches, before which are a batches
@@ -70,7 +69,7 @@ module _ (size : ℕ) (books : Books) (month done : ℕ) where
       }
 
   -- the rows that are left are those of the batches from that number on, as many as there are
-  pub record AreTheRest (rows : List (List Charge × Part × Bool)) : Type 0 where
+  pub record AreTheRest (rows : List Rows) : Type 0 where
     pub batches_from : AreFrom (IsBatch size books month) done rows
     pub count : done + length rows ≡ batches size books month
 

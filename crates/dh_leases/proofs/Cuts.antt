@@ -1,11 +1,11 @@
 -- One batch after the other, cut from a branch's dues.
-use Rattle.std.proofs.Common.{◌≡◌, ◌∙◌, sym, ap, ℕ, Bool, ◌+◌, ◌-◌, ◌*◌, ◌≤◌, List, [], ◌∷◌, ◌++◌, length, map, take, arith}
+use Rattle.std.proofs.Common.{◌≡◌, ◌∙◌, sym, ap, ℕ, ◌+◌, ◌-◌, ◌*◌, ◌≤◌, List, [], ◌∷◌, ◌++◌, length, map, take, arith}
 use Rattle.std.specs.List.{range_with_len}
 use Rattle.std.proofs.lemmas.List.{append_assoc, length-append, length-take, take-append-drop, take-take}
 use Rattle.std.proofs.lemmas.List.FromFn.{map-range_with_len_more}
 use Rattle.dh_types.specs.declared.lease.Charge.{Charge}
-use Rattle.dh_types.specs.declared.run.Part.{Part}
-use Rattle.dh_leases.specs.Rows.{charges_at, rows_at}
+use Rattle.dh_leases.specs.declared.planning.BranchRun.{BranchRun}
+use Rattle.dh_leases.specs.Rows.{Rows, charges_at, rows_at}
 
 module _ (size : ℕ) (dues : List Charge) (number : ℕ) where
   -- the charges so far are those before the batch, and its own
@@ -25,11 +25,11 @@ module _ (size : ℕ) (dues : List Charge) (number : ℕ) where
       omega (arith, both, all, some)
 
   -- the rows of one batch more
-  pub rows_more : (month : ℕ) (branch : List ℕ) (done : ℕ) (old : List (List Charge × Part × Bool)) → done ≤ number
-      → (old ++ map (rows_at size month branch dues) (range_with_len done (number - done))) ++ rows_at size month branch dues number ∷ []
-      ≡ old ++ map (rows_at size month branch dues) (range_with_len done (number + 1 - done))
-  rows_more month branch done old from =
-      let row = rows_at size month branch dues in
+  pub rows_more : (run : BranchRun) (done : ℕ) (old : List Rows) → done ≤ number
+      → (old ++ map (rows_at size run dues) (range_with_len done (number - done))) ++ rows_at size run dues number ∷ []
+      ≡ old ++ map (rows_at size run dues) (range_with_len done (number + 1 - done))
+  rows_more run done old from =
+      let row = rows_at size run dues in
       let place : done + (number - done) ≡ number = omega (arith, from) in
       let more : number - done + 1 ≡ number + 1 - done = omega (arith, from) in
       append_assoc old (map row (range_with_len done (number - done))) (row number ∷ [])

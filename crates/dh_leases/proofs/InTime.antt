@@ -9,14 +9,13 @@ use Rattle.dh_days.specs.declared.limits.TheConstants.{LAST_ENTRY_MONTH}
 use Rattle.dh_days.proofs.DayMonths.{month_of_months_later}
 use Rattle.dh_types.specs.declared.lease.Charge.{Charge}
 use Rattle.dh_types.specs.declared.lease.Lease.{Lease}
-use Rattle.dh_types.specs.declared.run.Part.{Part}
 use Rattle.dh_model.specs.Books.{Books, Endings}
 use Rattle.dh_model.specs.Leases.{due, dues_among, dues_of, length_of}
 use Rattle.dh_model.specs.Runs.{batch_size, batches_before, batches_for, dues_of_branch, leases_of_branch}
 use Rattle.dh_leases.specs.declared.planning.BatchRows.{BatchRows}
 use Rattle.dh_leases.specs.declared.planning.Plan.{Plan}
 use Rattle.dh_leases.specs.Plans.{FallsInTime}
-use Rattle.dh_leases.specs.Rows.{all_rows_left, rows_at, rows_left, rows_of}
+use Rattle.dh_leases.specs.Rows.{Rows, all_rows_left, branch_run, rows_at, rows_left, rows_of}
 
 abbrev IsInMonth : Charge → Type 0
 IsInMonth charge = month_of_day charge.day ≡ charge.month
@@ -24,7 +23,7 @@ IsInMonth charge = month_of_day charge.day ≡ charge.month
 abbrev IsInTime : Charge → Type 0
 IsInTime charge = month_of_day charge.day ≤ LAST_ENTRY_MONTH
 
-abbrev AreInTime : List Charge × Part × Bool → Type 0
+abbrev AreInTime : Rows → Type 0
 AreInTime rows = All IsInTime rows.0
 
 -- what holds of all that f gives of each element holds of all of the flat map
@@ -59,7 +58,7 @@ module _ (month : ℕ) (known : month ≤ LAST_ENTRY_MONTH) where
       let first = done - batches_before batch_size books month branch in
       let numbers = range_with_len first (batches_for batch_size (length dues) - first) in
       let own = dues_in_time books.endings (leases_of_branch books branch) in
-      All-map AreInTime (rows_at batch_size month branch dues) numbers
+      All-map AreInTime (rows_at batch_size (branch_run books month branch) dues) numbers
       (λ k d below. let number = slice_index_or numbers k d in
       let so_far = take ((number + 1) * batch_size) dues in
       All-drop IsInTime (number * batch_size) so_far (All-take IsInTime ((number + 1) * batch_size) dues own))

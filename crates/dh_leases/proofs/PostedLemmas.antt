@@ -13,8 +13,10 @@ use Rattle.std.proofs.lemmas.List.Elements.{filter-append}
 use Rattle.std.proofs.lemmas.List.Sums.{sum_by_push}
 use Rattle.dh_types.specs.declared.lease.Charge.{Charge}
 use Rattle.dh_types.specs.declared.run.Part.{Part}
+use Rattle.dh_types.specs.declared.fee.PartFee.{PartFee}
 use Rattle.dh_model.specs.Books.{Books, text_cmp}
-use Rattle.dh_model.specs.Runs.{batches_before, batches_for, batches_of_branch, dues_of_branch, part_of, place_among, posted_of_branch}
+use Rattle.dh_model.specs.Runs.{batches_before, batches_for, batches_of_branch, dues_of_branch, fee_at, part_fee_of, part_of, place_among}
+use Rattle.dh_model.specs.Runs.{posted_of_branch}
 use Rattle.dh_model.specs.BatchLaws.{AreNumbered}
 use Rattle.dh_model.proofs.Among.{Among}
 use Rattle.dh_model.proofs.BatchLemmas.{places_numbered}
@@ -86,6 +88,10 @@ module _ (size : ℕ) (pos : 1 ≤ size) (before done : ℕ) where
 abbrev pub part_after : ℕ → Books → ℕ → ℕ → List ℕ → Part
 part_after size books month done branch = part_of month branch (posted_of_branch size books month done branch)
 
+-- and takes of it
+abbrev pub fee_row_after : ℕ → Books → ℕ → ℕ → List ℕ → PartFee
+fee_row_after size books month done branch = part_fee_of month branch (fee_at books branch) (posted_of_branch size books month done branch)
+
 -- its first batch is among them
 abbrev pub has_begun : ℕ → Books → ℕ → ℕ → List ℕ → Bool
 has_begun size books month done branch = nat_lt (batches_before size books month branch) done
@@ -136,24 +142,22 @@ module _ (size : ℕ) (books : Books) (month done : ℕ) (pos : 1 ≤ size) (are
           let its = ap (λ cs. batches_for size (length cs)) dues in
           omega (arith, is, all_of, its)
 
-      pub parts_next : (parts : List Part) (part : Part) → parts ≡ map (part_after size books month done) (filter (has_begun size books month done) xs)
-          → 0 < left → part ≡ part_of month branch (take (left * size) charges)
-          → parts ++ part ∷ [] ≡ map (part_after size books month done) (filter (has_begun size books month done) (xs ++ branch ∷ []))
-      parts_next parts part had some its =
-          let row = part_after size books month done in
+      -- the row of a branch that has begun comes behind those of the others
+      pub rows_next : {X : Type 0} (row : List ℕ → X) (rows : List X) (its : X) → rows ≡ map row (filter (has_begun size books month done) xs) → 0 < left
+          → its ≡ row branch → rows ++ its ∷ [] ≡ map row (filter (has_begun size books month done) (xs ++ branch ∷ []))
+      rows_next row rows its had some is_its =
           let begun = has_begun size books month done in
           let begins : nat_lt (batches_before size books month branch) done ≡ true =
           lt-ltb (batches_before size books month branch) done (omega (arith, some, left_before)) in
-          ap (λ ps. ps ++ part ∷ []) had
-          ∙ ap (λ p. map row (filter begun xs) ++ p ∷ []) (its ∙ ap (part_of month branch) posted_next)
+          ap (λ rs. rs ++ its ∷ []) had
+          ∙ ap (λ r. map row (filter begun xs) ++ r ∷ []) is_its
           ∙ sym (map-append row (filter begun xs) (branch ∷ []))
           ∙ ap (map row) (sym (filter-append begun xs (branch ∷ []) ∙ ap (λ b. filter begun xs ++ cond b (branch ∷ []) []) begins))
 
-    pub no_part_next : (parts : List Part) → parts ≡ map (part_after size books month done) (filter (has_begun size books month done) xs)
-        → left ≡ 0
-        → parts ≡ map (part_after size books month done) (filter (has_begun size books month done) (xs ++ branch ∷ []))
-    no_part_next parts had none =
-        let row = part_after size books month done in
+    -- and one that has not has none
+    pub no_row_next : {X : Type 0} (row : List ℕ → X) (rows : List X) → rows ≡ map row (filter (has_begun size books month done) xs) → left ≡ 0
+        → rows ≡ map row (filter (has_begun size books month done) (xs ++ branch ∷ []))
+    no_row_next row rows had none =
         let begun = has_begun size books month done in
         let waits : nat_lt (batches_before size books month branch) done ≡ false =
         le-ltb (batches_before size books month branch) done (omega (arith, none, left_before)) in

@@ -5,6 +5,7 @@
 mod batching;
 mod by_branch;
 mod charges;
+mod fees;
 mod parts;
 mod planning;
 mod posted;
@@ -15,9 +16,12 @@ mod terms;
 pub use batching::{batches, batches_for};
 pub use by_branch::{dues_by_branch, of_branch};
 pub use charges::{due_in, dues};
+pub use fees::branch_fees;
 pub use parts::branch_parts;
-pub use planning::{BatchRows, Plan, plan_of};
-pub use posted::{first_batches, open_row, posted_charges, posted_parts, whole, with_posted};
+pub use planning::{BatchRows, BranchRun, Plan, plan_of};
+pub use posted::{
+    first_batches, open_row, posted_charges, posted_fees, posted_parts, whole, with_posted,
+};
 pub use posting::with_run;
-pub use sums::{Sum, part_of_sum, sum_of, sum_with};
+pub use sums::{Sum, charge_fee, fee_of_sum, part_of_sum, sum_of, sum_with};
 pub use terms::{covers, end_of, overlap};

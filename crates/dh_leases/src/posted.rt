@@ -2,17 +2,18 @@
 
 ghost use Rattle.std.specs.Prelude.{◌≡◌, ◌+◌, ◌*◌, ◌≤◌, IfOk, OnOk, Some, length, option_copied, take};
 ghost use Rattle.dh_values.specs.declared.limits.TheConstants.{MOST_NUMBER};
-ghost use Rattle.dh_model.specs.Runs.{batch_size, posted_charges, posted_parts};
+ghost use Rattle.dh_model.specs.Runs.{batch_size, fees_of_parts, posted_charges, posted_fees, posted_parts, since_second};
 ghost use Rattle.dh_model.specs.Whole.{completed, open_row, whole, with_posted};
 ghost use Rattle.dh_leases.specs.Posted.{with_month};
 
 use crate::batching::{batches, batches_for};
 use crate::by_branch::{dues_by_branch, of_branch};
+use crate::fees::{of_version, put_fees};
 use crate::posting::{put_charges, put_parts};
-use crate::sums::{closed, part_with};
+use crate::sums::{closed, fee_with, part_with};
 use dh_books::Books;
 use dh_model::BATCH_SIZE;
-use dh_types::{Charge, EntryMonth, Part, Run};
+use dh_types::{Charge, EntryMonth, Part, PartFee, Run};
 use std::alloc::{AllocError, Global};
 
 /// The first of the charges, as many as so many batches have.
@@ -24,20 +25,30 @@ pub fn first_batches(charges: &[Charge], count: u128) -> &[Charge]
     &charges[..taken]
 }
 
-// The month's charges after so many batches, no more than there are leases, and its part rows then.
+// What books have of a month: its charges, its part rows, and their fee rows.
+#[derive(Drop)]
+struct MonthRows {
+    charges: Vec<Charge>,
+    parts: Vec<Part>,
+    fees: Vec<PartFee>,
+}
+
+// The month's rows after so many batches, a fee row with each part row. The charges are no more than there are leases.
 fn posted(
     alloc: Global,
     books: &Books,
     month: EntryMonth,
     done: u128,
-) -> Result<(Vec<Charge>, Vec<Part>), AllocError>
-    ensures charges { IfOk result (λ rows. rows.0.items ≡ posted_charges batch_size books.now.books month done) }
-    ensures parts { IfOk result (λ rows. rows.1.items ≡ posted_parts batch_size books.now.books month done) }
-    ensures few { IfOk result (λ rows. length rows.0.items ≤ MOST_NUMBER + 1) }
+) -> Result<MonthRows, AllocError>
+    ensures charges { IfOk result (λ rows. rows.charges.items ≡ posted_charges batch_size books.now.books month done) }
+    ensures parts { IfOk result (λ rows. rows.parts.items ≡ posted_parts batch_size books.now.books month done) }
+    ensures fees { IfOk result (λ rows. rows.fees.items ≡ fees_of_parts batch_size books.now.books month done) }
+    ensures few { IfOk result (λ rows. length rows.charges.items ≤ MOST_NUMBER + 1) }
 {
     let dues = dues_by_branch(alloc, books, month)?;
     let mut charges = Vec::new(alloc);
     let mut parts = Vec::new(alloc);
+    let mut fees = Vec::new(alloc);
     let mut left = done;
     for branch in books.branch_numbers() {
         let all = of_branch(&dues, branch);
@@ -45,10 +56,15 @@ fn posted(
         charges.extend_from_slice(first)?;
         if left > 0 {
             parts.push(part_with(month, *branch, first))?;
+            fees.push(fee_with(month, *branch, books.fee_at(branch), first))?;
         }
         left = left.saturating_sub(batches_for(all.len() as u64));
     }
-    Ok((charges, parts))
+    Ok(MonthRows {
+        charges,
+        parts,
+        fees,
+    })
 }
 
 // The month's charges after so many batches, no more than there are leases.
@@ -61,8 +77,7 @@ fn charges_after(
     ensures value { IfOk result (λ charges. charges.items ≡ posted_charges batch_size books.now.books month done) }
     ensures few { IfOk result (λ charges. length charges.items ≤ MOST_NUMBER + 1) }
 {
-    let (charges, _parts) = posted(alloc, books, month, done)?;
-    Ok(charges)
+    Ok(posted(alloc, books, month, done)?.charges)
 }
 
 /// The month's charges after so many batches, branch by branch and each branch's by lease. It fails where memory runs out.
@@ -86,23 +101,36 @@ pub fn posted_parts(
 ) -> Result<Vec<Part>, AllocError>
     ensures { IfOk result (λ parts. parts.items ≡ posted_parts batch_size books.now.books month done) }
 {
-    let (_charges, parts) = posted(alloc, books, month, done)?;
-    Ok(parts)
+    Ok(posted(alloc, books, month, done)?.parts)
+}
+
+/// The month's fee rows after so many batches, rising by branch; none in books of the first version. It fails where memory runs out.
+pub fn posted_fees(
+    alloc: Global,
+    books: &Books,
+    month: EntryMonth,
+    done: u128,
+) -> Result<Vec<PartFee>, AllocError>
+    ensures { IfOk result (λ fees. fees.items ≡ posted_fees batch_size books.now.books month done) }
+{
+    let rows = posted(alloc, books, month, done)?;
+    Ok(of_version(books.version(), rows.fees))
 }
 
 // Puts these in the place of what the books have of the month.
-fn put_posted(
-    books: &mut Books,
-    month: EntryMonth,
-    charges: Vec<Charge>,
-    parts: Vec<Part>,
-) -> Result<(), AllocError>
-    ensures { OnOk result (books.new ≡ record books.old { books = with_month books.old.books month charges.items parts.items }) }
+fn put_posted(books: &mut Books, month: EntryMonth, rows: MonthRows) -> Result<(), AllocError>
+    ensures { OnOk result (books.new ≡ record books.old {
+      books = with_month books.old.books month rows.charges.items rows.parts.items
+          (since_second books.old.books.version rows.fees.items);
+    }) }
 {
     books.clear_month_charges(month);
-    put_charges(books, charges)?;
+    put_charges(books, rows.charges)?;
     books.clear_month_parts(month);
-    put_parts(books, parts)
+    put_parts(books, rows.parts)?;
+    books.clear_month_fees(month);
+    let fees = of_version(books.version(), rows.fees);
+    put_fees(books, fees)
 }
 
 /// The books with so many batches of the month in the place of what they have of it.
@@ -114,8 +142,8 @@ pub fn with_posted(
 ) -> Result<Books, AllocError>
     ensures { IfOk result (λ b. b ≡ record books { books = with_posted batch_size books.books month done }) }
 {
-    let (charges, parts) = posted(alloc, &books, month, done)?;
-    put_posted(&mut books, month, charges, parts)?;
+    let rows = posted(alloc, &books, month, done)?;
+    put_posted(&mut books, month, rows)?;
     Ok(books)
 }
 

@@ -5,6 +5,7 @@ ghost use Rattle.dh_model.specs.Books.{with_rows};
 ghost use Rattle.dh_model.specs.Runs.{batch_size, charge_key, part_key, ran};
 
 use crate::dues;
+use crate::fees::{branch_fees, put_fees};
 use crate::parts::branch_parts;
 use crate::sums::closed;
 use dh_books::Books;
@@ -35,8 +36,8 @@ pub(crate) fn put_parts(books: &mut Books, mut parts: Vec<Part>) -> Result<(), A
     Ok(())
 }
 
-/// The books with the run of the next month made in one step: its dues are charged, each branch has its part row, the run
-/// is closed with its count and total, and the next month moves on.
+/// The books with the run of the next month made in one step: its dues are charged, each branch has its part row and,
+/// in books of the second version, its fee row, the run is closed with its count and total, and the next month moves on.
 pub fn with_run(
     alloc: Global,
     mut books: Books,
@@ -48,6 +49,7 @@ pub fn with_run(
 {
     let charges = dues(alloc, &books, month.month())?;
     let parts = branch_parts(alloc, &books, month)?;
+    let fees = branch_fees(alloc, &books, month)?;
     let opened = Run {
         month,
         key,
@@ -58,6 +60,7 @@ pub fn with_run(
     let run = closed(opened, &charges);
     put_charges(&mut books, charges)?;
     put_parts(&mut books, parts)?;
+    put_fees(&mut books, fees)?;
     books.put_run(run)?;
     books.set_next(month.month().next().unwrap());
     Ok(books)

@@ -154,7 +154,7 @@ dues_rise endings (lease ∷ leases) month r =
     let less = r.0 d_is.lease d_is.of in
     omega (arith, c_lease, d_lease, less)))
 
-same_branch : (a b : List ℕ) (property : Option Property) → is_property_of a property ≡ true → is_property_of b property ≡ true → a ≡ b
+pub same_branch : (a b : List ℕ) (property : Option Property) → is_property_of a property ≡ true → is_property_of b property ≡ true → a ≡ b
 same_branch a b None p q = cc
 same_branch a b (Some property) p q = sym ((texts property.branch a).0 p) ∙ (texts property.branch b).0 q
 
@@ -170,13 +170,13 @@ module _ (books : Books) (month : ℕ) (are : AreNumbered books) where
       (leases_rise books are))
 
   -- the lease of a branch's due
-  record IsDueOf (branch : List ℕ) (charge : Charge) : Type 0 where
-    lease : Lease
-    number : charge.lease ≡ lease.terms.number
-    is : get books.leases charge.lease ≡ Some lease
-    of : is_property_of branch (get books.properties lease.terms.property) ≡ true
+  pub record IsDueOf (branch : List ℕ) (charge : Charge) : Type 0 where
+    pub lease : Lease
+    pub number : charge.lease ≡ lease.terms.number
+    pub is : get books.leases charge.lease ≡ Some lease
+    pub of : is_property_of branch (get books.properties lease.terms.property) ≡ true
 
-  due_of_branch : (branch : List ℕ) (charge : Charge) → Among (dues_of_branch books month branch) charge → IsDueOf branch charge
+  pub due_of_branch : (branch : List ℕ) (charge : Charge) → Among (dues_of_branch books month branch) charge → IsDueOf branch charge
   due_of_branch branch charge a =
       let d = is_due books.endings (leases_of_branch books branch) month charge a in
       let kept = in_filter (λ lease. is_property_of branch (get books.properties lease.terms.property)) (values books.leases) d.lease d.of in

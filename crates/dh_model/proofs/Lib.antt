@@ -6,6 +6,7 @@ pub mod Rising
 pub mod BranchSums
 pub mod BranchDues
 pub mod BatchLemmas
+pub mod FeeLemmas
 pub mod RunLemmas
 pub mod MapLemmas
 pub mod KeyOrders

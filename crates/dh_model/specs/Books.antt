@@ -18,8 +18,10 @@ use Rattle.dh_types.specs.declared.lease.Receipt.{Receipt}
 use Rattle.dh_types.specs.declared.lease.Ending.{Ending}
 use Rattle.dh_types.specs.declared.run.Run.{Run}
 use Rattle.dh_types.specs.declared.run.Part.{Part}
+use Rattle.dh_types.specs.declared.fee.BranchFee.{BranchFee}
+use Rattle.dh_types.specs.declared.fee.PartFee.{PartFee}
 use Rattle.dh_types.specs.declared.version.Version.{Version}
-use Rattle.dh_types.specs.declared.version.Version.TheVariants.{First}
+use Rattle.dh_types.specs.declared.version.Version.TheVariants.{Second}
 use Rattle.dh_model.specs.declared.open_run.OpenRun.{OpenRun}
 
 -- codes go by their bytes
@@ -54,6 +56,10 @@ pub record Books : Type 0 where
   pub runs : FinMap nat_cmp Run
   -- by month and branch
   pub parts : FinMap (pair_cmp nat_cmp text_cmp) Part
+  -- by branch; a branch that has none takes nothing
+  pub branch_fees : FinMap text_cmp BranchFee
+  -- by month and branch: what each part's fees come to
+  pub part_fees : FinMap (pair_cmp nat_cmp text_cmp) PartFee
   -- the leases that were ended early
   pub endings : Endings
   -- the month that the books begin with, and the next one whose rent is to be run
@@ -83,10 +89,12 @@ empty_books month = record {
   receipts = empty;
   runs = empty;
   parts = empty;
+  branch_fees = empty;
+  part_fees = empty;
   endings = empty;
   first = month;
   next = month;
-  version = First;
+  version = Second;
 }
 
 abbrev pub start : ℕ → State

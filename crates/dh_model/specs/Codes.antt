@@ -28,6 +28,8 @@ use Rattle.dh_types.specs.declared.lease.Receipt.{Receipt}
 use Rattle.dh_types.specs.declared.lease.Ending.{Ending}
 use Rattle.dh_types.specs.declared.run.Run.{Run}
 use Rattle.dh_types.specs.declared.run.Part.{Part}
+use Rattle.dh_types.specs.declared.fee.BranchFee.{BranchFee}
+use Rattle.dh_types.specs.declared.fee.PartFee.{PartFee}
 use Rattle.dh_types.specs.declared.version.Version.{Version}
 use Rattle.dh_types.specs.declared.version.Version.TheVariants.{First, Second}
 use Rattle.dh_model.specs.declared.open_run.OpenRun.{OpenRun}
@@ -241,6 +243,14 @@ part_code =
 abbrev pub open_run_code : Coded OpenRun
 open_run_code = code_by (ℕ × ℕ) (coded× coded_ℕ coded_ℕ) (λ x. (x.month, x.done)) (λ p. record { month = p.0; done = p.1 }) (λ _. refl)
 
+abbrev pub branch_fee_code : Coded BranchFee
+branch_fee_code = code_by (List ℕ × ℕ) (coded× coded_text coded_ℕ) (λ e. (e.branch, e.fee)) (λ p. record { branch = p.0; fee = p.1 }) (λ _. refl)
+
+abbrev pub part_fee_code : Coded PartFee
+part_fee_code =
+    code_by (ℕ × (List ℕ × (ℕ × ℕ))) (coded× coded_ℕ (coded× coded_text (coded× coded_ℕ coded_ℕ)))
+    (λ e. (e.month, (e.branch, (e.fee, e.total)))) (λ p. record { month = p.0; branch = p.1.0; fee = p.1.1.0; total = p.1.1.1 }) (λ _. refl)
+
 abbrev pub ending_code : Coded Ending
 ending_code = code_by (ℕ × ℕ) (coded× coded_ℕ coded_ℕ) (λ e. (e.lease, e.months)) (λ p. record { lease = p.0; months = p.1 }) (λ _. refl)
 
@@ -256,7 +266,8 @@ books_code =
     × (FinMap (pair_cmp text_cmp nat_cmp) Inspection
     × (FinMap nat_cmp Lease
     × (FinMap (pair_cmp nat_cmp nat_cmp) Charge
-    × (FinMap nat_cmp Receipt × (FinMap nat_cmp Run × (FinMap (pair_cmp nat_cmp text_cmp) Part × (FinMap nat_cmp Ending × (ℕ × (ℕ × Version))))))))))))))))
+    × (FinMap nat_cmp Receipt × (FinMap nat_cmp Run × (FinMap (pair_cmp nat_cmp text_cmp) Part
+    × (FinMap text_cmp BranchFee × (FinMap (pair_cmp nat_cmp text_cmp) PartFee × (FinMap nat_cmp Ending × (ℕ × (ℕ × Version))))))))))))))))))
     (coded× (fin.code coded_text branch_code)
     (coded× (fin.code coded_text staff_code)
     (coded× (fin.code coded_text owner_code)
@@ -269,7 +280,8 @@ books_code =
     (coded× (fin.code (coded× coded_ℕ coded_ℕ) charge_code)
     (coded× (fin.code coded_ℕ receipt_code)
     (coded× (fin.code coded_ℕ run_code) (coded× (fin.code (coded× coded_ℕ coded_text) part_code)
-    (coded× (fin.code coded_ℕ ending_code) (coded× coded_ℕ (coded× coded_ℕ version_code))))))))))))))))
+    (coded× (fin.code coded_text branch_fee_code) (coded× (fin.code (coded× coded_ℕ coded_text) part_fee_code)
+    (coded× (fin.code coded_ℕ ending_code) (coded× coded_ℕ (coded× coded_ℕ version_code))))))))))))))))))
     (λ x. (
       x.branches,
       (
@@ -286,7 +298,7 @@ books_code =
                   x.viewings,
                   (
                     x.inspections,
-                    (x.leases, (x.charges, (x.receipts, (x.runs, (x.parts, (x.endings, (x.first, (x.next, x.version)))))))),
+                    (x.leases, (x.charges, (x.receipts, (x.runs, (x.parts, (x.branch_fees, (x.part_fees, (x.endings, (x.first, (x.next, x.version)))))))))),
                   ),
                 ),
               ),
@@ -310,12 +322,14 @@ books_code =
           p.1.1.1.1.1.1.1.1.1.1.0;
       runs = p.1.1.1.1.1.1.1.1.1.1.1.0;
       parts = p.1.1.1.1.1.1.1.1.1.1.1.1.0;
-      endings = p.1.1.1.1.1.1.1.1.1.1.1.1.1.0;
-      first = p.1.1.1.1.1.1.1.1.1.1.1.1.1.1.0;
+      branch_fees = p.1.1.1.1.1.1.1.1.1.1.1.1.1.0;
+      part_fees = p.1.1.1.1.1.1.1.1.1.1.1.1.1.1.0;
+      endings = p.1.1.1.1.1.1.1.1.1.1.1.1.1.1.1.0;
+      first = p.1.1.1.1.1.1.1.1.1.1.1.1.1.1.1.1.0;
       next =
-          p.1.1.1.1.1.1.1.1.1.1.1.1.1.1.1.0;
+          p.1.1.1.1.1.1.1.1.1.1.1.1.1.1.1.1.1.0;
       version =
-          p.1.1.1.1.1.1.1.1.1.1.1.1.1.1.1.1;
+          p.1.1.1.1.1.1.1.1.1.1.1.1.1.1.1.1.1.1;
     }) (λ _. refl)
 
 abbrev pub state_code : Coded State

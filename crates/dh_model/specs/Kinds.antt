@@ -17,10 +17,12 @@ use Rattle.dh_types.specs.declared.lease.Receipt.{Receipt}
 use Rattle.dh_types.specs.declared.lease.Ending.{Ending}
 use Rattle.dh_types.specs.declared.run.Run.{Run}
 use Rattle.dh_types.specs.declared.run.Part.{Part}
+use Rattle.dh_types.specs.declared.fee.BranchFee.{BranchFee}
+use Rattle.dh_types.specs.declared.fee.PartFee.{PartFee}
 use Rattle.dh_types.specs.declared.version.Version.{Version}
 use Rattle.dh_types.specs.declared.version.Version.TheVariants.{First, Second}
 use Rattle.dh_model.specs.Books.{Books, pair_cmp, text_cmp}
-use Rattle.dh_model.specs.Runs.{charge_key, part_key}
+use Rattle.dh_model.specs.Runs.{charge_key, part_fee_key, part_key}
 
 pub data Kind : Type 0 where
   Branches : Kind
@@ -36,10 +38,14 @@ pub data Kind : Type 0 where
   Receipts : Kind
   Runs : Kind
   Parts : Kind
+  BranchFees : Kind
+  PartFees : Kind
   Endings : Kind
 
 -- the version that a kind came with
 abbrev pub came_with : Kind → Version
+came_with BranchFees = Second
+came_with PartFees = Second
 came_with Endings = Second
 came_with _ = First
 
@@ -66,6 +72,8 @@ key_of Charges = ℕ × ℕ
 key_of Receipts = ℕ
 key_of Runs = ℕ
 key_of Parts = ℕ × List ℕ
+key_of BranchFees = List ℕ
+key_of PartFees = ℕ × List ℕ
 key_of Endings = ℕ
 
 abbrev pub record_of : Kind → Type 0
@@ -82,6 +90,8 @@ record_of Charges = Charge
 record_of Receipts = Receipt
 record_of Runs = Run
 record_of Parts = Part
+record_of BranchFees = BranchFee
+record_of PartFees = PartFee
 record_of Endings = Ending
 
 -- the order of the keys
@@ -99,6 +109,8 @@ order_of Charges = pair_cmp nat_cmp nat_cmp
 order_of Receipts = nat_cmp
 order_of Runs = nat_cmp
 order_of Parts = pair_cmp nat_cmp text_cmp
+order_of BranchFees = text_cmp
+order_of PartFees = pair_cmp nat_cmp text_cmp
 order_of Endings = nat_cmp
 
 -- the key of a record
@@ -116,6 +128,8 @@ key_in Charges it = charge_key it
 key_in Receipts it = it.number
 key_in Runs it = it.month
 key_in Parts it = part_key it
+key_in BranchFees it = it.branch
+key_in PartFees it = part_fee_key it
 key_in Endings it = it.lease
 
 -- the records of a kind
@@ -133,6 +147,8 @@ records_of Charges books = books.charges
 records_of Receipts books = books.receipts
 records_of Runs books = books.runs
 records_of Parts books = books.parts
+records_of BranchFees books = books.branch_fees
+records_of PartFees books = books.part_fees
 records_of Endings books = books.endings
 
 -- the books with other records of a kind
@@ -150,4 +166,6 @@ with_records Charges rows books = record books { charges = rows }
 with_records Receipts rows books = record books { receipts = rows }
 with_records Runs rows books = record books { runs = rows }
 with_records Parts rows books = record books { parts = rows }
+with_records BranchFees rows books = record books { branch_fees = rows }
+with_records PartFees rows books = record books { part_fees = rows }
 with_records Endings rows books = record books { endings = rows }

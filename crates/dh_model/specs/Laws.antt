@@ -1,12 +1,14 @@
 -- What the definitions owe each other.
-use Rattle.std.specs.Prelude.{◌≡◌, ◌↔◌, ◌<◌, ℕ, true, length}
+use Rattle.std.specs.Prelude.{◌≡◌, ◌↔◌, ◌<◌, ◌≤◌, ℕ, true, List, length}
 use Rattle.std.specs.List.{IsAmong}
 use Rattle.std.specs.FinMap.{values}
+use Rattle.dh_values.specs.declared.limits.TheConstants.{MOST_FEE}
 use Rattle.dh_days.specs.Days.{IsDay, month_of_day}
 use Rattle.dh_types.specs.declared.lease.LeaseTerms.{LeaseTerms}
 use Rattle.dh_types.specs.declared.lease.Lease.{Lease}
 use Rattle.dh_types.specs.declared.lease.Charge.{Charge}
 use Rattle.dh_model.specs.Books.{Books, Endings}
+use Rattle.dh_model.specs.Runs.{fees_over, total_of}
 use Rattle.dh_model.specs.Leases.{Covers, due, dues, dues_of, end_of, length_of, overlap, running}
 
 -- leases overlap exactly where they are of one property and cover a common day
@@ -50,3 +52,7 @@ OneDueInAMonth = (lease : Lease) (j k : ℕ) → (due lease j).month ≡ (due le
 abbrev pub DuesAreCovered : Type 0
 DuesAreCovered = (endings : Endings) (lease : Lease) (k : ℕ) → IsDay lease.terms.start → k < length_of endings lease
     → Covers (running endings lease) (due lease k).day
+
+-- no fee takes more than the rents
+abbrev pub FeesAreNoMore : Type 0
+FeesAreNoMore = (fee : ℕ) (charges : List Charge) → fee ≤ MOST_FEE → fees_over fee charges ≤ total_of charges

@@ -1,5 +1,5 @@
 -- What must hold of the books: the rules of the audit, by their numbers.
-use Rattle.std.specs.Prelude.{◌≡◌, ◌≢◌, ◌↔◌, ◌≤◌, ◌<◌, ℕ, ◌+◌, ◌*◌, true, false, ◌&&◌, nat_eq, List, [], ◌++◌, map, length, Some, IfSome}
+use Rattle.std.specs.Prelude.{◌≡◌, ◌≢◌, ◌↔◌, ◌≤◌, ◌<◌, ℕ, ◌+◌, ◌*◌, true, false, ◌&&◌, nat_eq, List, [], ◌++◌, map, length, Bool, Option, Some, None, IfSome}
 use Rattle.std.specs.declared.cmp.Ordering.{Ordering}
 use Rattle.std.specs.List.{AllPairs, IsAmong, count_by, filter}
 use Rattle.std.specs.FinMap.{FinMap, contains_key, get, len, values}
@@ -13,12 +13,14 @@ use Rattle.dh_types.specs.declared.lease.Lease.{Lease}
 use Rattle.dh_types.specs.declared.lease.Charge.{Charge}
 use Rattle.dh_types.specs.declared.run.Run.{Run}
 use Rattle.dh_types.specs.declared.run.Part.{Part}
+use Rattle.dh_types.specs.declared.version.Version.{Version}
+use Rattle.dh_types.specs.declared.version.Version.TheVariants.{First, Second}
 use Rattle.dh_types.specs.Records.{is_same_optional}
 use Rattle.dh_model.specs.declared.limits.TheConstants.{MANAGED_AT_MOST}
 use Rattle.dh_model.specs.Books.{Books}
 use Rattle.dh_model.specs.Kinds.{Kind, record_of, records_of}
 use Rattle.dh_model.specs.Leases.{dues, overlap, running}
-use Rattle.dh_model.specs.Runs.{batches, dues_of_branch, part_of, posted_charges, posted_parts, total_of}
+use Rattle.dh_model.specs.Runs.{batches, dues_of_branch, fee_at, is_property_of, part_fee_of, part_of, posted_charges, posted_parts, total_of}
 use Rattle.dh_model.specs.Checks.{is_registered, is_same_text, works_at}
 
 -- the rules of the audit
@@ -33,6 +35,7 @@ pub data Rule : Type 0 where
   Keys : Rule
   Runs : Rule
   Months : Rule
+  Fees : Rule
   Endings : Rule
 
 -- by which a damaged file is refused
@@ -47,6 +50,7 @@ rule_number Deposits = 7
 rule_number Keys = 8
 rule_number Runs = 9
 rule_number Months = 10
+rule_number Fees = 11
 rule_number Endings = 12
 
 -- this holds of each row
@@ -109,6 +113,8 @@ module _ (books : Books) where
   Refers Kind.Receipts receipt = IsThere books.leases receipt.payment.lease
   Refers Kind.Runs run = Unit {0}
   Refers Kind.Parts part = PartRefers part
+  Refers Kind.BranchFees it = IsThere books.branches it.branch
+  Refers Kind.PartFees it = IsThere books.parts (it.month, it.branch)
   Refers Kind.Endings it = IsThere books.leases it.lease
 
   -- 1: what a row names is there
@@ -174,6 +180,26 @@ module _ (books : Books) where
     pub count : run.count ≡ length (dues books run.month)
     pub total : run.total ≡ total_of (dues books run.month)
 
+  -- the lease of a charge is on a property of the branch
+  abbrev pub is_charged_at : List ℕ → Option Lease → Bool
+  is_charged_at branch None = false
+  is_charged_at branch (Some lease) = is_property_of branch (get books.properties lease.terms.property)
+
+  -- the charges of a part: those of its month on its branch
+  abbrev pub charges_of_part : Part → List Charge
+  charges_of_part part = filter (λ charge. is_charged_at part.branch (get books.leases charge.lease)) (charges_in part.month)
+
+  -- the part has a fee row, which sums up the fees of its charges; of an open run, by the present fee of the branch
+  pub record HasItsFee (part : Part) : Type 0 where
+    pub fee : ℕ
+    pub row : get books.part_fees (part.month, part.branch) ≡ Some (part_fee_of part.month part.branch fee (charges_of_part part))
+    pub present : IfSome (get books.runs part.month) (λ run. run.is_closed ≡ false → fee ≡ fee_at books part.branch)
+
+  -- 11: each part has its fee row; books of the first version have no fee row
+  abbrev pub HasFees : Version → Type 0
+  HasFees First = Each books.part_fees (λ it. ⊥)
+  HasFees Second = Each books.parts HasItsFee
+
   -- 12: a lease that was ended early runs three months or more, and fewer than it was signed for
   abbrev pub EndingsInOrder : Type 0
   EndingsInOrder = Each books.endings (λ it. (3 ≤ it.months) × IfSome (get books.leases it.lease) (λ lease. it.months < lease.terms.months))
@@ -211,6 +237,7 @@ module _ (books : Books) where
     Holds Keys = KeysInOrder
     Holds Runs = RunsInOrder
     Holds Months = MonthsInOrder
+    Holds Fees = HasFees books.version
     Holds Endings = EndingsInOrder
 
     -- all rules hold

@@ -1,5 +1,5 @@
 -- Rent runs: a month's dues, branch by branch, in batches.
-use Rattle.std.specs.Prelude.{ℕ, ◌+◌, ◌-◌, ◌/◌, max, Bool, true, false, nat_eq, nat_lt, List, map, length, Option, Some, None}
+use Rattle.std.specs.Prelude.{ℕ, ◌+◌, ◌-◌, ◌*◌, ◌/◌, max, Bool, true, false, nat_eq, nat_lt, List, [], map, length, Option, Some, None}
 use Rattle.std.specs.List.{count_by, filter, flat_map, fold, sum_by}
 use Rattle.std.specs.Ordering.{is_lt}
 use Rattle.std.specs.Cmp.Lexicographic.{pointwise}
@@ -10,6 +10,10 @@ use Rattle.dh_types.specs.declared.lease.Charge.{Charge}
 use Rattle.dh_types.specs.declared.run.Run.{Run}
 use Rattle.dh_types.specs.declared.run.Part.{Part}
 use Rattle.dh_types.specs.declared.run.RunSum.{RunSum}
+use Rattle.dh_types.specs.declared.fee.BranchFee.{BranchFee}
+use Rattle.dh_types.specs.declared.fee.PartFee.{PartFee}
+use Rattle.dh_types.specs.declared.version.Version.{Version}
+use Rattle.dh_types.specs.declared.version.Version.TheVariants.{First, Second}
 use Rattle.dh_model.specs.declared.limits.TheConstants.{BATCH_SIZE}
 use Rattle.dh_model.specs.Books.{Books, text_cmp, with_rows}
 use Rattle.dh_model.specs.Leases.{dues, dues_among}
@@ -86,6 +90,44 @@ part_of month branch charges = record { month = month; branch = branch; through 
 abbrev pub posted_parts : ℕ → Books → ℕ → ℕ → List Part
 posted_parts size books month done = map (λ branch. part_of month branch (posted_of_branch size books month done branch)) (begun_branches size books month done)
 
+-- the fee of a branch: nothing where it has no row
+abbrev pub fee_in : Option BranchFee → ℕ
+fee_in None = 0
+fee_in (Some it) = it.fee
+
+-- the present fee of a branch, in hundredths of a percent
+abbrev pub fee_at : Books → List ℕ → ℕ
+fee_at books branch = fee_in (get books.branch_fees branch)
+
+-- the fee of one charge, in whole pence
+abbrev pub charge_fee : ℕ → Charge → ℕ
+charge_fee fee charge = charge.amount * fee / 10000
+
+-- the sum of the charges' fees
+abbrev pub fees_over : ℕ → List Charge → ℕ
+fees_over fee charges = sum_by (charge_fee fee) charges
+
+-- what a branch takes of the run by this fee, where these are its charges
+abbrev pub part_fee_of : ℕ → List ℕ → ℕ → List Charge → PartFee
+part_fee_of month branch fee charges = record { month = month; branch = branch; fee = fee; total = fees_over fee charges }
+
+-- what came with the second version; books of the first have nothing of it
+abbrev pub since_second : {X : Type 0} → Version → List X → List X
+since_second First rows = []
+since_second Second rows = rows
+
+-- a fee row with each part row after so many batches, by the branch's present fee
+abbrev pub fees_of_parts : ℕ → Books → ℕ → ℕ → List PartFee
+fees_of_parts size books month done =
+    map (λ branch. part_fee_of month branch (fee_at books branch) (posted_of_branch size books month done branch)) (begun_branches size books month done)
+
+-- the fee rows after so many batches
+abbrev pub posted_fees : ℕ → Books → ℕ → ℕ → List PartFee
+posted_fees size books month done = since_second books.version (fees_of_parts size books month done)
+
+abbrev pub part_fee_key : PartFee → ℕ × List ℕ
+part_fee_key it = (it.month, it.branch)
+
 abbrev pub charge_key : Charge → ℕ × ℕ
 charge_key charge = (charge.lease, charge.index)
 
@@ -96,8 +138,8 @@ part_key part = (part.month, part.branch)
 abbrev pub closed_run : ℕ → List ℕ → List Charge → Run
 closed_run month key charges = record { month = month; key = key; count = length charges; total = total_of charges; is_closed = true }
 
--- The books with the next month's rent run made under this key, in one step: its dues charged, a part row a branch, the run
--- closed with its count and total, and the next month moved on.
+-- The books with the next month's rent run made under this key, in one step: its dues charged, a part row a branch and
+-- its fee row, the run closed with its count and total, and the next month moved on.
 abbrev pub ran : ℕ → Books → List ℕ → Books
 ran size books key =
     let month = books.next in
@@ -105,6 +147,7 @@ ran size books key =
     record books {
       charges = with_rows charge_key charges books.charges;
       parts = with_rows part_key (posted_parts size books month (batches size books month)) books.parts;
+      part_fees = with_rows part_fee_key (posted_fees size books month (batches size books month)) books.part_fees;
       runs = insert books.runs month (closed_run month key charges);
       next = month + 1;
     }

@@ -6,7 +6,7 @@ use Rattle.std.specs.FinMap.{FinMap, entries, from_entries, insert, values}
 use Rattle.dh_types.specs.declared.run.Run.{Run}
 use Rattle.dh_model.specs.declared.open_run.OpenRun.{OpenRun}
 use Rattle.dh_model.specs.Books.{Books, with_rows}
-use Rattle.dh_model.specs.Runs.{batches, batches_for, charge_key, closed_run, part_key, posted_charges, posted_parts}
+use Rattle.dh_model.specs.Runs.{batches, batches_for, charge_key, closed_run, part_fee_key, part_key, posted_charges, posted_fees, posted_parts}
 use Rattle.dh_model.specs.Rules.{ArePosted, MeetsRules, parts_in}
 
 -- the rows of which the test holds
@@ -36,6 +36,7 @@ module _ (size : ℕ) where
   with_posted books month done = record books {
     charges = with_rows charge_key (posted_charges size books month done) (rows_where (λ charge. not (nat_eq charge.month month)) books.charges);
     parts = with_rows part_key (posted_parts size books month done) (rows_where (λ part. not (nat_eq part.month month)) books.parts);
+    part_fees = with_rows part_fee_key (posted_fees size books month done) (rows_where (λ it. not (nat_eq it.month month)) books.part_fees);
   }
 
   -- the books with all batches of the run posted, and it closed

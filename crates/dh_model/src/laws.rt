@@ -1,6 +1,7 @@
 //! Laws of the model: each function does nothing, and its clause is the law.
 
 ghost use Rattle.dh_model.specs.Laws.{DuesAreCovered, DuesAreThoseOfLeases, DuesLieInTheirMonth, DuesNumberTheMonths, MonthsShareNoDue, OneDueInAMonth};
+ghost use Rattle.dh_model.specs.Laws.{FeesAreNoMore};
 ghost use Rattle.dh_model.specs.Laws.{OverlapGoesBothWays, OverlapIsByEnds, OverlapIsCommonDay};
 
 /// Leases overlap exactly where they are of one property and some day is covered by both.
@@ -46,4 +47,9 @@ pub fn one_due_in_a_month()
 /// Each due lies on a day that the lease covers.
 pub fn dues_are_covered()
     ensures { DuesAreCovered }
+{}
+
+/// What a fee takes of charges is no more than they come to.
+pub fn fees_are_no_more()
+    ensures { FeesAreNoMore }
 {}

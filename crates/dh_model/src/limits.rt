@@ -2,7 +2,7 @@
 
 ghost use Rattle.std.specs.Prelude.{◌≡◌, ◌+◌, ◌*◌};
 ghost use Rattle.dh_values.specs.declared.limits.TheConstants.{LEAST_LEASE_MONTHS, MOST_AMOUNT, MOST_BATCHES, MOST_CHARGE_INDEX};
-ghost use Rattle.dh_values.specs.declared.limits.TheConstants.{MOST_LEASE_MONTHS, MOST_NUMBER, MOST_PENCE, MOST_RENT, MOST_ROOMS};
+ghost use Rattle.dh_values.specs.declared.limits.TheConstants.{MOST_FEE, MOST_LEASE_MONTHS, MOST_NUMBER, MOST_PENCE, MOST_RENT, MOST_ROOMS};
 ghost use Rattle.dh_days.specs.declared.limits.TheConstants.{FIRST_MONTH, LAST_ENTRY_MONTH, LAST_MONTH, LAST_MONTH_OF_ENTRY_DAYS, LAST_NEXT_MONTH};
 
 /// How many charges one batch of a rent run has at most.
@@ -25,6 +25,7 @@ pub fn value_limits_in_figures()
     ensures most_months { MOST_LEASE_MONTHS ≡ 12 }
     ensures charge_index { MOST_CHARGE_INDEX ≡ 11 }
     ensures batches { MOST_BATCHES ≡ 1_000_000 }
+    ensures fee { MOST_FEE ≡ 10_000 }
     ensures rent { MOST_RENT ≡ 999_999 }
     ensures amount { MOST_AMOUNT ≡ 99_999_999 }
     ensures pence { MOST_PENCE ≡ 9_223_372_036_854_775_807 }

@@ -5,7 +5,7 @@ use Rattle.std.specs.Str.{IsUtf8}
 use Rattle.sqlite_value.specs.declared.value.Value.{Value}
 use Rattle.sqlite_value.specs.declared.value.Value.TheVariants.{Null, Int, Text}
 use Rattle.dh_values.specs.Texts.{is_id, is_key, is_text}
-use Rattle.dh_values.specs.declared.limits.TheConstants.{MOST_AMOUNT, MOST_NUMBER, MOST_PENCE, MOST_RENT}
+use Rattle.dh_values.specs.declared.limits.TheConstants.{MOST_AMOUNT, MOST_FEE, MOST_NUMBER, MOST_PENCE, MOST_RENT}
 use Rattle.dh_days.specs.Days.{day_of, day_text, due_day_of}
 use Rattle.dh_days.specs.declared.limits.TheConstants.{FIRST_MONTH, LAST_ENTRY_MONTH, LAST_MONTH_OF_ENTRY_DAYS}
 use Rattle.dh_days.proofs.ReadDays.{text_read_again}
@@ -80,6 +80,10 @@ number_in _ = 0
 -- the number of a lease or of a receipt
 abbrev pub is_named_number_cell : Value → Bool
 is_named_number_cell v = is_number_cell 1 MOST_NUMBER v
+
+-- a fee, in hundredths of a percent
+abbrev pub is_fee_cell : Value → Bool
+is_fee_cell v = is_number_cell 0 MOST_FEE v
 
 -- a month that lines know, numbered 12 * year + month - 1
 abbrev pub is_month_cell : Value → Bool

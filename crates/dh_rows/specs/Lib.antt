@@ -16,3 +16,5 @@ pub mod ChargeRows
 pub mod ReceiptRows
 pub mod RunRows
 pub mod PartRows
+pub mod BranchFeeRows
+pub mod PartFeeRows

@@ -2,6 +2,7 @@
 #![tactic(auto)]
 
 mod branch;
+mod branch_fee;
 mod cells;
 mod charge;
 mod client;
@@ -14,6 +15,7 @@ mod meta;
 mod owner;
 mod params;
 mod part;
+mod part_fee;
 mod property;
 mod receipt;
 mod record;

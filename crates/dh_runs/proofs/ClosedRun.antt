@@ -108,7 +108,7 @@ module _ (s : State) (ready : IsReady s) (end : IsAtItsEnd (tables s).books (tab
 
   -- the row of the run is there, and closed by its sum it makes the books whole
   pub run_there : (sum : RunSum) (later : State) → IsSumOfOpen sum (tables s).books
-      → IsThere Runs sum.month (with_sum sum) s later tt (λ _. (closed_state (tables s)).books)
+      → IsThere Runs sum.month (with_sum sum) s later (λ _. (closed_state (tables s)).books)
   run_there sum later is =
       let at = (is_open (tables s).books is.0 order.keyed is.1).is in (
         is.0,
@@ -134,10 +134,10 @@ module _ {S : Type 0} (g : Ghosts S) (old begun last : Held S) (is : begun ≡ r
       record { is_open = it.is_open; inside = refl; schema = it.schema; version = it.version; in_order = it.sound.in_order } in
       subst (λ (h : Held S). IsWriting (state g h)) (sym is) begins
 
-  there : HasCleanDisk (state g begun) → IsThere Runs sum.month (with_sum sum) (state g begun) (state g last) tt made
+  there : HasCleanDisk (state g begun) → IsThere Runs sum.month (with_sum sum) (state g begun) (state g last) made
   there clean =
       let was = early clean in
-      subst (λ (h : Held S). IsThere Runs sum.month (with_sum sum) (state g h) (state g last) tt made) (sym is)
+      subst (λ (h : Held S). IsThere Runs sum.month (with_sum sum) (state g h) (state g last) made) (sym is)
       (run_there (state g old) (ready was) (end was) sum (state g last) (of was))
 
   -- so the row that is closed is there
@@ -147,7 +147,8 @@ module _ {S : Type 0} (g : Ghosts S) (old begun last : Held S) (is : begun ≡ r
   pub sum_put : (x : Unit {0}) → (HasCleanDisk (state g last) → StaysInTransaction (state g begun) (state g last))
       → (HasCleanDisk (state g last) → Amends run_shape nat_cmp sum.month (with_sum sum) (state g begun) (state g last))
       → CommitsNothing (state g begun) (state g last) → TurnsBooks made (Ok x) (state g begun) (state g last)
-  sum_put x on amended crash = changed Runs sum.month (with_sum sum) (state g begun) (state g last) tt made (Ok x) writing there on amended (λ _. tt) crash
+  sum_put x on amended crash = changed Runs sum.month (with_sum sum) (state g begun) (state g last) made (Ok x) (λ _. tt) writing there on amended
+      (λ _. tt) crash
 
 -- the table of runs is in order as the transaction begins
 module _ {S : Type 0} (g : Ghosts S) (old begun : Held S) (is : begun ≡ record old { in_transaction = true })

@@ -2,18 +2,21 @@
 use Rattle.std.proofs.Common.{◌≡◌, ◌∙◌, sym, ap, subst, ℕ, ◌+◌, ◌<◌, Bool, true, false, nat_lt, if◌then◌else◌, List, length, Some, arith}
 use Rattle.std.specs.Prelude.{slice_index_or, option_copied, slice_get, Option}
 use Rattle.std.specs.Borrow.{Bor}
+use Rattle.std.specs.FinMap.{get}
 use Rattle.std.proofs.lemmas.Option.{get_or_from_slice_get, slice_get_within}
 use Rattle.std.proofs.lemmas.Bool.Decides.{nat_tests}
 use Rattle.dh_model.specs.declared.open_run.OpenRun.{OpenRun}
 use Rattle.dh_model.specs.Books.{Books, State}
-use Rattle.dh_model.specs.Runs.{batch_size, batches, charge_key, part_key, posted_charges, posted_parts}
+use Rattle.dh_model.specs.Runs.{batch_size, batches, charge_key, part_fee_key, part_key, posted_charges, posted_fees, posted_parts}
 use Rattle.dh_model.specs.Whole.{with_posted}
 use Rattle.dh_model.proofs.KeyOrders.{nat_text_ties, nat_text_total, nats_tie, nats_total}
 use Rattle.dh_laws.specs.Batches.{next_batch, next_of, with_batch}
 use Rattle.dh_laws.specs.InOrder.{IsInOrder}
 use Rattle.dh_laws.specs.StateTables.{IsStateInOrder}
 use Rattle.dh_laws.proofs.MovingBatches.{with_batches}
-use Rattle.dh_laws.proofs.PostCharged.{charge_month, charges_fit, part_month, parts_fit}
+use Rattle.dh_laws.proofs.PostCharged.{charge_month, charges_fit, fee_month, fees_fit, part_month, parts_fit}
+use Rattle.dh_laws.proofs.PostFees.{fees_posted}
+use Rattle.dh_laws.proofs.PostWhole.{is_open}
 use Rattle.dh_laws.proofs.PostMonth.{stays}
 use Rattle.dh_leases.specs.declared.planning.BatchRows.{BatchRows}
 use Rattle.dh_leases.specs.declared.planning.Plan.{Plan}
@@ -26,11 +29,18 @@ use Rattle.dh_runs.specs.Batches.{batch_told}
 pub own_stage : (books : Books) (run : OpenRun) → IsInOrder batch_size books (Some run) → with_posted batch_size books run.month run.done ≡ books
 own_stage books run order =
     let shown = order.shown.3 in
+    let row = order.shown.0 in
+    let own : row.month ≡ run.month = order.shown.2 in
+    let at = is_open books row order.keyed order.shown.1 in
+    let here = subst (λ month. get books.runs month ≡ Some row) own at.is in
     let charges = stays charge_key charge_month nats_total nats_tie books.charges run.month (posted_charges batch_size books run.month run.done)
     (charges_fit batch_size books order.keyed order.rules run.month run.done) shown.charges in
     let parts = stays part_key part_month nat_text_total nat_text_ties books.parts run.month (posted_parts batch_size books run.month run.done)
     (parts_fit batch_size books order.keyed order.rules run.month run.done) shown.parts in
-    λ i. record books { charges = charges i; parts = parts i }
+    let fees = stays part_fee_key fee_month nat_text_total nat_text_ties books.part_fees run.month (posted_fees batch_size books run.month run.done)
+    (fees_fit batch_size books order.keyed order.rules run.month run.done)
+    (fees_posted batch_size books order.keyed order.rules run.month run.done shown row here at.open_still) in
+    λ i. record books { charges = charges i; parts = parts i; part_fees = fees i }
 
 -- the first of a list that is there
 pub first_is : (rows : List BatchRows) (view : List BatchRows) (found : Option (Bor BatchRows)) {row : Bor BatchRows} → view ≡ rows

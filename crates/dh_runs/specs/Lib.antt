@@ -1,5 +1,6 @@
 pub mod Batches
 pub mod Closing
+pub mod Planning
 pub mod Putting
 pub use Rattle.dh_types.specs.Records
 pub use Rattle.dh_types.specs.Reports

@@ -6,8 +6,6 @@ ghost use Rattle.std.specs.FinMap as fin;
 ghost use Rattle.sqlite.specs.State.{HasCleanDisk};
 ghost use Rattle.sqlite.specs.Held.{state};
 ghost use Rattle.sqlite_trees.specs.View.{doubt};
-ghost use Rattle.dh_days.specs.declared.limits.TheConstants.{FIRST_MONTH};
-ghost use Rattle.dh_model.specs.Books.{start};
 ghost use Rattle.dh_model.specs.Runs.{batch_size, batches_for};
 ghost use Rattle.dh_model.specs.Whole.{batches_shown};
 ghost use Rattle.dh_leases.specs.Plans.{HaveTheLeases, IsPlanOf, IsPlanned};
@@ -15,14 +13,15 @@ ghost use Rattle.dh_schema.specs.Faults.{IsFirstFault};
 ghost use Rattle.dh_schema.specs.Store.{IsReady, Leaves, StaysReady, tables};
 ghost use Rattle.dh_store.specs.Reading.{OnlyReads};
 ghost use Rattle.dh_runs.specs.Batches.{CanBePosted, HasRoom};
+ghost use Rattle.dh_runs.specs.Planning.{with_branches, with_lettings};
 
 use dh_books::Books;
 use dh_leases::{Plan, batches_for, plan_of};
 use dh_model::OpenRun;
 use dh_schema::StoreFault;
-use dh_store::{find_open_run, look, look_at_all, look_at_endings, months_now, no_rows};
+use dh_store::{find_open_run, look, look_at_all, look_at_later, months_now, no_rows, no_rows_of};
 use dh_tables::PartsOfMonth;
-use dh_types::{Branch, EntryMonth, Lease, Property};
+use dh_types::{Branch, BranchFee, Ending, EntryMonth, Lease, Property};
 use sqlite::{Alter, Connection};
 use std::alloc::Global;
 
@@ -76,21 +75,51 @@ fn run_now<S: Alter>(alloc: Global, conn: &mut Connection<S>) -> Result<Option<O
     }))
 }
 
-// Puts the branches, the properties, the leases and the endings into books that have no row.
-fn look_at_leases<S: Alter>(
+// Puts the branches with their fees into books that have none.
+fn look_at_branches<S: Alter>(
     alloc: Global,
     conn: &mut Connection<S>,
     books: &mut Books,
 ) -> Result<(), StoreFault>
     requires ready { HasCleanDisk (state S.Store conn.old) → IsReady (state S.Store conn.old) }
-    requires none { books.old ≡ start FIRST_MONTH }
-    ensures taken { HasCleanDisk (state S.Store conn.new) → OnOk result (HaveTheLeases books.new.books (tables (state S.Store conn.old)).books) }
+    requires branches { HasCleanDisk (state S.Store conn.old) → books.old.books.branches ≡ fin.empty }
+    requires fees { HasCleanDisk (state S.Store conn.old) → books.old.books.branch_fees ≡ fin.empty }
+    ensures taken { HasCleanDisk (state S.Store conn.new) → OnOk result (books.new ≡ with_branches (tables (state S.Store conn.old)).books books.old) }
     ensures reads { OnlyReads (state S.Store conn.old) (state S.Store conn.new) result }
 {
     look_at_all::<Branch, S>(alloc, conn, books)?;
+    look_at_later::<BranchFee, S>(alloc, conn, books)
+}
+
+// Puts the properties, the leases and the endings into books that have none.
+fn look_at_lettings<S: Alter>(
+    alloc: Global,
+    conn: &mut Connection<S>,
+    books: &mut Books,
+) -> Result<(), StoreFault>
+    requires ready { HasCleanDisk (state S.Store conn.old) → IsReady (state S.Store conn.old) }
+    requires properties { HasCleanDisk (state S.Store conn.old) → books.old.books.properties ≡ fin.empty }
+    requires leases { HasCleanDisk (state S.Store conn.old) → books.old.books.leases ≡ fin.empty }
+    requires endings { HasCleanDisk (state S.Store conn.old) → books.old.books.endings ≡ fin.empty }
+    ensures taken { HasCleanDisk (state S.Store conn.new) → OnOk result (books.new ≡ with_lettings (tables (state S.Store conn.old)).books books.old) }
+    ensures reads { OnlyReads (state S.Store conn.old) (state S.Store conn.new) result }
+{
     look_at_all::<Property, S>(alloc, conn, books)?;
     look_at_all::<Lease, S>(alloc, conn, books)?;
-    look_at_endings(alloc, conn, books)
+    look_at_later::<Ending, S>(alloc, conn, books)
+}
+
+// Books of the version of the tables, with their branches and fees, their properties, leases and endings.
+fn books_of_leases<S: Alter>(alloc: Global, conn: &mut Connection<S>) -> Result<Books, StoreFault>
+    requires { HasCleanDisk (state S.Store conn.old) → IsReady (state S.Store conn.old) }
+    ensures taken { HasCleanDisk (state S.Store conn.new) → IfOk result (λ books. HaveTheLeases books.books (tables (state S.Store conn.old)).books) }
+    ensures reads { OnlyReads (state S.Store conn.old) (state S.Store conn.new) result }
+{
+    let months = months_now(alloc, conn)?;
+    let mut books = no_rows_of(alloc, months.version());
+    look_at_branches(alloc, conn, &mut books)?;
+    look_at_lettings(alloc, conn, &mut books)?;
+    Ok(books)
 }
 
 // The batches that the run lacks, which is the open one.
@@ -106,16 +135,15 @@ fn plan_open<S: Alter>(
     ensures postable { IfOk result CanBePosted }
     ensures reads { OnlyReads (state S.Store conn.old) (state S.Store conn.new) result }
 {
-    let mut books = no_rows(alloc);
-    look_at_leases(alloc, conn, &mut books)?;
+    let books = books_of_leases(alloc, conn)?;
     match plan_of(alloc, &books, run) {
         Ok(plan) => Ok(plan),
         Err(error) => Err(error.into()),
     }
 }
 
-/// The batches that the open run lacks, or `None` where no run is open. It reads the branches, the properties, the leases, the endings
-/// and what the run has so far, once, and changes nothing, at a fault too.
+/// The batches that the open run lacks, or `None` where no run is open. It reads the branches with their fees, the properties, the leases, the
+/// endings and what the run has so far, once, and changes nothing, at a fault too.
 pub fn plan_run<S: Alter>(
     alloc: Global,
     conn: &mut Connection<S>,

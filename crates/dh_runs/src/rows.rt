@@ -1,19 +1,19 @@
 //! The rows of a batch put into their tables, within a transaction.
 
-ghost use Rattle.std.specs.Prelude.{◌≡◌, ◌≤◌, All, None, is_some};
+ghost use Rattle.std.specs.Prelude.{◌≡◌, ◌≤◌, [], ◌∷◌, All, None, IfSome, is_some};
 ghost use Rattle.std.specs.FinMap.{get};
 ghost use Rattle.sqlite.specs.State.{HasCleanDisk};
 ghost use Rattle.sqlite.specs.Held.{state};
 ghost use Rattle.dh_days.specs.Days.{month_of_day};
 ghost use Rattle.dh_days.specs.declared.limits.TheConstants.{LAST_ENTRY_MONTH};
 ghost use Rattle.dh_model.specs.Runs.{charge_key, part_key};
-ghost use Rattle.dh_leases.specs.Plans.{AreNew, FallsInTime, HasItsPart};
+ghost use Rattle.dh_leases.specs.Plans.{AreNew, FallsInTime, HasItsFeeRow, HasItsPart, some_row};
 ghost use Rattle.dh_schema.specs.Store.{IsWriting, tables};
-ghost use Rattle.dh_runs.specs.Putting.{TurnsBooks, with_charge, with_charges, with_part, with_rows_of};
+ghost use Rattle.dh_runs.specs.Putting.{TurnsBooks, with_charge, with_charges, with_fees, with_part, with_rows_of};
 
 use dh_leases::BatchRows;
 use dh_tables::{insert, update};
-use dh_types::{Charge, Part};
+use dh_types::{Charge, Part, PartFee};
 use sqlite::{Alter, Error, Transaction};
 use std::alloc::Global;
 
@@ -71,7 +71,45 @@ fn put_part<S: Alter>(
     }
 }
 
-/// Puts the charges, which are new, and the part row, in the place of the one that the branch has, if it has one.
+// Puts the fee row, in the place of the one that its part has, if it has one.
+fn put_fee<S: Alter>(
+    alloc: Global,
+    tx: &mut Transaction<'_, S>,
+    fee: &PartFee,
+    has_part: bool,
+) -> Result<(), Error>
+    requires writing { HasCleanDisk (state S.Store tx.old.conn.now) → IsWriting (state S.Store tx.old.conn.now) }
+    requires known { HasCleanDisk (state S.Store tx.old.conn.now) → HasItsFeeRow has_part (tables (state S.Store tx.old.conn.now)) fee.now }
+    ensures same_reference { tx.new.conn.ghost_name ≡ tx.old.conn.ghost_name }
+    ensures puts { TurnsBooks (with_fees (fee.now ∷ [])) result (state S.Store tx.old.conn.now) (state S.Store tx.new.conn.now) }
+{
+    if has_part {
+        update(alloc, tx, fee)
+    } else {
+        insert(alloc, tx, fee)
+    }
+}
+
+// Puts the fee row, if there is one.
+fn put_some_fee<S: Alter>(
+    alloc: Global,
+    tx: &mut Transaction<'_, S>,
+    fee: &Option<PartFee>,
+    has_part: bool,
+) -> Result<(), Error>
+    requires writing { HasCleanDisk (state S.Store tx.old.conn.now) → IsWriting (state S.Store tx.old.conn.now) }
+    requires known { HasCleanDisk (state S.Store tx.old.conn.now)
+        → IfSome fee.now (HasItsFeeRow has_part (tables (state S.Store tx.old.conn.now))) }
+    ensures same_reference { tx.new.conn.ghost_name ≡ tx.old.conn.ghost_name }
+    ensures puts { TurnsBooks (with_fees (some_row fee.now)) result (state S.Store tx.old.conn.now) (state S.Store tx.new.conn.now) }
+{
+    match fee {
+        Some(fee) => put_fee(alloc, tx, fee, has_part),
+        None => Ok(()),
+    }
+}
+
+/// Puts the charges, which are new, and the part row and the fee row, in the place of those that the branch has, if it has them.
 pub(crate) fn put_rows<S: Alter>(
     alloc: Global,
     tx: &mut Transaction<'_, S>,
@@ -85,5 +123,6 @@ pub(crate) fn put_rows<S: Alter>(
     ensures puts { TurnsBooks (with_rows_of rows.now) result (state S.Store tx.old.conn.now) (state S.Store tx.new.conn.now) }
 {
     put_charges(alloc, tx, &rows.charges)?;
-    put_part(alloc, tx, &rows.part, rows.has_part)
+    put_part(alloc, tx, &rows.part, rows.has_part)?;
+    put_some_fee(alloc, tx, &rows.fee, rows.has_part)
 }

@@ -30,7 +30,7 @@ use Rattle.dh_tables.specs.MetaTable.{AreMonths, HasMonths, SetsMonths, SetsNext
 use Rattle.dh_model.specs.Kinds.{HasKind, Kind, came_with, order_of, record_of}
 use Rattle.dh_schema.specs.Kinds.{shape_of, shelf_of}
 use Rattle.dh_model.specs.Kinds.{Branches, Staff, Owners, Properties, Clients, Registrations, Viewings, Inspections, Leases, Charges, Receipts, Runs}
-use Rattle.dh_model.specs.Kinds.{Parts, Endings}
+use Rattle.dh_model.specs.Kinds.{Parts, BranchFees, PartFees, Endings}
 use Rattle.dh_schema.specs.Store.{AreTables, HasItsSchema, with_change}
 use Rattle.dh_schema.specs.Tables.{AreInOrder, IsTableInOrder, books_in, loaded_from, months_of, records_in, rows_since, version_of_tables}
 use Rattle.dh_schema.proofs.EachKind.{all_since, beside_meta, held_beside, held_in, listed, meta_listed, months_beside, one_kind, place_of}
@@ -181,6 +181,8 @@ module _ (next : ℕ) (old new : State) (its : HasItsSchema old) (before : AreIn
         receipts = records_go_on Receipts i;
         runs = records_go_on Runs i;
         parts = records_go_on Parts i;
+        branch_fees = records_go_on BranchFees i;
+        part_fees = records_go_on PartFees i;
         endings = records_go_on Endings i;
         first = first i;
         next = later i;

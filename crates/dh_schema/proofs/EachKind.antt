@@ -23,11 +23,13 @@ use Rattle.dh_catalog.specs.ChargeTable.{charge}
 use Rattle.dh_catalog.specs.ReceiptTable.{receipt}
 use Rattle.dh_catalog.specs.RunTable.{run}
 use Rattle.dh_catalog.specs.PartTable.{part}
+use Rattle.dh_catalog.specs.BranchFeeTable.{branch_fee}
+use Rattle.dh_catalog.specs.PartFeeTable.{part_fee}
 use Rattle.dh_catalog.specs.EndingTable.{ending}
 use Rattle.dh_model.specs.Kinds.{HasKind, IsSince, Kind, came_with, order_of, record_of}
 use Rattle.dh_schema.specs.Kinds.{shape_of, shelf_of}
 use Rattle.dh_model.specs.Kinds.{Branches, Staff, Owners, Properties, Clients, Registrations, Viewings, Inspections, Leases, Charges, Receipts, Runs}
-use Rattle.dh_model.specs.Kinds.{Parts, Endings}
+use Rattle.dh_model.specs.Kinds.{Parts, BranchFees, PartFees, Endings}
 use Rattle.dh_schema.specs.Tables.{empty_over, loaded_from, records_in, rows_since, version_of_tables}
 
 -- ---- the table
@@ -50,6 +52,8 @@ place_of Charges = 10
 place_of Receipts = 11
 place_of Runs = 12
 place_of Parts = 13
+place_of BranchFees = 14
+place_of PartFees = 15
 place_of Endings = 16
 
 abbrev pub table_of : Kind → Table
@@ -66,10 +70,14 @@ table_of Charges = charge
 table_of Receipts = receipt
 table_of Runs = run
 table_of Parts = part
+table_of BranchFees = branch_fee
+table_of PartFees = part_fee
 table_of Endings = ending
 
 -- each table that the version has stands at its place
 pub listed : (version : Version) (kind : Kind) → HasKind version kind → slice_get (schema_of version).tables (place_of kind) ≡ Some (table_of kind)
+listed First BranchFees has = let none : First ≡ Second = has in cc
+listed First PartFees has = let none : First ≡ Second = has in cc
 listed First Endings has = let none : First ≡ Second = has in cc
 listed First Branches has = refl
 listed First Staff has = refl
@@ -97,6 +105,8 @@ listed Second Charges has = refl
 listed Second Receipts has = refl
 listed Second Runs has = refl
 listed Second Parts has = refl
+listed Second BranchFees has = refl
+listed Second PartFees has = refl
 listed Second Endings has = refl
 
 pub tree_is : (kind : Kind) → (table_of kind).tree ≡ (shape_of kind).tree
@@ -113,6 +123,8 @@ tree_is Charges = refl
 tree_is Receipts = refl
 tree_is Runs = refl
 tree_is Parts = refl
+tree_is BranchFees = refl
+tree_is PartFees = refl
 tree_is Endings = refl
 
 -- no kind has meta's tree
@@ -130,6 +142,8 @@ beside_meta Charges = (refl, refl)
 beside_meta Receipts = (refl, refl)
 beside_meta Runs = (refl, refl)
 beside_meta Parts = (refl, refl)
+beside_meta BranchFees = (refl, refl)
+beside_meta PartFees = (refl, refl)
 beside_meta Endings = (refl, refl)
 
 -- and no two have one
@@ -147,6 +161,8 @@ one_kind Charges Charges h = refl
 one_kind Receipts Receipts h = refl
 one_kind Runs Runs h = refl
 one_kind Parts Parts h = refl
+one_kind BranchFees BranchFees h = refl
+one_kind PartFees PartFees h = refl
 one_kind Endings Endings h = refl
 one_kind _ _ h = cc
 
@@ -170,6 +186,8 @@ same_books a b held first next version run = λ i. record {
     receipts = held Receipts i;
     runs = held Runs i;
     parts = held Parts i;
+    branch_fees = held BranchFees i;
+    part_fees = held PartFees i;
     endings = held Endings i;
     first = first i;
     next = next i;
@@ -192,6 +210,8 @@ held_in Charges trees = refl
 held_in Receipts trees = refl
 held_in Runs trees = refl
 held_in Parts trees = refl
+held_in BranchFees trees = refl
+held_in PartFees trees = refl
 held_in Endings trees = refl
 
 -- the rows of what the version has are all that the table has
@@ -221,6 +241,8 @@ none_held Charges months = refl
 none_held Receipts months = refl
 none_held Runs months = refl
 none_held Parts months = refl
+none_held BranchFees months = refl
+none_held PartFees months = refl
 none_held Endings months = refl
 
 -- records put in beside those of another kind leave these
@@ -239,6 +261,8 @@ held_beside Charges Charges s m h = cc
 held_beside Receipts Receipts s m h = cc
 held_beside Runs Runs s m h = cc
 held_beside Parts Parts s m h = cc
+held_beside BranchFees BranchFees s m h = cc
+held_beside PartFees PartFees s m h = cc
 held_beside Endings Endings s m h = cc
 held_beside _ _ s m h = refl
 
@@ -263,4 +287,6 @@ months_beside Charges s m = record { first = refl; next = refl; version = refl; 
 months_beside Receipts s m = record { first = refl; next = refl; version = refl; open_run = refl }
 months_beside Runs s m = record { first = refl; next = refl; version = refl; open_run = refl }
 months_beside Parts s m = record { first = refl; next = refl; version = refl; open_run = refl }
+months_beside BranchFees s m = record { first = refl; next = refl; version = refl; open_run = refl }
+months_beside PartFees s m = record { first = refl; next = refl; version = refl; open_run = refl }
 months_beside Endings s m = record { first = refl; next = refl; version = refl; open_run = refl }

@@ -105,10 +105,10 @@ module _ (months : Months) (before after : State) (has : before.now.schema ≡ s
       shows_none = λ i. record { books = (empty_over months).books; open_run = no_run months i }
 
 -- with one month they are sound: they have no row
-pub new_tables : (first : ℕ) (before after : State) → before.now.schema ≡ schema_of First → AreEmpty (schema_of First).tables before.now.trees
-    → SetsMonths (record { version = First; first = first; next = first }) before after → AreTables (λ t. t ≡ machine.start first) after.now.trees
+pub new_tables : (first : ℕ) (before after : State) → before.now.schema ≡ schema_of Second → AreEmpty (schema_of Second).tables before.now.trees
+    → SetsMonths (record { version = Second; first = first; next = first }) before after → AreTables (λ t. t ≡ machine.start first) after.now.trees
 new_tables first before after has bare set =
-    let made = new_in_order (record { version = First; first = first; next = first }) before after has bare set in
+    let made = new_in_order (record { version = Second; first = first; next = first }) before after has bare set in
     let rules = (empty_books_are_in_order batch_size first).rules in
     (record { in_order = made.0; rules = subst (λ (t : machine.State). MeetsRules t.books batch_size) (sym made.1) rules }, made.1)
 

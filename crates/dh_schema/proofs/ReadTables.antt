@@ -22,7 +22,7 @@ use Rattle.dh_schema.specs.declared.load_fault.LoadFault.{LoadFault}
 use Rattle.dh_model.specs.Kinds.{HasKind, Kind, order_of}
 use Rattle.dh_schema.specs.Kinds.{shape_of, shelf_of}
 use Rattle.dh_model.specs.Kinds.{Branches, Staff, Owners, Properties, Clients, Registrations, Viewings, Inspections, Leases, Charges, Receipts, Runs}
-use Rattle.dh_model.specs.Kinds.{Parts, Endings}
+use Rattle.dh_model.specs.Kinds.{Parts, BranchFees, PartFees, Endings}
 use Rattle.dh_schema.specs.Loaded.{AllAreRecords, AreLoaded, HasNone, Loads, Reads, first_kinds, kinds_of, with_records}
 use Rattle.dh_schema.specs.Store.{Keeps}
 use Rattle.dh_schema.specs.Tables.{AreInOrder, AreRecords, HasValues, IsTableInOrder, empty_over, loaded_from, rows_since, version_of_tables}
@@ -119,7 +119,28 @@ of_each P Second each = (
             each Registrations tt,
             (
               each Viewings tt,
-              (each Inspections tt, (each Leases tt, (each Charges tt, (each Receipts tt, (each Runs tt, (each Parts tt, (each Endings refl, tt))))))),
+              (
+                each Inspections tt,
+                (
+                  each Leases tt,
+                  (
+                    each Charges tt,
+                    (
+                      each Receipts tt,
+                      (
+                        each Runs tt,
+                        (
+                          each Parts tt,
+                          (
+                            each BranchFees refl,
+                            (each PartFees refl, (each Endings refl, tt)),
+                          ),
+                        ),
+                      ),
+                    ),
+                  ),
+                ),
+              ),
             ),
           ),
         ),
@@ -130,6 +151,8 @@ of_each P Second each = (
 
 -- and the other way round
 pub each_of : (P : Kind → Type 0) (version : Version) → AllByRecursion P (kinds_of version) → (kind : Kind) → HasKind version kind → P kind
+each_of P First all BranchFees has = let none : First ≡ Second = has in cc
+each_of P First all PartFees has = let none : First ≡ Second = has in cc
 each_of P First all Endings has = let none : First ≡ Second = has in cc
 each_of P First all Branches has = all.0
 each_of P First all Staff has = all.1.0
@@ -157,7 +180,9 @@ each_of P Second all Charges has = all.1.1.1.1.1.1.1.1.1.0
 each_of P Second all Receipts has = all.1.1.1.1.1.1.1.1.1.1.0
 each_of P Second all Runs has = all.1.1.1.1.1.1.1.1.1.1.1.0
 each_of P Second all Parts has = all.1.1.1.1.1.1.1.1.1.1.1.1.0
-each_of P Second all Endings has = all.1.1.1.1.1.1.1.1.1.1.1.1.1.0
+each_of P Second all BranchFees has = all.1.1.1.1.1.1.1.1.1.1.1.1.1.0
+each_of P Second all PartFees has = all.1.1.1.1.1.1.1.1.1.1.1.1.1.1.0
+each_of P Second all Endings has = all.1.1.1.1.1.1.1.1.1.1.1.1.1.1.1.0
 
 -- ---- one table after the other
 
@@ -251,10 +276,12 @@ stopped {ks = ks} ls {fault = fault} {old = old} {new = new} {before = before} {
 -- ---- all of them
 
 module _ (trees : Trees) (months : Months) (meta : HasMonths months trees) where
-  -- the books with these months, and with the endings that the version has
+  -- the books with these months, and with the fees and the endings that the version has
   abbrev over : machine.State → Months → machine.State
   over read m = record read {
     books = record read.books {
+      branch_fees = rows_since Second m.version (rows_in (shape_of BranchFees) {R = order_of BranchFees} trees);
+      part_fees = rows_since Second m.version (rows_in (shape_of PartFees) {R = order_of PartFees} trees);
       endings = rows_since Second m.version (rows_in (shape_of Endings) {R = order_of Endings} trees);
       first = m.first;
       next = m.next;
@@ -267,12 +294,20 @@ module _ (trees : Trees) (months : Months) (meta : HasMonths months trees) where
   read_over First is =
       let read = with_records first_kinds trees (empty_over months) in
       ap (λ (v : Version). let s : machine.State = record read {
-        books = record read.books { endings = rows_since Second v (rows_in (shape_of Endings) {R = order_of Endings} trees) };
+        books = record read.books {
+          branch_fees = rows_since Second v (rows_in (shape_of BranchFees) {R = order_of BranchFees} trees);
+          part_fees = rows_since Second v (rows_in (shape_of PartFees) {R = order_of PartFees} trees);
+          endings = rows_since Second v (rows_in (shape_of Endings) {R = order_of Endings} trees);
+        };
       } in s) (sym is)
   read_over Second is =
       let read = with_records first_kinds trees (empty_over months) in
       ap (λ (v : Version). let s : machine.State = record read {
-        books = record read.books { endings = rows_since Second v (rows_in (shape_of Endings) {R = order_of Endings} trees) };
+        books = record read.books {
+          branch_fees = rows_since Second v (rows_in (shape_of BranchFees) {R = order_of BranchFees} trees);
+          part_fees = rows_since Second v (rows_in (shape_of PartFees) {R = order_of PartFees} trees);
+          endings = rows_since Second v (rows_in (shape_of Endings) {R = order_of Endings} trees);
+        };
       } in s) (sym is)
 
   pub loaded_books : (version : Version) → months.version ≡ version → (books : machine.State) → AreLoaded (kinds_of version) trees (empty_over months) books

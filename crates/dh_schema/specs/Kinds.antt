@@ -1,7 +1,7 @@
 -- How the records of each kind stand in their table.
 use Rattle.dh_model.specs.Kinds.{Kind, key_of, order_of, record_of}
 use Rattle.dh_model.specs.Kinds.{Branches, Staff, Owners, Properties, Clients, Registrations, Viewings, Inspections, Leases, Charges, Receipts, Runs}
-use Rattle.dh_model.specs.Kinds.{Parts, Endings}
+use Rattle.dh_model.specs.Kinds.{Parts, BranchFees, PartFees, Endings}
 use Rattle.dh_sql.specs.Shape.{Shape}
 use Rattle.dh_tables.specs.Tables.{Shelf}
 use Rattle.dh_tables.specs.BranchTable.{branch_shape, branch_shelf}
@@ -17,6 +17,8 @@ use Rattle.dh_tables.specs.ChargeTable.{charge_shape, charge_shelf}
 use Rattle.dh_tables.specs.ReceiptTable.{receipt_shape, receipt_shelf}
 use Rattle.dh_tables.specs.RunTable.{run_shape, run_shelf}
 use Rattle.dh_tables.specs.PartTable.{part_shape, part_shelf}
+use Rattle.dh_tables.specs.BranchFeeTable.{branch_fee_shape, branch_fee_shelf}
+use Rattle.dh_tables.specs.PartFeeTable.{part_fee_shape, part_fee_shelf}
 use Rattle.dh_tables.specs.EndingTable.{ending_shape, ending_shelf}
 
 abbrev pub shape_of : (kind : Kind) → Shape (key_of kind) (record_of kind)
@@ -33,6 +35,8 @@ shape_of Charges = charge_shape
 shape_of Receipts = receipt_shape
 shape_of Runs = run_shape
 shape_of Parts = part_shape
+shape_of BranchFees = branch_fee_shape
+shape_of PartFees = part_fee_shape
 shape_of Endings = ending_shape
 
 -- where the books have them
@@ -50,4 +54,6 @@ shelf_of Charges = charge_shelf
 shelf_of Receipts = receipt_shelf
 shelf_of Runs = run_shelf
 shelf_of Parts = part_shelf
+shelf_of BranchFees = branch_fee_shelf
+shelf_of PartFees = part_fee_shelf
 shelf_of Endings = ending_shelf

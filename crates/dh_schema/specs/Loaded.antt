@@ -15,7 +15,7 @@ use Rattle.dh_schema.specs.LoadFaults.{IsLoadFault}
 use Rattle.dh_model.specs.Kinds.{Kind}
 use Rattle.dh_schema.specs.Kinds.{shape_of, shelf_of}
 use Rattle.dh_model.specs.Kinds.{Branches, Staff, Owners, Properties, Clients, Registrations, Viewings, Inspections, Leases, Charges, Receipts, Runs}
-use Rattle.dh_model.specs.Kinds.{Parts, Endings}
+use Rattle.dh_model.specs.Kinds.{Parts, BranchFees, PartFees, Endings}
 use Rattle.dh_schema.specs.Tables.{AreRecords, IsTableInOrder}
 
 -- ---- the kinds in the order in which they are read
@@ -38,7 +38,7 @@ first_kinds = people ++ lettings ++ accounts ++ rent_runs
 
 -- and those that came with the second
 abbrev pub later_kinds : List Kind
-later_kinds = Endings ∷ []
+later_kinds = BranchFees ∷ PartFees ∷ Endings ∷ []
 
 abbrev pub kinds_of : Version → List Kind
 kinds_of First = first_kinds

@@ -22,7 +22,7 @@ use Rattle.dh_tables.specs.MetaTable.{HasMonths, meta_rows}
 use Rattle.dh_model.specs.Kinds.{HasKind, Kind, came_with, order_of, record_of}
 use Rattle.dh_schema.specs.Kinds.{shape_of}
 use Rattle.dh_model.specs.Kinds.{Branches, Staff, Owners, Properties, Clients, Registrations, Viewings, Inspections, Leases, Charges, Receipts, Runs}
-use Rattle.dh_model.specs.Kinds.{Parts, Endings}
+use Rattle.dh_model.specs.Kinds.{Parts, BranchFees, PartFees, Endings}
 
 -- the version and the months of meta's only row
 abbrev pub months_of : List Row → Months
@@ -59,6 +59,8 @@ books_in trees = record {
   receipts = records_in Receipts trees;
   runs = records_in Runs trees;
   parts = records_in Parts trees;
+  branch_fees = records_in BranchFees trees;
+  part_fees = records_in PartFees trees;
   endings = records_in Endings trees;
   first = (months_of (meta_rows trees)).first;
   next = (months_of (meta_rows trees)).next;

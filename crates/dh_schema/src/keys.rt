@@ -2,13 +2,14 @@
 
 use crate::finding::KeyedRecord;
 use dh_tables::{
-    BranchNumbered, ChargeOf, ClientNumbered, EndingOf, InspectionOf, LeaseNumbered,
-    MemberNumbered, OwnerNumbered, PartOf, PropertyNumbered, ReceiptNumbered, RegistrationAt,
-    RunOf, ViewingOf,
+    BranchNumbered, ChargeOf, ClientNumbered, EndingOf, FeeOfBranch, FeeOfPart, InspectionOf,
+    LeaseNumbered, MemberNumbered, OwnerNumbered, PartOf, PropertyNumbered, ReceiptNumbered,
+    RegistrationAt, RunOf, ViewingOf,
 };
 use dh_types::{
-    Branch, Charge, ChargeIndex, Client, Ending, EntryDay, EntryMonth, Id, Inspection, Lease,
-    LeaseNo, Owner, Part, Property, Receipt, ReceiptNo, Registration, Run, Staff, Viewing,
+    Branch, BranchFee, Charge, ChargeIndex, Client, Ending, EntryDay, EntryMonth, Id, Inspection,
+    Lease, LeaseNo, Owner, Part, PartFee, Property, Receipt, ReceiptNo, Registration, Run, Staff,
+    Viewing,
 };
 
 impl KeyedRecord for Branch {
@@ -258,6 +259,45 @@ impl KeyedRecord for Part {
     ghost asks_for = { by_number_and_text part_shape };
 
     ghost is_kept = { λ trees order since. (order.tables Parts since).kept };
+}
+
+impl KeyedRecord for BranchFee {
+    ghost use Rattle.dh_tables.specs.BranchFeeTable.{branch_fee_shape};
+    ghost use Rattle.dh_model.specs.Kinds.{BranchFees};
+    ghost use Rattle.dh_tables.proofs.ByKey.{by_text};
+
+    type ByKey = FeeOfBranch;
+
+    ghost question = { λ key. record { branch = key } };
+
+    fn by_key(key: &Id) -> FeeOfBranch {
+        FeeOfBranch { branch: *key }
+    }
+
+    ghost asks_for = { by_text branch_fee_shape };
+
+    ghost is_kept = { λ trees order since. (order.tables BranchFees since).kept };
+}
+
+impl KeyedRecord for PartFee {
+    ghost use Rattle.dh_tables.specs.PartFeeTable.{part_fee_shape};
+    ghost use Rattle.dh_model.specs.Kinds.{PartFees};
+    ghost use Rattle.dh_tables.proofs.ByKey.{by_number_and_text};
+
+    type ByKey = FeeOfPart;
+
+    ghost question = { λ key. record { month = key.0; branch = key.1 } };
+
+    fn by_key(key: &(EntryMonth, Id)) -> FeeOfPart {
+        FeeOfPart {
+            month: key.0,
+            branch: key.1,
+        }
+    }
+
+    ghost asks_for = { by_number_and_text part_fee_shape };
+
+    ghost is_kept = { λ trees order since. (order.tables PartFees since).kept };
 }
 
 impl KeyedRecord for Ending {

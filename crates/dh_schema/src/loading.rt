@@ -17,8 +17,8 @@ use crate::load_fault::LoadFault;
 use dh_books::Books;
 use dh_tables::{Listed, load_all};
 use dh_types::{
-    Branch, Charge, Client, Ending, Inspection, Lease, Owner, Part, Property, Receipt,
-    Registration, Run, Staff, Version, Viewing,
+    Branch, BranchFee, Charge, Client, Ending, Inspection, Lease, Owner, Part, PartFee, Property,
+    Receipt, Registration, Run, Staff, Version, Viewing,
 };
 use sqlite::{Alter, Connection, Error};
 use std::alloc::Global;
@@ -141,7 +141,10 @@ fn load_later<S: Alter>(
     requires none { HasCleanDisk (state S.Store conn.old) → HasNone later_kinds books.old }
     ensures { Loads later_kinds result (state S.Store conn.old) (state S.Store conn.new) books.old books.new }
 {
-    load_table::<Ending, S>(alloc, conn, books)
+    load_table::<BranchFee, S>(alloc, conn, books)?;
+    load_table::<PartFee, S>(alloc, conn, books)?;
+    load_table::<Ending, S>(alloc, conn, books)?;
+    Ok(())
 }
 
 // All kinds of the second version.

@@ -17,7 +17,7 @@ use dh_types::{Month, Version};
 use sqlite::{Alter, Connection, Error};
 use std::alloc::Global;
 
-// Makes the tables of the first version for empty books that begin with this month, in one transaction.
+// Makes the tables of the second version for empty books that begin with this month, in one transaction.
 fn make_tables<S: Alter>(alloc: Global, conn: &mut Connection<S>, first: Month) -> Result<(), Error>
     requires range { first ≤ LAST_ENTRY_MONTH }
     requires autocommit { (state S.Store conn.old).in_transaction ≡ false }
@@ -31,13 +31,13 @@ fn make_tables<S: Alter>(alloc: Global, conn: &mut Connection<S>, first: Month) 
     ensures survives { Commits (state S.Store conn.old) (state S.Store conn.new) (λ t. t ≡ start first) }
 {
     let mut tx = conn.transaction();
-    create_all(&mut tx, Version::First)?;
-    insert_meta(alloc, &mut tx, &Meta::new(Version::First, first, first))?;
+    create_all(&mut tx, Version::Second)?;
+    insert_meta(alloc, &mut tx, &Meta::new(Version::Second, first, first))?;
     tx.commit()?;
     Ok(())
 }
 
-/// Makes the tables of the first version for empty books that begin with this month, in one transaction.
+/// Makes the tables of the second version for empty books that begin with this month, in one transaction.
 /// A file that has an object already is refused as a fault of the store, and nothing changes.
 pub fn install<S: Alter>(
     alloc: Global,

@@ -1,8 +1,10 @@
-//! The rows of leases, of their early ends, of what is charged and paid on them, and of rent runs.
+//! The rows of leases, of their early ends, of what is charged and paid on them, of rent runs, and of fees.
 
 use crate::fields::{Fields, Unreadable};
 use crate::requests::command;
-use dh_types::{Charge, Command, Ending, Lease, Part, Receipt, ReceiptNo, Rent, Run};
+use dh_types::{
+    BranchFee, Charge, Command, Ending, Lease, Part, PartFee, Receipt, ReceiptNo, Rent, Run,
+};
 use std::alloc::Global;
 
 // The lease that the command makes, at this rent.
@@ -88,6 +90,24 @@ pub(crate) fn part(fields: &mut Fields) -> Result<Part, Unreadable> {
         branch: fields.id()?,
         through: fields.lease_no_if_any()?,
         count: fields.number()?,
+        total: fields.pence()?,
+    })
+}
+
+/// `BRANCH,FEE`
+pub(crate) fn branch_fee(fields: &mut Fields) -> Result<BranchFee, Unreadable> {
+    Ok(BranchFee {
+        branch: fields.id()?,
+        fee: fields.fee()?,
+    })
+}
+
+/// `MONTH,BRANCH,FEE,TOTAL`
+pub(crate) fn part_fee(fields: &mut Fields) -> Result<PartFee, Unreadable> {
+    Ok(PartFee {
+        month: fields.month()?,
+        branch: fields.id()?,
+        fee: fields.fee()?,
         total: fields.pence()?,
     })
 }

@@ -61,6 +61,16 @@ fn copy_runs(from: &Books, to: &mut Books) -> Result<(), AllocError> {
     Ok(())
 }
 
+fn copy_fees(from: &Books, to: &mut Books) -> Result<(), AllocError> {
+    for it in from.branch_fees() {
+        to.put_branch_fee(*it)?;
+    }
+    for it in from.part_fees() {
+        to.put_part_fee(*it)?;
+    }
+    Ok(())
+}
+
 /// A copy of the books, of the same version. It fails where memory runs out.
 pub fn copy_of(alloc: Global, books: &Books) -> Result<Books, AllocError> {
     let mut copy = Books::new(alloc, books.version(), books.first(), books.next());
@@ -69,5 +79,6 @@ pub fn copy_of(alloc: Global, books: &Books) -> Result<Books, AllocError> {
     copy_properties(alloc, books, &mut copy)?;
     copy_leases(books, &mut copy)?;
     copy_runs(books, &mut copy)?;
+    copy_fees(books, &mut copy)?;
     Ok(copy)
 }

@@ -1,8 +1,8 @@
 //! The fields of a line that is no request.
 
 use dh_types::{
-    BadText, ChargeIndex, Day, EntryDay, EntryMonth, Id, Key, LeaseMonths, LeaseNo, Month, Pence,
-    ReceiptNo, Rent,
+    BadText, ChargeIndex, Day, EntryDay, EntryMonth, Fee, Id, Key, LeaseMonths, LeaseNo, Month,
+    Pence, ReceiptNo, Rent,
 };
 use std::alloc::{AllocError, AllocFailed};
 use std::num::ParseIntError;
@@ -68,6 +68,10 @@ impl<'a> Fields<'a> {
 
     pub fn lease_months(&mut self) -> Result<LeaseMonths, Unreadable> {
         Ok(LeaseMonths::read(self.text()?)?)
+    }
+
+    pub fn fee(&mut self) -> Result<Fee, Unreadable> {
+        Ok(Fee::read(self.text()?)?)
     }
 
     pub fn rent(&mut self) -> Result<Rent, Unreadable> {

@@ -1,8 +1,8 @@
 //! Rows, written as the fields of their lines.
 
 use dh_types::{
-    Branch, Charge, Client, Ending, Inspection, Lease, Owner, Part, Property, Receipt,
-    Registration, Run, Staff, Viewing,
+    Branch, BranchFee, Charge, Client, Ending, Inspection, Lease, Owner, Part, PartFee, Property,
+    Receipt, Registration, Run, Staff, Viewing,
 };
 use std::alloc::{AllocError, Global};
 
@@ -114,6 +114,21 @@ impl ToLine for Lease {
 impl ToLine for Ending {
     fn to_line(&self, alloc: Global) -> Result<String, AllocError> {
         format!(in alloc; "{},{}", self.lease, self.months)
+    }
+}
+
+impl ToLine for BranchFee {
+    fn to_line(&self, alloc: Global) -> Result<String, AllocError> {
+        format!(in alloc; "{},{}", self.branch, self.fee)
+    }
+}
+
+impl ToLine for PartFee {
+    fn to_line(&self, alloc: Global) -> Result<String, AllocError> {
+        format!(in alloc;
+            "{},{},{},{}",
+            self.month, self.branch, self.fee, self.total
+        )
     }
 }
 

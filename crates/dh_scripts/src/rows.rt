@@ -1,11 +1,11 @@
 //! The rows of the books.
 
-use crate::account_rows::{charge, ending, lease, part, receipt, run};
+use crate::account_rows::{branch_fee, charge, ending, lease, part, part_fee, receipt, run};
 use crate::fields::{Fields, Unreadable};
 use crate::requests::command;
 use dh_types::{
-    Branch, Charge, Client, Command, Ending, Inspection, Lease, Month, Owner, Part, Property,
-    Receipt, Registration, Run, Staff, Viewing,
+    Branch, BranchFee, Charge, Client, Command, Ending, Inspection, Lease, Month, Owner, Part,
+    PartFee, Property, Receipt, Registration, Run, Staff, Viewing,
 };
 use std::alloc::Global;
 
@@ -26,6 +26,8 @@ pub enum Row {
     Receipt(Receipt),
     Run(Run),
     Part(Part),
+    BranchFee(BranchFee),
+    PartFee(PartFee),
     Next(Month),
 }
 
@@ -56,6 +58,8 @@ pub fn row_of(alloc: Global, words: &str) -> Result<Row, Unreadable> {
         "receipt" => receipt(alloc, rest).map(Row::Receipt),
         "run" => run(&mut fields).map(Row::Run),
         "part" => part(&mut fields).map(Row::Part),
+        "branch fee" => branch_fee(&mut fields).map(Row::BranchFee),
+        "part fee" => part_fee(&mut fields).map(Row::PartFee),
         "next" => fields.any_month().map(Row::Next),
         _ => row_added(command(alloc, words)?),
     }

@@ -20,7 +20,7 @@ pub enum Manner {
 }
 
 /// Lines under one heading, which is `== NAME`, and behind commas `after NAME` of a block above it and the manner. Books begin
-/// with 2025-01 and no row; they are of the first version, but behind `of the second version`. Between blocks may stand empty
+/// with 2025-01 and no row; they are of the second version, but behind `of the first version`. Between blocks may stand empty
 /// lines, and lines of words behind `#`. A line `99 times from 102: property,P{n},.. -> ok` stands for 99 lines with the numbers
 /// from 102 on. A line that begins with `/ ` goes on with the one above it.
 #[derive(Drop)]
@@ -83,7 +83,7 @@ fn add_words(
 ) -> Result<(), Unreadable> {
     for word in words.split(", ") {
         match (word, manner_of(word)) {
-            ("of the second version", _) => block.version = Version::Second,
+            ("of the first version", _) => block.version = Version::First,
             (_, Some(manner)) => block.manner = manner,
             (_, None) => put_before(alloc, &mut block.before, blocks, word)?,
         }
@@ -95,7 +95,7 @@ fn without_lines(alloc: Global, name: &str) -> Result<Block, AllocError> {
     Ok(Block {
         name: name.to_string(alloc)?,
         manner: Manner::InTurn,
-        version: Version::First,
+        version: Version::Second,
         before: Vec::new(alloc),
         lines: Vec::new(alloc),
     })

@@ -21,7 +21,7 @@ ghost use Rattle.dh_schema.specs.Store.{IsReady, Leaves, StaysReady, tables};
 ghost use Rattle.dh_store.specs.Reading.{OnlyReads};
 
 use crate::looks::{
-    find_open_run, held_leases, look, look_at_all, look_at_endings, months_now, no_rows,
+    find_open_run, held_leases, look, look_at_all, look_at_later, months_now, no_rows,
 };
 use dh_answers::{answer, is_put_off};
 use dh_books::Books;
@@ -30,7 +30,9 @@ use dh_tables::{
     BranchNumbered, ChargesOfLease, ClientNumbered, LeaseNumbered, LeasesOfProperty, PartsOfMonth,
     ReceiptsOfLease, RunOf,
 };
-use dh_types::{Answer, Branch, EntryMonth, Id, Lease, LeaseNo, Property, Question, Refusal};
+use dh_types::{
+    Answer, Branch, Ending, EntryMonth, Id, Lease, LeaseNo, Property, Question, Refusal,
+};
 use sqlite::{Alter, Connection};
 use std::alloc::{AllocError, Global};
 
@@ -48,7 +50,7 @@ fn gather_lettings<S: Alter>(
 {
     look_at_all::<Property, S>(alloc, conn, books)?;
     look_at_all::<Lease, S>(alloc, conn, books)?;
-    look_at_endings(alloc, conn, books)?;
+    look_at_later::<Ending, S>(alloc, conn, books)?;
     Ok(())
 }
 

@@ -10,6 +10,6 @@ mod verdicts;
 pub use answers::look_up;
 pub use changes::apply;
 pub use looks::{
-    KeptRecord, find_open_run, look, look_at_all, look_at_endings, months_now, no_rows,
+    KeptRecord, find_open_run, look, look_at_all, look_at_later, months_now, no_rows, no_rows_of,
 };
 pub use verdicts::ask;

@@ -8,9 +8,9 @@ use dh_types::{Command, Question, Version};
 use std::alloc::{AllocError, Global};
 use std::{io, mem};
 
-/// Books of the first version that begin with 2025-01.
+/// Books of the second version that begin with 2025-01.
 pub fn empty(alloc: Global) -> Books {
-    Books::new(alloc, Version::First, january(), january())
+    Books::new(alloc, Version::Second, january(), january())
 }
 
 // The machine's step: the text of its reply.

@@ -1,8 +1,6 @@
 //! Calls of the layers below an agency, and lines told to one, over tables that were just opened. The power is cut before each.
 
-use dh_agency_scripts::{
-    Lived, all_rows, compare, compare_tables, later_rows, line_over, parted, table_of,
-};
+use dh_agency_scripts::{Lived, all_rows, compare, compare_tables, line_over, parted, table_of};
 use dh_histories::crashing::next_life;
 use dh_scripts::{Block, Tally, script};
 use sqlite::{Alter, Connection};
@@ -55,13 +53,6 @@ fn live_each<S: Alter + Reopen + Drop>(
     Ok(Some(conn))
 }
 
-// The rows of the tables of both versions.
-fn rows_now<S: Alter>(alloc: Global, conn: &mut Connection<S>) -> Result<String, AllocError> {
-    let mut text = all_rows(alloc, conn)?;
-    text.push_str(later_rows(alloc, conn)?.as_str())?;
-    Ok(text)
-}
-
 fn play_over<S: Alter + Reopen + Drop>(
     rt: &HostRuntime,
     tally: &mut Tally,
@@ -74,7 +65,7 @@ fn play_over<S: Alter + Reopen + Drop>(
     let Some(mut ended) = live_each(rt, tally, begun, &block.lines)? else {
         return compare(rt, tally, block.name.as_str(), "not opened", "opened");
     };
-    let tables = rows_now(rt.alloc(), &mut ended);
+    let tables = all_rows(rt.alloc(), &mut ended);
     drop(ended);
     compare_tables(rt, tally, block, tables?.as_str())
 }

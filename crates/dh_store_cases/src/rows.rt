@@ -4,8 +4,8 @@ use dh_agency_scripts::{compare, parted};
 use dh_rows::{Meta, Record};
 use dh_scripts::{Row as Words, Tally, ToLine, Unreadable, row_of};
 use dh_types::{
-    Branch, Charge, Client, Ending, Inspection, Lease, Owner, Part, Property, Receipt,
-    Registration, Run, Staff, Version, Viewing,
+    Branch, BranchFee, Charge, Client, Ending, Inspection, Lease, Owner, Part, PartFee, Property,
+    Receipt, Registration, Run, Staff, Version, Viewing,
 };
 use sqlite::types::ValueRef;
 use sqlite::{Alter, Connection, Row};
@@ -20,12 +20,12 @@ fn read<R: Record + ToLine + Drop>(alloc: Global, row: &Row) -> Result<String, A
     }
 }
 
-// The numbers of the months that the row is, and of which version it is where that is not the first.
+// The numbers of the months that the row is, and of which version it is where that is not the second.
 fn months_text(alloc: Global, months: Meta) -> Result<String, AllocError> {
     let (first, next) = (months.first().number(), months.next().number());
     match months.version() {
-        Version::First => format!(in alloc; "{first} {next}"),
-        Version::Second => format!(in alloc; "{first} {next} of the second version"),
+        Version::First => format!(in alloc; "{first} {next} of the first version"),
+        Version::Second => format!(in alloc; "{first} {next}"),
     }
 }
 
@@ -45,6 +45,8 @@ fn lease_row_as(alloc: Global, kind: &str, row: &Row) -> Result<String, AllocErr
         "receipt" => read::<Receipt>(alloc, row),
         "run" => read::<Run>(alloc, row),
         "part" => read::<Part>(alloc, row),
+        "branch fee" => read::<BranchFee>(alloc, row),
+        "part fee" => read::<PartFee>(alloc, row),
         "meta" => months(alloc, row),
         _ => "no kind".to_string(alloc),
     }
@@ -117,6 +119,8 @@ fn lease_back<S: Alter>(
         Words::Receipt(it) => back(alloc, conn, it),
         Words::Run(it) => back(alloc, conn, it),
         Words::Part(it) => back(alloc, conn, it),
+        Words::BranchFee(it) => back(alloc, conn, it),
+        Words::PartFee(it) => back(alloc, conn, it),
         _ => "no record".to_string(alloc),
     }
 }

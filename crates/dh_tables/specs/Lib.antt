@@ -4,6 +4,7 @@ pub mod Questions
 pub mod Calls
 pub mod MetaTable
 pub mod BranchTable
+pub mod BranchFeeTable
 pub mod StaffTable
 pub mod OwnerTable
 pub mod PropertyTable
@@ -16,6 +17,7 @@ pub mod ChargeTable
 pub mod ReceiptTable
 pub mod RunTable
 pub mod PartTable
+pub mod PartFeeTable
 pub mod EndingTable
 pub mod Amendments
 pub mod PropertyChanges

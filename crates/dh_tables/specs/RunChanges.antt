@@ -1,4 +1,4 @@
--- A run that is closed, and a part of a run that goes on.
+-- A run that is closed, and a part of a run that goes on, with its fee.
 use Rattle.std.specs.Prelude.{◌≡◌, ◌≤◌, refl, ℕ, pos, true, [], ◌∷◌, Option, codes, drop}
 use Rattle.std.proofs.Common.{ap}
 use Rattle.sqlite_value.specs.declared.value.Value.TheVariants.{Int, Null, Text}
@@ -9,17 +9,19 @@ use Rattle.sqlite_trees.specs.Tree.{rowid}
 use Rattle.sqlite_trees.specs.View.{is_int}
 use Rattle.sqlite.specs.Listing.{understood}
 use Rattle.dh_values.specs.Texts.{is_id}
-use Rattle.dh_values.specs.declared.limits.TheConstants.{MOST_PENCE}
+use Rattle.dh_values.specs.declared.limits.TheConstants.{MOST_FEE, MOST_PENCE}
 use Rattle.dh_days.specs.declared.limits.TheConstants.{FIRST_MONTH, LAST_ENTRY_MONTH}
 use Rattle.dh_types.specs.declared.run.Part.{Part}
 use Rattle.dh_types.specs.declared.run.RunSum.{RunSum}
+use Rattle.dh_types.specs.declared.fee.PartFee.{PartFee}
 use Rattle.dh_rows.specs.declared.limits.TheConstants.{MOST_COUNT}
 use Rattle.dh_rows.specs.Cells.{is_through_cell, through_back, through_value}
 use Rattle.sqlite_schema.specs.declared.schema.Schema.{Schema}
-use Rattle.dh_types.specs.declared.version.Version.TheVariants.{First}
-use Rattle.dh_catalog.specs.Versions.{HasSince, of_both}
+use Rattle.dh_types.specs.declared.version.Version.TheVariants.{First, Second}
+use Rattle.dh_catalog.specs.Versions.{HasSince, of_both, of_second}
 use Rattle.dh_catalog.specs.RunTable.{run}
 use Rattle.dh_catalog.specs.PartTable.{part}
+use Rattle.dh_catalog.specs.PartFeeTable.{part_fee}
 use Rattle.dh_sql.specs.CellTests.{AreCells}
 use Rattle.dh_sql.specs.Changes.{IsTurnedInto}
 use Rattle.dh_sql.specs.Queries.{passes_all, shows}
@@ -31,6 +33,7 @@ use Rattle.dh_tables.specs.Cells.{is_number, is_text as text_is, pass_both, pass
 use Rattle.dh_tables.specs.Cells.{same_number, same_text, tells_both, tells_number, tells_text, to_limit}
 use Rattle.dh_tables.specs.RunTable.{run_cells, run_columns, run_of, run_shape}
 use Rattle.dh_tables.specs.PartTable.{part_cells, part_columns, part_of, part_shape}
+use Rattle.dh_tables.specs.PartFeeTable.{fee_of_part, part_fee_cells, part_fee_columns, part_fee_shape}
 
 -- ---- UPDATE run SET due_count = ?2, due_total = ?3, closed = 1 WHERE month = ?1
 
@@ -147,5 +150,63 @@ part_is = record {
   finds = part_finds;
   keeps_rowid = λ q r. refl;
   turns = part_turns;
+  keeps_key = λ q x. refl;
+}
+
+-- ---- UPDATE part_fee SET fee = ?3, fee_total = ?4 WHERE month = ?1 AND branch_no = ?2
+
+abbrev pub fee_amending : Amending
+fee_amending = record {
+  text = codes "UPDATE part_fee SET fee = ?3, fee_total = ?4 WHERE month = ?1 AND branch_no = ?2";
+  place = 15;
+  table = part_fee;
+  tests = fee_of_part.tests;
+  project = col 1 0 ∷ col 1 0 ∷ col 1 1 ∷ col 1 2 ∷ col 0 2 ∷ col 0 3 ∷ [];
+}
+
+abbrev pub fee_given : PartFee → Row
+fee_given q = Int (pos q.month) ∷ Text q.branch ∷ Int (pos q.fee) ∷ Int (pos q.total) ∷ []
+
+-- the fee and the total are such as the columns hold
+abbrev pub IsPartFee : PartFee → Type 0
+IsPartFee q = (q.fee ≤ MOST_FEE) × (q.total ≤ MOST_PENCE)
+
+fee_means : (s : Schema) → HasSince Second s → IsUpdateText fee_amending.text s 15 part_fee fee_of_part.tests fee_amending.project
+unfolding understood everything
+fee_means = of_second (λ s. IsUpdateText fee_amending.text s 15 part_fee fee_of_part.tests fee_amending.project)
+    (record { command = refl; plain = (refl, refl); listed = refl; stored = λ db. refl })
+
+fee_finds : (q : PartFee) (r : Row) → IsStored part_fee_shape r
+    → (passes_all (fee_given q) fee_of_part.tests r ≡ true → part_fee_shape.key (stored_in part_fee_shape r) ≡ (q.month, q.branch))
+    × (part_fee_shape.key (stored_in part_fee_shape r) ≡ (q.month, q.branch) → passes_all (fee_given q) fee_of_part.tests r ≡ true)
+fee_finds q r good =
+    let cells = (pass_each part_fee_cells true (part_fee_columns r) good).1 in
+    let p = stored_in part_fee_shape r in
+    tells_both (tells_number p.month q.month refl) (tells_text p.branch q.branch refl)
+    (pass_both (same_number (column r 1) q.month (is_number FIRST_MONTH LAST_ENTRY_MONTH (column r 1) cells.0))
+    (same_text (column r 2) q.branch (text_is is_id (column r 2) cells.1.0)))
+
+fee_turns : (q : PartFee) (r : Row) → IsPartFee q → IsStored part_fee_shape r → is_int (rowid r) ≡ true
+    → IsTurnedInto part_fee_shape part_fee r (drop 1 (shows fee_amending.project (fee_given q) r))
+    (record (stored_in part_fee_shape r) { fee = q.fee; total = q.total })
+fee_turns q r known good own =
+    let c = (pass_each part_fee_cells true (part_fee_columns r) good).1 in
+    let new : Row = column r 1 ∷ column r 2 ∷ Int (pos q.fee) ∷ Int (pos q.total) ∷ [] in
+    let cells : AreCells part_fee_cells new = (c.0, (c.1.0, (to_limit MOST_FEE q.fee known.0, (to_limit MOST_PENCE q.total known.1, tt)))) in
+    record {
+      stays = row_stays part_fee_cells part_fee (column r 0) new refl (cast_rowid (column r 0) own) cells;
+      rowid_is = refl;
+      grammar = pass_all part_fee_cells true new refl cells;
+      record_is = refl;
+    }
+
+pub fee_is : IsAmending Second part_fee_shape fee_amending IsPartFee fee_given (λ q. (q.month, q.branch))
+    (λ q p. record p { fee = q.fee; total = q.total })
+fee_is = record {
+  means = fee_means;
+  tree_is = refl;
+  finds = fee_finds;
+  keeps_rowid = λ q r. refl;
+  turns = fee_turns;
   keeps_key = λ q x. refl;
 }

@@ -3,6 +3,7 @@
 
 mod amend;
 mod branch;
+mod branch_fee;
 mod charge;
 mod client;
 mod ending;
@@ -18,6 +19,7 @@ mod look;
 mod meta;
 mod owner;
 mod part;
+mod part_fee;
 mod property;
 mod property_changes;
 mod receipt;
@@ -32,6 +34,7 @@ mod viewing_changes;
 
 pub use amend::{Amend, update};
 pub use branch::BranchNumbered;
+pub use branch_fee::FeeOfBranch;
 pub use charge::{ChargeOf, ChargesOfLease, ChargesOfMonth};
 pub use client::ClientNumbered;
 pub use ending::EndingOf;
@@ -47,6 +50,7 @@ pub use look::{Look, rows_asked};
 pub use meta::{find_meta, insert_meta, meta_rows_shown, set_next_month};
 pub use owner::OwnerNumbered;
 pub use part::{PartOf, PartsOfMonth};
+pub use part_fee::FeeOfPart;
 pub use property::{PropertiesManaged, PropertyNumbered};
 pub use receipt::{DepositsOfLease, ReceiptKeyed, ReceiptNumbered, ReceiptsOfLease};
 pub use registration::RegistrationAt;

@@ -1,4 +1,4 @@
-//! A run that is closed, and a part of a run that goes on, changed in their tables.
+//! A run that is closed, and a part of a run that goes on, with its fee, changed in their tables.
 
 ghost use Rattle.std.specs.Prelude.{◌≡◌, ◌≤◌, pos, true};
 ghost use Rattle.sqlite_value.specs.Value.{owned};
@@ -8,7 +8,7 @@ ghost use Rattle.dh_values.specs.declared.limits.TheConstants.{MOST_PENCE};
 ghost use Rattle.dh_rows.specs.Cells.{is_through_cell, through_value};
 
 use crate::Amend;
-use dh_types::{LeaseNo, Part, Pence, Run, RunSum};
+use dh_types::{LeaseNo, Part, PartFee, Pence, Run, RunSum};
 use sqlite::types::ValueRef;
 use std::alloc::{AllocError, Global};
 
@@ -94,4 +94,36 @@ impl Amend for Part {
     }
 
     ghost is_amending = { part_is };
+}
+
+impl Amend for PartFee {
+    ghost use Rattle.dh_tables.specs.RunChanges.{IsPartFee, fee_amending, fee_given, fee_is};
+
+    type Record = PartFee;
+
+    ghost key = { λ q. (q.month, q.branch) };
+
+    ghost amended = { λ q p. record p { fee = q.fee; total = q.total } };
+
+    ghost amending = { fee_amending };
+
+    ghost given = { fee_given };
+
+    ghost can_amend = { IsPartFee };
+
+    fn text() -> &'static str {
+        "UPDATE part_fee SET fee = ?3, fee_total = ?4 WHERE month = ?1 AND branch_no = ?2"
+    }
+
+    fn params(&self, alloc: Global) -> Result<Vec<ValueRef<'_>>, AllocError> {
+        [
+            ValueRef::Int(i64::from(self.month.number())),
+            ValueRef::Text(self.branch.as_str().as_bytes()),
+            ValueRef::Int(i64::from(self.fee.number())),
+            money(self.total),
+        ]
+        .to_vec(alloc)
+    }
+
+    ghost is_amending = { fee_is };
 }

@@ -6,6 +6,7 @@ mod answer;
 mod branch;
 mod client;
 mod command;
+mod fee;
 pub mod field;
 pub mod laws;
 mod lease;
@@ -28,9 +29,10 @@ pub use client::{Client, Registration};
 pub use command::{Assignment, Command, ReceiptOrder, RentChange, RunOrder, ViewingComment};
 pub use dh_days::{Day, EntryDay, EntryMonth, Month};
 pub use dh_values::{
-    Amount, BadText, Balance, BatchCount, ChargeIndex, Comment, Id, Key, LeaseMonths, LeaseNo,
+    Amount, BadText, Balance, BatchCount, ChargeIndex, Comment, Fee, Id, Key, LeaseMonths, LeaseNo,
     PaymentMethod, Pence, Position, PropertyType, ReceiptKind, ReceiptNo, Rent, Rooms, Text60,
 };
+pub use fee::{BranchFee, PartFee};
 pub use lease::{Charge, Ending, Lease, LeaseTerms, Payment, Receipt};
 pub use output::Output;
 pub use owner::Owner;

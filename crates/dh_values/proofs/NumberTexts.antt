@@ -1,11 +1,12 @@
 -- Reading what a number prints as.
-use Rattle.std.proofs.Common.{◌≡◌, ◌∙◌, sym, ap, refl, ℕ, ◌^◌, ◌<◌, ◌≤◌, Bool, true, false, not, ◌&&◌, nat_le, nat_eq, if◌then◌else◌, Option, Some, None}
+use Rattle.std.proofs.Common.{◌≡◌, ◌∙◌, sym, ap, refl, ℕ, zero, suc, ◌^◌, ◌<◌, ◌≤◌, Bool, true, false, not}
+use Rattle.std.proofs.Common.{◌&&◌, ◌||◌, nat_le, nat_eq, if◌then◌else◌, Option, Some, None}
 use Rattle.std.proofs.Common.{List, length, slice_index, arith, rules}
 use Rattle.std.specs.List.{list_all}
 use Rattle.std.specs.Char.{is_ascii_digit}
 use Rattle.std.specs.Fmt.{decimal}
 use Rattle.std.proofs.lemmas.Bool.Decides.{nat_tests}
-use Rattle.std.proofs.lemmas.Fmt.{decimal_is_IsNumeral_wide, decimal_nonempty, first_decimal, decimal-digits_value}
+use Rattle.std.proofs.lemmas.Fmt.{decimal_digit, decimal_is_IsNumeral_wide, decimal_nonempty, first_decimal, decimal-digits_value}
 use Rattle.std.proofs.lemmas.Str.Parse.{IsNumeralModel, numerals_by_fold}
 use Rattle.dh_values.proofs.Ascii.{and_left, and_right}
 use Rattle.dh_values.specs.Numbers.{number_after, number, is_numeral, numeral_of, within}
@@ -22,28 +23,32 @@ number_of_decimal n h = own.same (decimal n) (decimal_is_IsNumeral_wide n h).0.1
 pub decimals_apart : (m n : ℕ) → m < 10 ^ 64 → n < 10 ^ 64 → decimal m ≡ decimal n → m ≡ n
 decimals_apart m n p q e = sym (number_of_decimal m p) ∙ ap number e ∙ number_of_decimal n q
 
-no_zero : (d : ℕ) → 48 < d → not (nat_eq d 48) ≡ true
-no_zero d h = grind (arith, nat_tests)
+no_zero : (l d : ℕ) → 48 < d → (nat_eq l 1 || not (nat_eq d 48)) ≡ true
+no_zero l d h = grind (arith, nat_tests)
 
 some_digit : (l : ℕ) → 0 < l → nat_le 1 l ≡ true
 some_digit l h = grind (arith, nat_tests)
 
-pub numeral_of_decimal : (n : ℕ) → 1 ≤ n → n < 10 ^ 8 → numeral_of (decimal n) ≡ Some n
-numeral_of_decimal n low high =
+positive_printed : (n : ℕ) → 1 ≤ n → n < 10 ^ 8 → numeral_of (decimal n) ≡ Some n
+positive_printed n low high =
     let small : n < 2 ^ 64 = omega arith in
     let wide : n < 10 ^ 64 = omega arith in
     rw (
       some_digit (length (decimal n)) (decimal_nonempty n small),
-      no_zero (slice_index (decimal n) 0) (first_decimal n (omega arith) small),
+      no_zero (length (decimal n)) (slice_index (decimal n) 0) (first_decimal n (omega arith) small),
       digits_of_decimal n wide,
     ) (ap (λ m. Some m) (number_of_decimal n wide))
+
+pub numeral_of_decimal : (n : ℕ) → n < 10 ^ 8 → numeral_of (decimal n) ≡ Some n
+numeral_of_decimal zero high = ap numeral_of (decimal_digit 0 (omega arith))
+numeral_of_decimal (suc n) high = positive_printed (suc n) (omega arith) high
 
 pub within_kept : (low high n : ℕ) → low ≤ n → n ≤ high → within low high (Some n) ≡ Some n
 within_kept low high n p q = grind (arith, nat_tests)
 
 -- a number that is printed and read is itself
-pub read_back : (low high n : ℕ) → 1 ≤ low → high < 10 ^ 8 → low ≤ n → n ≤ high → within low high (numeral_of (decimal n)) ≡ Some n
-read_back low high n one top p q = ap (within low high) (numeral_of_decimal n (omega arith) (omega arith)) ∙ within_kept low high n p q
+pub read_back : (low high n : ℕ) → high < 10 ^ 8 → low ≤ n → n ≤ high → within low high (numeral_of (decimal n)) ≡ Some n
+read_back low high n top p q = ap (within low high) (numeral_of_decimal n (omega arith)) ∙ within_kept low high n p q
 
 -- what a test lets through
 pub chosen : {A : Type 0} (b : Bool) (x y : A) → (if b then Some x else None) ≡ Some y → (b ≡ true) × (x ≡ y)
@@ -60,8 +65,8 @@ within_is low high (Some m) n h =
     let range = at_most low high n (rw (← c.1) c.0) in
     (ap (λ k. Some k) c.1, range.0, range.1)
 
-not_leading : (d : ℕ) → not (nat_eq d 48) ≡ true → d ≡ 48 → ⊥
-not_leading d h e = grind (arith, nat_tests)
+alone : (l d : ℕ) → (nat_eq l 1 || not (nat_eq d 48)) ≡ true → d ≡ 48 → l ≡ 1
+alone l d h e = grind (arith, nat_tests)
 
 nonempty : (l : ℕ) → nat_le 1 l ≡ true → 0 < l
 nonempty l h = grind (arith, nat_tests)
@@ -70,11 +75,12 @@ nonempty l h = grind (arith, nat_tests)
 numeral_printed : (n : ℕ) (text : List ℕ) → n < 2 ^ 64 → numeral_of text ≡ Some n → decimal n ≡ text
 numeral_printed n text small h =
     let c = chosen (is_numeral text) (number text) n h in
-    let digits : list_all is_ascii_digit text ≡ true = and_right (nat_le 1 (length text) && not (nat_eq (slice_index text 0) 48)) _ c.0 in
-    let front : (nat_le 1 (length text) && not (nat_eq (slice_index text 0) 48)) ≡ true = and_left _ (list_all is_ascii_digit text) c.0 in
-    let long = nonempty (length text) (and_left _ (not (nat_eq (slice_index text 0) 48)) front) in
-    let leading = and_right (nat_le 1 (length text)) (not (nat_eq (slice_index text 0) 48)) front in
-    rw (← c.1) (decimal-digits_value own text digits long (λ z. absurd (not_leading _ leading z)) (omega (arith, c.1)))
+    let begun = nat_eq (length text) 1 || not (nat_eq (slice_index text 0) 48) in
+    let digits : list_all is_ascii_digit text ≡ true = and_right (nat_le 1 (length text) && begun) _ c.0 in
+    let front : (nat_le 1 (length text) && begun) ≡ true = and_left _ (list_all is_ascii_digit text) c.0 in
+    let long = nonempty (length text) (and_left _ begun front) in
+    let leading = and_right (nat_le 1 (length text)) begun front in
+    rw (← c.1) (decimal-digits_value own text digits long (alone (length text) (slice_index text 0) leading) (omega (arith, c.1)))
 
 -- a text that is read is what its number prints as
 pub printed_back : (low high n : ℕ) (text : List ℕ) → high < 10 ^ 8 → within low high (numeral_of text) ≡ Some n → decimal n ≡ text

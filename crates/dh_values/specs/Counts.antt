@@ -1,7 +1,8 @@
 -- Which numbers are numbers of leases, rooms and the like, and which texts spell them.
 use Rattle.std.specs.Prelude.{ℕ, ◌≤◌, Option, List}
 use Rattle.dh_values.specs.Numbers.{numeral_of, within}
-use Rattle.dh_values.specs.declared.limits.TheConstants.{LEAST_LEASE_MONTHS, MOST_BATCHES, MOST_CHARGE_INDEX, MOST_LEASE_MONTHS, MOST_NUMBER, MOST_ROOMS}
+use Rattle.dh_values.specs.declared.limits.TheConstants.{LEAST_LEASE_MONTHS, MOST_BATCHES, MOST_CHARGE_INDEX, MOST_LEASE_MONTHS, MOST_NUMBER}
+use Rattle.dh_values.specs.declared.limits.TheConstants.{MOST_FEE, MOST_ROOMS}
 
 abbrev pub IsLeaseNo : ℕ → Type 0
 IsLeaseNo n = (1 ≤ n) × (n ≤ MOST_NUMBER)
@@ -35,3 +36,10 @@ IsBatchCount n = (1 ≤ n) × (n ≤ MOST_BATCHES)
 
 abbrev pub batch_count_of : List ℕ → Option ℕ
 batch_count_of text = within 1 MOST_BATCHES (numeral_of text)
+
+-- hundredths of a percent
+abbrev pub IsFee : ℕ → Type 0
+IsFee n = n ≤ MOST_FEE
+
+abbrev pub fee_of : List ℕ → Option ℕ
+fee_of text = within 0 MOST_FEE (numeral_of text)

@@ -82,8 +82,8 @@ impl<K: Bounds> Bounded<K> {
 }
 
 impl<K: Spelled> Bounded<K> {
-    /// The number that the text spells in decimal digits without a leading zero, from the least to the greatest. It takes
-    /// no memory. `BadText` where the text spells no such number.
+    /// The number that the text spells in decimal digits without a leading zero, but in 0 itself, from the least to the
+    /// greatest. It takes no memory. `BadText` where the text spells no such number.
     pub fn read(text: &str) -> Result<Self, BadText>
         ensures { MatchResult result (λ n. within K.LOW K.HIGH (numeral_of text.now) ≡ Some n) (λ _. within K.LOW K.HIGH (numeral_of text.now) ≡ None) }
     {

@@ -31,10 +31,10 @@ pub fn number(bytes: &[u8]) -> u32
 fn is_numeral(bytes: &[u8]) -> bool
     ensures { result ≡ is_numeral bytes.now }
 {
-    1 <= bytes.len() && bytes[0] != b'0' && are_digits(bytes)
+    1 <= bytes.len() && (bytes.len() == 1 || bytes[0] != b'0') && are_digits(bytes)
 }
 
-/// The number from `low` to `high` that the text spells without a leading zero. It takes no
+/// The number from `low` to `high` that the text spells without a leading zero, but in 0 itself. It takes no
 /// memory. `BadText` where the text spells no such number.
 pub(crate) fn read_within(low: u32, high: u32, text: &str) -> Result<u32, BadText>
     requires { high < 10 ^ 8 }

@@ -1,7 +1,8 @@
 //! Laws of values: each function does nothing, and its clauses are the laws.
 
 ghost use Rattle.std.specs.Fmt.{decimal};
-ghost use Rattle.dh_values.specs.Counts.{IsBatchCount, IsLeaseMonths, IsLeaseNo, IsReceiptNo, IsRooms, batch_count_of, lease_months_of, lease_no_of, rooms_of};
+ghost use Rattle.dh_values.specs.Counts.{IsBatchCount, IsFee, IsLeaseMonths, IsLeaseNo, IsReceiptNo, IsRooms};
+ghost use Rattle.dh_values.specs.Counts.{batch_count_of, fee_of, lease_months_of, lease_no_of, rooms_of};
 ghost use Rattle.dh_values.specs.Kinds.{payment_method_of, payment_method_text, position_of, position_text, property_type_of, property_type_text};
 ghost use Rattle.dh_values.specs.Kinds.{receipt_kind_of, receipt_kind_text};
 ghost use Rattle.dh_values.specs.Laws.{ArePrintedBack, AreReadBack, IsAny, MoneyIsReadAgain, BalancesPrintApart, PenceAreReadBack, PrintApart};
@@ -33,6 +34,13 @@ pub fn batch_counts()
     ensures read_back { AreReadBack IsBatchCount decimal batch_count_of }
     ensures printed_back { ArePrintedBack decimal batch_count_of }
     ensures apart { PrintApart IsBatchCount decimal }
+{}
+
+/// Fees are read as they are printed, and printed as they are read.
+pub fn fees()
+    ensures read_back { AreReadBack IsFee decimal fee_of }
+    ensures printed_back { ArePrintedBack decimal fee_of }
+    ensures apart { PrintApart IsFee decimal }
 {}
 
 /// Numbers of receipts that print as one are one.

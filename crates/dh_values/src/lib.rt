@@ -26,7 +26,7 @@ pub use balance::Balance;
 pub use bounded::{Bounded, Bounds, Spelled};
 pub use id::Id;
 pub use key::Key;
-pub use numbers::{BatchCount, ChargeIndex, LeaseMonths, LeaseNo, ReceiptNo, Rooms};
+pub use numbers::{BatchCount, ChargeIndex, Fee, LeaseMonths, LeaseNo, ReceiptNo, Rooms};
 pub use payment_method::PaymentMethod;
 pub use pence::Pence;
 pub use position::Position;

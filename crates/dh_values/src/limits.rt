@@ -18,6 +18,9 @@ pub const MOST_CHARGE_INDEX: u32 = 11;
 /// The most batches of a call. The fewest are 1.
 pub const MOST_BATCHES: u32 = 1_000_000;
 
+/// The greatest fee of a branch, in hundredths of a percent: all of the rent. The least is 0.
+pub const MOST_FEE: u32 = 10_000;
+
 /// The greatest monthly rent, in pence. The least is 1.
 pub const MOST_RENT: u32 = 999_999;
 

@@ -1,11 +1,13 @@
 //! The kinds of numbers, each with its bounds.
 
 ghost use Rattle.std.proofs.Common.{arith};
-ghost use Rattle.dh_values.specs.declared.limits.TheConstants.{LEAST_LEASE_MONTHS, MOST_BATCHES, MOST_CHARGE_INDEX, MOST_LEASE_MONTHS, MOST_NUMBER, MOST_ROOMS};
+ghost use Rattle.dh_values.specs.declared.limits.TheConstants.{LEAST_LEASE_MONTHS, MOST_BATCHES, MOST_CHARGE_INDEX, MOST_LEASE_MONTHS, MOST_NUMBER};
+ghost use Rattle.dh_values.specs.declared.limits.TheConstants.{MOST_FEE, MOST_ROOMS};
 
 use crate::bounded::{Bounded, Bounds, Spelled};
 use crate::limits::{
-    LEAST_LEASE_MONTHS, MOST_BATCHES, MOST_CHARGE_INDEX, MOST_LEASE_MONTHS, MOST_NUMBER, MOST_ROOMS,
+    LEAST_LEASE_MONTHS, MOST_BATCHES, MOST_CHARGE_INDEX, MOST_FEE, MOST_LEASE_MONTHS, MOST_NUMBER,
+    MOST_ROOMS,
 };
 
 /// The number of a lease, 1 to 99,999,999.
@@ -123,5 +125,26 @@ impl Bounds for BatchLimit {
 }
 
 impl Spelled for BatchLimit {
+    ghost few = { Prim.omega arith };
+}
+
+/// What a branch takes of each rent, in hundredths of a percent, 0 to 10,000.
+pub type Fee = Bounded<FeeRate>;
+
+/// The kind of a [`Fee`].
+#[derive(Clone, Copy, Debug)]
+pub struct FeeRate;
+
+impl Bounds for FeeRate {
+    ghost LOW = { 0 };
+
+    ghost HIGH = { MOST_FEE };
+
+    const LOW: u32 = 0;
+
+    const HIGH: u32 = MOST_FEE;
+}
+
+impl Spelled for FeeRate {
     ghost few = { Prim.omega arith };
 }

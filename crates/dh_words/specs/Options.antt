@@ -1,6 +1,6 @@
 -- The values of the options behind a subcommand. The rows are what `clap` found behind it.
 use Rattle.std.specs.Prelude.{◌≡◌, Bool, true, false, not, if◌then◌else◌, List, Option, Some, None, is_some, option_and_then, option_map, Result, Ok, Err}
-use Rattle.std.specs.Prelude.{ℕ, bytes_eq, codes}
+use Rattle.std.specs.Prelude.{ℕ, codes}
 use Rattle.std.specs.Option.{option_map_or}
 use Rattle.clap.specs.Words.{Row, Text, first_of}
 use Rattle.dh_values.specs.Counts.{batch_count_of}
@@ -18,7 +18,7 @@ key_of text = if is_key text then Some text else None
 
 -- the port that a text spells without a leading zero, but in 0 itself
 abbrev pub port_of : Text → Option ℕ
-port_of text = if bytes_eq text (codes "0") then Some 0 else within 1 MOST_PORT (numeral_of text)
+port_of text = within 0 MOST_PORT (numeral_of text)
 
 -- the value of an option's text
 abbrev pub value : {T : Type 0} → (Text → Option T) → Text → List Row → Option T

@@ -16,16 +16,16 @@ pub fn most_port_in_figures()
     ensures { MOST_PORT ≡ 65_535 }
 {}
 
-// The kind of a port but 0.
+// The kind of a port.
 #[derive(Clone, Copy)]
 struct PortNumber;
 
 impl Bounds for PortNumber {
-    ghost LOW = { 1 };
+    ghost LOW = { 0 };
 
     ghost HIGH = { MOST_PORT };
 
-    const LOW: u32 = 1;
+    const LOW: u32 = 0;
 
     const HIGH: u32 = MOST_PORT;
 }
@@ -38,9 +38,6 @@ impl Spelled for PortNumber {
 pub(crate) fn port_from_text(text: &str) -> Result<u16, BadText>
     ensures { MatchResult result (λ port. port_of text.now ≡ Some port) (λ _. port_of text.now ≡ None) }
 {
-    if text == "0" {
-        return Ok(0);
-    }
     let port = Bounded::<PortNumber>::read(text)?;
     Ok(port.number() as u16)
 }

@@ -24,4 +24,13 @@ impl Books {
     {
         self.parts.retain(|_, part| part.month != month);
     }
+
+    /// Takes out the fee rows of the month.
+    pub fn clear_month_fees(&mut self, month: EntryMonth)
+        ensures { self.new ≡ record self.old {
+          books = record self.old.books { part_fees = rows_where (λ it. not (nat_eq it.month month)) self.old.books.part_fees };
+        } }
+    {
+        self.part_fees.retain(|_, it| it.month != month);
+    }
 }

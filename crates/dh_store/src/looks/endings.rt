@@ -11,34 +11,13 @@ ghost use Rattle.dh_schema.specs.Faults.{IsFirstFault};
 ghost use Rattle.dh_schema.specs.Store.{IsReady, tables};
 ghost use Rattle.dh_store.specs.Reading.{OnlyReads};
 
-use crate::looks::{look, look_at_all, months_now};
+use crate::looks::{look, months_now};
 use dh_books::Books;
 use dh_schema::StoreFault;
 use dh_tables::EndingOf;
-use dh_types::{Ending, Lease, LeaseNo, Version};
+use dh_types::{Lease, LeaseNo, Version};
 use sqlite::{Alter, Connection};
 use std::alloc::{AllocError, Global};
-
-/// Puts all endings into books that have none.
-pub fn look_at_endings<S: Alter>(
-    alloc: Global,
-    conn: &mut Connection<S>,
-    books: &mut Books,
-) -> Result<(), StoreFault>
-    requires ready { HasCleanDisk (state S.Store conn.old) → IsReady (state S.Store conn.old) }
-    requires none { HasCleanDisk (state S.Store conn.old) → books.old.books.endings ≡ fin.empty }
-    ensures taken { HasCleanDisk (state S.Store conn.new)
-        → OnOk result (books.new ≡ record books.old {
-          books = record books.old.books { endings = (tables (state S.Store conn.old)).books.endings };
-        }) }
-    ensures reads { OnlyReads (state S.Store conn.old) (state S.Store conn.new) result }
-{
-    let months = months_now(alloc, conn)?;
-    match months.version() {
-        Version::First => Ok(()),
-        Version::Second => look_at_all::<Ending, S>(alloc, conn, books),
-    }
-}
 
 // Puts the ending of the lease beside those that the books have. The version is that of the tables.
 fn look_at_ending<S: Alter>(

@@ -17,8 +17,8 @@ use dh_books::Books;
 use dh_schema::StoreFault;
 use dh_tables::{Listed, Look, Tabled, fetch_more, gather_all};
 use dh_types::{
-    Branch, Charge, Client, Ending, Inspection, Lease, Owner, Part, Property, Receipt,
-    Registration, Run, Staff, Viewing,
+    Branch, BranchFee, Charge, Client, Ending, Inspection, Lease, Owner, Part, PartFee, Property,
+    Receipt, Registration, Run, Staff, Viewing,
 };
 use sqlite::{Alter, Connection, Error, ErrorCode};
 use std::alloc::Global;
@@ -145,6 +145,24 @@ impl KeptRecord for Part {
     ghost use Rattle.dh_model.specs.Kinds.{Parts};
 
     ghost is_kept = { λ trees order since. (order.tables Parts since).kept };
+
+    ghost holds = { λ trees. refl };
+}
+
+impl KeptRecord for BranchFee {
+    ghost use Rattle.std.specs.Prelude.{refl};
+    ghost use Rattle.dh_model.specs.Kinds.{BranchFees};
+
+    ghost is_kept = { λ trees order since. (order.tables BranchFees since).kept };
+
+    ghost holds = { λ trees. refl };
+}
+
+impl KeptRecord for PartFee {
+    ghost use Rattle.std.specs.Prelude.{refl};
+    ghost use Rattle.dh_model.specs.Kinds.{PartFees};
+
+    ghost is_kept = { λ trees order since. (order.tables PartFees since).kept };
 
     ghost holds = { λ trees. refl };
 }

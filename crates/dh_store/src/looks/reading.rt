@@ -1,11 +1,11 @@
 //! The rows that a command or a question looks at.
 
-ghost use Rattle.std.specs.Prelude.{◌≡◌, ◌-◌, IfOk};
+ghost use Rattle.std.specs.Prelude.{◌≡◌, ◌-◌, None, IfOk};
 ghost use Rattle.std.specs.FinMap.{get};
 ghost use Rattle.sqlite.specs.State.{HasCleanDisk};
 ghost use Rattle.sqlite.specs.Held.{state};
 ghost use Rattle.dh_days.specs.declared.limits.TheConstants.{FIRST_MONTH};
-ghost use Rattle.dh_model.specs.Books.{start};
+ghost use Rattle.dh_model.specs.Books.{empty_books, start};
 ghost use Rattle.dh_model.specs.Whole.{open_row};
 ghost use Rattle.dh_laws.specs.Looks.{unless_closed};
 ghost use Rattle.dh_schema.specs.Store.{IsReady, tables};
@@ -21,12 +21,19 @@ use dh_types::{EntryMonth, Month, Run, Version};
 use sqlite::{Alter, Connection};
 use std::alloc::Global;
 
+/// Books of this version without a row, for those that are looked at. Their months stand for nothing.
+pub fn no_rows_of(alloc: Global, version: Version) -> Books
+    ensures { result ≡ record { books = record (empty_books FIRST_MONTH) { version = version }; open_run = None } }
+{
+    let month = Month::of_number(FIRST_MONTH);
+    Books::new(alloc, version, month, month)
+}
+
 /// Books without a row, for those that are looked at. Their months and their version stand for nothing.
 pub fn no_rows(alloc: Global) -> Books
     ensures { result ≡ start FIRST_MONTH }
 {
-    let month = Month::of_number(FIRST_MONTH);
-    Books::new(alloc, Version::First, month, month)
+    no_rows_of(alloc, Version::Second)
 }
 
 /// The version and the months of the tables. That they have none comes only from a store that is not clean.

@@ -7,7 +7,7 @@ use Rattle.std.proofs.lemmas.Map.Iter.{iter_end, rest_more, rest_so_far}
 use Rattle.dh_model.specs.Runs.{batch_size, dues_of_branch}
 use Rattle.dh_leases.proofs.FewLemmas.{few_dues}
 use Rattle.dh_leases.proofs.PostedLemmas.{left_after, left_before, left_next}
-use Rattle.dh_leases.specs.Rows.{rows_after, rows_left}
+use Rattle.dh_leases.specs.Rows.{branch_run, rows_after, rows_left, rows_of}
 use Rattle.dh_leases.specs.declared.planning.Plan.{Plan}
 use Rattle.dh_leases.proofs.InTime.{in_time}
 use Rattle.dh_leases.proofs.Planned.{is_plan}
@@ -39,10 +39,13 @@ loop-branch-preserved c =
     let dues = c.of_branch-all.ensures ∙ c.in_ok-dues.ensures.value branch in
     let one_more = map-append deref c.loop-branch.yielded (c.in-Some.branch ∷ []) in
     let rows = rows_left batch_size b month run_done in
+    let run = branch_run b month branch in
     record {
-      rows = c.in_ok-put_batches.ensures ∙ ap (λ some. some ++ rows_after batch_size month branch charges left) had.rows
-          ∙ ap (λ due. flat_map rows done ++ rows_after batch_size month branch due left) dues
-          ∙ ap (λ n. flat_map rows done ++ rows_after batch_size month branch (dues_of_branch b month branch) n)
+      rows = c.in_ok-put_batches.ensures
+          ∙ ap (λ at. map rows_of c.loop-branch.batches.items ++ rows_after batch_size at charges left) c.branch_run-at.ensures
+          ∙ ap (λ some. some ++ rows_after batch_size run charges left) had.rows
+          ∙ ap (λ due. flat_map rows done ++ rows_after batch_size run due left) dues
+          ∙ ap (λ n. flat_map rows done ++ rows_after batch_size run (dues_of_branch b month branch) n)
           (left_before batch_size b month run_done (omega arith) are done _ branch all left had.left)
           ∙ ap (λ some. flat_map rows done ++ some) (sym (append-nil (rows branch)))
           ∙ sym (flat_map-append rows done (branch ∷ [])) ∙ ap (flat_map rows) (sym one_more);

@@ -8,8 +8,9 @@ use Rattle.dh_leases.proofs.planning.put_batches.Given as goal
 abbrev pub invariant-loop-number : goal.invariant-loop-number
 invariant-loop-number l = record {
   rows : map rows_of l.batches.items
-      ≡ map rows_of l.fn.batches.items ++ map (rows_at batch_size l.month l.branch l.dues) (range_with_len l.done (l.number - l.done));
-  sum : l.sum ≡ sum_of (take (l.number * batch_size) l.dues);
+      ≡ map rows_of l.fn.batches.items ++ map (rows_at batch_size l.run l.dues) (range_with_len l.done (l.number - l.done));
+  sum : l.sum ≡ sum_of l.run.fee (take (l.number * batch_size) l.dues);
   small : l.sum.total ≤ 999999 * l.sum.count;
+  less : l.sum.fees ≤ l.sum.total;
   until : l.number ≤ max l.done l.number-end;
 }

@@ -16,12 +16,21 @@ closed-run-requires c =
 pub returns : goal.returns
 returns c =
     let charges = c.in_ok-charges.ensures ∙ ap (dues c.args.books.books) c.month.ensures.value in
-    run_made c.args.books batch_size c.args.month c.args.key c.put_charges.new.books c.put_parts.new.books c.put_run.new.self c.set_next.new.self
-    c.in_ok-charges.charges.items c.in_ok-parts.parts.items c.closed-run.result c.unwrap.result (omega arith) c.in_ok-parts.ensures.numbered c.requires
-    (record { charged = c.in_ok-put_charges.ensures; parted = c.in_ok-put_parts.ensures; run_put = c.in_ok-put_run.ensures.ok; moved = c.set_next.ensures })
+    run_made c.args.books batch_size c.args.month c.args.key c.put_charges.new.books c.put_parts.new.books c.put_fees.new.books
+    c.put_run.new.self c.set_next.new.self
+    c.in_ok-charges.charges.items c.in_ok-parts.parts.items c.in_ok-fees.fees.items c.closed-run.result c.unwrap.result (omega arith)
+    c.in_ok-parts.ensures.numbered c.requires
+    (record {
+      charged = c.in_ok-put_charges.ensures;
+      parted = c.in_ok-put_parts.ensures;
+      feed = c.in_ok-put_fees.ensures;
+      run_put = c.in_ok-put_run.ensures.ok;
+      moved = c.set_next.ensures;
+    })
     (record {
       charges_are = charges;
       parts_are = c.in_ok-parts.ensures.value;
+      fees_are = c.in_ok-fees.ensures;
       run_is = c.closed-run.ensures ∙ ap (closed_run c.args.month c.args.key) (c.deref.ensures.value ∙ charges);
       next_is = search rules;
     })

@@ -11,5 +11,5 @@ insert-requires-clause-kept g c clean = ((c.requires.writing clean).in_order.tab
 pub returns-clause-puts : goal.returns-clause-puts
 returns-clause-puts g c =
     let call = c.insert.ensures in
-    added Charges _ (state g.S.Store c.args.tx.now.conn.now) (state g.S.Store c.insert.new.tx.conn.now) tt (with_charge c.args.charge.now) c.insert.result
-    c.requires.writing refl call.shown call.added call.undone call.crash
+    added Charges _ (state g.S.Store c.args.tx.now.conn.now) (state g.S.Store c.insert.new.tx.conn.now) (with_charge c.args.charge.now) c.insert.result
+    (λ _. tt) c.requires.writing (λ _. refl) call.shown call.added call.undone call.crash

@@ -25,8 +25,8 @@ returns-then-has_part-clause-puts g c =
     let new = state g.S.Store c.update.new.tx.conn.now in
     let part = c.args.part.now in
     let call = c.update.ensures in
-    changed Parts (part_key part) (λ it. record it { through = part.through; count = part.count; total = part.total }) old new tt (with_part part)
-    c.update.result c.requires.writing (λ clean. part_there part old new (sym (c.requires.known clean) ∙ c.if-has_part.true))
+    changed Parts (part_key part) (λ it. record it { through = part.through; count = part.count; total = part.total }) old new (with_part part)
+    c.update.result (λ _. tt) c.requires.writing (λ clean. part_there part old new (sym (c.requires.known clean) ∙ c.if-has_part.true))
     call.shown call.amended call.undone call.crash
 
 pub insert-requires-clause-kept : goal.insert-requires-clause-kept
@@ -41,5 +41,5 @@ returns-else-has_part-clause-puts g c =
     let new = state g.S.Store c.insert.new.tx.conn.now in
     let part = c.args.part.now in
     let call = c.insert.ensures in
-    added Parts _ old new tt (with_part part) c.insert.result c.requires.writing (with_new_part part (tables old).books)
+    added Parts _ old new (with_part part) c.insert.result (λ _. tt) c.requires.writing (λ _. with_new_part part (tables old).books)
     call.shown call.added call.undone call.crash

@@ -6,15 +6,17 @@ use Rattle.sqlite.specs.Held.{state}
 use Rattle.dh_types.specs.declared.lease.Charge.{Charge}
 use Rattle.dh_model.specs.Books.{Books}
 use Rattle.dh_model.specs.Runs.{part_key}
-use Rattle.dh_runs.specs.Putting.{TurnsBooks, with_charges, with_part, with_rows_of}
-use Rattle.dh_runs.proofs.Putting.{puts_both, puts_none}
+use Rattle.dh_leases.specs.Plans.{some_row}
+use Rattle.dh_schema.specs.Store.{tables}
+use Rattle.dh_runs.specs.Putting.{TurnsBooks, with_charges, with_fees, with_part, with_rows_of}
+use Rattle.dh_runs.proofs.Putting.{fee_still, puts_both, puts_none}
 use Rattle.dh_runs.proofs.rows.put_rows.Goals as goal
 
 pub put_part-requires-clause-known : goal.put_part-requires-clause-known
 put_part-requires-clause-known g c clean =
     let puts = c.in_ok-put_charges.ensures.puts in
     let early : HasCleanDisk (state g.S.Store c.args.tx.now.conn.now) = omega (arith, puts.crash.clean, clean) in
-    c.requires.known early ∙ ap (λ (books : Books). is_some (get books.parts (part_key c.args.rows.now.part))) (sym (puts.put clean).1)
+    (c.requires.known early).part ∙ ap (λ (books : Books). is_some (get books.parts (part_key c.args.rows.now.part))) (sym (puts.put clean).1)
 
 pub returns-in_err-put_charges-clause-puts : goal.returns-in_err-put_charges-clause-puts
 returns-in_err-put_charges-clause-puts g c =
@@ -22,11 +24,37 @@ returns-in_err-put_charges-clause-puts g c =
     puts_none (with_charges c.deref.result.now) (with_rows_of c.args.rows.now) c.from_residual.result is.0 _ (state g.S.Store c.args.tx.now.conn.now)
     (state g.S.Store c.put_charges.new.tx.conn.now) is.1 c.in_err-put_charges.ensures.puts
 
+pub put_some_fee-requires-clause-known : goal.put_some_fee-requires-clause-known
+put_some_fee-requires-clause-known g c clean =
+    let rows = c.args.rows.now in
+    let old = state g.S.Store c.args.tx.now.conn.now in
+    let mid = state g.S.Store c.put_charges.new.tx.conn.now in
+    let now = state g.S.Store c.put_part.new.tx.conn.now in
+    let first = subst (λ (charges : List Charge). TurnsBooks (with_charges charges) (Ok tt) old mid) c.deref.ensures.value c.in_ok-put_charges.ensures.puts in
+    let puts = puts_both (with_charges rows.charges.items) (with_part rows.part) old mid now (Ok tt) first c.in_ok-put_part.ensures.puts in
+    let early : HasCleanDisk old = omega (arith, puts.crash.clean, clean) in
+    let books = (puts.put clean).1 in
+    fee_still rows.fee rows.has_part (tables old) (tables now) (ap (λ (b : Books). b.version) books) (ap (λ (b : Books). b.part_fees) books)
+    (c.requires.known early).fee
+
+pub returns-in_err-put_part-clause-puts : goal.returns-in_err-put_part-clause-puts
+returns-in_err-put_part-clause-puts g c =
+    let rows = c.args.rows.now in
+    let old = state g.S.Store c.args.tx.now.conn.now in
+    let mid = state g.S.Store c.put_charges.new.tx.conn.now in
+    let new = state g.S.Store c.put_part.new.tx.conn.now in
+    let first = subst (λ (charges : List Charge). TurnsBooks (with_charges charges) (Ok tt) old mid) c.deref.ensures.value c.in_ok-put_charges.ensures.puts in
+    let is = err_from_is_err_and c.from_residual-in_err-put_part.result c.from_residual-in_err-put_part.ensures.1 in
+    puts_none (λ books. with_part rows.part (with_charges rows.charges.items books)) (with_rows_of rows) c.from_residual-in_err-put_part.result is.0 _ old new
+    is.1 (puts_both (with_charges rows.charges.items) (with_part rows.part) old mid new _ first c.in_err-put_part.ensures.puts)
+
 pub returns-clause-puts : goal.returns-clause-puts
 returns-clause-puts g c =
     let rows = c.args.rows.now in
     let old = state g.S.Store c.args.tx.now.conn.now in
     let mid = state g.S.Store c.put_charges.new.tx.conn.now in
+    let now = state g.S.Store c.put_part.new.tx.conn.now in
     let first = subst (λ (charges : List Charge). TurnsBooks (with_charges charges) (Ok tt) old mid) c.deref.ensures.value c.in_ok-put_charges.ensures.puts in
-    puts_both (with_charges rows.charges.items) (with_part rows.part) old mid (state g.S.Store c.put_part.new.tx.conn.now) c.put_part.result first
-    c.put_part.ensures.puts
+    let both = puts_both (with_charges rows.charges.items) (with_part rows.part) old mid now (Ok tt) first c.in_ok-put_part.ensures.puts in
+    puts_both (λ books. with_part rows.part (with_charges rows.charges.items books)) (with_fees (some_row rows.fee)) old now
+    (state g.S.Store c.put_some_fee.new.tx.conn.now) c.put_some_fee.result both c.put_some_fee.ensures.puts

@@ -24,7 +24,7 @@ load_later-requires-clause-reading g c =
 pub load_later-requires-clause-none : goal.load_later-requires-clause-none
 load_later-requires-clause-none g c =
     let t1 = c.in_ok-load_first.ensures in
-    still_none t1 later_kinds (λ early. ((c.requires.none early).1.1.1.1.1.1.1.1.1.1.1.1.1.0, tt))
+    still_none t1 later_kinds (λ early. (c.requires.none early).1.1.1.1.1.1.1.1.1.1.1.1.1)
 
 pub returns-in_err-load_first : goal.returns-in_err-load_first
 returns-in_err-load_first g c =

@@ -3,7 +3,7 @@ use Rattle.dh_values.proofs.NumberTexts.{read_back, printed_back, decimals_apart
 use Rattle.dh_values.proofs.laws.rooms.Goals as goal
 
 pub returns-clause-read_back : goal.returns-clause-read_back
-returns-clause-read_back c n h = read_back 1 15 n (omega arith) (omega arith) h.0 h.1
+returns-clause-read_back c n h = read_back 1 15 n (omega arith) h.0 h.1
 
 pub returns-clause-printed_back : goal.returns-clause-printed_back
 returns-clause-printed_back c n text h = printed_back 1 15 n text (omega arith) h

@@ -1,36 +1,37 @@
-use Rattle.std.proofs.Common.{◌≡◌, ◌∙◌, sym, ap, arith}
+use Rattle.std.proofs.Common.{◌≡◌, ◌∙◌, sym, ap, subst, arith}
 use Rattle.std.specs.FinMap.{empty}
-use Rattle.sqlite.specs.Effect.{Database}
 use Rattle.sqlite.specs.State.{HasCleanDisk}
 use Rattle.sqlite.specs.Held.{state}
 use Rattle.dh_types.specs.declared.version.Version.{Version}
 use Rattle.dh_types.specs.declared.version.Version.TheVariants.{First, Second}
-use Rattle.dh_model.specs.Books.{Endings, State}
+use Rattle.dh_model.specs.Books.{State}
+use Rattle.dh_model.specs.Kinds.{IsSince}
 use Rattle.dh_sql.specs.Shape.{rows_in}
-use Rattle.dh_model.specs.Kinds.{Endings as endings_kind}
-use Rattle.dh_schema.specs.Kinds.{shape_of}
 use Rattle.dh_schema.specs.Store.{tables}
 use Rattle.dh_schema.specs.Tables.{rows_since, version_of_tables}
 use Rattle.dh_schema.proofs.EachKind.{all_since}
 use Rattle.dh_schema.proofs.ReadTables.{on_ok}
 use Rattle.dh_store.proofs.ReadsInTurn.{reads_then}
-use Rattle.dh_store.proofs.looks.endings.look_at_endings.Goals as goal
+use Rattle.dh_store.proofs.looks.later.look_at_later.Goals as goal
 
 pub look_at_all-requires-clause-since : goal.look_at_all-requires-clause-since
 look_at_all-requires-clause-since g c clean =
     let stays = ap (λ (t : State). t.books.version) (c.in_ok-months.ensures.reads.done clean).1 in
     let early : HasCleanDisk (state g.S.Store c.args.conn.now) = omega (arith, c.months_now.ensures.reads.crash.clean, clean) in
-    stays ∙ sym (c.in_ok-months.ensures.found clean).2 ∙ sym c.version.ensures ∙ c.in-Second.is
+    let mid = state g.S.Store c.months_now.new.conn in
+    subst (λ since. IsSince since (version_of_tables mid.now.trees)) (sym c.requires.later)
+    (stays ∙ sym (c.in_ok-months.ensures.found clean).2 ∙ sym c.version.ensures ∙ c.in-Second.is)
 
 pub returns-in-First-clause-taken : goal.returns-in-First-clause-taken
 returns-in-First-clause-taken g c clean =
     let old = state g.S.Store c.args.conn.now in
     let early : HasCleanDisk old = omega (arith, c.months_now.ensures.reads.crash.clean, clean) in
     let first = sym (c.in_ok-months.ensures.found clean).2 ∙ sym c.version.ensures ∙ c.in-First.is in
-    let rows = rows_in (shape_of endings_kind) old.now.trees in
-    let none : (tables old).books.endings ≡ empty = ap (λ (v : Version). rows_since Second v rows) first in
-    ap (λ (m : Endings). let s : State = record c.args.books.now { books = record c.args.books.now.books { endings = m } } in s)
-    (c.requires.none early ∙ sym none)
+    let shelf = g.R.Tabled.shelf in
+    let books = c.args.books.now in
+    let none : shelf.held (tables old) ≡ empty =
+    g.met.R.KeptRecord.holds old.now.trees ∙ (λ i. rows_since (c.requires.later i) (first i) (rows_in g.R.Tabled.shape old.now.trees)) in
+    sym (shelf.with_held books) ∙ ap (shelf.with books) (c.requires.none early ∙ sym none)
 
 pub returns-in-Second-clause-taken : goal.returns-in-Second-clause-taken
 returns-in-Second-clause-taken g c clean =
@@ -39,10 +40,11 @@ returns-in-Second-clause-taken g c clean =
     let half : HasCleanDisk mid = omega (arith, c.look_at_all.ensures.reads.crash.clean, clean) in
     let stays = (c.in_ok-months.ensures.reads.done half).1 in
     let second = ap (λ (t : State). t.books.version) stays ∙ sym (c.in_ok-months.ensures.found half).2 ∙ sym c.version.ensures ∙ c.in-Second.is in
-    let all = all_since Second (version_of_tables mid.now.trees) (rows_in (shape_of endings_kind) mid.now.trees) second in
+    let shelf = g.R.Tabled.shelf in
+    let has = subst (λ since. IsSince since (version_of_tables mid.now.trees)) (sym c.requires.later) second in
+    let all = all_since g.R.Tabled.since (version_of_tables mid.now.trees) (rows_in g.R.Tabled.shape mid.now.trees) has in
     on_ok c.look_at_all.result (λ taken. taken
-    ∙ ap (λ (m : Endings). let s : State = record c.args.books.now { books = record c.args.books.now.books { endings = m } } in s)
-    (sym all ∙ ap (λ (t : State). t.books.endings) stays))
+    ∙ ap (shelf.with c.args.books.now) (sym all ∙ sym (g.met.R.KeptRecord.holds mid.now.trees) ∙ ap shelf.held stays))
     (c.look_at_all.ensures.taken clean)
 
 pub returns-in-Second-clause-reads : goal.returns-in-Second-clause-reads

@@ -1,0 +1,37 @@
+//! Looks at whole tables that came with the second version. A file of the first has none of them.
+
+ghost use Rattle.std.specs.Prelude.{◌≡◌, OnOk};
+ghost use Rattle.std.specs.FinMap as fin;
+ghost use Rattle.sqlite.specs.State.{HasCleanDisk};
+ghost use Rattle.sqlite.specs.Held.{state};
+ghost use Rattle.dh_types.specs.declared.version.Version.TheVariants.{Second};
+ghost use Rattle.dh_schema.specs.Store.{IsReady, tables};
+ghost use Rattle.dh_store.specs.Reading.{OnlyReads};
+
+use crate::looks::{KeptRecord, look_at_all, months_now};
+use dh_books::Books;
+use dh_schema::StoreFault;
+use dh_tables::Listed;
+use dh_types::Version;
+use sqlite::{Alter, Connection};
+use std::alloc::Global;
+
+/// Puts all records of a kind that came with the second version into books that have none of it; tables of the first version have none.
+pub fn look_at_later<R: Listed + KeptRecord, S: Alter>(
+    alloc: Global,
+    conn: &mut Connection<S>,
+    books: &mut Books,
+) -> Result<(), StoreFault>
+    requires ready { HasCleanDisk (state S.Store conn.old) → IsReady (state S.Store conn.old) }
+    requires later { R.since ≡ Second }
+    requires none { HasCleanDisk (state S.Store conn.old) → R.shelf.held books.old ≡ fin.empty }
+    ensures taken { HasCleanDisk (state S.Store conn.new)
+        → OnOk result (books.new ≡ R.shelf.with books.old (R.shelf.held (tables (state S.Store conn.old)))) }
+    ensures reads { OnlyReads (state S.Store conn.old) (state S.Store conn.new) result }
+{
+    let months = months_now(alloc, conn)?;
+    match months.version() {
+        Version::First => Ok(()),
+        Version::Second => look_at_all::<R, S>(alloc, conn, books),
+    }
+}

@@ -1,0 +1,132 @@
+-- The table part_fee, which came with the second version.
+use Rattle.std.specs.Prelude.{refl, ℕ, List, [], ◌∷◌, codes, true, pos, nat_eq, ◌&&◌}
+use Rattle.std.specs.Ordering.{nat_cmp}
+use Rattle.sqlite_value.specs.declared.value.Value.TheVariants.{Int, Null, Text}
+use Rattle.sqlite_value.specs.declared.keys.Collation.TheVariants.{Binary}
+use Rattle.sqlite_value.specs.Order.{Row, column}
+use Rattle.sqlite_sql.specs.declared.ops.BinaryOp.TheVariants.{Compare}
+use Rattle.sqlite_sql.specs.declared.ops.CompareOp.TheVariants.{Eq}
+use Rattle.sqlite_sql.specs.Term.{Term, lit, col, op2}
+use Rattle.sqlite_tied.specs.Compute.{everything}
+use Rattle.sqlite.specs.Listing.{understood}
+use Rattle.dh_values.specs.Texts.{is_id}
+use Rattle.dh_values.specs.declared.limits.TheConstants.{MOST_FEE, MOST_PENCE}
+use Rattle.dh_days.specs.declared.limits.TheConstants.{FIRST_MONTH, LAST_ENTRY_MONTH}
+use Rattle.dh_types.specs.declared.fee.PartFee.{PartFee}
+use Rattle.dh_model.specs.Books.{pair_cmp, text_cmp}
+use Rattle.dh_model.specs.Checks.{is_same_text}
+use Rattle.dh_rows.specs.PartFeeRows.{is_part_fee_row, part_fee_in, part_fee_row}
+use Rattle.sqlite_schema.specs.declared.schema.Schema.{Schema}
+use Rattle.dh_types.specs.declared.version.Version.TheVariants.{Second}
+use Rattle.dh_catalog.specs.Versions.{HasSince, of_second}
+use Rattle.dh_catalog.specs.PartFeeTable.{part_fee}
+use Rattle.dh_sql.specs.CellTests.{Cell}
+use Rattle.dh_sql.specs.Shape.{Shape}
+use Rattle.dh_sql.specs.Texts.{IsInsertText, IsSelectText}
+use Rattle.dh_sql.proofs.Casting.{cast_null, pass_each, row_stays}
+use Rattle.dh_tables.specs.declared.part_fee.FeeOfPart.{FeeOfPart}
+use Rattle.dh_tables.specs.Cells.{is_number, is_text as text_is, number_from, pass_both, same_number, same_text, text_that}
+use Rattle.dh_tables.specs.Listing.{IsListing, Listing}
+use Rattle.dh_tables.specs.Questions.{Asking, IsAsking}
+use Rattle.dh_tables.specs.Tables.{Adding, IsAdding, Shelf, without_rowid}
+
+abbrev pub part_fee_columns : Row → Row
+part_fee_columns row = column row 1 ∷ column row 2 ∷ column row 3 ∷ column row 4 ∷ []
+
+abbrev pub part_fee_cells : List Cell
+part_fee_cells = number_from FIRST_MONTH LAST_ENTRY_MONTH ∷ text_that is_id ∷ number_from 0 MOST_FEE ∷ number_from 0 MOST_PENCE ∷ []
+
+abbrev pub part_fee_shape : Shape (ℕ × List ℕ) PartFee
+part_fee_shape = record { tree = 34; columns = part_fee_columns; is_row = is_part_fee_row; row_in = part_fee_in; key = λ it. (it.month, it.branch) }
+
+abbrev pub part_fee_shelf : Shelf (ℕ × List ℕ) PartFee (pair_cmp nat_cmp text_cmp)
+part_fee_shelf = record {
+  held = λ s. s.books.part_fees;
+  with = λ s m. record s { books = record s.books { part_fees = m } };
+  held_with = λ s m. refl;
+  with_with = λ s m n. refl;
+  with_held = λ s. refl;
+}
+
+-- ---- adding a row
+
+abbrev pub part_fee_adding : Adding PartFee
+part_fee_adding = record {
+  text = codes "INSERT INTO part_fee (month, branch_no, fee, fee_total) VALUES (?1, ?2, ?3, ?4)";
+  place = 15;
+  table = part_fee;
+  terms = lit Null ∷ col 0 0 ∷ col 0 1 ∷ col 0 2 ∷ col 0 3 ∷ [];
+  width = 5;
+  source = without_rowid part_fee_row;
+}
+
+inserts : (s : Schema) → HasSince Second s → (x : PartFee) → IsInsertText part_fee_adding.text s 15 part_fee part_fee_adding.terms 5
+    (part_fee_row x) (part_fee_adding.source x)
+unfolding understood everything
+inserts = of_second (λ s. (x : PartFee) → IsInsertText part_fee_adding.text s 15 part_fee part_fee_adding.terms 5 (part_fee_row x) (part_fee_adding.source x))
+    (λ x. record { command = refl; plain = (refl, refl); listed = refl; is_uncounted = refl; value = refl })
+
+pub part_fee_is_adding : IsAdding Second part_fee_shape part_fee_row is_part_fee_row part_fee_adding
+part_fee_is_adding = record {
+  tree_is = refl;
+  listed = refl;
+  inserts = inserts;
+  stays = λ x good. row_stays part_fee_cells part_fee Null (part_fee_row x) refl cast_null (pass_each part_fee_cells true (part_fee_row x) good).1;
+  columns = λ x rows. refl;
+  keyed = λ x rows. refl;
+}
+
+-- ---- what the texts show
+
+abbrev part_fee_project : List Term
+part_fee_project = col 1 1 ∷ col 1 2 ∷ col 1 3 ∷ col 1 4 ∷ []
+
+abbrev part_fee_names : List (List ℕ)
+part_fee_names = codes "month" ∷ codes "branch_no" ∷ codes "fee" ∷ codes "fee_total" ∷ []
+
+-- ---- the whole table
+
+abbrev pub part_fee_listing : Listing
+part_fee_listing = record {
+  text = codes "SELECT month, branch_no, fee, fee_total FROM part_fee";
+  project = part_fee_project;
+  names = part_fee_names;
+  rowid_text = codes "SELECT rowid FROM part_fee";
+  rowid_name = codes "rowid";
+}
+
+pub part_fee_is_listing : IsListing Second 34 part_fee_columns part_fee_listing
+unfolding understood everything
+part_fee_is_listing = record {
+  selects = of_second (λ s. IsSelectText part_fee_listing.text s 34 [] part_fee_listing.project [] part_fee_listing.names)
+      (record { command = refl; unlisted = refl; plain = (refl, refl); stored = λ db. refl });
+  shows_columns = λ r. refl;
+  selects_rowid = of_second (λ s. IsSelectText part_fee_listing.rowid_text s 34 [] (col 1 0 ∷ []) [] (part_fee_listing.rowid_name ∷ []))
+      (record { command = refl; unlisted = refl; plain = (refl, refl); stored = λ db. refl });
+}
+
+-- ---- the fee of a part
+
+abbrev pub fee_of_part : Asking
+fee_of_part = record {
+  text = codes "SELECT month, branch_no, fee, fee_total FROM part_fee WHERE month = ?1 AND branch_no = ?2";
+  tests = op2 (Compare Eq Binary) (col 1 1) (col 0 0) ∷ op2 (Compare Eq Binary) (col 1 2) (col 0 1) ∷ [];
+  project = part_fee_project;
+  names = part_fee_names;
+}
+
+fee_of_part_selects : (s : Schema) → HasSince Second s → IsSelectText fee_of_part.text s 34 fee_of_part.tests part_fee_project [] part_fee_names
+unfolding understood everything
+fee_of_part_selects = of_second (λ s. IsSelectText fee_of_part.text s 34 fee_of_part.tests part_fee_project [] part_fee_names)
+    (record { command = refl; unlisted = refl; plain = (refl, refl); stored = λ db. refl })
+
+pub fee_of_part_is : IsAsking Second part_fee_shape fee_of_part
+    (λ (q : FeeOfPart). Unit {0}) (λ q. Int (pos q.month) ∷ Text q.branch ∷ []) (λ q it. nat_eq it.month q.month && is_same_text it.branch q.branch)
+fee_of_part_is = record {
+  selects = fee_of_part_selects;
+  shows_columns = λ q r. refl;
+  passes = λ q r known good.
+      let cells = (pass_each part_fee_cells true (part_fee_columns r) good).1 in
+      pass_both (same_number (column r 1) q.month (is_number FIRST_MONTH LAST_ENTRY_MONTH (column r 1) cells.0))
+      (same_text (column r 2) q.branch (text_is is_id (column r 2) cells.1.0));
+}

@@ -1,0 +1,104 @@
+//! Fees of branches in their table.
+
+use crate::{Listed, Look, Tabled};
+use dh_books::Books;
+use dh_types::{BranchFee, Id, Version};
+use sqlite::types::ValueRef;
+use std::alloc::{AllocError, Global};
+
+impl Tabled for BranchFee {
+    ghost use Rattle.dh_types.specs.declared.version.Version.TheVariants.{Second};
+    ghost use Rattle.std.specs.Prelude.{refl};
+    ghost use Rattle.dh_model.specs.Books.{text_cmp};
+    ghost use Rattle.dh_model.proofs.KeyOrders.{text_total, text_ties};
+    ghost use Rattle.dh_tables.specs.BranchFeeTable.{branch_fee_adding, branch_fee_is_adding, branch_fee_shape, branch_fee_shelf};
+
+    ghost shape = { branch_fee_shape };
+
+    ghost order = { text_cmp };
+
+    ghost since = { Second };
+
+    fn came_with() -> Version {
+        Version::Second
+    }
+
+    ghost adding = { branch_fee_adding };
+
+    ghost shelf = { branch_fee_shelf };
+
+    fn insert_text() -> &'static str {
+        "INSERT INTO branch_fee (branch_no, fee) VALUES (?1, ?2)"
+    }
+
+    fn put(self, books: &mut Books) -> Result<(), AllocError> {
+        books.put_branch_fee(self)
+    }
+
+    ghost total = { text_total };
+
+    ghost ties = { text_ties };
+
+    ghost has_shape = { record { is_row_is = λ r. refl; row_in_is = λ r. refl; key_is = λ x. refl } };
+
+    ghost is_adding = { branch_fee_is_adding };
+}
+
+impl Listed for BranchFee {
+    ghost use Rattle.dh_tables.specs.BranchFeeTable.{branch_fee_listing, branch_fee_is_listing};
+
+    ghost listing = { branch_fee_listing };
+
+    fn list_text() -> &'static str {
+        "SELECT branch_no, fee FROM branch_fee"
+    }
+
+    fn rowid_text() -> &'static str {
+        "SELECT rowid FROM branch_fee"
+    }
+
+    fn held_count(books: &Books) -> usize {
+        books.branch_fees().len()
+    }
+
+    ghost is_listing = { branch_fee_is_listing };
+}
+
+/// The present fee of this branch.
+#[derive(Drop)]
+pub struct FeeOfBranch {
+    pub branch: Id,
+}
+
+impl Look for FeeOfBranch {
+    ghost use Rattle.std.specs.Prelude.{◌∷◌, []};
+    ghost use Rattle.sqlite_value.specs.declared.value.Value.TheVariants.{Text};
+    ghost use Rattle.dh_model.specs.Checks.{is_same_text};
+    ghost use Rattle.dh_tables.specs.BranchFeeTable.{fee_of_branch, fee_of_branch_is};
+
+    type Record = BranchFee;
+
+    ghost asks = { λ q it. is_same_text it.branch q.branch };
+
+    ghost asking = { fee_of_branch };
+
+    ghost given = { λ q. Text q.branch ∷ [] };
+
+    fn text() -> &'static str {
+        "SELECT branch_no, fee FROM branch_fee WHERE branch_no = ?1"
+    }
+
+    fn day_bytes(&self, alloc: Global) -> Result<Vec<u8>, AllocError> {
+        Ok(Vec::new(alloc))
+    }
+
+    fn params<'a>(
+        &'a self,
+        alloc: Global,
+        _day: &'a [u8],
+    ) -> Result<Vec<ValueRef<'a>>, AllocError> {
+        [ValueRef::Text(self.branch.as_str().as_bytes())].to_vec(alloc)
+    }
+
+    ghost is_asking = { fee_of_branch_is };
+}

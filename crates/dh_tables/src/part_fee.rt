@@ -1,0 +1,110 @@
+//! Fees of parts of runs in their table.
+
+use crate::{Listed, Look, Tabled};
+use dh_books::Books;
+use dh_types::{EntryMonth, Id, PartFee, Version};
+use sqlite::types::ValueRef;
+use std::alloc::{AllocError, Global};
+
+impl Tabled for PartFee {
+    ghost use Rattle.dh_types.specs.declared.version.Version.TheVariants.{Second};
+    ghost use Rattle.std.specs.Prelude.{refl};
+    ghost use Rattle.std.specs.Ordering.{nat_cmp};
+    ghost use Rattle.dh_model.specs.Books.{pair_cmp, text_cmp};
+    ghost use Rattle.dh_model.proofs.KeyOrders.{nat_text_total, nat_text_ties};
+    ghost use Rattle.dh_tables.specs.PartFeeTable.{part_fee_adding, part_fee_is_adding, part_fee_shape, part_fee_shelf};
+
+    ghost shape = { part_fee_shape };
+
+    ghost order = { pair_cmp nat_cmp text_cmp };
+
+    ghost since = { Second };
+
+    fn came_with() -> Version {
+        Version::Second
+    }
+
+    ghost adding = { part_fee_adding };
+
+    ghost shelf = { part_fee_shelf };
+
+    fn insert_text() -> &'static str {
+        "INSERT INTO part_fee (month, branch_no, fee, fee_total) VALUES (?1, ?2, ?3, ?4)"
+    }
+
+    fn put(self, books: &mut Books) -> Result<(), AllocError> {
+        books.put_part_fee(self)
+    }
+
+    ghost total = { nat_text_total };
+
+    ghost ties = { nat_text_ties };
+
+    ghost has_shape = { record { is_row_is = λ r. refl; row_in_is = λ r. refl; key_is = λ x. refl } };
+
+    ghost is_adding = { part_fee_is_adding };
+}
+
+impl Listed for PartFee {
+    ghost use Rattle.dh_tables.specs.PartFeeTable.{part_fee_listing, part_fee_is_listing};
+
+    ghost listing = { part_fee_listing };
+
+    fn list_text() -> &'static str {
+        "SELECT month, branch_no, fee, fee_total FROM part_fee"
+    }
+
+    fn rowid_text() -> &'static str {
+        "SELECT rowid FROM part_fee"
+    }
+
+    fn held_count(books: &Books) -> usize {
+        books.part_fees().len()
+    }
+
+    ghost is_listing = { part_fee_is_listing };
+}
+
+/// The fee of the part of the run of this month at this branch.
+#[derive(Drop)]
+pub struct FeeOfPart {
+    pub month: EntryMonth,
+    pub branch: Id,
+}
+
+impl Look for FeeOfPart {
+    ghost use Rattle.std.specs.Prelude.{◌∷◌, [], nat_eq, pos, ◌&&◌};
+    ghost use Rattle.sqlite_value.specs.declared.value.Value.TheVariants.{Int, Text};
+    ghost use Rattle.dh_model.specs.Checks.{is_same_text};
+    ghost use Rattle.dh_tables.specs.PartFeeTable.{fee_of_part, fee_of_part_is};
+
+    type Record = PartFee;
+
+    ghost asks = { λ q it. nat_eq it.month q.month && is_same_text it.branch q.branch };
+
+    ghost asking = { fee_of_part };
+
+    ghost given = { λ q. Int (pos q.month) ∷ Text q.branch ∷ [] };
+
+    fn text() -> &'static str {
+        "SELECT month, branch_no, fee, fee_total FROM part_fee WHERE month = ?1 AND branch_no = ?2"
+    }
+
+    fn day_bytes(&self, alloc: Global) -> Result<Vec<u8>, AllocError> {
+        Ok(Vec::new(alloc))
+    }
+
+    fn params<'a>(
+        &'a self,
+        alloc: Global,
+        _day: &'a [u8],
+    ) -> Result<Vec<ValueRef<'a>>, AllocError> {
+        [
+            ValueRef::Int(i64::from(self.month.number())),
+            ValueRef::Text(self.branch.as_str().as_bytes()),
+        ]
+        .to_vec(alloc)
+    }
+
+    ghost is_asking = { fee_of_part_is };
+}
