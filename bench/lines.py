@@ -101,7 +101,7 @@ class Office:
         self.conn.execute("PRAGMA foreign_keys = ON")
         for text in creating_texts():
             self.conn.execute(text)
-        self.conn.execute(f"INSERT INTO meta VALUES (1, 1, {FIRST_MONTH}, {FIRST_MONTH})")
+        self.conn.execute(f"INSERT INTO meta VALUES (1, 2, {FIRST_MONTH}, {FIRST_MONTH})")
 
     def one(self, text, *values):
         return self.conn.execute(text, values).fetchone()

@@ -60,7 +60,7 @@ def put_half(leases):
 
 def fill(conn, leases):
     conn.execute("BEGIN")
-    conn.execute(f"INSERT INTO meta VALUES (1, 1, {FIRST_MONTH}, {FIRST_MONTH})")
+    conn.execute(f"INSERT INTO meta VALUES (1, 2, {FIRST_MONTH}, {FIRST_MONTH})")
     for n in range(BRANCHES):
         conn.execute("INSERT INTO branch VALUES (?, '1 Main St', 'Leeds', 'LS1 1AA')", (f"B{n}",))
         conn.execute("INSERT INTO staff VALUES (?, 'Ann Lee', 'Assistant', ?)", (f"S{n}", f"B{n}"))
@@ -97,9 +97,11 @@ def run(conn):
             through = batch[-1][0] if batch else 0
             if start == 0:
                 conn.execute("INSERT INTO part VALUES (?, ?, ?, ?, ?)", (FIRST_MONTH, branch, through, of_branch, sum_of_branch))
+                conn.execute("INSERT INTO part_fee VALUES (?, ?, 0, 0)", (FIRST_MONTH, branch))
             else:
                 conn.execute("UPDATE part SET through_lease = ?, due_count = ?, due_total = ? WHERE month = ? AND branch_no = ?",
                              (through, of_branch, sum_of_branch, FIRST_MONTH, branch))
+                conn.execute("UPDATE part_fee SET fee = 0, fee_total = 0 WHERE month = ? AND branch_no = ?", (FIRST_MONTH, branch))
             conn.execute("COMMIT")
         count += of_branch
         total += sum_of_branch

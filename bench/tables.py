@@ -1,5 +1,5 @@
 #!/usr/bin/env python3
-"""Files with the fourteen tables, made and read by Python's own sqlite3.
+"""Files with the tables of an office, made and read by Python's own sqlite3.
 
 tables.py make FILE ROWS CHARGES    makes FILE with so many rows a table, FILE.asked with a thousand of each table's rows,
                                     and FILE.new with a thousand rows that FILE lacks
@@ -101,7 +101,7 @@ def make_file(path, rows, texts, numbers):
     conn.executescript("PRAGMA journal_mode = OFF; PRAGMA synchronous = OFF")
     for text in texts:
         conn.execute(text)
-    conn.execute("INSERT INTO meta VALUES (1, 1, ?, ?)", (FIRST_MONTH, FIRST_MONTH + RUNS))
+    conn.execute("INSERT INTO meta VALUES (1, 2, ?, ?)", (FIRST_MONTH, FIRST_MONTH + RUNS))
     for table in TABLES:
         row = getattr(rows, table)
         places = ", ".join("?" * len(row(0)))
