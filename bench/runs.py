@@ -124,16 +124,21 @@ def time_run(leases, path):
     conn.close()
 
 
-match sys.argv[1:]:
-    case ["lines", leases, runs]:
-        put_lines(int(leases), int(runs))
-    case ["half", leases]:
-        put_half(int(leases))
-    case ["leases", leases]:
-        put_leases(int(leases))
-    case ["middle", leases]:
-        print(batches(int(leases)) // 2)
-    case ["python", leases, *path]:
-        time_run(int(leases), path[0] if path else ":memory:")
-    case _:
-        sys.exit(__doc__)
+def main():
+    match sys.argv[1:]:
+        case ["lines", leases, runs]:
+            put_lines(int(leases), int(runs))
+        case ["half", leases]:
+            put_half(int(leases))
+        case ["leases", leases]:
+            put_leases(int(leases))
+        case ["middle", leases]:
+            print(batches(int(leases)) // 2)
+        case ["python", leases, *path]:
+            time_run(int(leases), path[0] if path else ":memory:")
+        case _:
+            sys.exit(__doc__)
+
+
+if __name__ == "__main__":
+    main()

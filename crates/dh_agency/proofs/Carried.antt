@@ -8,24 +8,30 @@ use Rattle.dh_types.specs.declared.command.RunOrder.{RunOrder}
 use Rattle.dh_types.specs.declared.reply.Reply.{Reply}
 use Rattle.dh_types.specs.declared.reply.Reply.TheVariants as reply
 use Rattle.dh_types.specs.declared.reply.Refusal.{Refusal}
+use Rattle.dh_types.specs.declared.version.Version.{Version}
+use Rattle.dh_types.specs.declared.version.Version.TheVariants.{First, Second}
 use Rattle.dh_model.specs.Books as machine
 use Rattle.dh_model.specs.declared.rows.Change.{Change}
 use Rattle.dh_model.specs.declared.rows.Change.TheVariants as change
 use Rattle.dh_model.specs.declared.rows.Verdict.{Verdict}
 use Rattle.dh_model.specs.declared.rows.Verdict.TheVariants as verdict
+use Rattle.dh_model.specs.Kinds.{IsSince}
 use Rattle.dh_model.specs.Machine.{accepted}
 use Rattle.dh_model.specs.Runs.{batch_size}
 use Rattle.dh_model.specs.Verdicts.{opened_run, run_verdict, verdict_on}
 use Rattle.dh_laws.specs.Batches.{is_plain}
 use Rattle.dh_laws.specs.InOrder.{IsEntered}
 use Rattle.dh_laws.specs.Looks.{AcceptedChangesFit, FitsIn}
-use Rattle.dh_laws.specs.StateTables.{IsStateInOrder}
+use Rattle.dh_laws.specs.Events.{Said}
+use Rattle.dh_laws.specs.StateTables.{IsStateInOrder, as_tables}
 use Rattle.dh_laws.specs.Telling.{begun}
 use Rattle.dh_laws.proofs.Carrying.{opening_cut, opening_said, refused_said, rows_cut, rows_in_order, rows_said, same_cut}
+use Rattle.dh_laws.proofs.Versions.{the_version_stays}
 use Rattle.dh_schema.specs.Store as store
 use Rattle.dh_schema.specs.Store.{IsReady, Leaves, with_change}
 use Rattle.dh_schema.specs.Tables.{IsSound, state_in}
 use Rattle.dh_schema.proofs.Keyed.{books_are_keyed, sound_tables_show_their_run}
+use Rattle.dh_store.specs.Putting.{HasPlace, came_with_rows}
 use Rattle.dh_runs.specs.Told.{IsCut, IsSaid}
 
 pub on_err : {A E P : Type 0} (r : Result A E) → P → OnErr r P
@@ -43,6 +49,20 @@ pub refused : (told : Command) (why : Refusal) (it : Verdict) (old : State) (t :
     → it ≡ verdict_on (store.tables old).books (store.tables old).open_run told → it ≡ verdict.Refused why → t ≡ store.tables old
     → IsSaid told (reply.Refused why) (store.tables old) t
 refused told why it old t ready found h is = refused_said (store.tables old) t told why (in_order old ready) (sym found ∙ h) is
+
+-- ---- the version
+
+since_second : (since version : Version) → version ≡ Second → IsSince since version
+since_second First version is = tt
+since_second Second version is = is
+
+-- tables of the second version have a place for all rows
+pub has_place : {version : Version} (rows : Change) → version ≡ Second → HasPlace version rows
+has_place {version = version} rows is = since_second (came_with_rows rows) version is
+
+-- and stay so where a command was answered
+pub still_second : (told : Command) (said : Reply) (s t : machine.State) → IsSaid told said s t → s.books.version ≡ Second → t.books.version ≡ Second
+still_second told said s t is second = the_version_stays batch_size (Said told said) (as_tables s) (as_tables t) is ∙ second
 
 -- ---- what a crash leaves
 

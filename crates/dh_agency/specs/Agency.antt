@@ -11,7 +11,12 @@ use Rattle.dh_laws.specs.Events.{state_of}
 use Rattle.dh_laws.specs.StateTables as laws
 use Rattle.dh_schema.specs.Store as store
 use Rattle.dh_schema.specs.Store.{tables}
+use Rattle.dh_runs.specs.Taking.{AreSecond}
 use Rattle.dh_agency.specs.Seat.{Seat}
+
+-- Ready, with tables of the second version.
+abbrev pub IsServed : conn.State → Type 0
+IsServed s = store.IsReady s × AreSecond s
 
 abbrev pub shown_by : {S : Type 0} → Ghosts S → Seat S → conn.State
 shown_by g a = state g a.conn

@@ -8,8 +8,7 @@ ghost use Rattle.dh_types.specs.Reports.{report_of};
 ghost use Rattle.dh_model.specs.Answers.{report};
 ghost use Rattle.dh_laws.specs.Batches.{IsPostedInPart};
 ghost use Rattle.dh_schema.specs.Faults.{IsFirstFault};
-ghost use Rattle.dh_schema.specs.Store.{IsReady};
-ghost use Rattle.dh_agency.specs.Agency.{IsClean, IsOpen, WasClean, LeavesItsTables, Leaves, ReadsAs, machine};
+ghost use Rattle.dh_agency.specs.Agency.{IsClean, IsOpen, IsServed, WasClean, LeavesItsTables, Leaves, ReadsAs, machine};
 ghost use Rattle.dh_agency.specs.Told.{IsCut, IsSaid, reply_of};
 
 use crate::carrying::carry_out;
@@ -30,7 +29,7 @@ impl<S: Alter> Model for Agency<S> {
     ghost use Rattle.std.specs.Prelude.{◌≡◌, false};
     ghost use Rattle.sqlite.specs.State.{HasCleanDisk};
     ghost use Rattle.sqlite.specs.Held.{state};
-    ghost use Rattle.dh_schema.specs.Store.{IsReady};
+    ghost use Rattle.dh_agency.specs.Agency.{IsServed};
     ghost use Rattle.dh_agency.specs.Seat.{Seat, seat_code};
 
     ghost Value = { Seat S };
@@ -39,13 +38,13 @@ impl<S: Alter> Model for Agency<S> {
 
     ghost view = { λ a. record { conn = a.conn; is_stopped = a.is_stopped } };
 
-    ghost invariant = { λ a. a.is_stopped ≡ false → HasCleanDisk (state S.Store a.conn) → IsReady (state S.Store a.conn) };
+    ghost invariant = { λ a. a.is_stopped ≡ false → HasCleanDisk (state S.Store a.conn) → IsServed (state S.Store a.conn) };
 }
 
 impl<S: Alter> Agency<S> {
-    /// The agency over tables that are ready.
+    /// The agency over tables of the second version that are ready.
     pub(crate) fn over(conn: Connection<S>) -> Agency<S>
-        requires { HasCleanDisk (state S.Store conn) → IsReady (state S.Store conn) }
+        requires { HasCleanDisk (state S.Store conn) → IsServed (state S.Store conn) }
         ensures { result ≡ record { conn = conn; is_stopped = false } }
     {
         Agency {

@@ -10,7 +10,6 @@ ghost use Rattle.dh_schema.specs.Store.{IsReady, tables};
 ghost use Rattle.dh_runs.specs.Taking.{IsResting};
 
 use crate::batches::batch_text;
-use crate::either::{judge_text, planned_text};
 use crate::finding::find_text;
 use crate::lives::{Lived, problem_text, told_anew};
 use crate::tables::{install_text, load_text, version_text};
@@ -146,8 +145,6 @@ fn call_text<S: Alter>(
     let (kind, words) = call.split_once(',').unwrap_or((call, ""));
     match kind {
         "find" => find_text(alloc, conn, words),
-        "judge" => judge_text(alloc, conn, words),
-        "plan" => planned_text(alloc, conn),
         "install" => install_text(alloc, conn, january()),
         "version" => version_text(alloc, conn),
         "load" => load_text(alloc, conn),
@@ -158,8 +155,7 @@ fn call_text<S: Alter>(
 }
 
 /// What one line comes to over tables that were just opened. Behind `call,` stands a call of the layers below an agency: `install`,
-/// `version`, `load`, `find,KIND,KEY`, an opening's line, `batch` or `close`; `judge,LINE` is the verdict on a command or the answer to a
-/// question, and `plan` the plan of the open run, both over tables of either version.
+/// `version`, `load`, `find,KIND,KEY`, an opening's line, `batch` or `close`.
 pub fn line_over<S: Alter>(alloc: Global, mut conn: Connection<S>, line: &str) -> Lived<S>
     requires { HasCleanDisk (state S.Store conn) → IsResting (state S.Store conn) }
 {

@@ -27,10 +27,7 @@ fn check_books(alloc: Global, books: &Books) -> Result<(), Problem>
 }
 
 /// The tables of either version as books, where they are sound.
-pub(crate) fn sound_books<S: Alter>(
-    alloc: Global,
-    conn: &mut Connection<S>,
-) -> Result<Books, Problem>
+pub fn sound_books<S: Alter>(alloc: Global, conn: &mut Connection<S>) -> Result<Books, Problem>
     requires { HasCleanDisk (state S.Store conn.old) → IsResting (state S.Store conn.old) }
     ensures { HasCleanDisk (state S.Store conn.new) → OnOk result (IsReady (state S.Store conn.new)) }
 {

@@ -7,7 +7,7 @@ ghost use Rattle.dh_types.specs.Reports.{report_of};
 ghost use Rattle.dh_model.specs.Answers.{matching_report, report};
 ghost use Rattle.dh_model.specs.MachineLaws.{is_put_off};
 
-use crate::{arrears, branches, matching, run_report, statement, vacant};
+use crate::{arrears, branches, matching, owner_statement, run_report, statement, vacant};
 use dh_books::Books;
 use dh_types::{Answer, ClientDay, Question, Refusal, field};
 use std::alloc::{AllocError, Global};
@@ -29,7 +29,7 @@ pub fn is_put_off(question: &Question) -> bool
 {
     matches!(
         question,
-        Question::Statement(_) | Question::Arrears(_) | Question::Run(_)
+        Question::Statement(_) | Question::Arrears(_) | Question::Run(_) | Question::Owner(_)
     )
 }
 
@@ -57,11 +57,12 @@ fn answer_passed(alloc: Global, books: Books, question: &Question) -> Result<Ans
         Question::Statement(lease) => statement(alloc, &books, lease),
         Question::Arrears(branch) => arrears(alloc, &books, &branch),
         Question::Run(month) => run_report(alloc, &books, month),
+        Question::Owner(asked) => owner_statement(alloc, &books, asked),
     }
 }
 
-/// What the books answer to the question. While a run is open, `statement`, `arrears` and `run` are refused 10 with its
-/// month. The books end here: rows that the answer lists are moved out of them. It fails where memory runs out.
+/// What the books answer to the question. While a run is open, `statement`, `arrears`, `run` and `owner` are refused 10 with
+/// its month. The books end here: rows that the answer lists are moved out of them. It fails where memory runs out.
 pub fn answer(alloc: Global, books: Books, question: &Question) -> Result<Answer, AllocError>
     ensures { IfOk result (λ answer. report_of answer ≡ report books question.now) }
 {

@@ -1,90 +1,33 @@
 -- What fee rows take of charges, one charge after the other, and what a part's row sums up.
-use Rattle.std.proofs.Common.{◌≡◌, ◌↔◌, ◌∙◌, refl, sym, ap, subst, ℕ, ◌+◌, ◌*◌, ◌<◌, ◌≤◌, Bool, true, false, cond}
-use Rattle.std.proofs.Common.{◌&&◌, nat_eq, is_eq, List, [], ◌∷◌, ◌++◌, length}
-use Rattle.std.proofs.Common.{take, slice_index_or, Option, Some, None, arith, nat_le}
-use Rattle.std.specs.Prelude.{IfSome, IsSomeAnd}
+use Rattle.std.proofs.Common.{◌≡◌, ◌↔◌, ◌∙◌, refl, sym, ap, subst, ℕ, ◌+◌, ◌*◌, ◌^◌, ◌<◌, ◌≤◌, Bool, true, false, cond}
+use Rattle.std.proofs.Common.{◌&&◌, nat_eq, List, [], ◌∷◌, ◌++◌, length}
+use Rattle.std.proofs.Common.{append_assoc, append-nil, Option, Some, None, arith, unwrap_or}
+use Rattle.std.specs.Prelude.{IsSomeAnd}
 use Rattle.std.specs.List.{filter, sum_by}
-use Rattle.std.specs.Ordering.{nat_cmp}
 use Rattle.std.specs.FinMap as fin
-use Rattle.std.specs.BTreeMap.{BTreeMap, is_at}
-use Rattle.std.proofs.lemmas.Bool.{cases_Bool, false_from_ne_true, false≢true, and_parts, and_from}
-use Rattle.std.proofs.Math.Seq.{take-length}
-use Rattle.std.proofs.lemmas.List.{take_more}
+use Rattle.std.specs.BTreeMap.{BTreeMap, get, is_at}
+use Rattle.std.proofs.lemmas.Bool.{false_from_ne_true, false≢true, and_parts, and_from}
 use Rattle.std.proofs.lemmas.List.Sums.{sum_by-cons, sum_by_push}
 use Rattle.dh_types.specs.declared.lease.Lease.{Lease}
 use Rattle.dh_types.specs.declared.lease.Charge.{Charge}
 use Rattle.dh_types.specs.declared.property.Property.{Property}
 use Rattle.dh_types.specs.declared.run.Part.{Part}
-use Rattle.dh_types.specs.declared.run.Run.{Run}
 use Rattle.dh_types.specs.declared.fee.PartFee.{PartFee}
 use Rattle.dh_types.proofs.SameValues.{numbers, texts}
-use Rattle.dh_model.specs.Books.{Books, pair_cmp, text_cmp}
-use Rattle.dh_model.specs.Runs.{charge_fee, fee_at, fees_over, is_property_of, part_fee_of}
-use Rattle.dh_model.specs.Rules.{HasItsFee, charges_in, charges_of_part, is_charged_at}
+use Rattle.dh_model.specs.Books.{Books}
+use Rattle.dh_model.specs.Runs.{charge_fee, fees_over, is_property_of, part_fee_of}
+use Rattle.dh_model.specs.Rules.{HasItsFee, charges_of_part, is_charged_at}
 use Rattle.dh_model.proofs.MapRows.{key_itself, same_key}
-use Rattle.dh_audit.specs.Fees.{HasItsRow, IsItsRow, fee_by, fees_at, is_charged_under, pence_at, taken_at, under_key}
+use Rattle.dh_audit.specs.declared.fees.Taken.{Taken}
+use Rattle.dh_audit.specs.Fees.{HasItsRow, HasMore, IsItsRow, branch_at, branch_in, branch_of, fee_by, fees_at, is_charged_under, key_cmp}
+use Rattle.dh_audit.specs.Fees.{pence_at, pence_in, row_fee, so_far, taken_at, taken_of, with_charge}
 use Rattle.dh_audit.proofs.ClosedSums.{Key, keys_ties, keys_total}
-
--- ---- one charge more
-
-pub taken_next : (charges : List Charge) (i : ℕ) (charge : Charge) → charge ≡ slice_index_or charges i charge → i < length charges
-    → take (i + 1) charges ≡ take i charges ++ charge ∷ []
-taken_next charges i charge is within = take_more charges i charge within ∙ ap (λ c. take i charges ++ c ∷ []) (sym is)
-
-pub taken_all : (charges : List Charge) (i : ℕ) → i ≤ length charges → length charges ≤ i → take i charges ≡ charges
-taken_all charges i most least = let is : i ≡ length charges = omega (arith, most, least) in ap (λ n. take n charges) is ∙ take-length charges
-
-module _ (books : Books) (charges : List Charge) (charge : Charge) where
-  one_more : (key : Key) → fees_at books (charges ++ charge ∷ []) key ≡ fees_at books charges key + taken_at books key charge
-  one_more key = sum_by_push (taken_at books key) charges charge
-
-  -- a charge of which nothing is taken
-  pub none_taken : (sums : Key → ℕ) → ((key : Key) → sums key ≡ fees_at books charges key) → ((key : Key) → taken_at books key charge ≡ under_key None key)
-      → (key : Key) → sums key ≡ fees_at books (charges ++ charge ∷ []) key
-  none_taken sums was none key =
-      let had = was key in
-      let no = none key in
-      let next = one_more key in
-      omega (arith, had, no, next)
-
-  -- pence put under their key
-  module _ (old new : Key → ℕ) (own : Key) (pence : ℕ) (was : (key : Key) → old key ≡ fees_at books charges key)
-      (takes : (key : Key) → taken_at books key charge ≡ under_key (Some (own, pence)) key)
-      (is : (key : Key) → new key ≡ cond (is_at (pair_cmp nat_cmp text_cmp own) key) (old own + pence) (old key)) where
-    put_by : (key : Key) (b : Bool) → is_at (pair_cmp nat_cmp text_cmp own) key ≡ b
-        → cond b (old own + pence) (old key) ≡ old key + cond b pence 0
-    put_by key true e =
-        let same : own ≡ key = same_key keys_total keys_ties own key e in
-        ap (λ k. old k + pence) same
-    put_by key false e = omega arith
-
-    pub some_taken : (key : Key) → new key ≡ fees_at books (charges ++ charge ∷ []) key
-    some_taken key =
-        let more = is key ∙ put_by key (is_at (pair_cmp nat_cmp text_cmp own) key) refl in
-        let had = was key in
-        let its = takes key in
-        let next = one_more key in
-        omega (arith, more, had, its, next)
-
-    more_by : (key : Key) (b : Bool) (most : ℕ) → pence ≤ 999999 → ((k : Key) → old k ≤ most) → cond b (old own + pence) (old key) ≤ most + 999999
-    more_by key true most small few = let had = few own in omega (arith, had, small)
-    more_by key false most small few = let had = few key in omega (arith, had)
-
-    pub still_few : (i : ℕ) → pence ≤ 999999 → ((k : Key) → old k ≤ 999999 * i) → (key : Key) → new key ≤ 999999 * (i + 1)
-    still_few i small few key =
-        let step = more_by key (is_at (pair_cmp nat_cmp text_cmp own) key) (999999 * i) small few in
-        let at = is key in
-        omega (arith, step, at)
 
 -- ---- what is taken of a charge
 
 nowhere : (b : Bool) (n : ℕ) → cond (b && false) n 0 ≡ 0
 nowhere true n = refl
 nowhere false n = refl
-
-nothing : (b : Bool) → ◌≡◌ {A = ℕ} (cond b 0 0) 0
-nothing true = refl
-nothing false = refl
 
 module _ (books : Books) (charge : Charge) where
   abbrev At : Option Lease → Key → Bool
@@ -111,7 +54,7 @@ module _ (books : Books) (charge : Charge) where
       own = (charge.month, property.branch)
 
       abbrev is_own : Key → Bool
-      is_own key = is_at (pair_cmp nat_cmp text_cmp own) key
+      is_own key = is_at (key_cmp own) key
 
       abbrev matches : Key → Bool
       matches key = nat_eq charge.month key.0 && is_property_of key.1 (Some property)
@@ -135,19 +78,120 @@ module _ (books : Books) (charge : Charge) where
           ∙ ap (λ found. cond (nat_eq charge.month key.0 && is_property_of key.1 found) (fee_by (fin.get books.part_fees key) charge) 0) owned
           ∙ ap (λ b. cond b (fee_by (fin.get books.part_fees key) charge) 0) (same_test key (is_own key) refl)
 
-      by_row : (row : Option PartFee) → fin.get books.part_fees own ≡ row → (key : Key) (b : Bool) → is_own key ≡ b
-          → cond b (fee_by (fin.get books.part_fees key) charge) 0 ≡ cond b (fee_by row charge) 0
-      by_row row is_row key true e =
+  no_branch_in : (lease : Lease) → fin.get books.leases charge.lease ≡ Some lease → (found : Option Property)
+      → fin.get books.properties lease.terms.property ≡ found → branch_in found ≡ None → (key : Key) → taken_at books key charge ≡ 0
+  no_branch_in lease is None at none key = no_property lease is at key
+  no_branch_in lease is (Some property) at none key = absurd (let no : Some property.branch ≡ None = none in cc)
+
+  no_branch_at : (found : Option Lease) → fin.get books.leases charge.lease ≡ found → branch_at books found ≡ None → (key : Key)
+      → taken_at books key charge ≡ 0
+  no_branch_at None is none key = no_lease is key
+  no_branch_at (Some lease) is none key = no_branch_in lease is (fin.get books.properties lease.terms.property) refl none key
+
+  -- nothing is taken of a charge that is made at no branch
+  pub no_branch : branch_of books charge.lease ≡ None → (key : Key) → taken_at books key charge ≡ 0
+  no_branch = no_branch_at (fin.get books.leases charge.lease) refl
+
+  module _ (branch : List ℕ) where
+    abbrev Takes : List ℕ → Type 0
+    Takes branch = (key : Key) → taken_at books key charge ≡ cond (is_at (key_cmp (charge.month, branch)) key) (fee_by (fin.get books.part_fees key) charge) 0
+
+    a_branch_in : (lease : Lease) → fin.get books.leases charge.lease ≡ Some lease → (found : Option Property)
+        → fin.get books.properties lease.terms.property ≡ found → branch_in found ≡ Some branch → Takes branch
+    a_branch_in lease is None at some = absurd (let no : None ≡ Some branch = some in cc)
+    a_branch_in lease is (Some property) at some = let same : property.branch ≡ branch = cc in subst Takes same (at_property lease is property at)
+
+    a_branch_at : (found : Option Lease) → fin.get books.leases charge.lease ≡ found → branch_at books found ≡ Some branch → Takes branch
+    a_branch_at None is some = absurd (let no : None ≡ Some branch = some in cc)
+    a_branch_at (Some lease) is some = a_branch_in lease is (fin.get books.properties lease.terms.property) refl some
+
+    -- of any other, the fee row of its month and branch takes its fee, and no other row takes anything
+    pub a_branch : branch_of books charge.lease ≡ Some branch → Takes branch
+    a_branch = a_branch_at (fin.get books.leases charge.lease) refl
+
+-- ---- one charge more
+
+-- the fee row takes so many pence
+abbrev taking : Books → Key → ℕ → Taken
+taking books key pence = record { fee = row_fee (fin.get books.part_fees key); pence = pence }
+
+-- what is taken of the charges that are done, before those that are left
+pub record IsDone (books : Books) (count : ℕ) (fees : BTreeMap Key Taken) (rest : List Charge) : Type 0 where
+  pub done : List Charge
+  pub whole : done ++ rest ≡ fin.values books.charges
+  pub taken : (key : Key) → so_far books fees key ≡ taken_of books done key
+  pub few : (key : Key) → fees_at books done key + 999999 * length rest ≤ 999999 * count
+
+module _ (books : Books) (count : ℕ) (charge : Charge) (rest left : List Charge) (first : left ≡ charge ∷ rest) where
+  module _ (old : BTreeMap Key Taken) (was : IsDone books count old left) where
+    abbrev next : List Charge
+    next = was.done ++ charge ∷ []
+
+    one_more : (key : Key) → fees_at books next key ≡ fees_at books was.done key + taken_at books key charge
+    one_more key = sum_by_push (taken_at books key) was.done charge
+
+    next_whole : next ++ rest ≡ fin.values books.charges
+    next_whole = append_assoc was.done (charge ∷ []) rest ∙ ap (λ l. was.done ++ l) (sym first) ∙ was.whole
+
+    still_few : (key : Key) → taken_at books key charge ≤ 999999 → fees_at books next key + 999999 * length rest ≤ 999999 * count
+    still_few key small =
+        let had = was.few key in
+        let next = one_more key in
+        let fewer = ap length first in
+        omega (arith, had, next, fewer, small)
+
+    -- nothing is taken of the charge
+    pub none_taken : ((key : Key) → taken_at books key charge ≡ 0) → IsDone books count old rest
+    none_taken none = record {
+      done = next;
+      whole = next_whole;
+      taken = λ key. was.taken key ∙ ap (taking books key) (let no = none key in let more = one_more key in omega (arith, no, more));
+      few = λ key. still_few key (let no = none key in omega (arith, no));
+    }
+
+    module _ (own : Key) (takes : (key : Key) → taken_at books key charge ≡ cond (is_at (key_cmp own) key) (fee_by (fin.get books.part_fees key) charge) 0)
+        (least : charge_fee (so_far books old own).fee charge ≤ 999999) where
+      abbrev fee_at_key : Key → ℕ
+      fee_at_key key = fee_by (fin.get books.part_fees key) charge
+
+      small : fee_at_key own ≤ 999999
+      small = subst (λ (taken : Taken). charge_fee taken.fee charge ≤ 999999) (was.taken own) least
+
+      small_by : (key : Key) (b : Bool) → is_at (key_cmp own) key ≡ b → cond b (fee_at_key key) 0 ≤ 999999
+      small_by key true e =
           let same : own ≡ key = same_key keys_total keys_ties own key e in
-          ap (λ k. fee_by (fin.get books.part_fees k) charge) (sym same) ∙ ap (λ found. fee_by found charge) is_row
-      by_row row is_row key false e = refl
+          subst (λ k. fee_at_key k ≤ 999999) same small
+      small_by key false e = omega arith
 
-      pub no_row : fin.get books.part_fees own ≡ None → (key : Key) → taken_at books key charge ≡ 0
-      no_row none key = at_property key ∙ by_row None none key (is_own key) refl ∙ nothing (is_own key)
+      module _ (new : BTreeMap Key Taken) (more : HasMore books old new own charge) where
+        next_by : (key : Key) (b : Bool) → is_at (key_cmp own) key ≡ b → cond b (with_charge (so_far books old own) charge) (so_far books old key)
+            ≡ taking books key (fees_at books was.done key + cond b (fee_at_key key) 0)
+        next_by key true e =
+            let same : own ≡ key = same_key keys_total keys_ties own key e in
+            ap (λ taken. with_charge taken charge) (was.taken own) ∙ ap (λ k. taking books k (fees_at books was.done k + fee_at_key k)) same
+        next_by key false e =
+            was.taken key ∙ ap (taking books key) (let same : fees_at books was.done key ≡ fees_at books was.done key + 0 = omega arith in same)
 
-      pub its_row : (row : PartFee) → fin.get books.part_fees own ≡ Some row
-          → (key : Key) → taken_at books key charge ≡ under_key (Some (own, charge_fee row.fee charge)) key
-      its_row row some key = at_property key ∙ by_row (Some row) some key (is_own key) refl
+        -- the fee row of its month and branch takes its fee
+        pub some_taken : IsDone books count new rest
+        some_taken = record {
+          done = next;
+          whole = next_whole;
+          taken = λ key. more key ∙ next_by key (is_at (key_cmp own) key) refl
+              ∙ ap (taking books key) (let its = takes key in let more = one_more key in omega (arith, its, more));
+          few = λ key. still_few key (let its = takes key in let few = small_by key (is_at (key_cmp own) key) refl in omega (arith, its, few));
+        }
+
+module _ (books : Books) (count : ℕ) (fees : BTreeMap Key Taken) where
+  -- once none is left, it is what is taken of all
+  pub all_taken : IsDone books count fees [] → (key : Key) → so_far books fees key ≡ taken_of books (fin.values books.charges) key
+  all_taken was key = was.taken key ∙ ap (λ charges. taken_of books charges key) (sym (append-nil was.done) ∙ was.whole)
+
+  -- each fee row has room for one charge more
+  pub room : count < 2 ^ 64 → (rest : List Charge) → IsDone books count fees rest → (key : Key) → (so_far books fees key).pence + 999999 < 2 ^ 128
+  room fits rest was key =
+      let few = was.few key in
+      subst (λ (taken : Taken). taken.pence + 999999 < 2 ^ 128) (sym (was.taken key)) (omega (arith, few, fits))
 
 -- ---- what a part's row sums up
 
@@ -212,3 +256,26 @@ module _ (books : Books) (part : Part) where
   -- the part has its fee exactly where it has such a row
   pub has_its_row : HasItsRow books (fees_at books all) part ↔ HasItsFee books part
   has_its_row = (of_row (fin.get books.part_fees key) refl, to_row)
+
+-- ---- what was taken, by month and branch
+
+pence_or : (found : Option Taken) (none : Taken) → none.pence ≡ 0 → (unwrap_or found none).pence ≡ pence_in found
+pence_or None none nothing = nothing
+pence_or (Some taken) none nothing = refl
+
+module _ (books : Books) (fees : BTreeMap Key Taken)
+    (taken : (key : Key) → so_far books fees key ≡ taken_of books (fin.values books.charges) key) (part : Part) where
+  abbrev at : Key
+  at = (part.month, part.branch)
+
+  same_pence : pence_at fees at ≡ fees_at books (fin.values books.charges) at
+  same_pence = sym (pence_or (get key_cmp fees at) (taken_of books [] at) refl) ∙ ap (λ (its : Taken). its.pence) (taken at)
+
+  abbrev By : ℕ → Type 0
+  By sum = IsSomeAnd (fin.get books.part_fees at) (IsItsRow books sum part)
+
+  -- the part has its fee exactly where it has a row that comes to these pence
+  pub has_fee_by : HasItsRow books (pence_at fees) part ↔ HasItsFee books part
+  has_fee_by =
+      let its = has_its_row books part in
+      (λ h. its.0 (subst By same_pence h), λ h. subst By (sym same_pence) (its.1 h))

@@ -1,80 +1,114 @@
 //! Whether each part has its fee row.
 
-ghost use Rattle.std.specs.Prelude.{◌≡◌, ◌↔◌, ℕ, ◌+◌, ◌<◌, ◌≤◌, ◌^◌, List, true, false, IfOk, IfSome, OnOk};
+ghost use Rattle.std.specs.Prelude.{◌≡◌, ◌↔◌, ℕ, ◌+◌, ◌<◌, ◌≤◌, ◌^◌, List, [], true, false, IfOk, IfSome, OnOk};
 ghost use Rattle.std.specs.FinMap as fin;
-ghost use Rattle.std.specs.Ordering.{nat_cmp};
 ghost use Rattle.dh_values.specs.declared.limits.TheConstants.{MOST_RENT};
 ghost use Rattle.dh_types.specs.declared.version.Version.TheVariants.{First, Second};
-ghost use Rattle.dh_model.specs.Books.{pair_cmp, text_cmp};
-ghost use Rattle.dh_model.specs.Runs.{fee_at};
+ghost use Rattle.dh_model.specs.Runs.{charge_fee, fee_at};
 ghost use Rattle.dh_model.specs.Rules.{Each, HasFees};
-ghost use Rattle.dh_audit.specs.Fees.{HasItsRow, HasMore, IsItsRow, fees_at, pence_at, taken_at, under_key};
+ghost use Rattle.dh_audit.specs.Fees.{HasItsRow, HasMore, IsItsRow, branch_of, pence_at, so_far, taken_of, with_charge};
 
 use dh_books::Books;
 use dh_leases::charge_fee;
-use dh_types::{Charge, EntryMonth, Id, Part, PartFee, Version};
+use dh_types::{Charge, EntryMonth, Fee, Id, LeaseNo, Part, PartFee, Version};
 use std::alloc::{AllocError, Global};
 use std::collections::BTreeMap;
 
-// Pence by month and branch.
-type Fees = BTreeMap<(EntryMonth, Id), u128>;
-
-// The pence under the key, none where there are none.
-fn pence_at<K: Ord>(fees: &BTreeMap<K, u128>, key: &K) -> u128
-    ensures { result ≡ pence_at K.cmp fees.now key.now }
-{
-    fees.get(key).copied().unwrap_or(0)
+// What a fee row takes of the charges so far.
+#[derive(Clone, Copy)]
+struct Taken {
+    fee: Fee,
+    pence: u128,
 }
 
-// More pence under the key.
-fn add<K: Ord + Drop>(fees: &mut BTreeMap<K, u128>, key: K, pence: u64) -> Result<(), AllocError>
-    requires { pence_at K.cmp fees.old key + pence < 2 ^ 128 }
-    ensures { OnOk result (HasMore K.cmp fees.old fees.new key pence) }
+// By month and branch, where a charge was made.
+type Fees = BTreeMap<(EntryMonth, Id), Taken>;
+
+// The lease of a charge, and the branch of its property, where both are there.
+#[derive(Clone, Copy)]
+struct Place {
+    lease: LeaseNo,
+    branch: Option<Id>,
+}
+
+fn branch_of(books: &Books, lease: LeaseNo) -> Option<Id>
+    ensures { result ≡ branch_of books.now.books lease }
 {
-    let sum = pence_at(fees, &key) + u128::from(pence);
-    let _before = fees.insert(key, sum)?;
+    let lease = books.lease(&lease)?;
+    let property = books.property(&lease.terms.property)?;
+    Some(property.branch)
+}
+
+// The place of the lease: it is mostly that of the charge before.
+fn place_of(books: &Books, before: Option<Place>, lease: LeaseNo) -> Place
+    requires { IfSome before (λ place. place.branch ≡ branch_of books.now.books place.lease) }
+    ensures { result ≡ record { lease = lease; branch = branch_of books.now.books lease } }
+{
+    match before {
+        Some(place) if place.lease == lease => place,
+        _ => Place {
+            lease,
+            branch: branch_of(books, lease),
+        },
+    }
+}
+
+// What the fee row of the month and the branch takes before any charge. Where there is no such row, the fee is 0.
+fn nothing_taken(books: &Books, key: &(EntryMonth, Id)) -> Taken
+    ensures { result ≡ taken_of books.now.books [] key.now }
+{
+    let fee = match books.part_fee(key) {
+        Some(row) => row.fee,
+        None => Fee::of_number(0),
+    };
+    Taken { fee, pence: 0 }
+}
+
+// What the fee row takes with one charge more.
+fn with_charge(taken: Taken, charge: &Charge) -> Taken
+    requires { taken.pence + MOST_RENT < 2 ^ 128 }
+    ensures value { result ≡ with_charge taken charge.now }
+    ensures small { charge_fee taken.fee charge.now ≤ MOST_RENT }
+{
+    Taken {
+        fee: taken.fee,
+        pence: taken.pence + u128::from(charge_fee(taken.fee, charge)),
+    }
+}
+
+// Adds what is taken of a charge that is made at the branch.
+fn add(books: &Books, fees: &mut Fees, branch: Id, charge: &Charge) -> Result<(), AllocError>
+    requires { (so_far books.now.books fees.old (charge.now.month, branch)).pence + MOST_RENT < 2 ^ 128 }
+    ensures value { OnOk result (HasMore books.now.books fees.old fees.new (charge.now.month, branch) charge.now) }
+    ensures small { OnOk result (charge_fee (so_far books.now.books fees.old (charge.now.month, branch)).fee charge.now ≤ MOST_RENT) }
+{
+    let key = (charge.month, branch);
+    let taken = fees
+        .entry(key)?
+        .or_insert_with(|| nothing_taken(books, &key));
+    *taken = with_charge(*taken, charge);
     Ok(())
 }
 
-// What the fee row of its part takes of the charge, with the month and the branch of the part; none where there is no such row.
-fn taken(books: &Books, charge: &Charge) -> Option<((EntryMonth, Id), u64)>
-    ensures value { (key : ℕ × List ℕ) → taken_at books.now.books key charge.now ≡ under_key result key }
-    ensures small { IfSome result (λ taken. taken.1 ≤ MOST_RENT) }
-{
-    let lease = books.lease(&charge.lease)?;
-    let property = books.property(&lease.terms.property)?;
-    let key = (charge.month, property.branch);
-    let row = books.part_fee(&key)?;
-    Some((key, charge_fee(row.fee, charge)))
-}
-
 // What the fee rows take of the charges.
-fn fees_of(alloc: Global, books: &Books, charges: &[Charge]) -> Result<Fees, AllocError>
-    ensures { IfOk result (λ fees. (key : ℕ × List ℕ) → pence_at (pair_cmp nat_cmp text_cmp) fees key ≡ fees_at books.now.books charges.now key) }
+fn fees_of(alloc: Global, books: &Books) -> Result<Fees, AllocError>
+    ensures { IfOk result (λ fees. (key : ℕ × List ℕ) → so_far books.now.books fees key
+        ≡ taken_of books.now.books (fin.values books.now.books.charges) key) }
 {
+    let charges = books.charges();
+    // No more than this many, so that their sums fit.
+    let _count = charges.len();
     let mut fees = BTreeMap::new(alloc);
+    let mut place = None;
     for charge in charges {
-        if let Some((key, pence)) = taken(books, charge) {
-            add(&mut fees, key, pence)?;
+        let here = place_of(books, place, charge.lease);
+        let branch = here.branch;
+        place = Some(here);
+        if let Some(branch) = branch {
+            add(books, &mut fees, branch, charge)?;
         }
     }
     Ok(fees)
-}
-
-// All charges.
-fn all_charges(alloc: Global, books: &Books) -> Result<Vec<Charge>, AllocError>
-    ensures { IfOk result (λ charges. charges.items ≡ fin.values books.now.books.charges) }
-{
-    books.charges().copied().collect(alloc)
-}
-
-// What the fee rows take of all charges.
-fn all_fees(alloc: Global, books: &Books) -> Result<Fees, AllocError>
-    ensures { IfOk result (λ fees. (key : ℕ × List ℕ)
-        → pence_at (pair_cmp nat_cmp text_cmp) fees key ≡ fees_at books.now.books (fin.values books.now.books.charges) key) }
-{
-    let charges = all_charges(alloc, books)?;
-    fees_of(alloc, books, &charges)
 }
 
 // Whether the fee is the present one of the part's branch, if the part's run is open.
@@ -98,9 +132,19 @@ fn is_its_row(books: &Books, sum: u128, part: &Part, row: &PartFee) -> bool
         && is_present(books, part, row)
 }
 
+// The pence that were taken by month and branch.
+fn pence_at(fees: &Fees, key: &(EntryMonth, Id)) -> u128
+    ensures { result ≡ pence_at fees.now key.now }
+{
+    match fees.get(key) {
+        Some(taken) => taken.pence,
+        None => 0,
+    }
+}
+
 // Whether the part has its fee row.
 fn has_its_row(books: &Books, fees: &Fees, part: &Part) -> bool
-    ensures { (result ≡ true) ↔ HasItsRow books.now.books (pence_at (pair_cmp nat_cmp text_cmp) fees.now) part.now }
+    ensures { (result ≡ true) ↔ HasItsRow books.now.books (pence_at fees.now) part.now }
 {
     let key = part.key();
     match books.part_fee(&key) {
@@ -111,7 +155,7 @@ fn has_its_row(books: &Books, fees: &Fees, part: &Part) -> bool
 
 // Whether each part has its fee row, by these sums.
 fn parts_have_rows(books: &Books, fees: &Fees) -> bool
-    ensures { (result ≡ true) ↔ Each books.now.books.parts (HasItsRow books.now.books (pence_at (pair_cmp nat_cmp text_cmp) fees.now)) }
+    ensures { (result ≡ true) ↔ Each books.now.books.parts (HasItsRow books.now.books (pence_at fees.now)) }
 {
     books.parts().all(|part| has_its_row(books, fees, part))
 }
@@ -120,7 +164,7 @@ fn parts_have_rows(books: &Books, fees: &Fees) -> bool
 fn parts_have_fees(alloc: Global, books: &Books) -> Result<bool, AllocError>
     ensures { IfOk result (λ holds. (holds ≡ true) ↔ HasFees books.now.books Second) }
 {
-    let fees = all_fees(alloc, books)?;
+    let fees = fees_of(alloc, books)?;
     Ok(parts_have_rows(books, &fees))
 }
 

@@ -2,8 +2,8 @@
 
 use crate::values::Said;
 use dh_types::{
-    EntryMonth, Fault, LeaseNo, Month, Output, Pence, Progress, ReceiptNo, Refusal, Reply, RunSum,
-    put_fault, put_refusal, put_reply,
+    EntryMonth, Fault, LeaseMonths, LeaseNo, Month, Output, Pence, Progress, ReceiptNo, Refusal,
+    Reply, RunSum, put_fault, put_refusal, put_reply,
 };
 use std::alloc::Global;
 use std::fmt::Write;
@@ -37,6 +37,7 @@ fn named_refusal(word: &str, value: &str) -> Option<Refusal> {
         "version" => Refusal::Version(value.parse().ok()?),
         "damaged" => Refusal::Damaged(value.parse().ok()?),
         "full" => Refusal::Full,
+        "not_shorter" => Refusal::NotShorter(LeaseMonths::read(value).ok()?),
         _ => return None,
     })
 }

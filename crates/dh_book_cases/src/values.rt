@@ -1,7 +1,7 @@
 //! Codes, texts, kinds, numbers and money: what a text is read as, printed again.
 
 use dh_values::{
-    Amount, BadText, Balance, BatchCount, ChargeIndex, Comment, Id, Key, LeaseMonths, LeaseNo,
+    Amount, BadText, Balance, BatchCount, ChargeIndex, Comment, Fee, Id, Key, LeaseMonths, LeaseNo,
     PaymentMethod, Pence, Position, PropertyType, ReceiptKind, ReceiptNo, Rent, Rooms, Text60,
 };
 use std::alloc::{AllocError, Global};
@@ -75,6 +75,7 @@ fn number(out: &mut String, kind: &str, number: i64) -> Said {
         "rooms_of" => show_if_any(out, Rooms::try_of_number(number)),
         "lease_months_of" => show_if_any(out, LeaseMonths::try_of_number(number)),
         "batch_count_of" => show_if_any(out, BatchCount::try_of_number(number)),
+        "fee_of" => show_if_any(out, Fee::try_of_number(number)),
         "charge_index_of" => show_if_any(out, ChargeIndex::try_of_number(number)),
         "pence_of" => show_if_any(out, Pence::try_of_pence(number)),
         "rent_of" => show_if_any(out, Rent::try_of_pence(number)),
@@ -90,6 +91,7 @@ fn counted(out: &mut String, kind: &str, text: &str) -> Said {
         "rooms" => show(out, Rooms::read(text)),
         "lease_months" => show(out, LeaseMonths::read(text)),
         "batch_count" => show(out, BatchCount::read(text)),
+        "fee" => show(out, Fee::read(text)),
         "pence" => show(out, Pence::read(text)),
         "rent" => show(out, Rent::read(text)),
         "amount" => show(out, Amount::read(text)),

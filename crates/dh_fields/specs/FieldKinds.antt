@@ -1,7 +1,7 @@
 -- The kinds of fields: which texts each takes, and the value of each such text.
 use Rattle.std.specs.Prelude.{ℕ, Bool, ◌||◌, if◌then◌else◌, ◌==◌, List, length, Option, Some, None, is_some, unwrap_or}
 use Rattle.dh_values.specs.Texts.{is_id, is_key, is_text}
-use Rattle.dh_values.specs.Counts.{batch_count_of, lease_months_of, lease_no_of, rooms_of}
+use Rattle.dh_values.specs.Counts.{batch_count_of, fee_of, lease_months_of, lease_no_of, rooms_of}
 use Rattle.dh_values.specs.Money.{amount_of, rent_of}
 use Rattle.dh_values.specs.Kinds.{payment_method_of, position_of, property_type_of, receipt_kind_of}
 use Rattle.dh_values.specs.declared.payment_method.PaymentMethod.{PaymentMethod}
@@ -54,6 +54,9 @@ rooms = spelled rooms_of 1
 
 unfoldable pub months : Kind ℕ
 months = spelled lease_months_of 3
+
+unfoldable pub fee : Kind ℕ
+fee = spelled fee_of 0
 
 unfoldable pub batch_count : Kind ℕ
 batch_count = spelled batch_count_of 1

@@ -6,8 +6,8 @@ use Rattle.dh_types.specs.declared.question.Question.{Question}
 use Rattle.dh_types.specs.declared.question.Question.TheVariants as question
 use Rattle.dh_types.specs.declared.reply.Refusal.{Refusal}
 use Rattle.dh_types.specs.declared.reply.Refusal.TheVariants.{BadLine}
-use Rattle.dh_fields.specs.FieldKinds.{amount, batch_count, comment, day, id, key, lease_no, method, month, months, optional, position, property_type}
-use Rattle.dh_fields.specs.FieldKinds.{receipt_kind, rent, rooms, text60}
+use Rattle.dh_fields.specs.FieldKinds.{amount, batch_count, comment, day, fee, id, key, lease_no, method, month, months, optional, position}
+use Rattle.dh_fields.specs.FieldKinds.{property_type, receipt_kind, rent, rooms, text60}
 use Rattle.dh_fields.specs.declared.request.Request.{Request}
 use Rattle.dh_fields.specs.declared.request.Request.TheVariants as request
 
@@ -44,6 +44,13 @@ branch_form = record {
     city = text60.value (field f 4);
     postcode = text60.value (field f 5);
   });
+}
+
+abbrev pub fee_form : Form Command
+fee_form = record {
+  word = codes "fee";
+  tests = id.takes ∷ fee.takes ∷ [];
+  value = λ f. command.Fee (record { branch = id.value (field f 2); fee = fee.value (field f 3) });
 }
 
 abbrev pub staff_form : Form Command
@@ -173,6 +180,13 @@ lease_form = record {
   });
 }
 
+abbrev pub end_form : Form Command
+end_form = record {
+  word = codes "end";
+  tests = lease_no.takes ∷ months.takes ∷ [];
+  value = λ f. command.End (record { lease = lease_no.value (field f 2); months = months.value (field f 3) });
+}
+
 abbrev pub receipt_form : Form Command
 receipt_form = record {
   word = codes "receipt";
@@ -210,8 +224,8 @@ post_form = record {
 }
 
 abbrev pub command_forms : List (Form Command)
-command_forms = branch_form ∷ staff_form ∷ owner_form ∷ property_form ∷ assign_form ∷ rent_form ∷ client_form ∷ register_form ∷ viewing_form
-    ∷ comment_form ∷ inspection_form ∷ lease_form ∷ receipt_form ∷ run_form ∷ open_form ∷ post_form ∷ []
+command_forms = branch_form ∷ fee_form ∷ staff_form ∷ owner_form ∷ property_form ∷ assign_form ∷ rent_form ∷ client_form ∷ register_form ∷ viewing_form
+    ∷ comment_form ∷ inspection_form ∷ lease_form ∷ end_form ∷ receipt_form ∷ run_form ∷ open_form ∷ post_form ∷ []
 
 -- ---- questions: field 1 is `show`, and their word is field 2
 
@@ -237,8 +251,15 @@ arrears_form = record { word = codes "arrears"; tests = id.takes ∷ []; value =
 abbrev pub shown_run_form : Form Question
 shown_run_form = record { word = codes "run"; tests = month.takes ∷ []; value = λ f. question.Run (month.value (field f 3)) }
 
+abbrev pub owner_month_form : Form Question
+owner_month_form = record {
+  word = codes "owner";
+  tests = id.takes ∷ month.takes ∷ [];
+  value = λ f. question.Owner (record { owner = id.value (field f 3); month = month.value (field f 4) });
+}
+
 abbrev pub question_forms : List (Form Question)
-question_forms = branches_form ∷ vacant_form ∷ matching_form ∷ statement_form ∷ arrears_form ∷ shown_run_form ∷ []
+question_forms = branches_form ∷ vacant_form ∷ matching_form ∷ statement_form ∷ arrears_form ∷ shown_run_form ∷ owner_month_form ∷ []
 
 -- ---- which request the fields are
 

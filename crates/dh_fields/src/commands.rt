@@ -3,9 +3,9 @@
 ghost use Rattle.dh_fields.specs.Lines.{command_forms, value_among};
 ghost use Rattle.dh_fields.specs.Readings.{Tells};
 
-use crate::leases::{read_lease, read_open, read_post, read_receipt, read_run};
+use crate::leases::{read_end, read_lease, read_open, read_post, read_receipt, read_run};
 use crate::line::Line;
-use crate::people::{read_branch, read_client, read_owner, read_register, read_staff};
+use crate::people::{read_branch, read_client, read_fee, read_owner, read_register, read_staff};
 use crate::properties::{
     read_assign, read_comment, read_inspection, read_property, read_rent, read_viewing,
 };
@@ -19,6 +19,7 @@ pub(crate) fn read_command(alloc: Global, line: &Line) -> Result<Command, Unread
 {
     match line.text(1)? {
         "branch" => read_branch(alloc, line),
+        "fee" => read_fee(line),
         "staff" => read_staff(alloc, line),
         "owner" => read_owner(alloc, line),
         "property" => read_property(alloc, line),
@@ -30,6 +31,7 @@ pub(crate) fn read_command(alloc: Global, line: &Line) -> Result<Command, Unread
         "comment" => read_comment(alloc, line),
         "inspection" => read_inspection(alloc, line),
         "lease" => read_lease(line),
+        "end" => read_end(line),
         "receipt" => read_receipt(line),
         "run" => read_run(line),
         "open" => read_open(line),

@@ -1,12 +1,12 @@
 //! The lines of leases, receipts and rent runs. Each function gives the command of the line above it. `Field` has the number of
 //! the first bad field, and `Memory` is want of memory.
 
-ghost use Rattle.dh_fields.specs.Lines.{lease_form, open_form, post_form, receipt_form, run_form};
+ghost use Rattle.dh_fields.specs.Lines.{end_form, lease_form, open_form, post_form, receipt_form, run_form};
 ghost use Rattle.dh_fields.specs.Readings.{ReadsForm};
 
 use crate::line::Line;
 use crate::unread::Unread;
-use dh_types::{Command, LeaseTerms, Payment, ReceiptOrder, RunOrder};
+use dh_types::{Command, Ending, LeaseTerms, Payment, ReceiptOrder, RunOrder};
 
 /// lease,NUMBER,CLIENT,PROPERTY,START,MONTHS,METHOD
 pub(crate) fn read_lease(line: &Line) -> Result<Command, Unread>
@@ -22,6 +22,18 @@ pub(crate) fn read_lease(line: &Line) -> Result<Command, Unread>
     };
     line.end(7)?;
     Ok(Command::Lease(terms))
+}
+
+/// end,LEASE,MONTHS
+pub(crate) fn read_end(line: &Line) -> Result<Command, Unread>
+    ensures { ReadsForm end_form 1 line.now result }
+{
+    let ending = Ending {
+        lease: line.lease_no(2)?,
+        months: line.months(3)?,
+    };
+    line.end(3)?;
+    Ok(Command::End(ending))
 }
 
 /// receipt,KEY,LEASE,KIND,AMOUNT,DAY

@@ -1,12 +1,12 @@
 //! The lines of branches and of people. Each function gives the command of the line above it. `Field` has the number of
 //! the first bad field, and `Memory` is want of memory.
 
-ghost use Rattle.dh_fields.specs.Lines.{branch_form, client_form, owner_form, register_form, staff_form};
+ghost use Rattle.dh_fields.specs.Lines.{branch_form, client_form, fee_form, owner_form, register_form, staff_form};
 ghost use Rattle.dh_fields.specs.Readings.{ReadsForm};
 
 use crate::line::Line;
 use crate::unread::Unread;
-use dh_types::{Branch, Client, Command, Owner, Registration, Staff};
+use dh_types::{Branch, BranchFee, Client, Command, Owner, Registration, Staff};
 use std::alloc::Global;
 
 /// branch,NUMBER,STREET,CITY,POSTCODE
@@ -21,6 +21,18 @@ pub(crate) fn read_branch(alloc: Global, line: &Line) -> Result<Command, Unread>
     };
     line.end(5)?;
     Ok(Command::Branch(branch))
+}
+
+/// fee,BRANCH,FEE
+pub(crate) fn read_fee(line: &Line) -> Result<Command, Unread>
+    ensures { ReadsForm fee_form 1 line.now result }
+{
+    let fee = BranchFee {
+        branch: line.id(2)?,
+        fee: line.fee(3)?,
+    };
+    line.end(3)?;
+    Ok(Command::Fee(fee))
 }
 
 /// staff,NUMBER,NAME,POSITION,BRANCH

@@ -1,11 +1,12 @@
 //! The lines that are questions: `show`, what is asked, and what about.
 
-ghost use Rattle.dh_fields.specs.Lines.{arrears_form, branches_form, matching_form, question_forms, shown_run_form, statement_form, vacant_form, value_among};
+ghost use Rattle.dh_fields.specs.Lines.{arrears_form, branches_form, matching_form, question_forms, value_among};
+ghost use Rattle.dh_fields.specs.Lines.{owner_month_form, shown_run_form, statement_form, vacant_form};
 ghost use Rattle.dh_fields.specs.Readings.{ReadsForm, Tells};
 
 use crate::line::Line;
 use crate::unread::Unread;
-use dh_types::{ClientDay, Question};
+use dh_types::{ClientDay, OwnerMonth, Question};
 
 // show,branches
 fn read_branches(line: &Line) -> Result<Question, Unread>
@@ -63,6 +64,18 @@ fn read_shown_run(line: &Line) -> Result<Question, Unread>
     Ok(Question::Run(month))
 }
 
+// show,owner,OWNER,MONTH
+fn read_owner_month(line: &Line) -> Result<Question, Unread>
+    ensures { ReadsForm owner_month_form 2 line.now result }
+{
+    let asked = OwnerMonth {
+        owner: line.id(3)?,
+        month: line.month(4)?,
+    };
+    line.end(4)?;
+    Ok(Question::Owner(asked))
+}
+
 /// The question that the line is, whose first field is `show`. `Field` has the number of its first bad field, which is 2 where
 /// the question is unknown.
 pub(crate) fn read_question(line: &Line) -> Result<Question, Unread>
@@ -75,6 +88,7 @@ pub(crate) fn read_question(line: &Line) -> Result<Question, Unread>
         "statement" => read_statement(line),
         "arrears" => read_arrears(line),
         "run" => read_shown_run(line),
+        "owner" => read_owner_month(line),
         _ => Err(Unread::Field(2)),
     }
 }

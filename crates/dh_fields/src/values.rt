@@ -7,7 +7,7 @@ ghost use Rattle.dh_fields.specs.Readings.{Reads};
 use crate::line::Line;
 use crate::unread::Unread;
 use dh_types::{
-    Amount, BatchCount, Comment, EntryDay, EntryMonth, Id, Key, LeaseMonths, LeaseNo,
+    Amount, BatchCount, Comment, EntryDay, EntryMonth, Fee, Id, Key, LeaseMonths, LeaseNo,
     PaymentMethod, Position, PropertyType, ReceiptKind, Rent, Rooms, Text60,
 };
 use std::alloc::Global;
@@ -62,6 +62,14 @@ impl<'a> Line<'a> {
         ensures { Reads kinds.months self.now number result }
     {
         LeaseMonths::read(self.text(number)?).or(Err(Unread::Field(number)))
+    }
+
+    /// The fee in the field, in hundredths of a percent.
+    pub(crate) fn fee(&self, number: u8) -> Result<Fee, Unread>
+        requires { 1 ≤ number }
+        ensures { Reads kinds.fee self.now number result }
+    {
+        Fee::read(self.text(number)?).or(Err(Unread::Field(number)))
     }
 
     /// The number of batches in the field.

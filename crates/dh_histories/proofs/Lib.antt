@@ -1,4 +1,3 @@
-pub mod SameVersion
 pub mod Following
 pub mod Taken
 pub mod Ending

@@ -2,9 +2,11 @@
 use Rattle.std.proofs.Common.{◌≡◌, ◌∙◌, refl, sym, ap, subst, ℕ, ℤ, pos, ◌+◌, ◌+ℤ◌}
 use Rattle.std.proofs.Common.{Bool, true, false, nat_eq, [], ◌∷◌, Option, Some, None, if◌then◌else◌, arith}
 use Rattle.std.proofs.lemmas.Bool.{false≢true}
-use Rattle.std.specs.FinMap.{len}
+use Rattle.std.specs.FinMap.{get, len}
 use Rattle.std.specs.Option.{option_map}
 use Rattle.sqlite_trees.specs.Tree.{Trees}
+use Rattle.dh_types.specs.declared.fee.BranchFee.{BranchFee}
+use Rattle.dh_types.specs.declared.lease.Ending.{Ending}
 use Rattle.dh_types.specs.declared.lease.Receipt.{Receipt}
 use Rattle.dh_types.specs.declared.run.Run.{Run}
 use Rattle.dh_types.specs.declared.run.RunSum.{RunSum}
@@ -29,7 +31,7 @@ use Rattle.dh_model.specs.Machine.{settled, step}
 use Rattle.dh_model.specs.Runs.{batch_size, sum_of}
 use Rattle.dh_model.specs.Rules.{IsLawful}
 use Rattle.dh_model.specs.Verdicts.{judged, opened_run, receipt_checks, receipt_verdict, rows_unless, run_verdict, unless_open, unless_paid, unless_posted}
-use Rattle.dh_model.specs.Verdicts.{unless_receipt, unless_run, verdict_on}
+use Rattle.dh_model.specs.Verdicts.{ending_rows, fee_rows, unless_receipt, unless_run, verdict_on}
 use Rattle.dh_model.specs.Whole.{open_row}
 use Rattle.dh_laws.specs.Balances as owed
 use Rattle.dh_laws.specs.Balances.{BalancesMoveAsTold, moved}
@@ -118,8 +120,18 @@ module _ (s : State) (lease : ℕ) where
   so_of : (told : Command) (rows given : Change) → rows ≡ given → MovesSo told (verdict.Change given) → MovesSo told (verdict.Change rows)
   so_of told rows given is so = subst (λ (r : Change). MovesSo told (verdict.Change r)) (sym is) so
 
+  fee_so : (it : BranchFee) (found : Option BranchFee) → MovesSo (command.Fee it) (verdict.Change (fee_rows it found))
+  fee_so it None = refl
+  fee_so it (Some was) = refl
+
+  end_so : (it : Ending) (found : Option Ending) → MovesSo (command.End it) (verdict.Change (ending_rows it found))
+  end_so it None = refl
+  end_so it (Some was) = refl
+
   own_so : (told : Command) → MovesSo told (verdict.Change (rows_of s.books told))
   own_so (command.Branch it) = refl
+  own_so (command.Fee it) = fee_so it (get s.books.branch_fees it.branch)
+  own_so (command.End it) = end_so it (get s.books.endings it.lease)
   own_so _ = refl
 
   accepted_so : (told : Command) (rows : Change) → AcceptsSo told rows

@@ -23,7 +23,7 @@ use Rattle.dh_runs.specs.Taking.{BreaksRuleZero, IsOurVersion, IsRefusedFor}
 use Rattle.dh_histories.specs.Histories.{IsHistory, IsSoundIn, Moment, event_of}
 use Rattle.dh_histories.specs.HistoryLaws.{NoneIsRefused}
 use Rattle.dh_histories.proofs.Following.{Comes, found_after}
-use Rattle.dh_histories.proofs.SameVersion.{same_version}
+use Rattle.dh_laws.proofs.Versions.{the_version_stays}
 
 -- the number that meta has is that of the version that it gives
 number_given : (trees : Trees) → IsSound trees → only_version (meta_rows trees) ≡ Some (pos (version_number (version_of_tables trees)))
@@ -53,7 +53,7 @@ sound_is_taken trees _ sound ours it = it
 -- what came of a call leaves the version
 comes_so : (event : Option Event) (before after : machine.State) → Comes event before after → after.books.version ≡ before.books.version
 comes_so None before after same = ap (λ (s : machine.State). s.books.version) same
-comes_so (Some event) before after it = same_version batch_size event (as_tables before) (as_tables after) it
+comes_so (Some event) before after it = the_version_stays batch_size event (as_tables before) (as_tables after) it
 
 module _ {S : Type 0} (g : Ghosts S) where
   -- so do all calls of a history

@@ -2,7 +2,8 @@
 use Rattle.std.proofs.Common.{◌≡◌, ◌∙◌, ◌++◌, [], ℕ, List, Option, Some, Result, Ok, Err, ap, false, refl, subst, sym}
 use Rattle.std.specs.Result.{is_err}
 use Rattle.dh_types.specs.Output.{Puts}
-use Rattle.dh_types.specs.Reports.{Report, BranchList, VacantList, MatchingList, LeaseStatement, BranchArrears, RunParts, NoReport, is_no_report}
+use Rattle.dh_types.specs.Reports.{Report, BranchList, VacantList, MatchingList, LeaseStatement, BranchArrears, RunParts, OwnerCharges, NoReport}
+use Rattle.dh_types.specs.Reports.{is_no_report}
 use Rattle.dh_reports.specs.ReportTexts.{report_text}
 use Rattle.dh_types.specs.declared.reply.Reply.{Reply}
 use Rattle.dh_types.specs.declared.reply.Reply.TheVariants as reply
@@ -40,6 +41,7 @@ report_is (MatchingList properties) none = refl
 report_is (LeaseStatement lease charges receipts balance) none = refl
 report_is (BranchArrears debts total) none = refl
 report_is (RunParts parts sum) none = refl
+report_is (OwnerCharges lines total fees payable) none = refl
 
 -- what is written to an empty list is the list
 pub filled : (r : Result (Unit {0}) Output) (old new text : List ℕ) → is_err r ≡ false → old ≡ [] → Puts (Some old) (Some new) r text → new ≡ text

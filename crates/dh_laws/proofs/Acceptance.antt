@@ -1,5 +1,5 @@
 -- What holds of the books where rows are those of an accepted command.
-use Rattle.std.proofs.Common.{◌≡◌, ◌+◌, ◌≤◌, true, false, nat_eq, ◌&&◌, Option, Some, None, IfSome}
+use Rattle.std.proofs.Common.{◌≡◌, ◌+◌, ◌<◌, ◌≤◌, true, false, nat_eq, ◌&&◌, Option, Some, None, IfSome}
 use Rattle.std.specs.FinMap.{get, len, values}
 use Rattle.dh_values.specs.declared.receipt_kind.ReceiptKind.TheVariants.{Deposit}
 use Rattle.dh_days.specs.Days.{month_of_day}
@@ -10,14 +10,16 @@ use Rattle.dh_types.specs.declared.client.Registration.{Registration}
 use Rattle.dh_types.specs.declared.viewing.Viewing.{Viewing}
 use Rattle.dh_types.specs.declared.viewing.Inspection.{Inspection}
 use Rattle.dh_types.specs.declared.lease.Lease.{Lease}
+use Rattle.dh_types.specs.declared.lease.Ending.{Ending}
 use Rattle.dh_types.specs.declared.lease.Receipt.{Receipt}
+use Rattle.dh_types.specs.declared.fee.BranchFee.{BranchFee}
 use Rattle.dh_types.specs.declared.run.Run.{Run}
 use Rattle.dh_types.specs.declared.command.Assignment.{Assignment}
 use Rattle.dh_model.specs.declared.open_run.OpenRun.{OpenRun}
 use Rattle.dh_model.specs.declared.rows.Change.{Change}
 use Rattle.dh_model.specs.declared.rows.Change.TheVariants as change
 use Rattle.dh_model.specs.Books.{Books}
-use Rattle.dh_model.specs.Leases.{overlap, running}
+use Rattle.dh_model.specs.Leases.{length_of, overlap, running}
 use Rattle.dh_model.specs.Rules.{IsThere}
 use Rattle.dh_model.specs.Checks.{is_same_text, works_at}
 use Rattle.dh_model.proofs.Among.{Among}
@@ -27,6 +29,11 @@ module _ (books : Books) (run : Option OpenRun) where
   pub record AddsBranch (it : Branch) : Type 0 where
     pub closed : run ≡ None
     pub new : get books.branches it.number ≡ None
+
+  -- a fee of a branch that is there
+  pub record SetsFee (it : BranchFee) : Type 0 where
+    pub closed : run ≡ None
+    pub branch : IsThere books.branches it.branch
 
   pub record AddsStaff (it : Staff) : Type 0 where
     pub new : get books.staff it.number ≡ None
@@ -73,6 +80,14 @@ module _ (books : Books) (run : Option OpenRun) where
         → (is_same_text other.terms.client lease.terms.client && nat_eq other.terms.start lease.terms.start) ≡ false
     pub free : (other : Lease) → Among (values books.leases) other → overlap lease.terms (running books.endings other) ≡ false
 
+  -- an end of a lease that is there, before the end that it has and after the months that were run
+  pub record EndsLease (it : Ending) : Type 0 where
+    pub closed : run ≡ None
+    pub lease : Lease
+    pub is : get books.leases it.lease ≡ Some lease
+    pub shorter : it.months < length_of books.endings lease
+    pub in_time : books.next ≤ month_of_day lease.terms.start + it.months
+
   pub record AddsReceipt (it : Receipt) : Type 0 where
     pub closed : run ≡ None
     pub number : it.number ≡ len books.receipts + 1
@@ -91,6 +106,8 @@ module _ (books : Books) (run : Option OpenRun) where
   -- what holds where these are the rows of an accepted command
   abbrev pub Accepted : Change → Type 0
   Accepted (change.Branch it) = AddsBranch it
+  Accepted (change.NewFee it) = SetsFee it × (get books.branch_fees it.branch ≡ None)
+  Accepted (change.Fee it) = SetsFee it × ((was : BranchFee) × (get books.branch_fees it.branch ≡ Some was))
   Accepted (change.Staff it) = AddsStaff it
   Accepted (change.Owner it) = get books.owners it.number ≡ None
   Accepted (change.Property it) = AddsProperty it
@@ -102,6 +119,8 @@ module _ (books : Books) (run : Option OpenRun) where
   Accepted (change.Comment it) = (row : Viewing) × (get books.viewings (it.client, it.property) ≡ Some row)
   Accepted (change.Inspection it) = AddsInspection it
   Accepted (change.Lease it) = AddsLease it
+  Accepted (change.NewEnding it) = EndsLease it × (get books.endings it.lease ≡ None)
+  Accepted (change.Ending it) = EndsLease it × ((was : Ending) × (get books.endings it.lease ≡ Some was))
   Accepted (change.Receipt it) = AddsReceipt it
   Accepted (change.Open it) = OpensRun it
   Accepted change.Post = (at : OpenRun) × (run ≡ Some at)

@@ -1,13 +1,16 @@
 -- Only an open run is a reason to refuse for an open run.
-use Rattle.std.proofs.Common.{◌≡◌, ◌∙◌, refl, ap, ℕ, ◌+◌, ◌*◌, Bool, true, false, not, ◌&&◌, nat_eq, nat_le, nat_lt, List, [], ◌∷◌, ◌++◌, map, Option, Some}
+use Rattle.std.proofs.Common.{◌≡◌, ◌∙◌, refl, ap, ℕ, ◌+◌, ◌*◌, Bool, true, false, nat_eq, nat_le, nat_lt, List, [], ◌∷◌, ◌++◌, Option, Some}
 use Rattle.std.proofs.Common.{None, if◌then◌else◌}
-use Rattle.std.specs.List.{filter, list_any}
 use Rattle.std.specs.Option.{option_map}
-use Rattle.std.specs.FinMap.{contains_key, get, len, values}
+use Rattle.std.specs.FinMap.{contains_key, get, len}
 use Rattle.dh_values.specs.declared.receipt_kind.ReceiptKind.TheVariants.{Deposit}
 use Rattle.dh_days.specs.Days.{month_of_day}
 use Rattle.dh_values.specs.declared.limits.TheConstants.{MOST_NUMBER}
 use Rattle.dh_types.specs.declared.client.Client.{Client}
+use Rattle.dh_types.specs.declared.field.TheConstants.{FEE_BRANCH}
+use Rattle.dh_types.specs.declared.fee.BranchFee.{BranchFee}
+use Rattle.dh_types.specs.declared.owner.Owner.{Owner}
+use Rattle.dh_types.specs.declared.lease.Ending.{Ending}
 use Rattle.dh_types.specs.declared.lease.Lease.{Lease}
 use Rattle.dh_types.specs.declared.lease.LeaseTerms.{LeaseTerms}
 use Rattle.dh_types.specs.declared.lease.Payment.{Payment}
@@ -22,6 +25,7 @@ use Rattle.dh_types.specs.declared.command.ReceiptOrder.{ReceiptOrder}
 use Rattle.dh_types.specs.declared.command.RentChange.{RentChange}
 use Rattle.dh_types.specs.declared.command.RunOrder.{RunOrder}
 use Rattle.dh_types.specs.declared.command.ViewingComment.{ViewingComment}
+use Rattle.dh_types.specs.declared.question.OwnerMonth.{OwnerMonth}
 use Rattle.dh_types.specs.declared.question.Question.{Question}
 use Rattle.dh_types.specs.declared.question.Question.TheVariants as asked
 use Rattle.dh_types.specs.declared.reply.Refusal.{Refusal}
@@ -36,16 +40,17 @@ use Rattle.dh_model.specs.declared.rows.Change.{Change}
 use Rattle.dh_model.specs.declared.rows.Change.TheVariants as change
 use Rattle.dh_model.specs.declared.rows.Verdict.{Verdict}
 use Rattle.dh_model.specs.declared.rows.Verdict.TheVariants as verdict
-use Rattle.dh_model.specs.Answers.{arrears, matching_report, report, run_report, statement}
+use Rattle.dh_model.specs.Answers.{arrears, matching_report, owner_report, report, run_report, statement}
 use Rattle.dh_model.specs.Answers as answers
-use Rattle.dh_model.specs.Books.{Books, State}
+use Rattle.dh_model.specs.Books.{Books}
 use Rattle.dh_model.specs.Checks.{Check, deposit_checks, first_failing, has_room, is_same_text, is_twice, names, of_branch, receipt_of_key, run_of_key, unless}
 use Rattle.dh_model.specs.Checks.{where_given}
-use Rattle.dh_model.specs.Leases.{overlap}
+use Rattle.dh_model.specs.Leases.{length_of}
 use Rattle.dh_model.specs.MachineLaws.{is_frozen, is_put_off}
-use Rattle.dh_model.specs.Runs.{sum_of}
-use Rattle.dh_model.specs.Verdicts.{assigned, branch_verdict, commented, judged, lease_checks, lease_verdict, manager_checks, opened_run, post_verdict}
+use Rattle.dh_model.specs.Runs.{fee_at, sum_of}
+use Rattle.dh_model.specs.Verdicts.{assigned, branch_verdict, commented, judged, lease_checks, lease_verdict, manager_checks, opened_run}
 use Rattle.dh_model.specs.Verdicts.{property_checks, receipt_checks, receipt_verdict, registration_checks, rent_changed, rows_unless, run_verdict, signed}
+use Rattle.dh_model.specs.Verdicts.{end_verdict, ended, ending_checks, ending_rows, fee_rows, fee_verdict}
 use Rattle.dh_model.specs.Verdicts.{unless_open, unless_paid, unless_posted, unless_receipt, unless_run, unless_there, verdict_on}
 use Rattle.dh_laws.specs.Asking.{OpenRunsRefuseFrozen, OpenRunsRefusePutOff}
 
@@ -198,6 +203,12 @@ module _ (month : ℕ) where
         (names_other (contains_key books.leases order.payment.lease) 3, deposit_other order.payment)
         (other_unless (nat_lt (len books.receipts) MOST_NUMBER) refusal.Full (λ e. cc), tt)
 
+    fee_judged : (b c : Bool) (rows : Change)
+        → Unlike (if b then (if c then verdict.Already reply.Already else verdict.Change rows) else verdict.Refused (refusal.Unknown FEE_BRANCH))
+    fee_judged true true rows = λ e. cc
+    fee_judged true false rows = λ e. cc
+    fee_judged false c rows = λ e. cc
+
     assigned_unlike : (it : Assignment) (found : Option Property) → Unlike (assigned books it found)
     assigned_unlike it None = λ e. cc
     assigned_unlike it (Some row) =
@@ -207,6 +218,20 @@ module _ (month : ℕ) where
     rent_unlike : (it : RentChange) (found : Option Property) → Unlike (rent_changed books it found)
     rent_unlike it None = λ e. cc
     rent_unlike it (Some row) = already_unlike (nat_eq it.rent row.rent) reply.Already (verdict.Change (change.Rent it)) (λ e. cc)
+
+    fee_unlike : (it : BranchFee) → Unlike (fee_verdict books it)
+    fee_unlike it = fee_judged (contains_key books.branches it.branch) (nat_eq it.fee (fee_at books it.branch)) (fee_rows it (get books.branch_fees it.branch))
+
+    ended_unlike : (it : Ending) (found : Option Lease) → Unlike (ended books it found)
+    ended_unlike it None = λ e. cc
+    ended_unlike it (Some lease) =
+        let length = length_of books.endings lease in
+        let last = month_of_day lease.terms.start + it.months in
+        already_unlike (nat_eq it.months length) reply.Already _
+        (judged_unlike (ending_checks books it lease) (ending_rows it (get books.endings it.lease)) (
+          other_unless (nat_lt it.months length) (refusal.NotShorter length) (λ e. cc),
+          (other_unless (nat_le books.next last) (refusal.MonthPosted books.next) (λ e. cc), tt),
+        ))
 
     commented_unlike : (it : ViewingComment) (found : Option Viewing) → Unlike (commented books it found)
     commented_unlike it None = λ e. cc
@@ -254,6 +279,7 @@ module _ (month : ℕ) where
     refused_for : (run : Option OpenRun) (told : Command) → verdict_on books run told ≡ verdict.Refused (refusal.RunOpen month) → IsOpenFor run (is_frozen told)
     refused_for run (command.Branch it) e =
         was_open run (branch_verdict books it) (there_unlike (is_same_branch it) (get books.branches it.number) _ (judged_unlike [] (change.Branch it) tt)) e
+    refused_for run (command.Fee it) e = was_open run (fee_verdict books it) (fee_unlike it) e
     refused_for run (command.Staff it) e =
         absurd (there_unlike (is_same_staff it) (get books.staff it.number) _ (judged_unlike (names books.branches it.branch 5
         ∷ []) (change.Staff it) (names_other (contains_key books.branches it.branch) 5, tt)) e)
@@ -285,6 +311,7 @@ module _ (month : ℕ) where
     refused_for run (command.Lease terms) e =
         was_open run (lease_verdict books terms) (there_unlike (λ lease. is_same_lease_terms terms lease.terms) (get books.leases terms.number) _
         (judged_unlike (lease_checks books terms) (change.Lease (signed books terms (get books.properties terms.property))) (lease_other terms))) e
+    refused_for run (command.End it) e = was_open run (end_verdict books it) (ended_unlike it (get books.leases it.lease)) e
     refused_for run (command.Receipt order) e = was_open run (receipt_verdict books (len books.receipts) order) (receipt_unlike order) e
     refused_for run (command.Run order) e = was_open run (run_verdict books order) (run_order_unlike order) e
     refused_for run (command.Open order) e = was_open run (run_verdict books order) (run_order_unlike order) e
@@ -293,7 +320,9 @@ module _ (month : ℕ) where
 
     frozen_refused : (at : OpenRun) (told : Command) → is_frozen told ≡ true → verdict_on books (Some at) told ≡ verdict.Refused (refusal.RunOpen at.month)
     frozen_refused at (command.Branch it) frozen = refl
+    frozen_refused at (command.Fee it) frozen = refl
     frozen_refused at (command.Lease it) frozen = refl
+    frozen_refused at (command.End it) frozen = refl
     frozen_refused at (command.Receipt it) frozen = refl
     frozen_refused at (command.Run it) frozen = refl
     frozen_refused at (command.Open it) frozen = refl
@@ -320,6 +349,11 @@ module _ (month : ℕ) where
     run_answers None = λ e. cc
     run_answers (Some run) = if_answers run.is_closed _ refusal.NoRun (λ e. cc) (λ e. cc)
 
+    owner_answers : (it : OwnerMonth) (found : Option Owner) (run : Option Run) → Answers (owner_report books it found run)
+    owner_answers it None run = λ e. cc
+    owner_answers it (Some owner) None = λ e. cc
+    owner_answers it (Some owner) (Some run) = if_answers run.is_closed _ refusal.NoRun (λ e. cc) (λ e. cc)
+
     put_off_for : (run : Option OpenRun) (otherwise : Report) → Answers otherwise → answers.unless_open run otherwise ≡ NoReport (refusal.RunOpen month)
         → IsOpenFor run true
     put_off_for None otherwise answered e = absurd (answered e)
@@ -334,12 +368,16 @@ module _ (month : ℕ) where
     not_answered run (asked.Arrears branch) e =
         put_off_for run (arrears books branch) (if_answers (contains_key books.branches branch) _ (refusal.Unknown 3) (λ e. cc) (λ e. cc)) e
     not_answered run (asked.Run asked_month) e = put_off_for run (run_report books (get books.runs asked_month)) (run_answers (get books.runs asked_month)) e
+    not_answered run (asked.Owner it) e =
+        put_off_for run (owner_report books it (get books.owners it.owner) (get books.runs it.month))
+        (owner_answers it (get books.owners it.owner) (get books.runs it.month)) e
 
     put_off_refused : (at : OpenRun) (question : Question) → is_put_off question ≡ true
         → report (record { books = books; open_run = Some at }) question ≡ NoReport (refusal.RunOpen at.month)
     put_off_refused at (asked.Statement lease) off = refl
     put_off_refused at (asked.Arrears branch) off = refl
     put_off_refused at (asked.Run asked_month) off = refl
+    put_off_refused at (asked.Owner it) off = refl
     put_off_refused at _ off = cc
 
 pub open_runs_refuse_frozen : OpenRunsRefuseFrozen

@@ -6,6 +6,8 @@ use Rattle.std.specs.Option.{IsSome}
 use Rattle.dh_types.specs.declared.command.Command.{Command}
 use Rattle.dh_types.specs.declared.command.Command.TheVariants as command
 use Rattle.dh_types.specs.declared.command.RunOrder.{RunOrder}
+use Rattle.dh_types.specs.declared.fee.BranchFee.{BranchFee}
+use Rattle.dh_types.specs.declared.lease.Ending.{Ending}
 use Rattle.dh_types.specs.declared.run.RunSum.{RunSum}
 use Rattle.dh_types.specs.declared.reply.Reply.{Reply}
 use Rattle.dh_types.specs.declared.reply.Reply.TheVariants as reply
@@ -19,7 +21,7 @@ use Rattle.dh_model.specs.Books.{Books, State}
 use Rattle.dh_model.specs.Machine.{accepted, carried_out, changed, posted, posted_sum, settled, step}
 use Rattle.dh_model.specs.MachineLaws.{is_post}
 use Rattle.dh_model.specs.Runs.{batch_size, batches, ran}
-use Rattle.dh_model.specs.Verdicts.{opened_run, run_verdict, verdict_on}
+use Rattle.dh_model.specs.Verdicts.{ending_rows, fee_rows, opened_run, run_verdict, verdict_on}
 use Rattle.dh_model.specs.Whole.{whole}
 use Rattle.dh_laws.specs.InOrder.{IsEntered, IsInOrder, run_after}
 use Rattle.dh_laws.proofs.KeepOrder.{changes_keep_order}
@@ -299,7 +301,17 @@ is_of_run (command.Open order) = true
 is_of_run (command.Post count) = true
 is_of_run _ = false
 
+plain_fee : (it : BranchFee) (found : Option BranchFee) → is_plain (fee_rows it found) ≡ true
+plain_fee it None = refl
+plain_fee it (Some was) = refl
+
+plain_ending : (it : Ending) (found : Option Ending) → is_plain (ending_rows it found) ≡ true
+plain_ending it None = refl
+plain_ending it (Some was) = refl
+
 plain_of : (books : Books) (told : Command) → is_of_run told ≡ false → is_plain (rows_of books told) ≡ true
+plain_of books (command.Fee it) other = plain_fee it (get books.branch_fees it.branch)
+plain_of books (command.End it) other = plain_ending it (get books.endings it.lease)
 plain_of books (command.Run order) other = cc
 plain_of books (command.Open order) other = cc
 plain_of books (command.Post count) other = cc

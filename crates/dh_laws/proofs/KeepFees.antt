@@ -1,5 +1,5 @@
 -- The rows of an accepted command leave each part its fee.
-use Rattle.std.proofs.Common.{◌≡◌, ◌≢◌, ◌∙◌, refl, sym, ap, subst, inl, inr, ℕ, ◌<◌, Bool, true, false, nat_eq, List, Option, Some, None, is_some, arith}
+use Rattle.std.proofs.Common.{◌≡◌, ◌∙◌, refl, sym, ap, subst, inl, inr, ℕ, false, nat_eq, List, Option, Some, None, arith}
 use Rattle.std.specs.Prelude.{IfSome}
 use Rattle.std.specs.List.{IsAmong, filter}
 use Rattle.std.specs.FinMap.{FinMap, get, insert, values}
@@ -12,6 +12,7 @@ use Rattle.dh_types.specs.declared.command.Assignment.{Assignment}
 use Rattle.dh_types.specs.declared.command.RentChange.{RentChange}
 use Rattle.dh_types.specs.declared.command.ViewingComment.{ViewingComment}
 use Rattle.dh_types.specs.declared.viewing.Viewing.{Viewing}
+use Rattle.dh_types.specs.declared.fee.BranchFee.{BranchFee}
 use Rattle.dh_types.specs.declared.version.Version.{Version}
 use Rattle.dh_types.specs.declared.version.Version.TheVariants.{First, Second}
 use Rattle.dh_model.specs.declared.open_run.OpenRun.{OpenRun}
@@ -21,11 +22,13 @@ use Rattle.dh_model.specs.Books.{Books, text_cmp}
 use Rattle.dh_model.specs.Kinds.{Kind}
 use Rattle.dh_model.specs.Machine.{at_rent, changed, managed, with_comment}
 use Rattle.dh_model.specs.Runs.{fee_at, is_property_of, part_fee_of}
-use Rattle.dh_model.specs.Rules.{Each, HasFees, HasItsFee, IsThere, NamesWhatIsThere, RunsInOrder, charges_in, charges_of_part, is_charged_at}
+use Rattle.dh_model.specs.Rules.{Each, HasFees, HasItsFee, NamesWhatIsThere, RunsInOrder, charges_in, charges_of_part, is_charged_at}
+use Rattle.dh_model.specs.Whole.{IsOpenAt, open_row}
 use Rattle.dh_model.proofs.Among.{Among, among, in_filter, is_among}
 use Rattle.dh_model.proofs.KeyOrders.{nat_ties, nat_total}
 use Rattle.dh_model.proofs.MapRows.{get_other, got_after, of_row, there}
 use Rattle.dh_laws.proofs.Acceptance.{Accepted}
+use Rattle.dh_laws.proofs.MonthShown.{all_closed}
 use Rattle.dh_laws.proofs.MonthDues.{StandAsBefore, kept_alike, new_property, same_property, stands}
 
 -- what holds of what is found
@@ -49,12 +52,11 @@ module _ (b c : Books) where
     pub charges : c.charges ≡ b.charges
     pub parts : c.parts ≡ b.parts
     pub rows : c.part_fees ≡ b.part_fees
-    pub fee : (branch : List ℕ) → fee_at c branch ≡ fee_at b branch
     pub of : (charge : Charge) → Among (values b.charges) charge → (branch : List ℕ)
         → is_charged_at c branch (get c.leases charge.lease) ≡ is_charged_at b branch (get b.leases charge.lease)
-    -- a run with a part that is open was there
+    -- a run with a part that is open was there, and the branch of the part has the same fee
     pub run : (part : Part) → Among (values b.parts) part → (run : Run) → get c.runs part.month ≡ Some run → run.is_closed ≡ false
-        → get b.runs part.month ≡ Some run
+        → (get b.runs part.month ≡ Some run) × (fee_at c part.branch ≡ fee_at b part.branch)
 
   module _ (same : SameFees) where
     same_charges : (part : Part) → charges_of_part c part ≡ charges_of_part b part
@@ -72,9 +74,8 @@ module _ (b c : Books) where
       row = ap (λ rows. get rows (part.month, part.branch)) same.rows ∙ h.row
           ∙ ap (λ charges. Some (part_fee_of part.month part.branch h.fee charges)) (sym (same_charges part));
       present = if_found (get c.runs part.month) (λ run is unclosed.
-          of_found (λ run. run.is_closed ≡ false → h.fee ≡ fee_at b part.branch) (get b.runs part.month) run h.present
-          (same.run part a run is unclosed) unclosed
-          ∙ sym (same.fee part.branch));
+          let was = same.run part a run is unclosed in
+          of_found (λ run. run.is_closed ≡ false → h.fee ≡ fee_at b part.branch) (get b.runs part.month) run h.present was.0 unclosed ∙ sym was.1);
     }
 
     by_version : (version : Version) → HasFees b version → HasFees c version
@@ -87,7 +88,8 @@ module _ (b c : Books) where
     pub fees_stay : HasFees b b.version → HasFees c c.version
     fees_stay h = subst (HasFees c) (sym same.version) (by_version b.version h)
 
-module _ (books : Books) (run : Option OpenRun) (names : NamesWhatIsThere books) (runs : RunsInOrder books) where
+module _ (size : ℕ) (books : Books) (run : Option OpenRun) (names : NamesWhatIsThere books) (runs : RunsInOrder books)
+    (shown : IsOpenAt size books run) where
   module _ (c : Books) (version : c.version ≡ books.version) (charges : c.charges ≡ books.charges) (parts : c.parts ≡ books.parts)
       (rows : c.part_fees ≡ books.part_fees) (fees : c.branch_fees ≡ books.branch_fees) where
     fee_alike : (branch : List ℕ) → fee_at c branch ≡ fee_at books branch
@@ -100,10 +102,9 @@ module _ (books : Books) (run : Option OpenRun) (names : NamesWhatIsThere books)
       charges = charges;
       parts = parts;
       rows = rows;
-      fee = fee_alike;
       of = λ charge a branch. at_alike books c properties branch (get c.leases charge.lease)
           ∙ ap (λ leases. is_charged_at books branch (get leases charge.lease)) leases;
-      run = λ part a row is unclosed. ap (λ runs. get runs part.month) (sym same_runs) ∙ is;
+      run = λ part a row is unclosed. (ap (λ runs. get runs part.month) (sym same_runs) ∙ is, fee_alike part.branch);
     }
 
   -- the lease of a charge is there
@@ -116,14 +117,13 @@ module _ (books : Books) (run : Option OpenRun) (names : NamesWhatIsThere books)
     charges = refl;
     parts = refl;
     rows = refl;
-    fee = λ branch. refl;
     of = λ charge a branch.
         let lease = lease_of charge a in
         let c : Books = record books { properties = properties } in
         ap (is_charged_at c branch) lease.1
         ∙ stands books properties stand lease.0 (of_row nat_total nat_ties books.leases charge.lease lease.0 lease.1) branch
         ∙ sym (ap (is_charged_at books branch) lease.1);
-    run = λ part a row is unclosed. is;
+    run = λ part a row is unclosed. (is, refl);
   }
 
   lease_alike : (it : Lease) → get books.leases it.terms.number ≡ None → SameFees books (changed (change.Lease it) books)
@@ -132,7 +132,6 @@ module _ (books : Books) (run : Option OpenRun) (names : NamesWhatIsThere books)
     charges = refl;
     parts = refl;
     rows = refl;
-    fee = λ branch. refl;
     of = λ charge a branch.
         let lease = lease_of charge a in
         let c = changed (change.Lease it) books in
@@ -141,7 +140,7 @@ module _ (books : Books) (run : Option OpenRun) (names : NamesWhatIsThere books)
         let some = ap (get books.leases) (sym same) ∙ lease.1 in
         let none = new in
         cc));
-    run = λ part a row is unclosed. is;
+    run = λ part a row is unclosed. (is, refl);
   }
 
   open_alike : (it : Run) → it.month ≡ books.next → SameFees books (changed (change.Open it) books)
@@ -150,7 +149,6 @@ module _ (books : Books) (run : Option OpenRun) (names : NamesWhatIsThere books)
     charges = refl;
     parts = refl;
     rows = refl;
-    fee = λ branch. refl;
     of = λ charge a branch. at_alike books (changed (change.Open it) books) refl branch (get books.leases charge.lease);
     run = λ part a row is unclosed. elim (got_after nat_total nat_ties books.runs it.month it part.month row is) [
       | inl new ↦ absurd (
@@ -158,7 +156,7 @@ module _ (books : Books) (run : Option OpenRun) (names : NamesWhatIsThere books)
           let within = (runs.run part.month).0 refers.run in
           let same = new.0 in
           omega (arith, within.1, next, same))
-      | inr old ↦ old.1
+      | inr old ↦ (old.1, refl)
     ];
   }
 
@@ -182,7 +180,24 @@ module _ (books : Books) (run : Option OpenRun) (names : NamesWhatIsThere books)
       let c : Books = record books { viewings = insert books.viewings (it.client, it.property) (record row { comment = Some it.comment }) } in
       subst (λ found. SameFees books (with_comment books it found)) (sym is) (untouched c refl refl refl refl refl refl refl refl)
 
+  -- a branch gets another fee where no run is open
+  fees_alike : (fees : FinMap text_cmp BranchFee) → run ≡ None → SameFees books (record books { branch_fees = fees })
+  fees_alike fees closed = record {
+    version = refl;
+    charges = refl;
+    parts = refl;
+    rows = refl;
+    of = λ charge a branch. at_alike books (record books { branch_fees = fees }) refl branch (get books.leases charge.lease);
+    run = λ part a row is unclosed. absurd (
+        let none : open_row books ≡ None = subst (IsOpenAt size books) closed shown in
+        let all = all_closed books none row (of_row nat_total nat_ties books.runs part.month row is) in
+        let still = unclosed in
+        cc);
+  }
+
   same_fees : (rows : Change) → Accepted books run rows → SameFees books (changed rows books)
+  same_fees (change.NewFee it) a = fees_alike (insert books.branch_fees it.branch it) a.0.closed
+  same_fees (change.Fee it) a = fees_alike (insert books.branch_fees it.branch it) a.0.closed
   same_fees (change.Property it) a = properties_alike (insert books.properties it.number it) (new_property books it.number it names a.new)
   same_fees (change.Assign it) a = assigned_alike it a.row a.is
   same_fees (change.Rent it) a = rent_alike it a.0 a.1

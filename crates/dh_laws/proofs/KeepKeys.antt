@@ -35,6 +35,8 @@ module _ (books : Books) (keyed : AreKeyed books) where
   -- whatever the change
   pub keeps_keys : (rows : Change) → AreKeyed (changed rows books)
   keeps_keys (change.Branch it) = keyed_put books keyed Kind.Branches it.number it refl
+  keeps_keys (change.NewFee it) = keyed_put books keyed Kind.BranchFees it.branch it refl
+  keeps_keys (change.Fee it) = keyed_put books keyed Kind.BranchFees it.branch it refl
   keeps_keys (change.Staff it) = keyed_put books keyed Kind.Staff it.number it refl
   keeps_keys (change.Owner it) = keyed_put books keyed Kind.Owners it.number it refl
   keeps_keys (change.Property it) = keyed_put books keyed Kind.Properties it.number it refl
@@ -46,6 +48,8 @@ module _ (books : Books) (keyed : AreKeyed books) where
   keeps_keys (change.Comment it) = keyed_commented it (get books.viewings (it.client, it.property)) refl
   keeps_keys (change.Inspection it) = keyed_put books keyed Kind.Inspections (it.property, it.day) it refl
   keeps_keys (change.Lease it) = keyed_put books keyed Kind.Leases it.terms.number it refl
+  keeps_keys (change.NewEnding it) = keyed_put books keyed Kind.Endings it.lease it refl
+  keeps_keys (change.Ending it) = keyed_put books keyed Kind.Endings it.lease it refl
   keeps_keys (change.Receipt it) = keyed_put books keyed Kind.Receipts it.number it refl
   keeps_keys (change.Open it) =
       let runs = insert books.runs it.month it in

@@ -4,7 +4,7 @@ use Rattle.std.specs.FinMap.{get, insert}
 use Rattle.dh_types.specs.declared.property.Property.{Property}
 use Rattle.dh_types.specs.declared.viewing.Viewing.{Viewing}
 use Rattle.dh_types.specs.declared.lease.Lease.{Lease}
-use Rattle.dh_types.specs.declared.run.Run.{Run}
+use Rattle.dh_types.specs.declared.lease.Ending.{Ending}
 use Rattle.dh_types.specs.declared.command.Assignment.{Assignment}
 use Rattle.dh_types.specs.declared.command.RentChange.{RentChange}
 use Rattle.dh_types.specs.declared.command.ViewingComment.{ViewingComment}
@@ -16,8 +16,8 @@ use Rattle.dh_model.specs.Checks.{is_registered}
 use Rattle.dh_model.specs.Kinds.{Kind, records_of}
 use Rattle.dh_model.specs.Machine.{at_rent, changed, managed, with_comment}
 use Rattle.dh_model.specs.Rules.{Each, IsThere, NamesWhatIsThere, PropertyRefers, Refers, ViewingRefers}
-use Rattle.dh_model.proofs.KeyOrders.{text_total, text_ties, texts_total, texts_tie}
-use Rattle.dh_laws.proofs.Acceptance.{Accepted, AddsLease, Assigns}
+use Rattle.dh_model.proofs.KeyOrders.{nat_total, nat_ties, text_total, text_ties, texts_total, texts_tie}
+use Rattle.dh_laws.proofs.Acceptance.{Accepted, AddsLease, Assigns, EndsLease}
 use Rattle.dh_laws.proofs.KeepGrowth.{Grows, if_some, names_put, stay_with_property, stay_with_registration, still_refers}
 use Rattle.dh_model.proofs.MapRows.{each_got, inside, there}
 
@@ -92,8 +92,13 @@ module _ (books : Books) (run : Option OpenRun) (names : NamesWhatIsThere books)
       subst (λ found. NamesWhatIsThere (with_comment books it found)) (sym is)
       (names_commented (it.client, it.property) row (record row { comment = Some it.comment }) is refl refl)
 
+  ended_is_there : (it : Ending) → EndsLease books run it → IsThere books.leases it.lease
+  ended_is_there it ends = (there nat_total nat_ties books.leases it.lease).1 (ends.lease, ends.is)
+
   pub keeps_references : (rows : Change) → Accepted books run rows → NamesWhatIsThere (changed rows books)
   keeps_references (change.Branch it) h = names_put books Kind.Branches it.number it names (λ c p r. r) tt
+  keeps_references (change.NewFee it) h = names_put books Kind.BranchFees it.branch it names (λ c p r. r) h.0.branch
+  keeps_references (change.Fee it) h = names_put books Kind.BranchFees it.branch it names (λ c p r. r) h.0.branch
   keeps_references (change.Staff it) h = names_put books Kind.Staff it.number it names (λ c p r. r) h.branch
   keeps_references (change.Owner it) h = names_put books Kind.Owners it.number it names (λ c p r. r) tt
   keeps_references (change.Property it) h =
@@ -112,6 +117,8 @@ module _ (books : Books) (run : Option OpenRun) (names : NamesWhatIsThere books)
   keeps_references (change.Inspection it) h =
       names_put books Kind.Inspections (it.property, it.day) it names (λ c p r. r) (record { property = h.property; staff = h.staff })
   keeps_references (change.Lease it) h = names_put books Kind.Leases it.terms.number it names (λ c p r. r) (refers_to_property it h)
+  keeps_references (change.NewEnding it) h = names_put books Kind.Endings it.lease it names (λ c p r. r) (ended_is_there it h.0)
+  keeps_references (change.Ending it) h = names_put books Kind.Endings it.lease it names (λ c p r. r) (ended_is_there it h.0)
   keeps_references (change.Receipt it) h = names_put books Kind.Receipts it.number it names (λ c p r. r) h.lease
   keeps_references (change.Open it) h =
       names_next (record books { runs = insert books.runs it.month it }) (it.month + 1) (names_put books Kind.Runs it.month it names (λ c p r. r) tt)

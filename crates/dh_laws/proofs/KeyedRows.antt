@@ -1,5 +1,5 @@
 -- What holds of the records of each kind holds where those of one kind are replaced by others of which it holds: as that they are keyed.
-use Rattle.std.proofs.Common.{◌≡◌, refl, ℕ}
+use Rattle.std.proofs.Common.{◌≡◌, ℕ}
 use Rattle.std.specs.FinMap.{FinMap, insert}
 use Rattle.dh_model.specs.Books.{Books}
 use Rattle.dh_model.specs.Kinds.{Kind, key_in, key_of, order_of, record_of, records_of, with_records}

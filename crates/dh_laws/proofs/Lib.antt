@@ -32,6 +32,7 @@ pub mod KeepGrowth
 pub mod KeepReferences
 pub mod KeepStaff
 pub mod KeepManagers
+pub mod EarlyEnds
 pub mod KeepOrder
 pub mod PostCounts
 pub mod PostSmall
@@ -67,6 +68,7 @@ pub mod TellingMeanwhile
 pub mod TellingRuns
 pub mod TellingCuts
 pub mod Standing
+pub mod Versions
 pub mod Carrying
 pub mod RowsNarrowed
 pub mod LooksFit

@@ -38,6 +38,8 @@ module _ (books : Books) (keyed : AreKeyed books) where
   module _ (run : Option OpenRun) (keys : KeysInOrder books) (runs : RunsInOrder books) where
     fits : (rows : Change) → Accepted books run rows → FitsIn rows books
     fits (change.Branch it) a = a.new
+    fits (change.NewFee it) a = a.1
+    fits (change.Fee it) a = a.1
     fits (change.Staff it) a = a.new
     fits (change.Owner it) a = a
     fits (change.Property it) a = a.new
@@ -49,6 +51,8 @@ module _ (books : Books) (keyed : AreKeyed books) where
     fits (change.Comment it) a = a
     fits (change.Inspection it) a = a.new
     fits (change.Lease it) a = a.new
+    fits (change.NewEnding it) a = a.1
+    fits (change.Ending it) a = a.1
     fits (change.Receipt it) a = next_number_is_new keys it.number a.number
     fits (change.Open it) a = (next_month_is_new runs it.month a.month, a.month)
     fits change.Post a = tt

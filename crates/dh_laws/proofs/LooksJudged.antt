@@ -1,6 +1,6 @@
 -- What a command looks at decides its verdict: each look-up finds in it what it finds in the books.
 use Rattle.std.proofs.Common.{◌≡◌, ◌∙◌, refl, sym, ap, ap₂, ℕ, ◌+◌, Bool, true, false, List, [], ◌∷◌, ◌++◌, map, subst, Option, Some, None, is_some, option_map}
-use Rattle.std.proofs.Common.{nat_eq, nat_lt, not, ◌&&◌, ◌||◌, if◌then◌else◌}
+use Rattle.std.proofs.Common.{nat_eq, nat_le, nat_lt, not, ◌&&◌, ◌||◌, if◌then◌else◌}
 use Rattle.std.specs.List.{count_by}
 use Rattle.std.specs.List as list
 use Rattle.std.specs.FinMap.{get, values}
@@ -9,8 +9,10 @@ use Rattle.dh_values.specs.declared.receipt_kind.ReceiptKind.TheVariants.{Deposi
 use Rattle.dh_values.specs.declared.limits.TheConstants.{MOST_NUMBER}
 use Rattle.dh_types.specs.declared.field.TheConstants.{PROPERTY_OWNER, PROPERTY_STAFF, PROPERTY_BRANCH, ASSIGNED_STAFF, STAFF_BRANCH, REGISTERED_CLIENT}
 use Rattle.dh_types.specs.declared.field.TheConstants.{REGISTERED_BRANCH, REGISTERED_STAFF, VIEWING_CLIENT, VIEWING_PROPERTY, INSPECTED_PROPERTY}
-use Rattle.dh_types.specs.declared.field.TheConstants.{INSPECTION_STAFF, LEASE_CLIENT, LEASE_PROPERTY, RECEIPT_LEASE}
+use Rattle.dh_types.specs.declared.field.TheConstants.{FEE_BRANCH, INSPECTION_STAFF, LEASE_CLIENT, LEASE_PROPERTY, RECEIPT_LEASE}
+use Rattle.dh_days.specs.Days.{month_of_day}
 use Rattle.dh_types.specs.declared.branch.Branch.{Branch}
+use Rattle.dh_types.specs.declared.fee.BranchFee.{BranchFee}
 use Rattle.dh_types.specs.declared.staff.Staff.{Staff}
 use Rattle.dh_types.specs.declared.owner.Owner.{Owner}
 use Rattle.dh_types.specs.declared.property.Property.{Property}
@@ -43,7 +45,9 @@ use Rattle.dh_model.specs.Kinds.{Kind, key_in, key_of, record_of, records_of}
 use Rattle.dh_model.specs.Leases.{overlap, running, months_in}
 use Rattle.dh_model.specs.Checks.{Check, first_that_day, free_of_others, has_room, in_time, is_registered, is_same_text, is_twice, least, managed_besides}
 use Rattle.dh_model.specs.Checks.{names, no_deposit_yet, of_branch, receipt_of_key, run_of_key, unless, where_given, works_at}
+use Rattle.dh_model.specs.Runs.{fee_in}
 use Rattle.dh_model.specs.Verdicts.{assigned, commented, inspection_verdict, judged, lease_verdict, opened_run, post_verdict}
+use Rattle.dh_model.specs.Verdicts.{end_verdict, ended, ending_rows, fee_rows, fee_verdict}
 use Rattle.dh_model.specs.Verdicts.{receipt_verdict, register_verdict, rent_changed, run_verdict, signed, unless_open, unless_paid, unless_posted}
 use Rattle.dh_model.specs.Verdicts.{unless_receipt, unless_run, unless_there, verdict_among, verdict_on, viewing_verdict}
 use Rattle.dh_model.specs.Whole.{rows_where}
@@ -312,12 +316,49 @@ module _ (books : Books) (keyed : AreKeyed books) where
         ∷ [])
         (change.Lease (signed books terms (property_there terms.property i))))
 
+  -- ---- a fee, and an early end
+
+  fee_there : (branch : List ℕ) → get (rows_where (λ f. is_same_text f.branch branch) books.branch_fees) branch ≡ get books.branch_fees branch
+  fee_there branch = there Kind.BranchFees branch (λ f. is_same_text f.branch branch) (λ f e. same_text f.branch branch e)
+
+  abbrev fee_judged : BranchFee → Option Branch → Option BranchFee → Verdict
+  fee_judged it branch fee =
+      if is_some branch then (if nat_eq it.fee (fee_in fee) then verdict.Already reply.Already else verdict.Change (fee_rows it fee))
+      else verdict.Refused (refusal.Unknown FEE_BRANCH)
+
+  fee_alike : (it : BranchFee) → fee_verdict (looked_at books (command.Fee it)) it ≡ fee_verdict books it
+  fee_alike it = λ i. fee_judged it (branch_there it.branch i) (fee_there it.branch i)
+
+  ending_there : (n : ℕ) → get (rows_where (λ e. nat_eq e.lease n) books.endings) n ≡ get books.endings n
+  ending_there n = there Kind.Endings n (λ e. nat_eq e.lease n) (λ e is. (numbers e.lease n).1 is)
+
+  abbrev ending_judged : Ending → Lease → ℕ → Option Ending → Verdict
+  ending_judged it lease length found =
+      if nat_eq it.months length then verdict.Already reply.Already
+      else judged
+      (unless (nat_lt it.months length) (refusal.NotShorter length)
+      ∷ unless (nat_le books.next (month_of_day lease.terms.start + it.months)) (refusal.MonthPosted books.next)
+      ∷ [])
+      (ending_rows it found)
+
+  ended_alike : (it : Ending) (found : Option Lease) → get books.leases it.lease ≡ found → ended (looked_at books (command.End it)) it found ≡ ended books it found
+  ended_alike it None is = refl
+  ended_alike it (Some lease) is =
+      let number : lease.terms.number ≡ it.lease = keyed Kind.Leases it.lease lease is in
+      let found : get (rows_where (λ e. nat_eq e.lease it.lease) books.endings) lease.terms.number ≡ get books.endings lease.terms.number =
+      ap (get (rows_where (λ e. nat_eq e.lease it.lease) books.endings)) number ∙ ending_there it.lease ∙ sym (ap (get books.endings) number) in
+      λ i. ending_judged it lease (months_in lease.terms.months (found i)) (ending_there it.lease i)
+
+  end_alike : (it : Ending) → end_verdict (looked_at books (command.End it)) it ≡ end_verdict books it
+  end_alike it = ap (ended (looked_at books (command.End it)) it) (lease_there it.lease) ∙ ended_alike it (get books.leases it.lease) refl
+
   -- ---- any command
 
   cut_judged : (run : Option OpenRun) (told : Command) (count : ℕ) → Counts told books.receipts count
       → verdict_among (looked_at books told) count run told ≡ verdict_on books run told
   cut_judged run (command.Branch it) count is =
       ap (λ (there : Option Branch). unless_open run (unless_there (is_same_branch it) there (judged [] (change.Branch it)))) (branch_there it.number)
+  cut_judged run (command.Fee it) count is = ap (unless_open run) (fee_alike it)
   cut_judged run (command.Staff it) count is =
       ap₂ (λ (there : Option Staff) (branch : Option Branch). unless_there (is_same_staff it) there
       (judged (unless (is_some branch) (refusal.Unknown STAFF_BRANCH) ∷ []) (change.Staff it))) (member_there it.number) (branch_there it.branch)
@@ -334,6 +375,7 @@ module _ (books : Books) (keyed : AreKeyed books) where
   cut_judged run (command.Comment it) count is = ap (commented books it) (viewing_there it.client it.property)
   cut_judged run (command.Inspection it) count is = inspection_alike it
   cut_judged run (command.Lease it) count is = ap (unless_open run) (lease_alike it)
+  cut_judged run (command.End it) count is = ap (unless_open run) (end_alike it)
   cut_judged run (command.Receipt it) count is = ap (unless_open run) (receipt_alike it count ∙ ap (λ n. receipt_verdict books n it) is)
   cut_judged run (command.Run it) count is = ap (unless_open run) (run_alike it)
   cut_judged run (command.Open it) count is = ap (unless_open run) (run_alike it)
@@ -356,7 +398,9 @@ posted_alike (Some a) (Some b) e = refl
 month_alike : (books : Books) (count : ℕ) (run other : Option OpenRun) (told : Command) → month_open run ≡ month_open other
     → verdict_among books count run told ≡ verdict_among books count other told
 month_alike books count run other (command.Branch it) e = frozen_alike run other _ e
+month_alike books count run other (command.Fee it) e = frozen_alike run other _ e
 month_alike books count run other (command.Lease it) e = frozen_alike run other _ e
+month_alike books count run other (command.End it) e = frozen_alike run other _ e
 month_alike books count run other (command.Receipt it) e = frozen_alike run other _ e
 month_alike books count run other (command.Run it) e = frozen_alike run other _ e
 month_alike books count run other (command.Open it) e = frozen_alike run other _ e

@@ -13,6 +13,7 @@ use Rattle.dh_model.specs.Machine.{at_rent, changed, managed, with_comment}
 use Rattle.dh_model.specs.Rules.{NamesWhatIsThere}
 use Rattle.dh_laws.specs.InOrder.{AreKeyed, run_after}
 use Rattle.dh_laws.proofs.Acceptance.{Accepted}
+use Rattle.dh_laws.proofs.EarlyEnds.{ending_keeps}
 use Rattle.dh_laws.proofs.MonthDues.{new_property, same_property}
 use Rattle.dh_laws.proofs.MonthKeep.{RunInMonths, branch_keeps, free_keeps, properties_keep, untouched}
 use Rattle.dh_laws.proofs.MonthOpen.{lease_keeps, open_keeps}
@@ -49,6 +50,8 @@ module _ (size : ℕ) (books : Books) (run : Option OpenRun) (keyed : AreKeyed b
       (free_keeps size books c refl run refl refl refl refl (λ month. untouched books c month refl refl refl refl refl refl) in_order)
   changes_keep_months (change.Lease it) a =
       where_closed (changed (change.Lease it) books) a.closed (lease_keeps size books it.terms.number it (keyed Kind.Runs) a.new a.in_time)
+  changes_keep_months (change.NewEnding it) a = where_closed (changed (change.NewEnding it) books) a.0.closed (ending_keeps books keyed run it a.0 size)
+  changes_keep_months (change.Ending it) a = where_closed (changed (change.Ending it) books) a.0.closed (ending_keeps books keyed run it a.0 size)
   changes_keep_months (change.Open it) a =
       open_keeps size books it (keyed Kind.Runs) (subst (RunInMonths size books) a.closed in_order) a.month a.is_open a.count a.total
   changes_keep_months other a =

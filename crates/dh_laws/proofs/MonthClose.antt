@@ -177,11 +177,10 @@ module _ (size : ℕ) (b : Books) (row : Run) (pos : 1 ≤ size) (keyed : AreKey
     charges = refl;
     parts = refl;
     rows = refl;
-    fee = λ branch. refl;
     of = λ charge a branch. at_alike b c refl branch (get b.leases charge.lease);
     run = λ part a run is unclosed. elim (got_after nat_total nat_ties b.runs row.month done part.month run is) [
       | inl new ↦ absurd (let closed : run.is_closed ≡ true = ap (λ (r : Run). r.is_closed) new.1 in let still = unclosed in cc)
-      | inr old ↦ old.1
+      | inr old ↦ (old.1, refl)
     ];
   }) (rules Rule.Fees)
 

@@ -4,6 +4,8 @@ use Rattle.std.specs.FinMap.{get, values}
 use Rattle.dh_types.specs.declared.command.Command.{Command}
 use Rattle.dh_types.specs.declared.command.Command.TheVariants as command
 use Rattle.dh_types.specs.declared.command.RunOrder.{RunOrder}
+use Rattle.dh_types.specs.declared.fee.BranchFee.{BranchFee}
+use Rattle.dh_types.specs.declared.lease.Ending.{Ending}
 use Rattle.dh_types.specs.declared.reply.Reply.{Reply}
 use Rattle.dh_types.specs.declared.reply.Reply.TheVariants as reply
 use Rattle.dh_model.specs.declared.open_run.OpenRun.{OpenRun}
@@ -15,7 +17,7 @@ use Rattle.dh_model.specs.Books.{Books, State}
 use Rattle.dh_model.specs.Rules.{IsLawful}
 use Rattle.dh_model.specs.MachineLaws.{is_post}
 use Rattle.dh_model.specs.Runs.{batches, ran}
-use Rattle.dh_model.specs.Verdicts.{opened_run, verdict_on}
+use Rattle.dh_model.specs.Verdicts.{ending_rows, fee_rows, opened_run, verdict_on}
 use Rattle.dh_model.specs.Machine.{carried_out, changed, posted_sum, resumed, settled}
 use Rattle.dh_model.specs.Whole.{IsOpenAt, open_row}
 use Rattle.dh_model.proofs.Among.{is_among}
@@ -25,6 +27,15 @@ use Rattle.dh_laws.specs.Posting.{RunIsOpeningMadeWhole}
 use Rattle.dh_laws.proofs.MonthShown.{none_open}
 use Rattle.dh_laws.proofs.MonthWhole.{lawful_closed}
 use Rattle.dh_laws.proofs.VerdictCases.{post_case, rows_are, rows_of, run_case}
+
+-- a fee and an early end begin no run
+fee_opens_none : (it : BranchFee) (found : Option BranchFee) → run_after None (fee_rows it found) ≡ None
+fee_opens_none it None = refl
+fee_opens_none it (Some was) = refl
+
+end_opens_none : (it : Ending) (found : Option Ending) → run_after None (ending_rows it found) ≡ None
+end_opens_none it None = refl
+end_opens_none it (Some was) = refl
 
 either_books : (b : Bool) (x y : State × Reply) (books : Books) → x.0.books ≡ books → y.0.books ≡ books → (if b then x else y).0.books ≡ books
 either_books true x y books p q = p
@@ -91,6 +102,14 @@ module _ (size : ℕ) (changes : ChangesKeepOrder size) (wholes : WholeIsLawful 
   carried (command.Post count) rows e h =
       subst (λ r. Law (carried_out size s (command.Post count) r).0.books) (sym (post_case s.books s.open_run rows count h).0)
       (subst Law (sym (resumed_books size s.books count s.open_run)) (keyed, lawful))
+  carried (command.Fee it) rows e h =
+      let told = command.Fee it in
+      kept told rows (rows_of s.books told) e (with_no_run s.open_run told rows refl h) (rows_are s.books s.open_run rows told h)
+      (fee_opens_none it (get s.books.branch_fees it.branch))
+  carried (command.End it) rows e h =
+      let told = command.End it in
+      kept told rows (rows_of s.books told) e (with_no_run s.open_run told rows refl h) (rows_are s.books s.open_run rows told h)
+      (end_opens_none it (get s.books.endings it.lease))
   carried told rows e h = kept told rows (rows_of s.books told) e (with_no_run s.open_run told rows refl h) (rows_are s.books s.open_run rows told h) refl
 
   settled_kept : (told : Command) (v : Verdict) → IsEntered told → verdict_on s.books s.open_run told ≡ v → Law (settled size s told v).0.books

@@ -25,14 +25,15 @@ use Rattle.dh_model.specs.Checks.{names, receipt_of_key, run_of_key, unless}
 use Rattle.dh_model.specs.Rules.{IsLawful, KeysInOrder}
 use Rattle.dh_model.specs.Rules.Rule.{Keys}
 use Rattle.dh_model.specs.Verdicts.{branch_verdict, judged, lease_checks, lease_verdict, opened_run, property_checks, receipt_checks, receipt_verdict}
-use Rattle.dh_model.specs.Verdicts.{registration_checks, run_verdict, signed, unless_paid, unless_posted, unless_receipt, unless_run, verdict_on}
+use Rattle.dh_model.specs.Verdicts.{end_verdict, fee_verdict, registration_checks, run_verdict, signed, unless_paid, unless_posted, unless_receipt, unless_run}
+use Rattle.dh_model.specs.Verdicts.{verdict_on}
 use Rattle.dh_model.proofs.KeyOrders.{nat_ties, nat_total}
 use Rattle.dh_laws.specs.InOrder.{AreKeyed}
 use Rattle.dh_laws.specs.Balances.{BalancesMoveAsTold, due_on}
 use Rattle.dh_model.proofs.MapRows.{among_values}
 use Rattle.dh_laws.proofs.OweSums.{kept_twice_new}
 use Rattle.dh_laws.proofs.OweDues.{none_if, ran_adds}
-use Rattle.dh_laws.proofs.OweMoves.{Moves, if_same, more_due, more_paid, on_assign, on_checks, on_comment, on_open, on_post, on_rent, on_row, own}
+use Rattle.dh_laws.proofs.OweMoves.{Moves, if_same, more_due, more_paid, on_assign, on_checks, on_comment, on_end, on_fee, on_open, on_post, on_rent, on_row, own}
 
 module _ (size : ℕ) (s : State) (lease : ℕ) (keyed : AreKeyed s.books) (lawful : IsLawful s.books size) where
   keys : KeysInOrder s.books
@@ -112,6 +113,7 @@ module _ (size : ℕ) (s : State) (lease : ℕ) (keyed : AreKeyed s.books) (lawf
   moves (command.Branch it) =
       on_open size s lease (command.Branch it) s.open_run (branch_verdict s.books it)
       (on_row size s lease (command.Branch it) (is_same_branch it) (get s.books.branches it.number) [] (change.Branch it) (own size s lease))
+  moves (command.Fee it) = on_open size s lease (command.Fee it) s.open_run (fee_verdict s.books it) (on_fee size s lease it)
   moves (command.Staff it) =
       on_row size s lease (command.Staff it) (is_same_staff it) (get s.books.staff it.number) (names s.books.branches it.branch 5
       ∷ []) (change.Staff it) (own size s lease)
@@ -138,6 +140,8 @@ module _ (size : ℕ) (s : State) (lease : ℕ) (keyed : AreKeyed s.books) (lawf
       on_open size s lease (command.Lease it) s.open_run (lease_verdict s.books it)
       (on_row size s lease (command.Lease it) (λ other. is_same_lease_terms it other.terms) (get s.books.leases it.number) (lease_checks s.books it)
       (change.Lease (signed s.books it (get s.books.properties it.property))) (own size s lease))
+  moves (command.End it) =
+      on_open size s lease (command.End it) s.open_run (end_verdict s.books it) (on_end size s lease it (get s.books.leases it.lease))
   moves (command.Receipt order) =
       on_open size s lease (command.Receipt order) s.open_run (receipt_verdict s.books (len s.books.receipts) order) (on_receipt order)
   moves (command.Run order) =

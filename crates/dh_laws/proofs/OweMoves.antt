@@ -2,7 +2,11 @@
 use Rattle.std.proofs.Common.{◌≡◌, ℕ, ◌+◌, Bool, true, false, cond, nat_eq, nat_le, if◌then◌else◌, List, Option, Some, None, arith}
 use Rattle.std.specs.Prelude.{ℤ, pos, ◌+ℤ◌, ◌-ℤ◌}
 use Rattle.std.proofs.lemmas.Int.{ints}
-use Rattle.std.specs.FinMap.{get}
+use Rattle.std.specs.FinMap.{contains_key, get}
+use Rattle.dh_types.specs.declared.field.TheConstants.{FEE_BRANCH}
+use Rattle.dh_types.specs.declared.fee.BranchFee.{BranchFee}
+use Rattle.dh_types.specs.declared.lease.Lease.{Lease}
+use Rattle.dh_types.specs.declared.lease.Ending.{Ending}
 use Rattle.dh_types.specs.declared.property.Property.{Property}
 use Rattle.dh_types.specs.declared.viewing.Viewing.{Viewing}
 use Rattle.dh_types.specs.declared.command.Command.{Command}
@@ -21,10 +25,12 @@ use Rattle.dh_model.specs.declared.rows.Change.TheVariants as change
 use Rattle.dh_model.specs.declared.rows.Verdict.{Verdict}
 use Rattle.dh_model.specs.declared.rows.Verdict.TheVariants as verdict
 use Rattle.dh_model.specs.Books.{Books, State}
-use Rattle.dh_model.specs.Runs.{batches}
+use Rattle.dh_model.specs.Leases.{length_of}
+use Rattle.dh_model.specs.Runs.{batches, fee_at}
 use Rattle.dh_model.specs.Answers.{balance}
 use Rattle.dh_model.specs.Checks.{Check, first_failing, is_same_text}
 use Rattle.dh_model.specs.Verdicts.{assigned, commented, judged, manager_checks, post_verdict, rent_changed, rows_unless, unless_open, unless_there}
+use Rattle.dh_model.specs.Verdicts.{ended, ending_checks, ending_rows, fee_rows, fee_verdict}
 use Rattle.dh_model.specs.Machine.{at_rent, managed, posted_sum, resumed, settled, with_comment}
 use Rattle.dh_laws.specs.Balances.{moved}
 
@@ -137,6 +143,35 @@ module _ (size : ℕ) (s : State) (lease : ℕ) where
   pub on_comment : (it : ViewingComment) (found : Option Viewing) → Moves (command.Comment it) (commented s.books it found)
   on_comment it None = own
   on_comment it (Some viewing) = comment_if it (is_same_optional is_same_text (Some it.comment) viewing.comment)
+
+  fee_keeps : (it : BranchFee) (found : Option BranchFee) → Moves (command.Fee it) (verdict.Change (fee_rows it found))
+  fee_keeps it None = own
+  fee_keeps it (Some was) = own
+
+  fee_if : (it : BranchFee) (b c : Bool) (found : Option BranchFee)
+      → Moves (command.Fee it)
+      (if b then (if c then verdict.Already reply.Already else verdict.Change (fee_rows it found)) else verdict.Refused (refusal.Unknown FEE_BRANCH))
+  fee_if it true true found = own
+  fee_if it true false found = fee_keeps it found
+  fee_if it false c found = own
+
+  pub on_fee : (it : BranchFee) → Moves (command.Fee it) (fee_verdict s.books it)
+  on_fee it = fee_if it (contains_key s.books.branches it.branch) (nat_eq it.fee (fee_at s.books it.branch)) (get s.books.branch_fees it.branch)
+
+  end_keeps : (it : Ending) (found : Option Ending) → Moves (command.End it) (verdict.Change (ending_rows it found))
+  end_keeps it None = own
+  end_keeps it (Some was) = own
+
+  end_if : (it : Ending) (lease : Lease) (b : Bool)
+      → Moves (command.End it)
+      (if b then verdict.Already reply.Already else judged (ending_checks s.books it lease) (ending_rows it (get s.books.endings it.lease)))
+  end_if it lease true = own
+  end_if it lease false =
+      on_checks (command.End it) (ending_checks s.books it lease) (ending_rows it (get s.books.endings it.lease)) (end_keeps it (get s.books.endings it.lease))
+
+  pub on_end : (it : Ending) (found : Option Lease) → Moves (command.End it) (ended s.books it found)
+  on_end it None = own
+  on_end it (Some found) = end_if it found (nat_eq it.months (length_of s.books.endings found))
 
   pub on_post : (count : ℕ) (run : Option OpenRun) → Moves (command.Post count) (post_verdict run)
   on_post count None = own

@@ -1,8 +1,8 @@
 -- The fees of a month's parts, where so many batches of it are posted.
-use Rattle.std.proofs.Common.{◌≡◌, ◌⊎◌, ◌∙◌, refl, sym, ap, subst, inl, inr, ℕ, Bool, true, false, nat_eq}
+use Rattle.std.proofs.Common.{◌≡◌, ◌∙◌, refl, sym, ap, subst, inl, inr, ℕ, Bool, true, false, nat_eq}
 use Rattle.std.proofs.Common.{nat_lt, List, [], Option, Some, None, ltb-true, lt-ltb}
 use Rattle.std.specs.Prelude.{IfSome}
-use Rattle.std.specs.List.{IsAmong, filter}
+use Rattle.std.specs.List.{filter}
 use Rattle.std.specs.FinMap.{get, keys, values}
 use Rattle.dh_types.specs.declared.lease.Charge.{Charge}
 use Rattle.dh_types.specs.declared.run.Run.{Run}
@@ -27,7 +27,7 @@ use Rattle.dh_laws.proofs.KeepFees.{of_found}
 use Rattle.dh_laws.proofs.MapMerges.{own_row}
 use Rattle.dh_laws.proofs.PostCharged.{charge_month, charges_fit, fee_month, fees_fit, part_month, parts_fit}
 use Rattle.dh_laws.proofs.PostCounts.{Differ, lesser_differ, rows_differ, same_sum}
-use Rattle.dh_laws.proofs.PostDues.{IsBegun, IsFeeOf, fee_of_begun, in_second, is_begun, is_fee_of, is_posted, of_posted, of_second}
+use Rattle.dh_laws.proofs.PostDues.{fee_of_begun, in_second, is_begun, is_posted, of_posted, of_second}
 use Rattle.dh_laws.proofs.PostMonth.{in_month, in_other_month, in_rows, keyed_replaced, of_new, of_old, of_rows, rows_in, value_of_replaced}
 
 module _ (size : ℕ) (books : Books) (keyed : AreKeyed books) (month n : ℕ) where

@@ -2,7 +2,7 @@
 use Rattle.std.proofs.Common.{◌≡◌, ◌⊎◌, ◌∙◌, refl, sym, ap, subst, inl, inr, ℕ, ◌+◌, ◌-◌, ◌*◌, ◌/◌, ◌<◌, ◌≤◌, Bool, true, false, cond, nat_lt, List, [], ◌∷◌}
 use Rattle.std.proofs.Common.{length, Option, Some, None, Ordering, Less, Equal, Greater, is_lt, div-mul-le_self, le-add_right, arith}
 use Rattle.std.specs.Ordering.{ordering_reverse}
-use Rattle.std.specs.List.{IsAmong, count_by}
+use Rattle.std.specs.List.{count_by}
 use Rattle.std.specs.FinMap.{entries, entries_sorted, get, is_sorted, keys, values}
 use Rattle.std.proofs.lemmas.Bool.{cases_lt}
 use Rattle.std.proofs.lemmas.Bool.Decides.{nat_tests}
@@ -12,7 +12,7 @@ use Rattle.dh_types.specs.declared.lease.Charge.{Charge}
 use Rattle.dh_types.specs.declared.run.Part.{Part}
 use Rattle.dh_model.specs.Books.{Books, text_cmp}
 use Rattle.dh_model.specs.Kinds.{Kind}
-use Rattle.dh_model.specs.Runs.{batch_of, batches, batches_before, batches_of_branch, charge_key, dues_of_branch, part_key, place_among, posted_charges}
+use Rattle.dh_model.specs.Runs.{batch_of, batches_before, batches_of_branch, charge_key, dues_of_branch, part_key, place_among, posted_charges}
 use Rattle.dh_model.specs.Runs.{posted_parts}
 use Rattle.dh_model.specs.Rules.{ArePosted, MeetsRules, charges_in, parts_in}
 use Rattle.dh_model.specs.Whole.{with_posted}
@@ -22,7 +22,7 @@ use Rattle.dh_model.proofs.BranchDues.{holds, keys_rise, one_branch_of_due}
 use Rattle.dh_model.proofs.BranchSums.{Holds, holder}
 use Rattle.dh_model.proofs.KeyOrders.{nat_text_ties, nat_text_total, nats_tie, nats_total, text_ties, text_total}
 use Rattle.dh_model.proofs.MapRows.{of_row, row_of}
-use Rattle.dh_model.proofs.Rising.{IsBefore, numbered_at}
+use Rattle.dh_model.proofs.Rising.{numbered_at}
 use Rattle.dh_laws.specs.InOrder.{AreKeyed}
 use Rattle.dh_laws.specs.NextBatch.{IsCharged, IsDueOn, NextBatchAddsTheNext}
 use Rattle.dh_laws.proofs.PostCharged.{charge_month, charges_fit, part_month}

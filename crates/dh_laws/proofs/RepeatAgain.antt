@@ -1,8 +1,7 @@
 -- What was carried out and is sent again gets the reply that is kept of it.
-use Rattle.std.proofs.Common.{◌≡◌, ◌∙◌, refl, sym, ap, subst, ℕ, ◌+◌, ◌≤◌, Bool, true, false, nat_le, List, Option, Some, None, if◌then◌else◌}
+use Rattle.std.proofs.Common.{◌≡◌, ◌∙◌, refl, sym, ap, subst, ℕ, ◌+◌, ◌≤◌, Bool, true, false, nat_le, Some, None, if◌then◌else◌}
 use Rattle.std.specs.FinMap.{get, values}
 use Rattle.dh_types.specs.declared.lease.Receipt.{Receipt}
-use Rattle.dh_types.specs.declared.run.Run.{Run}
 use Rattle.dh_types.specs.declared.run.RunSum.{RunSum}
 use Rattle.dh_types.specs.declared.command.Command.{Command}
 use Rattle.dh_types.specs.declared.command.Command.TheVariants as command
@@ -10,12 +9,11 @@ use Rattle.dh_types.specs.declared.command.ReceiptOrder.{ReceiptOrder}
 use Rattle.dh_types.specs.declared.command.RunOrder.{RunOrder}
 use Rattle.dh_types.specs.declared.reply.Reply.{Reply}
 use Rattle.dh_types.specs.declared.reply.Reply.TheVariants as reply
-use Rattle.dh_model.specs.declared.open_run.OpenRun.{OpenRun}
 use Rattle.dh_model.specs.declared.rows.Verdict.{Verdict}
 use Rattle.dh_model.specs.declared.rows.Verdict.TheVariants as verdict
 use Rattle.dh_model.specs.Books.{Books, State}
 use Rattle.dh_model.specs.Machine.{posted_sum, settled, step}
-use Rattle.dh_model.specs.Rules.{IsLawful, KeysInOrder}
+use Rattle.dh_model.specs.Rules.{IsLawful}
 use Rattle.dh_model.specs.Rules.Rule.{Keys}
 use Rattle.dh_model.specs.Runs.{batches, ran, sum_of}
 use Rattle.dh_model.specs.Verdicts.{verdict_on}
@@ -27,7 +25,7 @@ use Rattle.dh_laws.specs.Repeating.{IsRunOf, IsToldPosted, SentAgainIsToldTheSam
 use Rattle.dh_laws.proofs.ReceiptStays.{IsKept, kept_steps, told}
 use Rattle.dh_laws.proofs.ReceiptSteps.{Has}
 use Rattle.dh_laws.proofs.RepeatReplies.{openings_repeat, receipts_repeat, runs_repeat}
-use Rattle.dh_laws.proofs.RunTold.{IsOpened, IsPosted, made, made_there, was_opened, was_posted}
+use Rattle.dh_laws.proofs.RunTold.{made, made_there, was_opened, was_posted}
 
 abbrev state : State × Reply → State
 state r = r.0

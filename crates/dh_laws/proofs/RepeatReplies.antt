@@ -1,5 +1,5 @@
 -- A command whose key was used gets the reply that is kept, or a refusal, and the state stays.
-use Rattle.std.proofs.Common.{◌≡◌, ◌≢◌, ◌∙◌, refl, sym, ap, ℕ, ◌+◌, ◌≤◌, Bool, true, false, nat_eq, nat_le, List, [], ◌∷◌, Option, Some, None, if◌then◌else◌}
+use Rattle.std.proofs.Common.{◌≡◌, ◌∙◌, refl, sym, ap, ℕ, ◌+◌, Bool, true, false, nat_eq, nat_le, [], ◌∷◌, Option, Some, None, if◌then◌else◌}
 use Rattle.std.specs.FinMap.{get, len}
 use Rattle.std.proofs.lemmas.Bool.{false_from_ne_true}
 use Rattle.dh_types.specs.declared.lease.Receipt.{Receipt}
@@ -21,12 +21,12 @@ use Rattle.dh_model.specs.declared.rows.Verdict.{Verdict}
 use Rattle.dh_model.specs.declared.rows.Verdict.TheVariants as verdict
 use Rattle.dh_model.specs.Books.{Books, State}
 use Rattle.dh_model.specs.Checks.{receipt_of_key, run_of_key, unless}
-use Rattle.dh_model.specs.Machine.{accepted, carried_out, posted_sum, resumed, settled, step}
+use Rattle.dh_model.specs.Machine.{accepted, carried_out, posted_sum, resumed, settled}
 use Rattle.dh_model.specs.Rules.{KeysInOrder}
 use Rattle.dh_model.specs.Runs.{batches, sum_of}
 use Rattle.dh_model.specs.Verdicts.{judged, opened_run, receipt_checks, receipt_verdict, run_verdict, unless_paid, unless_posted, unless_receipt, unless_run}
 use Rattle.dh_model.specs.Verdicts.{verdict_on}
-use Rattle.dh_laws.specs.Repeating.{Gets, IsReceiptOf, IsRunOf, NothingNewChangesNothing, ReceiptsRepeat, RepeatsGetTheirReply, RunsRepeat, is_of_nothing_new}
+use Rattle.dh_laws.specs.Repeating.{IsReceiptOf, IsRunOf, NothingNewChangesNothing, ReceiptsRepeat, RepeatsGetTheirReply, RunsRepeat, is_of_nothing_new}
 use Rattle.dh_laws.specs.Repeating.{with_no_run}
 use Rattle.dh_laws.proofs.FindKeys.{no_receipt, no_run, one_receipt, one_run}
 

@@ -1,5 +1,5 @@
 -- What a run and an opening did that were answered so.
-use Rattle.std.proofs.Common.{◌≡◌, ◌∙◌, refl, sym, ap, subst, ℕ, Bool, true, false, nat_eq, List, [], ◌∷◌, Option, Some, None, if◌then◌else◌}
+use Rattle.std.proofs.Common.{◌≡◌, ◌∙◌, refl, sym, ap, ℕ, Bool, true, false, nat_eq, [], ◌∷◌, Option, Some, None, if◌then◌else◌}
 use Rattle.std.specs.FinMap.{get, insert}
 use Rattle.dh_types.specs.declared.lease.Receipt.{Receipt}
 use Rattle.dh_types.specs.declared.run.Run.{Run}
@@ -14,7 +14,7 @@ use Rattle.dh_model.specs.declared.rows.Change.{Change}
 use Rattle.dh_model.specs.declared.rows.Change.TheVariants as change
 use Rattle.dh_model.specs.declared.rows.Verdict.{Verdict}
 use Rattle.dh_model.specs.declared.rows.Verdict.TheVariants as verdict
-use Rattle.dh_model.specs.Books.{Books, State}
+use Rattle.dh_model.specs.Books.{State}
 use Rattle.dh_model.specs.Checks.{Check, first_failing, receipt_of_key, run_of_key, unless}
 use Rattle.dh_model.specs.Leases.{dues}
 use Rattle.dh_model.specs.Machine.{carried_out, posted_sum, settled, step}

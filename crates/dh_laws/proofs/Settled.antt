@@ -7,6 +7,7 @@ use Rattle.dh_values.specs.declared.receipt_kind.ReceiptKind.TheVariants.{Deposi
 use Rattle.dh_days.specs.Days.{month_of_day}
 use Rattle.dh_types.specs.declared.lease.LeaseTerms.{LeaseTerms}
 use Rattle.dh_types.specs.declared.lease.Lease.{Lease}
+use Rattle.dh_types.specs.declared.lease.Ending.{Ending}
 use Rattle.dh_types.specs.declared.lease.Receipt.{Receipt}
 use Rattle.dh_types.specs.declared.run.Run.{Run}
 use Rattle.dh_types.proofs.SameValues.{numbers, texts}
@@ -25,9 +26,10 @@ use Rattle.dh_model.proofs.KeyOrders.{nat_total, nat_ties}
 use Rattle.dh_model.proofs.LeaseLemmas.{overlap_goes_both_ways}
 use Rattle.dh_model.proofs.Rising.{Rises}
 use Rattle.dh_laws.specs.InOrder.{AreKeyed}
-use Rattle.dh_laws.proofs.Acceptance.{Accepted, AddsLease, AddsReceipt, OpensRun}
+use Rattle.dh_laws.proofs.Acceptance.{Accepted, AddsLease, AddsReceipt, EndsLease, OpensRun}
 use Rattle.dh_model.proofs.MapRows.{each_insert, each_two_insert, get_other, of_row, there, values_new}
 use Rattle.dh_model.proofs.Pairs.{pairs_rise, rises_put, rising_pairs}
+use Rattle.dh_laws.proofs.EarlyEnds.{endings_after_end, overlaps_after_end}
 use Rattle.dh_laws.proofs.VerdictCases.{IsLimited}
 use Rattle.dh_laws.proofs.VerdictChecks.{IsNewKey}
 
@@ -279,6 +281,21 @@ module _ (b : Books) (keyed : AreKeyed b) (settled : AreSettled b) where
             );
       }
 
+  -- a lease that is ended early
+  pub settled_with_ending : (run : Option OpenRun) (it : Ending) → EndsLease b run it → 3 ≤ it.months
+      → AreSettled (record b { endings = insert b.endings it.lease it })
+  settled_with_ending run it ends least =
+      let deposits = settled.deposits in
+      let keys = settled.keys in
+      record {
+        overlaps = overlaps_after_end b keyed run it ends settled.overlaps;
+        starts = settled.starts;
+        terms = settled.terms;
+        deposits = record { amounts = deposits.amounts; one_each = deposits.one_each };
+        keys = record { keys = keys.keys; numbers = keys.numbers };
+        endings = endings_after_end b keyed run it ends least settled.endings;
+      }
+
 -- ---- each change
 
 module _ (b : Books) (run : Option OpenRun) (keyed : AreKeyed b) (settled : AreSettled b) (runs : RunsInOrder b) (names : NamesWhatIsThere b)
@@ -294,6 +311,8 @@ module _ (b : Books) (run : Option OpenRun) (keyed : AreKeyed b) (settled : AreS
   keeps_settled (change.Comment it) a l =
       subst (λ found. AreSettled (with_comment b it found)) (sym a.1) (as_before (with_comment b it (Some a.0)) refl refl refl refl refl)
   keeps_settled (change.Lease it) a l = settled_with_lease b keyed settled run it a l runs names (unended it.terms.number a.new)
+  keeps_settled (change.NewEnding it) a l = settled_with_ending b keyed settled run it a.0 l
+  keeps_settled (change.Ending it) a l = settled_with_ending b keyed settled run it a.0 l
   keeps_settled (change.Receipt it) a l = settled_with_receipt b keyed settled run it a
   keeps_settled (change.Open it) a l = settled_with_run b keyed settled run it a runs
   keeps_settled rows a l = as_before (changed rows b) refl refl refl refl refl

@@ -40,7 +40,9 @@ module _ (size : ℕ) (books : Books) (run : OpenRun) (pos : 1 ≤ size) (in_ord
   -- each command is judged as over the whole books
   pub judged_whole : (told : Command) → verdict_on (whole size books) (Some run) told ≡ verdict_on books (Some run) told
   judged_whole (command.Branch it) = refl
+  judged_whole (command.Fee it) = refl
   judged_whole (command.Lease it) = refl
+  judged_whole (command.End it) = refl
   judged_whole (command.Receipt it) = refl
   judged_whole (command.Run it) = refl
   judged_whole (command.Open it) = refl
@@ -55,6 +57,8 @@ module _ (size : ℕ) (books : Books) (run : OpenRun) (pos : 1 ≤ size) (in_ord
 
     -- and opens no run
     opens_none : (told : Command) → is_free told ≡ true → run_after (Some run) (rows_of books told) ≡ Some run
+    opens_none (command.Fee it) free = cc
+    opens_none (command.End it) free = cc
     opens_none (command.Run order) free = cc
     opens_none (command.Open order) free = cc
     opens_none _ free = refl

@@ -1,6 +1,6 @@
 -- Each accepted command's rows, and what its checks found.
 use Rattle.std.proofs.Common.{◌≡◌, refl, sym, subst, ℕ, ◌+◌, ◌≤◌, Bool, true, false, nat_eq, nat_lt, ◌&&◌, if◌then◌else◌, [], ◌∷◌, ◌++◌, Option, Some, None}
-use Rattle.std.proofs.Common.{IfSome}
+use Rattle.std.proofs.Common.{IfSome, ltb-true, leb-true, nat_le}
 use Rattle.std.specs.FinMap.{contains_key, get, len, values}
 use Rattle.dh_values.specs.declared.limits.TheConstants.{MOST_NUMBER}
 use Rattle.dh_types.specs.declared.branch.Branch.{Branch}
@@ -12,7 +12,12 @@ use Rattle.dh_types.specs.declared.client.Registration.{Registration}
 use Rattle.dh_types.specs.declared.viewing.Viewing.{Viewing}
 use Rattle.dh_types.specs.declared.viewing.Inspection.{Inspection}
 use Rattle.dh_types.specs.declared.lease.LeaseTerms.{LeaseTerms}
+use Rattle.dh_types.specs.declared.lease.Lease.{Lease}
+use Rattle.dh_types.specs.declared.lease.Ending.{Ending}
 use Rattle.dh_types.specs.declared.lease.Receipt.{Receipt}
+use Rattle.dh_types.specs.declared.fee.BranchFee.{BranchFee}
+use Rattle.dh_types.specs.declared.field.TheConstants.{FEE_BRANCH}
+use Rattle.dh_days.specs.Days.{month_of_day}
 use Rattle.dh_types.specs.declared.command.Command.{Command}
 use Rattle.dh_types.specs.declared.command.Command.TheVariants as command
 use Rattle.dh_types.specs.declared.command.Assignment.{Assignment}
@@ -30,16 +35,17 @@ use Rattle.dh_model.specs.declared.rows.Change.{Change}
 use Rattle.dh_model.specs.declared.rows.Change.TheVariants as change
 use Rattle.dh_model.specs.declared.rows.Verdict.TheVariants as verdict
 use Rattle.dh_model.specs.Books.{Books}
-use Rattle.dh_model.specs.Leases.{overlap, running}
+use Rattle.dh_model.specs.Leases.{length_of, overlap, running}
+use Rattle.dh_model.specs.Runs.{fee_at}
 use Rattle.dh_model.specs.Checks.{deposit_checks, first_failing, first_that_day, free_of_others, has_room, in_time, is_same_text, names, of_branch}
 use Rattle.dh_model.specs.Checks.{receipt_of_key, registered, run_of_key, unless, where_given, works_at}
 use Rattle.dh_model.specs.Verdicts.{assigned, branch_verdict, commented, judged, lease_checks, lease_verdict, manager_checks, opened_run, post_verdict}
 use Rattle.dh_model.specs.Verdicts.{property_checks, receipt_checks, receipt_verdict, registration_checks, rent_changed, run_verdict, signed, unless_receipt}
-use Rattle.dh_model.specs.Verdicts.{unless_run, verdict_on}
+use Rattle.dh_model.specs.Verdicts.{end_verdict, ended, ending_checks, ending_rows, fee_rows, fee_verdict, unless_run, verdict_on}
 use Rattle.dh_laws.proofs.VerdictChecks.{CanManage, all_pass, can_manage, deposit_of, first_passes, holds_of, new_key, none_of_leases, passed, property_of}
 use Rattle.dh_laws.proofs.VerdictChecks.{starts_in_time, was_closed, was_new, was_no_receipt, was_no_run, was_unpaid, was_unposted}
 use Rattle.dh_laws.specs.InOrder.{IsEntered}
-use Rattle.dh_laws.proofs.Acceptance.{Accepted, AddsLease, Assigns}
+use Rattle.dh_laws.proofs.Acceptance.{Accepted, AddsLease, Assigns, EndsLease, SetsFee}
 
 same_given : (rows given : Change) → verdict.Change given ≡ verdict.Change rows → rows ≡ given
 same_given rows given h = let is : given ≡ rows = cc in sym is
@@ -51,6 +57,7 @@ module _ (books : Books) where
 
   abbrev pub rows_of : Command → Change
   rows_of (command.Branch it) = change.Branch it
+  rows_of (command.Fee it) = fee_rows it (get books.branch_fees it.branch)
   rows_of (command.Staff it) = change.Staff it
   rows_of (command.Owner it) = change.Owner it
   rows_of (command.Property it) = change.Property it
@@ -62,6 +69,7 @@ module _ (books : Books) where
   rows_of (command.Comment it) = change.Comment it
   rows_of (command.Inspection it) = change.Inspection it
   rows_of (command.Lease terms) = change.Lease (signed books terms (get books.properties terms.property))
+  rows_of (command.End it) = ending_rows it (get books.endings it.lease)
   rows_of (command.Receipt order) = change.Receipt (receipt_for order)
   rows_of (command.Run order) = change.Open (opened_run books order)
   rows_of (command.Open order) = change.Open (opened_run books order)
@@ -77,6 +85,24 @@ module _ (books : Books) (run : Option OpenRun) (rows : Change) where
       let free = was_closed run (branch_verdict books it) rows h in
       let new = was_new (is_same_branch it) (get books.branches it.number) (judged [] (change.Branch it)) rows free.1 in
       ((passed [] rows (change.Branch it) new.1).0, record { closed = free.0; new = new.0 })
+
+  fee_set : (b c : Bool) (given : Change)
+      → (if b then (if c then verdict.Already reply.Already else verdict.Change given) else verdict.Refused (refusal.Unknown FEE_BRANCH)) ≡ verdict.Change rows
+      → (rows ≡ given) × (b ≡ true)
+  fee_set true true given h = cc
+  fee_set true false given h = (same_given rows given h, refl)
+  fee_set false c given h = cc
+
+  fee_accepted : (it : BranchFee) (found : Option BranchFee) → get books.branch_fees it.branch ≡ found → SetsFee books run it
+      → Accepted books run (fee_rows it found)
+  fee_accepted it None none set = (set, none)
+  fee_accepted it (Some was) is set = (set, (was, is))
+
+  pub fee_case : (it : BranchFee) → Case (command.Fee it)
+  fee_case it h =
+      let free = was_closed run (fee_verdict books it) rows h in
+      let set = fee_set (contains_key books.branches it.branch) (nat_eq it.fee (fee_at books it.branch)) (fee_rows it (get books.branch_fees it.branch)) free.1 in
+      (set.0, fee_accepted it (get books.branch_fees it.branch) refl (record { closed = free.0; branch = set.1 }))
 
   pub staff_case : (it : Staff) → Case (command.Staff it)
   staff_case it h =
@@ -248,6 +274,45 @@ module _ (books : Books) (run : Option OpenRun) (rows : Change) where
       let all = passed (lease_checks books terms) rows given new.1 in
       (all.0, signing terms free.0 new.0 all.1)
 
+  abbrev Ends : Ending → Type 0
+  Ends it = (rows ≡ ending_rows it (get books.endings it.lease)) × EndsLease books run it
+
+  ending_judged : (b : Bool) (it : Ending) (lease : Lease) → run ≡ None → get books.leases it.lease ≡ Some lease
+      → (if b then verdict.Already reply.Already else judged (ending_checks books it lease) (ending_rows it (get books.endings it.lease))) ≡ verdict.Change rows
+      → Ends it
+  ending_judged true it lease closed is h = cc
+  ending_judged false it lease closed is h =
+      let length = length_of books.endings lease in
+      let last = month_of_day lease.terms.start + it.months in
+      let all = passed (ending_checks books it lease) rows (ending_rows it (get books.endings it.lease)) h in
+      let behind = unless (nat_le books.next last) (refusal.MonthPosted books.next) in
+      let shorter = first_passes (unless (nat_lt it.months length) (refusal.NotShorter length)) (behind ∷ []) all.1 in
+      let in_time = first_passes behind [] shorter.1 in (
+        all.0,
+        record {
+          closed = closed;
+          lease = lease;
+          is = is;
+          shorter = ltb-true it.months length (holds_of (nat_lt it.months length) (refusal.NotShorter length) shorter.0);
+          in_time = leb-true books.next last (holds_of (nat_le books.next last) (refusal.MonthPosted books.next) in_time.0);
+        },
+      )
+
+  ending_there : (it : Ending) (found : Option Lease) → run ≡ None → get books.leases it.lease ≡ found → ended books it found ≡ verdict.Change rows → Ends it
+  ending_there it None closed is h = cc
+  ending_there it (Some lease) closed is h = ending_judged (nat_eq it.months (length_of books.endings lease)) it lease closed is h
+
+  ending_accepted : (it : Ending) (found : Option Ending) → get books.endings it.lease ≡ found → EndsLease books run it
+      → Accepted books run (ending_rows it found)
+  ending_accepted it None none ends = (ends, none)
+  ending_accepted it (Some was) is ends = (ends, (was, is))
+
+  pub end_case : (it : Ending) → Case (command.End it)
+  end_case it h =
+      let free = was_closed run (end_verdict books it) rows h in
+      let ends = ending_there it (get books.leases it.lease) free.0 refl free.1 in
+      (ends.0, ending_accepted it (get books.endings it.lease) refl ends.1)
+
   pub receipt_case : (order : ReceiptOrder) → Case (command.Receipt order)
   receipt_case order h =
       let free = was_closed run (receipt_verdict books (len books.receipts) order) rows h in
@@ -300,6 +365,7 @@ module _ (books : Books) (run : Option OpenRun) (rows : Change) where
 
   pub case_of : (told : Command) → Case told
   case_of (command.Branch it) h = branch_case it h
+  case_of (command.Fee it) h = fee_case it h
   case_of (command.Staff it) h = staff_case it h
   case_of (command.Owner it) h = owner_case it h
   case_of (command.Property it) h = property_case it h
@@ -311,6 +377,7 @@ module _ (books : Books) (run : Option OpenRun) (rows : Change) where
   case_of (command.Comment it) h = comment_case it h
   case_of (command.Inspection it) h = inspection_case it h
   case_of (command.Lease terms) h = lease_case terms h
+  case_of (command.End it) h = end_case it h
   case_of (command.Receipt order) h = receipt_case order h
   case_of (command.Run order) h = run_case order h
   case_of (command.Open order) h = run_case order h
@@ -325,19 +392,31 @@ module _ (books : Books) (run : Option OpenRun) (rows : Change) where
 
 -- ---- what a line holds
 
--- the months of a new lease
+-- the months of a new lease, or of its end
 abbrev pub IsLimited : Change → Type 0
 IsLimited (change.Lease lease) = (3 ≤ lease.terms.months) × (lease.terms.months ≤ 12)
+IsLimited (change.NewEnding it) = 3 ≤ it.months
+IsLimited (change.Ending it) = 3 ≤ it.months
 IsLimited _ = Unit {0}
 
 signed_terms : (books : Books) (terms : LeaseTerms) (found : Option Property) → (signed books terms found).terms ≡ terms
 signed_terms books terms None = refl
 signed_terms books terms (Some row) = refl
 
+ending_limited : (it : Ending) (found : Option Ending) → 3 ≤ it.months → IsLimited (ending_rows it found)
+ending_limited it None entered = entered
+ending_limited it (Some was) entered = entered
+
+fee_limited : (it : BranchFee) (found : Option BranchFee) → IsLimited (fee_rows it found)
+fee_limited it None = tt
+fee_limited it (Some was) = tt
+
 entered_limited : (books : Books) (told : Command) → IsEntered told → IsLimited (rows_of books told)
 entered_limited books (command.Lease terms) entered =
     let same = signed_terms books terms (get books.properties terms.property) in
     subst (λ (t : LeaseTerms). (3 ≤ t.months) × (t.months ≤ 12)) (sym same) entered
+entered_limited books (command.Fee it) entered = fee_limited it (get books.branch_fees it.branch)
+entered_limited books (command.End it) entered = ending_limited it (get books.endings it.lease) entered
 entered_limited books _ entered = tt
 
 pub limited : (books : Books) (run : Option OpenRun) (rows : Change) (told : Command) → IsEntered told → verdict_on books run told ≡ verdict.Change rows

@@ -1,8 +1,9 @@
 -- What a question is about: rows among which are all that have a say in its answer.
-use Rattle.std.specs.Prelude.{◌≡◌, ℕ, true, nat_eq, List, Option, option_map}
-use Rattle.std.specs.List.{list_any}
-use Rattle.std.specs.FinMap.{get}
+use Rattle.std.specs.Prelude.{◌≡◌, ℕ, Bool, true, false, nat_eq, List, Option, Some, None, option_map}
+use Rattle.std.specs.List.{filter, list_any}
+use Rattle.std.specs.FinMap.{get, values}
 use Rattle.dh_days.specs.declared.limits.TheConstants.{FIRST_MONTH}
+use Rattle.dh_types.specs.declared.property.Property.{Property}
 use Rattle.dh_types.specs.declared.lease.Lease.{Lease}
 use Rattle.dh_types.specs.declared.question.Question.{Question}
 use Rattle.dh_types.specs.declared.question.Question.TheVariants as asked
@@ -18,6 +19,10 @@ use Rattle.dh_laws.specs.InOrder.{AreKeyed}
 -- books without a row, whose months stand for nothing
 abbrev pub no_row : Books
 no_row = empty_books FIRST_MONTH
+
+abbrev pub is_owned_by : List ℕ → Option Property → Bool
+is_owned_by owner None = false
+is_owned_by owner (Some property) = is_same_text property.owner owner
 
 module _ (books : Books) where
   -- the properties, and the leases on them
@@ -48,6 +53,19 @@ module _ (books : Books) where
     leases = rows_where (λ lease. is_property_of branch (get books.properties lease.terms.property)) books.leases;
   }
 
+  -- the leases of the owner's properties
+  abbrev pub leases_of_owner : List ℕ → List Lease
+  leases_of_owner owner = filter (λ lease. is_owned_by owner (get books.properties lease.terms.property)) (values books.leases)
+
+  -- all properties, the leases of the owner's, and what was charged on these
+  abbrev pub charged_by : List ℕ → Books
+  charged_by owner = record no_row {
+    owners = rows_where (λ it. is_same_text it.number owner) books.owners;
+    properties = books.properties;
+    leases = rows_where (λ lease. is_owned_by owner (get books.properties lease.terms.property)) books.leases;
+    charges = rows_where (λ charge. list_any (λ lease. nat_eq charge.lease lease.terms.number) (leases_of_owner owner)) books.charges;
+  }
+
   -- the rows that the question is about
   abbrev pub asked_about : Question → Books
   asked_about asked.Branches = record no_row { branches = books.branches }
@@ -58,6 +76,10 @@ module _ (books : Books) where
   asked_about (asked.Run month) = record no_row {
     runs = rows_where (λ run. nat_eq run.month month) books.runs;
     parts = rows_where (λ part. nat_eq part.month month) books.parts;
+  }
+  asked_about (asked.Owner it) = record (charged_by it.owner) {
+    runs = rows_where (λ run. nat_eq run.month it.month) books.runs;
+    part_fees = rows_where (λ fee. nat_eq fee.month it.month) books.part_fees;
   }
 
 -- open runs of one month, or none

@@ -1,13 +1,17 @@
 -- What the leases owe.
-use Rattle.std.specs.Prelude.{◌≡◌, ◌≤◌, ◌↔◌, ℕ, ℤ, pos, ◌+ℤ◌, ◌-ℤ◌, nat_eq, if◌then◌else◌, List, filter}
+use Rattle.std.specs.Prelude.{◌≡◌, ◌<◌, ◌≤◌, ◌↔◌, ℕ, ℤ, pos, ◌+ℤ◌, ◌-ℤ◌, nat_eq, if◌then◌else◌, List, filter, Option}
 use Rattle.std.specs.List.{IsAmong}
 use Rattle.std.specs.FinMap.{values}
 use Rattle.dh_values.specs.declared.receipt_kind.ReceiptKind.TheVariants.{Rent}
 use Rattle.dh_types.specs.declared.lease.Charge.{Charge}
+use Rattle.dh_types.specs.declared.lease.Ending.{Ending}
 use Rattle.dh_types.specs.declared.command.Command.{Command}
+use Rattle.dh_types.specs.declared.command.Command.TheVariants as command
 use Rattle.dh_types.specs.Records.{is_same_receipt_kind}
+use Rattle.dh_model.specs.declared.open_run.OpenRun.{OpenRun}
 use Rattle.dh_model.specs.declared.rows.Verdict.{Verdict}
 use Rattle.dh_model.specs.declared.rows.Verdict.TheVariants as verdict
+use Rattle.dh_model.specs.declared.rows.Change.{Change}
 use Rattle.dh_model.specs.declared.rows.Change.TheVariants as change
 use Rattle.dh_model.specs.Books.{Books, State}
 use Rattle.dh_model.specs.Leases.{dues}
@@ -15,7 +19,7 @@ use Rattle.dh_model.specs.Runs.{total_of}
 use Rattle.dh_model.specs.Answers.{balance}
 use Rattle.dh_model.specs.Rules.{IsLawful, IsThere}
 use Rattle.dh_model.specs.Verdicts.{verdict_on}
-use Rattle.dh_model.specs.Machine.{step}
+use Rattle.dh_model.specs.Machine.{changed, step}
 use Rattle.dh_laws.specs.InOrder.{AreKeyed}
 
 -- what falls due on the lease in the month
@@ -29,6 +33,11 @@ moved books (verdict.Change (change.Receipt receipt)) lease =
     if nat_eq receipt.payment.lease lease then
     (if is_same_receipt_kind receipt.payment.kind Rent then pos 0 -ℤ pos receipt.payment.amount else pos 0) else pos 0
 moved books _ lease = pos 0
+
+-- an accepted end leaves what fell due in the months that were run
+abbrev pub EndsKeepDues : Type 0
+EndsKeepDues = (books : Books) (run : Option OpenRun) (ending : Ending) (rows : Change) (month : ℕ) → AreKeyed books
+    → verdict_on books run (command.End ending) ≡ verdict.Change rows → month < books.next → dues (changed rows books) month ≡ dues books month
 
 module _ (size : ℕ) where
   -- over whole books each step moves what a lease owes by that, and by nothing else

@@ -28,6 +28,7 @@ pub record IsInOrder (size : ℕ) (books : Books) (run : Option OpenRun) : Type 
 -- what a line can hold of a command, as far as a rule speaks of it
 abbrev pub IsEntered : Command → Type 0
 IsEntered (command.Lease terms) = (3 ≤ terms.months) × (terms.months ≤ 12)
+IsEntered (command.End it) = 3 ≤ it.months
 IsEntered _ = Unit {0}
 
 -- the open run after a change: an opening begins one with no batch done, all else leaves it

@@ -9,6 +9,7 @@ use Rattle.dh_model.specs.Rules.{IsLawful}
 use Rattle.dh_model.specs.Verdicts.{verdict_on}
 use Rattle.dh_model.specs.Machine.{changed, step}
 use Rattle.dh_model.specs.Whole.{whole}
+use Rattle.dh_laws.specs.Events.{Event, Happens, Tables}
 use Rattle.dh_laws.specs.InOrder.{AreKeyed, IsEntered, IsInOrder, run_after}
 
 module _ (size : ℕ) where
@@ -29,3 +30,7 @@ module _ (size : ℕ) where
   -- books without a row are in order
   abbrev pub EmptyBooksAreInOrder : Type 0
   EmptyBooksAreInOrder = (month : ℕ) → IsInOrder size (empty_books month) None
+
+  -- nothing that can happen to the tables makes them tables of another version
+  abbrev pub TheVersionStays : Type 0
+  TheVersionStays = (event : Event) (before after : Tables) → Happens size event before after → after.books.version ≡ before.books.version

@@ -9,7 +9,6 @@ use Rattle.dh_types.specs.declared.command.Command.{Command}
 use Rattle.dh_types.specs.declared.command.Command.TheVariants as command
 use Rattle.dh_types.specs.declared.command.ReceiptOrder.{ReceiptOrder}
 use Rattle.dh_types.specs.declared.command.RunOrder.{RunOrder}
-use Rattle.dh_types.specs.declared.reply.Reply.{Reply}
 use Rattle.dh_types.specs.declared.reply.Reply.TheVariants as reply
 use Rattle.dh_model.specs.declared.rows.Change.{Change}
 use Rattle.dh_model.specs.declared.rows.Verdict.TheVariants as verdict
@@ -19,9 +18,8 @@ use Rattle.dh_model.specs.Rules.{IsLawful, IsThere, MonthIsClosed}
 use Rattle.dh_model.specs.Runs.{sum_of}
 use Rattle.dh_model.specs.Verdicts.{verdict_on}
 use Rattle.dh_model.specs.Machine.{step}
-use Rattle.dh_model.specs.Whole.{whole}
 use Rattle.dh_laws.specs.InOrder.{AreKeyed, IsEntered, IsInOrder}
-use Rattle.dh_laws.specs.Events.{Event, Said, Cut, Taken, Torn, Mended, Follow, IsShown, Tables, state_of}
+use Rattle.dh_laws.specs.Events.{Event, Said, Cut, Mended, Follow, IsShown, Tables, state_of}
 use Rattle.dh_laws.specs.Kept.{Kept}
 
 -- the tables of books without a row

@@ -8,7 +8,9 @@ use Rattle.dh_types.specs.declared.property.Property.{Property}
 use Rattle.dh_types.specs.declared.client.Registration.{Registration}
 use Rattle.dh_types.specs.declared.viewing.Viewing.{Viewing}
 use Rattle.dh_types.specs.declared.lease.LeaseTerms.{LeaseTerms}
+use Rattle.dh_types.specs.declared.fee.BranchFee.{BranchFee}
 use Rattle.dh_types.specs.declared.lease.Lease.{Lease}
+use Rattle.dh_types.specs.declared.lease.Ending.{Ending}
 use Rattle.dh_types.specs.declared.lease.Receipt.{Receipt}
 use Rattle.dh_types.specs.declared.run.Run.{Run}
 use Rattle.dh_types.specs.declared.command.Command.{Command}
@@ -80,6 +82,10 @@ module _ (books : Books) where
   -- the rows that the command looks at
   abbrev pub looked_at : Command → Books
   looked_at (command.Branch it) = record no_rows { branches = rows_where (λ branch. is_same_text branch.number it.number) books.branches }
+  looked_at (command.Fee it) = record no_rows {
+    branches = rows_where (λ branch. is_same_text branch.number it.branch) books.branches;
+    branch_fees = rows_where (λ fee. is_same_text fee.branch it.branch) books.branch_fees;
+  }
   looked_at (command.Staff it) = record no_rows {
     branches = rows_where (λ branch. is_same_text branch.number it.branch) books.branches;
     staff = rows_where (λ member. is_same_text member.number it.number) books.staff;
@@ -120,6 +126,10 @@ module _ (books : Books) where
     registrations = registration_for books.registrations it.client (get books.properties it.property);
     leases = rows_where (is_beside it) books.leases;
     endings = rows_where (λ ending. is_some_beside it (get books.leases ending.lease)) books.endings;
+  }
+  looked_at (command.End it) = record no_rows {
+    leases = rows_where (λ lease. nat_eq lease.terms.number it.lease) books.leases;
+    endings = rows_where (λ ending. nat_eq ending.lease it.lease) books.endings;
   }
   looked_at (command.Receipt it) = record (of_key it.key) {
     leases = rows_where (λ lease. nat_eq lease.terms.number it.payment.lease) books.leases;
@@ -194,6 +204,8 @@ OpenMonthIsLast size = (books : Books) (run : Option OpenRun) → AreKeyed books
 -- the key of a row that is added is new, and the row that is changed is there
 abbrev pub FitsIn : Change → Books → Type 0
 FitsIn (change.Branch it) books = get books.branches it.number ≡ None
+FitsIn (change.NewFee it) books = get books.branch_fees it.branch ≡ None
+FitsIn (change.Fee it) books = (there : BranchFee) × (get books.branch_fees it.branch ≡ Some there)
 FitsIn (change.Staff it) books = get books.staff it.number ≡ None
 FitsIn (change.Owner it) books = get books.owners it.number ≡ None
 FitsIn (change.Property it) books = get books.properties it.number ≡ None
@@ -205,6 +217,8 @@ FitsIn (change.Viewing it) books = get books.viewings (it.client, it.property) �
 FitsIn (change.Comment it) books = (there : Viewing) × (get books.viewings (it.client, it.property) ≡ Some there)
 FitsIn (change.Inspection it) books = get books.inspections (it.property, it.day) ≡ None
 FitsIn (change.Lease it) books = get books.leases it.terms.number ≡ None
+FitsIn (change.NewEnding it) books = get books.endings it.lease ≡ None
+FitsIn (change.Ending it) books = (there : Ending) × (get books.endings it.lease ≡ Some there)
 FitsIn (change.Receipt it) books = get books.receipts it.number ≡ None
 FitsIn (change.Open it) books = (get books.runs it.month ≡ None) × (it.month ≡ books.next)
 FitsIn change.Post books = Unit {0}

@@ -1,10 +1,11 @@
 -- When leases overlap.
-use Rattle.std.proofs.Common.{◌≡◌, sym, inl, inr, ℕ, ◌+◌, ◌-◌, ◌<◌, ◌≤◌, true, nat_le, nat_lt, nat_eq, arith}
+use Rattle.std.proofs.Common.{◌≡◌, sym, subst, inl, inr, ℕ, ◌+◌, ◌-◌, ◌<◌, ◌≤◌, true, false, nat_le, nat_lt, nat_eq, arith}
 use Rattle.std.specs.List.{list_any, range_with_len}
 use Rattle.std.specs.Cmp.Lexicographic.{pointwise}
-use Rattle.std.proofs.lemmas.Bool.{and_from, and_parts, cases_lt}
+use Rattle.std.proofs.lemmas.Bool.{and_from, and_parts, cases_lt, false_from_ne_true}
 use Rattle.std.proofs.lemmas.Bool.Decides.{nat_tests, same_from_decides}
-use Rattle.dh_days.specs.Days.{IsDay, days_in, month_of_day, number_in_month}
+use Rattle.dh_days.specs.Days.{IsDay, days_in, month_of_day, number_in_month, plus_months}
+use Rattle.dh_days.proofs.DayMonths.{more_months_later}
 use Rattle.dh_types.specs.declared.lease.LeaseTerms.{LeaseTerms}
 use Rattle.dh_types.proofs.SameValues.{texts}
 use Rattle.dh_model.specs.Leases.{Covers, covers, days_of, end_of, is_day, overlap}
@@ -79,6 +80,29 @@ of_shared lease other s =
 
 turned : (lease other : LeaseTerms) → Shares lease other → Shares other lease
 turned lease other s = record { property = sym s.property; day = s.day; is = s.is; by_lease = s.by_other; by_other = s.by_lease }
+
+-- no more months, and it ends no later
+ends_no_later : (start m n : ℕ) → m ≤ n → plus_months start m ≤ plus_months start n
+ends_no_later start m n few = elim (cases_lt m n) [
+  | inl less ↦ let earlier = more_months_later start m n less in omega (arith, earlier)
+  | inr more ↦ let same : m ≡ n = omega (arith, few, more) in subst (λ k. plus_months start m ≤ plus_months start k) same (omega arith)
+]
+
+-- what runs for fewer months overlaps no more
+pub fewer_months_are_free : (terms other : LeaseTerms) (m n : ℕ) → m ≤ n → overlap (record terms { months = n }) other ≡ false
+    → overlap (record terms { months = m }) other ≡ false
+fewer_months_are_free terms other m n few free = false_from_ne_true (overlap (record terms { months = m }) other) (λ yes.
+    let s = shared (record terms { months = m }) other yes in
+    let later = ends_no_later terms.start m n few in
+    let until = s.by_lease.1 in
+    let still = of_shared (record terms { months = n }) other (record {
+      property = s.property;
+      day = s.day;
+      is = s.is;
+      by_lease = (s.by_lease.0, omega (arith, until, later));
+      by_other = s.by_other;
+    }) in
+    cc)
 
 pub overlap_goes_both_ways : OverlapGoesBothWays
 overlap_goes_both_ways lease other =

@@ -22,7 +22,9 @@ use Rattle.dh_model.specs.Machine.{accepted, carried_out, posted, posted_sum, re
 
 pub frozen_refused : (size : ℕ) → FrozenAreRefused size
 frozen_refused size books run (command.Branch it) h = refl
+frozen_refused size books run (command.Fee it) h = refl
 frozen_refused size books run (command.Lease it) h = refl
+frozen_refused size books run (command.End it) h = refl
 frozen_refused size books run (command.Receipt it) h = refl
 frozen_refused size books run (command.Run it) h = refl
 frozen_refused size books run (command.Open it) h = refl
@@ -32,6 +34,7 @@ pub half_runs_not_shown : HalfRunsAreNotShown
 half_runs_not_shown books run (asked.Statement lease) h = refl
 half_runs_not_shown books run (asked.Arrears branch) h = refl
 half_runs_not_shown books run (asked.Run month) h = refl
+half_runs_not_shown books run (asked.Owner it) h = refl
 half_runs_not_shown books run _ h = cc
 
 not_refused : (rows : Change) (why : Refusal) → accepted rows ≡ reply.Refused why → ⊥

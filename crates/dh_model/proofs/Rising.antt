@@ -46,6 +46,14 @@ pub rises_by : {X : Type 0} (P Q : X → X → Type 0) → ((x y : X) → P x y 
 rises_by P Q by [] r = tt
 rises_by P Q by (x ∷ xs) r = (λ y a. by x y (r.0 y a), rises_by P Q by xs r.1)
 
+-- and so where the order is weaker among these
+pub rises_among : {X : Type 0} (P Q : X → X → Type 0) (xs : List X) → ((x y : X) → Among xs x → Among xs y → P x y → Q x y) → Rises P xs → Rises Q xs
+rises_among P Q [] by r = tt
+rises_among P Q (x ∷ xs) by r = (
+  λ y a. by x y (inl refl) (inr a) (r.0 y a),
+  rises_among P Q xs (λ y z a b. by y z (inr a) (inr b)) r.1,
+)
+
 -- and what a map that keeps the order makes of it rises
 pub map_rises : {X Y : Type 0} (P : X → X → Type 0) (Q : Y → Y → Type 0) (f : X → Y) → ((x y : X) → P x y → Q (f x) (f y)) → (xs : List X) → Rises P xs
     → Rises Q (map f xs)

@@ -1,6 +1,7 @@
 -- What each question is answered. A question changes nothing.
-use Rattle.std.specs.Prelude.{ℕ, ℤ, pos, ◌-ℤ◌, ◌+ℤ◌, Bool, not, ◌&&◌, nat_eq, nat_le, if◌then◌else◌, List, map, Option, Some, None, option_map, int_lt}
-use Rattle.std.specs.List.{filter, fold, list_any, sum_by}
+use Rattle.std.specs.Prelude.{ℕ, ℤ, pos, ◌-ℤ◌, ◌+ℤ◌, int_lt, Bool, not, ◌&&◌, nat_eq, nat_le, if◌then◌else◌, List, map, Option, Some, None}
+use Rattle.std.specs.Prelude.{option_map}
+use Rattle.std.specs.List.{filter, filter_map, fold, list_any, sum_by}
 use Rattle.std.specs.Ordering.{nat_cmp}
 use Rattle.std.specs.FinMap.{FinMap, contains_key, from_entries, get, values}
 use Rattle.dh_values.specs.declared.receipt_kind.ReceiptKind.TheVariants.{Rent}
@@ -10,18 +11,34 @@ use Rattle.dh_types.specs.declared.client.Client.{Client}
 use Rattle.dh_types.specs.declared.lease.Lease.{Lease}
 use Rattle.dh_types.specs.declared.lease.Charge.{Charge}
 use Rattle.dh_types.specs.declared.lease.Receipt.{Receipt}
+use Rattle.dh_types.specs.declared.owner.Owner.{Owner}
+use Rattle.dh_types.specs.declared.fee.PartFee.{PartFee}
 use Rattle.dh_types.specs.declared.run.Run.{Run}
 use Rattle.dh_types.specs.declared.question.Question.{Question}
 use Rattle.dh_types.specs.declared.question.Question.TheVariants as asked
+use Rattle.dh_types.specs.declared.question.OwnerMonth.{OwnerMonth}
 use Rattle.dh_types.specs.declared.answer.Debt.{Debt}
+use Rattle.dh_types.specs.declared.answer.OwnerLine.{OwnerLine}
 use Rattle.dh_types.specs.declared.reply.Refusal.TheVariants as refusal
 use Rattle.dh_types.specs.Records.{is_same_property_type, is_same_receipt_kind}
-use Rattle.dh_types.specs.Reports.{Report, BranchList, VacantList, MatchingList, LeaseStatement, BranchArrears, RunParts, NoReport}
+use Rattle.dh_types.specs.Reports.{Report, BranchList, VacantList, MatchingList, LeaseStatement, BranchArrears, RunParts, OwnerCharges, NoReport}
 use Rattle.dh_model.specs.declared.open_run.OpenRun.{OpenRun}
 use Rattle.dh_model.specs.Books.{Books, State, pair_cmp, text_cmp}
 use Rattle.dh_model.specs.Leases.{covers, running}
-use Rattle.dh_model.specs.Runs.{leases_of_branch, sum_of, total_of}
+use Rattle.dh_model.specs.Runs.{charge_fee, leases_of_branch, sum_of, total_of}
 use Rattle.dh_model.specs.Checks.{is_same_text}
+
+-- the fee of a part, by its fee row: nothing where there is none
+abbrev pub fee_of_part : Option PartFee → ℕ
+fee_of_part None = 0
+fee_of_part (Some it) = it.fee
+
+-- the lines with both sums, and what is left
+abbrev pub owner_charges : List OwnerLine → Report
+owner_charges lines =
+    let total = pos (sum_by (λ line. line.amount) lines) in
+    let fees = pos (sum_by (λ line. line.fee) lines) in
+    OwnerCharges lines total fees (total -ℤ fees)
 
 module _ (books : Books) where
   -- no lease of the property covers the day
@@ -73,6 +90,35 @@ module _ (books : Books) where
   abbrev pub owed : List Debt → ℤ
   owed owing = fold (λ sum it. sum +ℤ it.balance) (pos 0) owing
 
+  -- the line of a charge on a lease of this property, where that is the owner's
+  abbrev pub line_of_property : List ℕ → Charge → Option Property → Option OwnerLine
+  line_of_property owner charge None = None
+  line_of_property owner charge (Some property) =
+      if is_same_text property.owner owner then Some (record {
+        lease = charge.lease;
+        property = property.number;
+        amount = charge.amount;
+        fee = charge_fee (fee_of_part (get books.part_fees (charge.month, property.branch))) charge;
+      }) else None
+
+  abbrev pub line_of_lease : List ℕ → Charge → Option Lease → Option OwnerLine
+  line_of_lease owner charge None = None
+  line_of_lease owner charge (Some lease) = line_of_property owner charge (get books.properties lease.terms.property)
+
+  -- the line of a charge, where it is of the month and on a property of the owner
+  abbrev pub owner_line : OwnerMonth → Charge → Option OwnerLine
+  owner_line it charge = if nat_eq charge.month it.month then line_of_lease it.owner charge (get books.leases charge.lease) else None
+
+  -- rising by lease
+  abbrev pub owner_lines : OwnerMonth → List OwnerLine
+  owner_lines it = filter_map (owner_line it) (values books.charges)
+
+  -- what a closed run charged on the owner's properties
+  abbrev pub owner_report : OwnerMonth → Option Owner → Option Run → Report
+  owner_report it None run = NoReport (refusal.Unknown ASKED_ABOUT)
+  owner_report it (Some owner) None = NoReport refusal.NoRun
+  owner_report it (Some owner) (Some run) = if run.is_closed then owner_charges (owner_lines it) else NoReport refusal.NoRun
+
   abbrev pub matching_report : Option Client → ℕ → Report
   matching_report None day = NoReport (refusal.Unknown ASKED_ABOUT)
   matching_report (Some client) day = MatchingList (matching client day)
@@ -101,3 +147,4 @@ report s (asked.Matching it) = matching_report s.books (get s.books.clients it.c
 report s (asked.Statement lease) = unless_open s.open_run (statement s.books (get s.books.leases lease))
 report s (asked.Arrears branch) = unless_open s.open_run (arrears s.books branch)
 report s (asked.Run month) = unless_open s.open_run (run_report s.books (get s.books.runs month))
+report s (asked.Owner it) = unless_open s.open_run (owner_report s.books it (get s.books.owners it.owner) (get s.books.runs it.month))

@@ -38,6 +38,8 @@ with_comment books it (Some viewing) = record books { viewings = insert books.vi
 -- the books with the rows of the change
 abbrev pub changed : Change → Books → Books
 changed (change.Branch it) books = record books { branches = insert books.branches it.number it }
+changed (change.NewFee it) books = record books { branch_fees = insert books.branch_fees it.branch it }
+changed (change.Fee it) books = record books { branch_fees = insert books.branch_fees it.branch it }
 changed (change.Staff it) books = record books { staff = insert books.staff it.number it }
 changed (change.Owner it) books = record books { owners = insert books.owners it.number it }
 changed (change.Property it) books = record books { properties = insert books.properties it.number it }
@@ -49,6 +51,8 @@ changed (change.Viewing it) books = record books { viewings = insert books.viewi
 changed (change.Comment it) books = with_comment books it (get books.viewings (it.client, it.property))
 changed (change.Inspection it) books = record books { inspections = insert books.inspections (it.property, it.day) it }
 changed (change.Lease it) books = record books { leases = insert books.leases it.terms.number it }
+changed (change.NewEnding it) books = record books { endings = insert books.endings it.lease it }
+changed (change.Ending it) books = record books { endings = insert books.endings it.lease it }
 changed (change.Receipt it) books = record books { receipts = insert books.receipts it.number it }
 changed (change.Open it) books = record books { runs = insert books.runs it.month it; next = it.month + 1 }
 changed change.Post books = books

@@ -21,7 +21,9 @@ use Rattle.dh_model.specs.Answers.{report}
 -- what an open run puts off
 abbrev pub is_frozen : Command → Bool
 is_frozen (command.Branch it) = true
+is_frozen (command.Fee it) = true
 is_frozen (command.Lease it) = true
+is_frozen (command.End it) = true
 is_frozen (command.Receipt it) = true
 is_frozen (command.Run it) = true
 is_frozen (command.Open it) = true
@@ -36,6 +38,7 @@ abbrev pub is_put_off : Question → Bool
 is_put_off (asked.Statement lease) = true
 is_put_off (asked.Arrears branch) = true
 is_put_off (asked.Run month) = true
+is_put_off (asked.Owner it) = true
 is_put_off _ = false
 
 module _ (size : ℕ) where

@@ -1,10 +1,12 @@
 -- What the books say of each command: the first check that fails, or the rows that it adds or replaces.
-use Rattle.std.specs.Prelude.{ℕ, ◌+◌, Bool, nat_eq, nat_lt, false, if◌then◌else◌, List, [], ◌∷◌, ◌++◌, Option, Some, None}
-use Rattle.std.specs.FinMap.{get, len}
+use Rattle.std.specs.Prelude.{ℕ, ◌+◌, Bool, nat_eq, nat_le, nat_lt, false, if◌then◌else◌, List, [], ◌∷◌, ◌++◌, Option, Some, None}
+use Rattle.std.specs.FinMap.{contains_key, get, len}
 use Rattle.dh_values.specs.declared.limits.TheConstants.{MOST_NUMBER}
 use Rattle.dh_types.specs.declared.field.TheConstants.{STAFF_BRANCH, PROPERTY_OWNER, PROPERTY_STAFF, PROPERTY_BRANCH, CHANGED_PROPERTY, ASSIGNED_STAFF}
 use Rattle.dh_types.specs.declared.field.TheConstants.{REGISTERED_CLIENT, REGISTERED_BRANCH, REGISTERED_STAFF, VIEWING_CLIENT, VIEWING_PROPERTY}
 use Rattle.dh_types.specs.declared.field.TheConstants.{INSPECTED_PROPERTY, INSPECTION_STAFF, LEASE_CLIENT, LEASE_PROPERTY, RECEIPT_LEASE}
+use Rattle.dh_types.specs.declared.field.TheConstants.{ENDED_LEASE, FEE_BRANCH}
+use Rattle.dh_days.specs.Days.{month_of_day}
 use Rattle.dh_types.specs.declared.branch.Branch.{Branch}
 use Rattle.dh_types.specs.declared.staff.Staff.{Staff}
 use Rattle.dh_types.specs.declared.owner.Owner.{Owner}
@@ -15,7 +17,9 @@ use Rattle.dh_types.specs.declared.viewing.Viewing.{Viewing}
 use Rattle.dh_types.specs.declared.viewing.Inspection.{Inspection}
 use Rattle.dh_types.specs.declared.lease.LeaseTerms.{LeaseTerms}
 use Rattle.dh_types.specs.declared.lease.Lease.{Lease}
+use Rattle.dh_types.specs.declared.lease.Ending.{Ending}
 use Rattle.dh_types.specs.declared.lease.Receipt.{Receipt}
+use Rattle.dh_types.specs.declared.fee.BranchFee.{BranchFee}
 use Rattle.dh_types.specs.declared.run.Run.{Run}
 use Rattle.dh_types.specs.declared.command.Command.{Command}
 use Rattle.dh_types.specs.declared.command.Command.TheVariants as command
@@ -34,7 +38,8 @@ use Rattle.dh_model.specs.declared.rows.Change.TheVariants as change
 use Rattle.dh_model.specs.declared.rows.Verdict.{Verdict}
 use Rattle.dh_model.specs.declared.rows.Verdict.TheVariants as verdict
 use Rattle.dh_model.specs.Books.{Books}
-use Rattle.dh_model.specs.Runs.{sum_of}
+use Rattle.dh_model.specs.Leases.{length_of}
+use Rattle.dh_model.specs.Runs.{fee_at, sum_of}
 use Rattle.dh_model.specs.Checks.{Check, deposit_checks, first_failing, first_that_day, free_of_others, has_room, in_time, is_same_text, names, of_branch}
 use Rattle.dh_model.specs.Checks.{receipt_of_key, registered, run_of_key, unless, where_given}
 
@@ -56,9 +61,24 @@ abbrev pub unless_open : Option OpenRun → Verdict → Verdict
 unless_open None otherwise = otherwise
 unless_open (Some run) otherwise = verdict.Refused (refusal.RunOpen run.month)
 
+-- the first fee of a branch is a row that is added, and another one is put in its place
+abbrev pub fee_rows : BranchFee → Option BranchFee → Change
+fee_rows it None = change.NewFee it
+fee_rows it (Some was) = change.Fee it
+
+abbrev pub ending_rows : Ending → Option Ending → Change
+ending_rows it None = change.NewEnding it
+ending_rows it (Some was) = change.Ending it
+
 module _ (books : Books) where
   abbrev pub branch_verdict : Branch → Verdict
   branch_verdict branch = unless_there (is_same_branch branch) (get books.branches branch.number) (judged [] (change.Branch branch))
+
+  abbrev pub fee_verdict : BranchFee → Verdict
+  fee_verdict it =
+      if contains_key books.branches it.branch
+      then (if nat_eq it.fee (fee_at books it.branch) then verdict.Already reply.Already else verdict.Change (fee_rows it (get books.branch_fees it.branch)))
+      else verdict.Refused (refusal.Unknown FEE_BRANCH)
 
   abbrev pub staff_verdict : Staff → Verdict
   staff_verdict member =
@@ -158,6 +178,23 @@ module _ (books : Books) where
       unless_there (λ lease. is_same_lease_terms terms lease.terms) (get books.leases terms.number)
       (judged (lease_checks terms) (change.Lease (signed terms (get books.properties terms.property))))
 
+  -- shorter than the lease runs, and by no month that was run
+  abbrev pub ending_checks : Ending → Lease → List Check
+  ending_checks it lease =
+      unless (nat_lt it.months (length_of books.endings lease)) (refusal.NotShorter (length_of books.endings lease))
+      ∷ unless (nat_le books.next (month_of_day lease.terms.start + it.months)) (refusal.MonthPosted books.next)
+      ∷ []
+
+  -- the early end of a lease that is there
+  abbrev pub ended : Ending → Option Lease → Verdict
+  ended it None = verdict.Refused (refusal.Unknown ENDED_LEASE)
+  ended it (Some lease) =
+      if nat_eq it.months (length_of books.endings lease) then verdict.Already reply.Already
+      else judged (ending_checks it lease) (ending_rows it (get books.endings it.lease))
+
+  abbrev pub end_verdict : Ending → Verdict
+  end_verdict it = ended it (get books.leases it.lease)
+
   -- a key of a receipt or a run is kept for good
   abbrev pub unless_paid : ReceiptOrder → Option Receipt → Verdict → Verdict
   unless_paid order None otherwise = otherwise
@@ -207,6 +244,7 @@ post_verdict (Some run) = verdict.Change change.Post
 -- what the books say of a command, with an open run or none; how many receipts there are is told besides
 abbrev pub verdict_among : Books → ℕ → Option OpenRun → Command → Verdict
 verdict_among books count run (command.Branch it) = unless_open run (branch_verdict books it)
+verdict_among books count run (command.Fee it) = unless_open run (fee_verdict books it)
 verdict_among books count run (command.Staff it) = staff_verdict books it
 verdict_among books count run (command.Owner it) = owner_verdict books it
 verdict_among books count run (command.Property it) = property_verdict books it
@@ -218,6 +256,7 @@ verdict_among books count run (command.Viewing it) = viewing_verdict books it
 verdict_among books count run (command.Comment it) = comment_verdict books it
 verdict_among books count run (command.Inspection it) = inspection_verdict books it
 verdict_among books count run (command.Lease it) = unless_open run (lease_verdict books it)
+verdict_among books count run (command.End it) = unless_open run (end_verdict books it)
 verdict_among books count run (command.Receipt it) = unless_open run (receipt_verdict books count it)
 verdict_among books count run (command.Run it) = unless_open run (run_verdict books it)
 verdict_among books count run (command.Open it) = unless_open run (run_verdict books it)

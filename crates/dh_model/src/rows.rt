@@ -4,14 +4,18 @@ ghost use Rattle.std.specs.Prelude.{◌≡◌};
 ghost use Rattle.dh_model.specs.Machine.{accepted};
 
 use dh_types::{
-    Assignment, Branch, Client, Inspection, Lease, Owner, Property, Receipt, Refusal, Registration,
-    RentChange, Reply, Run, Staff, Viewing, ViewingComment,
+    Assignment, Branch, BranchFee, Client, Ending, Inspection, Lease, Owner, Property, Receipt,
+    Refusal, Registration, RentChange, Reply, Run, Staff, Viewing, ViewingComment,
 };
 
 /// Rows that a command adds or replaces.
 #[derive(Drop)]
 pub enum Change {
     Branch(Branch),
+    /// The branch gets its first fee.
+    NewFee(BranchFee),
+    /// The branch gets another fee.
+    Fee(BranchFee),
     Staff(Staff),
     Owner(Owner),
     Property(Property),
@@ -26,6 +30,10 @@ pub enum Change {
     Comment(ViewingComment),
     Inspection(Inspection),
     Lease(Lease),
+    /// The lease is ended early.
+    NewEnding(Ending),
+    /// The lease is ended earlier still.
+    Ending(Ending),
     Receipt(Receipt),
     /// The month's rent run, open, and the next month moved on.
     Open(Run),

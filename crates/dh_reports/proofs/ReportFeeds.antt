@@ -15,9 +15,10 @@ use Rattle.dh_types.specs.declared.lease.Receipt.{Receipt}
 use Rattle.dh_types.specs.declared.run.Part.{Part}
 use Rattle.dh_types.specs.declared.run.RunSum.{RunSum}
 use Rattle.dh_types.specs.declared.answer.Debt.{Debt}
+use Rattle.dh_types.specs.declared.answer.OwnerLine.{OwnerLine}
 use Rattle.dh_reports.specs.Columns.{left, line_feeds, right}
 use Rattle.dh_reports.specs.ReportTexts.{arrears_text, branch_line, charge_line, count_line, debt_line, entry_line, lease_line, name_text, part_line}
-use Rattle.dh_reports.specs.ReportTexts.{property_line, receipt_line, run_text, statement_text, sum_line}
+use Rattle.dh_reports.specs.ReportTexts.{owner_line, owner_text, property_line, receipt_line, run_text, statement_text, sum_line, sums_line}
 use Rattle.dh_reports.proofs.FeedLemmas.{code_none, day_none, decimal_none, joined, left_none, money_none, month_none, one_line, pence_none}
 use Rattle.dh_reports.proofs.FeedLemmas.{property_type_none, receipt_kind_none, right_none, spaces_none, text_none}
 
@@ -127,4 +128,31 @@ run_feeds parts sum each =
       each,
       joined (flat_map part_line parts) (count_line (month_text sum.month) sum.count sum.total),
       count_feeds (month_text sum.month) sum.count sum.total (month_none sum.month),
+    )
+
+pub owner_feeds : (it : OwnerLine) → is_id it.property ≡ true → line_feeds (owner_line it) ≡ 1
+owner_feeds it property =
+    one_line (right 8 (decimal it.lease) ∷ left 8 it.property ∷ right 12 (pence_text it.amount) ∷ right 12 (pence_text it.fee) ∷ []) (
+      right_none 8 (decimal it.lease) (decimal_none it.lease),
+      (
+        left_none 8 it.property (code_none it.property property),
+        (right_none 12 (pence_text it.amount) (pence_none it.amount), (right_none 12 (pence_text it.fee) (pence_none it.fee), tt)),
+      ),
+    )
+
+sums_feeds : (word : List ℕ) (total fees : ℤ) → line_feeds word ≡ 0 → line_feeds (sums_line word total fees) ≡ 1
+sums_feeds word total fees h =
+    one_line (left 8 word ∷ replicate 8 32 ∷ right 12 (money_text total) ∷ right 12 (money_text fees) ∷ [])
+    (left_none 8 word h, (spaces_none 8, (right_none 12 (money_text total) (money_none total), (right_none 12 (money_text fees) (money_none fees), tt))))
+
+pub owner_text_feeds : (lines : List OwnerLine) (total fees payable : ℤ) → line_feeds (flat_map owner_line lines) ≡ length lines
+    → length lines + 2 ≡ line_feeds (owner_text lines total fees payable)
+owner_text_feeds lines total fees payable each =
+    omega (
+      arith,
+      each,
+      joined (flat_map owner_line lines) (sums_line (codes "total") total fees),
+      joined (flat_map owner_line lines ++ sums_line (codes "total") total fees) (sum_line (codes "payable") 8 payable),
+      sums_feeds (codes "total") total fees refl,
+      sum_feeds (codes "payable") 8 payable refl,
     )

@@ -14,7 +14,8 @@ use Rattle.dh_types.specs.declared.lease.Receipt.{Receipt}
 use Rattle.dh_types.specs.declared.run.Part.{Part}
 use Rattle.dh_types.specs.declared.run.RunSum.{RunSum}
 use Rattle.dh_types.specs.declared.answer.Debt.{Debt}
-use Rattle.dh_types.specs.Reports.{Report, BranchList, VacantList, MatchingList, LeaseStatement, BranchArrears, RunParts, NoReport}
+use Rattle.dh_types.specs.declared.answer.OwnerLine.{OwnerLine}
+use Rattle.dh_types.specs.Reports.{Report, BranchList, VacantList, MatchingList, LeaseStatement, BranchArrears, RunParts, OwnerCharges, NoReport}
 use Rattle.dh_reports.specs.Columns.{left, line, right}
 
 -- the number in 8 columns, the city
@@ -73,6 +74,17 @@ part_line part = count_line part.branch part.count part.total
 abbrev pub run_text : List Part → RunSum → List ℕ
 run_text parts sum = flat_map part_line parts ++ count_line (month_text sum.month) sum.count sum.total
 
+-- the lease and the property in 8 columns each, what was charged and what the branch takes of it in 12 each
+abbrev pub owner_line : OwnerLine → List ℕ
+owner_line it = line (right 8 (decimal it.lease) ∷ left 8 it.property ∷ right 12 (pence_text it.amount) ∷ right 12 (pence_text it.fee) ∷ [])
+
+-- a word in 8 columns, 8 spaces, two sums in 12 each
+abbrev pub sums_line : List ℕ → ℤ → ℤ → List ℕ
+sums_line word total fees = line (left 8 word ∷ replicate 8 32 ∷ right 12 (money_text total) ∷ right 12 (money_text fees) ∷ [])
+
+abbrev pub owner_text : List OwnerLine → ℤ → ℤ → ℤ → List ℕ
+owner_text lines total fees payable = flat_map owner_line lines ++ sums_line (codes "total") total fees ++ sum_line (codes "payable") 8 payable
+
 -- a refusal has no line
 abbrev pub report_text : Report → List ℕ
 report_text (BranchList branches) = flat_map branch_line branches
@@ -81,9 +93,10 @@ report_text (MatchingList properties) = flat_map property_line properties
 report_text (LeaseStatement lease charges receipts balance) = statement_text lease charges receipts balance
 report_text (BranchArrears debts total) = arrears_text debts total
 report_text (RunParts parts sum) = run_text parts sum
+report_text (OwnerCharges lines total fees payable) = owner_text lines total fees payable
 report_text (NoReport refusal) = []
 
--- the lease, its charges, its receipts and its balance have a line each, and so have a total and a run
+-- the lease, its charges, its receipts and its balance have a line each, and so have a total, a run, and what is left for an owner
 abbrev pub line_count : Report → ℕ
 line_count (BranchList branches) = length branches
 line_count (VacantList properties) = length properties
@@ -91,4 +104,5 @@ line_count (MatchingList properties) = length properties
 line_count (LeaseStatement lease charges receipts balance) = length charges + length receipts + 2
 line_count (BranchArrears debts total) = length debts + 1
 line_count (RunParts parts sum) = length parts + 1
+line_count (OwnerCharges lines total fees payable) = length lines + 2
 line_count (NoReport refusal) = 0

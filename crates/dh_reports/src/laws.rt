@@ -32,6 +32,7 @@ pub fn lines_are_line_feeds(answer: &Answer)
         }
         Answer::Arrears(arrears) => look_at_each(&arrears.debts),
         Answer::Run(run) => look_at_each(&run.parts),
+        Answer::Owner(statement) => look_at_each(&statement.lines),
         Answer::Refused(_) => (),
     }
 }

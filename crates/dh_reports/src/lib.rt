@@ -12,6 +12,7 @@ mod debts;
 mod figures;
 pub mod laws;
 mod listing;
+mod owner_statements;
 mod properties;
 mod run_reports;
 mod statements;
@@ -19,6 +20,7 @@ mod sums;
 
 use crate::debts::put_arrears;
 use crate::listing::put_each;
+use crate::owner_statements::put_owner_statement;
 use crate::run_reports::put_run;
 use crate::statements::{put_statement, statement_lines};
 use dh_types::{Answer, Output};
@@ -34,6 +36,7 @@ pub fn lines(answer: &Answer) -> u64
         Answer::Statement(statement) => statement_lines(&statement.charges, &statement.receipts),
         Answer::Arrears(arrears) => arrears.debts.len() + 1,
         Answer::Run(run) => run.parts.len() + 1,
+        Answer::Owner(statement) => statement.lines.len() + 2,
         Answer::Refused(_) => 0,
     };
     count as u64
@@ -50,6 +53,7 @@ pub fn write<W: Write>(answer: &Answer, writer: &mut W) -> Result<(), Output>
         Answer::Statement(statement) => put_statement(statement, writer),
         Answer::Arrears(arrears) => put_arrears(arrears, writer),
         Answer::Run(run) => put_run(run, writer),
+        Answer::Owner(statement) => put_owner_statement(statement, writer),
         Answer::Refused(_) => Ok(()),
     }
 }

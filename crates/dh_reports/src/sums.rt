@@ -1,8 +1,8 @@
-//! The last line of a report that ends in a sum of money.
+//! The lines of reports that sum up money.
 
 ghost use Rattle.std.specs.Prelude.{◌≤◌};
 ghost use Rattle.dh_types.specs.Output.{Puts};
-ghost use Rattle.dh_reports.specs.ReportTexts.{sum_line};
+ghost use Rattle.dh_reports.specs.ReportTexts.{sum_line, sums_line};
 
 use crate::columns::{left, put_line, right};
 use crate::figures::money_text;
@@ -25,6 +25,26 @@ pub fn put_sum<W: Write>(
             left(8, word),
             left(width, ""),
             right(12, money_text(money).as_str()),
+        ],
+    )
+}
+
+/// Writes the word, eight spaces and both sums; at an `Output` a beginning of the line was written.
+pub fn put_sums<W: Write>(
+    writer: &mut W,
+    word: &str,
+    total: Balance,
+    fees: Balance,
+) -> Result<(), Output>
+    ensures { Puts (W.contents writer.old) (W.contents writer.new) result (sums_line word.now total fees) }
+{
+    put_line(
+        writer,
+        &[
+            left(8, word),
+            left(8, ""),
+            right(12, money_text(total).as_str()),
+            right(12, money_text(fees).as_str()),
         ],
     )
 }

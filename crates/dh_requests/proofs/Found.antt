@@ -8,10 +8,10 @@ use Rattle.matchit.specs.Seek.{first, seek, param_step, has_slash, segment, own,
 use Rattle.std.specs.Cmp.Lexicographic.{pointwise}
 use Rattle.matchit.specs.Router.{RouteOf}
 use Rattle.matchit.specs.Params.{walk, part_of, next_at}
-use Rattle.dh_requests.specs.Routes.{routes, IsPiece, arrears_row, branches_row, commands_row, matching_row, run_row, statement_row, vacant_row}
-use Rattle.dh_requests.specs.Targets.{IsTarget, IsText, IsAfter}
+use Rattle.dh_requests.specs.Routes.{routes, IsPiece, arrears_row, branches_row, commands_row, matching_row, owner_row, run_row, statement_row, vacant_row}
+use Rattle.dh_requests.specs.Targets.{IsTarget, IsText, IsAfter, AreAfter}
 use Rattle.dh_requests.specs.declared.routing.Route.{Route}
-use Rattle.dh_requests.specs.declared.routing.Route.TheVariants.{Commands, Branches, Vacant, Matching, Statement, Arrears, Run}
+use Rattle.dh_requests.specs.declared.routing.Route.TheVariants.{Commands, Branches, Vacant, Matching, Statement, Arrears, Run, Owner}
 use Rattle.dh_requests.proofs.Seeking.{In, Takes, AreBytes, seek_sound, takes_text, takes_piece, takes_last, seek_none, seek_past}
 
 after : (w path : List ℕ) → AreBytes w → Takes (w ++ 256 ∷ []) path → (first : List ℕ) × (second : List ℕ) × IsAfter w path first second
@@ -51,13 +51,13 @@ pub bytes_of : (bs : List ℕ) → ((i : ℕ) → get_or bs i 0 < 256) → AreBy
 bytes_of [] h = tt
 bytes_of (b ∷ bs) h = (h 0, bytes_of bs (λ i. h (suc i)))
 
-two : (path : List ℕ) → Takes (codes "/matching/" ++ (256 ∷ 47 ∷ 256 ∷ [])) path → IsTarget Matching path
+two : (w path : List ℕ) → AreBytes w → Takes (w ++ (256 ∷ 47 ∷ 256 ∷ [])) path → (first : List ℕ) × (second : List ℕ) × AreAfter w path first second
 unfolding all_bytes
-two path x =
-    let text = takes_text (codes "/matching/") (256 ∷ 47 ∷ 256 ∷ []) path (bytes_if (codes "/matching/") refl) x in
-    let client = takes_piece (47 ∷ 256 ∷ []) text.0 text.2 in
-    let slash = takes_text (47 ∷ []) (256 ∷ []) client.1 (bytes_if (47 ∷ []) refl) client.4 in
-    (client.0, slash.0, (text.1 ∙ ap (λ l. codes "/matching/" ++ l) (client.2 ∙ ap (λ l. client.0 ++ l) slash.1), client.3, takes_last slash.0 slash.2))
+two w path bytes x =
+    let text = takes_text w (256 ∷ 47 ∷ 256 ∷ []) path bytes x in
+    let piece = takes_piece (47 ∷ 256 ∷ []) text.0 text.2 in
+    let slash = takes_text (47 ∷ []) (256 ∷ []) piece.1 (bytes_if (47 ∷ []) refl) piece.4 in
+    (piece.0, slash.0, (text.1 ∙ ap (λ l. w ++ l) (piece.2 ∙ ap (λ l. piece.0 ++ l) slash.1), piece.3, takes_last slash.0 slash.2))
 
 member : (t : List ℕ) (r : RouteOf Route) (path : List ℕ) → In (t, r) routes → Takes t path → IsTarget r.value path
 unfolding all_bytes
@@ -65,14 +65,17 @@ member t r path (inl e) x = row_is arrears_row t r path (λ v. IsTarget v path) 
 member t r path (inr (inl e)) x = row_is branches_row t r path (λ v. IsTarget v path) e x (whole (codes "/branches") path (bytes_if (codes "/branches") refl))
 member t r path (inr (inr (inl e))) x =
     row_is commands_row t r path (λ v. IsTarget v path) e x (whole (codes "/commands") path (bytes_if (codes "/commands") refl))
-member t r path (inr (inr (inr (inl e)))) x = row_is matching_row t r path (λ v. IsTarget v path) e x (two path)
+member t r path (inr (inr (inr (inl e)))) x =
+    row_is matching_row t r path (λ v. IsTarget v path) e x (two (codes "/matching/") path (bytes_if (codes "/matching/") refl))
 member t r path (inr (inr (inr (inr (inl e))))) x =
-    row_is run_row t r path (λ v. IsTarget v path) e x (after (codes "/run/") path (bytes_if (codes "/run/") refl))
+    row_is owner_row t r path (λ v. IsTarget v path) e x (two (codes "/owner/") path (bytes_if (codes "/owner/") refl))
 member t r path (inr (inr (inr (inr (inr (inl e)))))) x =
-    row_is statement_row t r path (λ v. IsTarget v path) e x (after (codes "/statement/") path (bytes_if (codes "/statement/") refl))
+    row_is run_row t r path (λ v. IsTarget v path) e x (after (codes "/run/") path (bytes_if (codes "/run/") refl))
 member t r path (inr (inr (inr (inr (inr (inr (inl e))))))) x =
+    row_is statement_row t r path (λ v. IsTarget v path) e x (after (codes "/statement/") path (bytes_if (codes "/statement/") refl))
+member t r path (inr (inr (inr (inr (inr (inr (inr (inl e)))))))) x =
     row_is vacant_row t r path (λ v. IsTarget v path) e x (after (codes "/vacant/") path (bytes_if (codes "/vacant/") refl))
-member t r path (inr (inr (inr (inr (inr (inr (inr e))))))) x = absurd e
+member t r path (inr (inr (inr (inr (inr (inr (inr (inr e)))))))) x = absurd e
 
 pub found : (path : List ℕ) (r : RouteOf Route) → AreBytes path → first routes path ≡ Some r → IsTarget r.value path
 found path r bytes e =
@@ -87,15 +90,15 @@ last_piece r b p byte free =
     let same : (suc (length p) - 1) ≡ length p = omega arith in
     rw (other, seek_none {K = RouteOf Route} 0 p, free, same, seek_past p (([], r) ∷ [])) refl
 
-segment_of : (client day : List ℕ) → has_slash client ≡ false → segment (client ++ 47 ∷ day) ≡ client ++ 47 ∷ []
-segment_of [] day free = refl
-segment_of (b ∷ client) day free = segment_at b client day (b == 47) refl free (segment_of client day)
+segment_of : (piece rest : List ℕ) → has_slash piece ≡ false → segment (piece ++ 47 ∷ rest) ≡ piece ++ 47 ∷ []
+segment_of [] rest free = refl
+segment_of (b ∷ piece) rest free = segment_at b piece rest (b == 47) refl free (segment_of piece rest)
   where
-    segment_at : (b : ℕ) (client day : List ℕ) (v : Bool) → (b == 47) ≡ v → cond v true (has_slash client) ≡ false
-        → (has_slash client ≡ false → segment (client ++ 47 ∷ day) ≡ client ++ 47 ∷ [])
-        → cond v (b ∷ []) (b ∷ segment (client ++ 47 ∷ day)) ≡ b ∷ (client ++ 47 ∷ [])
-    segment_at b client day true e free again = cc
-    segment_at b client day false e free again = ap (λ l. b ∷ l) (again free)
+    segment_at : (b : ℕ) (piece rest : List ℕ) (v : Bool) → (b == 47) ≡ v → cond v true (has_slash piece) ≡ false
+        → (has_slash piece ≡ false → segment (piece ++ 47 ∷ rest) ≡ piece ++ 47 ∷ [])
+        → cond v (b ∷ []) (b ∷ segment (piece ++ 47 ∷ rest)) ≡ b ∷ (piece ++ 47 ∷ [])
+    segment_at b piece rest true e free again = cc
+    segment_at b piece rest false e free again = ap (λ l. b ∷ l) (again free)
 
 -- one place on
 next_is : (len at : ℕ) → at < len → next_at len at ≡ at + 1
@@ -206,49 +209,56 @@ unfolding seek
 seek_over [] path rs = refl
 seek_over (b ∷ front) path rs = seek_over front path rs
 
-rows_of_day : RouteOf Route → RowsOf (RouteOf Route)
-rows_of_day r = (47 ∷ 256 ∷ [], r) ∷ []
+-- what is left of a row with two parameters behind the first
+rows_behind : RouteOf Route → RowsOf (RouteOf Route)
+rows_behind r = (47 ∷ 256 ∷ [], r) ∷ []
 
-client_step : (r : RouteOf Route) (b : ℕ) (c day : List ℕ) → has_slash (b ∷ c) ≡ false
-    → param_step (rows_of_day r) ((b ∷ c) ++ 47 ∷ day) ≡ (suc (length c), rows_of_day r)
-unfolding param_step rows_of_day
-client_step r b c day free =
+piece_step : (r : RouteOf Route) (b : ℕ) (c rest : List ℕ) → has_slash (b ∷ c) ≡ false
+    → param_step (rows_behind r) ((b ∷ c) ++ 47 ∷ rest) ≡ (suc (length c), rows_behind r)
+unfolding param_step rows_behind
+piece_step r b c rest free =
     let text = (b ∷ c) ++ 47 ∷ [] in
     let len : length text ≡ suc (length c) + 1 = omega (arith, length-append c (47 ∷ [])) in
     let tail : drop (length text - 1) text ≡ 47 ∷ [] = drop_at (b ∷ c) (47 ∷ []) (length text - 1) (omega arith) in
     let ends : ends_with nat_eq text (47 ∷ []) ≡ true = ap (pointwise nat_eq (47 ∷ [])) tail in
     let some : ltb 1 (length text) ≡ true = grind (arith, nat_tests) in
-    let best : longest_suffix text (rows_of_day r) ≡ 47 ∷ [] = rw (some, ends) refl in
+    let best : longest_suffix text (rows_behind r) ≡ 47 ∷ [] = rw (some, ends) refl in
     let left : length text - 1 ≡ suc (length c) = omega arith in
-    let at : longest_suffix (segment ((b ∷ c) ++ 47 ∷ day)) (rows_of_day r) ≡ 47 ∷ [] =
-    ap (λ l. longest_suffix l (rows_of_day r)) (segment_of (b ∷ c) day free) ∙ best in
+    let at : longest_suffix (segment ((b ∷ c) ++ 47 ∷ rest)) (rows_behind r) ≡ 47 ∷ [] =
+    ap (λ l. longest_suffix l (rows_behind r)) (segment_of (b ∷ c) rest free) ∙ best in
     ap (λ s.
-    cond {A = ℕ × RowsOf (RouteOf Route)} (ltb 0 (length s)) (length (segment ((b ∷ c) ++ 47 ∷ day)) - length s, with_suffix s (rows_of_day r))
-    (cond (has_slash ((b ∷ c) ++ 47 ∷ day)) (0, []) (length ((b ∷ c) ++ 47 ∷ day), rows_of_day r))) at
-    ∙ ap (λ l. (length l - 1, rows_of_day r)) (segment_of (b ∷ c) day free) ∙ ap (λ n. (n, rows_of_day r)) left
+    cond {A = ℕ × RowsOf (RouteOf Route)} (ltb 0 (length s)) (length (segment ((b ∷ c) ++ 47 ∷ rest)) - length s, with_suffix s (rows_behind r))
+    (cond (has_slash ((b ∷ c) ++ 47 ∷ rest)) (0, []) (length ((b ∷ c) ++ 47 ∷ rest), rows_behind r))) at
+    ∙ ap (λ l. (length l - 1, rows_behind r)) (segment_of (b ∷ c) rest free) ∙ ap (λ n. (n, rows_behind r)) left
 
-client_first : (r : RouteOf Route) (b : ℕ) (c : List ℕ) (d : ℕ) (e : List ℕ) → b < 256 → has_slash (b ∷ c) ≡ false → d < 256 → has_slash (d ∷ e) ≡ false
+two_first : (r : RouteOf Route) (b : ℕ) (c : List ℕ) (d : ℕ) (e : List ℕ) → b < 256 → has_slash (b ∷ c) ≡ false → d < 256 → has_slash (d ∷ e) ≡ false
     → first ((256 ∷ 47 ∷ 256 ∷ [], r) ∷ []) ((b ∷ c) ++ 47 ∷ d ∷ e) ≡ Some r
-unfolding seek rows_of_day
-client_first r b c d e byte free byte2 free2 =
+unfolding seek rows_behind
+two_first r b c d e byte free byte2 free2 =
     let rest = c ++ 47 ∷ d ∷ e in
-    let row : RowsOf (RouteOf Route) = rows_of_day r in
+    let row : RowsOf (RouteOf Route) = rows_behind r in
     let other : (256 == b) ≡ false = grind (arith, nat_tests) in
     let same : (suc (length c) - 1) ≡ length c = omega arith in
-    let day : first row (47 ∷ d ∷ e) ≡ Some r = lit 47 (d ∷ e) row refl refl ∙ last_piece r d e byte2 free2 in
+    let last : first row (47 ∷ d ∷ e) ≡ Some r = lit 47 (d ∷ e) row refl refl ∙ last_piece r d e byte2 free2 in
     ap (λ v.
     or_else (seek 0 (cond {A = RowsOf (RouteOf Route)} v row []) rest)
     (or_else (seek ((param_step row (b ∷ rest)).0 - 1) (param_step row (b ∷ rest)).1 rest) None)) other
     ∙ ap (λ o. or_else o (or_else (seek ((param_step row (b ∷ rest)).0 - 1) (param_step row (b ∷ rest)).1 rest) None)) (seek_none {K = RouteOf Route} 0 rest)
-    ∙ ap (λ (s : ℕ × RowsOf (RouteOf Route)). or_else (seek (s.0 - 1) s.1 rest) None) (client_step r b c (d ∷ e) free)
+    ∙ ap (λ (s : ℕ × RowsOf (RouteOf Route)). or_else (seek (s.0 - 1) s.1 rest) None) (piece_step r b c (d ∷ e) free)
     ∙ ap (λ n. or_else (seek n row rest) None) same
-    ∙ ap (λ o. or_else o None) (seek_over c (47 ∷ d ∷ e) row ∙ day)
+    ∙ ap (λ o. or_else o None) (seek_over c (47 ∷ d ∷ e) row ∙ last)
 
 pub at_matching : (b : ℕ) (c : List ℕ) (d : ℕ) (e : List ℕ) → b < 256 → has_slash (b ∷ c) ≡ false → d < 256 → has_slash (d ∷ e) ≡ false
     → first routes (codes "/matching/" ++ ((b ∷ c) ++ 47 ∷ d ∷ e)) ≡ Some matching_row.1
 unfolding plain steps is_none
 at_matching b c d e byte free byte2 free2 =
-    lits (codes "/matching/") ((b ∷ c) ++ 47 ∷ d ∷ e) routes refl ∙ client_first matching_row.1 b c d e byte free byte2 free2
+    lits (codes "/matching/") ((b ∷ c) ++ 47 ∷ d ∷ e) routes refl ∙ two_first matching_row.1 b c d e byte free byte2 free2
+
+pub at_owner : (b : ℕ) (c : List ℕ) (d : ℕ) (e : List ℕ) → b < 256 → has_slash (b ∷ c) ≡ false → d < 256 → has_slash (d ∷ e) ≡ false
+    → first routes (codes "/owner/" ++ ((b ∷ c) ++ 47 ∷ d ∷ e)) ≡ Some owner_row.1
+unfolding plain steps is_none
+at_owner b c d e byte free byte2 free2 =
+    lits (codes "/owner/") ((b ∷ c) ++ 47 ∷ d ∷ e) routes refl ∙ two_first owner_row.1 b c d e byte free byte2 free2
 
 bytes_after : (front rest : List ℕ) → AreBytes (front ++ rest) → AreBytes rest
 bytes_after [] rest h = h
@@ -264,15 +274,18 @@ not_none front path r at bytes none (b ∷ p) e x =
     let no : None ≡ Some r = sym none ∙ some in
     cc
 
-not_two : (path : List ℕ) → AreBytes path → first routes path ≡ None → (client day : List ℕ) → path ≡ codes "/matching/" ++ (client ++ 47 ∷ day)
-    → IsPiece client → IsPiece day → ⊥
-not_two path bytes none [] day e x y = absurd (omega (arith, x.0))
-not_two path bytes none (b ∷ c) [] e x y = absurd (omega (arith, y.0))
-not_two path bytes none (b ∷ c) (d ∷ f) e x y =
-    let all = bytes_after (codes "/matching/") ((b ∷ c) ++ 47 ∷ d ∷ f) (subst AreBytes e bytes) in
+-- and each two pieces
+not_two : (front path : List ℕ) (r : RouteOf Route)
+    → ((b : ℕ) (c : List ℕ) (d : ℕ) (e : List ℕ) → b < 256 → has_slash (b ∷ c) ≡ false → d < 256 → has_slash (d ∷ e) ≡ false
+    → first routes (front ++ ((b ∷ c) ++ 47 ∷ d ∷ e)) ≡ Some r)
+    → AreBytes path → first routes path ≡ None → (one two : List ℕ) → path ≡ front ++ (one ++ 47 ∷ two) → IsPiece one → IsPiece two → ⊥
+not_two front path r at bytes none [] two e x y = absurd (omega (arith, x.0))
+not_two front path r at bytes none (b ∷ c) [] e x y = absurd (omega (arith, y.0))
+not_two front path r at bytes none (b ∷ c) (d ∷ f) e x y =
+    let all = bytes_after front ((b ∷ c) ++ 47 ∷ d ∷ f) (subst AreBytes e bytes) in
     let last = bytes_after (b ∷ c) (47 ∷ d ∷ f) all in
-    let some : first routes path ≡ Some matching_row.1 = ap (first routes) e ∙ at_matching b c d f all.0 x.1 last.1.0 y.1 in
-    let no : None ≡ Some matching_row.1 = sym none ∙ some in
+    let some : first routes path ≡ Some r = ap (first routes) e ∙ at b c d f all.0 x.1 last.1.0 y.1 in
+    let no : None ≡ Some r = sym none ∙ some in
     cc
 
 pub missing : (route : Route) (path : List ℕ) → AreBytes path → first routes path ≡ None → IsTarget route path → ⊥
@@ -283,7 +296,8 @@ missing Branches path bytes none x =
     let no : None ≡ Some branches_row.1 = sym none ∙ ap (first routes) x.2.0 ∙ at_branches in
     cc
 missing Vacant path bytes none x = not_none (codes "/vacant/") path vacant_row.1 at_vacant bytes none x.0 x.2.0 x.2.1
-missing Matching path bytes none x = not_two path bytes none x.0 x.1 x.2.0 x.2.1 x.2.2
+missing Matching path bytes none x = not_two (codes "/matching/") path matching_row.1 at_matching bytes none x.0 x.1 x.2.0 x.2.1 x.2.2
 missing Statement path bytes none x = not_none (codes "/statement/") path statement_row.1 at_statement bytes none x.0 x.2.0 x.2.1
 missing Arrears path bytes none x = not_none (codes "/arrears/") path arrears_row.1 at_arrears bytes none x.0 x.2.0 x.2.1
 missing Run path bytes none x = not_none (codes "/run/") path run_row.1 at_run bytes none x.0 x.2.0 x.2.1
+missing Owner path bytes none x = not_two (codes "/owner/") path owner_row.1 at_owner bytes none x.0 x.1 x.2.0 x.2.1 x.2.2

@@ -31,6 +31,7 @@ of_question route.Matching other h rest it x = x
 of_question route.Statement other h rest it x = x
 of_question route.Arrears other h rest it x = x
 of_question route.Run other h rest it x = x
+of_question route.Owner other h rest it x = x
 
 -- the same, where what was read of the reader is told
 pub by_question : (asking : Route) → asking ≢ route.Commands → (h : RequestHead) {method target : List ℕ} (front : List ℕ) (left : Option (List ℕ)) (it : Asked)

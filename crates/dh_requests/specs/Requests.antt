@@ -56,6 +56,7 @@ question_fields route.Matching client day = codes "show" ∷ codes "matching" �
 question_fields route.Statement lease second = codes "show" ∷ codes "statement" ∷ lease ∷ []
 question_fields route.Arrears branch second = codes "show" ∷ codes "arrears" ∷ branch ∷ []
 question_fields route.Run month second = codes "show" ∷ codes "run" ∷ month ∷ []
+question_fields route.Owner owner month = codes "show" ∷ codes "owner" ∷ owner ∷ month ∷ []
 
 abbrev pub IsQuestionOf : Route → List ℕ → Asked → Type 0
 IsQuestionOf asking target it =

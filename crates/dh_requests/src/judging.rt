@@ -93,6 +93,7 @@ fn read_question(
         Route::Statement => read_fields(alloc, &[b"show", b"statement", first]),
         Route::Arrears => read_fields(alloc, &[b"show", b"arrears", first]),
         Route::Run => read_fields(alloc, &[b"show", b"run", first]),
+        Route::Owner => read_fields(alloc, &[b"show", b"owner", first, second]),
     }
 }
 

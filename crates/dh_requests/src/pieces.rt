@@ -45,5 +45,6 @@ pub(crate) fn pieces_of(route: Route, target: &[u8]) -> (&[u8], &[u8])
         Route::Statement => (&target["/statement/".len()..], b""),
         Route::Arrears => (&target["/arrears/".len()..], b""),
         Route::Run => (&target["/run/".len()..], b""),
+        Route::Owner => cut(&target["/owner/".len()..]),
     }
 }

@@ -25,6 +25,8 @@ pub(crate) enum Route {
     Arrears,
     /// `/run/{month}`
     Run,
+    /// `/owner/{owner}/{month}`
+    Owner,
 }
 
 /// A router of all routes. An error comes only for want of memory.
@@ -39,6 +41,7 @@ pub(crate) fn router(alloc: Global) -> Result<Router<Route>, InsertError>
     router.insert("/statement/{lease}", Route::Statement)?;
     router.insert("/arrears/{branch}", Route::Arrears)?;
     router.insert("/run/{month}", Route::Run)?;
+    router.insert("/owner/{owner}/{month}", Route::Owner)?;
     Ok(router)
 }
 

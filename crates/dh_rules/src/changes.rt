@@ -13,6 +13,7 @@ pub fn apply_change(books: &mut Books, change: Change) -> Result<(), AllocError>
 {
     match change {
         Change::Branch(it) => books.put_branch(it),
+        Change::NewFee(it) | Change::Fee(it) => books.put_branch_fee(it),
         Change::Staff(it) => books.put_member(it),
         Change::Owner(it) => books.put_owner(it),
         Change::Property(it) => books.put_property(it),
@@ -33,6 +34,7 @@ pub fn apply_change(books: &mut Books, change: Change) -> Result<(), AllocError>
         }
         Change::Inspection(it) => books.put_inspection(it),
         Change::Lease(it) => books.put_lease(it),
+        Change::NewEnding(it) | Change::Ending(it) => books.put_ending(it),
         Change::Receipt(it) => books.put_receipt(it),
         Change::Open(it) => {
             let next = it.month.month().next().unwrap();

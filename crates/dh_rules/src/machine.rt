@@ -41,11 +41,20 @@ fn carried_out(
     requires { verdict_on books.books books.open_run command.now ≡ verdict.Change change }
     ensures { IfOk result (λ s. (s.books, s.reply) ≡ carried_out batch_size books command.now change) }
 {
-    match (command, change) {
-        (Command::Run(_), Change::Open(row)) => run_made(alloc, books, &row),
-        (Command::Open(_), Change::Open(row)) => run_opened(alloc, books, &row),
-        (Command::Post(count), Change::Post) => resumed(alloc, books, *count),
-        (_, change) => put(books, change),
+    match command {
+        Command::Run(_) => match change {
+            Change::Open(row) => run_made(alloc, books, &row),
+            change => put(books, change),
+        },
+        Command::Open(_) => match change {
+            Change::Open(row) => run_opened(alloc, books, &row),
+            change => put(books, change),
+        },
+        Command::Post(count) => match change {
+            Change::Post => resumed(alloc, books, *count),
+            change => put(books, change),
+        },
+        _ => put(books, change),
     }
 }
 

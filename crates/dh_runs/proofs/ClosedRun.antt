@@ -32,9 +32,9 @@ use Rattle.dh_schema.specs.Store.{IsReady, IsWriting, tables}
 use Rattle.dh_schema.specs.Tables.{IsTableInOrder}
 use Rattle.dh_schema.proofs.Keyed.{books_are_keyed, sound_tables_show_their_run}
 use Rattle.dh_runs.specs.Closing.{IsOpenMonth, IsSumOfOpen, sum_of_parts, sum_over, with_run, with_sum}
-use Rattle.dh_runs.specs.Putting.{TurnsBooks}
+use Rattle.dh_store.specs.Putting.{TurnsBooks}
 use Rattle.dh_runs.proofs.PartSums.{parts_are_charges}
-use Rattle.dh_runs.proofs.Putting.{IsThere, changed}
+use Rattle.dh_store.proofs.Putting.{IsThere, amended}
 
 -- a run of which no batch is left is open
 pub under_way : (books : Books) (run : Option OpenRun) → IsAtItsEnd books run → IsUnderWay run
@@ -147,7 +147,7 @@ module _ {S : Type 0} (g : Ghosts S) (old begun last : Held S) (is : begun ≡ r
   pub sum_put : (x : Unit {0}) → (HasCleanDisk (state g last) → StaysInTransaction (state g begun) (state g last))
       → (HasCleanDisk (state g last) → Amends run_shape nat_cmp sum.month (with_sum sum) (state g begun) (state g last))
       → CommitsNothing (state g begun) (state g last) → TurnsBooks made (Ok x) (state g begun) (state g last)
-  sum_put x on amended crash = changed Runs sum.month (with_sum sum) (state g begun) (state g last) made (Ok x) (λ _. tt) writing there on amended
+  sum_put x on done crash = amended Runs sum.month (with_sum sum) (state g begun) (state g last) made (Ok x) (λ _. tt) writing there on done
       (λ _. tt) crash
 
 -- the table of runs is in order as the transaction begins

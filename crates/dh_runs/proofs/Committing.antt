@@ -18,7 +18,7 @@ use Rattle.dh_schema.specs.Tables.{AreInOrder, books_in}
 use Rattle.dh_schema.proofs.Crashing.{survives_committed}
 use Rattle.dh_schema.proofs.Installing.{ready_after}
 use Rattle.dh_schema.proofs.Keyed.{books_are_keyed}
-use Rattle.dh_runs.specs.Putting.{TurnsBooks}
+use Rattle.dh_store.specs.Putting.{TurnsBooks}
 
 -- tables in order with the books of tables that an office works on are sound, and show their run
 pub sound_after : (after : machine.State) (trees : Trees) → office.IsStateInOrder after → AreInOrder trees → books_in trees ≡ after.books

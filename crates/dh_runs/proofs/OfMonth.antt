@@ -1,17 +1,12 @@
 -- What is looked at of a month is all of it.
-use Rattle.std.proofs.Common.{◌≡◌, refl, ℕ, nat_eq, ◌&&◌, true, List}
+use Rattle.std.proofs.Common.{◌≡◌, ℕ, nat_eq}
 use Rattle.std.specs.FinMap.{values}
 use Rattle.dh_types.specs.declared.run.Part.{Part}
 use Rattle.dh_model.specs.Books.{Books}
 use Rattle.dh_model.specs.Rules.{parts_in}
-use Rattle.dh_model.specs.Checks.{is_same_text}
-use Rattle.dh_model.specs.Runs.{part_key}
 use Rattle.dh_model.specs.Whole.{rows_where}
 use Rattle.dh_model.proofs.KeyOrders.{nat_text_ties, nat_text_total}
 use Rattle.dh_laws.proofs.RowsNarrowed.{values_where}
-use Rattle.dh_tables.specs.Cells.{tells_both, tells_number, tells_text}
-use Rattle.dh_tables.specs.PartTable.{part_shape}
-use Rattle.dh_tables.specs.Questions.{AsksFor}
 
 pub parts_of_month : (books : Books) (month : ℕ) → values (rows_where (λ part. nat_eq part.month month) books.parts) ≡ parts_in books month
 parts_of_month books month = values_where nat_text_total nat_text_ties (λ (part : Part). nat_eq part.month month) books.parts

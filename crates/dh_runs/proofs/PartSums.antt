@@ -13,7 +13,7 @@ use Rattle.dh_model.specs.Rules.{ArePosted, charges_in, parts_in}
 use Rattle.dh_model.specs.Runs.{batches, batches_before, begun_branches, closed_run, part_key, part_of, posted_charges, posted_of_branch}
 use Rattle.dh_model.specs.Runs.{posted_parts, total_of}
 use Rattle.dh_model.specs.Whole.{completed, whole}
-use Rattle.dh_model.proofs.Among.{Among, among, is_among}
+use Rattle.dh_model.proofs.Among.{among, is_among}
 use Rattle.dh_model.proofs.BatchLemmas.{last_batch_posts_all}
 use Rattle.dh_model.proofs.BranchDues.{holds, keys_rise}
 use Rattle.dh_model.proofs.KeyOrders.{nat_text_ties, nat_text_total, nat_ties, nat_total, text_total}

@@ -1,5 +1,5 @@
 -- Rows that were put into their tables, as what becomes of the books.
-use Rattle.std.proofs.Common.{◌≡◌, ◌∙◌, refl, sym, ap, subst, inl, Bool, true, false, [], ◌∷◌, Option, Some, None, is_some, Result, Ok, Err, OnErr, OnOk, arith}
+use Rattle.std.proofs.Common.{◌≡◌, ◌∙◌, refl, sym, ap, subst, inl, Bool, true, false, [], ◌∷◌, Option, Some, None, is_some, Result, Ok, Err, OnOk, arith}
 use Rattle.std.proofs.lemmas.Bool.{false≢true}
 use Rattle.std.specs.declared.cmp.Ordering.{Ordering}
 use Rattle.std.specs.Cmp.{IsTotalOrder}
@@ -16,21 +16,18 @@ use Rattle.dh_leases.specs.Plans.{HasItsFeeRow}
 use Rattle.std.specs.Prelude.{IfSome}
 use Rattle.dh_model.specs.Runs.{charge_key, part_fee_key, part_key}
 use Rattle.dh_model.proofs.KeyOrders.{nat_text_ties, nat_text_total, nats_tie, nats_total}
-use Rattle.dh_sql.specs.Changes.{Becomes}
 use Rattle.dh_sql.specs.Shape.{rows_in}
-use Rattle.dh_catalog.specs.Versions.{schema_of}
-use Rattle.dh_tables.specs.Calls.{Amends, CommitsNothing, IsUndone, IsWritingSince, StaysInTransaction}
-use Rattle.dh_tables.proofs.AmendedRecord.{becomes_there}
-use Rattle.dh_model.specs.Kinds.{HasKind, Kind, key_of, order_of, record_of}
-use Rattle.dh_schema.specs.Kinds.{shape_of, shelf_of}
+use Rattle.dh_model.specs.Kinds.{order_of}
+use Rattle.dh_schema.specs.Kinds.{shape_of}
 use Rattle.dh_model.specs.Kinds.{PartFees, Parts}
 use Rattle.dh_schema.specs.Store.{IsWriting, tables}
-use Rattle.dh_schema.specs.Tables.{loaded_from, version_of_tables}
+use Rattle.dh_schema.specs.Tables.{version_of_tables}
 use Rattle.dh_schema.proofs.Crashing.{survives_both}
 use Rattle.dh_schema.proofs.EachKind.{all_since}
 use Rattle.dh_schema.proofs.Keyed.{keyed}
-use Rattle.dh_store.proofs.Putting.{keeps_both, keeps_commit, put_in}
-use Rattle.dh_runs.specs.Putting.{TurnsBooks, with_charges, with_fees, with_part}
+use Rattle.dh_store.proofs.Putting.{IsThere, Means, keeps_both}
+use Rattle.dh_store.specs.Putting.{TurnsBooks}
+use Rattle.dh_runs.specs.Putting.{with_charges, with_fees, with_part}
 
 -- ---- rows of a map
 
@@ -40,68 +37,6 @@ module _ {K X : Type 0} {R : K → K → Ordering} (o : IsTotalOrder R) (anti : 
 
   pub with_one : (row : X) (m : FinMap R X) → with_rows key (row ∷ []) m ≡ insert m (key row) row
   with_one row m = ap (λ (n : FinMap R X). insert n (key row) row) (with_none m)
-
--- ---- one table
-
-module _ (kind : Kind) (records : FinMap (order_of kind) (record_of kind)) (old new : State) where
-  abbrev pub Has : Type 0
-  Has = HasKind (version_of_tables old.now.trees) kind
-
-  abbrev Turns : Type 0
-  Turns = Becomes (shape_of kind) (order_of kind) old.now.schema records old new
-
-  -- the books with these records are what this makes of them
-  abbrev pub Means : (Books → Books) → Type 0
-  Means turned = ((shelf_of kind).with (loaded_from old.now.trees) records).books ≡ turned (tables old).books
-
-  on_ok : {X E : Type 0} (turned : Books → Books) (r : Result X E) → Has → IsWriting old → Means turned
-      → OnOk r (StaysInTransaction old new) → OnOk r Turns
-      → OnOk r (IsWriting new × ((tables new).books ≡ turned (tables old).books))
-  on_ok turned (Ok x) has order means on done = let here = put_in kind records old new has order on done in (here.0, here.1 ∙ means)
-  on_ok turned (Err e) has order means on done = tt
-
-  -- a record was added
-  pub added : (turned : Books → Books) (r : Result (Unit {0}) Error) → (HasCleanDisk old → Has) → (HasCleanDisk old → IsWriting old)
-      → (HasCleanDisk old → Means turned)
-      → (HasCleanDisk new → OnOk r (StaysInTransaction old new)) → (HasCleanDisk new → OnOk r Turns) → (HasCleanDisk new → OnErr r (IsUndone old new))
-      → CommitsNothing old new → TurnsBooks turned r old new
-  added turned r has writing means on done undone crash = record {
-    put = λ clean.
-        let early : HasCleanDisk old = omega (arith, crash.clean, clean) in
-        on_ok turned r (has early) (writing early) (means early) (on clean) (done clean);
-    kept = λ clean. keeps_commit r old new (on clean) (undone clean);
-    crash = crash;
-  }
-
-module _ (kind : Kind) (key : key_of kind) (amended : record_of kind → record_of kind) (old new : State) where
-  abbrev held : FinMap (order_of kind) (record_of kind)
-  held = rows_in (shape_of kind) old.now.trees
-
-  -- the record is there, and with what it becomes the books are what this makes of them
-  abbrev pub IsThere : (Books → Books) → Type 0
-  IsThere turned = (there : record_of kind) × (get held key ≡ Some there) × Means kind (insert held key (amended there)) old new turned
-
-  on_ok_there : {X E : Type 0} (turned : Books → Books) (r : Result X E) → HasKind (version_of_tables old.now.trees) kind → IsWriting old → IsThere turned
-      → OnOk r (StaysInTransaction old new)
-      → OnOk r (Amends (shape_of kind) (order_of kind) key amended old new)
-      → OnOk r (IsWriting new × ((tables new).books ≡ turned (tables old).books))
-  on_ok_there turned (Ok x) has order it on done =
-      let becomes = becomes_there (shape_of kind) (order_of kind) key amended old new in
-      let here = put_in kind (insert held key (amended it.0)) old new has order on (becomes done it.0 it.1) in (here.0, here.1 ∙ it.2)
-  on_ok_there turned (Err e) has order it on done = tt
-
-  -- a record was changed
-  pub changed : (turned : Books → Books) (r : Result (Unit {0}) Error) → (HasCleanDisk old → HasKind (version_of_tables old.now.trees) kind)
-      → (HasCleanDisk old → IsWriting old) → (HasCleanDisk old → IsThere turned)
-      → (HasCleanDisk new → OnOk r (StaysInTransaction old new)) → (HasCleanDisk new → OnOk r (Amends (shape_of kind) (order_of kind) key amended old new))
-      → (HasCleanDisk new → OnErr r (IsUndone old new)) → CommitsNothing old new → TurnsBooks turned r old new
-  changed turned r has writing is_there on done undone crash = record {
-    put = λ clean.
-        let early : HasCleanDisk old = omega (arith, crash.clean, clean) in
-        on_ok_there turned r (has early) (writing early) (is_there early) (on clean) (done clean);
-    kept = λ clean. keeps_commit r old new (on clean) (undone clean);
-    crash = crash;
-  }
 
 -- ---- one after the other
 
@@ -239,10 +174,6 @@ pub fee_new : (fee : PartFee) (old : State) → version_of_tables old.now.trees 
 fee_new fee old second none =
     let all = all_since Second (version_of_tables old.now.trees) (rows_in (shape_of PartFees) {R = order_of PartFees} old.now.trees) second in
     ap (λ (m : FinMap _ PartFee). get m (part_fee_key fee)) (sym all) ∙ part_new (get (tables old).books.part_fees (part_fee_key fee)) none
-
--- what writes tables of the second version writes those that came with it
-pub later_writing : (s : State) → IsWriting s → version_of_tables s.now.trees ≡ Second → IsWritingSince Second s
-later_writing s writing second = record { inside = writing.inside; has = writing.version ∙ ap schema_of second }
 
 -- a fee row whose part has one or not has one or not in other books that have the same fee rows
 pub fee_still : (fee : Option PartFee) (has_part : Bool) (s t : machine.State) → t.books.version ≡ s.books.version → t.books.part_fees ≡ s.books.part_fees

@@ -1,18 +1,24 @@
 -- Tables that were only looked at, as what a recovery may leave.
-use Rattle.std.proofs.Common.{◌≡◌, ◌∙◌, sym, ap, subst}
+use Rattle.std.proofs.Common.{◌≡◌, ◌∙◌, sym, ap, subst, Result, Ok, Err, OnOk}
 use Rattle.sqlite_trees.specs.Objects.{catalog_tree}
 use Rattle.sqlite_trees.specs.Tree.{Trees}
 use Rattle.sqlite_catalog.proofs.ReadLemmas.{lists_once}
 use Rattle.sqlite.specs.Effect.{Database, IsDatabase}
 use Rattle.sqlite.specs.State.{State}
+use Rattle.dh_types.specs.declared.version.Version.TheVariants.{Second}
 use Rattle.dh_model.specs.Books as machine
+use Rattle.dh_model.specs.Runs.{batch_size}
+use Rattle.dh_laws.specs.Events.{Mended}
+use Rattle.dh_laws.specs.StateTables.{as_tables}
+use Rattle.dh_laws.proofs.Versions.{the_version_stays}
 use Rattle.dh_laws.proofs.Carrying.{part_torn}
 use Rattle.dh_laws.proofs.Standing.{same_in_part}
 use Rattle.dh_catalog.specs.Versions.{each_is_ours, schema_of}
 use Rattle.dh_schema.specs.Store.{AreTables, IsReadyWith, tables}
 use Rattle.dh_schema.specs.Tables.{IsSound, state_in, version_of_tables}
-use Rattle.dh_runs.specs.Taking.{IsResting}
-use Rattle.dh_runs.specs.Told.{IsTorn}
+use Rattle.dh_schema.proofs.ReadTables.{version_given}
+use Rattle.dh_runs.specs.Taking.{AreSecond, IsOurVersion, IsResting}
+use Rattle.dh_runs.specs.Told.{IsMended, IsTorn}
 
 -- sound tables are listed by the schema of their version, and a list tells one schema
 pub its_schema : (d : Database) → IsDatabase d → IsSound d.trees → d.schema ≡ schema_of (version_of_tables d.trees)
@@ -59,3 +65,17 @@ module _ (old new : State) where
     it.0.sound,
     it.1,
   )
+
+pub both_ok : {X E A B C : Type 0} (r : Result X E) → (A → B → C) → OnOk r A → OnOk r B → OnOk r C
+both_ok (Ok x) f a b = f a b
+both_ok (Err e) f a b = tt
+
+-- sound tables of which meta gives our version are those of the second
+pub second_taken : (old mid new : State) → IsOurVersion old.now.trees → mid.now ≡ old.now → IsSound mid.now.trees → new.now ≡ mid.now → AreSecond new
+second_taken old mid new ours first sound same =
+    ap (λ (d : Database). version_of_tables d.trees) same
+    ∙ version_given Second mid.now.trees sound.in_order (subst (λ (d : Database). IsOurVersion d.trees) (sym first) ours)
+
+-- and stay so where a recovery came to its end
+pub second_mended : (mid new : State) → AreSecond mid → IsMended (tables mid) (tables new) → AreSecond new
+second_mended mid new second mended = the_version_stays batch_size Mended (as_tables (tables mid)) (as_tables (tables new)) mended ∙ second

@@ -1,8 +1,6 @@
--- What rows leave that were put into the tables.
-use Rattle.std.specs.Prelude.{◌≡◌, List, [], ◌∷◌, Result, OnOk}
+-- What the rows of a batch make of the books.
+use Rattle.std.specs.Prelude.{List, [], ◌∷◌}
 use Rattle.std.specs.FinMap.{insert}
-use Rattle.sqlite.specs.declared.error.Error.{Error}
-use Rattle.sqlite.specs.State.{HasCleanDisk, KeepsCommit, State}
 use Rattle.dh_types.specs.declared.lease.Charge.{Charge}
 use Rattle.dh_types.specs.declared.run.Part.{Part}
 use Rattle.dh_types.specs.declared.fee.PartFee.{PartFee}
@@ -10,14 +8,6 @@ use Rattle.dh_model.specs.Books.{Books, with_rows}
 use Rattle.dh_model.specs.Runs.{charge_key, part_fee_key, part_key}
 use Rattle.dh_leases.specs.declared.planning.BatchRows.{BatchRows}
 use Rattle.dh_leases.specs.Plans.{some_row}
-use Rattle.dh_tables.specs.Calls.{CommitsNothing}
-use Rattle.dh_schema.specs.Store.{IsWriting, tables}
-
--- At Ok the tables are in order and the books are what this makes of them, and the transaction goes on. Nothing is committed.
-pub record TurnsBooks (turned : Books → Books) (result : Result (Unit {0}) Error) (old new : State) : Type 0 where
-  pub put : HasCleanDisk new → OnOk result (IsWriting new × ((tables new).books ≡ turned (tables old).books))
-  pub kept : HasCleanDisk new → KeepsCommit old new
-  pub crash : CommitsNothing old new
 
 -- the books with this charge
 abbrev pub with_charge : Charge → Books → Books

@@ -2,6 +2,7 @@
 use Rattle.std.specs.Prelude.{◌≡◌, ◌⊎◌, false, IsTrue, pos, Some, None, ⊤, ℕ}
 use Rattle.sqlite.specs.State.{State}
 use Rattle.sqlite_trees.specs.Tree.{Trees}
+use Rattle.dh_types.specs.declared.version.Version.TheVariants.{Second}
 use Rattle.dh_types.specs.declared.reply.Refusal.{Refusal}
 use Rattle.dh_types.specs.declared.reply.Refusal.TheVariants as refusal
 use Rattle.dh_rows.specs.declared.limits.TheConstants.{VERSION}
@@ -9,6 +10,7 @@ use Rattle.dh_model.specs.Runs.{batch_size}
 use Rattle.dh_audit.specs.Audit.{IsLeastBroken}
 use Rattle.dh_tables.specs.MetaTable.{meta_rows}
 use Rattle.dh_schema.specs.Faults.{IsFirstFault}
+use Rattle.dh_schema.specs.Store.{tables}
 use Rattle.dh_schema.specs.Tables.{HasValues, books_in}
 use Rattle.dh_schema.specs.Version.{GivesAnother, only_version}
 use Rattle.dh_runs.specs.declared.problem.Problem.{Problem}
@@ -19,6 +21,10 @@ pub record IsResting (s : State) : Type 0 where
   pub is_open : IsTrue s.is_open
   pub autocommit : s.in_transaction ≡ false
   pub settled : s.now ≡ s.committed
+
+-- its tables are those of the second version
+abbrev pub AreSecond : State → Type 0
+AreSecond s = (tables s).books.version ≡ Second
 
 -- meta gives our version
 abbrev pub IsOurVersion : Trees → Type 0

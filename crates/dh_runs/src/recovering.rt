@@ -10,7 +10,7 @@ ghost use Rattle.dh_schema.specs.Faults.{IsFirstFault};
 ghost use Rattle.dh_schema.specs.Store.{IsReady, IsReadyWith, Leaves, tables};
 ghost use Rattle.dh_schema.specs.Tables.{IsSound};
 ghost use Rattle.dh_runs.specs.Problems.{IsNotTaken};
-ghost use Rattle.dh_runs.specs.Taking.{HasTablesOfAnother, IsFirstProblem, IsProblemOf, IsResting};
+ghost use Rattle.dh_runs.specs.Taking.{AreSecond, HasTablesOfAnother, IsFirstProblem, IsProblemOf, IsResting};
 ghost use Rattle.dh_runs.specs.Told.{IsMended, IsTorn};
 
 use crate::problem::Problem;
@@ -44,6 +44,7 @@ pub fn recover_in<S: Alter>(alloc: Global, conn: &mut Connection<S>) -> Result<(
     requires { HasCleanDisk (state S.Store conn.old) → IsResting (state S.Store conn.old) }
     ensures mended { HasCleanDisk (state S.Store conn.new)
         → OnOk result (IsReadyWith (state S.Store conn.new) (IsMended (tables (state S.Store conn.old)))) }
+    ensures second { HasCleanDisk (state S.Store conn.new) → OnOk result (AreSecond (state S.Store conn.new)) }
     ensures refused { HasCleanDisk (state S.Store conn.new) → IfErr result (IsProblemOf (state S.Store conn.old).now.trees) }
     ensures cause { IfErr result IsFirstProblem }
     ensures crash { HasCleanDisk (state S.Store conn.new) → IsSound (state S.Store conn.old).now.trees

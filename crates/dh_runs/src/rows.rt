@@ -9,7 +9,8 @@ ghost use Rattle.dh_days.specs.declared.limits.TheConstants.{LAST_ENTRY_MONTH};
 ghost use Rattle.dh_model.specs.Runs.{charge_key, part_key};
 ghost use Rattle.dh_leases.specs.Plans.{AreNew, FallsInTime, HasItsFeeRow, HasItsPart, some_row};
 ghost use Rattle.dh_schema.specs.Store.{IsWriting, tables};
-ghost use Rattle.dh_runs.specs.Putting.{TurnsBooks, with_charge, with_charges, with_fees, with_part, with_rows_of};
+ghost use Rattle.dh_store.specs.Putting.{TurnsBooks};
+ghost use Rattle.dh_runs.specs.Putting.{with_charge, with_charges, with_fees, with_part, with_rows_of};
 
 use dh_leases::BatchRows;
 use dh_tables::{insert, update};

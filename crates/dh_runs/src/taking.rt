@@ -15,7 +15,7 @@ ghost use Rattle.dh_schema.specs.Store.{HasItsSchema, IsReady};
 ghost use Rattle.dh_schema.specs.Tables.{IsSound};
 ghost use Rattle.dh_schema.specs.Version.{only_version};
 ghost use Rattle.dh_runs.specs.Problems.{IsFoundIn, IsNotTaken};
-ghost use Rattle.dh_runs.specs.Taking.{HasTablesOfAnother, IsFirstProblem, IsOurVersion, IsProblemOf, IsResting};
+ghost use Rattle.dh_runs.specs.Taking.{AreSecond, HasTablesOfAnother, IsFirstProblem, IsOurVersion, IsProblemOf, IsResting};
 
 use crate::problem::Problem;
 use dh_audit::audit;
@@ -97,6 +97,7 @@ fn check_rows<S: Alter>(
 pub fn check<S: Alter>(alloc: Global, conn: &mut Connection<S>) -> Result<(), Problem>
     requires { HasCleanDisk (state S.Store conn.old) → IsResting (state S.Store conn.old) }
     ensures ready { HasCleanDisk (state S.Store conn.new) → OnOk result (IsReady (state S.Store conn.new)) }
+    ensures second { HasCleanDisk (state S.Store conn.new) → OnOk result (AreSecond (state S.Store conn.new)) }
     ensures refused { HasCleanDisk (state S.Store conn.new) → IfErr result (IsProblemOf (state S.Store conn.old).now.trees) }
     ensures cause { IfErr result IsFirstProblem }
     ensures others { ¬ HasOurTables (state S.Store conn.old) → IsNotTaken result × (conn.new ≡ conn.old) }

@@ -1,7 +1,7 @@
 //! What questions are answered, as texts: the rows between ` / `.
 
 use crate::lists::{add_part, lines_of, or_none};
-use dh_types::{Answer, Arrears, Debt, Property, RunReport, Statement};
+use dh_types::{Answer, Arrears, Debt, OwnerStatement, Property, RunReport, Statement};
 use std::alloc::{AllocError, Global};
 
 /// The numbers of the properties, or `none`.
@@ -63,6 +63,23 @@ fn run_text(alloc: Global, found: &RunReport) -> Result<String, AllocError> {
     Ok(text)
 }
 
+// What was charged on the owner's properties, with what the branches take of it, both sums, and what is left.
+fn owner_text(alloc: Global, found: &OwnerStatement) -> Result<String, AllocError> {
+    let mut text = String::new(alloc);
+    for line in &found.lines {
+        let row = format!(in alloc;
+            "{} {} {} {}",
+            line.lease, line.property, line.amount, line.fee
+        )?;
+        add_part(&mut text, row.as_str())?;
+    }
+    let sums = format!(in alloc; "total {} {}", found.total, found.fees)?;
+    add_part(&mut text, sums.as_str())?;
+    let payable = format!(in alloc; "payable {}", found.payable)?;
+    add_part(&mut text, payable.as_str())?;
+    Ok(text)
+}
+
 /// The answer as a text: branches as their lines, properties as their numbers, a refusal as what it prints.
 pub fn answer_text(alloc: Global, answer: &Answer) -> Result<String, AllocError> {
     match answer {
@@ -72,6 +89,7 @@ pub fn answer_text(alloc: Global, answer: &Answer) -> Result<String, AllocError>
         Answer::Statement(found) => statement_text(alloc, found),
         Answer::Arrears(found) => arrears_text(alloc, found),
         Answer::Run(found) => run_text(alloc, found),
+        Answer::Owner(found) => owner_text(alloc, found),
         Answer::Refused(refusal) => refusal.to_string(alloc),
     }
 }

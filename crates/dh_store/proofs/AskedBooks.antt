@@ -1,5 +1,5 @@
 -- Books that are put together for a question, one look-up after the other.
-use Rattle.std.proofs.Common.{◌≡◌, ◌∙◌, refl, sym, ap, nat_eq, Bool, false, List, [], ◌∷◌, ◌++◌, None, inl, Ok, Err, IfOk, OnErr, OnOk, Result}
+use Rattle.std.proofs.Common.{◌≡◌, ◌∙◌, refl, sym, ap, nat_eq, Bool, false, List, [], ◌∷◌, ◌++◌, None, inl, Ok, Err, IfOk, OnOk, Result}
 use Rattle.std.proofs.Common.{arith}
 use Rattle.std.specs.List.{list_any}
 use Rattle.std.specs.FinMap.{FinMap, empty}

@@ -1,4 +1,5 @@
 pub mod LastRun
+pub mod Later
 pub mod MonthsStay
 pub mod Taken
 pub mod Shown

@@ -8,7 +8,7 @@ use Rattle.dh_types.specs.declared.reply.Refusal.TheVariants as refusal
 use Rattle.dh_types.specs.declared.run.Run.{Run}
 use Rattle.dh_types.specs.Reports.{NoReport}
 use Rattle.dh_model.specs.declared.open_run.OpenRun.{OpenRun}
-use Rattle.dh_model.specs.Answers.{arrears, report, run_report, statement, unless_open}
+use Rattle.dh_model.specs.Answers.{arrears, owner_report, report, run_report, statement, unless_open}
 use Rattle.dh_model.specs.Books as machine
 use Rattle.dh_model.specs.MachineLaws.{is_put_off}
 use Rattle.dh_model.specs.Runs.{batch_size}
@@ -22,6 +22,8 @@ put_off_by s at (asked.Vacant day) is off = cc
 put_off_by s at (asked.Matching it) is off = cc
 put_off_by s at (asked.Statement lease) is off = ap (λ (run : Option OpenRun). unless_open run (statement s.books (get s.books.leases lease))) is
 put_off_by s at (asked.Arrears branch) is off = ap (λ (run : Option OpenRun). unless_open run (arrears s.books branch)) is
+put_off_by s at (asked.Owner it) is off =
+    ap (λ (run : Option OpenRun). unless_open run (owner_report s.books it (get s.books.owners it.owner) (get s.books.runs it.month))) is
 put_off_by s at (asked.Run month) is off = ap (λ (run : Option OpenRun). unless_open run (run_report s.books (get s.books.runs month))) is
 
 module _ (s : State) where

@@ -1,5 +1,5 @@
 -- Rows that were put into their tables, as a change of the books.
-use Rattle.std.proofs.Common.{◌≡◌, ◌∙◌, ◌+◌, inl, inr, refl, sym, ap, subst, Some, Result, Ok, Err, OnErr, OnOk, arith}
+use Rattle.std.proofs.Common.{◌≡◌, ◌∙◌, ◌+◌, ℕ, List, Option, inl, inr, refl, sym, ap, subst, Some, Result, Ok, Err, OnErr, OnOk, arith}
 use Rattle.std.specs.Ordering.{nat_cmp}
 use Rattle.std.specs.FinMap.{FinMap, get, insert}
 use Rattle.sqlite.specs.declared.error.Error.{Error}
@@ -8,27 +8,32 @@ use Rattle.dh_types.specs.declared.command.Assignment.{Assignment}
 use Rattle.dh_types.specs.declared.command.RentChange.{RentChange}
 use Rattle.dh_types.specs.declared.command.ViewingComment.{ViewingComment}
 use Rattle.dh_types.specs.declared.run.Run.{Run}
+use Rattle.dh_types.specs.declared.fee.BranchFee.{BranchFee}
+use Rattle.dh_types.specs.declared.lease.Ending.{Ending}
+use Rattle.dh_types.specs.declared.version.Version.TheVariants.{Second}
 use Rattle.dh_model.specs.declared.rows.Change.{Change}
 use Rattle.dh_model.specs.declared.rows.Change.TheVariants as change
 use Rattle.dh_model.specs.Books.{Books}
 use Rattle.dh_model.specs.Books as machine
 use Rattle.dh_model.specs.Machine.{at_rent, changed, managed, with_comment}
 use Rattle.dh_laws.specs.Looks.{FitsIn}
-use Rattle.dh_catalog.specs.Versions.{IsOurs}
+use Rattle.dh_catalog.specs.Versions.{IsOurs, schema_of}
 use Rattle.dh_sql.specs.Changes.{Becomes}
 use Rattle.dh_sql.specs.Shape.{rows_in}
-use Rattle.dh_tables.specs.Calls.{Adds, Amends, CommitsNothing, StaysInTransaction, IsUndone}
+use Rattle.dh_tables.specs.Calls.{Adds, Amends, CommitsNothing, IsUndone, IsWritingSince, StaysInTransaction}
 use Rattle.dh_tables.specs.MetaTable.{SetsNext}
 use Rattle.dh_tables.specs.RunTable.{run_shape}
 use Rattle.dh_tables.proofs.AmendedRecord.{becomes_there}
 use Rattle.dh_model.specs.Kinds.{HasKind, Kind, key_of, order_of, record_of}
 use Rattle.dh_schema.specs.Kinds.{shape_of, shelf_of}
-use Rattle.dh_model.specs.Kinds.{Properties, Runs, Viewings}
+use Rattle.dh_model.specs.Kinds.{BranchFees, Endings, Properties, Runs, Viewings}
 use Rattle.dh_schema.specs.Store.{IsWriting, tables}
-use Rattle.dh_schema.specs.Tables.{AreInOrder, loaded_from, records_in, version_of_tables}
+use Rattle.dh_schema.specs.Tables.{loaded_from, records_in, version_of_tables}
 use Rattle.dh_schema.proofs.Changing.{books_after, books_with_next, in_order_after, in_order_with_next, schema_after, schema_with_next}
 use Rattle.dh_schema.proofs.Crashing.{survives_both}
-use Rattle.dh_store.specs.Putting.{PutsRows}
+use Rattle.dh_schema.proofs.EachKind.{all_since}
+use Rattle.dh_schema.proofs.Keyed.{keyed}
+use Rattle.dh_store.specs.Putting.{PutsRows, TurnsBooks}
 
 -- ---- what was committed
 
@@ -48,17 +53,20 @@ keeps_both a b c one two = record {
 
 -- ---- one table
 
-module _ (kind : Kind) (records : FinMap (order_of kind) (record_of kind)) (old new : State) (has : HasKind (version_of_tables old.now.trees) kind) where
+module _ (kind : Kind) (records : FinMap (order_of kind) (record_of kind)) (old new : State) where
+  abbrev pub Has : Type 0
+  Has = HasKind (version_of_tables old.now.trees) kind
+
   abbrev Turns : Type 0
   Turns = Becomes (shape_of kind) (order_of kind) old.now.schema records old new
 
-  -- the books with these records are those with the rows of the change
-  abbrev pub Means : Change → Type 0
-  Means rows = ((shelf_of kind).with (loaded_from old.now.trees) records).books ≡ changed rows (tables old).books
+  -- the books with these records are what this makes of them
+  abbrev pub Means : (Books → Books) → Type 0
+  Means turned = ((shelf_of kind).with (loaded_from old.now.trees) records).books ≡ turned (tables old).books
 
-  pub put_in : IsWriting old → StaysInTransaction old new → Turns → IsWriting new
+  pub put_in : HasKind (version_of_tables old.now.trees) kind → IsWriting old → StaysInTransaction old new → Turns → IsWriting new
       × ((tables new).books ≡ ((shelf_of kind).with (loaded_from old.now.trees) records).books)
-  put_in order on done = (
+  put_in has order on done = (
     record {
       is_open = on.is_open;
       inside = on.mode;
@@ -69,49 +77,51 @@ module _ (kind : Kind) (records : FinMap (order_of kind) (record_of kind)) (old 
     ap (λ (s : machine.State). s.books) (books_after kind records old new order.version has done),
   )
 
-  on_ok : {X E : Type 0} (rows : Change) (r : Result X E) → IsWriting old → Means rows → OnOk r (StaysInTransaction old new) → OnOk r Turns
-      → OnOk r (IsWriting new × ((tables new).books ≡ changed rows (tables old).books))
-  on_ok rows (Ok x) order means on done = let here = put_in order on done in (here.0, here.1 ∙ means)
-  on_ok rows (Err e) order means on done = tt
+  on_ok : {X E : Type 0} (turned : Books → Books) (r : Result X E) → Has → IsWriting old → Means turned
+      → OnOk r (StaysInTransaction old new) → OnOk r Turns
+      → OnOk r (IsWriting new × ((tables new).books ≡ turned (tables old).books))
+  on_ok turned (Ok x) has order means on done = let here = put_in has order on done in (here.0, here.1 ∙ means)
+  on_ok turned (Err e) has order means on done = tt
 
   -- a record was added
-  pub added : (rows : Change) (r : Result (Unit {0}) Error) → (HasCleanDisk old → IsWriting old) → Means rows
-      → (HasCleanDisk new → OnOk r (StaysInTransaction old new))
-      → (HasCleanDisk new → OnOk r Turns) → (HasCleanDisk new → OnErr r (IsUndone old new)) → CommitsNothing old new → PutsRows rows r old new
-  added rows r writing means on done undone crash = record {
-    put = λ clean. on_ok rows r (writing (omega (arith, crash.clean, clean))) means (on clean) (done clean);
+  pub added : (turned : Books → Books) (r : Result (Unit {0}) Error) → (HasCleanDisk old → Has) → (HasCleanDisk old → IsWriting old)
+      → (HasCleanDisk old → Means turned)
+      → (HasCleanDisk new → OnOk r (StaysInTransaction old new)) → (HasCleanDisk new → OnOk r Turns) → (HasCleanDisk new → OnErr r (IsUndone old new))
+      → CommitsNothing old new → TurnsBooks turned r old new
+  added turned r has writing means on done undone crash = record {
+    put = λ clean.
+        let early : HasCleanDisk old = omega (arith, crash.clean, clean) in
+        on_ok turned r (has early) (writing early) (means early) (on clean) (done clean);
     kept = λ clean. keeps_commit r old new (on clean) (undone clean);
     crash = crash;
   }
 
-module _ (kind : Kind) (key : key_of kind) (turned : record_of kind → record_of kind) (old new : State)
-    (has : HasKind (version_of_tables old.now.trees) kind) where
-  abbrev Record : Type 0
-  Record = record_of kind
-
+module _ (kind : Kind) (key : key_of kind) (into : record_of kind → record_of kind) (old new : State) where
   abbrev held : FinMap (order_of kind) (record_of kind)
   held = rows_in (shape_of kind) old.now.trees
 
-  -- the record is there, and what it becomes is what the change makes of it
-  abbrev pub IsThere : Change → Type 0
-  IsThere rows = (there : Record) × (get held key ≡ Some there) × Means kind (insert held key (turned there)) old new has rows
+  -- the record is there, and with what it becomes the books are what this makes of them
+  abbrev pub IsThere : (Books → Books) → Type 0
+  IsThere turned = (there : record_of kind) × (get held key ≡ Some there) × Means kind (insert held key (into there)) old new turned
 
-  on_ok_there : {X E : Type 0} (rows : Change) (r : Result X E) → IsWriting old → IsThere rows → OnOk r (StaysInTransaction old new)
-      → OnOk r (Amends (shape_of kind) (order_of kind) key turned old new)
-      → OnOk r (IsWriting new × ((tables new).books ≡ changed rows (tables old).books))
-  on_ok_there rows (Ok x) order it on done =
-      let becomes = becomes_there (shape_of kind) (order_of kind) key turned old new in
-      let here = put_in kind (insert held key (turned it.0)) old new has order on (becomes done it.0 it.1) in (here.0, here.1 ∙ it.2)
-  on_ok_there rows (Err e) order it on done = tt
+  on_ok_there : {X E : Type 0} (turned : Books → Books) (r : Result X E) → HasKind (version_of_tables old.now.trees) kind → IsWriting old → IsThere turned
+      → OnOk r (StaysInTransaction old new)
+      → OnOk r (Amends (shape_of kind) (order_of kind) key into old new)
+      → OnOk r (IsWriting new × ((tables new).books ≡ turned (tables old).books))
+  on_ok_there turned (Ok x) has order it on done =
+      let becomes = becomes_there (shape_of kind) (order_of kind) key into old new in
+      let here = put_in kind (insert held key (into it.0)) old new has order on (becomes done it.0 it.1) in (here.0, here.1 ∙ it.2)
+  on_ok_there turned (Err e) has order it on done = tt
 
   -- a record was changed
-  pub amended : (rows : Change) (r : Result (Unit {0}) Error) → (HasCleanDisk old → IsWriting old) → (HasCleanDisk old → IsThere rows)
-      → (HasCleanDisk new → OnOk r (StaysInTransaction old new)) → (HasCleanDisk new → OnOk r (Amends (shape_of kind) (order_of kind) key turned old new))
-      → (HasCleanDisk new → OnErr r (IsUndone old new)) → CommitsNothing old new → PutsRows rows r old new
-  amended rows r writing is_there on done undone crash = record {
+  pub amended : (turned : Books → Books) (r : Result (Unit {0}) Error) → (HasCleanDisk old → HasKind (version_of_tables old.now.trees) kind)
+      → (HasCleanDisk old → IsWriting old) → (HasCleanDisk old → IsThere turned)
+      → (HasCleanDisk new → OnOk r (StaysInTransaction old new)) → (HasCleanDisk new → OnOk r (Amends (shape_of kind) (order_of kind) key into old new))
+      → (HasCleanDisk new → OnErr r (IsUndone old new)) → CommitsNothing old new → TurnsBooks turned r old new
+  amended turned r has writing is_there on done undone crash = record {
     put = λ clean.
         let early : HasCleanDisk old = omega (arith, crash.clean, clean) in
-        on_ok_there rows r (writing early) (is_there early) (on clean) (done clean);
+        on_ok_there turned r (has early) (writing early) (is_there early) (on clean) (done clean);
     kept = λ clean. keeps_commit r old new (on clean) (undone clean);
     crash = crash;
   }
@@ -120,24 +130,96 @@ module _ (kind : Kind) (key : key_of kind) (turned : record_of kind → record_o
 
 module _ (rows : Change) (old new : State) (fits : FitsIn rows (tables old).books) where
   pub managed_there : (it : Assignment) → rows ≡ change.Assign it
-      → IsThere Properties it.property (λ p. record p { staff = it.staff }) old new tt rows
+      → IsThere Properties it.property (λ p. record p { staff = it.staff }) old new (changed rows)
   managed_there it is =
       let books = (tables old).books in
       let found = subst (λ (said : Change). FitsIn said books) is fits in
       (found.0, found.1, sym (ap (managed books it) found.1) ∙ ap (λ (said : Change). changed said books) (sym is))
 
-  pub at_rent_there : (it : RentChange) → rows ≡ change.Rent it → IsThere Properties it.property (λ p. record p { rent = it.rent }) old new tt rows
+  pub at_rent_there : (it : RentChange) → rows ≡ change.Rent it → IsThere Properties it.property (λ p. record p { rent = it.rent }) old new (changed rows)
   at_rent_there it is =
       let books = (tables old).books in
       let found = subst (λ (said : Change). FitsIn said books) is fits in
       (found.0, found.1, sym (ap (at_rent books it) found.1) ∙ ap (λ (said : Change). changed said books) (sym is))
 
   pub comment_there : (it : ViewingComment) → rows ≡ change.Comment it
-      → IsThere Viewings (it.client, it.property) (λ v. record v { comment = Some it.comment }) old new tt rows
+      → IsThere Viewings (it.client, it.property) (λ v. record v { comment = Some it.comment }) old new (changed rows)
   comment_there it is =
       let books = (tables old).books in
       let found = subst (λ (said : Change). FitsIn said books) is fits in
       (found.0, found.1, sym (ap (with_comment books it) found.1) ∙ ap (λ (said : Change). changed said books) (sym is))
+
+-- ---- rows that came with the second version
+
+-- what writes tables of the second version writes those that came with it
+pub later_writing : (s : State) → IsWriting s → version_of_tables s.now.trees ≡ Second → IsWritingSince Second s
+later_writing s writing second = record { inside = writing.inside; has = writing.version ∙ ap schema_of second }
+
+module _ (old : State) (second : version_of_tables old.now.trees ≡ Second) where
+  abbrev the_fees : FinMap (order_of BranchFees) BranchFee
+  the_fees = rows_in (shape_of BranchFees) old.now.trees
+
+  abbrev the_endings : FinMap (order_of Endings) Ending
+  the_endings = rows_in (shape_of Endings) old.now.trees
+
+  all_fees : (tables old).books.branch_fees ≡ the_fees
+  all_fees = all_since Second (version_of_tables old.now.trees) the_fees second
+
+  all_endings : (tables old).books.endings ≡ the_endings
+  all_endings = all_since Second (version_of_tables old.now.trees) the_endings second
+
+  -- a record is in the table where the books have it
+  pub fee_found : (key : List ℕ) (it : Option BranchFee) → get (tables old).books.branch_fees key ≡ it → get the_fees key ≡ it
+  fee_found key it found = ap (λ (m : FinMap _ BranchFee). get m key) (sym all_fees) ∙ found
+
+  pub ending_found : (key : ℕ) (it : Option Ending) → get (tables old).books.endings key ≡ it → get the_endings key ≡ it
+  ending_found key it found = ap (λ (m : FinMap _ Ending). get m key) (sym all_endings) ∙ found
+
+  abbrev with_fee : BranchFee → Books
+  with_fee it = let books : Books = record (tables old).books { branch_fees = insert (tables old).books.branch_fees it.branch it } in books
+
+  abbrev with_ending : Ending → Books
+  with_ending it = let books : Books = record (tables old).books { endings = insert (tables old).books.endings it.lease it } in books
+
+  module _ (rows : Change) (new : State) where
+    fee_means : (it : BranchFee) → changed rows (tables old).books ≡ with_fee it → Means BranchFees (insert the_fees it.branch it) old new (changed rows)
+    fee_means it is = (λ i. let after : Books = record (tables old).books { branch_fees = insert (sym all_fees i) it.branch it } in after) ∙ sym is
+
+    ending_means : (it : Ending) → changed rows (tables old).books ≡ with_ending it → Means Endings (insert the_endings it.lease it) old new (changed rows)
+    ending_means it is = (λ i. let after : Books = record (tables old).books { endings = insert (sym all_endings i) it.lease it } in after) ∙ sym is
+
+    pub fee_added : (it : BranchFee) → rows ≡ change.NewFee it → Means BranchFees (insert the_fees it.branch it) old new (changed rows)
+    fee_added it is = fee_means it (ap (λ (said : Change). changed said (tables old).books) is)
+
+    pub ending_added : (it : Ending) → rows ≡ change.NewEnding it → Means Endings (insert the_endings it.lease it) old new (changed rows)
+    ending_added it is = ending_means it (ap (λ (said : Change). changed said (tables old).books) is)
+
+    -- and what is there becomes the record of the change
+    pub fee_there : FitsIn rows (tables old).books → (it : BranchFee) → rows ≡ change.Fee it
+        → IsThere BranchFees it.branch (λ there. record there { fee = it.fee }) old new (changed rows)
+    fee_there fits it is =
+        let found = subst (λ (said : Change). FitsIn said (tables old).books) is fits in
+        let there = fee_found it.branch (Some found.0) found.1 in
+        let same = keyed BranchFees old.now.trees it.branch found.0 found.1 in
+        let own : (let row : BranchFee = record found.0 { fee = it.fee } in row) ≡ it = λ i. record { branch = same i; fee = it.fee } in (
+          found.0,
+          there,
+          ap (λ (row : BranchFee). ((shelf_of BranchFees).with (loaded_from old.now.trees) (insert the_fees it.branch row)).books) own
+              ∙ fee_means it (ap (λ (said : Change). changed said (tables old).books) is),
+        )
+
+    pub ending_there : FitsIn rows (tables old).books → (it : Ending) → rows ≡ change.Ending it
+        → IsThere Endings it.lease (λ there. record there { months = it.months }) old new (changed rows)
+    ending_there fits it is =
+        let found = subst (λ (said : Change). FitsIn said (tables old).books) is fits in
+        let there = ending_found it.lease (Some found.0) found.1 in
+        let same = keyed Endings old.now.trees it.lease found.0 found.1 in
+        let own : (let row : Ending = record found.0 { months = it.months } in row) ≡ it = λ i. record { lease = same i; months = it.months } in (
+          found.0,
+          there,
+          ap (λ (row : Ending). ((shelf_of Endings).with (loaded_from old.now.trees) (insert the_endings it.lease row)).books) own
+              ∙ ending_means it (ap (λ (said : Change). changed said (tables old).books) is),
+        )
 
 -- ---- an opening
 

@@ -1,6 +1,6 @@
 //! The answer to a question, from the rows that it is about.
 
-ghost use Rattle.std.specs.Prelude.{◌≡◌, ◌≤◌, ◌++◌, List, ◌∷◌, [], map, true, IsTrue, None, IfOk, IfErr, OnOk, OnErr};
+ghost use Rattle.std.specs.Prelude.{◌≡◌, ◌≤◌, ◌++◌, List, ◌∷◌, [], map, nat_eq, true, IsTrue, None, IfOk, IfErr, OnOk, OnErr};
 ghost use Rattle.std.specs.List.{filter, list_any};
 ghost use Rattle.std.specs.FinMap as fin;
 ghost use Rattle.sqlite_trees.specs.View.{doubt};
@@ -15,23 +15,23 @@ ghost use Rattle.dh_model.specs.Books.{Books as books_model, start};
 ghost use Rattle.dh_model.specs.Checks.{is_same_text};
 ghost use Rattle.dh_model.specs.MachineLaws.{is_put_off};
 ghost use Rattle.dh_model.specs.Whole.{rows_where};
-ghost use Rattle.dh_laws.specs.AskedAbout.{account_of, asked_about, leases_at, let_or_vacant, with_accounts};
+ghost use Rattle.dh_laws.specs.AskedAbout.{account_of, asked_about, charged_by, leases_at, let_or_vacant, with_accounts};
 ghost use Rattle.dh_schema.specs.Faults.{IsFirstFault};
 ghost use Rattle.dh_schema.specs.Store.{IsReady, Leaves, StaysReady, tables};
 ghost use Rattle.dh_store.specs.Reading.{OnlyReads};
 
 use crate::looks::{
-    find_open_run, held_leases, look, look_at_all, look_at_later, months_now, no_rows,
+    find_open_run, held_leases, look, look_at_all, look_at_later, look_later, months_now, no_rows,
 };
 use dh_answers::{answer, is_put_off};
 use dh_books::Books;
 use dh_schema::StoreFault;
 use dh_tables::{
-    BranchNumbered, ChargesOfLease, ClientNumbered, LeaseNumbered, LeasesOfProperty, PartsOfMonth,
-    ReceiptsOfLease, RunOf,
+    BranchNumbered, ChargesOfLease, ClientNumbered, FeesOfMonth, LeaseNumbered, LeasesOfProperty,
+    OwnerNumbered, PartsOfMonth, ReceiptsOfLease, RunOf,
 };
 use dh_types::{
-    Answer, Branch, Ending, EntryMonth, Id, Lease, LeaseNo, Property, Question, Refusal,
+    Answer, Branch, Ending, EntryMonth, Id, Lease, LeaseNo, OwnerMonth, Property, Question, Refusal,
 };
 use sqlite::{Alter, Connection};
 use std::alloc::{AllocError, Global};
@@ -235,6 +235,110 @@ fn gather_arrears<S: Alter>(
     Ok(())
 }
 
+// The numbers of the owner's properties that the books have.
+fn numbers_of(alloc: Global, books: &Books, owner: Id) -> Result<Vec<Id>, StoreFault>
+    ensures numbers { IfOk result (λ numbers. numbers.items
+        ≡ map (λ property. property.number) (filter (λ property. is_same_text property.owner owner) (fin.values books.now.books.properties))) }
+    ensures cause { IfErr result IsFirstFault }
+{
+    let numbers = books
+        .properties()
+        .filter(|property| property.owner == owner)
+        .map(|property| property.number)
+        .collect(alloc);
+    match numbers {
+        Ok(numbers) => Ok(numbers),
+        Err(error) => Err(error.into()),
+    }
+}
+
+// The owner, all properties, and the leases of the owner's.
+fn gather_owned<S: Alter>(
+    alloc: Global,
+    conn: &mut Connection<S>,
+    owner: Id,
+    books: &mut Books,
+) -> Result<(), StoreFault>
+    requires ready { HasCleanDisk (state S.Store conn.old) → IsReady (state S.Store conn.old) }
+    requires none { books.old ≡ start FIRST_MONTH }
+    ensures taken { HasCleanDisk (state S.Store conn.new)
+        → OnOk result (books.new ≡ record {
+          books = record (charged_by (tables (state S.Store conn.old)).books owner) { charges = fin.empty };
+          open_run = None;
+        }) }
+    ensures reads { OnlyReads (state S.Store conn.old) (state S.Store conn.new) result }
+{
+    look(alloc, conn, &OwnerNumbered { number: owner }, books)?;
+    look_at_all::<Property, S>(alloc, conn, books)?;
+    let numbers = numbers_of(alloc, books, owner)?;
+    gather_leases(alloc, conn, &numbers, books)?;
+    Ok(())
+}
+
+// What was charged on each of these leases.
+fn gather_charges<S: Alter>(
+    alloc: Global,
+    conn: &mut Connection<S>,
+    leases: &[Lease],
+    books: &mut Books,
+) -> Result<(), StoreFault>
+    requires ready { HasCleanDisk (state S.Store conn.old) → IsReady (state S.Store conn.old) }
+    requires none { HasCleanDisk (state S.Store conn.old) → books.old.books.charges ≡ fin.empty }
+    ensures taken { HasCleanDisk (state S.Store conn.new)
+        → OnOk result (books.new ≡ record books.old {
+          books = record books.old.books {
+            charges = rows_where (λ charge. list_any (λ lease. nat_eq charge.lease lease.terms.number) leases.now)
+                (tables (state S.Store conn.old)).books.charges;
+          };
+        }) }
+    ensures reads { OnlyReads (state S.Store conn.old) (state S.Store conn.new) result }
+{
+    for lease in leases {
+        let number = lease.terms.number;
+        look(alloc, conn, &ChargesOfLease { lease: number }, books)?;
+    }
+    Ok(())
+}
+
+// The owner, all properties, the leases of the owner's, and what was charged on these.
+fn gather_charged<S: Alter>(
+    alloc: Global,
+    conn: &mut Connection<S>,
+    owner: Id,
+    books: &mut Books,
+) -> Result<(), StoreFault>
+    requires ready { HasCleanDisk (state S.Store conn.old) → IsReady (state S.Store conn.old) }
+    requires none { books.old ≡ start FIRST_MONTH }
+    ensures taken { HasCleanDisk (state S.Store conn.new)
+        → OnOk result (books.new ≡ record { books = charged_by (tables (state S.Store conn.old)).books owner; open_run = None }) }
+    ensures reads { OnlyReads (state S.Store conn.old) (state S.Store conn.new) result }
+{
+    gather_owned(alloc, conn, owner, books)?;
+    let leases = held_leases(alloc, books)?;
+    gather_charges(alloc, conn, &leases, books)?;
+    Ok(())
+}
+
+// These, the run of the month, and its fees.
+fn gather_owner<S: Alter>(
+    alloc: Global,
+    conn: &mut Connection<S>,
+    it: OwnerMonth,
+    books: &mut Books,
+) -> Result<(), StoreFault>
+    requires ready { HasCleanDisk (state S.Store conn.old) → IsReady (state S.Store conn.old) }
+    requires none { books.old ≡ start FIRST_MONTH }
+    ensures taken { HasCleanDisk (state S.Store conn.new)
+        → OnOk result (books.new ≡ record { books = asked_about (tables (state S.Store conn.old)).books (asked.Owner it); open_run = None }) }
+    ensures reads { OnlyReads (state S.Store conn.old) (state S.Store conn.new) result }
+{
+    let month = it.month;
+    gather_charged(alloc, conn, it.owner, books)?;
+    look(alloc, conn, &RunOf { month }, books)?;
+    look_later(alloc, conn, &FeesOfMonth { month }, books)?;
+    Ok(())
+}
+
 // The rows that the question is about.
 fn gather<S: Alter>(
     alloc: Global,
@@ -255,6 +359,7 @@ fn gather<S: Alter>(
         Question::Statement(lease) => gather_account(alloc, conn, lease, books),
         Question::Arrears(branch) => gather_arrears(alloc, conn, branch, books),
         Question::Run(month) => gather_run(alloc, conn, month, books),
+        Question::Owner(it) => gather_owner(alloc, conn, it, books),
     }
 }
 
@@ -321,8 +426,8 @@ fn answer_question<S: Alter>(
     }
 }
 
-/// The answer to the question; it changes nothing, at a fault too. While a run is open, `statement`, `arrears` and `run` are
-/// refused 10 with its month. A fault comes where memory runs out or the store fails.
+/// The answer to the question; it changes nothing, at a fault too. While a run is open, `statement`, `arrears`, `run` and `owner`
+/// are refused 10 with its month. A fault comes where memory runs out or the store fails.
 pub fn look_up<S: Alter>(
     alloc: Global,
     conn: &mut Connection<S>,

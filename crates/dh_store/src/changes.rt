@@ -11,7 +11,7 @@ ghost use Rattle.dh_laws.specs.Looks.{FitsIn};
 ghost use Rattle.dh_laws.specs.StateTables.{IsStateInOrder};
 ghost use Rattle.dh_schema.specs.Faults.{IsFirstFault};
 ghost use Rattle.dh_schema.specs.Store.{IsReady, IsWriting, LeavesItsTables, Leaves, Commits, StaysReady, tables, with_change};
-ghost use Rattle.dh_store.specs.Putting.{PutsRows};
+ghost use Rattle.dh_store.specs.Putting.{HasPlace, PutsRows};
 
 use dh_model::Change;
 use dh_schema::StoreFault;
@@ -47,11 +47,14 @@ fn put_rows<S: Alter>(
 ) -> Result<(), Error>
     requires writing { HasCleanDisk (state S.Store tx.old.conn.now) → IsWriting (state S.Store tx.old.conn.now) }
     requires fits { HasCleanDisk (state S.Store tx.old.conn.now) → FitsIn change.now (tables (state S.Store tx.old.conn.now)).books }
+    requires place { HasCleanDisk (state S.Store tx.old.conn.now) → HasPlace (tables (state S.Store tx.old.conn.now)).books.version change.now }
     ensures same_reference { tx.new.conn.ghost_name ≡ tx.old.conn.ghost_name }
     ensures puts { PutsRows change.now result (state S.Store tx.old.conn.now) (state S.Store tx.new.conn.now) }
 {
     match change {
         Change::Branch(it) => insert(alloc, tx, it),
+        Change::NewFee(it) => insert(alloc, tx, it),
+        Change::Fee(it) => update(alloc, tx, it),
         Change::Staff(it) => insert(alloc, tx, it),
         Change::Owner(it) => insert(alloc, tx, it),
         Change::Property(it) => insert(alloc, tx, it),
@@ -63,6 +66,8 @@ fn put_rows<S: Alter>(
         Change::Comment(it) => update(alloc, tx, it),
         Change::Inspection(it) => insert(alloc, tx, it),
         Change::Lease(it) => insert(alloc, tx, it),
+        Change::NewEnding(it) => insert(alloc, tx, it),
+        Change::Ending(it) => update(alloc, tx, it),
         Change::Receipt(it) => insert(alloc, tx, it),
         Change::Open(it) => put_run(alloc, tx, it),
         Change::Post => Ok(()),
@@ -79,6 +84,7 @@ fn commit_change<S: Alter>(
     requires ready { HasCleanDisk (state S.Store conn.old) → IsReady (state S.Store conn.old) }
     requires order { HasCleanDisk (state S.Store conn.old) → IsStateInOrder (with_change change.now (tables (state S.Store conn.old))) }
     requires fits { HasCleanDisk (state S.Store conn.old) → FitsIn change.now (tables (state S.Store conn.old)).books }
+    requires place { HasCleanDisk (state S.Store conn.old) → HasPlace (tables (state S.Store conn.old)).books.version change.now }
     ensures done { HasCleanDisk (state S.Store conn.new)
         → OnOk result (IsReady (state S.Store conn.new) × (tables (state S.Store conn.new) ≡ with_change change.now (tables (state S.Store conn.old)))) }
     ensures undone { HasCleanDisk (state S.Store conn.new) → IsTrue (state S.Store conn.new).is_open
@@ -101,6 +107,7 @@ pub fn apply<S: Alter>(
     requires ready { HasCleanDisk (state S.Store conn.old) → IsReady (state S.Store conn.old) }
     requires order { HasCleanDisk (state S.Store conn.old) → IsStateInOrder (with_change change.now (tables (state S.Store conn.old))) }
     requires fits { HasCleanDisk (state S.Store conn.old) → FitsIn change.now (tables (state S.Store conn.old)).books }
+    requires place { HasCleanDisk (state S.Store conn.old) → HasPlace (tables (state S.Store conn.old)).books.version change.now }
     ensures done { HasCleanDisk (state S.Store conn.new)
         → OnOk result (IsReady (state S.Store conn.new) × (tables (state S.Store conn.new) ≡ with_change change.now (tables (state S.Store conn.old)))) }
     ensures left { HasCleanDisk (state S.Store conn.new) → OnOk result (LeavesItsTables (state S.Store conn.new)) }

@@ -1,6 +1,7 @@
 //! Calls of the layers below an agency, and lines told to one, over tables that were just opened. The power is cut before each.
 
-use dh_agency_scripts::{Lived, all_rows, compare, compare_tables, line_over, parted, table_of};
+use crate::either::line_over;
+use dh_agency_scripts::{Lived, all_rows, compare, compare_tables, parted, table_of};
 use dh_histories::crashing::next_life;
 use dh_scripts::{Block, Tally, script};
 use sqlite::{Alter, Connection};

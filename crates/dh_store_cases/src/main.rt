@@ -9,6 +9,7 @@ mod cases;
 mod drawing;
 mod drawn;
 mod edited_tables;
+mod either;
 mod escapes;
 mod exchanges;
 mod failing_ends;

@@ -23,4 +23,5 @@ pub mod Amendments
 pub mod PropertyChanges
 pub mod ViewingChanges
 pub mod RunChanges
+pub mod FeeChanges
 pub mod Listing

@@ -25,7 +25,8 @@ use Rattle.dh_sql.specs.Shape.{Shape}
 use Rattle.dh_sql.specs.Texts.{IsInsertText, IsSelectText}
 use Rattle.dh_sql.proofs.Casting.{cast_null, pass_each, row_stays}
 use Rattle.dh_tables.specs.declared.part_fee.FeeOfPart.{FeeOfPart}
-use Rattle.dh_tables.specs.Cells.{is_number, is_text as text_is, number_from, pass_both, same_number, same_text, text_that}
+use Rattle.dh_tables.specs.declared.part_fee.FeesOfMonth.{FeesOfMonth}
+use Rattle.dh_tables.specs.Cells.{is_number, is_text as text_is, number_from, pass_both, pass_one, same_number, same_text, text_that}
 use Rattle.dh_tables.specs.Listing.{IsListing, Listing}
 use Rattle.dh_tables.specs.Questions.{Asking, IsAsking}
 use Rattle.dh_tables.specs.Tables.{Adding, IsAdding, Shelf, without_rowid}
@@ -129,4 +130,27 @@ fee_of_part_is = record {
       let cells = (pass_each part_fee_cells true (part_fee_columns r) good).1 in
       pass_both (same_number (column r 1) q.month (is_number FIRST_MONTH LAST_ENTRY_MONTH (column r 1) cells.0))
       (same_text (column r 2) q.branch (text_is is_id (column r 2) cells.1.0));
+}
+
+abbrev pub fees_of_month : Asking
+fees_of_month = record {
+  text = codes "SELECT month, branch_no, fee, fee_total FROM part_fee WHERE month = ?1";
+  tests = op2 (Compare Eq Binary) (col 1 1) (col 0 0) ∷ [];
+  project = part_fee_project;
+  names = part_fee_names;
+}
+
+fees_of_month_selects : (s : Schema) → HasSince Second s → IsSelectText fees_of_month.text s 34 fees_of_month.tests part_fee_project [] part_fee_names
+unfolding understood everything
+fees_of_month_selects = of_second (λ s. IsSelectText fees_of_month.text s 34 fees_of_month.tests part_fee_project [] part_fee_names)
+    (record { command = refl; unlisted = refl; plain = (refl, refl); stored = λ db. refl })
+
+pub fees_of_month_is : IsAsking Second part_fee_shape fees_of_month
+    (λ (q : FeesOfMonth). Unit {0}) (λ q. Int (pos q.month) ∷ []) (λ q it. nat_eq it.month q.month)
+fees_of_month_is = record {
+  selects = fees_of_month_selects;
+  shows_columns = λ q r. refl;
+  passes = λ q r known good.
+      let cells = (pass_each part_fee_cells true (part_fee_columns r) good).1 in
+      pass_one (same_number (column r 1) q.month (is_number FIRST_MONTH LAST_ENTRY_MONTH (column r 1) cells.0));
 }

@@ -108,3 +108,41 @@ impl Look for FeeOfPart {
 
     ghost is_asking = { fee_of_part_is };
 }
+
+/// The fees of the parts of the run of this month.
+#[derive(Drop)]
+pub struct FeesOfMonth {
+    pub month: EntryMonth,
+}
+
+impl Look for FeesOfMonth {
+    ghost use Rattle.std.specs.Prelude.{◌∷◌, [], nat_eq, pos};
+    ghost use Rattle.sqlite_value.specs.declared.value.Value.TheVariants.{Int};
+    ghost use Rattle.dh_tables.specs.PartFeeTable.{fees_of_month, fees_of_month_is};
+
+    type Record = PartFee;
+
+    ghost asks = { λ q it. nat_eq it.month q.month };
+
+    ghost asking = { fees_of_month };
+
+    ghost given = { λ q. Int (pos q.month) ∷ [] };
+
+    fn text() -> &'static str {
+        "SELECT month, branch_no, fee, fee_total FROM part_fee WHERE month = ?1"
+    }
+
+    fn day_bytes(&self, alloc: Global) -> Result<Vec<u8>, AllocError> {
+        Ok(Vec::new(alloc))
+    }
+
+    fn params<'a>(
+        &'a self,
+        alloc: Global,
+        _day: &'a [u8],
+    ) -> Result<Vec<ValueRef<'a>>, AllocError> {
+        [ValueRef::Int(i64::from(self.month.number()))].to_vec(alloc)
+    }
+
+    ghost is_asking = { fees_of_month_is };
+}

@@ -34,6 +34,7 @@ refusal_number (refusal.BadLine field) = 15
 refusal_number (refusal.Version found) = 16
 refusal_number (refusal.Damaged rule) = 17
 refusal_number refusal.Full = 18
+refusal_number (refusal.NotShorter length) = 19
 
 -- a refusal by its number, and the value that it carries
 abbrev pub refusal_text : Refusal → List ℕ
@@ -55,6 +56,7 @@ refusal_text (refusal.BadLine field) = codes "bad field " ++ decimal field
 refusal_text (refusal.Version found) = codes "refused 16 " ++ signed_decimal found
 refusal_text (refusal.Damaged rule) = codes "refused 17 " ++ decimal rule
 refusal_text refusal.Full = codes "refused 18"
+refusal_text (refusal.NotShorter length) = codes "refused 19 " ++ decimal length
 
 -- the month of a run, its count and its total
 abbrev pub sum_text : RunSum → List ℕ

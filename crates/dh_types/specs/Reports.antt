@@ -9,8 +9,9 @@ use Rattle.dh_types.specs.declared.run.Part.{Part}
 use Rattle.dh_types.specs.declared.run.RunSum.{RunSum}
 use Rattle.dh_types.specs.declared.reply.Refusal.{Refusal}
 use Rattle.dh_types.specs.declared.answer.Debt.{Debt}
+use Rattle.dh_types.specs.declared.answer.OwnerLine.{OwnerLine}
 use Rattle.dh_types.specs.declared.answer.Answer.{Answer}
-use Rattle.dh_types.specs.declared.answer.Answer.TheVariants.{Branches, Vacant, Matching, Statement, Arrears, Run, Refused}
+use Rattle.dh_types.specs.declared.answer.Answer.TheVariants.{Branches, Vacant, Matching, Statement, Arrears, Run, Owner, Refused}
 
 pub data Report : Type 0 where
   -- the branches, rising by number
@@ -25,6 +26,8 @@ pub data Report : Type 0 where
   BranchArrears : List Debt → ℤ → Report
   -- the parts of a closed run, rising by branch, and what it comes to
   RunParts : List Part → RunSum → Report
+  -- what a month charged on an owner's properties, rising by lease, the sum of it, the sum of the fees, and what is left
+  OwnerCharges : List OwnerLine → ℤ → ℤ → ℤ → Report
   NoReport : Refusal → Report
 
 abbrev pub report_of : Answer → Report
@@ -34,6 +37,7 @@ report_of (Matching properties) = MatchingList properties.items
 report_of (Statement it) = LeaseStatement it.lease it.charges.items it.receipts.items it.balance
 report_of (Arrears it) = BranchArrears it.debts.items it.total
 report_of (Run it) = RunParts it.parts.items it.sum
+report_of (Owner it) = OwnerCharges it.lines.items it.total it.fees it.payable
 report_of (Refused refusal) = NoReport refusal
 
 -- the question was refused

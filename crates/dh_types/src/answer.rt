@@ -4,7 +4,8 @@ ghost use Rattle.std.specs.Prelude.{◌≡◌};
 ghost use Rattle.dh_types.specs.Reports.{is_no_report, report_of};
 
 use crate::{
-    Balance, Branch, Charge, Id, Lease, LeaseNo, Part, Property, Receipt, Refusal, RunSum, Text60,
+    Balance, Branch, Charge, Id, Lease, LeaseNo, Part, Pence, Property, Receipt, Refusal, Rent,
+    RunSum, Text60,
 };
 
 /// The answer to a question.
@@ -19,6 +20,7 @@ pub enum Answer {
     Statement(Statement),
     Arrears(Arrears),
     Run(RunReport),
+    Owner(OwnerStatement),
     /// The question can't be answered.
     Refused(Refusal),
 }
@@ -63,4 +65,25 @@ pub struct Debt {
 pub struct RunReport {
     pub parts: Vec<Part>,
     pub sum: RunSum,
+}
+
+/// What a month charged on an owner's properties, rising by lease, and what that comes to.
+#[derive(Drop)]
+pub struct OwnerStatement {
+    pub lines: Vec<OwnerLine>,
+    /// The sum of what was charged.
+    pub total: Balance,
+    /// The sum of what the branches take of it.
+    pub fees: Balance,
+    /// What is left for the owner.
+    pub payable: Balance,
+}
+
+/// What was charged on a lease of an owner's property, and what its branch takes of it.
+#[derive(Clone, Copy, PartialEq, Eq)]
+pub struct OwnerLine {
+    pub lease: LeaseNo,
+    pub property: Id,
+    pub amount: Rent,
+    pub fee: Pence,
 }

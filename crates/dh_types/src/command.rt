@@ -1,8 +1,8 @@
 //! What an agency is told.
 
 use crate::{
-    BatchCount, Branch, Client, Comment, EntryMonth, Id, Inspection, Key, LeaseTerms, Owner,
-    Payment, Property, Registration, Rent, Staff, Viewing,
+    BatchCount, Branch, BranchFee, Client, Comment, Ending, EntryMonth, Id, Inspection, Key,
+    LeaseTerms, Owner, Payment, Property, Registration, Rent, Staff, Viewing,
 };
 
 /// A change that is asked for. It holds nothing that a line can't hold.
@@ -10,6 +10,8 @@ use crate::{
 pub enum Command {
     /// Opens a branch office.
     Branch(Branch),
+    /// A branch takes this fee of the rents of the months that are run from now on.
+    Fee(BranchFee),
     Staff(Staff),
     Owner(Owner),
     Property(Property),
@@ -21,6 +23,8 @@ pub enum Command {
     Comment(ViewingComment),
     Inspection(Inspection),
     Lease(LeaseTerms),
+    /// Ends a lease early.
+    End(Ending),
     Receipt(ReceiptOrder),
     /// Carries out the rent run of a month.
     Run(RunOrder),

@@ -2,6 +2,9 @@
 
 ghost use Rattle.std.specs.Prelude.{◌≡◌};
 
+/// A branch's fee: the branch.
+pub const FEE_BRANCH: u8 = 2;
+
 /// A new member of staff: the branch.
 pub const STAFF_BRANCH: u8 = 5;
 
@@ -47,6 +50,9 @@ pub const LEASE_CLIENT: u8 = 3;
 /// A new lease: the property.
 pub const LEASE_PROPERTY: u8 = 4;
 
+/// The end of a lease: the lease.
+pub const ENDED_LEASE: u8 = 2;
+
 /// A receipt: the lease.
 pub const RECEIPT_LEASE: u8 = 3;
 
@@ -55,6 +61,7 @@ pub const ASKED_ABOUT: u8 = 3;
 
 /// The places in figures, which no definition says.
 pub fn places_in_figures()
+    ensures fee_branch { FEE_BRANCH ≡ 2 }
     ensures staff_branch { STAFF_BRANCH ≡ 5 }
     ensures property_owner { PROPERTY_OWNER ≡ 9 }
     ensures property_staff { PROPERTY_STAFF ≡ 10 }
@@ -70,6 +77,7 @@ pub fn places_in_figures()
     ensures inspection_staff { INSPECTION_STAFF ≡ 4 }
     ensures lease_client { LEASE_CLIENT ≡ 3 }
     ensures lease_property { LEASE_PROPERTY ≡ 4 }
+    ensures ended_lease { ENDED_LEASE ≡ 2 }
     ensures receipt_lease { RECEIPT_LEASE ≡ 3 }
     ensures asked_about { ASKED_ABOUT ≡ 3 }
 {}

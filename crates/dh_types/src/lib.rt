@@ -23,7 +23,7 @@ mod viewing;
 mod wording;
 pub mod writing;
 
-pub use answer::{Answer, Arrears, Debt, RunReport, Statement};
+pub use answer::{Answer, Arrears, Debt, OwnerLine, OwnerStatement, RunReport, Statement};
 pub use branch::Branch;
 pub use client::{Client, Registration};
 pub use command::{Assignment, Command, ReceiptOrder, RentChange, RunOrder, ViewingComment};
@@ -37,7 +37,7 @@ pub use lease::{Charge, Ending, Lease, LeaseTerms, Payment, Receipt};
 pub use output::Output;
 pub use owner::Owner;
 pub use property::Property;
-pub use question::{ClientDay, Question};
+pub use question::{ClientDay, OwnerMonth, Question};
 pub use reply::{Fault, Progress, Refusal, Reply};
 pub use reply_text::{put_fault, put_month, put_refusal, put_reply};
 pub use run::{Part, Run, RunSum};

@@ -17,6 +17,8 @@ pub enum Question {
     Arrears(Id),
     /// The parts of the closed run of a month.
     Run(EntryMonth),
+    /// What the run of a month charged on an owner's properties, and what the branches take of it.
+    Owner(OwnerMonth),
 }
 
 /// A client and a day.
@@ -24,4 +26,11 @@ pub enum Question {
 pub struct ClientDay {
     pub client: Id,
     pub day: EntryDay,
+}
+
+/// An owner and a month.
+#[derive(Clone, Copy, PartialEq, Eq)]
+pub struct OwnerMonth {
+    pub owner: Id,
+    pub month: EntryMonth,
 }

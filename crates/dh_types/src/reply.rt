@@ -4,7 +4,7 @@ ghost use Rattle.std.specs.Prelude.{◌≡◌, Some};
 ghost use Rattle.dh_types.specs.Replies.{fault_text, is_refusal, refusal_number, refusal_text, reply_text};
 
 use crate::wording::{words_of_fault, words_of_refusal, words_of_reply, words_of_sum};
-use crate::{EntryMonth, LeaseNo, Month, Pence, ReceiptNo, RunSum};
+use crate::{EntryMonth, LeaseMonths, LeaseNo, Month, Pence, ReceiptNo, RunSum};
 use std::fmt;
 
 /// The answer to a command.
@@ -77,6 +77,8 @@ pub enum Refusal {
     Damaged(u8),
     /// All receipt numbers are given.
     Full,
+    /// The lease runs this many months, which is fewer.
+    NotShorter(LeaseMonths),
 }
 
 /// What an agency answers where it could not do its work.
@@ -100,7 +102,7 @@ impl Reply {
 }
 
 impl Refusal {
-    /// The number of the refusal, from 1 to 18.
+    /// The number of the refusal, from 1 to 19.
     pub fn number(&self) -> u8
         ensures { result ≡ refusal_number self.now }
     {
@@ -123,6 +125,7 @@ impl Refusal {
             Refusal::Version(_) => 16,
             Refusal::Damaged(_) => 17,
             Refusal::Full => 18,
+            Refusal::NotShorter(_) => 19,
         }
     }
 }

@@ -94,6 +94,7 @@ pub(crate) fn words_of_refusal(refusal: Refusal) -> Words
         },
         Refusal::Damaged(rule) => numbered("refused 17 ", u32::from(rule)),
         Refusal::Full => alone("refused 18"),
+        Refusal::NotShorter(length) => numbered("refused 19 ", length.number()),
     }
 }
 

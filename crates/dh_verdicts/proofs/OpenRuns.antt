@@ -9,7 +9,7 @@ use Rattle.dh_model.specs.declared.rows.Verdict.{Verdict}
 use Rattle.dh_model.specs.declared.rows.Verdict.TheVariants as verdict
 use Rattle.dh_model.specs.Books.{Books}
 use Rattle.dh_model.specs.MachineLaws.{is_frozen}
-use Rattle.dh_model.specs.Verdicts.{branch_verdict, lease_verdict, receipt_verdict, run_verdict, unless_open, verdict_among}
+use Rattle.dh_model.specs.Verdicts.{branch_verdict, end_verdict, fee_verdict, lease_verdict, receipt_verdict, run_verdict, unless_open, verdict_among}
 
 abbrev pub refusal_of : Option OpenRun → Option Refusal
 refusal_of run = option_map (λ (at : OpenRun). refusal.RunOpen at.month) run
@@ -27,7 +27,9 @@ module _ (books : Books) (count : ℕ) (run : Option OpenRun) where
   pub refused : (told : Command) (why : Refusal) → (if is_frozen told then refusal_of run else None) ≡ Some why
       → verdict.Refused why ≡ verdict_among books count run told
   refused (command.Branch it) why is = by_run run why (branch_verdict books it) is
+  refused (command.Fee it) why is = by_run run why (fee_verdict books it) is
   refused (command.Lease it) why is = by_run run why (lease_verdict books it) is
+  refused (command.End it) why is = by_run run why (end_verdict books it) is
   refused (command.Receipt it) why is = by_run run why (receipt_verdict books count it) is
   refused (command.Run it) why is = by_run run why (run_verdict books it) is
   refused (command.Open it) why is = by_run run why (run_verdict books it) is

@@ -1,11 +1,11 @@
-//! Branches, staff and owners.
+//! Branches and their fees, staff and owners.
 
 ghost use Rattle.std.specs.Prelude.{◌≡◌, IfOk};
-ghost use Rattle.dh_model.specs.Verdicts.{branch_verdict, owner_verdict, staff_verdict};
+ghost use Rattle.dh_model.specs.Verdicts.{branch_verdict, fee_verdict, owner_verdict, staff_verdict};
 
 use dh_books::Books;
 use dh_model::{Change, Verdict};
-use dh_types::{Branch, Owner, Refusal, Reply, Staff, field};
+use dh_types::{Branch, BranchFee, Owner, Refusal, Reply, Staff, field};
 use std::alloc::{AllocError, Global};
 
 /// What the books say of a new branch: its row; that it is there already; or that its number is taken.
@@ -16,6 +16,22 @@ pub fn decide_branch(alloc: Global, books: &Books, branch: &Branch) -> Result<Ve
         None => Ok(Verdict::Change(Change::Branch(branch.try_clone(alloc)?))),
         Some(there) if branch == there => Ok(Verdict::Already(Reply::Already)),
         Some(_) => Ok(Verdict::Refused(Refusal::Taken)),
+    }
+}
+
+/// What the books say of a branch's fee: its row, for a branch that is there; or that the branch has this fee.
+pub fn decide_fee(books: &Books, fee: &BranchFee) -> Verdict
+    ensures { result ≡ fee_verdict books.now.books fee.now }
+{
+    if books.branch(&fee.branch).is_none() {
+        return Verdict::Refused(Refusal::Unknown(field::FEE_BRANCH));
+    }
+    if fee.fee == books.fee_at(&fee.branch) {
+        return Verdict::Already(Reply::Already);
+    }
+    match books.branch_fee(&fee.branch) {
+        None => Verdict::Change(Change::NewFee(*fee)),
+        Some(_) => Verdict::Change(Change::Fee(*fee)),
     }
 }
 

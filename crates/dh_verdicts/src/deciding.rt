@@ -11,9 +11,9 @@ ghost use Rattle.dh_laws.specs.Looks.{IsCutOf};
 ghost use Rattle.dh_verdicts.specs.Seen.{facts_of};
 
 use crate::{
-    decide_assign, decide_branch, decide_client, decide_comment, decide_inspection, decide_lease,
-    decide_owner, decide_property, decide_receipt, decide_register, decide_rent, decide_run,
-    decide_staff, decide_viewing,
+    decide_assign, decide_branch, decide_client, decide_comment, decide_end, decide_fee,
+    decide_inspection, decide_lease, decide_owner, decide_property, decide_receipt,
+    decide_register, decide_rent, decide_run, decide_staff, decide_viewing,
 };
 use dh_books::Books;
 use dh_model::{Change, OpenRun, Verdict};
@@ -27,13 +27,15 @@ pub struct Facts {
     pub receipts: usize,
 }
 
-/// The refusal of a command that an open run puts off: while a run is open, branches, leases, receipts and runs are refused.
+/// The refusal of a command that an open run puts off: while a run is open, branches, fees, leases and their ends, receipts and runs are refused.
 pub fn open_refusal(run: &Option<OpenRun>, command: &Command) -> Option<Refusal>
     ensures { result ≡ (if is_frozen command.now then option_map (λ at. refusal.RunOpen at.month) run.now else None) }
 {
     match command {
         Command::Branch(_)
+        | Command::Fee(_)
         | Command::Lease(_)
+        | Command::End(_)
         | Command::Receipt(_)
         | Command::Run(_)
         | Command::Open(_) => run.map(|at| Refusal::RunOpen(at.month.month())),
@@ -56,7 +58,9 @@ fn decide_passed(
             None => Ok(Verdict::Refused(Refusal::NoRun)),
         },
         Command::Branch(branch) => decide_branch(alloc, books, branch),
+        Command::Fee(fee) => Ok(decide_fee(books, fee)),
         Command::Lease(terms) => Ok(decide_lease(books, terms)),
+        Command::End(ending) => Ok(decide_end(books, ending)),
         Command::Receipt(order) => Ok(decide_receipt(books, receipts, order)),
         Command::Run(order) | Command::Open(order) => Ok(decide_run(books, order)),
         Command::Staff(member) => decide_staff(alloc, books, member),
@@ -89,7 +93,7 @@ fn decide_among(
 }
 
 /// What the books say of the command: the first check that fails, what it was answered before, or the rows that it adds
-/// or replaces. While a run is open, branches, leases, receipts and runs are refused.
+/// or replaces. While a run is open, branches, fees, leases and their ends, receipts and runs are refused.
 pub fn decide(alloc: Global, books: &Books, command: &Command) -> Result<Verdict, AllocError>
     ensures { IfOk result (λ v. v ≡ verdict_on books.now.books books.now.open_run command.now) }
 {

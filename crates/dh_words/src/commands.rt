@@ -8,20 +8,20 @@ ghost use Rattle.dh_words.specs.Table.{Adds, IsArgument, IsSubcommand};
 use clap::{Arg, Command};
 use std::alloc::{AllocError, Global};
 
-// The text, and the exit statuses behind it. A subcommand may tell 0 and 1, and 3 and 4, in its own words.
+// The texts, and the exit statuses behind them. A subcommand may tell 0 and 1, and 3 and 4, in its own words.
 macro_rules! with_statuses {
-    ($text:literal) => {
+    ($($text:literal),*) => {
         with_statuses!(
-            $text,
+            $($text),*;
             "0  done\n  \
             1  some line, the run or the question was refused\n  ",
             "3  a fault, or a failing input or output\n  \
             4  a rent run stands open\n  "
         )
     };
-    ($text:literal, $done:literal, $failed:literal) => {
+    ($($text:literal),*; $done:literal, $failed:literal) => {
         concat!(
-            $text,
+            $($text,)*
             "Exit status:\n  ",
             $done,
             "2  bad words\n  ",
@@ -31,21 +31,52 @@ macro_rules! with_statuses {
     };
 }
 
-const STATUSES: &str = with_statuses!("");
+// The texts, and behind them the replies and the exit statuses.
+macro_rules! with_replies {
+    ($($text:literal),*) => {
+        with_statuses!(
+            $($text,)*
+            "Replies:\n  \
+            ok                          done\n  \
+            already                     there with the same fields: nothing changed\n  \
+            receipt N                   the receipt has the number N\n  \
+            opened MONTH                the month's rent run is open\n  \
+            part MONTH D of N           D of its N batches are done\n  \
+            posted MONTH COUNT TOTAL    it is closed: so many charges, and their sum\n  \
+            already ..                  told before, by this key: nothing changed\n  \
+            refused R                   refused for the reason R of the manual: nothing changed\n  \
+            bad field N                 field N is wrong, missing or one too many\n  \
+            shown K                     the K lines of a report follow\n  \
+            fault 21, fault 22          memory ran out, the store failed\n\n"
+        )
+    };
+}
 
-const REPLIES: &str = with_statuses!(
-    "Replies:\n  \
-    ok                          done\n  \
-    already                     there with the same fields: nothing changed\n  \
-    receipt N                   the receipt has the number N\n  \
-    opened MONTH                the month's rent run is open\n  \
-    part MONTH D of N           D of its N batches are done\n  \
-    posted MONTH COUNT TOTAL    it is closed: so many charges, and their sum\n  \
-    already ..                  told before, by this key: nothing changed\n  \
-    refused R                   refused for the reason R of the manual: nothing changed\n  \
-    bad field N                 field N is wrong, missing or one too many\n  \
-    shown K                     the K lines of a report follow\n  \
-    fault 21, fault 22          memory ran out, the store failed\n\n"
+const STATUSES: &str = with_statuses!();
+
+const REPLIES: &str = with_replies!();
+
+const LINES: &str = with_replies!(
+    "Lines, as rent,P101,700.00 (the manual has the fields of each word):\n  \
+    branch        opens a branch office\n  \
+    fee           sets what a branch takes of the rents\n  \
+    staff         takes on a member of staff\n  \
+    owner         adds an owner\n  \
+    property      takes on a property\n  \
+    assign        gives a property to another member of staff, or to nobody\n  \
+    rent          sets a property's rent\n  \
+    client        adds a client\n  \
+    register      registers a client at a branch\n  \
+    viewing       notes a viewing\n  \
+    comment       sets the comment of a viewing\n  \
+    inspection    notes an inspection\n  \
+    lease         signs a lease\n  \
+    end           ends a lease early\n  \
+    receipt       takes a receipt\n  \
+    run           charges a month's rent\n  \
+    open          only opens the month's rent run\n  \
+    post          carries out batches of the open run\n  \
+    show          asks a question\n\n"
 );
 
 const QUESTIONS: &str = with_statuses!(
@@ -55,13 +86,14 @@ const QUESTIONS: &str = with_statuses!(
     matching CLIENT DAY    the vacant properties that the client would take\n  \
     statement LEASE        what a lease was charged and what was paid on it\n  \
     arrears BRANCH         the leases of a branch on which rent is owed\n  \
-    run MONTH              the parts of a month's closed rent run\n\n"
+    run MONTH              the parts of a month's closed rent run\n  \
+    owner OWNER MONTH      what a month charged for an owner, the fees, and what is left\n\n"
 );
 
 const ANSWERS: &str = with_statuses!(
     "Answers:\n  \
     200, ..  the status of an answered request; serving ends at the first 503\n  \
-    lost     a connection without an answer\n\n",
+    lost     a connection without an answer\n\n";
     "0  done, though requests were refused or a run stands open\n  ",
     "3  a fault, an answer 503, no listener (`no listener`), or a failing output\n  "
 );
@@ -131,7 +163,7 @@ fn batch<'a>(alloc: Global) -> Result<Command<'a>, AllocError>
         alloc,
         "batch",
         "Answers the lines of standard input and prints a reply line for each",
-        REPLIES,
+        LINES,
     )
     .arg(option(
         alloc,

@@ -1,4 +1,4 @@
-//! Looks at whole tables that came with the second version. A file of the first has none of them.
+//! Looks at tables that came with the second version. A file of the first has none of them.
 
 ghost use Rattle.std.specs.Prelude.{◌≡◌, OnOk};
 ghost use Rattle.std.specs.FinMap as fin;
@@ -6,12 +6,13 @@ ghost use Rattle.sqlite.specs.State.{HasCleanDisk};
 ghost use Rattle.sqlite.specs.Held.{state};
 ghost use Rattle.dh_types.specs.declared.version.Version.TheVariants.{Second};
 ghost use Rattle.dh_schema.specs.Store.{IsReady, tables};
+ghost use Rattle.dh_store.specs.Looked.{Brings};
 ghost use Rattle.dh_store.specs.Reading.{OnlyReads};
 
-use crate::looks::{KeptRecord, look_at_all, months_now};
+use crate::looks::{KeptRecord, look, look_at_all, months_now};
 use dh_books::Books;
 use dh_schema::StoreFault;
-use dh_tables::Listed;
+use dh_tables::{Listed, Look};
 use dh_types::Version;
 use sqlite::{Alter, Connection};
 use std::alloc::Global;
@@ -33,5 +34,27 @@ pub fn look_at_later<R: Listed + KeptRecord, S: Alter>(
     match months.version() {
         Version::First => Ok(()),
         Version::Second => look_at_all::<R, S>(alloc, conn, books),
+    }
+}
+
+/// Puts the records that are asked for beside those that the books have, of a kind that came with the second version; tables of the first
+/// version have none.
+pub fn look_later<L: Look, S: Alter>(
+    alloc: Global,
+    conn: &mut Connection<S>,
+    question: &L,
+    books: &mut Books,
+) -> Result<(), StoreFault>
+where
+    L::Record: KeptRecord,
+    requires ready { HasCleanDisk (state S.Store conn.old) → IsReady (state S.Store conn.old) }
+    requires later { L.Record.since ≡ Second }
+    ensures brought { Brings L.Record.shelf (L.asks question.now) result (state S.Store conn.old) books.old (state S.Store conn.new) books.new }
+    ensures reads { OnlyReads (state S.Store conn.old) (state S.Store conn.new) result }
+{
+    let months = months_now(alloc, conn)?;
+    match months.version() {
+        Version::First => Ok(()),
+        Version::Second => look(alloc, conn, question, books),
     }
 }

@@ -13,14 +13,14 @@ ghost use Rattle.dh_store.specs.Looked.{AreBoth};
 ghost use Rattle.dh_store.specs.Reading.{OnlyReads};
 ghost use Rattle.dh_store.specs.Gathered.{Gathers, with_endings, with_leases, with_registration};
 
-use crate::looks::{held_leases, look, look_at_endings_of};
+use crate::looks::{held_leases, look, look_at_endings_of, look_later};
 use dh_books::Books;
 use dh_schema::StoreFault;
 use dh_tables::{
-    ClientNumbered, DepositsOfLease, LeaseNumbered, LeasesOfClientFrom, LeasesOfProperty,
+    ClientNumbered, DepositsOfLease, EndingOf, LeaseNumbered, LeasesOfClientFrom, LeasesOfProperty,
     PropertyNumbered, ReceiptKeyed, RegistrationAt, RunKeyed,
 };
-use dh_types::{LeaseTerms, ReceiptOrder, RunOrder};
+use dh_types::{Ending, LeaseTerms, ReceiptOrder, RunOrder};
 use sqlite::{Alter, Connection};
 use std::alloc::Global;
 
@@ -176,4 +176,20 @@ pub(crate) fn at_run<S: Alter>(
 {
     look(alloc, conn, &RunKeyed { key: order.key }, books)?;
     look(alloc, conn, &ReceiptKeyed { key: order.key }, books)
+}
+
+/// The lease, and its ending.
+pub(crate) fn at_end<S: Alter>(
+    alloc: Global,
+    conn: &mut Connection<S>,
+    ending: &Ending,
+    books: &mut Books,
+) -> Result<(), StoreFault>
+    requires { HasCleanDisk (state S.Store conn.old) → IsReady (state S.Store conn.old) }
+    ensures gathered { Gathers (command.End ending.now) result (state S.Store conn.old) books.old (state S.Store conn.new) books.new }
+    ensures reads { OnlyReads (state S.Store conn.old) (state S.Store conn.new) result }
+{
+    let lease = ending.lease;
+    look(alloc, conn, &LeaseNumbered { number: lease }, books)?;
+    look_later(alloc, conn, &EndingOf { lease }, books)
 }

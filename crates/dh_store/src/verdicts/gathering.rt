@@ -12,11 +12,11 @@ ghost use Rattle.dh_store.specs.Reading.{OnlyReads};
 ghost use Rattle.dh_store.specs.Gathered.{Gathers, bare};
 
 use crate::looks::find_open_run;
-use crate::verdicts::accounts::{at_lease, at_receipt, at_run};
+use crate::verdicts::accounts::{at_end, at_lease, at_receipt, at_run};
 use crate::verdicts::lettings::{
     at_assign, at_comment, at_inspection, at_property, at_rent, at_viewing,
 };
-use crate::verdicts::people::{at_branch, at_client, at_owner, at_register, at_staff};
+use crate::verdicts::people::{at_branch, at_client, at_fee, at_owner, at_register, at_staff};
 use dh_books::Books;
 use dh_model::OpenRun;
 use dh_rows::Meta;
@@ -89,6 +89,7 @@ fn gather_rows<S: Alter>(
 {
     match command {
         Command::Branch(branch) => at_branch(alloc, conn, branch, books),
+        Command::Fee(fee) => at_fee(alloc, conn, fee, books),
         Command::Staff(member) => at_staff(alloc, conn, member, books),
         Command::Owner(owner) => at_owner(alloc, conn, owner, books),
         Command::Property(property) => at_property(alloc, conn, property, books),
@@ -100,6 +101,7 @@ fn gather_rows<S: Alter>(
         Command::Comment(comment) => at_comment(alloc, conn, comment, books),
         Command::Inspection(inspection) => at_inspection(alloc, conn, inspection, books),
         Command::Lease(terms) => at_lease(alloc, conn, terms, books),
+        Command::End(ending) => at_end(alloc, conn, ending, books),
         Command::Receipt(order) => at_receipt(alloc, conn, order, books),
         Command::Run(order) | Command::Open(order) => at_run(alloc, conn, order, books),
         Command::Post(_) => Ok(()),

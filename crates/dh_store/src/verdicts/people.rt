@@ -7,11 +7,13 @@ ghost use Rattle.dh_schema.specs.Store.{IsReady};
 ghost use Rattle.dh_store.specs.Reading.{OnlyReads};
 ghost use Rattle.dh_store.specs.Gathered.{Gathers};
 
-use crate::looks::look;
+use crate::looks::{look, look_later};
 use dh_books::Books;
 use dh_schema::StoreFault;
-use dh_tables::{BranchNumbered, ClientNumbered, MemberNumbered, OwnerNumbered, RegistrationAt};
-use dh_types::{Branch, Client, Owner, Registration, Staff};
+use dh_tables::{
+    BranchNumbered, ClientNumbered, FeeOfBranch, MemberNumbered, OwnerNumbered, RegistrationAt,
+};
+use dh_types::{Branch, BranchFee, Client, Owner, Registration, Staff};
 use sqlite::{Alter, Connection};
 use std::alloc::Global;
 
@@ -34,6 +36,22 @@ pub(crate) fn at_branch<S: Alter>(
         },
         books,
     )
+}
+
+/// The branch of this number, and its fee.
+pub(crate) fn at_fee<S: Alter>(
+    alloc: Global,
+    conn: &mut Connection<S>,
+    fee: &BranchFee,
+    books: &mut Books,
+) -> Result<(), StoreFault>
+    requires { HasCleanDisk (state S.Store conn.old) → IsReady (state S.Store conn.old) }
+    ensures gathered { Gathers (command.Fee fee.now) result (state S.Store conn.old) books.old (state S.Store conn.new) books.new }
+    ensures reads { OnlyReads (state S.Store conn.old) (state S.Store conn.new) result }
+{
+    let branch = fee.branch;
+    look(alloc, conn, &BranchNumbered { number: branch }, books)?;
+    look_later(alloc, conn, &FeeOfBranch { branch }, books)
 }
 
 /// The member of staff of this number, and the branch.

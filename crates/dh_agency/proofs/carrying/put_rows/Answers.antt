@@ -4,7 +4,7 @@ use Rattle.sqlite.specs.Held.{state}
 use Rattle.dh_model.specs.Runs.{batch_size}
 use Rattle.dh_schema.specs.Store.{tables}
 use Rattle.dh_laws.proofs.Carrying.{same_cut}
-use Rattle.dh_agency.proofs.Carried.{on_err, put_crash, put_fits, put_in_order, put_said}
+use Rattle.dh_agency.proofs.Carried.{has_place, on_err, put_crash, put_fits, put_in_order, put_said}
 use Rattle.dh_agency.proofs.carrying.put_rows.Goals as goal
 
 pub apply-requires-clause-order : goal.apply-requires-clause-order
@@ -16,6 +16,9 @@ pub apply-requires-clause-fits : goal.apply-requires-clause-fits
 apply-requires-clause-fits g c was =
     put_fits c.args.command.now c.args.change.now (state g.S.Store c.args.conn.now) (c.requires.ready was) (c.requires.verdict was)
     (c.accepted_changes_fit.ensures batch_size)
+
+pub apply-requires-clause-place : goal.apply-requires-clause-place
+apply-requires-clause-place g c was = has_place c.args.change.now (c.requires.second was)
 
 pub returns-in_err-apply-clause-crash : goal.returns-in_err-apply-clause-crash
 returns-in_err-apply-clause-crash g c clean =

@@ -1,47 +1,33 @@
-use Rattle.std.proofs.Common.{◌≡◌, ◌∙◌, sym, ap, subst, take, arith, cond, ℕ, List, Some, None, ◌+◌, ◌*◌, ◌≤◌}
-use Rattle.std.specs.Prelude.{IfSome}
-use Rattle.std.specs.BTreeMap.{is_at}
-use Rattle.std.specs.Ordering.{nat_cmp}
-use Rattle.dh_model.specs.Books.{pair_cmp, text_cmp}
-use Rattle.dh_audit.specs.Fees.{fees_at, pence_at, taken_at, under_key}
-use Rattle.dh_audit.proofs.FeeRows.{none_taken, some_taken, still_few, taken_all, taken_next}
-use Rattle.dh_audit.proofs.fees.fees_of.Goals.{in-Some+in_ok-add, in_default}
+use Rattle.std.proofs.Common.{◌≡◌, ◌∙◌, refl, sym, ap, subst, None, Some}
+use Rattle.dh_audit.specs.declared.fees.Place.{Place}
+use Rattle.dh_audit.specs.Fees.{branch_of}
+use Rattle.dh_audit.proofs.FeeRows.{a_branch, no_branch, none_taken, room, some_taken}
 use Rattle.dh_audit.proofs.fees.fees_of.Goals as goal
+
+pub add-requires : goal.add-requires
+add-requires c =
+    room c.args.books.now.books c.len-count.result c.loop-charge.fees c.len-count.type_inv c.loop-charge.charge-iterator c.loop-charge.invariant.done
+    (c.in-Some.charge.now.month, c.in-Some-branch.branch)
+
+pub loop-charge-preserved-in-Continue-1 : goal.loop-charge-preserved-in-Continue-1
+loop-charge-preserved-in-Continue-1 c =
+    let books = c.args.books.now.books in
+    let charge = c.in-Some.charge.now in
+    let branch = c.in-Some-branch.branch in
+    let is : branch_of books charge.lease ≡ Some branch = sym (ap (λ place. place.branch) c.place_of-here.ensures) ∙ c.in-Some-branch.is in
+    record {
+      done = some_taken books c.len-count.result charge c.next.new.self c.loop-charge.charge-iterator c.in-Some.ensures.steps c.loop-charge.fees
+          c.loop-charge.invariant.done (charge.month, branch) (a_branch books charge branch is) c.in_ok-add.ensures.small c.add.new.fees c.in_ok-add.ensures.value;
+      place = subst (λ (place : Place). place.branch ≡ branch_of books place.lease) (sym c.place_of-here.ensures) refl;
+    }
 
 pub loop-charge-preserved : goal.loop-charge-preserved
 loop-charge-preserved c =
     let books = c.args.books.now.books in
-    let charges = c.args.charges.now in
-    let i = c.loop-charge.charge-index in
-    let charge = c.charge-item.result in
-    let had = c.loop-charge.invariant in
-    let next = taken_next charges i charge c.charge-item.is c.loop-charge-test.true in
-    let R = pair_cmp nat_cmp text_cmp in
-    let old : ℕ × List ℕ → ℕ = λ key. pence_at R c.loop-charge.fees key in
-    let new : ℕ × List ℕ → ℕ = λ key. pence_at R c.match-taken.fees key in
-    elim c.match-taken.branch [
-      | in-Some+in_ok-add w ↦
-          let takes : (key : ℕ × List ℕ) → taken_at books key charge ≡ under_key (Some (w.in-Some.key, w.in-Some.pence)) key =
-          λ key. c.taken.ensures.value key ∙ ap (λ taken. under_key taken key) w.in-Some.is in
-          let is : (key : ℕ × List ℕ) → new key ≡ cond (is_at (R w.in-Some.key) key) (old w.in-Some.key + w.in-Some.pence) (old key) =
-          λ key. ap (λ m. pence_at R m key) w.fees-is ∙ w.in_ok-add.ensures key in
-          let small : w.in-Some.pence ≤ 999999 = subst (λ taken. IfSome taken (λ taken. taken.1 ≤ 999999)) w.in-Some.is c.taken.ensures.small in
-          record {
-            value = λ key. some_taken books (take i charges) charge old new w.in-Some.key w.in-Some.pence had.value takes is key
-                ∙ ap (λ charges. fees_at books charges key) (sym next);
-            small = λ key. still_few books (take i charges) charge old new w.in-Some.key w.in-Some.pence had.value takes is i small had.small key;
-          }
-      | in_default w ↦
-          let none : (key : ℕ × List ℕ) → taken_at books key charge ≡ under_key None key =
-          λ key. c.taken.ensures.value key ∙ ap (λ taken. under_key taken key) w.in_default.is in
-          record {
-            value = λ key. ap (λ m. pence_at R m key) w.fees-is ∙ none_taken books (take i charges) charge old had.value none key
-                ∙ ap (λ charges. fees_at books charges key) (sym next);
-            small = λ key. subst (λ m. pence_at R m key ≤ 999999 * (i + 1)) (sym w.fees-is) (let few = had.small key in omega (arith, few));
-          }
-    ]
-
-pub returns : goal.returns
-returns c = λ key. c.loop-charge.invariant.value key
-    ∙ ap (λ charges. fees_at c.args.books.now.books charges key)
-    (taken_all c.args.charges.now c.loop-charge.charge-index c.loop-charge.auto.charge-index-end c.loop-charge-test.false)
+    let charge = c.in-Some.charge.now in
+    let is : branch_of books charge.lease ≡ None = sym (ap (λ place. place.branch) c.place_of-here.ensures) ∙ c.in_default.is in
+    record {
+      done = none_taken books c.len-count.result charge c.next.new.self c.loop-charge.charge-iterator c.in-Some.ensures.steps c.loop-charge.fees
+          c.loop-charge.invariant.done (no_branch books charge is);
+      place = subst (λ (place : Place). place.branch ≡ branch_of books place.lease) (sym c.place_of-here.ensures) refl;
+    }

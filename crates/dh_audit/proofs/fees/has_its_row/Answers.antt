@@ -1,8 +1,6 @@
 use Rattle.std.proofs.Common.{◌≡◌, ◌↔◌, ◌∙◌, ap, subst, sym, true}
 use Rattle.std.specs.Prelude.{IsSomeAnd, option_copied}
 use Rattle.std.specs.FinMap as fin
-use Rattle.std.specs.Ordering.{nat_cmp}
-use Rattle.dh_model.specs.Books.{pair_cmp, text_cmp}
 use Rattle.dh_audit.specs.Fees.{IsItsRow, pence_at}
 use Rattle.dh_audit.proofs.fees.has_its_row.Goals as goal
 
@@ -10,7 +8,7 @@ pub returns-in-Some : goal.returns-in-Some
 returns-in-Some c =
     let books = c.args.books.now.books in
     let part = c.args.part.now in
-    let sums = pence_at (pair_cmp nat_cmp text_cmp) c.args.fees.now in
+    let sums = pence_at c.args.fees.now in
     let found = ap (fin.get books.part_fees) (sym c.key-key.ensures) ∙ sym c.part_fee.ensures ∙ ap option_copied c.in-Some.is in
     let sum = c.pence_at.ensures ∙ ap sums c.key-key.ensures in
     subst (λ found. (c.is_its_row.result ≡ true) ↔ IsSomeAnd found (IsItsRow books (sums (part.month, part.branch)) part)) (sym found)

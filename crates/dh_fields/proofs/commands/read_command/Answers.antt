@@ -1,7 +1,7 @@
 use Rattle.std.proofs.Common.{◌∙◌, codes, refl}
 use Rattle.dh_fields.proofs.Forms.{by_form, field_is, no_text, unknown}
-use Rattle.dh_fields.specs.Lines.{assign_form, branch_form, client_form, command_forms, comment_form, inspection_form, lease_form, open_form, owner_form}
-use Rattle.dh_fields.specs.Lines.{post_form, property_form, receipt_form, register_form, rent_form, run_form, staff_form, viewing_form}
+use Rattle.dh_fields.specs.Lines.{assign_form, branch_form, client_form, command_forms, comment_form, end_form, fee_form, inspection_form, lease_form, open_form}
+use Rattle.dh_fields.specs.Lines.{owner_form, post_form, property_form, receipt_form, register_form, rent_form, run_form, staff_form, viewing_form}
 use Rattle.dh_fields.proofs.commands.read_command.Goals as goal
 
 pub returns-in_err-text : goal.returns-in_err-text
@@ -11,6 +11,10 @@ pub returns-in-branch : goal.returns-in-branch
 returns-in-branch c =
     by_form command_forms 1 c.args.line.now (codes "branch") branch_form _
     (field_is c.args.line.now 1 _ c.in_ok-text.ensures ∙ c.in-branch.is) refl c.read_branch.ensures
+
+pub returns-in-fee : goal.returns-in-fee
+returns-in-fee c =
+    by_form command_forms 1 c.args.line.now (codes "fee") fee_form _ (field_is c.args.line.now 1 _ c.in_ok-text.ensures ∙ c.in-fee.is) refl c.read_fee.ensures
 
 pub returns-in-staff : goal.returns-in-staff
 returns-in-staff c =
@@ -67,6 +71,10 @@ returns-in-lease c =
     by_form command_forms 1 c.args.line.now (codes "lease") lease_form _
     (field_is c.args.line.now 1 _ c.in_ok-text.ensures ∙ c.in-lease.is) refl c.read_lease.ensures
 
+pub returns-in-end : goal.returns-in-end
+returns-in-end c =
+    by_form command_forms 1 c.args.line.now (codes "end") end_form _ (field_is c.args.line.now 1 _ c.in_ok-text.ensures ∙ c.in-end.is) refl c.read_end.ensures
+
 pub returns-in-receipt : goal.returns-in-receipt
 returns-in-receipt c =
     by_form command_forms 1 c.args.line.now (codes "receipt") receipt_form _
@@ -89,28 +97,5 @@ returns-in-post c =
 pub returns-in_default : goal.returns-in_default
 returns-in_default c =
     let no = c.in_default in
-    unknown command_forms 1 c.args.line.now _ c.in_ok-text.ensures (
-      no.not-branch,
-      (
-        no.not-staff,
-        (
-          no.not-owner,
-          (
-            no.not-property,
-            (
-              no.not-assign,
-              (
-                no.not-rent,
-                (
-                  no.not-client,
-                  (
-                    no.not-register,
-                    (no.not-viewing, (no.not-comment, (no.not-inspection, (no.not-lease, (no.not-receipt, (no.not-run, (no.not-open, (no.not-post, tt)))))))),
-                  ),
-                ),
-              ),
-            ),
-          ),
-        ),
-      ),
-    )
+    unknown command_forms 1 c.args.line.now _ c.in_ok-text.ensures
+    (no.not-branch, (no.not-fee, (no.not-staff, (no.not-owner, (no.not-property, (no.not-assign, (no.not-rent, (no.not-client, (no.not-register, (no.not-viewing, (no.not-comment, (no.not-inspection, (no.not-lease, (no.not-end, (no.not-receipt, (no.not-run, (no.not-open, (no.not-post, tt))))))))))))))))))

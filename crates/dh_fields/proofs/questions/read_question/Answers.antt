@@ -1,6 +1,7 @@
 use Rattle.std.proofs.Common.{◌∙◌, codes, refl}
 use Rattle.dh_fields.proofs.Forms.{by_form, field_is, no_text, unknown}
-use Rattle.dh_fields.specs.Lines.{arrears_form, branches_form, matching_form, question_forms, shown_run_form, statement_form, vacant_form}
+use Rattle.dh_fields.specs.Lines.{arrears_form, branches_form, matching_form, owner_month_form, question_forms, shown_run_form, statement_form}
+use Rattle.dh_fields.specs.Lines.{vacant_form}
 use Rattle.dh_fields.proofs.questions.read_question.Goals as goal
 
 pub returns-in_err-text : goal.returns-in_err-text
@@ -36,8 +37,13 @@ returns-in-run c =
     by_form question_forms 2 c.args.line.now (codes "run") shown_run_form _
     (field_is c.args.line.now 2 _ c.in_ok-text.ensures ∙ c.in-run.is) refl c.read_shown_run.ensures
 
+pub returns-in-owner : goal.returns-in-owner
+returns-in-owner c =
+    by_form question_forms 2 c.args.line.now (codes "owner") owner_month_form _
+    (field_is c.args.line.now 2 _ c.in_ok-text.ensures ∙ c.in-owner.is) refl c.read_owner_month.ensures
+
 pub returns-in_default : goal.returns-in_default
 returns-in_default c =
     let no = c.in_default in
     unknown question_forms 2 c.args.line.now _ c.in_ok-text.ensures
-    (no.not-branches, (no.not-vacant, (no.not-matching, (no.not-statement, (no.not-arrears, (no.not-run, tt))))))
+    (no.not-branches, (no.not-vacant, (no.not-matching, (no.not-statement, (no.not-arrears, (no.not-run, (no.not-owner, tt)))))))

@@ -1,4 +1,4 @@
-use Rattle.dh_reports.proofs.ReportFeeds.{arrears_feeds, run_feeds, statement_feeds}
+use Rattle.dh_reports.proofs.ReportFeeds.{arrears_feeds, owner_text_feeds, run_feeds, statement_feeds}
 use Rattle.dh_reports.proofs.laws.lines_are_line_feeds.Goals as goal
 
 pub returns-in-Statement : goal.returns-in-Statement
@@ -18,3 +18,9 @@ pub returns-in-Run : goal.returns-in-Run
 returns-in-Run c =
     let it = c.in-Run.run' in
     rw c.in-Run.is (run_feeds it.parts.items it.sum (rw c.deref-in-Run.ensures.value at c.look_at_each-in-Run.ensures))
+
+pub returns-in-Owner : goal.returns-in-Owner
+returns-in-Owner c =
+    let it = c.in-Owner.statement in
+    rw c.in-Owner.is
+    (owner_text_feeds it.lines.items it.total it.fees it.payable (rw c.deref-in-Owner.ensures.value at c.look_at_each-in-Owner.ensures))

@@ -12,4 +12,5 @@ returns c =
     let f = c.in_ok-insert-5.ensures in
     let g = c.in_ok-insert-6.ensures in
     let h = c.in_ok-insert-7.ensures in
-    rw (h.1, g.1, f.1, e.1, d.1, b.1, a.1, c.new-router.ensures) refl
+    let k = c.in_ok-insert-8.ensures in
+    rw (k.1, h.1, g.1, f.1, e.1, d.1, b.1, a.1, c.new-router.ensures) refl

@@ -8,7 +8,8 @@ use Rattle.dh_types.specs.declared.lease.Charge.{Charge}
 use Rattle.dh_model.specs.Books.{Books}
 use Rattle.dh_model.specs.Runs.{charge_key}
 use Rattle.dh_schema.specs.Store.{tables}
-use Rattle.dh_runs.specs.Putting.{TurnsBooks, with_charge, with_charges}
+use Rattle.dh_store.specs.Putting.{TurnsBooks}
+use Rattle.dh_runs.specs.Putting.{with_charge, with_charges}
 use Rattle.dh_runs.proofs.EachCharge.{is_new, with_all, with_each, with_each_more}
 use Rattle.dh_runs.proofs.Putting.{nothing_put, puts_both, puts_none}
 use Rattle.dh_runs.proofs.rows.put_charges.Goals as goal

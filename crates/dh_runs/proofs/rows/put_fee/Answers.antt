@@ -2,9 +2,9 @@ use Rattle.std.proofs.Common.{◌∙◌, [], ◌∷◌, sym}
 use Rattle.sqlite.specs.Held.{state}
 use Rattle.dh_model.specs.Runs.{part_fee_key}
 use Rattle.dh_model.specs.Kinds.{PartFees}
-use Rattle.dh_schema.specs.Store.{tables}
 use Rattle.dh_runs.specs.Putting.{with_fees}
-use Rattle.dh_runs.proofs.Putting.{added, changed, fee_added, fee_new, fee_there, later_writing}
+use Rattle.dh_store.proofs.Putting.{added, amended, later_writing}
+use Rattle.dh_runs.proofs.Putting.{fee_added, fee_new, fee_there}
 use Rattle.dh_runs.proofs.rows.put_fee.Goals as goal
 
 pub update-requires-clause-kept : goal.update-requires-clause-kept
@@ -29,7 +29,7 @@ returns-then-has_part-clause-puts g c =
     let new = state g.S.Store c.update.new.tx.conn.now in
     let fee = c.args.fee.now in
     let call = c.update.ensures in
-    changed PartFees (part_fee_key fee) (λ it. record it { fee = fee.fee; total = fee.total }) old new (with_fees (fee ∷ []))
+    amended PartFees (part_fee_key fee) (λ it. record it { fee = fee.fee; total = fee.total }) old new (with_fees (fee ∷ []))
     c.update.result (λ clean. (c.requires.known clean).second) c.requires.writing (λ clean. fee_there fee old new (c.requires.known clean).second
     (sym (c.requires.known clean).known ∙ c.if-has_part.true))
     call.shown call.amended call.undone call.crash

@@ -4,7 +4,8 @@ use Rattle.dh_model.specs.Runs.{part_key}
 use Rattle.dh_model.specs.Kinds.{Parts}
 use Rattle.dh_schema.specs.Store.{tables}
 use Rattle.dh_runs.specs.Putting.{with_part}
-use Rattle.dh_runs.proofs.Putting.{added, changed, part_new, part_there, with_new_part}
+use Rattle.dh_store.proofs.Putting.{added, amended}
+use Rattle.dh_runs.proofs.Putting.{part_new, part_there, with_new_part}
 use Rattle.dh_runs.proofs.rows.put_part.Goals as goal
 
 pub update-requires-clause-kept : goal.update-requires-clause-kept
@@ -25,7 +26,7 @@ returns-then-has_part-clause-puts g c =
     let new = state g.S.Store c.update.new.tx.conn.now in
     let part = c.args.part.now in
     let call = c.update.ensures in
-    changed Parts (part_key part) (λ it. record it { through = part.through; count = part.count; total = part.total }) old new (with_part part)
+    amended Parts (part_key part) (λ it. record it { through = part.through; count = part.count; total = part.total }) old new (with_part part)
     c.update.result (λ _. tt) c.requires.writing (λ clean. part_there part old new (sym (c.requires.known clean) ∙ c.if-has_part.true))
     call.shown call.amended call.undone call.crash
 

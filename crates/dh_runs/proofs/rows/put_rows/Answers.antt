@@ -8,7 +8,8 @@ use Rattle.dh_model.specs.Books.{Books}
 use Rattle.dh_model.specs.Runs.{part_key}
 use Rattle.dh_leases.specs.Plans.{some_row}
 use Rattle.dh_schema.specs.Store.{tables}
-use Rattle.dh_runs.specs.Putting.{TurnsBooks, with_charges, with_fees, with_part, with_rows_of}
+use Rattle.dh_store.specs.Putting.{TurnsBooks}
+use Rattle.dh_runs.specs.Putting.{with_charges, with_fees, with_part, with_rows_of}
 use Rattle.dh_runs.proofs.Putting.{fee_still, puts_both, puts_none}
 use Rattle.dh_runs.proofs.rows.put_rows.Goals as goal
 

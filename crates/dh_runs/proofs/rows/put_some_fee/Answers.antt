@@ -3,7 +3,8 @@ use Rattle.sqlite.specs.Held.{state}
 use Rattle.dh_types.specs.declared.fee.PartFee.{PartFee}
 use Rattle.dh_leases.specs.Plans.{some_row}
 use Rattle.dh_schema.specs.Store.{tables}
-use Rattle.dh_runs.specs.Putting.{TurnsBooks, with_fees}
+use Rattle.dh_store.specs.Putting.{TurnsBooks}
+use Rattle.dh_runs.specs.Putting.{with_fees}
 use Rattle.dh_runs.proofs.Putting.{no_fees, nothing_put}
 use Rattle.dh_runs.proofs.rows.put_some_fee.Goals as goal
 

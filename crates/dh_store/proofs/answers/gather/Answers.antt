@@ -49,3 +49,10 @@ returns-in-Run-clause-taken g c clean =
     subst (λ (q : Question). OnOk c.gather_run.result (c.gather_run.new.books ≡ record { books = asked_about (tables old).books q; open_run = None }))
     (sym c.in-Run.is)
     (c.gather_run.ensures.taken clean)
+
+pub returns-in-Owner-clause-taken : goal.returns-in-Owner-clause-taken
+returns-in-Owner-clause-taken g c clean =
+    let old = state g.S.Store c.args.conn.now in
+    subst (λ (q : Question). OnOk c.gather_owner.result (c.gather_owner.new.books ≡ record { books = asked_about (tables old).books q; open_run = None }))
+    (sym c.in-Owner.is)
+    (c.gather_owner.ensures.taken clean)

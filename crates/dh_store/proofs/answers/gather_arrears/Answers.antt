@@ -3,10 +3,10 @@ use Rattle.std.specs.FinMap.{empty, values}
 use Rattle.sqlite.specs.State.{HasCleanDisk}
 use Rattle.sqlite.specs.Held.{state}
 use Rattle.dh_model.specs.Books.{State}
+use Rattle.dh_model.specs.Runs.{is_property_of}
 use Rattle.dh_laws.specs.AskedAbout.{with_accounts}
 use Rattle.dh_laws.proofs.AskedRows.{listed_leases}
 use Rattle.dh_schema.specs.Store.{tables}
-use Rattle.dh_schema.proofs.Keyed.{books_are_keyed}
 use Rattle.dh_store.proofs.answers.gather_arrears.Goals as goal
 
 pub gather_accounts-requires-clause-none : goal.gather_accounts-requires-clause-none
@@ -22,6 +22,6 @@ returns-clause-taken g c clean =
     let same = (c.in_ok-gather_branch.ensures.reads.done early).1 in
     let branch = c.in_ok-gather_branch.ensures.taken early in
     let leases = c.deref.ensures.value ∙ c.in_ok-leases.ensures.leases ∙ ap (λ (s : State). values s.books.leases) branch
-    ∙ listed_leases (tables old).books (books_are_keyed old.now.trees) c.args.branch in
+    ∙ listed_leases (tables old).books (is_property_of c.args.branch) in
     c.in_ok-gather_accounts.ensures.taken clean
     ∙ (λ i. record (branch i) { books = with_accounts (same i).books (branch i).books (leases i) })

@@ -8,6 +8,7 @@ use Rattle.dh_types.specs.declared.lease.Lease.{Lease}
 use Rattle.dh_types.specs.declared.property.Property.{Property}
 use Rattle.dh_model.specs.Books.{State}
 use Rattle.dh_model.specs.Checks.{is_same_text}
+use Rattle.dh_model.specs.Runs.{is_property_of}
 use Rattle.dh_model.specs.Whole.{rows_where}
 use Rattle.dh_laws.proofs.AskedRows.{named_leases}
 use Rattle.dh_model.specs.Kinds.{Branches, Properties}
@@ -46,8 +47,8 @@ returns-clause-taken g c clean =
     let numbers = c.deref.ensures.value ∙ c.in_ok-numbers.ensures.numbers
     ∙ ap (λ (s : State). map (λ (p : Property). p.number) (filter (λ p. is_same_text p.branch branch) (values s.books.properties))) properties in
     let leases = ap (λ (s : State). rows_where (λ (l : Lease). list_any (is_same_text l.terms.property) c.deref.result.now) s.books.leases)
-    ((c.in_ok-look_at_all.ensures.reads.done late).1 ∙ same) ∙ named_leases (tables old).books (books_are_keyed old.now.trees) branch
-    c.deref.result.now numbers in
+    ((c.in_ok-look_at_all.ensures.reads.done late).1 ∙ same) ∙ named_leases (tables old).books (books_are_keyed old.now.trees)
+    (is_property_of branch) refl c.deref.result.now numbers in
     c.in_ok-gather_leases.ensures.taken clean ∙ (λ i. record (properties i) { books = record (properties i).books { leases = leases i } })
 
 pub returns-in_err-gather_leases-clause-reads : goal.returns-in_err-gather_leases-clause-reads

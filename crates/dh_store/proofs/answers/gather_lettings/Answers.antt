@@ -1,7 +1,6 @@
-use Rattle.std.proofs.Common.{◌∙◌, ap, refl, arith}
+use Rattle.std.proofs.Common.{◌∙◌, refl, arith}
 use Rattle.sqlite.specs.State.{HasCleanDisk}
 use Rattle.sqlite.specs.Held.{state}
-use Rattle.dh_model.specs.Books.{State}
 use Rattle.dh_model.specs.Kinds.{Leases, Properties}
 use Rattle.dh_store.proofs.AskedBooks.{put_whole}
 use Rattle.dh_store.proofs.answers.gather_lettings.Goals as goal

@@ -1,10 +1,10 @@
-use Rattle.std.proofs.Common.{◌≡◌, ◌∙◌, ◌||◌, refl, sym, ap, Bool, nat_eq, Result, Ok, Err, OnOk, arith}
+use Rattle.std.proofs.Common.{◌≡◌, ◌∙◌, ◌||◌, sym, ap, nat_eq, arith}
 use Rattle.std.specs.FinMap.{empty}
 use Rattle.sqlite.specs.State.{HasCleanDisk}
 use Rattle.sqlite.specs.Held.{state}
 use Rattle.dh_types.specs.declared.lease.Ending.{Ending}
 use Rattle.dh_types.specs.declared.version.Version.{Version}
-use Rattle.dh_types.specs.declared.version.Version.TheVariants.{First, Second}
+use Rattle.dh_types.specs.declared.version.Version.TheVariants.{Second}
 use Rattle.dh_model.specs.Books.{Endings, State}
 use Rattle.dh_model.specs.Whole.{rows_where}
 use Rattle.dh_sql.specs.Shape.{rows_in}

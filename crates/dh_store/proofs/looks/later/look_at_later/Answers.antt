@@ -2,8 +2,6 @@ use Rattle.std.proofs.Common.{◌≡◌, ◌∙◌, sym, ap, subst, arith}
 use Rattle.std.specs.FinMap.{empty}
 use Rattle.sqlite.specs.State.{HasCleanDisk}
 use Rattle.sqlite.specs.Held.{state}
-use Rattle.dh_types.specs.declared.version.Version.{Version}
-use Rattle.dh_types.specs.declared.version.Version.TheVariants.{First, Second}
 use Rattle.dh_model.specs.Books.{State}
 use Rattle.dh_model.specs.Kinds.{IsSince}
 use Rattle.dh_sql.specs.Shape.{rows_in}

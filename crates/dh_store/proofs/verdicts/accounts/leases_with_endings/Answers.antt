@@ -1,4 +1,4 @@
-use Rattle.std.proofs.Common.{◌≡◌, ◌∙◌, nat_eq, List, sym, ap, subst, Result, Ok, Err, OnOk, arith}
+use Rattle.std.proofs.Common.{◌∙◌, nat_eq, List, ap, subst, Result, Ok, Err, OnOk, arith}
 use Rattle.std.specs.FinMap.{values}
 use Rattle.std.specs.List.{list_any}
 use Rattle.sqlite.specs.State.{HasCleanDisk}

@@ -78,6 +78,18 @@ returns-in-Lease-clause-gathered g c =
     (state g.S.Store c.at_lease.new.conn) c.at_lease.new.books c.in-Lease.is
     c.at_lease.ensures.gathered
 
+pub returns-in-Fee-clause-gathered : goal.returns-in-Fee-clause-gathered
+returns-in-Fee-clause-gathered g c =
+    so c.args.command.now _ c.at_fee.result (state g.S.Store c.args.conn.now) c.args.books.now
+    (state g.S.Store c.at_fee.new.conn) c.at_fee.new.books c.in-Fee.is
+    c.at_fee.ensures.gathered
+
+pub returns-in-End-clause-gathered : goal.returns-in-End-clause-gathered
+returns-in-End-clause-gathered g c =
+    so c.args.command.now _ c.at_end.result (state g.S.Store c.args.conn.now) c.args.books.now
+    (state g.S.Store c.at_end.new.conn) c.at_end.new.books c.in-End.is
+    c.at_end.ensures.gathered
+
 pub returns-in-Receipt-clause-gathered : goal.returns-in-Receipt-clause-gathered
 returns-in-Receipt-clause-gathered g c =
     so c.args.command.now _ c.at_receipt.result (state g.S.Store c.args.conn.now) c.args.books.now

@@ -5,18 +5,16 @@ ghost use Rattle.sqlite.specs.State.{HasCleanDisk};
 ghost use Rattle.sqlite.specs.Held.{state};
 ghost use Rattle.dh_runs.specs.Taking.{IsResting};
 
-use crate::lives::problem_text;
-use crate::sound::sound_books;
-use dh_answers::answer;
+use dh_agency_scripts::{Lived, line_over as told_over, problem_text, sound_books};
 use dh_books::Books;
 use dh_fields::Request;
 use dh_leases::{BatchRows, Plan, plan_of};
 use dh_model::Verdict;
+use dh_rules::{answer, decide};
 use dh_runs::{Problem, plan_run};
 use dh_scripts::{add_part, answer_text, request};
 use dh_store::{ask, look_up};
 use dh_types::{Command, Question};
-use dh_verdicts::decide;
 use sqlite::{Alter, Connection};
 use std::alloc::{AllocError, Global};
 
@@ -83,8 +81,8 @@ fn told(alloc: Global, said: Result<String, Problem>) -> Result<String, AllocErr
     }
 }
 
-/// The verdict on the command that the line is, or the answer to the question, over tables that were just opened.
-pub fn judge_text<S: Alter>(
+// The verdict on the command that the line is, or the answer to the question.
+fn judge_text<S: Alter>(
     alloc: Global,
     conn: &mut Connection<S>,
     line: &str,
@@ -134,9 +132,21 @@ fn planned<S: Alter>(alloc: Global, conn: &mut Connection<S>) -> Result<String, 
     Ok(both(alloc, found, plain)?)
 }
 
-/// The plan of the open run over tables that were just opened.
-pub fn planned_text<S: Alter>(alloc: Global, conn: &mut Connection<S>) -> Result<String, AllocError>
+// The plan of the open run.
+fn planned_text<S: Alter>(alloc: Global, conn: &mut Connection<S>) -> Result<String, AllocError>
     requires { HasCleanDisk (state S.Store conn.old) → IsResting (state S.Store conn.old) }
 {
     told(alloc, planned(alloc, conn))
+}
+
+/// What one line comes to over tables that were just opened: `call,judge,LINE` is the verdict on a command or the answer to a question, and
+/// `call,plan` the plan of the open run. Every other line is a call of a layer below an agency, or is told to one.
+pub fn line_over<S: Alter>(alloc: Global, mut conn: Connection<S>, line: &str) -> Lived<S>
+    requires { HasCleanDisk (state S.Store conn) → IsResting (state S.Store conn) }
+{
+    match (line, line.strip_prefix("call,judge,")) {
+        (_, Some(words)) => (judge_text(alloc, &mut conn, words), conn),
+        ("call,plan", None) => (planned_text(alloc, &mut conn), conn),
+        _ => told_over(alloc, conn, line),
+    }
 }
