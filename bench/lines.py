@@ -7,11 +7,10 @@ lines.py answer [FILE]    answers the lines of standard input by the same tables
 
 import csv
 import re
-import sqlite3
 import sys
 from datetime import date
 
-from tables import creating_texts
+from tables import made_tables
 
 FIRST_MONTH = 12 * 2025
 ID = re.compile("[A-Z][A-Z0-9]{0,7}").fullmatch
@@ -95,12 +94,7 @@ def plus_months(day, months):
 
 class Office:
     def __init__(self, path):
-        self.conn = sqlite3.connect(path, isolation_level=None)
-        # As the store does on a file.
-        self.conn.execute("PRAGMA journal_mode = WAL")
-        self.conn.execute("PRAGMA foreign_keys = ON")
-        for text in creating_texts():
-            self.conn.execute(text)
+        self.conn = made_tables(path)
         self.conn.execute(f"INSERT INTO meta VALUES (1, 2, {FIRST_MONTH}, {FIRST_MONTH})")
 
     def one(self, text, *values):

@@ -7,12 +7,11 @@ owners.py python LEASES [FILE]    makes the same tables, in memory or in FILE, a
                                   same looks at rows, a commit an end
 """
 
-import sqlite3
 import sys
 import time
 
-from runs import BRANCHES, FIRST_MONTH, fill, run
-from tables import creating_texts
+from runs import BRANCHES, FIRST_MONTH, fill, put_branches, put_lease, run
+from tables import made_tables
 
 OF_ONE = 100
 TIMED_OWNERS = 100
@@ -33,18 +32,13 @@ def ended_leases(leases):
 
 
 def put_lines(leases):
+    put_branches()
     for n in range(BRANCHES):
-        print(f"branch,B{n},1 Main St,Leeds,LS1 1AA")
-        print(f"staff,S{n},Ann Lee,Assistant,B{n}")
         print(f"fee,B{n},{n * 100 + 50}")
     for n in range(owners(leases)):
         print(f"owner,O{n},Tom Ray,2 Low Rd Leeds,0113 1")
     for n in range(leases):
-        branch = n % BRANCHES
-        print(f"property,P{n},{n} Hill Rd,Leeds,LS2 2BB,Flat,3,{n % 900 + 100}.00,O{n % owners(leases)},,B{branch}")
-        print(f"client,C{n},Mia Fox,0113 2,Flat,700.00")
-        print(f"register,C{n},B{branch},S{branch},2025-01-01")
-        print(f"lease,{n + 1},C{n},P{n},2025-01-{n % 28 + 1:02},12,Cash")
+        put_lease(n, f"O{n % owners(leases)}")
     print("run,R-0,2025-01")
     print("time owner")
     for n in asked_owners(leases):
@@ -70,12 +64,11 @@ def statement(conn, owner, month):
         return "refused 14"
     fees = dict(conn.execute("SELECT branch_no, fee FROM part_fee WHERE month = ?", (month,)))
     rows = []
-    for number, its, branch in conn.execute("SELECT property_no, owner_no, branch_no FROM property").fetchall():
-        if its == owner:
-            for (lease,) in conn.execute("SELECT lease_no FROM lease WHERE property_no = ?", (number,)):
-                for charged, amount in conn.execute("SELECT month, amount FROM charge WHERE lease_no = ?", (lease,)):
-                    if charged == month:
-                        rows.append((lease, number, amount, amount * fees[branch] // 10000))
+    for number, branch in conn.execute("SELECT property_no, branch_no FROM property WHERE owner_no = ?", (owner,)).fetchall():
+        for (lease,) in conn.execute("SELECT lease_no FROM lease WHERE property_no = ?", (number,)):
+            for charged, amount in conn.execute("SELECT month, amount FROM charge WHERE lease_no = ?", (lease,)):
+                if charged == month:
+                    rows.append((lease, number, amount, amount * fees[branch] // 10000))
     rows.sort()
     amounts = sum(row[2] for row in rows)
     fee = sum(row[3] for row in rows)
@@ -120,12 +113,7 @@ def timed(name, calls):
 
 
 def time_both(leases, path):
-    conn = sqlite3.connect(path, isolation_level=None)
-    # As the store does on a file.
-    conn.execute("PRAGMA journal_mode = WAL")
-    conn.execute("PRAGMA foreign_keys = ON")
-    for text in creating_texts():
-        conn.execute(text)
+    conn = made_tables(path)
     fill(conn, leases)
     conn.execute("BEGIN")
     for n in range(owners(leases)):

@@ -10,7 +10,8 @@ from collections import Counter
 from itertools import accumulate, pairwise
 from pathlib import Path
 
-from refused_books import rows_behind
+from migration import make
+from refused_books import migrated, rows_behind, rows_of
 from refused_jobs import FIRST_MONTH, ON_FILE, Asked, BadWords, Bench, Job, Service, replied, shown
 
 HERE = Path(__file__).parent
@@ -29,6 +30,8 @@ REPORTS = {
     "statement 10001": b"   10001 C001     P101           650.00\ncharge   2025-01-31       650.00\nbalance                   650.00\n",
     "arrears B001": b"   10001 C001           650.00 Eve Orr\n   10002 C002           400.00 Ian Poe\ntotal                  1050.00\n",
     "run 2025-01": b"B001            2      1050.00\nB002            0         0.00\nB003            1       375.00\n2025-01         3      1425.00\n",
+    "owner O1 2025-01": b"   10001 P101           650.00         0.00\n   10002 P102           400.00         0.00\n"
+                        b"   10003 P301           375.00         0.00\ntotal                  1425.00         0.00\npayable                1425.00\n",
 }
 FROB = b"error: unrecognized subcommand 'frob'\n\nUsage: letting <COMMAND>\n\nFor more information, try '--help'.\n"
 
@@ -74,6 +77,13 @@ def rows_after(lines, replies):
     return rows_behind(FIRST_MONTH, lines, replies)[-1]
 
 
+def first_version(bench, name, months, is_open=False):
+    """A folder with a file of the first version, and the file's rows."""
+    folder = bench.folder(name)
+    make(folder / "office.db", 3, months, is_open)
+    return folder, rows_of(folder / "office.db")
+
+
 def all_jobs(bench):
     oks = ["ok"] * THREE.count(b"\n")
     three, ran = rows_after(THREE, oks), rows_after(THREE + RUN, [*oks, "posted"])
@@ -87,6 +97,9 @@ def all_jobs(bench):
     yield Job("run", run, let, [b"posted 2025-01 3 1425.00\n"], rows=[three, ran])
     yield Job("run in parts", [*run, "--batches", "1"], let, [b"part 2025-01 1 of 3\n"], 4, rows=[three, ran])
     yield Job("recover", ["recover", *ON_FILE], half, [b"recovered\n"], rows=[ran, ran])
+    (cut, _), (old, rows) = first_version(bench, "cut", 1, True), first_version(bench, "old", 2)
+    yield Job("recover, first version", ["recover", *ON_FILE], cut, [b"recovered\n"], rows=[rows, rows])
+    yield Job("migrate", ["migrate", *ON_FILE], old, [b"migrated\n"], rows=[rows, migrated(rows)])
     for question, report in REPORTS.items():
         yield Job(f"report {question}", ["report", *ON_FILE, *question.split()], posted, [report], rows=[ran, ran])
     yield Job("report branches, a run open", ["report", *ON_FILE, "branches"], half, [REPORTS["branches"]], 4, rows=[ran, ran])

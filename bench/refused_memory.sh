@@ -5,7 +5,7 @@
 #     bench/refused_memory.sh [STRIDE [FIRST [JOB..]]]     100, 1 and each job where not given; bench/refused_memory.py names the jobs
 #
 # The jobs are `init`, `batch` in memory and on a file (a line of each kind, refusals, each question: bench/refused_memory/day.csv), `run`,
-# whole and in parts, `recover`, each `report`, `serve`, and words that are bad. What is checked:
+# whole and in parts, `recover` of either version, `migrate`, each `report`, `serve`, and words that are bad. What is checked:
 # - The answer is the right one, or its first lines and exactly `fault 21`, with status 3. In a batch the fault has the number of the record
 #   in which the growth was asked for. `serve` answers each connection rightly, with 503 or not at all. Bad words end with 2.
 # - The file that is left is recovered to the rows before that record or behind it. Python computes these from the lines, and reads the file

@@ -10,11 +10,10 @@ runs.py python LEASES [FILE]    makes the same tables, in memory or in FILE, and
                                 month: its opening, its batches of fifty and its end, a transaction each
 """
 
-import sqlite3
 import sys
 import time
 
-from tables import creating_texts
+from tables import made_tables
 
 BRANCHES = 10
 BATCH = 50
@@ -25,17 +24,25 @@ def month(n):
     return f"{2025 + n // 12}-{n % 12 + 1:02}"
 
 
-def put_leases(leases):
+def put_branches():
     for n in range(BRANCHES):
         print(f"branch,B{n},1 Main St,Leeds,LS1 1AA")
         print(f"staff,S{n},Ann Lee,Assistant,B{n}")
+
+
+def put_lease(n, owner):
+    branch = n % BRANCHES
+    print(f"property,P{n},{n} Hill Rd,Leeds,LS2 2BB,Flat,3,{n % 900 + 100}.00,{owner},,B{branch}")
+    print(f"client,C{n},Mia Fox,0113 2,Flat,700.00")
+    print(f"register,C{n},B{branch},S{branch},2025-01-01")
+    print(f"lease,{n + 1},C{n},P{n},2025-01-{n % 28 + 1:02},12,Cash")
+
+
+def put_leases(leases):
+    put_branches()
     print("owner,O1,Tom Ray,2 Low Rd Leeds,0113 1")
     for n in range(leases):
-        branch = n % BRANCHES
-        print(f"property,P{n},{n} Hill Rd,Leeds,LS2 2BB,Flat,3,{n % 900 + 100}.00,O1,,B{branch}")
-        print(f"client,C{n},Mia Fox,0113 2,Flat,700.00")
-        print(f"register,C{n},B{branch},S{branch},2025-01-01")
-        print(f"lease,{n + 1},C{n},P{n},2025-01-{n % 28 + 1:02},12,Cash")
+        put_lease(n, "O1")
 
 
 def batches(leases):
@@ -111,12 +118,7 @@ def run(conn):
 
 
 def time_run(leases, path):
-    conn = sqlite3.connect(path, isolation_level=None)
-    # As the store does on a file.
-    conn.execute("PRAGMA journal_mode = WAL")
-    conn.execute("PRAGMA foreign_keys = ON")
-    for text in creating_texts():
-        conn.execute(text)
+    conn = made_tables(path)
     fill(conn, leases)
     start = time.perf_counter()
     run(conn)

@@ -10,7 +10,6 @@ serve.py time LETTING PYTHON    prints the requests a second of `letting serve` 
 import json
 import re
 import socket
-import sqlite3
 import subprocess
 import sys
 import time
@@ -18,7 +17,7 @@ from contextlib import contextmanager
 from http.server import BaseHTTPRequestHandler, HTTPServer
 from pathlib import Path
 
-from tables import creating_texts
+from tables import made_tables
 
 PROPERTIES = 1000
 REQUESTS = 1000
@@ -45,12 +44,7 @@ def pence(text):
 
 class Office:
     def __init__(self, path):
-        self.conn = sqlite3.connect(path, isolation_level=None)
-        # As the store does on a file.
-        self.conn.execute("PRAGMA journal_mode = WAL")
-        self.conn.execute("PRAGMA foreign_keys = ON")
-        for text in creating_texts():
-            self.conn.execute(text)
+        self.conn = made_tables(path)
         self.conn.execute("BEGIN")
         for line in lines():
             table, *row = line.split(",")

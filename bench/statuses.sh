@@ -73,6 +73,7 @@ run 4 'B001     Leeds' report --file office.db branches </dev/null
 run 1 'refused 10 2025-01' run --file office.db --key R-1 --month 2025-01 </dev/null
 run 0 'recovered' recover --file office.db </dev/null
 run 0 'already posted 2025-01 0 0.00' run --file office.db --key R-1 --month 2025-01 --batches 1 </dev/null
+run 5 'refused 16 2' migrate --file office.db </dev/null
 python3 -c "import sqlite3; c = sqlite3.connect('office.db'); c.execute('UPDATE meta SET version = 7'); c.commit()"
 run 5 'refused 16 7' recover --file office.db </dev/null
 closed 2 frob

@@ -32,6 +32,29 @@ def creating_texts():
     return [re.sub(r"\\\n\s*", "", texts[name]) for name in re.findall(r"\w+", order)]
 
 
+def parted_texts():
+    """The texts of the first version, and those that came with the second."""
+    count = int(re.search(r"FIRST_COUNT: usize = (\d+);", TEXTS.read_text()).group(1))
+    texts = creating_texts()
+    return texts[:count], texts[count:]
+
+
+def opened(path):
+    """A connection that journals and checks as the store does on a file. Each statement is a transaction where none was begun."""
+    conn = sqlite3.connect(path, isolation_level=None)
+    conn.execute("PRAGMA journal_mode = WAL")
+    conn.execute("PRAGMA foreign_keys = ON")
+    return conn
+
+
+def made_tables(path, texts=None):
+    """Such a connection to a new file or to memory, with the tables that these texts make, or all where none are given."""
+    conn = opened(path)
+    for text in creating_texts() if texts is None else texts:
+        conn.execute(text)
+    return conn
+
+
 class Rows:
     """The rows of each table by their number; those of a number past the table's refer to rows that it has."""
 

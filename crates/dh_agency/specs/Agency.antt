@@ -5,18 +5,19 @@ use Rattle.sqlite.specs.State as conn
 use Rattle.sqlite.specs.State.{HasCleanDisk}
 use Rattle.sqlite.specs.Held.{state}
 use Rattle.sqlite_trees.specs.View.{doubt}
+use Rattle.dh_types.specs.declared.version.Version.TheVariants.{Second}
 use Rattle.dh_model.specs.Books.{State}
 use Rattle.dh_model.specs.Runs.{batch_size}
 use Rattle.dh_laws.specs.Events.{state_of}
 use Rattle.dh_laws.specs.StateTables as laws
 use Rattle.dh_schema.specs.Store as store
 use Rattle.dh_schema.specs.Store.{tables}
-use Rattle.dh_runs.specs.Taking.{AreSecond}
+use Rattle.dh_runs.specs.Taking.{HasVersion}
 use Rattle.dh_agency.specs.Seat.{Seat}
 
 -- Ready, with tables of the second version.
 abbrev pub IsServed : conn.State → Type 0
-IsServed s = store.IsReady s × AreSecond s
+IsServed s = store.IsReady s × HasVersion Second s
 
 abbrev pub shown_by : {S : Type 0} → Ghosts S → Seat S → conn.State
 shown_by g a = state g a.conn

@@ -1,20 +1,11 @@
 -- What is left of a store whose tables were to be taken, whatever came of it.
-use Rattle.std.specs.Prelude.{◌≡◌, ◌≤◌, IsTrue}
+use Rattle.std.specs.Prelude.{◌≤◌, IsTrue}
 use Rattle.sqlite.specs.State.{HasCleanDisk, State}
-use Rattle.sqlite_trees.specs.Tree.{Trees}
 use Rattle.sqlite_trees.specs.View.{doubt}
 use Rattle.dh_schema.specs.Store.{Leaves, tables}
 use Rattle.dh_schema.specs.Tables.{IsSound}
-use Rattle.dh_runs.specs.Taking.{IsResting}
+use Rattle.dh_runs.specs.Taking.{LeavesAsTheyWere, ReadsAsItDid}
 use Rattle.dh_runs.specs.Told.{IsTorn}
-
--- A crash leaves what the tables were.
-abbrev pub LeavesAsTheyWere : State → State → Type 0
-LeavesAsTheyWere old new = (left : Trees) → new.may_leave left → left ≡ old.now.trees
-
--- It is open between transactions, and what it reads is what it read.
-abbrev pub ReadsAsItDid : State → State → Type 0
-ReadsAsItDid old new = IsResting new × (new.now ≡ old.now)
 
 -- The tables were taken as they are, or not taken.
 pub record TakesAsTheyAre (old new : State) : Type 0 where

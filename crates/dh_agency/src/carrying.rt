@@ -4,13 +4,14 @@ ghost use Rattle.std.specs.Prelude.{◌≡◌, ◌≤◌, true, false, IsTrue, I
 ghost use Rattle.sqlite.specs.State.{HasCleanDisk};
 ghost use Rattle.sqlite.specs.Held.{state};
 ghost use Rattle.sqlite_trees.specs.View.{doubt};
+ghost use Rattle.dh_types.specs.declared.version.Version.TheVariants.{Second};
 ghost use Rattle.dh_model.specs.declared.rows.Verdict.TheVariants as verdict;
 ghost use Rattle.dh_model.specs.MachineLaws.{is_post};
 ghost use Rattle.dh_model.specs.Verdicts.{verdict_on};
 ghost use Rattle.dh_laws.specs.Batches.{is_plain};
 ghost use Rattle.dh_schema.specs.Faults.{IsFirstFault};
 ghost use Rattle.dh_schema.specs.Store.{IsReady, IsReadyWith, Leaves, tables};
-ghost use Rattle.dh_runs.specs.Taking.{AreSecond};
+ghost use Rattle.dh_runs.specs.Taking.{HasVersion};
 ghost use Rattle.dh_agency.specs.Told.{IsCut, IsSaid, reply_of};
 
 use dh_laws::entering::commands_are_entered;
@@ -42,7 +43,7 @@ fn put_rows<S: Alter>(
     change: &Change,
 ) -> Result<Reply, StoreFault>
     requires ready { HasCleanDisk (state S.Store conn.old) → IsReady (state S.Store conn.old) }
-    requires second { HasCleanDisk (state S.Store conn.old) → AreSecond (state S.Store conn.old) }
+    requires second { HasCleanDisk (state S.Store conn.old) → HasVersion Second (state S.Store conn.old) }
     requires plain { HasCleanDisk (state S.Store conn.old) → is_plain change.now ≡ true }
     requires verdict { HasCleanDisk (state S.Store conn.old)
         → verdict_on (tables (state S.Store conn.old)).books (tables (state S.Store conn.old)).open_run command.now ≡ verdict.Change change.now }
@@ -69,7 +70,7 @@ fn accept<S: Alter>(
     change: &Change,
 ) -> Result<Reply, StoreFault>
     requires ready { HasCleanDisk (state S.Store conn.old) → IsReady (state S.Store conn.old) }
-    requires second { HasCleanDisk (state S.Store conn.old) → AreSecond (state S.Store conn.old) }
+    requires second { HasCleanDisk (state S.Store conn.old) → HasVersion Second (state S.Store conn.old) }
     requires other { is_post command.now ≡ false }
     requires verdict { HasCleanDisk (state S.Store conn.old)
         → verdict_on (tables (state S.Store conn.old)).books (tables (state S.Store conn.old)).open_run command.now ≡ verdict.Change change.now }
@@ -100,7 +101,7 @@ pub(crate) fn carry_out<S: Alter>(
     command: &Command,
 ) -> Result<Reply, StoreFault>
     requires ready { HasCleanDisk (state S.Store conn.old) → IsReady (state S.Store conn.old) }
-    requires second { HasCleanDisk (state S.Store conn.old) → AreSecond (state S.Store conn.old) }
+    requires second { HasCleanDisk (state S.Store conn.old) → HasVersion Second (state S.Store conn.old) }
     ensures ready { HasCleanDisk (state S.Store conn.new) → OnOk result (IsReady (state S.Store conn.new)) }
     ensures said { HasCleanDisk (state S.Store conn.new)
         → IfOk result (λ reply. IsSaid command.now reply (tables (state S.Store conn.old)) (tables (state S.Store conn.new))) }

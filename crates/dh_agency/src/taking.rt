@@ -1,19 +1,21 @@
-//! Taking the tables that there are.
+//! Taking the tables of the second version that there are.
 
 ghost use Rattle.std.specs.Prelude.{◌≡◌, false, IsTrue, Err, IfOk, IfErr, IsErrAnd};
 ghost use Rattle.sqlite.specs.State.{HasCleanDisk};
 ghost use Rattle.sqlite.specs.Held.{state};
+ghost use Rattle.dh_types.specs.declared.version.Version.TheVariants.{Second};
 ghost use Rattle.dh_tables.specs.Calls.{HasOurTables};
 ghost use Rattle.dh_schema.specs.Store.{IsReadyWith, tables};
 ghost use Rattle.dh_schema.specs.Tables.{IsSound};
 ghost use Rattle.dh_runs.specs.Problems.{IsNotTaken};
-ghost use Rattle.dh_runs.specs.Taking.{HasTablesOfAnother, IsFirstProblem, IsProblemOf, IsResting};
+ghost use Rattle.dh_runs.specs.Taking.{HasTablesOfAnother, IsFirstProblem, IsOfVersion, IsProblemOf, IsResting, ReadsAsItDid};
 ghost use Rattle.dh_agency.specs.Agency.{IsClean, LeavesItsTables, machine, shown_by};
 ghost use Rattle.dh_agency.specs.Taken.{TakesAsTheyAre, TakesForward};
 ghost use Rattle.dh_agency.specs.Told.{IsMended, IsTorn};
 
 use crate::{Agency, NotOpened};
 use dh_runs::{Problem, check, recover_in};
+use dh_types::Version;
 use sqlite::{Alter, Connection};
 use std::alloc::Global;
 
@@ -29,17 +31,17 @@ pub fn attach<S: Alter>(
     requires { HasCleanDisk (state S.Store conn) → IsResting (state S.Store conn) }
     ensures taken { IfOk result (λ a. (a.is_stopped ≡ false) × (IsClean S.Store a → machine S.Store a ≡ tables (state S.Store conn))) }
     ensures left { IfOk result (λ a. IsClean S.Store a → LeavesItsTables S.Store a) }
-    ensures refused { IfErr result (λ e. HasCleanDisk (state S.Store e.conn) → IsProblemOf (state S.Store conn).now.trees e.cause) }
+    ensures refused { IfErr result (λ e. HasCleanDisk (state S.Store e.conn) → IsProblemOf Second (state S.Store conn).now.trees e.cause) }
     ensures cause { IfErr result (λ e. IsFirstProblem e.cause) }
     ensures others { ¬ HasOurTables (state S.Store conn) → IsErrAnd result (λ e. IsNotTaken {X = Unit {0}} (Err e.cause) × (e.conn ≡ conn)) }
-    ensures another { HasTablesOfAnother (state S.Store conn) → IfOk result (λ a. ¬ IsClean S.Store a) }
-    ensures turned_away { HasTablesOfAnother (state S.Store conn)
+    ensures another { HasTablesOfAnother Second (state S.Store conn) → IfOk result (λ a. ¬ IsClean S.Store a) }
+    ensures turned_away { HasTablesOfAnother Second (state S.Store conn)
         → IfErr result (λ e. HasCleanDisk (state S.Store e.conn) → IsNotTaken {X = Unit {0}} (Err e.cause)) }
     ensures kept { IfOk result (λ a. TakesAsTheyAre (state S.Store conn) (shown_by S.Store a)) }
     ensures crash { IfErr result (λ e. TakesAsTheyAre (state S.Store conn) (state S.Store e.conn)) }
 {
     let mut conn = conn;
-    match check(alloc, &mut conn) {
+    match check(alloc, &mut conn, Version::Second) {
         Ok(()) => Ok(Agency::over(conn)),
         Err(cause) => Err(NotOpened { cause, conn }),
     }
@@ -55,11 +57,13 @@ pub fn recover<S: Alter>(
     requires { HasCleanDisk (state S.Store conn) → IsResting (state S.Store conn) }
     ensures mended { IfOk result (λ a. (a.is_stopped ≡ false) × (IsClean S.Store a → IsMended (tables (state S.Store conn)) (machine S.Store a))) }
     ensures left { IfOk result (λ a. IsClean S.Store a → LeavesItsTables S.Store a) }
-    ensures refused { IfErr result (λ e. HasCleanDisk (state S.Store e.conn) → IsProblemOf (state S.Store conn).now.trees e.cause) }
+    ensures refused { IfErr result (λ e. HasCleanDisk (state S.Store e.conn) → IsProblemOf Second (state S.Store conn).now.trees e.cause) }
     ensures cause { IfErr result (λ e. IsFirstProblem e.cause) }
+    ensures of_version { IfErr result (λ e. HasCleanDisk (state S.Store e.conn) → IsOfVersion e.cause
+        → ReadsAsItDid (state S.Store conn) (state S.Store e.conn)) }
     ensures others { ¬ HasOurTables (state S.Store conn) → IsErrAnd result (λ e. IsNotTaken {X = Unit {0}} (Err e.cause) × (e.conn ≡ conn)) }
-    ensures another { HasTablesOfAnother (state S.Store conn) → IfOk result (λ a. ¬ IsClean S.Store a) }
-    ensures turned_away { HasTablesOfAnother (state S.Store conn)
+    ensures another { HasTablesOfAnother Second (state S.Store conn) → IfOk result (λ a. ¬ IsClean S.Store a) }
+    ensures turned_away { HasTablesOfAnother Second (state S.Store conn)
         → IfErr result (λ e. HasCleanDisk (state S.Store e.conn) → IsNotTaken {X = Unit {0}} (Err e.cause)) }
     ensures made { IfOk result (λ a. TakesForward (state S.Store conn) (shown_by S.Store a)) }
     ensures crash { IfErr result (λ e. TakesForward (state S.Store conn) (state S.Store e.conn)) }
@@ -71,7 +75,7 @@ pub fn recover<S: Alter>(
         → IsResting (state S.Store e.conn) × IsSound (state S.Store e.conn).now.trees × IsTorn (tables (state S.Store conn)) (tables (state S.Store e.conn))) }
 {
     let mut conn = conn;
-    match recover_in(alloc, &mut conn) {
+    match recover_in(alloc, &mut conn, Version::Second) {
         Ok(()) => Ok(Agency::over(conn)),
         Err(cause) => Err(NotOpened { cause, conn }),
     }

@@ -11,12 +11,12 @@ use crate::batches::batch_text;
 use crate::comparing::compare;
 use crate::rows::all_rows;
 use crate::scripts::{compare_tables, parted, table_of};
-use dh_agency::{Agency, NotOpened, Problem, attach, recover};
+use dh_agency::{Agency, NotOpened, Problem, attach, migrate, recover, recover_1};
 use dh_catalog::texts::{FIRST_COUNT, TEXTS};
 use dh_fields::Request;
 use dh_histories::crashing::{next_life, recovery_and_crash, step_and_crash};
 use dh_scripts::{Block, Tally, request, script};
-use dh_types::Command;
+use dh_types::{Command, Version};
 use sqlite::{Alter, Connection};
 use sqlite_trees::store::Reopen;
 use std::alloc::{AllocError, Global};
@@ -41,6 +41,17 @@ fn given_up<S: Alter>(
 ) -> Lived<S> {
     match opened {
         Ok(agency) => (done.to_string(alloc), agency.into_store()),
+        Err(NotOpened { cause, conn }) => (problem_text(alloc, cause), conn),
+    }
+}
+
+// What came of the recovery of tables of the first version, and the store.
+fn given_back<S: Alter>(
+    alloc: Global,
+    recovered: Result<Connection<S>, NotOpened<Problem, S>>,
+) -> Lived<S> {
+    match recovered {
+        Ok(conn) => ("recovered".to_string(alloc), conn),
         Err(NotOpened { cause, conn }) => (problem_text(alloc, cause), conn),
     }
 }
@@ -89,7 +100,8 @@ fn with_later_tables<S: Alter>(alloc: Global, mut conn: Connection<S>) -> Lived<
     (done.to_string(alloc), conn)
 }
 
-/// One line over tables that were just opened: `attach` and `recover` say what they are, `batch` is the next batch of the open run, posted
+/// One line over tables that were just opened: `attach` and `recover` say what they are, and so do `recover_1` and `migrate`, which are
+/// for tables of the first version. `batch` is the next batch of the open run, posted
 /// without an agency, and for every other line an agency takes the tables as they are.
 pub fn told_anew<S: Alter>(alloc: Global, mut conn: Connection<S>, line: &str) -> Lived<S>
     requires { HasCleanDisk (state S.Store conn) → IsResting (state S.Store conn) }
@@ -99,7 +111,9 @@ pub fn told_anew<S: Alter>(alloc: Global, mut conn: Connection<S>, line: &str) -
         ("later tables", None) => with_later_tables(alloc, conn),
         ("recover", None) => given_up(alloc, recover(alloc, conn), "recovered"),
         ("attach", None) => given_up(alloc, attach(alloc, conn), "attached"),
-        ("batch", None) => (batch_text(alloc, &mut conn), conn),
+        ("recover_1", None) => given_back(alloc, recover_1(alloc, conn)),
+        ("migrate", None) => given_up(alloc, migrate(alloc, conn), "migrated"),
+        ("batch", None) => (batch_text(alloc, &mut conn, Version::Second), conn),
         _ => told_once(alloc, attach(alloc, conn), line),
     }
 }

@@ -80,7 +80,8 @@ fn of_the_version(alloc: Global, version: Version) -> Result<String, AllocError>
     }
 }
 
-fn books_loaded_text(alloc: Global, books: &Books) -> Result<String, AllocError> {
+/// How many rows the books have, and of which version they are where it is not the second.
+pub(crate) fn books_loaded_text(alloc: Global, books: &Books) -> Result<String, AllocError> {
     let rows = sum(&[people(books), properties(books), leases(books), fees(books)]);
     let version = of_the_version(alloc, books.version())?;
     format!(in alloc; "{rows} rows{}", version.as_str())

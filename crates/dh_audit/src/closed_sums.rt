@@ -77,10 +77,10 @@ fn add<K: Ord + Drop>(
     requires few { (sum_at K.cmp sums.old key).count + 1 < 2 ^ 64 }
     requires small { (sum_at K.cmp sums.old key).total ≤ MOST_RENT * (sum_at K.cmp sums.old key).count }
     ensures value { OnOk result (HasOneMore K.cmp sums.old sums.new key charge.now) }
-    ensures bound { charge.now.amount ≤ MOST_RENT }
+    ensures bound { OnOk result (charge.now.amount ≤ MOST_RENT) }
 {
-    let sum = sum_at(sums, &key).with_charge(charge);
-    let _before = sums.insert(key, sum)?;
+    let sum = sums.entry(key)?.or_insert(Sum::none());
+    *sum = sum.with_charge(charge);
     Ok(())
 }
 

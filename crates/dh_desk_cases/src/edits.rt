@@ -1,5 +1,6 @@
 //! Files that another program edited. The first line is the input that makes the file. A line behind it is `STATEMENT -> STATUS TEXT`, as a recovery
-//! ends once the statement ran; with `100 TIMES` before it the statement runs a hundred times, with `{n}` for 00 to 99.
+//! ends once the statement ran; with `100 TIMES` before it the statement runs a hundred times, with `{n}` for 00 to 99. Of a file of the first
+//! version it is so that a migration ends.
 
 use crate::lives::{edited, tables};
 use crate::runs::{PATH, clear, ran};
@@ -7,6 +8,10 @@ use dh_agency_scripts::{compare, parted};
 use dh_scripts::Tally;
 use std::alloc::{AllocError, Global};
 use std::{fs, io};
+
+// What makes a file one of the first version.
+const TO_FIRST: &str =
+    "DROP TABLE ending; DROP TABLE part_fee; DROP TABLE branch_fee; UPDATE meta SET version = 1";
 
 // The statements of a line.
 fn statements_of(alloc: Global, text: &str) -> Result<String, AllocError> {
@@ -22,18 +27,27 @@ fn statements_of(alloc: Global, text: &str) -> Result<String, AllocError> {
     Ok(statements)
 }
 
-// A file as it was closed, and its tables.
+// A file as it was closed, its tables, and the words of the run that is tried on it.
 #[derive(Drop)]
 struct Closed {
+    words: &'static str,
     bytes: Vec<u8>,
     tables: String,
 }
 
-fn made(rt: &HostRuntime, input: &str) -> io::Result<Closed> {
+// Makes a file by the input, and edits it.
+fn made(
+    rt: &HostRuntime,
+    words: &'static str,
+    input: &str,
+    statements: &str,
+) -> io::Result<Closed> {
     clear(rt);
     let _ = ran(rt, "init --file F --first 2025-01", "")?;
     let _ = ran(rt, "batch --file F", input)?;
+    let _ = edited(rt, statements);
     Ok(Closed {
+        words,
         bytes: fs::read(rt, PATH)?,
         tables: tables(rt)?,
     })
@@ -50,7 +64,7 @@ fn left(rt: &HostRuntime, closed: &Closed, edited: &[u8]) -> io::Result<&'static
     Ok("another")
 }
 
-// Edits the file and recovers it: a file that is refused stays, and one that isn't has the tables of before.
+// Edits the file and makes the run: a file that is refused stays, and one that is recovered has the tables of before.
 fn play_edit(rt: &HostRuntime, tally: &mut Tally, closed: &Closed, line: &str) -> io::Result<()> {
     let (text, want) = parted(line);
     let statements = statements_of(rt.alloc(), text)?;
@@ -58,7 +72,7 @@ fn play_edit(rt: &HostRuntime, tally: &mut Tally, closed: &Closed, line: &str) -
     let done = edited(rt, statements.as_str()).unwrap_or("not done");
     compare(rt, tally, text, done, "done")?;
     let edited = fs::read(rt, PATH)?;
-    let got = ran(rt, "recover --file F", "")?;
+    let got = ran(rt, closed.words, "")?;
     compare(rt, tally, line, got.as_str(), want)?;
     let stays = if want.starts_with("5") {
         "as it was edited"
@@ -68,13 +82,28 @@ fn play_edit(rt: &HostRuntime, tally: &mut Tally, closed: &Closed, line: &str) -
     compare(rt, tally, text, left(rt, closed, &edited)?, stays)
 }
 
-/// Plays each line on a file of its own.
-pub fn play(rt: &HostRuntime, tally: &mut Tally, lines: &str) -> io::Result<()> {
+fn play_over(
+    rt: &HostRuntime,
+    tally: &mut Tally,
+    words: &'static str,
+    statements: &str,
+    lines: &str,
+) -> io::Result<()> {
     let (input, edits) = lines.split_once('\n').unwrap_or((lines, ""));
-    let closed = made(rt, input)?;
+    let closed = made(rt, words, input, statements)?;
     for line in edits.lines() {
         play_edit(rt, tally, &closed, line)?;
     }
     clear(rt);
     Ok(())
+}
+
+/// Plays each line on a file of its own, which is recovered.
+pub fn play(rt: &HostRuntime, tally: &mut Tally, lines: &str) -> io::Result<()> {
+    play_over(rt, tally, "recover --file F", "", lines)
+}
+
+/// Plays each line on a file of the first version of its own, which is migrated.
+pub fn play_first(rt: &HostRuntime, tally: &mut Tally, lines: &str) -> io::Result<()> {
+    play_over(rt, tally, "migrate --file F", TO_FIRST, lines)
 }

@@ -26,6 +26,7 @@ use std::io;
 fn play(rt: &HostRuntime, tally: &mut Tally, kind: &str, lines: &str) -> io::Result<()> {
     match kind {
         "edited files" => edits::play(rt, tally, lines),
+        "edited files of the first version" => edits::play_first(rt, tally, lines),
         "an import" => imports::play(rt, tally, lines),
         "long inputs" => many::play(rt, tally, lines),
         "the manual and the examples" => manual::play(rt, tally, lines),

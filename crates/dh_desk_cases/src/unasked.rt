@@ -2,8 +2,8 @@
 //! them may answer a fault.
 //!
 //! A line `FILE -> N calls, 0 faults` is a script, and what its calls come to. A block is told in three ways, in each to an agency of its
-//! own. The lines of a block `on tables` are told one by one to tables that are opened anew: `attach`, `recover` and `batch` are calls, and
-//! for every other line an agency attaches the tables first.
+//! own. The lines of a block `on tables` are told one by one to tables that are opened anew: `attach`, `recover`, `recover_1`,
+//! `migrate` and `batch` are calls, and for every other line an agency attaches the tables first.
 
 use crate::ways::{Way, told, wanted};
 use dh_agency::Agency;
@@ -103,10 +103,11 @@ fn play_way(
     compare_tables(rt, tally, block, tables?.as_str())
 }
 
-// How many calls such a line is.
+// How many calls such a line is: what another program does is none.
 fn calls_of(words: &str) -> u64 {
     match words {
-        "attach" | "recover" | "batch" => 1,
+        _ if words.starts_with("sql,") => 0,
+        "attach" | "recover" | "recover_1" | "migrate" | "batch" => 1,
         _ => 2,
     }
 }

@@ -169,7 +169,8 @@ fn play_block<D: TrialDisk>(
     play_call(rt, tally, block, &begun, last.as_str(), work)
 }
 
-/// Plays each block on disks that stop, and on full ones. What is left is found by the work: it is looked at, or recovered first.
+/// Plays each block on disks that stop, and on full ones. What is left is found by the work: it is looked at, or recovered
+/// first, or migrated.
 pub fn play(rt: &HostRuntime, tally: &mut Tally, text: &str, work: Work<'_>) -> io::Result<()> {
     let Ok(blocks) = script(rt.alloc(), text) else {
         return compare(rt, tally, "a script", "not read", "read");

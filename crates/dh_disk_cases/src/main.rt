@@ -32,6 +32,9 @@ fn play(rt: &HostRuntime, tally: &mut Tally, kind: &str, lines: &str) -> io::Res
         "calls on disks that fail and are recovered" => {
             failing_calls::play(rt, tally, lines, Work::Recover)
         }
+        "calls on disks that fail and are migrated" => {
+            failing_calls::play(rt, tally, lines, Work::Line("migrate"))
+        }
         "agencies made on disks that fail" => creating::play(rt, tally),
         "lives" => series::play(rt, tally, lines, Recoveries::Whole),
         "lives and recoveries" => series::play(rt, tally, lines, Recoveries::BehindThreeStops),

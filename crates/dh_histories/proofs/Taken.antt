@@ -12,14 +12,13 @@ use Rattle.dh_laws.specs.Events.{Event}
 use Rattle.dh_laws.specs.StateTables.{as_tables}
 use Rattle.dh_rows.specs.Cells.{version_number}
 use Rattle.dh_rows.specs.Months.{Months}
-use Rattle.dh_rows.specs.declared.limits.TheConstants.{VERSION}
 use Rattle.dh_tables.specs.MetaTable.{meta_rows}
 use Rattle.dh_schema.specs.Store.{tables}
 use Rattle.dh_schema.specs.Tables.{IsSound, version_of_tables}
 use Rattle.dh_schema.specs.Version.{only_version}
 use Rattle.dh_schema.proofs.Changing.{told}
 use Rattle.dh_schema.proofs.Keyed.{order_has_values}
-use Rattle.dh_runs.specs.Taking.{BreaksRuleZero, IsOurVersion, IsRefusedFor}
+use Rattle.dh_runs.specs.Taking.{BreaksRuleZero, GivesVersion, IsRefusedFor}
 use Rattle.dh_histories.specs.Histories.{IsHistory, IsSoundIn, Moment, event_of}
 use Rattle.dh_histories.specs.HistoryLaws.{NoneIsRefused}
 use Rattle.dh_histories.proofs.Following.{Comes, found_after}
@@ -33,44 +32,45 @@ number_given trees sound =
     ∙ ap (λ (m : Months). Some (pos (version_number m.version))) (sym (told order.months trees order.meta))
 
 -- sound tables of the same version give the same number
-same_number : (trees others : Trees) → IsSound trees → IsSound others → version_of_tables others ≡ version_of_tables trees → IsOurVersion trees
-    → IsOurVersion others
-same_number trees others sound later same ours =
-    number_given others later ∙ ap (λ (v : Version). Some (pos (version_number v))) same ∙ sym (number_given trees sound) ∙ ours
+same_number : (version : Version) (trees others : Trees) → IsSound trees → IsSound others → version_of_tables others ≡ version_of_tables trees
+    → GivesVersion version trees → GivesVersion version others
+same_number version trees others sound later same given =
+    number_given others later ∙ ap (λ (v : Version). Some (pos (version_number v))) same ∙ sym (number_given trees sound) ∙ given
 
-keeps_rule_zero : (trees : Trees) → IsSound trees → IsOurVersion trees → BreaksRuleZero trees → ⊥
-keeps_rule_zero trees sound ours (inl none) = let same : Some (pos VERSION) ≡ None = sym ours ∙ none in cc
-keeps_rule_zero trees sound ours (inr it) = it.1 (order_has_values trees sound.in_order)
+module _ (version : Version) where
+  keeps_rule_zero : (trees : Trees) → IsSound trees → GivesVersion version trees → BreaksRuleZero version trees → ⊥
+  keeps_rule_zero trees sound given (inl none) = let same : Some (pos (version_number version)) ≡ None = sym given ∙ none in cc
+  keeps_rule_zero trees sound given (inr it) = it.1 (order_has_values trees sound.in_order)
 
-sound_is_taken : (trees : Trees) (why : Refusal) → IsSound trees → IsOurVersion trees → IsRefusedFor trees why → ⊥
-sound_is_taken trees (refusal.Version found) sound ours it =
-    let same : Some found ≡ Some (pos VERSION) = sym it.0 ∙ ours in
-    it.1 (cc)
-sound_is_taken trees (refusal.Damaged rule) sound ours (inl zero) = keeps_rule_zero trees sound ours zero.1
-sound_is_taken trees (refusal.Damaged rule) sound ours (inr least) = least.1.breaks (sound.rules least.1.broken)
-sound_is_taken trees _ sound ours it = it
+  sound_is_taken : (trees : Trees) (why : Refusal) → IsSound trees → GivesVersion version trees → IsRefusedFor version trees why → ⊥
+  sound_is_taken trees (refusal.Version found) sound given it =
+      let same : Some found ≡ Some (pos (version_number version)) = sym it.0 ∙ given in
+      it.1 (cc)
+  sound_is_taken trees (refusal.Damaged rule) sound given (inl zero) = keeps_rule_zero trees sound given zero.1
+  sound_is_taken trees (refusal.Damaged rule) sound given (inr least) = least.2.breaks (sound.rules least.2.broken)
+  sound_is_taken trees _ sound given it = it
 
 -- what came of a call leaves the version
-comes_so : (event : Option Event) (before after : machine.State) → Comes event before after → after.books.version ≡ before.books.version
+pub comes_so : (event : Option Event) (before after : machine.State) → Comes event before after → after.books.version ≡ before.books.version
 comes_so None before after same = ap (λ (s : machine.State). s.books.version) same
 comes_so (Some event) before after it = the_version_stays batch_size event (as_tables before) (as_tables after) it
 
-module _ {S : Type 0} (g : Ghosts S) where
+module _ {S : Type 0} (g : Ghosts S) (version : Version) where
   -- so do all calls of a history
-  last_ours : (first : Held S) (history : List (Moment S)) (last : Moment S) → IsSoundIn g first → IsOurVersion (state g first).now.trees
-      → IsHistory g first (history ++ last ∷ []) → IsSoundIn g last.found × IsOurVersion (state g last.found).now.trees
-  last_ours first [] last sound ours so =
+  last_given : (first : Held S) (history : List (Moment S)) (last : Moment S) → IsSoundIn g first → GivesVersion version (state g first).now.trees
+      → IsHistory g first (history ++ last ∷ []) → IsSoundIn g last.found × GivesVersion version (state g last.found).now.trees
+  last_given first [] last sound given so =
       let here = found_after g first last sound so.0 in (
         here.0,
-        same_number (state g first).now.trees (state g last.found).now.trees sound here.0
-            (comes_so (event_of last.call) (tables (state g first)) (tables (state g last.found)) here.1) ours,
+        same_number version (state g first).now.trees (state g last.found).now.trees sound here.0
+            (comes_so (event_of last.call) (tables (state g first)) (tables (state g last.found)) here.1) given,
       )
-  last_ours first (it ∷ later) last sound ours so =
+  last_given first (it ∷ later) last sound given so =
       let here = found_after g first it sound so.0 in
-      last_ours it.found later last here.0 (same_number (state g first).now.trees (state g it.found).now.trees sound here.0
-      (comes_so (event_of it.call) (tables (state g first)) (tables (state g it.found)) here.1) ours) so.1
+      last_given it.found later last here.0 (same_number version (state g first).now.trees (state g it.found).now.trees sound here.0
+      (comes_so (event_of it.call) (tables (state g first)) (tables (state g it.found)) here.1) given) so.1
 
-  pub none_is_refused : NoneIsRefused g
-  none_is_refused first history last why sound ours so =
-      let it = last_ours first history last sound ours so in
-      sound_is_taken (state g last.found).now.trees why it.0 it.1
+pub none_is_refused : {S : Type 0} (g : Ghosts S) → NoneIsRefused g
+none_is_refused g version first history last why sound given so =
+    let it = last_given g version first history last sound given so in
+    sound_is_taken version (state g last.found).now.trees why it.0 it.1

@@ -13,6 +13,7 @@ use Rattle.dh_types.specs.declared.command.ReceiptOrder.{ReceiptOrder}
 use Rattle.dh_types.specs.declared.command.RunOrder.{RunOrder}
 use Rattle.dh_types.specs.declared.reply.Refusal.{Refusal}
 use Rattle.dh_types.specs.declared.reply.Reply.TheVariants as reply
+use Rattle.dh_types.specs.declared.version.Version.{Version}
 use Rattle.dh_model.specs.Books as machine
 use Rattle.dh_model.specs.Books.{Books, start}
 use Rattle.dh_model.specs.Leases.{dues}
@@ -25,7 +26,7 @@ use Rattle.dh_laws.specs.Kept.{Kept}
 use Rattle.dh_laws.specs.Lives.{IsRunFor}
 use Rattle.dh_schema.specs.Store.{tables}
 use Rattle.dh_schema.specs.Tables.{books_in}
-use Rattle.dh_runs.specs.Taking.{IsOurVersion, IsRefusedFor}
+use Rattle.dh_runs.specs.Taking.{GivesVersion, IsRefusedFor}
 use Rattle.dh_histories.specs.Calls.{Recovered, Stepped}
 use Rattle.dh_histories.specs.Histories.{AreFoundSound, IsHistory, IsSoundIn, Moment, StayWithoutNews, events_of, tables_of}
 
@@ -36,10 +37,11 @@ module _ {S : Type 0} (g : Ghosts S) where
   HistoriesAreEvents = (first : Held S) (history : List (Moment S)) → IsSoundIn g first → IsHistory g first history
       → Follow batch_size (tables_of g first) (events_of g history) × AreFoundSound g history
 
-  -- From tables of our version none that is found is refused, by `attach` or `recover`: neither for its version nor for a rule.
+  -- From tables of a version none that is found is refused where this version is wanted: neither for its version nor for a rule.
   abbrev pub NoneIsRefused : Type 0
-  NoneIsRefused = (first : Held S) (history : List (Moment S)) (last : Moment S) (why : Refusal) → IsSoundIn g first
-      → IsOurVersion (state g first).now.trees → IsHistory g first (history ++ last ∷ []) → ¬ IsRefusedFor (state g last.found).now.trees why
+  NoneIsRefused = (version : Version) (first : Held S) (history : List (Moment S)) (last : Moment S) (why : Refusal) → IsSoundIn g first
+      → GivesVersion version (state g first).now.trees → IsHistory g first (history ++ last ∷ [])
+      → ¬ IsRefusedFor version (state g last.found).now.trees why
 
   -- A refusal, a reply that a command was carried out before and a question leave the tables row for row, while a run is open too; so
   -- do files that are taken as they are, and a question that was cut.

@@ -1,4 +1,5 @@
 pub mod Calls
 pub mod Histories
 pub mod HistoryLaws
+pub mod Migrations
 pub mod Answered

@@ -4,6 +4,7 @@
 ghost use Rattle.dh_histories.specs.HistoryLaws.{AcknowledgedReceiptsStay, AcknowledgedRunsStay, EachLifeKeepsABeginning, FromTheBeginning};
 ghost use Rattle.dh_histories.specs.HistoryLaws.{HistoriesAreEvents, MonthsAreChargedOnce, NoneIsRefused, RecoveredBooksAreLawful, TablesAreTheMachines};
 ghost use Rattle.dh_histories.specs.HistoryLaws.{TablesStayWithoutNews};
+ghost use Rattle.dh_histories.specs.Migrations.{LivesGoOnOverMigrations, MigrationsMoveOnce};
 
 use dh_laws::{lives, standings};
 use sqlite::Alter;
@@ -77,4 +78,17 @@ pub fn acknowledged_runs_stay<S: Alter>()
     ensures { AcknowledgedRunsStay S.Store }
 {
     lives::acknowledged_runs_stay();
+}
+
+/// However often a migration was begun and cut, the tables are sound, and are those before or the migrated ones.
+pub fn migrations_move_once<S: Alter>()
+    ensures { MigrationsMoveOnce S.Store }
+{}
+
+/// Lives of a file of the first version, its migration, cut any number of times, and lives of the second version: the tables are those
+/// of the machine that was told the commands of the one, was migrated, and was told those of the other.
+pub fn lives_go_on_over_migrations<S: Alter>()
+    ensures { LivesGoOnOverMigrations S.Store }
+{
+    lives::lives();
 }

@@ -15,9 +15,12 @@ ghost use Rattle.dh_agency.specs.Taken.{TakesForward};
 ghost use Rattle.dh_histories.specs.Calls.{Tells};
 ghost use Rattle.dh_histories.specs.Calls.{AttachCut, Attached, Recovered, RecoveryCut, ResumeCut, Resumed, ShowCut, Shown, StepCut, Stepped};
 ghost use Rattle.dh_histories.specs.Histories.{IsSoundIn};
+ghost use Rattle.dh_histories.specs.Migrations.{Migrates};
 
 use crate::answers::nothing_new_leaves_the_tables;
-use dh_agency::{Agency, NotOpened, Problem, RunState, attach, create, recover};
+use dh_agency::{
+    Agency, NotOpened, Problem, RunState, attach, create, migrate, recover, recover_1,
+};
 use dh_laws::entering::commands_are_entered;
 use dh_types::{Answer, Command, Fault, Month, Question, Reply};
 use sqlite::{Alter, Connection};
@@ -116,4 +119,30 @@ pub fn recover_tells<S: Alter>(
     ensures stop { IfOk result (λ a. TakesForward (state S.Store conn) (shown_by S.Store a)) }
 {
     recover(alloc, conn)
+}
+
+/// `migrate`, with its refusals and faults.
+pub fn migrate_tells<S: Alter>(
+    alloc: Global,
+    conn: Connection<S>,
+) -> Result<Agency<S>, NotOpened<Problem, S>>
+    requires { HasCleanDisk (state S.Store conn) → IsResting (state S.Store conn) }
+    ensures migrated { IfOk result (λ a. (a.is_stopped ≡ false) × Migrates (state S.Store conn) (shown_by S.Store a)) }
+    ensures cut { IfErr result (λ e. Migrates (state S.Store conn) (state S.Store e.conn)) }
+{
+    migrate(alloc, conn)
+}
+
+/// `recover_1`, with its refusals and faults.
+pub fn recover_1_tells<S: Alter>(
+    alloc: Global,
+    conn: Connection<S>,
+) -> Result<Connection<S>, NotOpened<Problem, S>>
+    requires { HasCleanDisk (state S.Store conn) → IsResting (state S.Store conn) }
+    ensures mended { IfOk result (λ c. Tells Recovered (state S.Store conn) (state S.Store c)) }
+    ensures cut { IfErr result (λ e. Tells RecoveryCut (state S.Store conn) (state S.Store e.conn)) }
+    // At a stop within it no result is known.
+    ensures stop { IfOk result (λ c. TakesForward (state S.Store conn) (state S.Store c)) }
+{
+    recover_1(alloc, conn)
 }

@@ -220,6 +220,18 @@ module _ (books : Books) (keyed : AreKeyed books) where
         books.part_fees (it.month, branch) (keyed Kind.PartFees)
         (λ fee e. same_number fee.month it.month (ap (λ (k : ℕ × List ℕ). k.0) e))
 
+    abbrev is_the_owners : Property → Bool
+    is_the_owners property = is_same_text property.owner it.owner
+
+    kept_there : (found : Option Property) → is_owned_by it.owner found ≡ true → kept_if is_the_owners found ≡ found
+    kept_there None e = refl
+    kept_there (Some property) e = ap (λ b. cond b (Some property) None) e
+
+    -- the owner's property is there
+    property_there : (number : List ℕ) → is_owned_by it.owner (get books.properties number) ≡ true
+        → get near_owner.properties number ≡ get books.properties number
+    property_there number e = get-rows_where text_total text_ties is_the_owners books.properties number ∙ kept_there (get books.properties number) e
+
     -- another's property has no line
     not_owned_line : (charge : Charge) (found : Option Property) → is_owned_by it.owner found ≡ false → line_of_property books it.owner charge found ≡ None
     not_owned_line charge None e = refl
@@ -247,7 +259,9 @@ module _ (books : Books) (keyed : AreKeyed books) where
       -- a lease of another's property has no line
       kept_alike_by : (b : Bool) (lease : Lease) → is_owned lease ≡ b
           → line_of_lease near_owner it.owner charge (cond b (Some lease) None) ≡ line_of_lease books it.owner charge (Some lease)
-      kept_alike_by true lease e = property_alike (get books.properties lease.terms.property)
+      kept_alike_by true lease e =
+          ap (line_of_property near_owner it.owner charge) (property_there lease.terms.property e)
+          ∙ property_alike (get books.properties lease.terms.property)
       kept_alike_by false lease e = sym (not_owned_line charge (get books.properties lease.terms.property) e)
 
       lease_alike : (found : Option Lease) → line_of_lease near_owner it.owner charge (kept_if is_owned found) ≡ line_of_lease books it.owner charge found

@@ -92,7 +92,8 @@ module _ (b : Books) (keyed : AreKeyed b) (run : Option OpenRun) (it : Ending) (
   -- ---- rules 4 and 12
 
   still_free : (lease other : Lease) → Among (values b.leases) lease → Among (values b.leases) other
-      → overlap (running b.endings lease) (running b.endings other) ≡ false → overlap (running after_end.endings lease) (running after_end.endings other) ≡ false
+      → overlap (running b.endings lease) (running b.endings other) ≡ false
+      → overlap (running after_end.endings lease) (running after_end.endings other) ≡ false
   still_free lease other a o free =
       let first = fewer_months_are_free lease.terms (running b.endings other) (length_of after_end.endings lease) (length_of b.endings lease)
       (runs_no_longer lease a) free in

@@ -67,7 +67,8 @@ module _ (size : ℕ) (books : Books) (run : Option OpenRun) (in_order : IsInOrd
   rules_kept Rule.Keys = settled.keys
   rules_kept Rule.Runs = in_months.runs
   rules_kept Rule.Months = in_months.months
-  rules_kept Rule.Fees = keeps_fees size books run (in_order.rules Rule.References) (in_order.rules Rule.Runs) in_order.shown rows accepted (in_order.rules Rule.Fees)
+  rules_kept Rule.Fees =
+      keeps_fees size books run (in_order.rules Rule.References) (in_order.rules Rule.Runs) in_order.shown rows accepted (in_order.rules Rule.Fees)
   rules_kept Rule.Endings = settled.endings
 
   order_kept : IsInOrder size (changed rows books) (run_after run rows)

@@ -341,7 +341,8 @@ module _ (books : Books) (keyed : AreKeyed books) where
       ∷ [])
       (ending_rows it found)
 
-  ended_alike : (it : Ending) (found : Option Lease) → get books.leases it.lease ≡ found → ended (looked_at books (command.End it)) it found ≡ ended books it found
+  ended_alike : (it : Ending) (found : Option Lease) → get books.leases it.lease ≡ found
+      → ended (looked_at books (command.End it)) it found ≡ ended books it found
   ended_alike it None is = refl
   ended_alike it (Some lease) is =
       let number : lease.terms.number ≡ it.lease = keyed Kind.Leases it.lease lease is in

@@ -33,7 +33,8 @@ use Rattle.dh_laws.specs.Balances.{BalancesMoveAsTold, due_on}
 use Rattle.dh_model.proofs.MapRows.{among_values}
 use Rattle.dh_laws.proofs.OweSums.{kept_twice_new}
 use Rattle.dh_laws.proofs.OweDues.{none_if, ran_adds}
-use Rattle.dh_laws.proofs.OweMoves.{Moves, if_same, more_due, more_paid, on_assign, on_checks, on_comment, on_end, on_fee, on_open, on_post, on_rent, on_row, own}
+use Rattle.dh_laws.proofs.OweMoves.{Moves, if_same, more_due, more_paid, own}
+use Rattle.dh_laws.proofs.OweMoves.{on_assign, on_checks, on_comment, on_end, on_fee, on_open, on_post, on_rent, on_row}
 
 module _ (size : ℕ) (s : State) (lease : ℕ) (keyed : AreKeyed s.books) (lawful : IsLawful s.books size) where
   keys : KeysInOrder s.books

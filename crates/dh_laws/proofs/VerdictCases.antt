@@ -101,7 +101,8 @@ module _ (books : Books) (run : Option OpenRun) (rows : Change) where
   pub fee_case : (it : BranchFee) → Case (command.Fee it)
   fee_case it h =
       let free = was_closed run (fee_verdict books it) rows h in
-      let set = fee_set (contains_key books.branches it.branch) (nat_eq it.fee (fee_at books it.branch)) (fee_rows it (get books.branch_fees it.branch)) free.1 in
+      let rows_of = fee_rows it (get books.branch_fees it.branch) in
+      let set = fee_set (contains_key books.branches it.branch) (nat_eq it.fee (fee_at books it.branch)) rows_of free.1 in
       (set.0, fee_accepted it (get books.branch_fees it.branch) refl (record { closed = free.0; branch = set.1 }))
 
   pub staff_case : (it : Staff) → Case (command.Staff it)

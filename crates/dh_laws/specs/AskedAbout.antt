@@ -57,11 +57,11 @@ module _ (books : Books) where
   abbrev pub leases_of_owner : List ℕ → List Lease
   leases_of_owner owner = filter (λ lease. is_owned_by owner (get books.properties lease.terms.property)) (values books.leases)
 
-  -- all properties, the leases of the owner's, and what was charged on these
+  -- the owner, the owner's properties, the leases of these, and what was charged on these
   abbrev pub charged_by : List ℕ → Books
   charged_by owner = record no_row {
     owners = rows_where (λ it. is_same_text it.number owner) books.owners;
-    properties = books.properties;
+    properties = rows_where (λ property. is_same_text property.owner owner) books.properties;
     leases = rows_where (λ lease. is_owned_by owner (get books.properties lease.terms.property)) books.leases;
     charges = rows_where (λ charge. list_any (λ lease. nat_eq charge.lease lease.terms.number) (leases_of_owner owner)) books.charges;
   }

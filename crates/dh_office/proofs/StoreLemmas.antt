@@ -1,11 +1,15 @@
 -- From an agency to the store that it is over.
-use Rattle.std.proofs.Common.{◌≡◌, ◌⊎◌, inl, inr, ℕ, Option, Some, None, List, [], ◌++◌, refl, sym, subst, arith}
-use Rattle.std.specs.Prelude.{IfSome, IsTrue, Result, Ok, Err}
+use Rattle.std.proofs.Common.{◌≡◌, ◌⊎◌, ◌∙◌, inl, inr, ℕ, Option, Some, None, List, [], ◌++◌, refl, sym, ap, subst, arith}
+use Rattle.std.specs.Prelude.{pos, IfSome, IsTrue, Result, Ok, Err}
 use Rattle.sqlite.specs.Store.{Ghosts}
 use Rattle.sqlite.specs.State as conn
 use Rattle.sqlite.specs.State.{HasCleanDisk}
 use Rattle.sqlite.specs.Held.{Held, state}
+use Rattle.sqlite.specs.Effect.{Database}
 use Rattle.dh_types.specs.declared.command.RunOrder.{RunOrder}
+use Rattle.dh_types.specs.declared.reply.Refusal.{Refusal}
+use Rattle.dh_types.specs.declared.reply.Refusal.TheVariants as refusal
+use Rattle.dh_types.specs.declared.version.Version.TheVariants.{First, Second}
 use Rattle.dh_model.specs.Books.{State}
 use Rattle.dh_schema.specs.Store as store
 use Rattle.dh_schema.specs.Store.{Leaves}
@@ -13,8 +17,10 @@ use Rattle.sqlite_trees.specs.Tree.{Trees}
 use Rattle.dh_schema.specs.Tables.{IsSound, state_in}
 use Rattle.dh_runs.specs.declared.problem.Problem.{Problem}
 use Rattle.dh_runs.specs.declared.problem.Problem.TheVariants as problem
-use Rattle.dh_runs.specs.Taking.{IsFirstProblem}
-use Rattle.dh_agency.specs.Taken.{LeavesAsTheyWere, TakesAsTheyAre}
+use Rattle.dh_runs.specs.Taking.{GivesVersion, IsFirstProblem, IsProblemOf, IsRefusedFor, LeavesAsTheyWere, ReadsAsItDid}
+use Rattle.dh_runs.specs.Told.{IsMended, IsTorn}
+use Rattle.dh_migration.specs.Moved.{IsMigrationProblem}
+use Rattle.dh_agency.specs.Taken.{TakesAsTheyAre, TakesForward}
 use Rattle.dh_agency.specs.Seat.{Seat}
 use Rattle.dh_agency.specs.Agency.{IsClean, machine, shown_by, stand, stand_of}
 use Rattle.dh_lines.specs.Batch.{AreAfter}
@@ -33,9 +39,10 @@ use Rattle.dh_office.specs.declared.status.Status.{Status}
 use Rattle.dh_office.specs.declared.status.Status.TheVariants.{Failed, FileRefused}
 use Rattle.dh_office.specs.Statuses.{problem_status}
 use Rattle.dh_office.specs.Texts.{no_listener_line, problem_line}
-use Rattle.dh_office.specs.Printed.{Before, Behind, Closes, IsMakingEnd, IsOfLines, IsRecoveryEnd, IsRefusedEnd, IsReportEnd, IsRunEnd, Prints}
+use Rattle.dh_office.specs.Printed.{Before, Behind, Closes, IsMakingEnd, IsMigrationEnd, IsNotMigratedEnd, IsOfLines, IsRecoveryEnd, IsRefusedEnd}
+use Rattle.dh_office.specs.Printed.{IsReportEnd, IsRunEnd, Prints}
 use Rattle.dh_office.specs.Printed.{PrintsEnd, PrintsJob, PrintsService, PrintsWork, PutsAs, Served, TellsFault, TellsServed, Unclosed, Whole, Within}
-use Rattle.dh_office.specs.Ends.{IsServed, LinesEnd, WorkEnds}
+use Rattle.dh_office.specs.Ends.{IsNotRecovered, IsNotRecoveredFor, IsServed, LinesEnd, MendingEnds, RecoveryEnds, WorkEnds}
 use Rattle.dh_office.proofs.TextLemmas.{fault_as, told_behind}
 
 -- ---- what was printed
@@ -53,6 +60,14 @@ pub problem_prints : (problem : Problem) (a b : Option (List ℕ)) (status : Sta
 problem_prints (problem.Refused why) a b status first h =
     prints_as IsRefusedEnd (problem_line (problem.Refused why)) FileRefused a b status (why, first, refl, refl) h
 problem_prints (problem.Fault fault) a b status first h = let told = fault_as a b fault status first h in Before told.0 told.1
+
+-- the same of a migration
+pub not_migrated_prints : (problem : Problem) (a b : Option (List ℕ)) (status : Status) → IsMigrationProblem problem
+    → PutsAs (problem_line problem) (problem_status problem) a b status
+    → Prints IsNotMigratedEnd a b status
+not_migrated_prints (problem.Refused why) a b status first h =
+    prints_as IsNotMigratedEnd (problem_line (problem.Refused why)) FileRefused a b status (why, first, refl, refl) h
+not_migrated_prints (problem.Fault fault) a b status first h = let told = fault_as a b fault status first h in Before told.0 told.1
 
 -- ---- closing
 
@@ -123,6 +138,8 @@ module _ (a m b : Option (List ℕ)) (before after : Status) (closes : Closes m 
   job_closed (job.Make first) h = prints_closed (IsMakingEnd first) a m b before after h closes
   job_closed job.Recover (inl h) = inl (prints_closed IsRecoveryEnd a m b before after h closes)
   job_closed job.Recover (inr h) = inr (refused_closed h)
+  job_closed job.Migrate (inl h) = inl (prints_closed IsMigrationEnd a m b before after h closes)
+  job_closed job.Migrate (inr h) = inr (prints_closed IsNotMigratedEnd a m b before after h closes)
   job_closed (job.Work it) (inl h) = inl (work_closed it h)
   job_closed (job.Work it) (inr h) = inr (refused_closed h)
   job_closed (job.Serve service) (inl h) = inl (h.0, service_closed service h.0 a m b before after h.1 closes)
@@ -132,6 +149,7 @@ module _ (a m b : Option (List ℕ)) (before after : Status) (closes : Closes m 
 pub job_before : (it : FileJob) (a b : Option (List ℕ)) (status : Status) → TellsFault a b [] → status ≡ Failed → PrintsJob it a b status
 job_before (job.Make first) a b status told failed = Before told failed
 job_before job.Recover a b status told failed = inl (Before told failed)
+job_before job.Migrate a b status told failed = inl (Before told failed)
 job_before (job.Work it) a b status told failed = inr (Before told failed)
 job_before (job.Serve service) a b status told failed = inr (Before told failed)
 
@@ -207,3 +225,65 @@ kept_serving old new kept = record {
   served = λ clean sound. same_leaves old new (kept.crash clean) sound (IsAfterSome (stand_of (store.tables old))) ([], refl);
   untouched = λ clean wrong. kept.crash clean;
 }
+
+-- ---- tables that were not recovered
+
+-- The second version was wanted, and they are not those of the first.
+pub second_cause : (trees : Trees) (it : Problem) → ¬ (it ≡ problem.Refused (refusal.Version (pos 1))) → IsProblemOf Second trees it
+    → IsNotRecovered trees it
+second_cause trees (problem.Refused why) other h = by why other h
+  where
+    by : (why : Refusal) → ¬ (problem.Refused why ≡ problem.Refused (refusal.Version (pos 1))) → IsRefusedFor Second trees why
+        → IsNotRecoveredFor trees why
+    by (refusal.Version found) other h = ((h.0, λ is. other (ap (λ n. problem.Refused (refusal.Version n)) is)), h)
+    by (refusal.Damaged rule) other h = inr h
+    by _ other h = absurd h
+second_cause trees (problem.Fault fault) other h = h
+
+-- The first version was wanted, which is what meta gives.
+first_cause : (trees : Trees) → GivesVersion First trees → (it : Problem) → IsProblemOf First trees it → IsNotRecovered trees it
+first_cause trees gives (problem.Refused why) h = by why h
+  where
+    by : (why : Refusal) → IsRefusedFor First trees why → IsNotRecoveredFor trees why
+    by (refusal.Version found) h =
+        let both : Some found ≡ Some (pos 1) = sym h.0 ∙ gives in
+        let same : found ≡ pos 1 = cc in
+        absurd (h.1 same)
+    by (refusal.Damaged rule) h = inl h
+    by _ h = absurd h
+first_cause trees gives (problem.Fault fault) h = h
+
+-- Tables that were turned away read as they did, and were then taken.
+module _ (old mid new : conn.State) (turned : TakesForward old mid) (same : HasCleanDisk mid → ReadsAsItDid old mid) (then : TakesForward mid new) where
+  now_same : HasCleanDisk new → mid.now ≡ old.now
+  now_same clean = (same (omega (arith, then.was_clean, clean))).1
+
+  unsound : HasCleanDisk new → ¬ IsSound old.now.trees → ¬ IsSound mid.now.trees
+  unsound clean wrong sound = wrong (subst (λ (now : Database). IsSound now.trees) (now_same clean) sound)
+
+  pub forward_again : TakesForward old new
+  forward_again = record {
+    was_clean = omega (arith, turned.was_clean, then.was_clean);
+    crash = λ clean sound.
+        subst (λ (now : Database). Leaves new (IsTorn (state_in now.trees))) (now_same clean)
+        (then.crash clean (subst (λ (now : Database). IsSound now.trees) (sym (now_same clean)) sound));
+    untouched = λ clean wrong.
+        subst (λ (now : Database). (left : Trees) → new.may_leave left → left ≡ now.trees) (now_same clean)
+        (then.untouched clean (unsound clean wrong));
+    unchanged = λ clean is_open wrong. let it = then.unchanged clean is_open (unsound clean wrong) in (it.0, it.1 ∙ now_same clean);
+  }
+
+  pub mended_again : (a b : Option (List ℕ)) (status : Status) → (HasCleanDisk mid → GivesVersion First old.now.trees) → HasCleanDisk new
+      → MendingEnds (IsProblemOf First mid.now.trees) mid new a b status → RecoveryEnds old new a b status
+  mended_again a b status gives clean (inl (mended, told)) =
+      inl (subst (λ (now : Database). IsMended (state_in now.trees) (store.tables new)) (now_same clean) mended, told)
+  mended_again a b status gives clean (inr (it, left)) =
+      let cause = subst (λ (now : Database). IsProblemOf First now.trees it.problem) (now_same clean) it.cause in
+      inr (
+        record {
+          problem = it.problem;
+          cause = first_cause old.now.trees (gives (omega (arith, then.was_clean, clean))) it.problem cause;
+          told = it.told;
+        },
+        forward_again,
+      )

@@ -17,7 +17,7 @@ use Rattle.dh_words.specs.Jobs.{Asks, IsBadFor, IsJobOf}
 use Rattle.dh_words.specs.declared.kinds.BadWords.{BadWords}
 use Rattle.dh_words.specs.declared.kinds.BadWords.TheVariants as bad
 use Rattle.dh_words.specs.declared.kinds.Job.{Job}
-use Rattle.dh_words.specs.declared.kinds.Job.TheVariants.{Init, Batch, Run, Recover, Report, Serve}
+use Rattle.dh_words.specs.declared.kinds.Job.TheVariants.{Init, Batch, Run, Recover, Migrate, Report, Serve}
 use Rattle.dh_office.specs.declared.status.Status.{Status}
 use Rattle.dh_office.specs.Desk.{AskedEnds, BadPrints, BatchEnds}
 use Rattle.dh_office.specs.Ends.{MemoryLinesEnd}
@@ -46,6 +46,7 @@ module _ (a b input : Option (List ℕ)) (it : Status) where
     batch_job (Init file first) asks ends = other_text (codes "batch") (codes "init") (λ is. omega (arith, is)) asks.0
     batch_job (Run file order batches) asks ends = other_text (codes "batch") (codes "run") (λ is. omega (arith, is)) asks.0
     batch_job (Recover file) asks ends = other_text (codes "batch") (codes "recover") (λ is. omega (arith, is)) asks.0
+    batch_job (Migrate file) asks ends = other_text (codes "batch") (codes "migrate") (λ is. omega (arith, is)) asks.0
     batch_job (Report file question) asks ends = other_text (codes "batch") (codes "report") (λ is. omega (arith, is)) asks.0
     batch_job (Serve file port count) asks ends = other_text (codes "batch") (codes "serve") (λ is. omega (arith, is)) asks.0
     batch_job (Batch file first) asks ends = by file asks.1 ends

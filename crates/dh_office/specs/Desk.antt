@@ -10,7 +10,7 @@ use Rattle.dh_types.specs.declared.reply.Fault.TheVariants as fault
 use Rattle.dh_words.specs.declared.kinds.BadWords.{BadWords}
 use Rattle.dh_words.specs.declared.kinds.BadWords.TheVariants as bad
 use Rattle.dh_words.specs.declared.kinds.Job.{Job}
-use Rattle.dh_words.specs.declared.kinds.Job.TheVariants.{Init, Batch, Run, Recover, Report, Serve}
+use Rattle.dh_words.specs.declared.kinds.Job.TheVariants.{Init, Batch, Run, Recover, Migrate, Report, Serve}
 use Rattle.dh_words.specs.Jobs.{IsBadFor, IsJobOf}
 use Rattle.dh_reports.specs.Columns.{newline}
 use Rattle.dh_office.specs.declared.jobs.Work.TheVariants as work
@@ -54,6 +54,7 @@ module _ {D : Type 0} (g : disk.Ghosts D) (held : Image) where
   AskedEnds (Batch file first) input a b it = BatchEnds file first input a b it
   AskedEnds (Run file order batches) input a b it = DoneOnFile g held (job.Work (work.Run order batches)) input a b it
   AskedEnds (Recover file) input a b it = DoneOnFile g held job.Recover input a b it
+  AskedEnds (Migrate file) input a b it = DoneOnFile g held job.Migrate input a b it
   AskedEnds (Report file question) input a b it = DoneOnFile g held (job.Work (work.Report question)) input a b it
   AskedEnds (Serve file port count) input a b it = DoneOnFile g held (job.Serve (record { port = port; count = count })) input a b it
 

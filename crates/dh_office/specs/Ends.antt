@@ -5,16 +5,24 @@ use Rattle.sqlite.specs.State as conn
 use Rattle.sqlite.specs.State.{HasCleanDisk}
 use Rattle.sqlite.specs.Held.{Held, state}
 use Rattle.sqlite.specs.Steps.{over_memory}
+use Rattle.sqlite_trees.specs.Tree.{Trees}
 use Rattle.sqlite_trees.specs.declared.memory.MemStore.{MemStore}
 use Rattle.dh_types.specs.declared.command.RunOrder.{RunOrder}
 use Rattle.dh_types.specs.declared.question.Question.{Question}
+use Rattle.dh_types.specs.declared.reply.Refusal.{Refusal}
+use Rattle.dh_types.specs.declared.reply.Refusal.TheVariants as refusal
 use Rattle.dh_types.specs.declared.reply.Fault.{Fault}
+use Rattle.dh_types.specs.declared.version.Version.TheVariants.{First, Second}
 use Rattle.dh_types.specs.Output.{BreaksOff}
 use Rattle.dh_model.specs.Books.{State, start}
+use Rattle.dh_schema.specs.Faults.{IsFirstFault}
 use Rattle.dh_schema.specs.Store as store
 use Rattle.dh_runs.specs.declared.problem.Problem.{Problem}
-use Rattle.dh_runs.specs.Taking.{IsProblemOf}
+use Rattle.dh_runs.specs.declared.problem.Problem.TheVariants as problem
+use Rattle.dh_runs.specs.Taking.{BreaksRule, IsProblemOf, IsRefusedFor}
 use Rattle.dh_runs.specs.Told.{IsMended}
+use Rattle.dh_migration.specs.Migrated.{migrated_state}
+use Rattle.dh_migration.specs.Moved.{CanBeMigrated, IsNotMigrated, StaysAsItWas}
 use Rattle.dh_agency.specs.Taken.{TakesAsTheyAre, TakesForward}
 use Rattle.dh_agency.specs.Agency.{stand_of}
 use Rattle.dh_fields.specs.Lines.{Fields}
@@ -30,7 +38,7 @@ use Rattle.dh_office.specs.declared.taking.FileJob.TheVariants as job
 use Rattle.dh_office.specs.declared.status.Status.{Status}
 use Rattle.dh_office.specs.declared.status.Status.TheVariants.{Done, Failed}
 use Rattle.dh_office.specs.Statuses.{IsEnding, ending, problem_status, status_of}
-use Rattle.dh_office.specs.Texts.{created_line, problem_line, recovered_line}
+use Rattle.dh_office.specs.Texts.{created_line, migrated_line, problem_line, recovered_line}
 use Rattle.dh_office.specs.Printed.{PrintsService, PutsAs, TellsFault}
 use Rattle.dh_office.specs.Jobs.{IsRunCut, lines_answered, report_shown, run_told, stand_in}
 
@@ -88,21 +96,42 @@ WorkEnds new a b t input (work.Report question) status = ReportEnds new a b t qu
 
 -- ---- over a store
 
--- The tables were not taken, for a reason that holds of them, or for a fault.
-pub record IsNotTaken (old : conn.State) (a b : Option (List ℕ)) (status : Status) : Type 0 where
+-- The tables were not taken, for such a cause.
+pub record IsNotTaken (IsCause : Problem → Type 0) (a b : Option (List ℕ)) (status : Status) : Type 0 where
   pub problem : Problem
-  pub cause : IsProblemOf old.now.trees problem
+  pub cause : IsCause problem
   pub told : PutsAs (problem_line problem) (problem_status problem) a b status
 
 -- The tables were taken, and worked on; or not taken, and they are as they were.
 abbrev pub TakingEnds : conn.State → conn.State → Option (List ℕ) → Option (List ℕ) → Option (List ℕ) → Work → Status → Type 0
 TakingEnds old new a b input it status =
-    WorkEnds new a b (store.tables old) input it status ⊎ (IsNotTaken old a b status × TakesAsTheyAre old new)
+    WorkEnds new a b (store.tables old) input it status ⊎ (IsNotTaken (IsProblemOf Second old.now.trees) a b status × TakesAsTheyAre old new)
 
--- The open run was made to its end; or the tables were not taken, or a fault came on the way, and the open run is moved on at most.
+-- The open run was made to its end; or for such a cause the tables were not taken, or not to the end, and the open run is moved on at most.
+abbrev pub MendingEnds : (Problem → Type 0) → conn.State → conn.State → Option (List ℕ) → Option (List ℕ) → Status → Type 0
+MendingEnds IsCause old new a b status =
+    (IsMended (store.tables old) (store.tables new) × PutsAs recovered_line Done a b status) ⊎ (IsNotTaken IsCause a b status × TakesForward old new)
+
+-- so tables are not recovered: they are of neither version, or break a rule of the one that they are of
+abbrev pub IsNotRecoveredFor : Trees → Refusal → Type 0
+IsNotRecoveredFor trees (refusal.Version found) = IsRefusedFor First trees (refusal.Version found) × IsRefusedFor Second trees (refusal.Version found)
+IsNotRecoveredFor trees (refusal.Damaged rule) = BreaksRule First rule trees ⊎ BreaksRule Second rule trees
+IsNotRecoveredFor trees _ = ⊥
+
+-- a refusal that holds of the tables, or a fault of which they say nothing
+abbrev pub IsNotRecovered : Trees → Problem → Type 0
+IsNotRecovered trees (problem.Refused why) = IsNotRecoveredFor trees why
+IsNotRecovered trees (problem.Fault fault) = IsFirstFault fault
+
+-- the open run of tables of either version
 abbrev pub RecoveryEnds : conn.State → conn.State → Option (List ℕ) → Option (List ℕ) → Status → Type 0
-RecoveryEnds old new a b status =
-    (IsMended (store.tables old) (store.tables new) × PutsAs recovered_line Done a b status) ⊎ (IsNotTaken old a b status × TakesForward old new)
+RecoveryEnds old new a b status = MendingEnds (IsNotRecovered old.now.trees) old new a b status
+
+-- The tables were migrated; or they were not, and are as they were.
+abbrev pub MigrationEnds : conn.State → conn.State → Option (List ℕ) → Option (List ℕ) → Status → Type 0
+MigrationEnds old new a b status =
+    (CanBeMigrated old.now.trees × (store.tables new ≡ migrated_state (store.tables old)) × PutsAs migrated_line Done a b status)
+    ⊎ (IsNotTaken (IsNotMigrated old.now.trees) a b status × (IsTrue new.is_open → StaysAsItWas old new))
 
 -- The tables of empty books were made; or a fault came, and what was committed is as it was.
 abbrev pub MakingEnds : conn.State → conn.State → Option (List ℕ) → Option (List ℕ) → ℕ → Status → Type 0
@@ -131,10 +160,12 @@ pub record IsServed (old new : conn.State) (a b : Option (List ℕ)) (service : 
 
 -- Connections were served; or the tables were not taken.
 abbrev pub ServingEnds : conn.State → conn.State → Option (List ℕ) → Option (List ℕ) → Service → Status → Type 0
-ServingEnds old new a b service status = IsServed old new a b service status ⊎ (IsNotTaken old a b status × TakesAsTheyAre old new)
+ServingEnds old new a b service status =
+    IsServed old new a b service status ⊎ (IsNotTaken (IsProblemOf Second old.now.trees) a b status × TakesAsTheyAre old new)
 
 abbrev pub JobEnds : conn.State → conn.State → Option (List ℕ) → Option (List ℕ) → Option (List ℕ) → FileJob → Status → Type 0
 JobEnds old new a b input (job.Make first) status = MakingEnds old new a b first status
 JobEnds old new a b input job.Recover status = RecoveryEnds old new a b status
+JobEnds old new a b input job.Migrate status = MigrationEnds old new a b status
 JobEnds old new a b input (job.Work it) status = TakingEnds old new a b input it status
 JobEnds old new a b input (job.Serve service) status = ServingEnds old new a b service status

@@ -5,7 +5,9 @@ use Rattle.sqlite.specs.State.{HasCleanDisk}
 use Rattle.dh_model.specs.Books.{State, start}
 use Rattle.dh_schema.specs.Store.{Commits, Leaves, tables}
 use Rattle.dh_schema.specs.Tables.{IsSound}
-use Rattle.dh_agency.specs.Taken.{LeavesAsTheyWere, TakesForward}
+use Rattle.dh_runs.specs.Taking.{LeavesAsTheyWere}
+use Rattle.dh_migration.specs.Moved.{MovesOn}
+use Rattle.dh_agency.specs.Taken.{TakesForward}
 use Rattle.dh_agency.specs.Agency.{stand_of}
 use Rattle.dh_fields.specs.Lines.{Fields}
 use Rattle.dh_lines.specs.Batch.{AreAfter}
@@ -43,5 +45,6 @@ pub record ServingLeaves (old new : conn.State) : Type 0 where
 abbrev pub JobLeaves : conn.State → conn.State → FileJob → Type 0
 JobLeaves old new (job.Make first) = Commits old new (λ t. t ≡ start first)
 JobLeaves old new job.Recover = TakesForward old new
+JobLeaves old new job.Migrate = MovesOn old new
 JobLeaves old new (job.Work it) = TakingLeaves old new it
 JobLeaves old new (job.Serve service) = ServingLeaves old new

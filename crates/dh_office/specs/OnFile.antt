@@ -1,5 +1,5 @@
 -- A job on a file: done over the store that was opened, which is then closed; or it was not opened.
-use Rattle.std.specs.Prelude.{◌≡◌, ◌≢◌, ◌⊎◌, List, [], ℕ, Option}
+use Rattle.std.specs.Prelude.{◌≡◌, ◌≢◌, List, [], ℕ, Option}
 use Rattle.sqlite_disk.specs.declared.Disk as disk
 use Rattle.sqlite_disk.specs.declared.Files.{Files}
 use Rattle.sqlite_wal.specs.Reads.{AreClean}

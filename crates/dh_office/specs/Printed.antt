@@ -8,7 +8,9 @@ use Rattle.dh_types.specs.Output.{BreaksOff}
 use Rattle.dh_types.specs.Replies.{is_refusal}
 use Rattle.dh_types.specs.Reports.{Report, is_no_report}
 use Rattle.dh_schema.specs.Faults.{IsFirstFault}
+use Rattle.dh_runs.specs.declared.problem.Problem.TheVariants as problem
 use Rattle.dh_runs.specs.Taking.{IsOfTables}
+use Rattle.dh_migration.specs.Moved.{IsMigrationProblem}
 use Rattle.dh_http.specs.declared.listening.Service.{Service}
 use Rattle.dh_http.specs.declared.listening.Unserved.{Unserved}
 use Rattle.dh_http.specs.declared.listening.Unserved.TheVariants as unserved
@@ -20,7 +22,7 @@ use Rattle.dh_office.specs.declared.taking.FileJob.TheVariants as job
 use Rattle.dh_office.specs.declared.status.Status.{Status}
 use Rattle.dh_office.specs.declared.status.Status.TheVariants.{Done, BadWords, Failed, FileRefused}
 use Rattle.dh_office.specs.Statuses.{IsEnding}
-use Rattle.dh_office.specs.Texts.{created_line, fault_line, no_listener_line, recovered_line, refusal_line, reply_line, report_lines}
+use Rattle.dh_office.specs.Texts.{created_line, fault_line, migrated_line, no_listener_line, recovered_line, refusal_line, reply_line, report_lines}
 
 abbrev pub heard : {T E : Type 0} → Result T E → Status → Status
 heard (Ok it) wanted = wanted
@@ -62,9 +64,16 @@ IsMakingEnd first text status = (text ≡ created_line first) × (status ≡ Don
 abbrev pub IsRecoveryEnd : List ℕ → Status → Type 0
 IsRecoveryEnd text status = (text ≡ recovered_line) × (status ≡ Done)
 
+abbrev pub IsMigrationEnd : List ℕ → Status → Type 0
+IsMigrationEnd text status = (text ≡ migrated_line) × (status ≡ Done)
+
 -- the tables were refused
 abbrev pub IsRefusedEnd : List ℕ → Status → Type 0
 IsRefusedEnd text status = (why : Refusal) × IsOfTables why × (text ≡ refusal_line why) × (status ≡ FileRefused)
+
+-- they were not migrated: refusal 10, 16 or 17
+abbrev pub IsNotMigratedEnd : List ℕ → Status → Type 0
+IsNotMigratedEnd text status = (why : Refusal) × IsMigrationProblem (problem.Refused why) × (text ≡ refusal_line why) × (status ≡ FileRefused)
 
 -- Of lines that are answered nothing is known where the reader isn't, but that the words were good and the file was taken.
 abbrev pub IsOfLines : Status → Type 0
@@ -99,6 +108,7 @@ pub data PrintsService (service : Service) (outcomes : List (Option ℕ)) (a b :
 abbrev pub PrintsJob : FileJob → Option (List ℕ) → Option (List ℕ) → Status → Type 0
 PrintsJob (job.Make first) a b status = Prints (IsMakingEnd first) a b status
 PrintsJob job.Recover a b status = Prints IsRecoveryEnd a b status ⊎ Prints IsRefusedEnd a b status
+PrintsJob job.Migrate a b status = Prints IsMigrationEnd a b status ⊎ Prints IsNotMigratedEnd a b status
 PrintsJob (job.Work it) a b status = PrintsWork it a b status ⊎ Prints IsRefusedEnd a b status
 PrintsJob (job.Serve service) a b status =
     ((outcomes : List (Option ℕ)) × PrintsService service outcomes a b status) ⊎ Prints IsRefusedEnd a b status

@@ -36,5 +36,8 @@ created_line first = codes "created " ++ month_text first ++ newline
 abbrev pub recovered_line : List ℕ
 recovered_line = codes "recovered" ++ newline
 
+abbrev pub migrated_line : List ℕ
+migrated_line = codes "migrated" ++ newline
+
 abbrev pub no_listener_line : List ℕ
 no_listener_line = codes "no listener" ++ newline

@@ -1,12 +1,15 @@
-//! Jobs over a store: its tables are made, recovered, or taken and worked on, and the store is handed back.
+//! Jobs over a store: its tables are made, recovered, migrated, or taken and worked on, and the store is handed back.
 
-ghost use Rattle.std.specs.Prelude.{◌≡◌, ◌≤◌};
+ghost use Rattle.std.specs.Prelude.{◌≡◌, ◌≤◌, ◌↔◌, IsTrue, pos};
 ghost use Rattle.sqlite.specs.State.{HasCleanDisk};
 ghost use Rattle.sqlite.specs.Held.{state};
 ghost use Rattle.dh_types.specs.declared.reply.Fault.TheVariants as fault;
+ghost use Rattle.dh_types.specs.declared.reply.Refusal.TheVariants as refusal;
+ghost use Rattle.dh_types.specs.declared.version.Version.TheVariants.{First};
 ghost use Rattle.dh_schema.specs.Store.{IsBlank};
-ghost use Rattle.dh_runs.specs.Taking.{IsResting};
-ghost use Rattle.dh_office.specs.Ends.{JobEnds, MakingEnds, NewLinesEnd, RecoveryEnds, TakingEnds};
+ghost use Rattle.dh_runs.specs.declared.problem.Problem.TheVariants as problem;
+ghost use Rattle.dh_runs.specs.Taking.{IsProblemOf, IsResting};
+ghost use Rattle.dh_office.specs.Ends.{JobEnds, MakingEnds, MendingEnds, MigrationEnds, NewLinesEnd, RecoveryEnds, TakingEnds};
 ghost use Rattle.dh_office.specs.Leaving.{JobLeaves};
 ghost use Rattle.dh_office.specs.Printed.{IsMakingEnd, IsOfLines, IsRecoveryEnd, IsRefusedEnd, Prints, PrintsJob, PrintsWork, PutsAs};
 ghost use Rattle.dh_office.specs.Texts.{fault_line};
@@ -14,10 +17,12 @@ ghost use Rattle.dh_office.specs.Texts.{fault_line};
 use crate::jobs::{Work, answer_lines, carry_out};
 use crate::serving::answer_requests;
 use crate::status::Status;
-use crate::telling::{heard, print_created, print_recovered, tell_fault, tell_problem};
-use dh_agency::{NotOpened, attach, create, recover};
+use crate::telling::{
+    heard, print_created, print_migrated, print_recovered, tell_fault, tell_problem,
+};
+use dh_agency::{NotOpened, Problem, attach, create, migrate, recover, recover_1};
 use dh_http::Service;
-use dh_types::EntryMonth;
+use dh_types::{EntryMonth, Refusal};
 use sqlite::{Alter, Connection};
 use std::alloc::Global;
 use std::io::{Read, Write};
@@ -29,6 +34,8 @@ pub(crate) enum FileJob {
     Make(EntryMonth),
     /// Makes the open run to its end.
     Recover,
+    /// Takes tables of the first version to the second.
+    Migrate,
     /// Takes the tables, and works on them.
     Work(Work),
     /// Takes the tables, and serves requests over them.
@@ -59,7 +66,33 @@ fn make<S: Alter, W: Write>(
     }
 }
 
-// Makes the open run to its end.
+// Whether tables were turned away as those of the first version.
+fn is_first(cause: &Problem) -> bool
+    ensures { IsTrue result ↔ (cause.now ≡ problem.Refused (refusal.Version (pos 1))) }
+{
+    matches!(cause, Problem::Refused(Refusal::Version(1)))
+}
+
+// Makes the open run of tables of the first version to its end.
+fn mend_first<S: Alter, W: Write>(
+    alloc: Global,
+    conn: Connection<S>,
+    writer: &mut W,
+) -> (Status, Connection<S>)
+    requires { HasCleanDisk (state S.Store conn) → IsResting (state S.Store conn) }
+    ensures printed { PrintsJob FileJob.Recover (W.contents writer.old) (W.contents writer.new) result.0 }
+    ensures ends { HasCleanDisk (state S.Store result.1) → MendingEnds (IsProblemOf First (state S.Store conn).now.trees)
+        (state S.Store conn) (state S.Store result.1) (W.contents writer.old) (W.contents writer.new) result.0 }
+    ensures crash { JobLeaves (state S.Store conn) (state S.Store result.1) FileJob.Recover }
+    ensures was_clean { HasCleanDisk (state S.Store result.1) → HasCleanDisk (state S.Store conn) }
+{
+    match recover_1(alloc, conn) {
+        Ok(conn) => (heard(print_recovered(writer), Status::Done), conn),
+        Err(NotOpened { cause, conn }) => (tell_problem(writer, cause), conn),
+    }
+}
+
+// Makes the open run to its end, whichever version the tables are of.
 fn mend<S: Alter, W: Write>(
     alloc: Global,
     conn: Connection<S>,
@@ -75,6 +108,33 @@ fn mend<S: Alter, W: Write>(
     match recover(alloc, conn) {
         Ok(agency) => (
             heard(print_recovered(writer), Status::Done),
+            agency.into_store(),
+        ),
+        Err(NotOpened { cause, conn }) => {
+            if is_first(&cause) {
+                return mend_first(alloc, conn, writer);
+            }
+            (tell_problem(writer, cause), conn)
+        }
+    }
+}
+
+// Takes tables of the first version to the second.
+fn renew<S: Alter, W: Write>(
+    alloc: Global,
+    conn: Connection<S>,
+    writer: &mut W,
+) -> (Status, Connection<S>)
+    requires { HasCleanDisk (state S.Store conn) → IsResting (state S.Store conn) }
+    ensures printed { PrintsJob FileJob.Migrate (W.contents writer.old) (W.contents writer.new) result.0 }
+    ensures ends { HasCleanDisk (state S.Store result.1)
+        → MigrationEnds (state S.Store conn) (state S.Store result.1) (W.contents writer.old) (W.contents writer.new) result.0 }
+    ensures crash { JobLeaves (state S.Store conn) (state S.Store result.1) FileJob.Migrate }
+    ensures was_clean { HasCleanDisk (state S.Store result.1) → HasCleanDisk (state S.Store conn) }
+{
+    match migrate(alloc, conn) {
+        Ok(agency) => (
+            heard(print_migrated(writer), Status::Done),
             agency.into_store(),
         ),
         Err(NotOpened { cause, conn }) => (tell_problem(writer, cause), conn),
@@ -144,6 +204,7 @@ pub(crate) fn do_job<S: Alter, R: Read, W: Write>(
     match job {
         FileJob::Make(first) => make(rt.alloc(), conn, first, writer),
         FileJob::Recover => mend(rt.alloc(), conn, writer),
+        FileJob::Migrate => renew(rt.alloc(), conn, writer),
         FileJob::Work(work) => take(rt.alloc(), conn, work, reader, writer),
         FileJob::Serve(service) => answer_requests(rt, conn, service, writer),
     }

@@ -6,7 +6,8 @@ ghost use Rattle.dh_types.specs.Output.{Puts};
 ghost use Rattle.dh_types.specs.Reports.{report_of};
 ghost use Rattle.dh_office.specs.Printed.{PutsAs, heard};
 ghost use Rattle.dh_office.specs.Statuses.{problem_status};
-ghost use Rattle.dh_office.specs.Texts.{created_line, fault_line, no_listener_line, problem_line, recovered_line, refusal_line, reply_line, report_lines};
+ghost use Rattle.dh_office.specs.Texts.{created_line, fault_line, migrated_line, no_listener_line, problem_line, recovered_line};
+ghost use Rattle.dh_office.specs.Texts.{refusal_line, reply_line, report_lines};
 
 use crate::status::Status;
 use dh_agency::Problem;
@@ -63,6 +64,13 @@ pub(crate) fn print_recovered<W: Write>(writer: &mut W) -> Result<(), Output>
     ensures { Puts (W.contents writer.old) (W.contents writer.new) result recovered_line }
 {
     put(writer, b"recovered\n")
+}
+
+/// Writes that a file is migrated; at an `Output` a beginning of that.
+pub(crate) fn print_migrated<W: Write>(writer: &mut W) -> Result<(), Output>
+    ensures { Puts (W.contents writer.old) (W.contents writer.new) result migrated_line }
+{
+    put(writer, b"migrated\n")
 }
 
 /// Writes that there is no listener; at an `Output` a beginning of that.

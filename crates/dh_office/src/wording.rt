@@ -118,6 +118,7 @@ fn do_asked<S: Start, R: Read, W: Write>(
             writer,
         ),
         Job::Recover { file } => do_on_file(rt, start, file, FileJob::Recover, reader, writer),
+        Job::Migrate { file } => do_on_file(rt, start, file, FileJob::Migrate, reader, writer),
         Job::Report { file, question } => do_on_file(
             rt,
             start,

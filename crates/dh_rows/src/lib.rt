@@ -24,6 +24,6 @@ mod run;
 mod staff;
 mod viewing;
 
-pub use limits::VERSION;
 pub use meta::Meta;
+pub use params::version_number;
 pub use record::Record;

@@ -146,15 +146,23 @@ pub(crate) fn flag_param(flag: bool) -> ValueRef<'static>
     }
 }
 
-/// 1 for the first version, and 2 for the second.
+/// The number by which meta gives the version.
+pub fn version_number(version: Version) -> i64
+    ensures value { result ≡ pos (version_number version) }
+    ensures grammar { is_version_cell (Int (pos (version_number version))) ≡ true }
+{
+    match version {
+        Version::First => 1,
+        Version::Second => 2,
+    }
+}
+
+// The version as meta gives it.
 pub(crate) fn version_param(version: Version) -> ValueRef<'static>
     ensures value { bound_value (owned result) ≡ Int (pos (version_number version)) }
     ensures grammar { is_version_cell (Int (pos (version_number version))) ≡ true }
 {
-    match version {
-        Version::First => ValueRef::Int(1),
-        Version::Second => ValueRef::Int(2),
-    }
+    ValueRef::Int(version_number(version))
 }
 
 /// The number of the lease, or 0 where there is none.

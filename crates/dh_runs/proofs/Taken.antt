@@ -5,7 +5,7 @@ use Rattle.sqlite_trees.specs.Tree.{Trees}
 use Rattle.sqlite_catalog.proofs.ReadLemmas.{lists_once}
 use Rattle.sqlite.specs.Effect.{Database, IsDatabase}
 use Rattle.sqlite.specs.State.{State}
-use Rattle.dh_types.specs.declared.version.Version.TheVariants.{Second}
+use Rattle.dh_types.specs.declared.version.Version.{Version}
 use Rattle.dh_model.specs.Books as machine
 use Rattle.dh_model.specs.Runs.{batch_size}
 use Rattle.dh_laws.specs.Events.{Mended}
@@ -17,7 +17,7 @@ use Rattle.dh_catalog.specs.Versions.{each_is_ours, schema_of}
 use Rattle.dh_schema.specs.Store.{AreTables, IsReadyWith, tables}
 use Rattle.dh_schema.specs.Tables.{IsSound, state_in, version_of_tables}
 use Rattle.dh_schema.proofs.ReadTables.{version_given}
-use Rattle.dh_runs.specs.Taking.{AreSecond, IsOurVersion, IsResting}
+use Rattle.dh_runs.specs.Taking.{GivesVersion, HasVersion, IsResting}
 use Rattle.dh_runs.specs.Told.{IsMended, IsTorn}
 
 -- sound tables are listed by the schema of their version, and a list tells one schema
@@ -70,12 +70,13 @@ pub both_ok : {X E A B C : Type 0} (r : Result X E) → (A → B → C) → OnOk
 both_ok (Ok x) f a b = f a b
 both_ok (Err e) f a b = tt
 
--- sound tables of which meta gives our version are those of the second
-pub second_taken : (old mid new : State) → IsOurVersion old.now.trees → mid.now ≡ old.now → IsSound mid.now.trees → new.now ≡ mid.now → AreSecond new
-second_taken old mid new ours first sound same =
+-- sound tables of which meta gives a version are those of this version
+pub version_taken : (version : Version) (old mid new : State) → GivesVersion version old.now.trees → mid.now ≡ old.now → IsSound mid.now.trees
+    → new.now ≡ mid.now → HasVersion version new
+version_taken version old mid new given first sound same =
     ap (λ (d : Database). version_of_tables d.trees) same
-    ∙ version_given Second mid.now.trees sound.in_order (subst (λ (d : Database). IsOurVersion d.trees) (sym first) ours)
+    ∙ version_given version mid.now.trees sound.in_order (subst (λ (d : Database). GivesVersion version d.trees) (sym first) given)
 
 -- and stay so where a recovery came to its end
-pub second_mended : (mid new : State) → AreSecond mid → IsMended (tables mid) (tables new) → AreSecond new
-second_mended mid new second mended = the_version_stays batch_size Mended (as_tables (tables mid)) (as_tables (tables new)) mended ∙ second
+pub version_mended : (version : Version) (mid new : State) → HasVersion version mid → IsMended (tables mid) (tables new) → HasVersion version new
+version_mended version mid new was mended = the_version_stays batch_size Mended (as_tables (tables mid)) (as_tables (tables new)) mended ∙ was

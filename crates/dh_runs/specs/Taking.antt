@@ -2,10 +2,10 @@
 use Rattle.std.specs.Prelude.{◌≡◌, ◌⊎◌, false, IsTrue, pos, Some, None, ⊤, ℕ}
 use Rattle.sqlite.specs.State.{State}
 use Rattle.sqlite_trees.specs.Tree.{Trees}
-use Rattle.dh_types.specs.declared.version.Version.TheVariants.{Second}
+use Rattle.dh_types.specs.declared.version.Version.{Version}
 use Rattle.dh_types.specs.declared.reply.Refusal.{Refusal}
 use Rattle.dh_types.specs.declared.reply.Refusal.TheVariants as refusal
-use Rattle.dh_rows.specs.declared.limits.TheConstants.{VERSION}
+use Rattle.dh_rows.specs.Cells.{version_number}
 use Rattle.dh_model.specs.Runs.{batch_size}
 use Rattle.dh_audit.specs.Audit.{IsLeastBroken}
 use Rattle.dh_tables.specs.MetaTable.{meta_rows}
@@ -22,36 +22,37 @@ pub record IsResting (s : State) : Type 0 where
   pub autocommit : s.in_transaction ≡ false
   pub settled : s.now ≡ s.committed
 
--- its tables are those of the second version
-abbrev pub AreSecond : State → Type 0
-AreSecond s = (tables s).books.version ≡ Second
+-- its tables are those of this version
+abbrev pub HasVersion : Version → State → Type 0
+HasVersion version s = (tables s).books.version ≡ version
 
--- meta gives our version
-abbrev pub IsOurVersion : Trees → Type 0
-IsOurVersion trees = only_version (meta_rows trees) ≡ Some (pos VERSION)
+-- meta gives this version
+abbrev pub GivesVersion : Version → Trees → Type 0
+GivesVersion version trees = only_version (meta_rows trees) ≡ Some (pos (version_number version))
 
--- it gives our version, and the tables are those of another
-abbrev pub HasTablesOfAnother : State → Type 0
-HasTablesOfAnother s = IsOurVersion s.now.trees × GivesAnother s
+-- it gives this version, and the tables are those of another
+abbrev pub HasTablesOfAnother : Version → State → Type 0
+HasTablesOfAnother version s = GivesVersion version s.now.trees × GivesAnother s
 
 -- rule 0 is broken, where the version is not another one: a column does not hold a value of its kind, or meta gives no version
-abbrev pub BreaksRuleZero : Trees → Type 0
-BreaksRuleZero trees = (only_version (meta_rows trees) ≡ None) ⊎ (IsOurVersion trees × ¬ HasValues trees)
+abbrev pub BreaksRuleZero : Version → Trees → Type 0
+BreaksRuleZero wanted trees = (only_version (meta_rows trees) ≡ None) ⊎ (GivesVersion wanted trees × ¬ HasValues trees)
 
 -- the rule of this number is the least that is broken
-abbrev pub BreaksRule : ℕ → Trees → Type 0
-BreaksRule rule trees = (rule ≡ 0) × BreaksRuleZero trees ⊎ (HasValues trees × IsLeastBroken (books_in trees) batch_size rule)
+abbrev pub BreaksRule : Version → ℕ → Trees → Type 0
+BreaksRule wanted rule trees = (rule ≡ 0) × BreaksRuleZero wanted trees
+    ⊎ (GivesVersion wanted trees × HasValues trees × IsLeastBroken (books_in trees) batch_size rule)
 
--- so such tables are refused: for another version first, then for the least rule that is broken
-abbrev pub IsRefusedFor : Trees → Refusal → Type 0
-IsRefusedFor trees (refusal.Version found) = (only_version (meta_rows trees) ≡ Some found) × ¬ (found ≡ pos VERSION)
-IsRefusedFor trees (refusal.Damaged rule) = BreaksRule rule trees
-IsRefusedFor trees _ = ⊥
+-- so tables are refused of which those of one version were wanted: for another version first, then for the least rule that is broken
+abbrev pub IsRefusedFor : Version → Trees → Refusal → Type 0
+IsRefusedFor wanted trees (refusal.Version found) = (only_version (meta_rows trees) ≡ Some found) × ¬ (found ≡ pos (version_number wanted))
+IsRefusedFor wanted trees (refusal.Damaged rule) = BreaksRule wanted rule trees
+IsRefusedFor wanted trees _ = ⊥
 
 -- a refusal that holds of the tables, or a fault of which they say nothing
-abbrev pub IsProblemOf : Trees → Problem → Type 0
-IsProblemOf trees (problem.Refused why) = IsRefusedFor trees why
-IsProblemOf trees (problem.Fault fault) = IsFirstFault fault
+abbrev pub IsProblemOf : Version → Trees → Problem → Type 0
+IsProblemOf wanted trees (problem.Refused why) = IsRefusedFor wanted trees why
+IsProblemOf wanted trees (problem.Fault fault) = IsFirstFault fault
 
 -- it is refusal 16 or 17
 abbrev pub IsOfTables : Refusal → Type 0
@@ -62,3 +63,16 @@ IsOfTables _ = ⊥
 abbrev pub IsFirstProblem : Problem → Type 0
 IsFirstProblem (problem.Refused why) = IsOfTables why
 IsFirstProblem (problem.Fault fault) = IsFirstFault fault
+
+-- a crash leaves what the tables were
+abbrev pub LeavesAsTheyWere : State → State → Type 0
+LeavesAsTheyWere old new = (left : Trees) → new.may_leave left → left ≡ old.now.trees
+
+-- it is open between transactions, and what it reads is what it read
+abbrev pub ReadsAsItDid : State → State → Type 0
+ReadsAsItDid old new = IsResting new × (new.now ≡ old.now)
+
+-- the tables are of another version
+abbrev pub IsOfVersion : Problem → Type 0
+IsOfVersion (problem.Refused (refusal.Version found)) = ⊤
+IsOfVersion _ = ⊥

@@ -3,6 +3,7 @@
 #![tactic(auto)]
 
 mod closing;
+mod first_version;
 mod opening;
 mod planning;
 mod posting;
@@ -13,10 +14,12 @@ mod running;
 mod taking;
 
 pub use closing::close_run;
+pub use first_version::{close_run_1, post_batch_1};
 pub use opening::open_run;
 pub use planning::plan_run;
 pub use posting::{Batch, post_batch};
 pub use problem::Problem;
 pub use recovering::recover_in;
+pub use rows::put_fee;
 pub use running::{RunState, post_some, run_all};
 pub use taking::check;

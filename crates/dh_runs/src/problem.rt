@@ -7,7 +7,7 @@ use std::alloc::AllocError;
 /// Why tables are not taken.
 #[derive(Clone, Copy, Debug, PartialEq, Eq)]
 pub enum Problem {
-    /// Refusal 16 or 17: they are of another version, or a rule of the audit is broken.
+    /// Refusal 16 or 17: they are of another version, or a rule of the audit is broken. Of a migration also refusal 10: a run stands open.
     Refused(Refusal),
     /// Fault 21 or 22.
     Fault(Fault),

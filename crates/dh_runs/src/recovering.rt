@@ -10,13 +10,14 @@ ghost use Rattle.dh_schema.specs.Faults.{IsFirstFault};
 ghost use Rattle.dh_schema.specs.Store.{IsReady, IsReadyWith, Leaves, tables};
 ghost use Rattle.dh_schema.specs.Tables.{IsSound};
 ghost use Rattle.dh_runs.specs.Problems.{IsNotTaken};
-ghost use Rattle.dh_runs.specs.Taking.{AreSecond, HasTablesOfAnother, IsFirstProblem, IsProblemOf, IsResting};
+ghost use Rattle.dh_runs.specs.Taking.{HasTablesOfAnother, HasVersion, IsFirstProblem, IsOfVersion, IsProblemOf, IsResting, ReadsAsItDid};
 ghost use Rattle.dh_runs.specs.Told.{IsMended, IsTorn};
 
 use crate::problem::Problem;
 use crate::running::{RunState, post_some};
 use crate::taking::check;
 use dh_schema::StoreFault;
+use dh_types::Version;
 use sqlite::{Alter, Connection};
 use std::alloc::Global;
 
@@ -37,16 +38,23 @@ fn finish<S: Alter>(alloc: Global, conn: &mut Connection<S>) -> Result<(), Store
     }
 }
 
-/// Takes the tables where they are sound, and makes the open run to its end. Refusals 16 and 17 come as [`check`] tells them, and
-/// change nothing; fault 21 or 22 comes where memory ran out or the store failed, or the tables are not ours, or not those of the
-/// version that `meta` gives. Whatever cuts it, sound tables stay sound with the same whole books, and the open run is moved on.
-pub fn recover_in<S: Alter>(alloc: Global, conn: &mut Connection<S>) -> Result<(), Problem>
+/// Takes the tables where they are sound and of the version that is wanted, and makes the open run to its end. The version stays.
+/// Refusals 16 and 17 come as [`check`] tells them, and change nothing; fault 21 or 22 comes where memory ran out or the store failed,
+/// or the tables are not ours, or not those of the version that `meta` gives. Whatever cuts it, sound tables stay sound with the same
+/// whole books, and the open run is moved on.
+pub fn recover_in<S: Alter>(
+    alloc: Global,
+    conn: &mut Connection<S>,
+    wanted: Version,
+) -> Result<(), Problem>
     requires { HasCleanDisk (state S.Store conn.old) → IsResting (state S.Store conn.old) }
     ensures mended { HasCleanDisk (state S.Store conn.new)
         → OnOk result (IsReadyWith (state S.Store conn.new) (IsMended (tables (state S.Store conn.old)))) }
-    ensures second { HasCleanDisk (state S.Store conn.new) → OnOk result (AreSecond (state S.Store conn.new)) }
-    ensures refused { HasCleanDisk (state S.Store conn.new) → IfErr result (IsProblemOf (state S.Store conn.old).now.trees) }
+    ensures version { HasCleanDisk (state S.Store conn.new) → OnOk result (HasVersion wanted (state S.Store conn.new)) }
+    ensures refused { HasCleanDisk (state S.Store conn.new) → IfErr result (IsProblemOf wanted (state S.Store conn.old).now.trees) }
     ensures cause { IfErr result IsFirstProblem }
+    ensures of_version { HasCleanDisk (state S.Store conn.new)
+        → IfErr result (λ problem. IsOfVersion problem → ReadsAsItDid (state S.Store conn.old) (state S.Store conn.new)) }
     ensures crash { HasCleanDisk (state S.Store conn.new) → IsSound (state S.Store conn.old).now.trees
         → Leaves (state S.Store conn.new) (IsTorn (tables (state S.Store conn.old))) }
     ensures halted { HasCleanDisk (state S.Store conn.new) → IsTrue (state S.Store conn.new).is_open
@@ -60,12 +68,12 @@ pub fn recover_in<S: Alter>(alloc: Global, conn: &mut Connection<S>) -> Result<(
     ensures unchanged { HasCleanDisk (state S.Store conn.new) → IsTrue (state S.Store conn.new).is_open
         → ¬ IsSound (state S.Store conn.old).now.trees → IsResting (state S.Store conn.new) × ((state S.Store conn.new).now ≡ (state S.Store conn.old).now) }
     ensures others { ¬ HasOurTables (state S.Store conn.old) → IsNotTaken result × (conn.new ≡ conn.old) }
-    ensures another { HasCleanDisk (state S.Store conn.new) → HasTablesOfAnother (state S.Store conn.old) → IsNotTaken result }
+    ensures another { HasCleanDisk (state S.Store conn.new) → HasTablesOfAnother wanted (state S.Store conn.old) → IsNotTaken result }
     ensures was_clean { doubt (state S.Store conn.old).is_clean ≤ doubt (state S.Store conn.new).is_clean }
 {
     // That the trees list the schema is what each connection keeps true of itself.
     let _listed = conn.schema();
-    check(alloc, conn)?;
+    check(alloc, conn, wanted)?;
     finish(alloc, conn)?;
     Ok(())
 }

@@ -35,19 +35,19 @@ use Rattle.dh_schema.proofs.EachKind.{beside_meta, held_in, listed, none_held, p
 -- ---- a table without a row
 
 module _ {K X : Type 0} (it : Shape K X) (R : K → K → Ordering) (trees : Trees) (none : trees it.tree ≡ []) where
-  kept : IsKept it R trees
+  pub empty_kept : IsKept it R trees
   unfolding IsDistinct
-  kept = record { values = rw none tt; rowids = rw none tt; keys = rw none tt }
+  empty_kept = record { values = rw none tt; rowids = rw none tt; keys = rw none tt }
 
-  apart : AreApart (trees it.tree)
-  apart = rw none (λ x y hx hy e. absurd hx)
+  pub empty_apart : AreApart (trees it.tree)
+  empty_apart = rw none (λ x y hx hy e. absurd hx)
 
-  no_records : rows_in it {R = R} trees ≡ empty
+  pub no_records : rows_in it {R = R} trees ≡ empty
   no_records = ap (λ (rows : List Row). from_entries {R = R} (map (entry_in it) rows)) none
 
 -- ---- all of them
 
-none_since : {K X : Type 0} {R : K → K → Ordering} (came version : Version) → rows_since came version (empty {X = X} {R = R}) ≡ empty
+pub none_since : {K X : Type 0} {R : K → K → Ordering} (came version : Version) → rows_since came version (empty {X = X} {R = R}) ≡ empty
 none_since First version = refl
 none_since Second First = refl
 none_since Second Second = refl
@@ -85,8 +85,8 @@ module _ (months : Months) (before after : State) (has : before.now.schema ≡ s
       months = months;
       meta = set.months_are;
       tables = λ kind there. let here = subst (λ (v : Version). HasKind v kind) version_is there in record {
-        kept = kept (shape_of kind) (order_of kind) after.now.trees (none_in kind here);
-        apart = apart (shape_of kind) (order_of kind) after.now.trees (none_in kind here);
+        kept = empty_kept (shape_of kind) (order_of kind) after.now.trees (none_in kind here);
+        apart = empty_apart (shape_of kind) (order_of kind) after.now.trees (none_in kind here);
       };
     },
     ap showing loaded ∙ shows_none,

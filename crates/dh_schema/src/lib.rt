@@ -18,4 +18,4 @@ pub use finding::{KeyedRecord, find};
 pub use laws::{books_are_keyed, order_has_values, sound_tables_show_their_run};
 pub use load_fault::LoadFault;
 pub use making::install;
-pub use reading::{load, load_tables, version};
+pub use reading::{load, load_1, load_tables, version};

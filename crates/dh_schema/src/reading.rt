@@ -3,13 +3,14 @@
 ghost use Rattle.std.specs.Prelude.{◌≡◌, IsTrue, pos, Some, None, Err, IfOk, IfErr, OnOk, OnErr};
 ghost use Rattle.sqlite.specs.State.{HasCleanDisk, IsUnchanged};
 ghost use Rattle.sqlite.specs.Held.{state};
+ghost use Rattle.dh_types.specs.declared.version.Version.TheVariants.{First};
 ghost use Rattle.dh_rows.specs.Cells.{version_number};
 ghost use Rattle.dh_catalog.specs.Versions.{schema_of};
 ghost use Rattle.dh_tables.specs.Calls.{CommitsNothing, HasOurTables, IsUndone};
 ghost use Rattle.dh_tables.specs.MetaTable.{meta_rows};
 ghost use Rattle.dh_schema.specs.LoadFaults.{IsLoadFault, IsOfStore, IsTurnedAway};
 ghost use Rattle.dh_schema.specs.Store.{HasItsSchema, Keeps, tables};
-ghost use Rattle.dh_schema.specs.Tables.{AreInOrder, HasValues, loaded_from};
+ghost use Rattle.dh_schema.specs.Tables.{AreInOrder, HasValues, loaded_from, version_of_tables};
 ghost use Rattle.dh_schema.specs.Version.{GivesAnother, only_version};
 
 use crate::fault::StoreFault;
@@ -150,4 +151,23 @@ pub fn load<S: Alter>(alloc: Global, conn: &mut Connection<S>) -> Result<Books, 
     let run = run_shown(&books);
     books.set_open_run(run);
     Ok(books)
+}
+
+/// [`load`] of tables of the first version.
+pub fn load_1<S: Alter>(alloc: Global, conn: &mut Connection<S>) -> Result<Books, LoadFault>
+    requires first { HasCleanDisk (state S.Store conn.old) → version_of_tables (state S.Store conn.old).now.trees ≡ First }
+    ensures ours { OnOk result (HasOurTables (state S.Store conn.old)) }
+    ensures version { HasCleanDisk (state S.Store conn.new) → OnOk result (HasItsSchema (state S.Store conn.old)) }
+    ensures books { HasCleanDisk (state S.Store conn.new) → IfOk result (λ books. books ≡ tables (state S.Store conn.old)) }
+    ensures in_order { HasCleanDisk (state S.Store conn.new) → OnOk result (AreInOrder (state S.Store conn.old).now.trees) }
+    ensures cause { IfErr result IsLoadFault }
+    ensures damaged { HasCleanDisk (state S.Store conn.new) → result ≡ Err LoadFault.Damaged
+        → HasOurTables (state S.Store conn.old) × (¬ HasValues (state S.Store conn.old).now.trees) }
+    ensures others { ¬ HasOurTables (state S.Store conn.old) → IsTurnedAway result × (conn.new ≡ conn.old) }
+    ensures another { HasCleanDisk (state S.Store conn.new) → GivesAnother (state S.Store conn.old) → IsTurnedAway result }
+    ensures same { HasCleanDisk (state S.Store conn.new) → OnOk result (IsUnchanged (state S.Store conn.old) (state S.Store conn.new)) }
+    ensures kept { HasCleanDisk (state S.Store conn.new) → Keeps (state S.Store conn.old) (state S.Store conn.new) }
+    ensures crash { CommitsNothing (state S.Store conn.old) (state S.Store conn.new) }
+{
+    load(alloc, conn)
 }

@@ -28,7 +28,7 @@ use dh_books::Books;
 use dh_schema::StoreFault;
 use dh_tables::{
     BranchNumbered, ChargesOfLease, ClientNumbered, FeesOfMonth, LeaseNumbered, LeasesOfProperty,
-    OwnerNumbered, PartsOfMonth, ReceiptsOfLease, RunOf,
+    OwnerNumbered, PartsOfMonth, PropertiesOfOwner, ReceiptsOfLease, RunOf,
 };
 use dh_types::{
     Answer, Branch, Ending, EntryMonth, Id, Lease, LeaseNo, OwnerMonth, Property, Question, Refusal,
@@ -235,15 +235,13 @@ fn gather_arrears<S: Alter>(
     Ok(())
 }
 
-// The numbers of the owner's properties that the books have.
-fn numbers_of(alloc: Global, books: &Books, owner: Id) -> Result<Vec<Id>, StoreFault>
-    ensures numbers { IfOk result (λ numbers. numbers.items
-        ≡ map (λ property. property.number) (filter (λ property. is_same_text property.owner owner) (fin.values books.now.books.properties))) }
+// The numbers of the properties that the books have.
+fn held_properties(alloc: Global, books: &Books) -> Result<Vec<Id>, StoreFault>
+    ensures numbers { IfOk result (λ numbers. numbers.items ≡ map (λ property. property.number) (fin.values books.now.books.properties)) }
     ensures cause { IfErr result IsFirstFault }
 {
     let numbers = books
         .properties()
-        .filter(|property| property.owner == owner)
         .map(|property| property.number)
         .collect(alloc);
     match numbers {
@@ -252,7 +250,7 @@ fn numbers_of(alloc: Global, books: &Books, owner: Id) -> Result<Vec<Id>, StoreF
     }
 }
 
-// The owner, all properties, and the leases of the owner's.
+// The owner, the owner's properties, and the leases of these.
 fn gather_owned<S: Alter>(
     alloc: Global,
     conn: &mut Connection<S>,
@@ -269,8 +267,8 @@ fn gather_owned<S: Alter>(
     ensures reads { OnlyReads (state S.Store conn.old) (state S.Store conn.new) result }
 {
     look(alloc, conn, &OwnerNumbered { number: owner }, books)?;
-    look_at_all::<Property, S>(alloc, conn, books)?;
-    let numbers = numbers_of(alloc, books, owner)?;
+    look(alloc, conn, &PropertiesOfOwner { owner }, books)?;
+    let numbers = held_properties(alloc, books)?;
     gather_leases(alloc, conn, &numbers, books)?;
     Ok(())
 }
@@ -300,7 +298,7 @@ fn gather_charges<S: Alter>(
     Ok(())
 }
 
-// The owner, all properties, the leases of the owner's, and what was charged on these.
+// The owner, the owner's properties, the leases of these, and what was charged on these.
 fn gather_charged<S: Alter>(
     alloc: Global,
     conn: &mut Connection<S>,

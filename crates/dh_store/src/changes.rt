@@ -97,8 +97,9 @@ fn commit_change<S: Alter>(
     Ok(())
 }
 
-/// Puts exactly the rows of the change into the tables, in one transaction: those of an accepted command, which fit in and
-/// leave books in order. At a fault the tables are these or those before, and while the store is open those before.
+/// Puts exactly the rows of the change into the tables, in one transaction: those of an accepted command, which fit in, have
+/// a table in the version of the file, and leave books in order. At a fault the tables are these or those before, and while
+/// the store is open those before.
 pub fn apply<S: Alter>(
     alloc: Global,
     conn: &mut Connection<S>,

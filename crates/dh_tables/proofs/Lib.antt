@@ -6,6 +6,6 @@ pub mod OneRecord
 pub mod LastReceipt
 pub mod MetaTexts
 pub mod MetaChanges
-pub mod MetaNext
+pub mod MetaUpdates
 pub mod AmendedRecord
 pub mod ByKey

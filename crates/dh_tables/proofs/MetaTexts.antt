@@ -57,3 +57,15 @@ unfolding understood everything
 meta_updates_is = of_both (λ s. IsUpdateText meta_updates s 0 meta meta_tests meta_becomes)
     (record { command = refl; plain = (refl, refl); listed = refl; stored = λ db. refl })
     (record { command = refl; plain = (refl, refl); listed = refl; stored = λ db. refl })
+
+abbrev pub version_updates : List ℕ
+version_updates = codes "UPDATE meta SET version = ?1 WHERE id = 1"
+
+abbrev pub version_becomes : List Term
+version_becomes = col 1 0 ∷ col 1 0 ∷ lit Null ∷ col 0 0 ∷ col 1 3 ∷ col 1 4 ∷ []
+
+pub version_updates_is : (s : Schema) → HasSince First s → IsUpdateText version_updates s 0 meta meta_tests version_becomes
+unfolding understood everything
+version_updates_is = of_both (λ s. IsUpdateText version_updates s 0 meta meta_tests version_becomes)
+    (record { command = refl; plain = (refl, refl); listed = refl; stored = λ db. refl })
+    (record { command = refl; plain = (refl, refl); listed = refl; stored = λ db. refl })

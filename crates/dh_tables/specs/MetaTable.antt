@@ -4,6 +4,7 @@ use Rattle.sqlite_value.specs.Order.{Row, column}
 use Rattle.sqlite_trees.specs.Tree.{Trees}
 use Rattle.sqlite_catalog.specs.Listing as catalog
 use Rattle.sqlite.specs.State.{State}
+use Rattle.dh_types.specs.declared.version.Version.{Version}
 use Rattle.dh_rows.specs.Months.{Months}
 use Rattle.dh_rows.specs.MetaRows.{meta_row, is_meta_row}
 use Rattle.dh_sql.specs.Changes.{OthersStay}
@@ -42,3 +43,7 @@ HasItsRow trees = (m : Months) × HasMonths m trees
 -- the month to be run next is this one, and the first month what it was
 abbrev pub SetsNext : ℕ → State → State → Type 0
 SetsNext next old new = (m : Months) × HasMonths m old.now.trees × SetsMonths (record m { next = next }) old new
+
+-- the version is this one, and the months what they were
+abbrev pub SetsVersion : Version → State → State → Type 0
+SetsVersion version old new = (m : Months) × HasMonths m old.now.trees × SetsMonths (record m { version = version }) old new

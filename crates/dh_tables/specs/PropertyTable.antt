@@ -26,6 +26,7 @@ use Rattle.dh_sql.specs.Texts.{IsInsertText, IsSelectText}
 use Rattle.dh_sql.proofs.Casting.{cast_null, pass_each, row_stays}
 use Rattle.dh_tables.specs.declared.property.PropertyNumbered.{PropertyNumbered}
 use Rattle.dh_tables.specs.declared.property.PropertiesManaged.{PropertiesManaged}
+use Rattle.dh_tables.specs.declared.property.PropertiesOfOwner.{PropertiesOfOwner}
 use Rattle.dh_tables.specs.Cells.{is_text as text_is, number_from, optional_text_that, pass_one, read_as, same_optional, same_text, text_that}
 use Rattle.dh_tables.specs.Listing.{IsListing, Listing}
 use Rattle.dh_tables.specs.Questions.{Asking, IsAsking}
@@ -171,4 +172,31 @@ properties_managed_is = record {
   passes = λ q r known good.
       let cells = (pass_each property_cells true (property_columns r) good).1 in
       pass_one (same_optional is_id (column r 9) q.staff cells.1.1.1.1.1.1.1.1.0);
+}
+
+-- ---- the properties of an owner
+
+abbrev pub properties_of_owner : Asking
+properties_of_owner = record {
+  text = codes "SELECT property_no, street, city, postcode, type, rooms, rent, owner_no, staff_no, branch_no FROM property WHERE owner_no = ?1";
+  tests = op2 (Compare Eq Binary) (col 1 8) (col 0 0) ∷ [];
+  project = property_project;
+  names = property_names;
+}
+
+properties_of_owner_selects : (s : Schema) → HasSince First s
+    → IsSelectText properties_of_owner.text s 7 properties_of_owner.tests property_project [] property_names
+unfolding understood everything
+properties_of_owner_selects = of_both (λ s. IsSelectText properties_of_owner.text s 7 properties_of_owner.tests property_project [] property_names)
+    (record { command = refl; unlisted = refl; plain = (refl, refl); stored = λ db. refl })
+    (record { command = refl; unlisted = refl; plain = (refl, refl); stored = λ db. refl })
+
+pub properties_of_owner_is : IsAsking First property_shape properties_of_owner
+    (λ (q : PropertiesOfOwner). Unit {0}) (λ q. Text q.owner ∷ []) (λ q p. is_same_text p.owner q.owner)
+properties_of_owner_is = record {
+  selects = properties_of_owner_selects;
+  shows_columns = λ q r. refl;
+  passes = λ q r known good.
+      let cells = (pass_each property_cells true (property_columns r) good).1 in
+      pass_one (same_text (column r 8) q.owner (text_is is_id (column r 8) cells.1.1.1.1.1.1.1.0));
 }

@@ -9,10 +9,11 @@ ghost use Rattle.sqlite.specs.Held.{state};
 ghost use Rattle.dh_days.specs.declared.limits.TheConstants.{FIRST_MONTH, LAST_NEXT_MONTH};
 ghost use Rattle.dh_types.specs.declared.version.Version.TheVariants.{First};
 ghost use Rattle.dh_tables.specs.Calls.{CommitsNothing, StaysInTransaction, HasOurTables, IsUndone, IsInTransaction, IsWritingSince};
-ghost use Rattle.dh_tables.specs.MetaTable.{AreFound, HasItsRow, SetsMonths, SetsNext, meta_rows};
+ghost use Rattle.dh_rows.specs.Cells.{version_number};
+ghost use Rattle.dh_tables.specs.MetaTable.{AreFound, HasItsRow, SetsMonths, SetsNext, SetsVersion, meta_rows};
 
-use dh_rows::{Meta, Record};
-use dh_types::Month;
+use dh_rows::{Meta, Record, version_number};
+use dh_types::{Month, Version};
 use sqlite::types::ValueRef;
 use sqlite::{Alter, Connection, Error, Row, Transaction};
 use std::alloc::Global;
@@ -103,6 +104,34 @@ pub fn set_next_month<S: Alter>(tx: &mut Transaction<'_, S>, next: Month) -> Res
     tx.execute(
         "UPDATE meta SET next_month = ?1 WHERE id = 1",
         &[number(next)],
+    )?;
+    Ok(())
+}
+
+// The number of the version.
+fn numbered(version: Version) -> ValueRef<'static>
+    ensures { bound_value (owned result) ≡ Int (pos (version_number version)) }
+{
+    ValueRef::Int(version_number(version))
+}
+
+/// Sets the version, in a table that has its row. An error has changed nothing or ended the transaction, where the store
+/// is still open.
+pub fn set_version<S: Alter>(tx: &mut Transaction<'_, S>, version: Version) -> Result<(), Error>
+    requires writing { HasCleanDisk (state S.Store tx.old.conn.now) → IsWritingSince First (state S.Store tx.old.conn.now) }
+    requires there { HasCleanDisk (state S.Store tx.old.conn.now) → HasItsRow (state S.Store tx.old.conn.now).now.trees }
+    ensures same_reference { tx.new.conn.ghost_name ≡ tx.old.conn.ghost_name }
+    ensures set { HasCleanDisk (state S.Store tx.new.conn.now)
+        → OnOk result (SetsVersion version (state S.Store tx.old.conn.now) (state S.Store tx.new.conn.now)) }
+    ensures shown { HasCleanDisk (state S.Store tx.new.conn.now)
+        → OnOk result (StaysInTransaction (state S.Store tx.old.conn.now) (state S.Store tx.new.conn.now)) }
+    ensures undone { HasCleanDisk (state S.Store tx.new.conn.now)
+        → OnErr result (IsUndone (state S.Store tx.old.conn.now) (state S.Store tx.new.conn.now)) }
+    ensures crash { CommitsNothing (state S.Store tx.old.conn.now) (state S.Store tx.new.conn.now) }
+{
+    tx.execute(
+        "UPDATE meta SET version = ?1 WHERE id = 1",
+        &[numbered(version)],
     )?;
     Ok(())
 }

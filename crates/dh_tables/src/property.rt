@@ -142,3 +142,42 @@ impl Look for PropertiesManaged {
 
     ghost is_asking = { properties_managed_is };
 }
+
+/// The properties of this owner.
+#[derive(Drop)]
+pub struct PropertiesOfOwner {
+    pub owner: Id,
+}
+
+impl Look for PropertiesOfOwner {
+    ghost use Rattle.std.specs.Prelude.{◌∷◌, []};
+    ghost use Rattle.sqlite_value.specs.declared.value.Value.TheVariants.{Text};
+    ghost use Rattle.dh_model.specs.Checks.{is_same_text};
+    ghost use Rattle.dh_tables.specs.PropertyTable.{properties_of_owner, properties_of_owner_is};
+
+    type Record = Property;
+
+    ghost asks = { λ q p. is_same_text p.owner q.owner };
+
+    ghost asking = { properties_of_owner };
+
+    ghost given = { λ q. Text q.owner ∷ [] };
+
+    fn text() -> &'static str {
+        "SELECT property_no, street, city, postcode, type, rooms, rent, owner_no, staff_no, branch_no FROM property WHERE owner_no = ?1"
+    }
+
+    fn day_bytes(&self, alloc: Global) -> Result<Vec<u8>, AllocError> {
+        Ok(Vec::new(alloc))
+    }
+
+    fn params<'a>(
+        &'a self,
+        alloc: Global,
+        _day: &'a [u8],
+    ) -> Result<Vec<ValueRef<'a>>, AllocError> {
+        [ValueRef::Text(self.owner.as_str().as_bytes())].to_vec(alloc)
+    }
+
+    ghost is_asking = { properties_of_owner_is };
+}

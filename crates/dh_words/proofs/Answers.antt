@@ -15,7 +15,7 @@ use Rattle.dh_types.specs.declared.reply.Refusal.{Refusal}
 use Rattle.dh_fields.specs.declared.request.Request.TheVariants as request
 use Rattle.dh_fields.specs.Lines.{a_question, field, question_forms, request_of, value_among}
 use Rattle.dh_words.specs.Jobs.{is_complete, is_there, question_fields}
-use Rattle.dh_words.specs.Table.{batch, init, letting, recover, report, run, serve}
+use Rattle.dh_words.specs.Table.{batch, init, letting, migrate, recover, report, run, serve}
 
 abbrev pub has : Text → List Row → Type 0
 has name rows = is_some (first_of name rows) ≡ true
@@ -43,6 +43,10 @@ module _ (name : Text) (rows : List Row) (complete : is_complete name rows ≡ t
   unfolding is_complete letting
   recover_has is = (both (is_some (first_of (codes "file") rows)) _ (here (codes "recover") is)).0
 
+  pub migrate_has : name ≡ codes "migrate" → has (codes "file") rows
+  unfolding is_complete letting
+  migrate_has is = (both (is_some (first_of (codes "file") rows)) _ (here (codes "migrate") is)).0
+
   pub report_has : name ≡ codes "report" → has (codes "file") rows × has (codes "word") rows
   unfolding is_complete letting
   report_has is =
@@ -63,17 +67,18 @@ module _ (name : Text) (rows : List Row) (complete : is_complete name rows ≡ t
       go true is = absurd (differs (sym ((bytes_eq-Decides word name).0 is)))
       go false is = is
 
-  abbrev judged : (a b c d e f : Bool) → Bool
-  judged a b c d e f = option_map_or (λ (s : Shape). list_all (is_there rows) s.rules)
-      (cond a (Some init) (cond b (Some batch) (cond c (Some run) (cond d (Some recover) (cond e (Some report) (cond f (Some serve) None)))))) false
+  abbrev judged : (a b c d e f g : Bool) → Bool
+  judged a b c d e f g = option_map_or (λ (s : Shape). list_all (is_there rows) s.rules)
+      (cond a (Some init) (cond b (Some batch) (cond c (Some run) (cond d (Some recover) (cond e (Some migrate)
+      (cond f (Some report) (cond g (Some serve) None))))))) false
 
   pub no_other : (name ≡ codes "init" → ⊥) → (name ≡ codes "batch" → ⊥) → (name ≡ codes "run" → ⊥) → (name ≡ codes "recover" → ⊥)
-      → (name ≡ codes "report" → ⊥) → (name ≡ codes "serve" → ⊥) → ⊥
+      → (name ≡ codes "migrate" → ⊥) → (name ≡ codes "report" → ⊥) → (name ≡ codes "serve" → ⊥) → ⊥
   unfolding is_complete letting
-  no_other a b c d e f =
+  no_other a b c d e f g =
       let none : is_complete name rows ≡ false =
-      λ i. judged (other (codes "init") a i) (other (codes "batch") b i) (other (codes "run") c i) (other (codes "recover") d i) (other (codes "report") e i)
-      (other (codes "serve") f i) in
+      λ i. judged (other (codes "init") a i) (other (codes "batch") b i) (other (codes "run") c i) (other (codes "recover") d i) (other (codes "migrate") e i)
+      (other (codes "report") f i) (other (codes "serve") g i) in
       let bad : true ≡ false = sym complete ∙ none in
       cc
 

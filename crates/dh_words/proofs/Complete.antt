@@ -46,7 +46,10 @@ of_table : Each IsOfTable (built letting).subs
 unfolding letting is_complete
 of_table = (
   (refl, refl, λ rows e. e),
-  ((refl, refl, λ rows e. e), ((refl, refl, λ rows e. e), ((refl, refl, λ rows e. e), ((refl, refl, λ rows e. e), ((refl, refl, λ rows e. e), tt))))),
+  (
+    (refl, refl, λ rows e. e),
+    ((refl, refl, λ rows e. e), ((refl, refl, λ rows e. e), ((refl, refl, λ rows e. e), ((refl, refl, λ rows e. e), ((refl, refl, λ rows e. e), tt))))),
+  ),
 )
 
 -- ---- what a parse without a fault enters

@@ -10,7 +10,7 @@ use Rattle.dh_words.specs.Table.{letting}
 use Rattle.dh_words.specs.declared.kinds.BadWords.{BadWords}
 use Rattle.dh_words.specs.declared.kinds.BadWords.TheVariants.{Refused, Value, Question, Memory}
 use Rattle.dh_words.specs.declared.kinds.Job.{Job}
-use Rattle.dh_words.specs.declared.kinds.Job.TheVariants.{Init, Batch, Run, Recover, Report, Serve}
+use Rattle.dh_words.specs.declared.kinds.Job.TheVariants.{Init, Batch, Run, Recover, Migrate, Report, Serve}
 
 told : (words : List Text) (error : Error) (bad : BadWords) → HasKind (fault_of letting words) error → HandsOn error bad → IsBadFor words bad
 told words error (Refused same) (inl none) h = absurd (h.1 none)
@@ -47,6 +47,7 @@ module _ (name file : Text) (rows : List Row) (is : name ≡ codes "report") (we
   reported (Ok (Batch at first)) h = absurd h
   reported (Ok (Run at order batches)) h = absurd h
   reported (Ok (Recover at)) h = absurd h
+  reported (Ok (Migrate at)) h = absurd h
   reported (Ok (Serve at port count)) h = absurd h
   reported (Err (Question refusal)) h = (well, is, h)
   reported (Err (Refused error)) h = absurd h

@@ -16,7 +16,7 @@ use Rattle.dh_words.specs.Table.{letting}
 use Rattle.dh_words.specs.declared.kinds.BadWords.{BadWords}
 use Rattle.dh_words.specs.declared.kinds.BadWords.TheVariants as bad
 use Rattle.dh_words.specs.declared.kinds.Job.{Job}
-use Rattle.dh_words.specs.declared.kinds.Job.TheVariants.{Init, Batch, Run, Recover, Report, Serve}
+use Rattle.dh_words.specs.declared.kinds.Job.TheVariants.{Init, Batch, Run, Recover, Migrate, Report, Serve}
 
 -- `clap` takes the words, which name this subcommand and give its options and free words these rows
 abbrev pub Takes : List Text → Text × List Row → Type 0
@@ -39,6 +39,7 @@ Asks name rows (Run file order batches) = (name ≡ codes "run") × (first_of (c
     × (value key_of (codes "key") rows ≡ Some order.key) × (value month_of (codes "month") rows ≡ Some order.month)
     × (batches ≡ value batch_count_of (codes "batches") rows)
 Asks name rows (Recover file) = (name ≡ codes "recover") × (first_of (codes "file") rows ≡ Some file.now)
+Asks name rows (Migrate file) = (name ≡ codes "migrate") × (first_of (codes "file") rows ≡ Some file.now)
 Asks name rows (Report file question) = (name ≡ codes "report") × (first_of (codes "file") rows ≡ Some file.now)
     × (request_of (question_fields rows) ≡ Ok (request.Question question))
 Asks name rows (Serve file port count) = (name ≡ codes "serve") × (first_of (codes "file") rows ≡ Some file.now)

@@ -39,6 +39,9 @@ run = subcommand (codes "run")
 abbrev pub recover : Shape
 recover = subcommand (codes "recover") (required (option (codes "file")) ∷ [])
 
+abbrev pub migrate : Shape
+migrate = subcommand (codes "migrate") (required (option (codes "file")) ∷ [])
+
 abbrev pub report : Shape
 report = subcommand (codes "report") (required (option (codes "file")) ∷ free_words ∷ [])
 
@@ -57,7 +60,7 @@ top = record (new_shape (codes "letting")) {
 unfoldable pub letting : App
 letting = record {
   top = record top { is_leaf = false };
-  subs = init ∷ batch ∷ run ∷ recover ∷ report ∷ serve ∷ [];
+  subs = init ∷ batch ∷ run ∷ recover ∷ migrate ∷ report ∷ serve ∷ [];
 }
 
 -- ---- what is told to `clap`

@@ -231,6 +231,23 @@ fn recover<'a>(alloc: Global) -> Result<Command<'a>, AllocError>
     ))
 }
 
+fn migrate<'a>(alloc: Global) -> Result<Command<'a>, AllocError>
+    ensures { IfOk result (IsSubcommand table.migrate) }
+{
+    subcommand(
+        alloc,
+        "migrate",
+        "Takes a file of the first version to the second and prints `migrated`; copy the file first, there is no way back",
+        STATUSES,
+    )
+    .arg(required(
+        alloc,
+        "file",
+        "FILE",
+        "The agency's file, as --file letting.db",
+    ))
+}
+
 fn report<'a>(alloc: Global) -> Result<Command<'a>, AllocError>
     ensures { IfOk result (IsSubcommand table.report) }
 {
@@ -317,6 +334,7 @@ pub(crate) fn letting<'a>(alloc: Global) -> Result<Command<'a>, AllocError>
     let letting = with(letting, batch(alloc))?;
     let letting = with(letting, run(alloc))?;
     let letting = with(letting, recover(alloc))?;
+    let letting = with(letting, migrate(alloc))?;
     let letting = with(letting, report(alloc))?;
     with(letting, serve(alloc))
 }

@@ -30,6 +30,10 @@ pub enum Job<'a> {
     Recover {
         file: &'a str,
     },
+    /// Takes a file of the first version to the second. There is no way back.
+    Migrate {
+        file: &'a str,
+    },
     /// Asks a question.
     Report {
         file: &'a str,

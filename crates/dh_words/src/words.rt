@@ -68,6 +68,9 @@ fn job_of<'a>(alloc: Global, name: &str, values: &ArgMatches<'a>) -> Result<Job<
         "recover" => Ok(Job::Recover {
             file: options.file.unwrap(),
         }),
+        "migrate" => Ok(Job::Migrate {
+            file: options.file.unwrap(),
+        }),
         "report" => report(alloc, options.file.unwrap(), values),
         "serve" => Ok(Job::Serve {
             file: options.file.unwrap(),

@@ -17,7 +17,8 @@ loop-charge-preserved-in-Continue-1 c =
     let is : branch_of books charge.lease ≡ Some branch = sym (ap (λ place. place.branch) c.place_of-here.ensures) ∙ c.in-Some-branch.is in
     record {
       done = some_taken books c.len-count.result charge c.next.new.self c.loop-charge.charge-iterator c.in-Some.ensures.steps c.loop-charge.fees
-          c.loop-charge.invariant.done (charge.month, branch) (a_branch books charge branch is) c.in_ok-add.ensures.small c.add.new.fees c.in_ok-add.ensures.value;
+          c.loop-charge.invariant.done (charge.month, branch) (a_branch books charge branch is) c.in_ok-add.ensures.small
+          c.add.new.fees c.in_ok-add.ensures.value;
       place = subst (λ (place : Place). place.branch ≡ branch_of books place.lease) (sym c.place_of-here.ensures) refl;
     }
 

@@ -1,7 +1,7 @@
-use Rattle.std.proofs.Common.{◌∙◌, codes, refl}
-use Rattle.dh_fields.proofs.Forms.{by_form, field_is, no_text, unknown}
-use Rattle.dh_fields.specs.Lines.{assign_form, branch_form, client_form, command_forms, comment_form, end_form, fee_form, inspection_form, lease_form, open_form}
-use Rattle.dh_fields.specs.Lines.{owner_form, post_form, property_form, receipt_form, register_form, rent_form, run_form, staff_form, viewing_form}
+use Rattle.std.proofs.Common.{◌∙◌, codes, refl, [], ◌∷◌}
+use Rattle.dh_fields.proofs.Forms.{IsOther, by_form, field_is, no_text, unknown}
+use Rattle.dh_fields.specs.Lines.{assign_form, branch_form, client_form, command_forms, comment_form, end_form, fee_form, inspection_form, lease_form}
+use Rattle.dh_fields.specs.Lines.{open_form, owner_form, post_form, property_form, receipt_form, register_form, rent_form, run_form, staff_form, viewing_form}
 use Rattle.dh_fields.proofs.commands.read_command.Goals as goal
 
 pub returns-in_err-text : goal.returns-in_err-text
@@ -97,5 +97,10 @@ returns-in-post c =
 pub returns-in_default : goal.returns-in_default
 returns-in_default c =
     let no = c.in_default in
+    let last : IsOther (lease_form ∷ end_form ∷ receipt_form ∷ run_form ∷ open_form ∷ post_form ∷ []) _ =
+    (no.not-lease, (no.not-end, (no.not-receipt, (no.not-run, (no.not-open, (no.not-post, tt)))))) in
+    let later : IsOther (rent_form ∷ client_form ∷ register_form ∷ viewing_form ∷ comment_form ∷ inspection_form ∷ lease_form ∷ end_form ∷ receipt_form
+    ∷ run_form ∷ open_form ∷ post_form ∷ []) _ =
+    (no.not-rent, (no.not-client, (no.not-register, (no.not-viewing, (no.not-comment, (no.not-inspection, last)))))) in
     unknown command_forms 1 c.args.line.now _ c.in_ok-text.ensures
-    (no.not-branch, (no.not-fee, (no.not-staff, (no.not-owner, (no.not-property, (no.not-assign, (no.not-rent, (no.not-client, (no.not-register, (no.not-viewing, (no.not-comment, (no.not-inspection, (no.not-lease, (no.not-end, (no.not-receipt, (no.not-run, (no.not-open, (no.not-post, tt))))))))))))))))))
+    (no.not-branch, (no.not-fee, (no.not-staff, (no.not-owner, (no.not-property, (no.not-assign, later))))))

@@ -1,6 +1,4 @@
-use Rattle.dh_office.specs.OnFile.FileEnds.{Opened, Unopened}
-use Rattle.dh_office.proofs.StoreLemmas.{job_before}
-use Rattle.dh_office.proofs.TextLemmas.{fault_told}
+use Rattle.dh_office.specs.OnFile.FileEnds.{Opened}
 use Rattle.dh_office.proofs.files.open_and_do.Goals as goal
 
 pub do_and_close-requires : goal.do_and_close-requires

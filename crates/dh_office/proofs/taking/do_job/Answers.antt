@@ -26,6 +26,17 @@ returns-in-Recover-clause-ends g c clean =
     (g.W.Write.contents c.mend.new.writer) (g.R.Read.remaining c.args.reader.now) job c.mend.result.0)
     (sym c.in-Recover.is) (c.mend.ensures.ends clean)
 
+pub returns-in-Migrate-clause-printed : goal.returns-in-Migrate-clause-printed
+returns-in-Migrate-clause-printed g c =
+    subst (λ job. PrintsJob job (g.W.Write.contents c.args.writer.now) (g.W.Write.contents c.renew.new.writer) c.renew.result.0) (sym c.in-Migrate.is)
+    c.renew.ensures.printed
+
+pub returns-in-Migrate-clause-ends : goal.returns-in-Migrate-clause-ends
+returns-in-Migrate-clause-ends g c clean =
+    subst (λ job. JobEnds (state g.S.Store c.args.conn) (state g.S.Store c.renew.result.1) (g.W.Write.contents c.args.writer.now)
+    (g.W.Write.contents c.renew.new.writer) (g.R.Read.remaining c.args.reader.now) job c.renew.result.0)
+    (sym c.in-Migrate.is) (c.renew.ensures.ends clean)
+
 pub returns-in-Work-clause-printed : goal.returns-in-Work-clause-printed
 returns-in-Work-clause-printed g c =
     subst (λ job. PrintsJob job (g.W.Write.contents c.args.writer.now) (g.W.Write.contents c.take.new.writer) c.take.result.0) (sym c.in-Work.is)

@@ -1,8 +1,12 @@
-use Rattle.std.proofs.Common.{inl, inr, refl}
+use Rattle.std.proofs.Common.{◌∙◌, inl, inr, refl, subst, sym}
+use Rattle.std.proofs.lemmas.Bool.{false≢true}
+use Rattle.sqlite.specs.Held.{state}
+use Rattle.dh_types.specs.declared.version.Version.TheVariants.{Second}
+use Rattle.dh_runs.specs.Taking.{IsOfVersion, IsProblemOf}
 use Rattle.dh_office.specs.declared.status.Status.TheVariants.{Done}
 use Rattle.dh_office.specs.Printed.{IsRecoveryEnd}
 use Rattle.dh_office.specs.Texts.{recovered_line}
-use Rattle.dh_office.proofs.StoreLemmas.{prints_as, problem_prints}
+use Rattle.dh_office.proofs.StoreLemmas.{forward_again, mended_again, prints_as, problem_prints, second_cause}
 use Rattle.dh_office.proofs.TextLemmas.{puts_as}
 use Rattle.dh_office.proofs.taking.mend.Goals as goal
 
@@ -11,9 +15,29 @@ returns-in-Ok-clause-printed g c =
     inl (prints_as IsRecoveryEnd recovered_line Done _ _ c.heard.result (refl, refl)
     (puts_as c.print_recovered.result recovered_line Done c.heard.result _ _ c.heard.ensures c.print_recovered.ensures))
 
-pub returns-in-Err-clause-printed : goal.returns-in-Err-clause-printed
-returns-in-Err-clause-printed g c = inr (problem_prints c.in-Err.field-0.cause _ _ c.tell_problem.result c.in-Err.ensures.cause c.tell_problem.ensures)
+pub returns-then-is_first-clause-ends : goal.returns-then-is_first-clause-ends
+returns-then-is_first-clause-ends g c clean =
+    let old = state g.S.Store c.args.conn in
+    let is = c.is_first.ensures.0 c.if-is_first.true in
+    mended_again old (state g.S.Store c.in-Err.field-0.conn) (state g.S.Store c.mend_first.result.1) c.in-Err.ensures.crash
+    (λ at. c.in-Err.ensures.of_version at (subst IsOfVersion (sym is) tt))
+    c.mend_first.ensures.crash _ _ c.mend_first.result.0
+    (λ at. (subst (IsProblemOf Second old.now.trees) is (c.in-Err.ensures.refused at)).0)
+    clean (c.mend_first.ensures.ends clean)
 
-pub returns-in-Err-clause-ends : goal.returns-in-Err-clause-ends
-returns-in-Err-clause-ends g c clean =
-    inr (record { problem = c.in-Err.field-0.cause; cause = c.in-Err.ensures.refused clean; told = c.tell_problem.ensures }, c.in-Err.ensures.crash)
+pub returns-then-is_first-clause-crash : goal.returns-then-is_first-clause-crash
+returns-then-is_first-clause-crash g c =
+    let is = c.is_first.ensures.0 c.if-is_first.true in
+    forward_again (state g.S.Store c.args.conn) (state g.S.Store c.in-Err.field-0.conn) (state g.S.Store c.mend_first.result.1) c.in-Err.ensures.crash
+    (λ at. c.in-Err.ensures.of_version at (subst IsOfVersion (sym is) tt)) c.mend_first.ensures.crash
+
+pub returns-else-is_first-clause-printed : goal.returns-else-is_first-clause-printed
+returns-else-is_first-clause-printed g c =
+    inr (problem_prints c.in-Err.field-0.cause _ _ c.tell_problem.result c.in-Err.ensures.cause c.tell_problem.ensures)
+
+pub returns-else-is_first-clause-ends : goal.returns-else-is_first-clause-ends
+returns-else-is_first-clause-ends g c clean =
+    let cause =
+    second_cause (state g.S.Store c.args.conn).now.trees c.in-Err.field-0.cause
+    (λ is. false≢true (sym c.if-is_first.false ∙ c.is_first.ensures.1 is)) (c.in-Err.ensures.refused clean) in
+    inr (record { problem = c.in-Err.field-0.cause; cause = cause; told = c.tell_problem.ensures }, c.in-Err.ensures.crash)

@@ -12,6 +12,9 @@ returns-in-Run g c = rw c.in-Run.is c.do_on_file-in-Run.ensures
 pub returns-in-Recover : goal.returns-in-Recover
 returns-in-Recover g c = rw c.in-Recover.is c.do_on_file-in-Recover.ensures
 
+pub returns-in-Migrate : goal.returns-in-Migrate
+returns-in-Migrate g c = rw c.in-Migrate.is c.do_on_file-in-Migrate.ensures
+
 pub returns-in-Report : goal.returns-in-Report
 returns-in-Report g c = rw c.in-Report.is c.do_on_file-in-Report.ensures
 

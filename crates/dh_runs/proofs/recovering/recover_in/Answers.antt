@@ -5,7 +5,7 @@ use Rattle.dh_model.specs.Books as machine
 use Rattle.dh_schema.specs.Store.{IsReadyWith, Leaves}
 use Rattle.dh_runs.specs.Told.{IsTorn}
 use Rattle.dh_runs.proofs.Carried.{on_err}
-use Rattle.dh_runs.proofs.Taken.{left_torn, ready_rests, rests_torn, same_tables, second_mended, torn_still}
+use Rattle.dh_runs.proofs.Taken.{left_torn, ready_rests, rests_torn, same_tables, torn_still, version_mended}
 use Rattle.dh_runs.proofs.recovering.recover_in.Goals as goal
 
 pub returns-in_err-check-clause-crash : goal.returns-in_err-check-clause-crash
@@ -54,8 +54,8 @@ returns-clause-crash g c clean sound =
     let same = same_tables (state g.S.Store c.args.conn.now) mid (c.check.ensures.same early (c.in_ok-check.ensures.ready early).is_open) in
     subst (λ (t : machine.State). Leaves (state g.S.Store c.finish.new.conn) (IsTorn t)) same (c.finish.ensures.crash clean)
 
-pub returns-clause-second : goal.returns-clause-second
-returns-clause-second g c clean =
+pub returns-clause-version : goal.returns-clause-version
+returns-clause-version g c clean =
     let mid = state g.S.Store c.check.new.conn in
     let early : HasCleanDisk mid = omega (arith, c.finish.ensures.was_clean, clean) in
-    second_mended mid (state g.S.Store c.finish.new.conn) (c.in_ok-check.ensures.second early) (c.in_ok-finish.ensures.mended clean).1
+    version_mended c.args.wanted mid (state g.S.Store c.finish.new.conn) (c.in_ok-check.ensures.version early) (c.in_ok-finish.ensures.mended clean).1

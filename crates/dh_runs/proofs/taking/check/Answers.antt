@@ -1,16 +1,16 @@
 use Rattle.std.proofs.Common.{arith}
 use Rattle.sqlite.specs.State.{HasCleanDisk}
 use Rattle.sqlite.specs.Held.{state}
-use Rattle.dh_runs.proofs.Taken.{both_ok, second_taken}
+use Rattle.dh_runs.proofs.Taken.{both_ok, version_taken}
 use Rattle.dh_runs.proofs.taking.check.Goals as goal
 
-pub returns-clause-second : goal.returns-clause-second
-returns-clause-second g c clean =
+pub returns-clause-version : goal.returns-clause-version
+returns-clause-version g c clean =
     let old = state g.S.Store c.args.conn.now in
     let mid = state g.S.Store c.check_version.new.conn in
     let new = state g.S.Store c.check_rows.new.conn in
     let early : HasCleanDisk mid = omega (arith, c.check_rows.ensures.was_clean, clean) in
     let first = (c.check_version.ensures.same early (c.in_ok-version.ensures.still early)).1 in
     both_ok c.check_rows.result
-    (λ sound still. second_taken old mid new (c.in_ok-version.ensures.version early) first sound (c.check_rows.ensures.same clean still).1)
+    (λ sound still. version_taken c.args.wanted old mid new (c.in_ok-version.ensures.wanted early) first sound (c.check_rows.ensures.same clean still).1)
     (c.check_rows.ensures.sound clean) (c.check_rows.ensures.still clean)

@@ -65,7 +65,8 @@ pub returns-in-Property-clause-puts : goal.returns-in-Property-clause-puts
 returns-in-Property-clause-puts g c =
     let old = state g.S.Store c.args.tx.now.conn.now in
     let call = c.insert-in-Property.ensures in
-    added Properties _ old (state g.S.Store c.insert-in-Property.new.tx.conn.now) (changed c.args.change.now) c.insert-in-Property.result (λ _. tt) c.requires.writing
+    added Properties _ old (state g.S.Store c.insert-in-Property.new.tx.conn.now) (changed c.args.change.now) c.insert-in-Property.result
+    (λ _. tt) c.requires.writing
     (λ _. ap (λ (rows : Change). changed rows (tables old).books) (sym c.in-Property.is)) call.shown call.added call.undone call.crash
 
 pub insert-requires-in-Client-clause-kept : goal.insert-requires-in-Client-clause-kept
@@ -93,7 +94,8 @@ pub returns-in-Register-clause-puts : goal.returns-in-Register-clause-puts
 returns-in-Register-clause-puts g c =
     let old = state g.S.Store c.args.tx.now.conn.now in
     let call = c.insert-in-Register.ensures in
-    added Registrations _ old (state g.S.Store c.insert-in-Register.new.tx.conn.now) (changed c.args.change.now) c.insert-in-Register.result (λ _. tt) c.requires.writing
+    added Registrations _ old (state g.S.Store c.insert-in-Register.new.tx.conn.now) (changed c.args.change.now) c.insert-in-Register.result
+    (λ _. tt) c.requires.writing
     (λ _. ap (λ (rows : Change). changed rows (tables old).books) (sym c.in-Register.is)) call.shown call.added call.undone call.crash
 
 pub insert-requires-in-Viewing-clause-kept : goal.insert-requires-in-Viewing-clause-kept
@@ -107,7 +109,8 @@ pub returns-in-Viewing-clause-puts : goal.returns-in-Viewing-clause-puts
 returns-in-Viewing-clause-puts g c =
     let old = state g.S.Store c.args.tx.now.conn.now in
     let call = c.insert-in-Viewing.ensures in
-    added Viewings _ old (state g.S.Store c.insert-in-Viewing.new.tx.conn.now) (changed c.args.change.now) c.insert-in-Viewing.result (λ _. tt) c.requires.writing
+    added Viewings _ old (state g.S.Store c.insert-in-Viewing.new.tx.conn.now) (changed c.args.change.now) c.insert-in-Viewing.result
+    (λ _. tt) c.requires.writing
     (λ _. ap (λ (rows : Change). changed rows (tables old).books) (sym c.in-Viewing.is)) call.shown call.added call.undone call.crash
 
 pub insert-requires-in-Inspection-clause-kept : goal.insert-requires-in-Inspection-clause-kept
@@ -121,7 +124,8 @@ pub returns-in-Inspection-clause-puts : goal.returns-in-Inspection-clause-puts
 returns-in-Inspection-clause-puts g c =
     let old = state g.S.Store c.args.tx.now.conn.now in
     let call = c.insert-in-Inspection.ensures in
-    added Inspections _ old (state g.S.Store c.insert-in-Inspection.new.tx.conn.now) (changed c.args.change.now) c.insert-in-Inspection.result (λ _. tt) c.requires.writing
+    added Inspections _ old (state g.S.Store c.insert-in-Inspection.new.tx.conn.now) (changed c.args.change.now) c.insert-in-Inspection.result
+    (λ _. tt) c.requires.writing
     (λ _. ap (λ (rows : Change). changed rows (tables old).books) (sym c.in-Inspection.is)) call.shown call.added call.undone call.crash
 
 pub insert-requires-in-Lease-clause-kept : goal.insert-requires-in-Lease-clause-kept
@@ -149,7 +153,8 @@ pub returns-in-Receipt-clause-puts : goal.returns-in-Receipt-clause-puts
 returns-in-Receipt-clause-puts g c =
     let old = state g.S.Store c.args.tx.now.conn.now in
     let call = c.insert-in-Receipt.ensures in
-    added Receipts _ old (state g.S.Store c.insert-in-Receipt.new.tx.conn.now) (changed c.args.change.now) c.insert-in-Receipt.result (λ _. tt) c.requires.writing
+    added Receipts _ old (state g.S.Store c.insert-in-Receipt.new.tx.conn.now) (changed c.args.change.now) c.insert-in-Receipt.result
+    (λ _. tt) c.requires.writing
     (λ _. ap (λ (rows : Change). changed rows (tables old).books) (sym c.in-Receipt.is)) call.shown call.added call.undone call.crash
 
 -- ---- a record that is changed
@@ -170,7 +175,8 @@ returns-in-Assign-clause-puts g c =
     let new = state g.S.Store c.update-in-Assign.new.tx.conn.now in
     let it = c.in-Assign.it in
     let call = c.update-in-Assign.ensures in
-    amended Properties it.property (λ p. record p { staff = it.staff }) old new (changed c.args.change.now) c.update-in-Assign.result (λ _. tt) c.requires.writing
+    amended Properties it.property (λ p. record p { staff = it.staff }) old new (changed c.args.change.now) c.update-in-Assign.result
+    (λ _. tt) c.requires.writing
     (λ clean. managed_there c.args.change.now old new (c.requires.fits clean) it c.in-Assign.is) call.shown call.amended call.undone call.crash
 
 pub update-requires-in-Rent-clause-kept : goal.update-requires-in-Rent-clause-kept

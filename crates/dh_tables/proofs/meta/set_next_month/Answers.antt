@@ -1,7 +1,7 @@
 use Rattle.std.proofs.Common.{arith}
 use Rattle.sqlite.specs.State.{HasCleanDisk}
 use Rattle.sqlite.specs.Held.{state}
-use Rattle.dh_tables.proofs.MetaNext.{sets_next}
+use Rattle.dh_tables.proofs.MetaUpdates.{sets_next}
 use Rattle.dh_tables.proofs.meta.set_next_month.Goals as goal
 
 pub returns-clause-set : goal.returns-clause-set

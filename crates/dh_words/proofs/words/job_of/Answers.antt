@@ -2,7 +2,7 @@ use Rattle.std.proofs.Common.{codes, ◌∙◌, ap, option_map, sym}
 use Rattle.clap.specs.Words.{found_of, rows_of}
 use Rattle.dh_values.specs.Counts.{batch_count_of}
 use Rattle.dh_days.specs.Months.{month_of}
-use Rattle.dh_words.proofs.Answers.{init_has, no_other, recover_has, report_has, run_has, serve_has}
+use Rattle.dh_words.proofs.Answers.{init_has, migrate_has, no_other, recover_has, report_has, run_has, serve_has}
 use Rattle.dh_words.proofs.Values.{all_read, text_there, value_there}
 use Rattle.dh_words.proofs.Outcomes.{reported}
 use Rattle.dh_words.specs.Options.{key_of, port_of}
@@ -40,6 +40,11 @@ unwrap-requires-in-recover c =
     let rows = rows_of (found_of c.args.values.now) in
     text_there (codes "file") rows _ c.in-Ok.ensures.1.file (recover_has c.args.name.now rows c.requires c.in-recover.is)
 
+pub unwrap-requires-in-migrate : goal.unwrap-requires-in-migrate
+unwrap-requires-in-migrate c =
+    let rows = rows_of (found_of c.args.values.now) in
+    text_there (codes "file") rows _ c.in-Ok.ensures.1.file (migrate_has c.args.name.now rows c.requires c.in-migrate.is)
+
 pub unwrap-requires-in-report : goal.unwrap-requires-in-report
 unwrap-requires-in-report c =
     let rows = rows_of (found_of c.args.values.now) in
@@ -68,7 +73,8 @@ unwrap-requires-in-serve-3 c =
 pub unreachable-requires : goal.unreachable-requires
 unreachable-requires c =
     let no = c.in_default in
-    no_other c.args.name.now (rows_of (found_of c.args.values.now)) c.requires no.not-init no.not-batch no.not-run no.not-recover no.not-report no.not-serve
+    no_other c.args.name.now (rows_of (found_of c.args.values.now)) c.requires no.not-init no.not-batch no.not-run no.not-recover no.not-migrate
+    no.not-report no.not-serve
 
 pub returns-in-report : goal.returns-in-report
 returns-in-report c =

@@ -27,7 +27,8 @@ returns-in-First-clause-brought g c =
     let none : HasCleanDisk mid → T.shelf.held (tables old) ≡ empty = λ clean.
     let first = sym (c.in_ok-months.ensures.found clean).2 ∙ sym c.version.ensures ∙ c.in-First.is in
     g.met.L.Record.KeptRecord.holds old.now.trees ∙ (λ i. rows_since (c.requires.later i) (first i) (rows_in T.shape {R = T.order} old.now.trees)) in
-    none_brought laws.total laws.ties T.shelf (g.L.Look.asks c.args.question.now) old mid (λ clean. omega (arith, c.months_now.ensures.reads.crash.clean, clean))
+    none_brought laws.total laws.ties T.shelf (g.L.Look.asks c.args.question.now) old mid
+    (λ clean. omega (arith, c.months_now.ensures.reads.crash.clean, clean))
     (λ clean. (c.in_ok-months.ensures.reads.done clean).1) c.args.books.now none
 
 pub returns-in-Second-clause-brought : goal.returns-in-Second-clause-brought
@@ -37,7 +38,8 @@ returns-in-Second-clause-brought g c =
     let new = state g.S.Store c.look.new.conn in
     let T = g.L.Record.Tabled in
     let laws = g.met.L.Record.Tabled in
-    brought_since laws.total laws.ties T.shelf (g.L.Look.asks c.args.question.now) old mid (λ clean. omega (arith, c.months_now.ensures.reads.crash.clean, clean))
+    brought_since laws.total laws.ties T.shelf (g.L.Look.asks c.args.question.now) old mid
+    (λ clean. omega (arith, c.months_now.ensures.reads.crash.clean, clean))
     (λ clean. (c.in_ok-months.ensures.reads.done clean).1) c.look.result c.args.books.now new c.look.new.books c.look.ensures.brought
 
 pub returns-in-Second-clause-reads : goal.returns-in-Second-clause-reads

@@ -1,0 +1,4 @@
+pub mod Sound
+pub mod Grown
+pub mod EachFee
+pub mod Moving

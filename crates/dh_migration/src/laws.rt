@@ -1,0 +1,8 @@
+//! What holds of all migrated books.
+
+ghost use Rattle.dh_migration.specs.Migrated.{MigratedBooksAreInOrder};
+
+/// Migrated books meet the rules of the second version.
+pub fn migrated_books_are_in_order()
+    ensures { MigratedBooksAreInOrder }
+{}

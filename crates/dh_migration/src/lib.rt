@@ -1,0 +1,9 @@
+//! A file of the first version becomes one of the second, in one transaction. Read [`migrate_in`] first.
+#![tactic(auto)]
+
+mod growing;
+mod laws;
+mod migrating;
+
+pub use laws::migrated_books_are_in_order;
+pub use migrating::migrate_in;
