@@ -6,22 +6,14 @@
 # same tables and rows is checked.
 set -eu
 cd "$(dirname "$0")/.."
-./letting batch </dev/null
-work=$(mktemp -d)
-trap 'rm -rf "$work"' EXIT
+. bench/timed.sh
 
-# time_of STATUS TEXT WORD..: the time of the program with these words. It has to end with this status, and to print this in its first line.
-time_of() {
-    local status=$1 text=$2 start end ended=0
-    shift 2
-    start=$(date +%s%N)
-    ./letting "$@" >"$work/said" || ended=$?
-    end=$(date +%s%N)
-    if [ "$ended" != "$status" ] || [ "$(head -n 1 "$work/said")" != "$text" ]; then
-        echo "$*: ended with $ended, and printed: $(cat "$work/said")" >&2
+# first_line TEXT: the program has to have printed this in its first line.
+first_line() {
+    if [ "$(head -n 1 "$work/said")" != "$1" ]; then
+        echo "printed in place of $1: $(cat "$work/said")" >&2
         return 1
     fi
-    awk "BEGIN { printf \"%.1f\n\", ($end - $start) / 1000000 }"
 }
 
 # The file of the first version in place of this one.
@@ -40,9 +32,12 @@ for leases in ${*:-10000}; do
     bench/migration.py make "$work/first" "$leases"
     for _ in 1 2 3 4 5; do
         copy "$work/letting"
-        time_of 0 migrated migrate --file "$work/letting" >>"$work/migrate"
-        time_of 5 'refused 16 2' migrate --file "$work/letting" >>"$work/start"
-        time_of 0 'B0       Leeds' report --file "$work/letting" branches >>"$work/report"
+        time_of 0 migrate --file "$work/letting" >>"$work/migrate"
+        first_line migrated
+        time_of 5 migrate --file "$work/letting" >>"$work/start"
+        first_line 'refused 16 2'
+        time_of 0 report --file "$work/letting" branches >>"$work/report"
+        first_line 'B0       Leeds'
         copy "$work/python"
         bench/migration.py python "$work/python" >>"$work/by_python"
         bench/migration.py same "$work/letting" "$work/python"

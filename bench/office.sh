@@ -4,18 +4,7 @@
 # batches on a file that it has open; of a recovery from the middle of that run; and of a report once ten months are charged.
 set -eu
 cd "$(dirname "$0")/.."
-./letting batch </dev/null
-work=$(mktemp -d)
-trap 'rm -rf "$work"' EXIT
-
-# The time of the program with these words.
-time_of() {
-    local start end
-    start=$(date +%s%N)
-    ./letting "$@" >"$work/said"
-    end=$(date +%s%N)
-    awk "BEGIN { printf \"%.1f\", ($end - $start) / 1000000 }"
-}
+. bench/timed.sh
 
 printf '%8s %12s %12s %12s %12s %12s\n' leases start run python recovery 'start full'
 for leases in ${*:-100 1000 10000}; do
@@ -23,15 +12,15 @@ for leases in ${*:-100 1000 10000}; do
     ./letting init --file "$file" --first 2025-01 >"$work/said"
     bench/runs.py leases "$leases" | ./letting batch --file "$file" >"$work/said"
     cp "$file" "$work/cut"
-    start=$(time_of report --file "$file" branches)
-    run=$(time_of run --file "$file" --key R-0 --month 2025-01)
+    start=$(time_of 0 report --file "$file" branches)
+    run=$(time_of 0 run --file "$file" --key R-0 --month 2025-01)
     python=$(bench/runs.py python "$leases" "$work/python" | awk '{ printf "%.1f", $1 / 1000 }')
     ./letting run --file "$work/cut" --key R-0 --month 2025-01 --batches "$(bench/runs.py middle "$leases")" >"$work/said" || [ $? = 4 ]
-    recovery=$(time_of recover --file "$work/cut")
+    recovery=$(time_of 0 recover --file "$work/cut")
     for month in 02 03 04 05 06 07 08 09 10; do
         ./letting run --file "$file" --key "R-$month" --month "2025-$month" >"$work/said"
     done
-    full=$(time_of report --file "$file" branches)
+    full=$(time_of 0 report --file "$file" branches)
     printf '%8s %12s %12s %12s %12s %12s\n' "$leases" "$start" "$run" "$python" "$recovery" "$full"
     rm -f "$work"/*
 done
