@@ -1,4 +1,4 @@
--- Books of the first version are in order once they are migrated.
+-- Books are in order once they are migrated.
 use Rattle.std.proofs.Common.{◌≡◌, ◌∙◌, refl, sym, ap, inl, inr, ℕ, List, [], ◌∷◌, map, Option, Some, None, arith}
 use Rattle.std.specs.Ordering.{nat_cmp}
 use Rattle.std.specs.FinMap.{empty, get, get-empty, values}
@@ -19,7 +19,7 @@ use Rattle.dh_model.proofs.MapRows.{of_row, row_of, there}
 use Rattle.dh_laws.specs.InOrder.{AreKeyed}
 use Rattle.dh_laws.proofs.KeepFees.{if_found}
 use Rattle.dh_laws.proofs.MapMerges.{get_of_rows, got_with_rows, own_row, with_rows_keyed}
-use Rattle.dh_migration.specs.Migrated.{AreClosed, MigratedBooksAreInOrder, migrated, no_fee}
+use Rattle.dh_migration.specs.Migrated.{AreClosed, MigratedBooksAreInOrder, MigrationMovesNoBalance, migrated, no_fee}
 
 -- by a fee of 0 all charges together come to nothing
 nothing_taken : (charges : List Charge) → fees_over 0 charges ≡ 0
@@ -132,8 +132,12 @@ module _ (books : Books) where
         migrated_rules closed Rule.Endings = rules Rule.Endings
 
 pub migrated_books_are_in_order : MigratedBooksAreInOrder
-migrated_books_are_in_order size books run first closed order = record {
+migrated_books_are_in_order size books run closed order = record {
   keyed = migrated_keyed books order.keyed;
   rules = migrated_rules books order.keyed size order.rules closed;
   shown = still_shown books order.keyed size run order.shown;
 }
+
+-- the charges and the receipts are those of before
+pub migration_moves_no_balance : MigrationMovesNoBalance
+migration_moves_no_balance books lease = refl

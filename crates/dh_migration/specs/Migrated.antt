@@ -3,8 +3,9 @@ use Rattle.std.specs.Prelude.{◌≡◌, ℕ, true, List, [], ◌∷◌, map, Op
 use Rattle.std.specs.FinMap.{empty, get, values}
 use Rattle.dh_types.specs.declared.fee.PartFee.{PartFee}
 use Rattle.dh_types.specs.declared.run.Part.{Part}
-use Rattle.dh_types.specs.declared.version.Version.TheVariants.{First, Second}
+use Rattle.dh_types.specs.declared.version.Version.TheVariants.{Second}
 use Rattle.dh_model.specs.declared.open_run.OpenRun.{OpenRun}
+use Rattle.dh_model.specs.Answers.{balance}
 use Rattle.dh_model.specs.Books.{Books, State, with_rows}
 use Rattle.dh_model.specs.Rules.{Each}
 use Rattle.dh_model.specs.Runs.{part_fee_key, part_key}
@@ -39,7 +40,11 @@ HaveNoFees (part ∷ parts) books = (get (with_no_fees parts books).part_fees (p
 abbrev pub AreClosed : Books → Type 0
 AreClosed books = Each books.runs (λ run. run.is_closed ≡ true)
 
--- migrated books are in order where the books of the first version were, and no run was open
+-- migrated books are in order where the books were, and no run was open
 abbrev pub MigratedBooksAreInOrder : Type 0
-MigratedBooksAreInOrder = (size : ℕ) (books : Books) (run : Option OpenRun) → books.version ≡ First → AreClosed books → IsInOrder size books run
+MigratedBooksAreInOrder = (size : ℕ) (books : Books) (run : Option OpenRun) → AreClosed books → IsInOrder size books run
     → IsInOrder size (migrated books) run
+
+-- what is owed on a lease stays
+abbrev pub MigrationMovesNoBalance : Type 0
+MigrationMovesNoBalance = (books : Books) (lease : ℕ) → balance (migrated books) lease ≡ balance books lease

@@ -5,5 +5,5 @@ mod growing;
 mod laws;
 mod migrating;
 
-pub use laws::migrated_books_are_in_order;
+pub use laws::{migrated_books_are_in_order, migration_moves_no_balance};
 pub use migrating::migrate_in;

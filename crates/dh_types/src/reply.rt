@@ -71,7 +71,7 @@ pub enum Refusal {
     NoRun,
     /// The first field of a line that is wrong, missing or too many.
     BadLine(u8),
-    /// The file has this version, which is not this program's.
+    /// The file has this version, which is not the one that was asked for.
     Version(i64),
     /// The first audit rule that the file breaks.
     Damaged(u8),

@@ -17,7 +17,7 @@ returns-clause-done g c clean =
     let done : HasCleanDisk (state g.S.Store new) = subst (λ h. HasCleanDisk (state g.S.Store h)) (sym same) clean in
     let early : HasCleanDisk (state g.S.Store last) = omega (arith, c.commit.ensures.survives.clean, done) in
     let order = λ (was : HasCleanDisk (state g.S.Store old)).
-    order_after (state g.S.Store old) (c.requires.ready was) (c.requires.first was) (c.requires.closed was) in
+    order_after (state g.S.Store old) (c.requires.ready was) (c.requires.closed was) in
     let ready = ready_with g.S.Store migrated after _ old c.transaction-tx.result.conn.now last new c.transaction-tx.ensures.begun order refl
     c.in_ok-grow.ensures.puts early (c.in_ok-commit.ensures.ok done).1 in
     subst (λ h. IsReadyWith (state g.S.Store h) (λ t. t ≡ after)) same ready
@@ -29,7 +29,7 @@ returns-clause-survives g c =
     let after = migrated_state (tables (state g.S.Store old)) in
     let same : new ≡ c.conn-2-1.given.0 = search rules in
     let order = λ (was : HasCleanDisk (state g.S.Store old)).
-    order_after (state g.S.Store old) (c.requires.ready was) (c.requires.first was) (c.requires.closed was) in
+    order_after (state g.S.Store old) (c.requires.ready was) (c.requires.closed was) in
     let whole = committed g.S.Store migrated after _ old c.transaction-tx.result.conn.now c.grow.new.tx.conn.now new c.transaction-tx.ensures.begun order
     refl c.in_ok-grow.ensures.puts c.commit.ensures.survives in
     subst (λ h. Commits (state g.S.Store old) (state g.S.Store h) (λ t. t ≡ after)) same whole
@@ -41,7 +41,7 @@ returns-in_err-commit-clause-survives g c =
     let after = migrated_state (tables (state g.S.Store old)) in
     let same : new ≡ c.conn-2-1.given.0 = search rules in
     let order = λ (was : HasCleanDisk (state g.S.Store old)).
-    order_after (state g.S.Store old) (c.requires.ready was) (c.requires.first was) (c.requires.closed was) in
+    order_after (state g.S.Store old) (c.requires.ready was) (c.requires.closed was) in
     let whole = committed g.S.Store migrated after _ old c.transaction-tx.result.conn.now c.grow.new.tx.conn.now new c.transaction-tx.ensures.begun order
     refl c.in_ok-grow.ensures.puts c.commit.ensures.survives in
     subst (λ h. Commits (state g.S.Store old) (state g.S.Store h) (λ t. t ≡ after)) same whole
