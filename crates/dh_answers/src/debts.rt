@@ -12,7 +12,7 @@ use dh_books::Books;
 use dh_types::{Answer, Arrears, Balance, Debt, Id, Lease, Refusal, Text60, field};
 use std::alloc::{AllocError, Global};
 
-// The name of the client of this number, where he is in the books.
+// The name of the client of this number, where the client is in the books.
 fn name_of(alloc: Global, books: &Books, client: &Id) -> Result<Option<Text60>, AllocError>
     ensures { IfOk result (λ name. name ≡ option_map (λ client. client.name) (fin.get books.now.books.clients client.now)) }
 {

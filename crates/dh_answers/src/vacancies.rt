@@ -94,7 +94,7 @@ fn by_rent(
     Ok(found)
 }
 
-/// The properties of the client's preferred type, at no more than his greatest rent, that no lease covers that day:
+/// The properties of the client's preferred type, at no more than the client's greatest rent, that no lease covers that day:
 /// rising by rent, and then by number, moved out of the books. It fails where memory runs out.
 pub fn matching(
     alloc: Global,

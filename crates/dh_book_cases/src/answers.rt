@@ -39,7 +39,7 @@ fn matching_on(
     matching(alloc, copy_of(alloc, books)?, client, day.day())
 }
 
-/// `matching,CLIENT,DAY`: the numbers of the properties that he would take.
+/// `matching,CLIENT,DAY`: the numbers of the properties that the client would take.
 pub(crate) fn matched(
     alloc: Global,
     books: &Books,

@@ -4,10 +4,10 @@ use Rattle.sqlite_tied.specs.Compute.{everything}
 use Rattle.sqlite.specs.Listing.{understood}
 use Rattle.dh_catalog.specs.declared.texts.TheConstants.{BRANCH_FEE}
 use Rattle.dh_catalog.specs.BranchFeeTable.{branch_fee}
-use Rattle.dh_catalog.specs.Layout.{first_schema, branch_fee_schema}
+use Rattle.dh_catalog.specs.Layout.{part_schema, branch_fee_schema}
 use Rattle.dh_catalog.specs.Meanings.{MakesTable}
 
-pub branch_fee_is : MakesTable BRANCH_FEE.now first_schema branch_fee_schema
+pub branch_fee_is : MakesTable BRANCH_FEE.now part_schema branch_fee_schema
 unfolding understood everything
 branch_fee_is = record {
   table = record branch_fee { tree = 0 };

@@ -4,8 +4,8 @@ use Rattle.sqlite_schema.specs.declared.schema.Schema.{Schema}
 use Rattle.sqlite_schema.specs.declared.schema.Table.{Table}
 use Rattle.sqlite_catalog.specs.Change.{KeepsRows}
 use Rattle.sqlite.specs.State.{State}
-use Rattle.dh_catalog.specs.declared.texts.TheConstants.{FIRST_COUNT, TEXTS}
-use Rattle.dh_catalog.specs.Layout.{no_schema, property_schema, inspection_schema, part_schema, first_schema, first_tables, later_tables, our_schema}
+use Rattle.dh_catalog.specs.declared.texts.TheConstants.{FIRST, SECOND, FIRST_TO_SECOND}
+use Rattle.dh_catalog.specs.Layout.{no_schema, property_schema, inspection_schema, part_schema, ending_schema, first_schema, first_tables, later_tables, our_schema}
 use Rattle.dh_types.specs.declared.version.Version.{Version}
 use Rattle.dh_types.specs.declared.version.Version.TheVariants.{First, Second}
 use Rattle.dh_catalog.specs.Versions.{schema_of}
@@ -25,49 +25,93 @@ use Rattle.dh_catalog.proofs.ChargeText.{charge_is}
 use Rattle.dh_catalog.proofs.ReceiptText.{receipt_is}
 use Rattle.dh_catalog.proofs.RunText.{run_is}
 use Rattle.dh_catalog.proofs.PartText.{part_is}
-use Rattle.dh_catalog.proofs.PropertyStaffText.{property_staff_is}
-use Rattle.dh_catalog.proofs.LeasePropertyText.{lease_property_is}
-use Rattle.dh_catalog.proofs.LeaseClientText.{lease_client_is}
-use Rattle.dh_catalog.proofs.ChargeMonthText.{charge_month_is}
-use Rattle.dh_catalog.proofs.ReceiptLeaseText.{receipt_lease_is}
-use Rattle.dh_catalog.proofs.ViewingPropertyText.{viewing_property_is}
+use Rattle.dh_catalog.proofs.PropertyStaffText.{property_staff_goes, property_staff_is, later_property_staff_is}
+use Rattle.dh_catalog.proofs.LeasePropertyText.{lease_property_goes, lease_property_is, later_lease_property_is}
+use Rattle.dh_catalog.proofs.LeaseClientText.{lease_client_goes, lease_client_is, later_lease_client_is}
+use Rattle.dh_catalog.proofs.ChargeMonthText.{charge_month_goes, charge_month_is, later_charge_month_is}
+use Rattle.dh_catalog.proofs.ReceiptLeaseText.{receipt_lease_goes, receipt_lease_is, later_receipt_lease_is}
+use Rattle.dh_catalog.proofs.ViewingPropertyText.{viewing_property_goes, viewing_property_is, later_viewing_property_is}
 use Rattle.dh_catalog.proofs.BranchFeeText.{branch_fee_is}
 use Rattle.dh_catalog.proofs.PartFeeText.{part_fee_is}
 use Rattle.dh_catalog.proofs.EndingText.{ending_is}
 
-abbrev pub all_texts : List (List ℕ)
-all_texts = map (λ text. text.now) TEXTS
-
--- the texts of a version, and those that came with the second
+-- the texts of a version, and those that make the second of the first
 abbrev pub texts_of : Version → List (List ℕ)
-texts_of First = take FIRST_COUNT all_texts
-texts_of Second = all_texts
+texts_of First = map (λ text. text.now) FIRST
+texts_of Second = map (λ text. text.now) SECOND
 
 abbrev pub later_texts : List (List ℕ)
-later_texts = drop FIRST_COUNT all_texts
+later_texts = map (λ text. text.now) FIRST_TO_SECOND
 
-from_looks : Build (drop 14 (texts_of First)) part_schema first_schema
-from_looks = (
+-- their parts: the tables of the first version, the later ones, the indexes for look-ups, and what takes these away
+abbrev table_texts : List (List ℕ)
+table_texts = take 14 (texts_of First)
+
+abbrev new_texts : List (List ℕ)
+new_texts = take 3 (drop 14 (texts_of Second))
+
+abbrev look_texts : List (List ℕ)
+look_texts = drop 14 (texts_of First)
+
+abbrev drop_texts : List (List ℕ)
+drop_texts = take 6 later_texts
+
+from_lease : Build (drop 9 table_texts) inspection_schema part_schema
+from_lease = (_, inl lease_is, (_, inl charge_is, (_, inl receipt_is, (_, inl run_is, (_, inl part_is, refl)))))
+
+from_client : Build (drop 5 table_texts) property_schema part_schema
+from_client = (_, inl client_is, (_, inl registration_is, (_, inl viewing_is, (_, inl inspection_is, from_lease))))
+
+tables_build : Build table_texts no_schema part_schema
+tables_build = (_, inl meta_is, (_, inl branch_is, (_, inl staff_is, (_, inl owner_is, (_, inl property_is, from_client)))))
+
+looks_build : Build look_texts part_schema first_schema
+looks_build = (
   _,
-  inr property_staff_is,
+  inr (inl property_staff_is),
   (
     _,
-    inr lease_property_is,
-    (_, inr lease_client_is, (_, inr charge_month_is, (_, inr receipt_lease_is, (_, inr viewing_property_is, refl)))),
+    inr (inl lease_property_is),
+    (
+      _,
+      inr (inl lease_client_is),
+      (_, inr (inl charge_month_is), (_, inr (inl receipt_lease_is), (_, inr (inl viewing_property_is), refl))),
+    ),
   ),
 )
 
-from_lease : Build (drop 9 (texts_of First)) inspection_schema first_schema
-from_lease = (_, inl lease_is, (_, inl charge_is, (_, inl receipt_is, (_, inl run_is, (_, inl part_is, from_looks)))))
+looks_go : Build drop_texts first_schema part_schema
+looks_go = (
+  _,
+  inr (inr viewing_property_goes),
+  (
+    _,
+    inr (inr receipt_lease_goes),
+    (
+      _,
+      inr (inr charge_month_goes),
+      (_, inr (inr lease_client_goes), (_, inr (inr lease_property_goes), (_, inr (inr property_staff_goes), refl))),
+    ),
+  ),
+)
 
-from_client : Build (drop 5 (texts_of First)) property_schema first_schema
-from_client = (_, inl client_is, (_, inl registration_is, (_, inl viewing_is, (_, inl inspection_is, from_lease))))
+new_tables_build : Build new_texts part_schema ending_schema
+new_tables_build = (_, inl branch_fee_is, (_, inl part_fee_is, (_, inl ending_is, refl)))
 
-first_build : Build (texts_of First) no_schema first_schema
-first_build = (_, inl meta_is, (_, inl branch_is, (_, inl staff_is, (_, inl owner_is, (_, inl property_is, from_client)))))
-
-later_build : Build later_texts first_schema our_schema
-later_build = (_, inl branch_fee_is, (_, inl part_fee_is, (_, inl ending_is, refl)))
+later_looks_build : Build look_texts ending_schema our_schema
+later_looks_build = (
+  _,
+  inr (inl later_property_staff_is),
+  (
+    _,
+    inr (inl later_lease_property_is),
+    (
+      _,
+      inr (inl later_lease_client_is),
+      (_, inr (inl later_charge_month_is), (_, inr (inl later_receipt_lease_is), (_, inr (inl later_viewing_property_is), refl))),
+    ),
+  ),
+)
 
 -- what builds a schema, and what builds on it
 builds_on : (first more : List (List ℕ)) (before middle after : Schema) → Build first before middle → Build more middle after
@@ -75,9 +119,16 @@ builds_on : (first more : List (List ℕ)) (before middle after : Schema) → Bu
 builds_on [] more before middle after is on = subst (λ s. Build more s after) (sym is) on
 builds_on (text ∷ first) more before middle after is on = (is.0, is.1, builds_on first more is.0 middle after is.2 on)
 
+-- the later tables, and the indexes behind them
+behind_build : Build (new_texts ++ look_texts) part_schema our_schema
+behind_build = builds_on new_texts look_texts part_schema ending_schema our_schema new_tables_build later_looks_build
+
 build_of : (version : Version) → Build (texts_of version) no_schema (schema_of version)
-build_of First = first_build
-build_of Second = builds_on (texts_of First) later_texts no_schema first_schema our_schema first_build later_build
+build_of First = builds_on table_texts look_texts no_schema part_schema first_schema tables_build looks_build
+build_of Second = builds_on table_texts (new_texts ++ look_texts) no_schema part_schema our_schema tables_build behind_build
+
+later_build : Build later_texts first_schema our_schema
+later_build = builds_on drop_texts (new_texts ++ look_texts) first_schema part_schema our_schema looks_go behind_build
 
 -- so they have made it, where there was no table
 pub made_all : {E : Type 0} (version : Version) (r : Result (Unit {0}) E) (old new : State) → old.now.schema ≡ no_schema

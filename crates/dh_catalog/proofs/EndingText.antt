@@ -4,10 +4,10 @@ use Rattle.sqlite_tied.specs.Compute.{everything}
 use Rattle.sqlite.specs.Listing.{understood}
 use Rattle.dh_catalog.specs.declared.texts.TheConstants.{ENDING}
 use Rattle.dh_catalog.specs.EndingTable.{ending}
-use Rattle.dh_catalog.specs.Layout.{part_fee_schema, our_schema}
+use Rattle.dh_catalog.specs.Layout.{part_fee_schema, ending_schema}
 use Rattle.dh_catalog.specs.Meanings.{MakesTable}
 
-pub ending_is : MakesTable ENDING.now part_fee_schema our_schema
+pub ending_is : MakesTable ENDING.now part_fee_schema ending_schema
 unfolding understood everything
 ending_is = record {
   table = record ending { tree = 0 };

@@ -7,7 +7,7 @@ use Rattle.sqlite_schema.specs.declared.schema.Index.{Index}
 use Rattle.dh_catalog.specs.Columns.{plain_table, must, to, key_index}
 
 abbrev pub branch_fee : Table
-branch_fee = record (plain_table (codes "branch_fee") 32) {
+branch_fee = record (plain_table (codes "branch_fee") 26) {
   columns =
       must Text (codes "branch_no")
       ∷ must Integer (codes "fee")
@@ -19,4 +19,4 @@ branch_fee = record (plain_table (codes "branch_fee") 32) {
 }
 
 abbrev pub branch_fee_key : Index
-branch_fee_key = key_index (codes "sqlite_autoindex_branch_fee_1") 33 32 (1 ∷ [])
+branch_fee_key = key_index (codes "sqlite_autoindex_branch_fee_1") 27 26 (1 ∷ [])

@@ -5,7 +5,7 @@ use Rattle.sqlite_schema.specs.declared.schema.Table.{Table}
 use Rattle.dh_catalog.specs.Columns.{plain_table, must, may, to}
 
 abbrev pub ending : Table
-ending = record (plain_table (codes "ending") 36) {
+ending = record (plain_table (codes "ending") 30) {
   columns =
       may Integer (codes "lease_no")
       ∷ must Integer (codes "months")

@@ -1,4 +1,5 @@
--- The tables and indexes, in the order in which they are made. What is new comes behind what stands, so that no tree moves.
+-- The tables and indexes of each version, in the order in which they are made. A new table comes behind those that stand, so that no tree
+-- of a table or of a key moves, and the indexes for look-ups come behind all tables, where VACUUM puts them too.
 use Rattle.std.specs.Prelude.{ℕ, List, [], ◌∷◌, ◌++◌, take}
 use Rattle.sqlite_schema.specs.declared.schema.Table.{Table}
 use Rattle.sqlite_schema.specs.declared.schema.Index.{Index}
@@ -20,7 +21,7 @@ use Rattle.dh_catalog.specs.PartTable.{part, part_key}
 use Rattle.dh_catalog.specs.BranchFeeTable.{branch_fee, branch_fee_key}
 use Rattle.dh_catalog.specs.PartFeeTable.{part_fee, part_fee_key}
 use Rattle.dh_catalog.specs.EndingTable.{ending}
-use Rattle.dh_catalog.specs.LookIndexes.{property_staff, lease_property, lease_client, charge_month, receipt_lease, viewing_property}
+use Rattle.dh_catalog.specs.LookIndexes.{looks}
 
 -- those of the first version, and those that came with the second
 abbrev pub first_tables : List Table
@@ -34,16 +35,21 @@ later_tables = branch_fee ∷ part_fee ∷ ending ∷ []
 abbrev pub our_tables : List Table
 our_tables = first_tables ++ later_tables
 
-abbrev pub our_indexes : List Index
-our_indexes =
+-- their keys
+abbrev pub first_keys : List Index
+first_keys =
     branch_key ∷ staff_key ∷ owner_key ∷ property_key ∷ client_key ∷ registration_key ∷ viewing_key ∷ inspection_key
-    ∷ charge_key ∷ receipt_key ∷ run_key ∷ part_key
-    ∷ property_staff ∷ lease_property ∷ lease_client ∷ charge_month ∷ receipt_lease ∷ viewing_property
-    ∷ branch_fee_key ∷ part_fee_key ∷ []
+    ∷ charge_key ∷ receipt_key ∷ run_key ∷ part_key ∷ []
 
--- the first so many tables and so many indexes
+abbrev pub later_keys : List Index
+later_keys = branch_fee_key ∷ part_fee_key ∷ []
+
+-- the schema of the first version as far as so many tables and so many indexes, and that of the second
 abbrev pub first : ℕ → ℕ → Schema
-first tables indexes = record { tables = take tables our_tables; indexes = take indexes our_indexes; views = [] }
+first tables indexes = record { tables = take tables first_tables; indexes = take indexes (first_keys ++ looks 26); views = [] }
+
+abbrev pub second : ℕ → ℕ → Schema
+second tables indexes = record { tables = take tables our_tables; indexes = take indexes (first_keys ++ later_keys ++ looks 31); views = [] }
 
 -- the schema before all, and after each that is made
 abbrev pub no_schema : Schema
@@ -91,6 +97,7 @@ run_schema = first 13 11
 abbrev pub part_schema : Schema
 part_schema = first 14 12
 
+-- the indexes of the first version
 abbrev pub property_staff_schema : Schema
 property_staff_schema = first 14 13
 
@@ -106,16 +113,35 @@ charge_month_schema = first 14 16
 abbrev pub receipt_lease_schema : Schema
 receipt_lease_schema = first 14 17
 
--- the schema of the first version
+-- the whole schema of the first version
 abbrev pub first_schema : Schema
 first_schema = first 14 18
 
+-- the later tables, and the indexes behind them
 abbrev pub branch_fee_schema : Schema
-branch_fee_schema = first 15 19
+branch_fee_schema = second 15 13
 
 abbrev pub part_fee_schema : Schema
-part_fee_schema = first 16 20
+part_fee_schema = second 16 14
+
+abbrev pub ending_schema : Schema
+ending_schema = second 17 14
+
+abbrev pub later_property_staff_schema : Schema
+later_property_staff_schema = second 17 15
+
+abbrev pub later_lease_property_schema : Schema
+later_lease_property_schema = second 17 16
+
+abbrev pub later_lease_client_schema : Schema
+later_lease_client_schema = second 17 17
+
+abbrev pub later_charge_month_schema : Schema
+later_charge_month_schema = second 17 18
+
+abbrev pub later_receipt_lease_schema : Schema
+later_receipt_lease_schema = second 17 19
 
 -- all of them
 abbrev pub our_schema : Schema
-our_schema = record { tables = our_tables; indexes = our_indexes; views = [] }
+our_schema = second 17 20

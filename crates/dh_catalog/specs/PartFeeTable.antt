@@ -8,7 +8,7 @@ use Rattle.sqlite_schema.specs.declared.schema.Index.{Index}
 use Rattle.dh_catalog.specs.Columns.{plain_table, must, key_index}
 
 abbrev pub part_fee : Table
-part_fee = record (plain_table (codes "part_fee") 34) {
+part_fee = record (plain_table (codes "part_fee") 28) {
   columns =
       must Integer (codes "month")
       ∷ must Text (codes "branch_no")
@@ -30,4 +30,4 @@ part_fee = record (plain_table (codes "part_fee") 34) {
 }
 
 abbrev pub part_fee_key : Index
-part_fee_key = key_index (codes "sqlite_autoindex_part_fee_1") 35 34 (1 ∷ 2 ∷ [])
+part_fee_key = key_index (codes "sqlite_autoindex_part_fee_1") 29 28 (1 ∷ 2 ∷ [])

@@ -6,11 +6,11 @@ ghost use Rattle.sqlite.specs.Held.{state};
 ghost use Rattle.dh_catalog.specs.Layout.{first_schema, no_schema};
 ghost use Rattle.dh_catalog.specs.Making.{IsWritingOn, HasEmptyTables, HasGrown, Makes, all_of};
 
-use crate::texts::{FIRST_COUNT, TEXTS};
+use crate::texts::{FIRST, FIRST_TO_SECOND, SECOND};
 use dh_types::Version;
 use sqlite::{Alter, Error, Transaction};
 
-// Runs the text, which makes a table or an index.
+// Runs the text, which makes a table or an index, or takes an index away.
 fn create<S: Alter>(tx: &mut Transaction<'_, S>, text: &str) -> Result<(), Error>
     requires { HasCleanDisk (state S.Store tx.old.conn.now) → IsTrue (state S.Store tx.old.conn.now).in_transaction }
     ensures same_reference { tx.new.conn.ghost_name ≡ tx.old.conn.ghost_name }
@@ -49,13 +49,13 @@ pub fn create_all<S: Alter>(tx: &mut Transaction<'_, S>, version: Version) -> Re
     ensures crash { Survives (state S.Store tx.old.conn.now) (state S.Store tx.new.conn.now) (λ _. ⊥) }
 {
     match version {
-        Version::First => create_each(tx, &TEXTS[..FIRST_COUNT]),
-        Version::Second => create_each(tx, &TEXTS),
+        Version::First => create_each(tx, &FIRST),
+        Version::Second => create_each(tx, &SECOND),
     }
 }
 
-/// Makes the tables that came with the second version in a store of the first. The others keep their rows. An error comes
-/// where a text is refused or the store fails, and then nothing is committed.
+/// Makes the tables that came with the second version in a store of the first, and its indexes for look-ups anew behind them. The other
+/// tables keep their rows. An error comes where a text is refused or the store fails, and then nothing is committed.
 pub fn create_later<S: Alter>(tx: &mut Transaction<'_, S>) -> Result<(), Error>
     requires { HasCleanDisk (state S.Store tx.old.conn.now) → IsWritingOn first_schema (state S.Store tx.old.conn.now) }
     ensures same_reference { tx.new.conn.ghost_name ≡ tx.old.conn.ghost_name }
@@ -64,5 +64,5 @@ pub fn create_later<S: Alter>(tx: &mut Transaction<'_, S>) -> Result<(), Error>
     ensures kept { HasCleanDisk (state S.Store tx.new.conn.now) → KeepsCommit (state S.Store tx.old.conn.now) (state S.Store tx.new.conn.now) }
     ensures crash { Survives (state S.Store tx.old.conn.now) (state S.Store tx.new.conn.now) (λ _. ⊥) }
 {
-    create_each(tx, &TEXTS[FIRST_COUNT..])
+    create_each(tx, &FIRST_TO_SECOND)
 }

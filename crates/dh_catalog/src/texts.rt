@@ -155,11 +155,26 @@ pub const ENDING: &str = "CREATE TABLE ending (\
     lease_no INTEGER PRIMARY KEY REFERENCES lease, \
     months INTEGER NOT NULL) STRICT";
 
-/// How many texts make the tables and indexes of the first version.
-pub const FIRST_COUNT: usize = 20;
+/// The text that takes away the index of [`VIEWING_PROPERTY`].
+pub const DROP_VIEWING_PROPERTY: &str = "DROP INDEX viewing_property";
 
-/// The texts in the order in which they are run: the tables and indexes of the first version, then what came later.
-pub static TEXTS: [&str; 23] = [
+/// The text that takes away the index of [`RECEIPT_LEASE`].
+pub const DROP_RECEIPT_LEASE: &str = "DROP INDEX receipt_lease";
+
+/// The text that takes away the index of [`CHARGE_MONTH`].
+pub const DROP_CHARGE_MONTH: &str = "DROP INDEX charge_month";
+
+/// The text that takes away the index of [`LEASE_CLIENT`].
+pub const DROP_LEASE_CLIENT: &str = "DROP INDEX lease_client";
+
+/// The text that takes away the index of [`LEASE_PROPERTY`].
+pub const DROP_LEASE_PROPERTY: &str = "DROP INDEX lease_property";
+
+/// The text that takes away the index of [`PROPERTY_STAFF`].
+pub const DROP_PROPERTY_STAFF: &str = "DROP INDEX property_staff";
+
+/// The texts that make the tables and indexes of the first version, in the order in which they are run.
+pub static FIRST: [&str; 20] = [
     META,
     BRANCH,
     STAFF,
@@ -180,7 +195,51 @@ pub static TEXTS: [&str; 23] = [
     CHARGE_MONTH,
     RECEIPT_LEASE,
     VIEWING_PROPERTY,
+];
+
+/// The texts that make those of the second: the indexes for look-ups come behind all tables.
+pub static SECOND: [&str; 23] = [
+    META,
+    BRANCH,
+    STAFF,
+    OWNER,
+    PROPERTY,
+    CLIENT,
+    REGISTRATION,
+    VIEWING,
+    INSPECTION,
+    LEASE,
+    CHARGE,
+    RECEIPT,
+    RUN,
+    PART,
     BRANCH_FEE,
     PART_FEE,
     ENDING,
+    PROPERTY_STAFF,
+    LEASE_PROPERTY,
+    LEASE_CLIENT,
+    CHARGE_MONTH,
+    RECEIPT_LEASE,
+    VIEWING_PROPERTY,
+];
+
+/// The texts that make those of the second of those of the first. The indexes for look-ups are taken away, and made anew behind the later
+/// tables.
+pub static FIRST_TO_SECOND: [&str; 15] = [
+    DROP_VIEWING_PROPERTY,
+    DROP_RECEIPT_LEASE,
+    DROP_CHARGE_MONTH,
+    DROP_LEASE_CLIENT,
+    DROP_LEASE_PROPERTY,
+    DROP_PROPERTY_STAFF,
+    BRANCH_FEE,
+    PART_FEE,
+    ENDING,
+    PROPERTY_STAFF,
+    LEASE_PROPERTY,
+    LEASE_CLIENT,
+    CHARGE_MONTH,
+    RECEIPT_LEASE,
+    VIEWING_PROPERTY,
 ];

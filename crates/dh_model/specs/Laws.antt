@@ -36,7 +36,7 @@ DuesAreThoseOfLeases = (books : Books) (month : ℕ) (charge : Charge)
 abbrev pub MonthsShareNoDue : Type 0
 MonthsShareNoDue = (books : Books) (m n : ℕ) (charge : Charge) → IsAmong (dues books m) charge → IsAmong (dues books n) charge → m ≡ n
 
--- a lease has as many dues as months
+-- a lease has as many dues as months that it runs
 abbrev pub DuesNumberTheMonths : Type 0
 DuesNumberTheMonths = (endings : Endings) (lease : Lease) → length (dues_of endings lease) ≡ length_of endings lease
 

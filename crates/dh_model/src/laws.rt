@@ -29,7 +29,7 @@ pub fn months_share_no_due()
     ensures { MonthsShareNoDue }
 {}
 
-/// A lease has as many dues as months.
+/// A lease has as many dues as months that it runs.
 pub fn dues_number_the_months()
     ensures { DuesNumberTheMonths }
 {}

@@ -22,8 +22,8 @@ pub fn vacant_rise_by_number()
     ensures { VacantRiseByNumber }
 {}
 
-/// Matching are exactly the properties of the client's preferred type, at no more than his greatest rent, that no lease covers
-/// that day.
+/// Matching are exactly the properties of the client's preferred type, at no more than the client's greatest rent, that no lease
+/// covers that day.
 pub fn matching_suit_the_client()
     ensures { MatchingSuitTheClient }
 {}

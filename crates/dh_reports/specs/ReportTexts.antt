@@ -51,7 +51,7 @@ abbrev pub statement_text : Lease → List Charge → List Receipt → ℤ → L
 statement_text lease charges receipts balance =
     lease_line lease ++ flat_map charge_line charges ++ flat_map receipt_line receipts ++ sum_line (codes "balance") 10 balance
 
--- the client's name; nothing where he is not in the books
+-- the client's name; nothing where the client is not in the books
 abbrev pub name_text : Option (List ℕ) → List ℕ
 name_text None = []
 name_text (Some name) = name

@@ -56,7 +56,7 @@ pub struct Debt {
     pub lease: LeaseNo,
     pub client: Id,
     pub balance: Balance,
-    /// The client's name, where he is in the books.
+    /// The client's name, where the client is in the books.
     pub name: Option<Text60>,
 }
 

@@ -12,7 +12,7 @@ pub struct Client {
     pub name: Text60,
     pub telephone: Text60,
     pub preferred_type: PropertyType,
-    /// The greatest monthly rent that he would pay.
+    /// The greatest monthly rent that the client would pay.
     pub greatest_rent: Rent,
 }
 

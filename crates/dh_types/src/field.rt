@@ -56,7 +56,7 @@ pub const ENDED_LEASE: u8 = 2;
 /// A receipt: the lease.
 pub const RECEIPT_LEASE: u8 = 3;
 
-/// A question: what it is about, as the client, the lease or the branch.
+/// A question: what it is about, as the client, the lease, the branch or the owner.
 pub const ASKED_ABOUT: u8 = 3;
 
 /// The places in figures, which no definition says.

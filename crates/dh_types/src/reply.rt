@@ -53,7 +53,7 @@ pub enum Refusal {
     Overlap(LeaseNo),
     /// The client's lease that starts that day.
     ClientStart(LeaseNo),
-    /// The start lies before this month, the next to be run.
+    /// The lease starts, or would end, in a month before this one, the next to be run.
     MonthPosted(Month),
     /// The run is not for this month, the next to be run.
     NotNextMonth(Month),
@@ -67,7 +67,7 @@ pub enum Refusal {
     DepositPaid,
     /// The client is not registered at the property's branch.
     NotRegistered,
-    /// No run is open, or that month is not run.
+    /// No run is open, or that month has no closed run.
     NoRun,
     /// The first field of a line that is wrong, missing or too many.
     BadLine(u8),

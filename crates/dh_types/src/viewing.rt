@@ -15,7 +15,7 @@ fn comment_again(comment: &Option<Comment>, alloc: Global) -> Result<Option<Comm
     }
 }
 
-/// A client's viewing of a property, with what he said of it, if anything. There is one for a client and a property.
+/// A client's viewing of a property, with what the client said of it, if anything. There is one for a client and a property.
 #[derive(Drop, PartialEq, Eq)]
 pub struct Viewing {
     pub client: Id,

@@ -82,7 +82,7 @@ fn job_of<'a>(alloc: Global, name: &str, values: &ArgMatches<'a>) -> Result<Job<
 }
 
 /// The job that the words behind the program's name ask for. `Refused` comes where `clap` does not take the words: they are
-/// none of the table of subcommands, or ask for help. `Value` has the first option, in the order file, first, key, month,
+/// none of the table of subcommands, or ask for help. `Value` has the first option, in the order first, key, month,
 /// batches, port, count, whose text is none of its values, even one that is then passed over. `Question` has the first bad
 /// field of the question of a `report`, where `show` is field 1. `Memory` is want of memory.
 pub fn job<'a>(alloc: Global, words: &'a [&'a str]) -> Result<Job<'a>, BadWords>
