@@ -13,7 +13,7 @@ import time
 from contextlib import closing
 
 from runs import FIRST_MONTH, fill, month
-from tables import made_tables, opened, parted_texts
+from tables import made_tables, opened, texts_of
 
 MONTHS = 10
 
@@ -29,7 +29,7 @@ def charge(conn, k):
 
 def make(path, leases, months=MONTHS, is_open=False):
     """The file, with the run of the month behind these opened where that is asked for."""
-    with closing(made_tables(path, parted_texts()[0])) as conn:
+    with closing(made_tables(path, texts_of("FIRST"))) as conn:
         fill(conn, leases)
         conn.execute("BEGIN")
         for k in range(months):
@@ -44,7 +44,7 @@ def migrate(conn):
     """The statements of the program, behind its look at the version, the open run and the rules."""
     parts = conn.execute("SELECT month, branch_no FROM part").fetchall()
     conn.execute("BEGIN")
-    for text in parted_texts()[1]:
+    for text in texts_of("FIRST_TO_SECOND"):
         conn.execute(text)
     conn.execute("UPDATE meta SET version = ? WHERE id = 1", (2,))
     for part in parts:

@@ -24,19 +24,13 @@ TABLES = ["branch", "staff", "owner", "property", "client", "registration", "vie
           "receipt", "run", "part"]
 
 
-def creating_texts():
-    """The texts of the product that make its tables and indexes, in their order."""
+def texts_of(name="SECOND"):
+    """The statements of this list of the product, in their order: those that make the tables and indexes of a version, or those of the second
+    of those of the first."""
     source = TEXTS.read_text()
-    texts = dict(re.findall(r'pub const (\w+): &str = "(.*?)";', source, re.S))
-    order = re.search(r"TEXTS: .*?= \[(.*?)\]", source, re.S).group(1)
+    texts = dict(re.findall(r'pub const (\w+): &str =\s*"(.*?)";', source, re.S))
+    order = re.search(rf"static {name}: .*?= \[(.*?)\]", source, re.S).group(1)
     return [re.sub(r"\\\n\s*", "", texts[name]) for name in re.findall(r"\w+", order)]
-
-
-def parted_texts():
-    """The texts of the first version, and those that came with the second."""
-    count = int(re.search(r"FIRST_COUNT: usize = (\d+);", TEXTS.read_text()).group(1))
-    texts = creating_texts()
-    return texts[:count], texts[count:]
 
 
 def opened(path):
@@ -50,7 +44,7 @@ def opened(path):
 def made_tables(path, texts=None):
     """Such a connection to a new file or to memory, with the tables that these texts make, or all where none are given."""
     conn = opened(path)
-    for text in creating_texts() if texts is None else texts:
+    for text in texts_of() if texts is None else texts:
         conn.execute(text)
     return conn
 
@@ -145,7 +139,7 @@ def new_numbers(rows, table):
 
 def make(path, count, charges):
     rows = Rows(count, charges)
-    texts = creating_texts()
+    texts = texts_of()
     make_file(path, rows, texts, lambda table: range(rows.counts[table]))
     # Rows by themselves refer to rows that aren't there, and a file that breaks its references isn't opened.
     loose = [re.sub(r" REFERENCES \w+", "", text) for text in texts]

@@ -22,8 +22,9 @@ pub struct NotOpened<C, S: Alter> {
     pub conn: Connection<S>,
 }
 
-/// Makes the tables of empty books that begin with this month, in one transaction. A file that has an object already is
-/// fault 22 and stays as it is; at another fault a crash leaves the file as it was or with the new tables.
+/// Makes the tables of the second version for empty books that begin with this month, in one transaction. Fault 21 comes where memory runs
+/// out. Fault 22 comes where the store fails, or where the file has an object already and stays as it is. At another fault a crash leaves
+/// the file as it was or with the new tables.
 pub fn create<S: Alter>(
     alloc: Global,
     conn: Connection<S>,

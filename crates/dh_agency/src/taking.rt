@@ -20,10 +20,10 @@ use sqlite::{Alter, Connection};
 use std::alloc::Global;
 
 /// Takes the tables as they are, with the run that they show as open, and changes nothing. Refusal 16 comes exactly where `meta`
-/// gives another version, and refusal 17 exactly where the tables are not sound, with 0 where a column does not hold a value of its
-/// kind or `meta` gives no version, or the least rule of the audit that is broken. Fault 21 comes where memory runs out, and
-/// fault 22 where the store fails. Tables that are not ours are one of these, and not touched. So it is where `meta` gives our version
-/// and the tables are not those of it.
+/// gives another version than the second, and refusal 17 exactly where the tables are not sound, with 0 where a column does not hold a
+/// value of its kind or `meta` gives no version, or the least rule of the audit that is broken. Fault 21 comes where memory runs out. Fault
+/// 22 comes where the store fails, where the tables are not ours, which are then not touched, and where `meta` gives the second version
+/// and the tables are those of the first.
 pub fn attach<S: Alter>(
     alloc: Global,
     conn: Connection<S>,

@@ -1,6 +1,6 @@
 //! Scripts of one store whose power is cut before each line and behind each command and recovery: it is opened anew, and an agency
-//! takes its tables as they are, or recovers them. A line `sql,STATEMENT` is what another program does to the store, and at `later tables`
-//! it makes the tables that came with the second version.
+//! takes its tables as they are, or recovers them. A line `sql,STATEMENT` is what another program does to the store. At `later tables` it
+//! makes the tables of the second version of those of the first, and at `earlier tables` those of the first of those of the second.
 
 ghost use Rattle.sqlite.specs.State.{HasCleanDisk};
 ghost use Rattle.sqlite.specs.Held.{state};
@@ -12,7 +12,7 @@ use crate::comparing::compare;
 use crate::rows::all_rows;
 use crate::scripts::{compare_tables, parted, table_of};
 use dh_agency::{Agency, NotOpened, Problem, attach, migrate, recover, recover_1};
-use dh_catalog::texts::{FIRST_COUNT, TEXTS};
+use dh_catalog::texts::{FIRST, FIRST_TO_SECOND};
 use dh_fields::Request;
 use dh_histories::crashing::{next_life, recovery_and_crash, step_and_crash};
 use dh_scripts::{Block, Tally, request, script};
@@ -73,42 +73,56 @@ fn told_once<S: Alter>(
 
 // What the statement of another program comes to.
 fn edited<S: Alter>(alloc: Global, mut conn: Connection<S>, statement: &str) -> Lived<S> {
-    let done = if conn.execute(statement, &[]).is_ok() {
-        "done"
-    } else {
-        "not done"
-    };
-    (done.to_string(alloc), conn)
+    let is_done = conn.execute(statement, &[]).is_ok();
+    done_or_not(alloc, is_done, conn)
 }
 
-fn makes_later_tables<S: Alter>(conn: &mut Connection<S>) -> bool {
-    for text in &TEXTS[FIRST_COUNT..] {
-        if conn.execute(text, &[]).is_err() {
+// Runs each of these statements, as another program would.
+fn runs_each<S: Alter>(conn: &mut Connection<S>, statements: &[&str]) -> bool {
+    for statement in statements {
+        if conn.execute(statement, &[]).is_err() {
             return false;
         }
     }
     true
 }
 
-// The tables that came with the second version, made by another program.
-fn with_later_tables<S: Alter>(alloc: Global, mut conn: Connection<S>) -> Lived<S> {
-    let done = if makes_later_tables(&mut conn) {
-        "done"
-    } else {
-        "not done"
-    };
+// What takes the tables away that came with the second version.
+static LATER_GO: [&str; 3] = [
+    "DROP TABLE ending",
+    "DROP TABLE part_fee",
+    "DROP TABLE branch_fee",
+];
+
+// The tables of the first version, of those of the second. Their indexes for look-ups are made anew.
+fn makes_earlier<S: Alter>(conn: &mut Connection<S>) -> bool {
+    runs_each(conn, &FIRST_TO_SECOND[..6])
+        && runs_each(conn, &LATER_GO)
+        && runs_each(conn, &FIRST[14..])
+}
+
+// What statements of another program come to.
+fn done_or_not<S: Alter>(alloc: Global, is_done: bool, conn: Connection<S>) -> Lived<S> {
+    let done = if is_done { "done" } else { "not done" };
     (done.to_string(alloc), conn)
 }
 
 /// One line over tables that were just opened: `attach` and `recover` say what they are, and so do `recover_1` and `migrate`, which are
-/// for tables of the first version. `batch` is the next batch of the open run, posted
-/// without an agency, and for every other line an agency takes the tables as they are.
+/// for tables of the first version. `batch` is the next batch of the open run, posted without an agency, and for every other line an
+/// agency takes the tables as they are.
 pub fn told_anew<S: Alter>(alloc: Global, mut conn: Connection<S>, line: &str) -> Lived<S>
     requires { HasCleanDisk (state S.Store conn) → IsResting (state S.Store conn) }
 {
     match (line, line.strip_prefix("sql,")) {
         (_, Some(statement)) => edited(alloc, conn, statement),
-        ("later tables", None) => with_later_tables(alloc, conn),
+        ("later tables", None) => {
+            let is_done = runs_each(&mut conn, &FIRST_TO_SECOND);
+            done_or_not(alloc, is_done, conn)
+        }
+        ("earlier tables", None) => {
+            let is_done = makes_earlier(&mut conn);
+            done_or_not(alloc, is_done, conn)
+        }
         ("recover", None) => given_up(alloc, recover(alloc, conn), "recovered"),
         ("attach", None) => given_up(alloc, attach(alloc, conn), "attached"),
         ("recover_1", None) => given_back(alloc, recover_1(alloc, conn)),

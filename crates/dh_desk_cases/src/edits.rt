@@ -9,9 +9,15 @@ use dh_scripts::Tally;
 use std::alloc::{AllocError, Global};
 use std::{fs, io};
 
-// What makes a file one of the first version.
-const TO_FIRST: &str =
-    "DROP TABLE ending; DROP TABLE part_fee; DROP TABLE branch_fee; UPDATE meta SET version = 1";
+// What makes a file one of the first version: its indexes for look-ups come behind its own tables.
+const TO_FIRST: &str = "DROP INDEX viewing_property; DROP INDEX receipt_lease; DROP INDEX charge_month; \
+    DROP INDEX lease_client; DROP INDEX lease_property; DROP INDEX property_staff; DROP TABLE ending; \
+    DROP TABLE part_fee; DROP TABLE branch_fee; CREATE INDEX property_staff ON property (staff_no); \
+    CREATE INDEX lease_property ON lease (property_no); \
+    CREATE INDEX lease_client ON lease (client_no, start_day); \
+    CREATE INDEX charge_month ON charge (month); \
+    CREATE INDEX receipt_lease ON receipt (lease_no, kind); \
+    CREATE INDEX viewing_property ON viewing (property_no); UPDATE meta SET version = 1";
 
 // The statements of a line.
 fn statements_of(alloc: Global, text: &str) -> Result<String, AllocError> {

@@ -107,6 +107,7 @@ fn play_way(
 fn calls_of(words: &str) -> u64 {
     match words {
         _ if words.starts_with("sql,") => 0,
+        "earlier tables" => 0,
         "attach" | "recover" | "recover_1" | "migrate" | "batch" => 1,
         _ => 2,
     }

@@ -15,7 +15,7 @@ pub fn histories_are_events<S: Alter>()
     ensures { HistoriesAreEvents S.Store }
 {}
 
-/// Tables of our version that the calls of a history left are taken: no attach and no recovery refuses them.
+/// Tables that the calls of a history left are not refused where the version of its first tables is wanted: neither 16 nor 17 comes.
 pub fn none_is_refused<S: Alter>()
     ensures { NoneIsRefused S.Store }
 {}

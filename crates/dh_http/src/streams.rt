@@ -86,12 +86,20 @@ pub(crate) fn accept(listener: &TcpListener) -> io::Result<TcpStream> {
     Err(ErrorKind::Interrupted.into())
 }
 
-// Reads some bytes and gives how many; none at the end of input, and where the peer is slow or gone.
+// Reads some bytes and gives how many; none at the end of input, and where the peer is slow or gone. A call that a signal interrupts is
+// made again.
 fn read_some(stream: &mut TimedStream<'_>, buffer: &mut [u8]) -> usize {
-    match stream.read(buffer) {
-        Ok(count) => count,
-        Err(_) => 0,
+    for _ in 0..u64::MAX {
+        match stream.read(buffer) {
+            Ok(count) => return count,
+            Err(error) => {
+                if error.kind() != ErrorKind::Interrupted {
+                    return 0;
+                }
+            }
+        }
     }
+    0
 }
 
 /// Ends a stream whose answer was written: what the peer still sends is taken in, up to a limit, so that it loses nothing of the answer.

@@ -15,7 +15,9 @@ mod reading;
 pub use fault::{StoreFault, fault_of};
 pub use file_version::FileVersion;
 pub use finding::{KeyedRecord, find};
-pub use laws::{books_are_keyed, order_has_values, sound_tables_show_their_run};
+pub use laws::{
+    books_are_keyed, first_breaks_no_later_rule, order_has_values, sound_tables_show_their_run,
+};
 pub use load_fault::LoadFault;
 pub use making::install;
 pub use reading::{load, load_1, load_tables, version};

@@ -38,7 +38,8 @@ fn make_tables<S: Alter>(alloc: Global, conn: &mut Connection<S>, first: Month) 
 }
 
 /// Makes the tables of the second version for empty books that begin with this month, in one transaction.
-/// A file that has an object already is refused as a fault of the store, and nothing changes.
+/// A file that has an object already is refused as a fault of the store, and nothing changes. Else a fault comes where memory runs out or
+/// the store fails. Then a crash leaves the file as it was or with the new tables, and while the store is open it is as it was.
 pub fn install<S: Alter>(
     alloc: Global,
     conn: &mut Connection<S>,

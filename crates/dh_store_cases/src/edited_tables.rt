@@ -3,7 +3,7 @@
 //! missing. The tables are those of the first version or of the second.
 
 use dh_agency_scripts::{compare, load_text, parted, version_text};
-use dh_catalog::texts::{FIRST_COUNT, TEXTS};
+use dh_catalog::texts::{FIRST, SECOND};
 use dh_scripts::Tally;
 use sqlite::{Alter, Connection};
 use std::alloc::{AllocError, Global};
@@ -80,10 +80,10 @@ fn play_over(
 
 /// Plays each line over the tables of the first version.
 pub fn play_first(rt: &HostRuntime, tally: &mut Tally, rows: &str, lines: &str) -> io::Result<()> {
-    play_over(rt, tally, &TEXTS[..FIRST_COUNT], rows, lines)
+    play_over(rt, tally, &FIRST, rows, lines)
 }
 
 /// Plays each line over the tables of the second version.
 pub fn play_second(rt: &HostRuntime, tally: &mut Tally, rows: &str, lines: &str) -> io::Result<()> {
-    play_over(rt, tally, &TEXTS, rows, lines)
+    play_over(rt, tally, &SECOND, rows, lines)
 }

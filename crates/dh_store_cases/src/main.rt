@@ -1,5 +1,5 @@
-//! Plays the cases of standard input over stores, from rows and tables in memory up to requests of HTTP and agencies on disks, and prints
-//! each that is answered otherwise, and then `N cases, M differ`. A block of cases has its kind in the first line: `play` has the kinds.
+//! Plays the cases of standard input over stores, from rows and tables in memory up to agencies and requests of HTTP, and prints each
+//! that is answered otherwise, and then `N cases, M differ`. A block of cases has its kind in the first line: `play` has the kinds.
 #![tactic(auto)]
 
 mod blocks;
