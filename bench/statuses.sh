@@ -6,6 +6,7 @@
 set -u
 cd "$(dirname "$0")/.."
 ./letting batch </dev/null
+top=$PWD
 work=$(mktemp -d)
 trap 'umount "$work/disk" 2>/dev/null; rm -rf "$work"' EXIT
 # Another user runs it too.
@@ -74,6 +75,21 @@ run 1 'refused 10 2025-01' run --file office.db --key R-1 --month 2025-01 </dev/
 run 0 'recovered' recover --file office.db </dev/null
 run 0 'already posted 2025-01 0 0.00' run --file office.db --key R-1 --month 2025-01 --batches 1 </dev/null
 run 5 'refused 16 2' migrate --file office.db </dev/null
+
+# Files of both versions that SQLite made anew.
+vacuumed() {
+    python3 -c "import sqlite3, sys; sqlite3.connect(sys.argv[1]).execute('VACUUM')" "$1"
+}
+vacuumed office.db
+run 0 'B001     Leeds' report --file office.db branches </dev/null
+"$top"/bench/migration.py make first.db 20
+vacuumed first.db
+run 0 'recovered' recover --file first.db </dev/null
+run 5 'refused 16 1' report --file first.db branches </dev/null
+run 0 'migrated' migrate --file first.db </dev/null
+vacuumed first.db
+run 0 'recovered' recover --file first.db </dev/null
+
 python3 -c "import sqlite3; c = sqlite3.connect('office.db'); c.execute('UPDATE meta SET version = 7'); c.commit()"
 run 5 'refused 16 7' recover --file office.db </dev/null
 closed 2 frob

@@ -35,7 +35,7 @@ abbrev pub branch_fee_cells : List Cell
 branch_fee_cells = text_that is_id ∷ number_from 0 MOST_FEE ∷ []
 
 abbrev pub branch_fee_shape : Shape (List ℕ) BranchFee
-branch_fee_shape = record { tree = 32; columns = branch_fee_columns; is_row = is_branch_fee_row; row_in = branch_fee_in; key = λ it. it.branch }
+branch_fee_shape = record { tree = 26; columns = branch_fee_columns; is_row = is_branch_fee_row; row_in = branch_fee_in; key = λ it. it.branch }
 
 abbrev pub branch_fee_shelf : Shelf (List ℕ) BranchFee text_cmp
 branch_fee_shelf = record {
@@ -94,13 +94,13 @@ branch_fee_listing = record {
   rowid_name = codes "rowid";
 }
 
-pub branch_fee_is_listing : IsListing Second 32 branch_fee_columns branch_fee_listing
+pub branch_fee_is_listing : IsListing Second 26 branch_fee_columns branch_fee_listing
 unfolding understood everything
 branch_fee_is_listing = record {
-  selects = of_second (λ s. IsSelectText branch_fee_listing.text s 32 [] branch_fee_listing.project [] branch_fee_listing.names)
+  selects = of_second (λ s. IsSelectText branch_fee_listing.text s 26 [] branch_fee_listing.project [] branch_fee_listing.names)
       (record { command = refl; unlisted = refl; plain = (refl, refl); stored = λ db. refl });
   shows_columns = λ r. refl;
-  selects_rowid = of_second (λ s. IsSelectText branch_fee_listing.rowid_text s 32 [] (col 1 0 ∷ []) [] (branch_fee_listing.rowid_name ∷ []))
+  selects_rowid = of_second (λ s. IsSelectText branch_fee_listing.rowid_text s 26 [] (col 1 0 ∷ []) [] (branch_fee_listing.rowid_name ∷ []))
       (record { command = refl; unlisted = refl; plain = (refl, refl); stored = λ db. refl });
 }
 
@@ -114,9 +114,9 @@ fee_of_branch = record {
   names = branch_fee_names;
 }
 
-selects : (s : Schema) → HasSince Second s → IsSelectText fee_of_branch.text s 32 fee_of_branch.tests fee_of_branch.project [] fee_of_branch.names
+selects : (s : Schema) → HasSince Second s → IsSelectText fee_of_branch.text s 26 fee_of_branch.tests fee_of_branch.project [] fee_of_branch.names
 unfolding understood everything
-selects = of_second (λ s. IsSelectText fee_of_branch.text s 32 fee_of_branch.tests fee_of_branch.project [] fee_of_branch.names)
+selects = of_second (λ s. IsSelectText fee_of_branch.text s 26 fee_of_branch.tests fee_of_branch.project [] fee_of_branch.names)
     (record { command = refl; unlisted = refl; plain = (refl, refl); stored = λ db. refl })
 
 pub fee_of_branch_is : IsAsking Second branch_fee_shape fee_of_branch

@@ -35,7 +35,7 @@ abbrev pub ending_cells : List Cell
 ending_cells = number_from 1 MOST_NUMBER ∷ number_from LEAST_LEASE_MONTHS MOST_LEASE_MONTHS ∷ []
 
 abbrev pub ending_shape : Shape ℕ Ending
-ending_shape = record { tree = 36; columns = ending_columns; is_row = is_ending_row; row_in = ending_in; key = λ e. e.lease }
+ending_shape = record { tree = 30; columns = ending_columns; is_row = is_ending_row; row_in = ending_in; key = λ e. e.lease }
 
 abbrev pub ending_shelf : Shelf ℕ Ending nat_cmp
 ending_shelf = record {
@@ -99,13 +99,13 @@ ending_listing = record {
   rowid_name = codes "lease_no";
 }
 
-pub ending_is_listing : IsListing Second 36 ending_columns ending_listing
+pub ending_is_listing : IsListing Second 30 ending_columns ending_listing
 unfolding understood everything
 ending_is_listing = record {
-  selects = of_second (λ s. IsSelectText ending_listing.text s 36 [] ending_listing.project [] ending_listing.names)
+  selects = of_second (λ s. IsSelectText ending_listing.text s 30 [] ending_listing.project [] ending_listing.names)
       (record { command = refl; unlisted = refl; plain = (refl, refl); stored = λ db. refl });
   shows_columns = λ r. refl;
-  selects_rowid = of_second (λ s. IsSelectText ending_listing.rowid_text s 36 [] (col 1 0 ∷ []) [] (ending_listing.rowid_name ∷ []))
+  selects_rowid = of_second (λ s. IsSelectText ending_listing.rowid_text s 30 [] (col 1 0 ∷ []) [] (ending_listing.rowid_name ∷ []))
       (record { command = refl; unlisted = refl; plain = (refl, refl); stored = λ db. refl });
 }
 
@@ -119,9 +119,9 @@ ending_of = record {
   names = ending_names;
 }
 
-ending_of_selects : (s : Schema) → HasSince Second s → IsSelectText ending_of.text s 36 ending_of.tests ending_project [] ending_names
+ending_of_selects : (s : Schema) → HasSince Second s → IsSelectText ending_of.text s 30 ending_of.tests ending_project [] ending_names
 unfolding understood everything
-ending_of_selects = of_second (λ s. IsSelectText ending_of.text s 36 ending_of.tests ending_project [] ending_names)
+ending_of_selects = of_second (λ s. IsSelectText ending_of.text s 30 ending_of.tests ending_project [] ending_names)
     (record { command = refl; unlisted = refl; plain = (refl, refl); stored = λ db. refl })
 
 pub ending_of_is : IsAsking Second ending_shape ending_of

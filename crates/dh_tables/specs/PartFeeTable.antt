@@ -38,7 +38,7 @@ abbrev pub part_fee_cells : List Cell
 part_fee_cells = number_from FIRST_MONTH LAST_ENTRY_MONTH ∷ text_that is_id ∷ number_from 0 MOST_FEE ∷ number_from 0 MOST_PENCE ∷ []
 
 abbrev pub part_fee_shape : Shape (ℕ × List ℕ) PartFee
-part_fee_shape = record { tree = 34; columns = part_fee_columns; is_row = is_part_fee_row; row_in = part_fee_in; key = λ it. (it.month, it.branch) }
+part_fee_shape = record { tree = 28; columns = part_fee_columns; is_row = is_part_fee_row; row_in = part_fee_in; key = λ it. (it.month, it.branch) }
 
 abbrev pub part_fee_shelf : Shelf (ℕ × List ℕ) PartFee (pair_cmp nat_cmp text_cmp)
 part_fee_shelf = record {
@@ -96,13 +96,13 @@ part_fee_listing = record {
   rowid_name = codes "rowid";
 }
 
-pub part_fee_is_listing : IsListing Second 34 part_fee_columns part_fee_listing
+pub part_fee_is_listing : IsListing Second 28 part_fee_columns part_fee_listing
 unfolding understood everything
 part_fee_is_listing = record {
-  selects = of_second (λ s. IsSelectText part_fee_listing.text s 34 [] part_fee_listing.project [] part_fee_listing.names)
+  selects = of_second (λ s. IsSelectText part_fee_listing.text s 28 [] part_fee_listing.project [] part_fee_listing.names)
       (record { command = refl; unlisted = refl; plain = (refl, refl); stored = λ db. refl });
   shows_columns = λ r. refl;
-  selects_rowid = of_second (λ s. IsSelectText part_fee_listing.rowid_text s 34 [] (col 1 0 ∷ []) [] (part_fee_listing.rowid_name ∷ []))
+  selects_rowid = of_second (λ s. IsSelectText part_fee_listing.rowid_text s 28 [] (col 1 0 ∷ []) [] (part_fee_listing.rowid_name ∷ []))
       (record { command = refl; unlisted = refl; plain = (refl, refl); stored = λ db. refl });
 }
 
@@ -116,9 +116,9 @@ fee_of_part = record {
   names = part_fee_names;
 }
 
-fee_of_part_selects : (s : Schema) → HasSince Second s → IsSelectText fee_of_part.text s 34 fee_of_part.tests part_fee_project [] part_fee_names
+fee_of_part_selects : (s : Schema) → HasSince Second s → IsSelectText fee_of_part.text s 28 fee_of_part.tests part_fee_project [] part_fee_names
 unfolding understood everything
-fee_of_part_selects = of_second (λ s. IsSelectText fee_of_part.text s 34 fee_of_part.tests part_fee_project [] part_fee_names)
+fee_of_part_selects = of_second (λ s. IsSelectText fee_of_part.text s 28 fee_of_part.tests part_fee_project [] part_fee_names)
     (record { command = refl; unlisted = refl; plain = (refl, refl); stored = λ db. refl })
 
 pub fee_of_part_is : IsAsking Second part_fee_shape fee_of_part
@@ -140,9 +140,9 @@ fees_of_month = record {
   names = part_fee_names;
 }
 
-fees_of_month_selects : (s : Schema) → HasSince Second s → IsSelectText fees_of_month.text s 34 fees_of_month.tests part_fee_project [] part_fee_names
+fees_of_month_selects : (s : Schema) → HasSince Second s → IsSelectText fees_of_month.text s 28 fees_of_month.tests part_fee_project [] part_fee_names
 unfolding understood everything
-fees_of_month_selects = of_second (λ s. IsSelectText fees_of_month.text s 34 fees_of_month.tests part_fee_project [] part_fee_names)
+fees_of_month_selects = of_second (λ s. IsSelectText fees_of_month.text s 28 fees_of_month.tests part_fee_project [] part_fee_names)
     (record { command = refl; unlisted = refl; plain = (refl, refl); stored = λ db. refl })
 
 pub fees_of_month_is : IsAsking Second part_fee_shape fees_of_month
