@@ -1,0 +1,164 @@
+#!/usr/bin/env python3
+"""Tries the wrong bodies of a crate that are kept outside the gate, many in one check.
+
+    tools/edits_together.py [--gate] CRATE [NAME..]     those of the crate, or these alone; with --gate those that the gate tries too
+
+It works on a copy of the repository. A group has wrong bodies of different functions. Each has to be refused at a goal of its own function,
+by one `rt check` of the group; one that does not show it is tried alone. Prints a line for each: `refused` with the first goal or error of its
+function, `names` where a proof file names what the body took away, `bad` where it does not compile, `proved` where nothing refused it.
+Ends with 0 if each was refused.
+"""
+import os
+import re
+import shutil
+import subprocess
+import sys
+import tempfile
+from pathlib import Path
+
+GROUP = 12
+FUNCTION = re.compile(r'^\s*(?:pub(?:\(crate\))? )?(?:const )?fn (\w+)')
+REFUSED = re.compile(r'^(?:fn|impl) (\S+?): (?:no proof|not proved)(.*)$', re.M)
+NAMES = re.compile(r'unknown|no (?:field|goal|such|clause)|not in scope|is not (?:a|the) (?:field|goal|name)|does not exist')
+
+
+def read(path):
+    return Path(path).read_text(encoding='utf-8')
+
+
+class Edit:
+    """A wrong body: in each file the texts that are replaced, and the functions in which they stand."""
+
+    def __init__(self, path):
+        self.name = path.name.split('.')[0]
+        self.changes = []
+        file = old = None
+        for line in read(path).splitlines():
+            key, _, text = line.partition(': ')
+            if key == 'file':
+                file = text
+            elif key == 'old':
+                old = text
+            elif key == 'new':
+                self.changes.append((file, old, text))
+
+    def functions(self, crate):
+        """The functions that hold what is replaced, each with its module."""
+        found = set()
+        for file, old, _ in self.changes:
+            text = read(crate / file)
+            at = text.find(old)
+            if at < 0:
+                continue
+            lines = text[:at].splitlines() + [old]
+            names = [match[1] for match in map(FUNCTION.match, lines) if match]
+            if names:
+                found.add((Path(file).stem, names[-1]))
+        return found
+
+    def made(self, crate):
+        """Replaces its texts; False where one of them does not stand once."""
+        for file, old, new in self.changes:
+            text = read(crate / file)
+            if text.count(old) != 1:
+                return False
+            (crate / file).write_text(text.replace(old, new), encoding='utf-8')
+        return True
+
+
+def groups_of(edits, crate):
+    """Groups of edits no two of which share a function."""
+    groups = []
+    for edit in edits:
+        functions = edit.functions(crate)
+        for group, held in groups:
+            if len(group) < GROUP and functions and not functions & held:
+                group.append(edit)
+                held |= functions
+                break
+        else:
+            groups.append(([edit], set(functions)))
+    return [group for group, _ in groups]
+
+
+def checked(crate, edits, kept):
+    """The output of a check with these wrong bodies, without those whose texts no longer stand."""
+    shutil.rmtree(crate / 'src')
+    shutil.copytree(kept, crate / 'src')
+    done = [edit for edit in edits if edit.made(crate)]
+    run = subprocess.run(['rt', 'check'], cwd=crate, stdin=subprocess.DEVNULL, capture_output=True, text=True)
+    return done, run.stdout + run.stderr
+
+
+def refusal(output, functions):
+    """The first line that refuses one of the functions."""
+    for name, why in REFUSED.findall(output):
+        parts = name.split('::')
+        for module, function in functions:
+            if parts[-1] == function and module in [*parts, 'lib', 'main', 'mod']:
+                return f'{name}: {why.strip(" :;")}'
+    return None
+
+
+def is_compiled(output):
+    return 'functions=' in output or 'not-proved' in output
+
+
+def told(edit, verdict, why):
+    print(f'{verdict:8} {edit.name}: {why[:160]}', flush=True)
+    return verdict == 'refused'
+
+
+def tried_alone(crate, edit, kept, functions):
+    done, output = checked(crate, [edit], kept)
+    if not done or not is_compiled(output):
+        return told(edit, 'bad', output.strip()[-160:].replace('\n', ' '))
+    why = refusal(output, functions) or next((f'{name}: {why.strip(" :;")}' for name, why in REFUSED.findall(output)), None)
+    if why is None:
+        return told(edit, 'proved', 'nothing refused it')
+    errors = re.findall(r'^\./(?:proofs|specs)/\S+: error: (.*)$', output, re.M)
+    if 'search' not in why and errors and all(NAMES.search(error) for error in errors):
+        return told(edit, 'names', errors[0])
+    return told(edit, 'refused', f'alone, {why}')
+
+
+def tried(crate, group, kept):
+    functions = {edit.name: edit.functions(crate) for edit in group}
+    done, output = checked(crate, group, kept)
+    right = True
+    for edit in group:
+        why = refusal(output, functions[edit.name]) if edit in done and is_compiled(output) else None
+        if why and 'search' in why:
+            told(edit, 'refused', why)
+        else:
+            right = tried_alone(crate, edit, kept, functions[edit.name]) and right
+    return right
+
+
+def main(words):
+    gate = '--gate' in words
+    words = [word for word in words if word != '--gate']
+    name, only = words[0], words[1:]
+    top = Path(subprocess.run(['git', 'rev-parse', '--show-toplevel'], capture_output=True, text=True, check=True).stdout.strip())
+    with tempfile.TemporaryDirectory() as work:
+        copy = Path(work) / 'copy'
+        subprocess.run(['git', 'clone', '-q', top, copy], check=True)
+        crate = copy / 'crates' / name
+        paths = sorted(path for path in (crate / 'must-fail').glob('*.edit*') if gate or path.name.endswith('.md'))
+        edits = [edit for edit in map(Edit, paths) if not only or edit.name in only]
+        kept = Path(work) / 'src'
+        shutil.copytree(crate / 'src', kept)
+        _, output = checked(crate, [], kept)
+        if 'logic=proved' not in output:
+            sys.exit(f'{name} is not proved as it stands: {output[-300:]}')
+        right = True
+        for group in groups_of(edits, crate):
+            shutil.rmtree(crate / 'src')
+            shutil.copytree(kept, crate / 'src')
+            right = tried(crate, group, kept) and right
+        print(f'{name}: {len(edits)} tried, {"each refused" if right else "not each refused"}')
+    return not right
+
+
+if __name__ == '__main__':
+    sys.exit(main(sys.argv[1:]) if len(sys.argv) > 1 else __doc__)
