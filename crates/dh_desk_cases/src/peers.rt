@@ -1,19 +1,18 @@
 //! Peers of `letting serve`. Behind the lines of a life, a line `ask REQUEST -> STATUS BODY` is a request, in which `\r` and `\n` are bytes,
 //! and what its peer is answered: `-> nothing` where it gets no byte. A line `hold REQUEST` is one whose peer doesn't end its input. A line
 //! `serve WORDS -> STATUS TEXT` sends the requests above it, one connection each, as soon as it is told the port, and compares the rest of
-//! the text; it also tries the same port of 127.0.0.2, where nobody listens. `spoil WORDS` does so over a file that is emptied then; `busy
-//! WORDS` names a port that is taken.
+//! the text; it also tries the same port of 127.0.0.2, where nobody listens. `busy WORDS` names a port that is taken.
 
 ghost use Rattle.std.specs.Prelude.{◌≡◌, Some};
 
 use crate::lives;
-use crate::runs::{PATH, clear, ended, outcome, ran, shown};
+use crate::runs::{clear, ended, outcome, ran, shown};
 use dh_agency_scripts::{compare, parted};
 use dh_scripts::Tally;
 use std::alloc::{AllocError, Global};
 use std::io::{Read, Write};
 use std::net::{Ipv4Addr, Shutdown, SocketAddr, SocketAddrV4, TcpListener, TcpStream};
-use std::{fs, io, str};
+use std::{io, str};
 
 // A request, and the answer that is wanted.
 #[derive(Drop)]
@@ -82,18 +81,16 @@ fn peers_of(rt: &HostRuntime, told: &[u8], asks: &[Ask]) -> io::Result<Vec<TcpSt
 struct Caller<'a> {
     rt: &'a HostRuntime,
     asks: &'a [Ask],
-    spoils: bool,
     told: Vec<u8>,
     peers: Vec<TcpStream>,
     elsewhere: &'static str,
 }
 
 impl<'a> Caller<'a> {
-    fn new(rt: &'a HostRuntime, asks: &'a [Ask], spoils: bool) -> Caller<'a> {
+    fn new(rt: &'a HostRuntime, asks: &'a [Ask]) -> Caller<'a> {
         Caller {
             rt,
             asks,
-            spoils,
             told: Vec::new(rt.alloc()),
             peers: Vec::new(rt.alloc()),
             elsewhere: "not asked",
@@ -106,9 +103,6 @@ impl<'a> Caller<'a> {
     {
         if !self.peers.is_empty() || !self.told.ends_with(b"\n") {
             return;
-        }
-        if self.spoils {
-            let _ = fs::write(self.rt, PATH, b"");
         }
         if let Ok(peers) = peers_of(self.rt, &self.told, self.asks) {
             self.peers = peers;
@@ -170,15 +164,13 @@ fn served(
     tally: &mut Tally,
     asks: &[Ask],
     words: &str,
-    spoils: bool,
 ) -> io::Result<String> {
-    let mut caller = Caller::new(rt, asks, spoils);
+    let mut caller = Caller::new(rt, asks);
     let mut reader: &[u8] = b"";
     let status = ended(rt, words, &mut reader, &mut caller)?;
     let Caller {
         rt: _,
         asks: _,
-        spoils: _,
         told,
         mut peers,
         elsewhere,
@@ -212,8 +204,8 @@ fn play_line(
         "ask" => return Ok(asks.push(Ask::new(rt.alloc(), words, wanted, true)?)?),
         "hold" => return Ok(asks.push(Ask::new(rt.alloc(), words, wanted, false)?)?),
         "busy" => refused(rt, words)?,
-        "serve" | "spoil" => {
-            let got = served(rt, tally, asks, words, kind == "spoil")?;
+        "serve" => {
+            let got = served(rt, tally, asks, words)?;
             asks.clear();
             got
         }
