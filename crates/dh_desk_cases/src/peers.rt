@@ -159,12 +159,7 @@ fn judge(
 }
 
 // What a run comes to whose peers send these requests, without the line of the port.
-fn served(
-    rt: &HostRuntime,
-    tally: &mut Tally,
-    asks: &[Ask],
-    words: &str,
-) -> io::Result<String> {
+fn served(rt: &HostRuntime, tally: &mut Tally, asks: &[Ask], words: &str) -> io::Result<String> {
     let mut caller = Caller::new(rt, asks);
     let mut reader: &[u8] = b"";
     let status = ended(rt, words, &mut reader, &mut caller)?;
