@@ -81,10 +81,16 @@ def groups_of(edits, crate):
     return [group for group, _ in groups]
 
 
+def put_back(crate, kept):
+    """The sources and definitions as they were."""
+    for part in kept.iterdir():
+        shutil.rmtree(crate / part.name)
+        shutil.copytree(part, crate / part.name)
+
+
 def checked(crate, edits, kept):
     """The output of a check with these wrong bodies, without those whose texts no longer stand."""
-    shutil.rmtree(crate / 'src')
-    shutil.copytree(kept, crate / 'src')
+    put_back(crate, kept)
     done = [edit for edit in edits if edit.made(crate)]
     run = subprocess.run(['rt', 'check'], cwd=crate, stdin=subprocess.DEVNULL, capture_output=True, text=True)
     return done, run.stdout + run.stderr
@@ -146,15 +152,16 @@ def main(words):
         crate = copy / 'crates' / name
         paths = sorted(path for path in (crate / 'must-fail').glob('*.edit*') if gate or path.name.endswith('.md'))
         edits = [edit for edit in map(Edit, paths) if not only or edit.name in only]
-        kept = Path(work) / 'src'
-        shutil.copytree(crate / 'src', kept)
+        kept = Path(work) / 'kept'
+        for part in ('src', 'specs'):
+            if (crate / part).is_dir():
+                shutil.copytree(crate / part, kept / part)
         _, output = checked(crate, [], kept)
         if 'logic=proved' not in output:
             sys.exit(f'{name} is not proved as it stands: {output[-300:]}')
         right = True
         for group in groups_of(edits, crate):
-            shutil.rmtree(crate / 'src')
-            shutil.copytree(kept, crate / 'src')
+            put_back(crate, kept)
             right = tried(crate, group, kept) and right
         print(f'{name}: {len(edits)} tried, {"each refused" if right else "not each refused"}')
     return not right
