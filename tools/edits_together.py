@@ -125,7 +125,7 @@ def tried_alone(crate, edit, kept, functions):
     errors = re.findall(r'^\./(?:proofs|specs)/\S+: error: (.*)$', output, re.M)
     if 'search' not in why and errors and all(NAMES.search(error) for error in errors):
         return told(edit, 'names', errors[0])
-    return told(edit, 'refused', f'alone, {why}')
+    return told(edit, 'refused', f'alone, {why} {errors[0] if errors else ""}')
 
 
 def tried(crate, group, kept):
