@@ -9,7 +9,7 @@ ghost use Rattle.dh_schema.specs.Store as store;
 ghost use Rattle.dh_schema.specs.Store.{IsReadyWith, tables};
 ghost use Rattle.dh_schema.specs.Tables.{IsSound};
 ghost use Rattle.dh_runs.specs.Problems.{IsNotTaken};
-ghost use Rattle.dh_runs.specs.Taking.{HasTablesOfAnother, HasVersion, IsFirstProblem, IsOfVersion, IsProblemOf, IsResting, ReadsAsItDid};
+ghost use Rattle.dh_runs.specs.Taking.{CanBeTaken, HasTablesOfAnother, HasVersion, IsFirstProblem, IsOfVersion, IsProblemOf, IsResting, ReadsAsItDid};
 ghost use Rattle.dh_migration.specs.Migrated.{migrated_state};
 ghost use Rattle.dh_migration.specs.Moved.{CanBeMigrated, IsMigrationProblem, IsNotMigrated, MovesOn, StaysAsItWas};
 ghost use Rattle.dh_agency.specs.Agency.{IsClean, LeavesItsTables, machine, shown_by};
@@ -65,6 +65,7 @@ pub fn recover_1<S: Alter>(
 ) -> Result<Connection<S>, NotOpened<Problem, S>>
     requires { HasCleanDisk (state S.Store conn) → IsResting (state S.Store conn) }
     ensures mended { IfOk result (λ c. HasCleanDisk (state S.Store c) → IsReadyWith (state S.Store c) (IsMended (tables (state S.Store conn)))) }
+    ensures sound { IfOk result (λ c. HasCleanDisk (state S.Store c) → CanBeTaken First (state S.Store conn).now.trees) }
     ensures first { IfOk result (λ c. HasCleanDisk (state S.Store c) → HasVersion First (state S.Store c)) }
     ensures left { IfOk result (λ c. HasCleanDisk (state S.Store c) → store.LeavesItsTables (state S.Store c)) }
     ensures refused { IfErr result (λ e. HasCleanDisk (state S.Store e.conn) → IsProblemOf First (state S.Store conn).now.trees e.cause) }

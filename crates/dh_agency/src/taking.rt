@@ -8,7 +8,7 @@ ghost use Rattle.dh_tables.specs.Calls.{HasOurTables};
 ghost use Rattle.dh_schema.specs.Store.{IsReadyWith, tables};
 ghost use Rattle.dh_schema.specs.Tables.{IsSound};
 ghost use Rattle.dh_runs.specs.Problems.{IsNotTaken};
-ghost use Rattle.dh_runs.specs.Taking.{HasTablesOfAnother, IsFirstProblem, IsOfVersion, IsProblemOf, IsResting, ReadsAsItDid};
+ghost use Rattle.dh_runs.specs.Taking.{CanBeTaken, HasTablesOfAnother, IsFirstProblem, IsOfVersion, IsProblemOf, IsResting, ReadsAsItDid};
 ghost use Rattle.dh_agency.specs.Agency.{IsClean, LeavesItsTables, machine, shown_by};
 ghost use Rattle.dh_agency.specs.Taken.{TakesAsTheyAre, TakesForward};
 ghost use Rattle.dh_agency.specs.Told.{IsMended, IsTorn};
@@ -30,6 +30,7 @@ pub fn attach<S: Alter>(
 ) -> Result<Agency<S>, NotOpened<Problem, S>>
     requires { HasCleanDisk (state S.Store conn) → IsResting (state S.Store conn) }
     ensures taken { IfOk result (λ a. (a.is_stopped ≡ false) × (IsClean S.Store a → machine S.Store a ≡ tables (state S.Store conn))) }
+    ensures sound { IfOk result (λ a. IsClean S.Store a → CanBeTaken Second (state S.Store conn).now.trees) }
     ensures left { IfOk result (λ a. IsClean S.Store a → LeavesItsTables S.Store a) }
     ensures refused { IfErr result (λ e. HasCleanDisk (state S.Store e.conn) → IsProblemOf Second (state S.Store conn).now.trees e.cause) }
     ensures cause { IfErr result (λ e. IsFirstProblem e.cause) }
@@ -56,6 +57,7 @@ pub fn recover<S: Alter>(
 ) -> Result<Agency<S>, NotOpened<Problem, S>>
     requires { HasCleanDisk (state S.Store conn) → IsResting (state S.Store conn) }
     ensures mended { IfOk result (λ a. (a.is_stopped ≡ false) × (IsClean S.Store a → IsMended (tables (state S.Store conn)) (machine S.Store a))) }
+    ensures sound { IfOk result (λ a. IsClean S.Store a → CanBeTaken Second (state S.Store conn).now.trees) }
     ensures left { IfOk result (λ a. IsClean S.Store a → LeavesItsTables S.Store a) }
     ensures refused { IfErr result (λ e. HasCleanDisk (state S.Store e.conn) → IsProblemOf Second (state S.Store conn).now.trees e.cause) }
     ensures cause { IfErr result (λ e. IsFirstProblem e.cause) }

@@ -1,16 +1,17 @@
 //! Readers and writers that fail, at each call in turn, and the tables afterwards.
 
 use crate::lives::tables;
-use crate::runs::{PATH, clear, ended, input_of, shown};
+use crate::runs::{LOG, PATH, clear, ended, input_of, shown};
 use dh_agency_scripts::{compare, parted};
 use dh_lines::ends::{FailingReader, FailingWriter};
 use dh_scripts::Tally;
 use std::{fs, io};
 
-// What a run leaves: what it wrote, and the tables of the file.
+// What a run leaves: what it wrote, the bytes of the file, and its tables.
 #[derive(Drop)]
 struct Left {
     output: Vec<u8>,
+    file: Vec<u8>,
     tables: String,
 }
 
@@ -55,8 +56,14 @@ fn left_by(rt: &HostRuntime, before: &[u8], words: &str, input: &str) -> io::Res
     let _ = ended(rt, words, &mut reader, &mut output)?;
     Ok(Left {
         output,
+        file: kept(rt)?,
         tables: standing_tables(rt)?,
     })
+}
+
+// Whether the same bytes stand there, with no log beside them.
+fn stands_alike(rt: &HostRuntime, left: &Left) -> io::Result<bool> {
+    Ok(kept(rt)?.as_slice() == left.file.as_slice() && !fs::exists(rt, LOG)?)
 }
 
 // What runs leave for each number of records. A run without an input has one.
@@ -99,21 +106,25 @@ fn play_whole(rt: &HostRuntime, tally: &mut Tally, line: &Line, whole: &str) -> 
     Ok(())
 }
 
-// Compares how a run ended, what it wrote, and the tables that it leaves.
+// Compares how a run ended, what it wrote, and the tables that it leaves. These are read where its bytes are others than those wanted.
 fn judge(
     rt: &HostRuntime,
     tally: &mut Tally,
     case: &str,
     got: (u8, &[u8]),
     want: (u8, &[u8]),
-    wanted_tables: &str,
+    left: &Left,
 ) -> io::Result<()> {
     let alloc = rt.alloc();
-    let tables = standing_tables(rt)?;
+    let tables = if stands_alike(rt, left)? {
+        left.tables.as_str().to_string(alloc)?
+    } else {
+        standing_tables(rt)?
+    };
     let output = shown(alloc, got.1)?;
     let got = format!(in alloc; "{} {}\n{}", got.0, output.as_str(), tables.as_str())?;
     let output = shown(alloc, want.1)?;
-    let want = format!(in alloc; "{} {}\n{wanted_tables}", want.0, output.as_str())?;
+    let want = format!(in alloc; "{} {}\n{}", want.0, output.as_str(), left.tables.as_str())?;
     compare(rt, tally, case, got.as_str(), want.as_str())
 }
 
@@ -139,7 +150,7 @@ fn play_read(
         case.as_str(),
         (status.code(), output.as_slice()),
         (3, want.output.as_slice()),
-        want.tables.as_str(),
+        want,
     )
 }
 
@@ -208,7 +219,7 @@ fn play_write(
         case.as_str(),
         (status.code(), writer.inner.as_slice()),
         (code, begun),
-        want.tables.as_str(),
+        want,
     )
 }
 

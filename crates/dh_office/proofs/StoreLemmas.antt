@@ -17,7 +17,7 @@ use Rattle.sqlite_trees.specs.Tree.{Trees}
 use Rattle.dh_schema.specs.Tables.{IsSound, state_in}
 use Rattle.dh_runs.specs.declared.problem.Problem.{Problem}
 use Rattle.dh_runs.specs.declared.problem.Problem.TheVariants as problem
-use Rattle.dh_runs.specs.Taking.{GivesVersion, IsFirstProblem, IsProblemOf, IsRefusedFor, LeavesAsTheyWere, ReadsAsItDid}
+use Rattle.dh_runs.specs.Taking.{CanBeTaken, GivesVersion, IsFirstProblem, IsProblemOf, IsRefusedFor, LeavesAsTheyWere, ReadsAsItDid}
 use Rattle.dh_runs.specs.Told.{IsMended, IsTorn}
 use Rattle.dh_migration.specs.Moved.{IsMigrationProblem}
 use Rattle.dh_agency.specs.Taken.{TakesAsTheyAre, TakesForward}
@@ -274,9 +274,13 @@ module _ (old mid new : conn.State) (turned : TakesForward old mid) (same : HasC
   }
 
   pub mended_again : (a b : Option (List ℕ)) (status : Status) → (HasCleanDisk mid → GivesVersion First old.now.trees) → HasCleanDisk new
-      → MendingEnds (IsProblemOf First mid.now.trees) mid new a b status → RecoveryEnds old new a b status
-  mended_again a b status gives clean (inl (mended, told)) =
-      inl (subst (λ (now : Database). IsMended (state_in now.trees) (store.tables new)) (now_same clean) mended, told)
+      → MendingEnds (CanBeTaken First) (IsProblemOf First mid.now.trees) mid new a b status → RecoveryEnds old new a b status
+  mended_again a b status gives clean (inl (can, mended, told)) =
+      inl (
+        inl (subst (λ (now : Database). CanBeTaken First now.trees) (now_same clean) can),
+        subst (λ (now : Database). IsMended (state_in now.trees) (store.tables new)) (now_same clean) mended,
+        told,
+      )
   mended_again a b status gives clean (inr (it, left)) =
       let cause = subst (λ (now : Database). IsProblemOf First now.trees it.problem) (now_same clean) it.cause in
       inr (

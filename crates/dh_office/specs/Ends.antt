@@ -19,7 +19,7 @@ use Rattle.dh_schema.specs.Faults.{IsFirstFault}
 use Rattle.dh_schema.specs.Store as store
 use Rattle.dh_runs.specs.declared.problem.Problem.{Problem}
 use Rattle.dh_runs.specs.declared.problem.Problem.TheVariants as problem
-use Rattle.dh_runs.specs.Taking.{BreaksRule, IsProblemOf, IsRefusedFor}
+use Rattle.dh_runs.specs.Taking.{BreaksRule, CanBeTaken, IsProblemOf, IsRefusedFor}
 use Rattle.dh_runs.specs.Told.{IsMended}
 use Rattle.dh_migration.specs.Migrated.{migrated_state}
 use Rattle.dh_migration.specs.Moved.{CanBeMigrated, IsNotMigrated, StaysAsItWas}
@@ -102,15 +102,22 @@ pub record IsNotTaken (IsCause : Problem → Type 0) (a b : Option (List ℕ)) (
   pub cause : IsCause problem
   pub told : PutsAs (problem_line problem) (problem_status problem) a b status
 
--- The tables were taken, and worked on; or not taken, and they are as they were.
+-- The tables were sound and of the second version, and were worked on; or they were not taken, and are as they were.
 abbrev pub TakingEnds : conn.State → conn.State → Option (List ℕ) → Option (List ℕ) → Option (List ℕ) → Work → Status → Type 0
 TakingEnds old new a b input it status =
-    WorkEnds new a b (store.tables old) input it status ⊎ (IsNotTaken (IsProblemOf Second old.now.trees) a b status × TakesAsTheyAre old new)
+    (CanBeTaken Second old.now.trees × WorkEnds new a b (store.tables old) input it status)
+    ⊎ (IsNotTaken (IsProblemOf Second old.now.trees) a b status × TakesAsTheyAre old new)
 
--- The open run was made to its end; or for such a cause the tables were not taken, or not to the end, and the open run is moved on at most.
-abbrev pub MendingEnds : (Problem → Type 0) → conn.State → conn.State → Option (List ℕ) → Option (List ℕ) → Status → Type 0
-MendingEnds IsCause old new a b status =
-    (IsMended (store.tables old) (store.tables new) × PutsAs recovered_line Done a b status) ⊎ (IsNotTaken IsCause a b status × TakesForward old new)
+-- The open run of such tables was made to its end; or for such a cause they were not taken, or not to the end, and the open run is moved
+-- on at most.
+abbrev pub MendingEnds : (Trees → Type 0) → (Problem → Type 0) → conn.State → conn.State → Option (List ℕ) → Option (List ℕ) → Status → Type 0
+MendingEnds Can IsCause old new a b status =
+    (Can old.now.trees × IsMended (store.tables old) (store.tables new) × PutsAs recovered_line Done a b status)
+    ⊎ (IsNotTaken IsCause a b status × TakesForward old new)
+
+-- sound tables of either version
+abbrev pub CanBeRecovered : Trees → Type 0
+CanBeRecovered trees = CanBeTaken First trees ⊎ CanBeTaken Second trees
 
 -- so tables are not recovered: they are of neither version, or break a rule of the one that they are of
 abbrev pub IsNotRecoveredFor : Trees → Refusal → Type 0
@@ -125,7 +132,7 @@ IsNotRecovered trees (problem.Fault fault) = IsFirstFault fault
 
 -- the open run of tables of either version
 abbrev pub RecoveryEnds : conn.State → conn.State → Option (List ℕ) → Option (List ℕ) → Status → Type 0
-RecoveryEnds old new a b status = MendingEnds (IsNotRecovered old.now.trees) old new a b status
+RecoveryEnds old new a b status = MendingEnds CanBeRecovered (IsNotRecovered old.now.trees) old new a b status
 
 -- The tables were migrated; or they were not, and are as they were.
 abbrev pub MigrationEnds : conn.State → conn.State → Option (List ℕ) → Option (List ℕ) → Status → Type 0
@@ -158,10 +165,11 @@ pub record IsServed (old new : conn.State) (a b : Option (List ℕ)) (service : 
   pub told : AreTold (stand_of (store.tables old)) outcomes (stand_in new) is_stopped
   pub reads : IsTrue new.is_open → IsAfterSome (stand_of (store.tables old)) (store.tables new)
 
--- Connections were served; or the tables were not taken.
+-- The tables were sound and of the second version, and connections were served; or they were not taken.
 abbrev pub ServingEnds : conn.State → conn.State → Option (List ℕ) → Option (List ℕ) → Service → Status → Type 0
 ServingEnds old new a b service status =
-    IsServed old new a b service status ⊎ (IsNotTaken (IsProblemOf Second old.now.trees) a b status × TakesAsTheyAre old new)
+    (CanBeTaken Second old.now.trees × IsServed old new a b service status)
+    ⊎ (IsNotTaken (IsProblemOf Second old.now.trees) a b status × TakesAsTheyAre old new)
 
 abbrev pub JobEnds : conn.State → conn.State → Option (List ℕ) → Option (List ℕ) → Option (List ℕ) → FileJob → Status → Type 0
 JobEnds old new a b input (job.Make first) status = MakingEnds old new a b first status

@@ -8,7 +8,7 @@ ghost use Rattle.dh_types.specs.declared.reply.Refusal.TheVariants as refusal;
 ghost use Rattle.dh_types.specs.declared.version.Version.TheVariants.{First};
 ghost use Rattle.dh_schema.specs.Store.{IsBlank};
 ghost use Rattle.dh_runs.specs.declared.problem.Problem.TheVariants as problem;
-ghost use Rattle.dh_runs.specs.Taking.{IsProblemOf, IsResting};
+ghost use Rattle.dh_runs.specs.Taking.{CanBeTaken, IsProblemOf, IsResting};
 ghost use Rattle.dh_office.specs.Ends.{JobEnds, MakingEnds, MendingEnds, MigrationEnds, NewLinesEnd, RecoveryEnds, TakingEnds};
 ghost use Rattle.dh_office.specs.Leaving.{JobLeaves};
 ghost use Rattle.dh_office.specs.Printed.{IsMakingEnd, IsOfLines, IsRecoveryEnd, IsRefusedEnd, Prints, PrintsJob, PrintsWork, PutsAs};
@@ -81,7 +81,7 @@ fn mend_first<S: Alter, W: Write>(
 ) -> (Status, Connection<S>)
     requires { HasCleanDisk (state S.Store conn) → IsResting (state S.Store conn) }
     ensures printed { PrintsJob FileJob.Recover (W.contents writer.old) (W.contents writer.new) result.0 }
-    ensures ends { HasCleanDisk (state S.Store result.1) → MendingEnds (IsProblemOf First (state S.Store conn).now.trees)
+    ensures ends { HasCleanDisk (state S.Store result.1) → MendingEnds (CanBeTaken First) (IsProblemOf First (state S.Store conn).now.trees)
         (state S.Store conn) (state S.Store result.1) (W.contents writer.old) (W.contents writer.new) result.0 }
     ensures crash { JobLeaves (state S.Store conn) (state S.Store result.1) FileJob.Recover }
     ensures was_clean { HasCleanDisk (state S.Store result.1) → HasCleanDisk (state S.Store conn) }

@@ -17,7 +17,7 @@ use Rattle.dh_catalog.specs.Versions.{each_is_ours, schema_of}
 use Rattle.dh_schema.specs.Store.{AreTables, IsReadyWith, tables}
 use Rattle.dh_schema.specs.Tables.{IsSound, state_in, version_of_tables}
 use Rattle.dh_schema.proofs.ReadTables.{version_given}
-use Rattle.dh_runs.specs.Taking.{GivesVersion, HasVersion, IsResting}
+use Rattle.dh_runs.specs.Taking.{CanBeTaken, GivesVersion, HasVersion, IsResting}
 use Rattle.dh_runs.specs.Told.{IsMended, IsTorn}
 
 -- sound tables are listed by the schema of their version, and a list tells one schema
@@ -76,6 +76,13 @@ pub version_taken : (version : Version) (old mid new : State) → GivesVersion v
 version_taken version old mid new given first sound same =
     ap (λ (d : Database). version_of_tables d.trees) same
     ∙ version_given version mid.now.trees sound.in_order (subst (λ (d : Database). GivesVersion version d.trees) (sym first) given)
+
+-- and so they are what is taken
+pub can_be_taken : (version : Version) (old mid : State) → GivesVersion version old.now.trees → mid.now ≡ old.now → IsSound mid.now.trees
+    → CanBeTaken version old.now.trees
+can_be_taken version old mid given first sound =
+    let was : IsSound old.now.trees = subst (λ (d : Database). IsSound d.trees) first sound in
+    record { sound = was; version = version_given version old.now.trees was.in_order given }
 
 -- and stay so where a recovery came to its end
 pub version_mended : (version : Version) (mid new : State) → HasVersion version mid → IsMended (tables mid) (tables new) → HasVersion version new

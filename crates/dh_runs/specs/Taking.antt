@@ -11,7 +11,7 @@ use Rattle.dh_audit.specs.Audit.{IsLeastBroken}
 use Rattle.dh_tables.specs.MetaTable.{meta_rows}
 use Rattle.dh_schema.specs.Faults.{IsFirstFault}
 use Rattle.dh_schema.specs.Store.{tables}
-use Rattle.dh_schema.specs.Tables.{HasValues, books_in}
+use Rattle.dh_schema.specs.Tables.{HasValues, IsSound, books_in, state_in}
 use Rattle.dh_schema.specs.Version.{GivesAnother, only_version}
 use Rattle.dh_runs.specs.declared.problem.Problem.{Problem}
 use Rattle.dh_runs.specs.declared.problem.Problem.TheVariants as problem
@@ -25,6 +25,11 @@ pub record IsResting (s : State) : Type 0 where
 -- its tables are those of this version
 abbrev pub HasVersion : Version → State → Type 0
 HasVersion version s = (tables s).books.version ≡ version
+
+-- Sound tables of this version.
+pub record CanBeTaken (wanted : Version) (trees : Trees) : Type 0 where
+  pub sound : IsSound trees
+  pub version : (state_in trees).books.version ≡ wanted
 
 -- meta gives this version
 abbrev pub GivesVersion : Version → Trees → Type 0

@@ -10,7 +10,7 @@ ghost use Rattle.dh_schema.specs.Faults.{IsFirstFault};
 ghost use Rattle.dh_schema.specs.Store.{IsReady, IsReadyWith, Leaves, tables};
 ghost use Rattle.dh_schema.specs.Tables.{IsSound};
 ghost use Rattle.dh_runs.specs.Problems.{IsNotTaken};
-ghost use Rattle.dh_runs.specs.Taking.{HasTablesOfAnother, HasVersion, IsFirstProblem, IsOfVersion, IsProblemOf, IsResting, ReadsAsItDid};
+ghost use Rattle.dh_runs.specs.Taking.{CanBeTaken, HasTablesOfAnother, HasVersion, IsFirstProblem, IsOfVersion, IsProblemOf, IsResting, ReadsAsItDid};
 ghost use Rattle.dh_runs.specs.Told.{IsMended, IsTorn};
 
 use crate::problem::Problem;
@@ -51,6 +51,7 @@ pub fn recover_in<S: Alter>(
     ensures mended { HasCleanDisk (state S.Store conn.new)
         → OnOk result (IsReadyWith (state S.Store conn.new) (IsMended (tables (state S.Store conn.old)))) }
     ensures version { HasCleanDisk (state S.Store conn.new) → OnOk result (HasVersion wanted (state S.Store conn.new)) }
+    ensures taken { HasCleanDisk (state S.Store conn.new) → OnOk result (CanBeTaken wanted (state S.Store conn.old).now.trees) }
     ensures refused { HasCleanDisk (state S.Store conn.new) → IfErr result (IsProblemOf wanted (state S.Store conn.old).now.trees) }
     ensures cause { IfErr result IsFirstProblem }
     ensures of_version { HasCleanDisk (state S.Store conn.new)

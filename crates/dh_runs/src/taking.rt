@@ -12,7 +12,7 @@ ghost use Rattle.dh_tables.specs.Calls.{HasOurTables};
 ghost use Rattle.dh_schema.specs.Store.{HasItsSchema, IsReady};
 ghost use Rattle.dh_schema.specs.Tables.{IsSound};
 ghost use Rattle.dh_runs.specs.Problems.{IsFoundIn, IsNotTaken};
-ghost use Rattle.dh_runs.specs.Taking.{GivesVersion, HasTablesOfAnother, HasVersion, IsFirstProblem, IsOfVersion, IsProblemOf, IsResting};
+ghost use Rattle.dh_runs.specs.Taking.{CanBeTaken, GivesVersion, HasTablesOfAnother, HasVersion, IsFirstProblem, IsOfVersion, IsProblemOf, IsResting};
 
 use crate::problem::Problem;
 use dh_audit::audit;
@@ -104,6 +104,7 @@ pub fn check<S: Alter>(
     requires { HasCleanDisk (state S.Store conn.old) → IsResting (state S.Store conn.old) }
     ensures ready { HasCleanDisk (state S.Store conn.new) → OnOk result (IsReady (state S.Store conn.new)) }
     ensures version { HasCleanDisk (state S.Store conn.new) → OnOk result (HasVersion wanted (state S.Store conn.new)) }
+    ensures taken { HasCleanDisk (state S.Store conn.new) → OnOk result (CanBeTaken wanted (state S.Store conn.old).now.trees) }
     ensures refused { HasCleanDisk (state S.Store conn.new) → IfErr result (IsProblemOf wanted (state S.Store conn.old).now.trees) }
     ensures cause { IfErr result IsFirstProblem }
     ensures still_open { HasCleanDisk (state S.Store conn.new)

@@ -24,10 +24,13 @@ returns-in-Ok-clause-ends g c clean =
     let still : IsClean g.S.Store after = was_clean g.S.Store after c.into_store.result c.into_store.ensures clean in
     let first : IsClean g.S.Store taken = omega (arith, c.serve-outcome.ensures.was_clean, still) in
     let served = did.1 (stand g.S.Store taken) [] (λ at. begins g.S.Store taken c.in-Ok.ensures.taken.0 (c.in-Ok.ensures.left at)) still in
-    inl (serving_ends g.S.Store after c.into_store.result c.into_store.ensures c.args.conn taken (c.in-Ok.ensures.taken.1 first) did.0 served _ _
-    c.args.service c.tell_served-status.result
-    (Served c.serve-outcome.result
-    (serving_prints c.args.service did.0 _ _ _ c.serve-outcome.result c.tell_served-status.result did.2 c.tell_served-status.ensures)))
+    inl (
+      c.in-Ok.ensures.sound first,
+      serving_ends g.S.Store after c.into_store.result c.into_store.ensures c.args.conn taken (c.in-Ok.ensures.taken.1 first) did.0 served _ _
+          c.args.service c.tell_served-status.result
+          (Served c.serve-outcome.result
+          (serving_prints c.args.service did.0 _ _ _ c.serve-outcome.result c.tell_served-status.result did.2 c.tell_served-status.ensures)),
+    )
 
 pub returns-in-Ok-clause-crash : goal.returns-in-Ok-clause-crash
 returns-in-Ok-clause-crash g c =

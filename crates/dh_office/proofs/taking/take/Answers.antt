@@ -1,7 +1,21 @@
-use Rattle.std.proofs.Common.{inr}
+use Rattle.std.proofs.Common.{arith, inl, inr}
 use Rattle.sqlite.specs.Held.{state}
-use Rattle.dh_office.proofs.StoreLemmas.{kept_leaves, problem_prints}
+use Rattle.dh_agency.specs.Agency.{IsClean}
+use Rattle.dh_office.proofs.StoreLemmas.{kept_leaves, problem_prints, was_clean, work_ends}
 use Rattle.dh_office.proofs.taking.take.Goals as goal
+
+pub returns-in-Ok-clause-ends : goal.returns-in-Ok-clause-ends
+returns-in-Ok-clause-ends g c clean =
+    let taken = c.in-Ok.agency in
+    let after = c.carry_out-status.new.agency in
+    let last = c.into_store.result in
+    let now = was_clean g.S.Store after last c.into_store.ensures clean in
+    let first : IsClean g.S.Store taken = omega (arith, c.carry_out-status.ensures.was_clean, now) in
+    inl (
+      c.in-Ok.ensures.sound first,
+      work_ends g.S.Store after last c.into_store.ensures _ _ c.carry_out-status.result c.args.conn taken (c.in-Ok.ensures.taken.1 first) _ c.args.work
+          (c.carry_out-status.ensures.ends now),
+    )
 
 pub returns-in-Err-clause-printed : goal.returns-in-Err-clause-printed
 returns-in-Err-clause-printed g c = inr (problem_prints c.in-Err.field-0.cause _ _ c.tell_problem.result c.in-Err.ensures.cause c.tell_problem.ensures)

@@ -59,3 +59,8 @@ returns-clause-version g c clean =
     let mid = state g.S.Store c.check.new.conn in
     let early : HasCleanDisk mid = omega (arith, c.finish.ensures.was_clean, clean) in
     version_mended c.args.wanted mid (state g.S.Store c.finish.new.conn) (c.in_ok-check.ensures.version early) (c.in_ok-finish.ensures.mended clean).1
+
+pub returns-clause-taken : goal.returns-clause-taken
+returns-clause-taken g c clean =
+    let early : HasCleanDisk (state g.S.Store c.check.new.conn) = omega (arith, c.finish.ensures.was_clean, clean) in
+    c.in_ok-check.ensures.taken early
