@@ -142,7 +142,7 @@ def make(path, count, charges):
     texts = texts_of()
     make_file(path, rows, texts, lambda table: range(rows.counts[table]))
     # Rows by themselves refer to rows that aren't there, and a file that breaks its references isn't opened.
-    loose = [re.sub(r" REFERENCES \w+", "", text) for text in texts]
+    loose = [re.sub(r",? FOREIGN KEY \([^)]*\) REFERENCES \w+| REFERENCES \w+", "", text) for text in texts]
     make_file(path + ".asked", rows, loose, lambda table: sample(rows, table))
     make_file(path + ".new", rows, loose, lambda table: new_numbers(rows, table))
 
