@@ -19,6 +19,7 @@ from pathlib import Path
 GROUP = 12
 FUNCTION = re.compile(r'^\s*(?:pub(?:\(crate\))? )?(?:const )?fn (\w+)')
 REFUSED = re.compile(r'^(?:fn|impl) (\S+?): (?:no proof|not proved)(.*)$', re.M)
+ERROR = re.compile(r'^\./((?:proofs|specs)/\S+?):\d+:\d+: error: (.*)$', re.M)
 NAMES = re.compile(r'unknown|no (?:field|goal|such|clause)|not in scope|is not (?:a|the) (?:field|goal|name)|does not exist')
 
 
@@ -106,6 +107,17 @@ def refusal(output, functions):
     return None
 
 
+def errors_in(output, functions):
+    """The errors in the proof files of the functions."""
+    names = {function for _, function in functions}
+    return [error for path, error in ERROR.findall(output) if Path(path).parent.name in names]
+
+
+def is_at_a_goal(why, errors):
+    """Whether it is refused at a goal, and not because a proof file names what the body took away."""
+    return 'search' in why or any(not NAMES.search(error) for error in errors)
+
+
 def is_compiled(output):
     return 'functions=' in output or 'not-proved' in output
 
@@ -122,8 +134,8 @@ def tried_alone(crate, edit, kept, functions):
     why = refusal(output, functions) or next((f'{name}: {why.strip(" :;")}' for name, why in REFUSED.findall(output)), None)
     if why is None:
         return told(edit, 'proved', 'nothing refused it')
-    errors = re.findall(r'^\./(?:proofs|specs)/\S+: error: (.*)$', output, re.M)
-    if 'search' not in why and errors and all(NAMES.search(error) for error in errors):
+    errors = [error for _, error in ERROR.findall(output)]
+    if errors and not is_at_a_goal(why, errors):
         return told(edit, 'names', errors[0])
     return told(edit, 'refused', f'alone, {why} {errors[0] if errors else ""}')
 
@@ -134,8 +146,9 @@ def tried(crate, group, kept):
     right = True
     for edit in group:
         why = refusal(output, functions[edit.name]) if edit in done and is_compiled(output) else None
-        if why and 'search' in why:
-            told(edit, 'refused', why)
+        errors = errors_in(output, functions[edit.name])
+        if why and is_at_a_goal(why, errors):
+            told(edit, 'refused', f'{why} {errors[0] if errors else ""}')
         else:
             right = tried_alone(crate, edit, kept, functions[edit.name]) and right
     return right
