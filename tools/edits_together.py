@@ -19,6 +19,7 @@ from pathlib import Path
 GROUP = 12
 FUNCTION = re.compile(r'^\s*(?:pub(?:\(crate\))? )?(?:const )?fn (\w+)')
 REFUSED = re.compile(r'^(?:fn|impl) (\S+?): (?:no proof|not proved)(.*)$', re.M)
+NAMED = re.compile(r'^(?:fn|impl) (\S+?): ', re.M)
 ERROR = re.compile(r'^\./((?:proofs|specs)/\S+?):\d+:\d+: error: (.*)$', re.M)
 NAMES = re.compile(r'unknown|no (?:field|goal|such|clause)|not in scope|is not (?:a|the) (?:field|goal|name)|does not exist')
 
@@ -97,13 +98,20 @@ def checked(crate, edits, kept):
     return done, run.stdout + run.stderr
 
 
+def stands_for(name, module, function, output):
+    """Whether a check calls this function of this module by that name. A method has the name of its type's module, wherever it is written."""
+    *path, last = name.split('::')
+    if last != function:
+        return False
+    alike = {found for found in NAMED.findall(output) if found.split('::')[-1] == function}
+    return module in [*path, 'lib', 'main', 'mod'] or len(alike) == 1
+
+
 def refusal(output, functions):
     """The first line that refuses one of the functions."""
     for name, why in REFUSED.findall(output):
-        parts = name.split('::')
-        for module, function in functions:
-            if parts[-1] == function and module in [*parts, 'lib', 'main', 'mod']:
-                return f'{name}: {why.strip(" :;")}'
+        if any(stands_for(name, module, function, output) for module, function in functions):
+            return f'{name}: {why.strip(" :;")}'
     return None
 
 
