@@ -1,9 +1,11 @@
 //! Files on disks in memory: they are opened for one piece of work, and closed unless it was cut.
 
-ghost use Rattle.std.specs.Prelude.{IsTrue, IfOk};
+ghost use Rattle.std.specs.Prelude.{◌≡◌, None, IsTrue, IsSome, IfSome, IfOk};
 ghost use Rattle.sqlite.specs.Files.{file_state};
 ghost use Rattle.sqlite.specs.State.{HasCleanDisk};
-ghost use Rattle.dh_runs.specs.Taking.{IsResting};
+ghost use Rattle.dh_schema.specs.Faults.{IsFirstFault};
+ghost use Rattle.dh_runs.specs.Taking.{IsFirstProblem, IsResting};
+ghost use Rattle.dh_lives.specs.Lives.{FitsCommands, IsWhole};
 
 use crate::work::{Done, create_over, live_over, load_over};
 use dh_agency::Problem;
@@ -38,7 +40,9 @@ pub enum Unopened {
 
 impl Unopened {
     // The fault of a life that does not get its files opened.
-    fn fault(self) -> Fault {
+    fn fault(self) -> Fault
+        ensures { IsFirstFault result }
+    {
         match self {
             Unopened::NotUsable => Fault::Store,
             Unopened::Error(error) => fault_of(error),
@@ -77,7 +81,9 @@ pub fn open_on<D: Disk + Drop>(
 }
 
 // Closes the files. The problem is that of a closing that failed.
-fn closed<D: Disk + Drop>(conn: Connection<FileStore<D>>) -> (Option<Problem>, Files<D>) {
+fn closed<D: Disk + Drop>(conn: Connection<FileStore<D>>) -> (Option<Problem>, Files<D>)
+    ensures { IfSome result.0 IsFirstProblem }
+{
     match conn.close_files() {
         Ok(files) => (None, files),
         Err((error, store)) => (Some(Problem::Fault(fault_of(error))), store.close()),
@@ -85,7 +91,13 @@ fn closed<D: Disk + Drop>(conn: Connection<FileStore<D>>) -> (Option<Problem>, F
 }
 
 // Closes the files of work that nothing cut, and leaves those of work that was cut as they are.
-fn ended<D: Disk + Drop>(mut done: Done, conn: Connection<FileStore<D>>) -> (Done, Files<D>) {
+fn ended<D: Disk + Drop>(mut done: Done, conn: Connection<FileStore<D>>) -> (Done, Files<D>)
+    requires { IfSome done.problem IsFirstProblem }
+    ensures lived { result.0.lived ≡ done.lived }
+    ensures books { result.0.books ≡ done.books }
+    ensures uncut { result.0.problem ≡ None → done.problem ≡ None }
+    ensures cause { IfSome result.0.problem IsFirstProblem }
+{
     if done.problem.is_some() {
         return (done, conn.into_store().close());
     }
@@ -99,7 +111,9 @@ pub(crate) fn create_on<D: Disk + Drop>(
     alloc: Global,
     files: Files<D>,
     first: EntryMonth,
-) -> (Done, Files<D>) {
+) -> (Done, Files<D>)
+    ensures { IfSome result.0.problem IsFirstProblem }
+{
     match open_on(alloc, files, options()) {
         Ok(conn) => {
             let (done, conn) = create_over(alloc, conn, first);
@@ -114,7 +128,11 @@ pub(crate) fn live_on<D: Disk + Drop>(
     alloc: Global,
     files: Files<D>,
     commands: &[Command],
-) -> (Done, Files<D>) {
+) -> (Done, Files<D>)
+    ensures fits { FitsCommands commands.now result.0.lived }
+    ensures whole { result.0.problem ≡ None → IsWhole result.0.lived }
+    ensures cause { IfSome result.0.problem IsFirstProblem }
+{
     match open_on(alloc, files, options()) {
         Ok(conn) => {
             let (done, conn) = live_over(alloc, conn, commands);
@@ -125,7 +143,10 @@ pub(crate) fn live_on<D: Disk + Drop>(
 }
 
 /// Loads the tables of the files.
-pub(crate) fn load_on<D: Disk + Drop>(alloc: Global, files: Files<D>) -> (Done, Files<D>) {
+pub(crate) fn load_on<D: Disk + Drop>(alloc: Global, files: Files<D>) -> (Done, Files<D>)
+    ensures loaded { result.0.problem ≡ None → IsSome result.0.books }
+    ensures cause { IfSome result.0.problem IsFirstProblem }
+{
     match open_on(alloc, files, options()) {
         Ok(mut conn) => {
             let done = load_over(alloc, &mut conn);

@@ -1,7 +1,10 @@
 //! Lives one after the other.
 
-ghost use Rattle.std.specs.Prelude.{◌≡◌, ◌+◌, ◌≤◌, length, IfOk, OnOk};
+ghost use Rattle.std.specs.Prelude.{◌≡◌, ◌++◌, ◌≤◌, None, [], ◌∷◌, is_some, IfSome, IsSome, IfOk, IfErr, OnOk};
 ghost use Rattle.dh_days.specs.declared.limits.TheConstants.{LAST_ENTRY_MONTH};
+ghost use Rattle.dh_schema.specs.Faults.{IsFirstFault};
+ghost use Rattle.dh_runs.specs.Taking.{IsFirstProblem};
+ghost use Rattle.dh_lives.specs.Lives.{AreAccountsOf, IsAccountOf, ends_whole};
 
 use crate::disks::{Measures, Stopping, copy_of, no_files};
 use crate::files::{create_on, live_on, load_on};
@@ -23,7 +26,10 @@ pub struct Rehearsed {
 }
 
 // The fault that a rehearsal ends with. An agency's own tables are sound, so a store that shows others is not clean.
-fn fault_of_problem(problem: Problem) -> Fault {
+fn fault_of_problem(problem: Problem) -> Fault
+    requires { IsFirstProblem problem }
+    ensures { IsFirstFault result }
+{
     match problem {
         Problem::Fault(fault) => fault,
         Problem::Refused(_) => Fault::Store,
@@ -31,7 +37,9 @@ fn fault_of_problem(problem: Problem) -> Fault {
 }
 
 // Disks in memory fail to be made for want of memory alone.
-fn made(files: io::Result<Files<Stopping>>) -> Result<Files<Stopping>, Problem> {
+fn made(files: io::Result<Files<Stopping>>) -> Result<Files<Stopping>, Problem>
+    ensures { IfErr result IsFirstProblem }
+{
     match files {
         Ok(files) => Ok(files),
         Err(_) => Err(Problem::Fault(Fault::Memory)),
@@ -57,12 +65,16 @@ fn copied(
     alloc: Global,
     files: &Files<Stopping>,
     stop: Option<Stop>,
-) -> Result<Files<Stopping>, Problem> {
+) -> Result<Files<Stopping>, Problem>
+    ensures { IfErr result IsFirstProblem }
+{
     made(copy_of(alloc, files, measures_of(stop)))
 }
 
 // The files of a new agency, behind a power cut.
-fn created(alloc: Global, first: EntryMonth) -> Result<Files<Stopping>, Problem> {
+fn created(alloc: Global, first: EntryMonth) -> Result<Files<Stopping>, Problem>
+    ensures { IfErr result IsFirstProblem }
+{
     let files = made(no_files(alloc, Measures::NO_END))?;
     let (done, left) = create_on(alloc, files, first);
     let Done {
@@ -79,7 +91,12 @@ fn created(alloc: Global, first: EntryMonth) -> Result<Files<Stopping>, Problem>
 }
 
 // The life as it was lived, if nothing cut it but its stop.
-fn accounted(done: Done, stop: Option<Stop>) -> Result<Lived, Problem> {
+fn accounted(done: Done, stop: Option<Stop>) -> Result<Lived, Problem>
+    requires { IfSome done.problem IsFirstProblem }
+    ensures lived { IfOk result (λ lived. lived ≡ done.lived) }
+    ensures whole { stop ≡ None → OnOk result (done.problem ≡ None) }
+    ensures cause { IfErr result IsFirstProblem }
+{
     match (done.problem, stop) {
         (None, _) | (Some(Problem::Fault(_)), Some(_)) => Ok(done.lived),
         (Some(problem), _) => Err(problem),
@@ -91,14 +108,17 @@ fn live(
     alloc: Global,
     files: &Files<Stopping>,
     life: &Life,
-) -> Result<(Lived, Files<Stopping>), Problem> {
+) -> Result<(Lived, Files<Stopping>), Problem>
+    ensures account { IfOk result (λ it. IsAccountOf life.now it.0) }
+    ensures cause { IfErr result IsFirstProblem }
+{
     let files = copied(alloc, files, life.stop)?;
     let (done, left) = live_on(alloc, files, &life.commands);
     Ok((accounted(done, life.stop)?, left_by_power_cut(left)))
 }
 
 fn keep(accounts: &mut Vec<Lived>, lived: Lived) -> Result<(), AllocError>
-    ensures { OnOk result (length accounts.new.items ≡ length accounts.old.items + 1) }
+    ensures { OnOk result (accounts.new.items ≡ accounts.old.items ++ lived ∷ []) }
 {
     accounts.push(lived)?;
     Ok(())
@@ -110,7 +130,8 @@ fn live_each(
     mut files: Files<Stopping>,
     lives: &[Life],
 ) -> Result<Rehearsed, Problem>
-    ensures { IfOk result (λ it. length it.lives.items ≡ length lives.now) }
+    ensures accounts { IfOk result (λ it. AreAccountsOf lives.now it.lives.items) }
+    ensures cause { IfErr result IsFirstProblem }
 {
     let mut accounts = Vec::new(alloc);
     for life in lives {
@@ -126,7 +147,8 @@ fn live_each(
 
 // Makes an agency and plays the lives.
 fn live_anew(alloc: Global, first: EntryMonth, lives: &[Life]) -> Result<Rehearsed, Problem>
-    ensures { IfOk result (λ it. length it.lives.items ≡ length lives.now) }
+    ensures accounts { IfOk result (λ it. AreAccountsOf lives.now it.lives.items) }
+    ensures cause { IfErr result IsFirstProblem }
 {
     let files = created(alloc, first)?;
     live_each(alloc, files, lives)
@@ -138,14 +160,18 @@ fn live_on_copy(
     files: &Files<Stopping>,
     lives: &[Life],
 ) -> Result<Rehearsed, Problem>
-    ensures { IfOk result (λ it. length it.lives.items ≡ length lives.now) }
+    ensures accounts { IfOk result (λ it. AreAccountsOf lives.now it.lives.items) }
+    ensures cause { IfErr result IsFirstProblem }
 {
     let files = copied(alloc, files, None)?;
     live_each(alloc, files, lives)
 }
 
 // The books that the tables mean.
-fn loaded(alloc: Global, files: Files<Stopping>) -> Result<Option<Books>, Fault> {
+fn loaded(alloc: Global, files: Files<Stopping>) -> Result<Option<Books>, Fault>
+    ensures books { IfOk result (λ books. IsSome books) }
+    ensures cause { IfErr result IsFirstFault }
+{
     let (done, left) = load_on(alloc, files);
     drop(left);
     let Done {
@@ -161,7 +187,10 @@ fn loaded(alloc: Global, files: Files<Stopping>) -> Result<Option<Books>, Fault>
 }
 
 // Whether the last life has no stop.
-fn ends_whole(lives: &[Life]) -> bool {
+#[tactic(auto, using(crate::proofs::AccountLemmas::ends_at))]
+fn ends_whole(lives: &[Life]) -> bool
+    ensures { result ≡ ends_whole lives.now }
+{
     match lives.last() {
         Some(life) => life.stop.is_none(),
         None => true,
@@ -170,7 +199,9 @@ fn ends_whole(lives: &[Life]) -> bool {
 
 // The account of the lives that were played, with the books in the end.
 fn account_of(alloc: Global, rehearsed: Rehearsed, lives: &[Life]) -> Result<Account, Fault>
-    ensures { IfOk result (λ it. length it.lives.items ≡ length rehearsed.lives.items) }
+    ensures lives { IfOk result (λ it. it.lives ≡ rehearsed.lives) }
+    ensures books { IfOk result (λ it. is_some it.books ≡ ends_whole lives.now) }
+    ensures cause { IfErr result IsFirstFault }
 {
     let Rehearsed {
         lives: accounts,
@@ -191,7 +222,8 @@ fn account_of(alloc: Global, rehearsed: Rehearsed, lives: &[Life]) -> Result<Acc
 /// them. The faults are those of `rehearse`.
 pub fn live_through(alloc: Global, first: Month, lives: &[Life]) -> Result<Rehearsed, Fault>
     requires { first ≤ LAST_ENTRY_MONTH }
-    ensures { IfOk result (λ it. length it.lives.items ≡ length lives.now) }
+    ensures accounts { IfOk result (λ it. AreAccountsOf lives.now it.lives.items) }
+    ensures cause { IfErr result IsFirstFault }
 {
     match live_anew(alloc, EntryMonth::of_number(first.number()), lives) {
         Ok(rehearsed) => Ok(rehearsed),
@@ -202,7 +234,8 @@ pub fn live_through(alloc: Global, first: Month, lives: &[Life]) -> Result<Rehea
 /// Plays the lives behind others, as [`live_through`] plays them all, and answers what came of these. It works on a copy of the files
 /// that the others left, so that many lives can be tried behind them.
 pub fn live_behind(alloc: Global, behind: &Rehearsed, lives: &[Life]) -> Result<Rehearsed, Fault>
-    ensures { IfOk result (λ it. length it.lives.items ≡ length lives.now) }
+    ensures accounts { IfOk result (λ it. AreAccountsOf lives.now it.lives.items) }
+    ensures cause { IfErr result IsFirstFault }
 {
     match live_on_copy(alloc, &behind.files, lives) {
         Ok(rehearsed) => Ok(rehearsed),
@@ -217,7 +250,9 @@ pub fn live_behind(alloc: Global, behind: &Rehearsed, lives: &[Life]) -> Result<
 /// tables cannot.
 pub fn rehearse(alloc: Global, first: Month, lives: &[Life]) -> Result<Account, Fault>
     requires { first ≤ LAST_ENTRY_MONTH }
-    ensures { IfOk result (λ it. length it.lives.items ≡ length lives.now) }
+    ensures accounts { IfOk result (λ it. AreAccountsOf lives.now it.lives.items) }
+    ensures books { IfOk result (λ it. is_some it.books ≡ ends_whole lives.now) }
+    ensures cause { IfErr result IsFirstFault }
 {
     let rehearsed = live_through(alloc, first, lives)?;
     account_of(alloc, rehearsed, lives)
@@ -226,7 +261,9 @@ pub fn rehearse(alloc: Global, first: Month, lives: &[Life]) -> Result<Account, 
 /// Plays the lives behind others, as [`rehearse`] plays them all, and answers the account of these, with the books that all of them
 /// make. It works on a copy of the files that the others left, so that many lives can be tried behind them.
 pub fn rehearse_behind(alloc: Global, behind: &Rehearsed, lives: &[Life]) -> Result<Account, Fault>
-    ensures { IfOk result (λ it. length it.lives.items ≡ length lives.now) }
+    ensures accounts { IfOk result (λ it. AreAccountsOf lives.now it.lives.items) }
+    ensures books { IfOk result (λ it. is_some it.books ≡ ends_whole lives.now) }
+    ensures cause { IfErr result IsFirstFault }
 {
     let rehearsed = live_behind(alloc, behind, lives)?;
     account_of(alloc, rehearsed, lives)

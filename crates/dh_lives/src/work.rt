@@ -1,8 +1,13 @@
 //! What is done over tables that were just opened.
 
+ghost use Rattle.std.specs.Prelude.{◌≡◌, ◌+◌, true, false, None, Some, List, IfSome, IfErr, OnOk, OnErr, IsSome, length};
 ghost use Rattle.sqlite.specs.State.{HasCleanDisk};
 ghost use Rattle.sqlite.specs.Held.{state};
-ghost use Rattle.dh_runs.specs.Taking.{IsResting};
+ghost use Rattle.dh_schema.specs.Faults.{IsFirstFault};
+ghost use Rattle.dh_runs.specs.Taking.{IsFirstProblem, IsResting};
+ghost use Rattle.dh_runs.specs.declared.problem.Problem.TheVariants as problem;
+ghost use Rattle.dh_types.specs.declared.command.Command.{Command};
+ghost use Rattle.dh_lives.specs.Lives.{FitsCommands, IsWhole};
 
 use crate::lives::Lived;
 use dh_agency::{Agency, NotOpened, Problem, create, recover};
@@ -23,7 +28,9 @@ pub(crate) struct Done {
 }
 
 // No recovery and no command.
-fn no_life(alloc: Global) -> Lived {
+fn no_life(alloc: Global) -> Lived
+    ensures { (commands : List Command) → FitsCommands commands result }
+{
     Lived {
         recovered: false,
         replies: Vec::new(alloc),
@@ -33,7 +40,10 @@ fn no_life(alloc: Global) -> Lived {
 
 impl Done {
     /// Nothing was done, for this problem.
-    pub fn nothing(alloc: Global, problem: Problem) -> Done {
+    pub fn nothing(alloc: Global, problem: Problem) -> Done
+        ensures problem { result.problem ≡ Some problem }
+        ensures fits { (commands : List Command) → FitsCommands commands result.lived }
+    {
         Done {
             lived: no_life(alloc),
             books: None,
@@ -42,7 +52,11 @@ impl Done {
     }
 
     // A life in which so many commands were answered.
-    fn answered(replies: Vec<Reply>) -> Done {
+    fn answered(replies: Vec<Reply>) -> Done
+        ensures problem { result.problem ≡ None }
+        ensures whole { IsWhole result.lived }
+        ensures replies { result.lived.replies ≡ replies }
+    {
         Done {
             lived: Lived {
                 recovered: true,
@@ -55,7 +69,12 @@ impl Done {
     }
 
     // The same, and the next command was cut by the fault.
-    fn cut(replies: Vec<Reply>, fault: Fault) -> Done {
+    fn cut(replies: Vec<Reply>, fault: Fault) -> Done
+        ensures problem { result.problem ≡ Some (problem.Fault fault) }
+        ensures recovered { result.lived.recovered ≡ true }
+        ensures cut { result.lived.cut ≡ Some (length replies.items) }
+        ensures replies { result.lived.replies ≡ replies }
+    {
         let cut = Some(replies.len());
         Done {
             lived: Lived {
@@ -75,7 +94,13 @@ fn tell<S: Alter>(
     agency: &mut Agency<S>,
     command: &Command,
     replies: &mut Vec<Reply>,
-) -> Result<(), Fault> {
+) -> Result<(), Fault>
+    requires { agency.old.is_stopped ≡ false }
+    ensures goes_on { OnOk result (agency.new.is_stopped ≡ false) }
+    ensures kept { OnOk result (length replies.new.items ≡ length replies.old.items + 1) }
+    ensures lost { OnErr result (replies.new.items ≡ replies.old.items) }
+    ensures cause { IfErr result IsFirstFault }
+{
     let reply = agency.step(alloc, command)?;
     match replies.push(reply) {
         Ok(()) => Ok(()),
@@ -84,7 +109,12 @@ fn tell<S: Alter>(
 }
 
 // Tells the commands one after the other, up to a fault.
-fn tell_all<S: Alter>(alloc: Global, agency: &mut Agency<S>, commands: &[Command]) -> Done {
+fn tell_all<S: Alter>(alloc: Global, agency: &mut Agency<S>, commands: &[Command]) -> Done
+    requires { agency.old.is_stopped ≡ false }
+    ensures fits { FitsCommands commands.now result.lived }
+    ensures whole { result.problem ≡ None → IsWhole result.lived }
+    ensures cause { IfSome result.problem IsFirstProblem }
+{
     let mut replies = Vec::new(alloc);
     for command in commands {
         if let Err(fault) = tell(alloc, agency, command, &mut replies) {
@@ -99,7 +129,9 @@ pub(crate) fn create_over<S: Alter>(
     alloc: Global,
     conn: Connection<S>,
     first: EntryMonth,
-) -> (Done, Connection<S>) {
+) -> (Done, Connection<S>)
+    ensures { IfSome result.0.problem IsFirstProblem }
+{
     match create(alloc, conn, first.month()) {
         Ok(agency) => (Done::answered(Vec::new(alloc)), agency.into_store()),
         Err(NotOpened { cause, conn }) => (Done::nothing(alloc, Problem::Fault(cause)), conn),
@@ -113,6 +145,9 @@ pub(crate) fn live_over<S: Alter>(
     commands: &[Command],
 ) -> (Done, Connection<S>)
     requires { HasCleanDisk (state S.Store conn) → IsResting (state S.Store conn) }
+    ensures fits { FitsCommands commands.now result.0.lived }
+    ensures whole { result.0.problem ≡ None → IsWhole result.0.lived }
+    ensures cause { IfSome result.0.problem IsFirstProblem }
 {
     match recover(alloc, conn) {
         Ok(mut agency) => {
@@ -124,7 +159,10 @@ pub(crate) fn live_over<S: Alter>(
 }
 
 /// Loads the tables.
-pub(crate) fn load_over<S: Alter>(alloc: Global, conn: &mut Connection<S>) -> Done {
+pub(crate) fn load_over<S: Alter>(alloc: Global, conn: &mut Connection<S>) -> Done
+    ensures loaded { result.problem ≡ None → IsSome result.books }
+    ensures cause { IfSome result.problem IsFirstProblem }
+{
     match load(alloc, conn) {
         Ok(books) => Done {
             lived: no_life(alloc),
