@@ -13,7 +13,7 @@ use Rattle.dh_agency.specs.Seat.{Seat}
 use Rattle.dh_http.specs.declared.listening.Unserved.{Unserved}
 use Rattle.dh_http.specs.declared.listening.Unserved.TheVariants as unserved
 use Rattle.dh_http.specs.Service.{IsHalt, ServesOn, StopsWith}
-use Rattle.dh_http.specs.Printed.{BreaksAt, EndsHalted, EndsWith, GoOn, PrintsBehind, outcome_line, outcome_lines}
+use Rattle.dh_http.specs.Printed.{EndsWith, GoOn, PrintsBehind, outcome_line, outcome_lines}
 use Rattle.dh_http.proofs.ServingLemmas.{serves_both, serves_none}
 
 lines_more : (outcomes : List (Option ℕ)) (it : Option ℕ) → outcome_lines (outcomes ++ it ∷ []) ≡ outcome_lines outcomes ++ outcome_line it

@@ -9,14 +9,14 @@ use Rattle.dh_types.specs.declared.version.Version.{Version}
 use Rattle.dh_types.specs.declared.version.Version.TheVariants.{First, Second}
 use Rattle.dh_model.specs.Books.{Books, with_rows}
 use Rattle.dh_model.specs.Kinds.{Kind}
-use Rattle.dh_model.specs.Runs.{batches_before, begun_branches, fee_at, fees_of_parts, part_fee_key, part_fee_of, posted_fees, posted_of_branch, since_second}
+use Rattle.dh_model.specs.Runs.{batches_before, begun_branches, fee_at, fees_of_parts, part_fee_key, part_fee_of, posted_fees, posted_of_branch}
 use Rattle.dh_model.specs.Rules.{MeetsRules}
 use Rattle.dh_model.proofs.Among.{Among, in_filter, of_filter}
 use Rattle.dh_model.proofs.KeyOrders.{nat_text_ties, nat_text_total, text_ties, text_total}
 use Rattle.dh_model.proofs.MapRows.{cases_key}
 use Rattle.dh_laws.specs.InOrder.{AreKeyed}
 use Rattle.dh_laws.proofs.PostCharged.{fee_month, fees_fit}
-use Rattle.dh_laws.proofs.PostDues.{IsFeeOf, fee_of_begun, in_second, is_fee_of, of_second}
+use Rattle.dh_laws.proofs.PostDues.{fee_of_begun, in_second, is_fee_of, of_second}
 use Rattle.dh_laws.proofs.PostMonth.{of_new, replaced}
 use Rattle.dh_model.specs.Whole.{with_posted}
 use Rattle.dh_leases.specs.Plans.{HasItsFeeRow, some_row}

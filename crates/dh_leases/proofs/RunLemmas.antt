@@ -7,7 +7,7 @@ use Rattle.dh_types.specs.declared.run.Part.{Part}
 use Rattle.dh_types.specs.declared.fee.PartFee.{PartFee}
 use Rattle.dh_model.specs.Books.{Books, State, with_rows}
 use Rattle.dh_model.specs.Leases.{dues}
-use Rattle.dh_model.specs.Runs.{batches, charge_key, closed_run, dues_of_branch, fee_at, fees_of_parts, part_fee_key}
+use Rattle.dh_model.specs.Runs.{batches, charge_key, closed_run, dues_of_branch, fee_at, part_fee_key}
 use Rattle.dh_model.specs.Runs.{part_fee_of, part_key, part_of, posted_fees}
 use Rattle.dh_model.specs.Runs.{posted_of_branch, posted_parts, ran, since_second}
 use Rattle.dh_model.specs.BatchLaws.{AreNumbered}

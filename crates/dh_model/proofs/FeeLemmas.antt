@@ -1,11 +1,11 @@
 -- What fees take of charges.
-use Rattle.std.proofs.Common.{◌≡◌, ◌∙◌, sym, subst, ℕ, ◌*◌, ◌/◌, ◌≤◌, List, [], ◌∷◌, arith}
+use Rattle.std.proofs.Common.{ℕ, ◌*◌, ◌/◌, ◌≤◌, [], ◌∷◌, arith}
 use Rattle.std.proofs.Math.Nat.{div-le_of_le-mul, mul-le-mul_left}
 use Rattle.std.specs.List.{sum_by}
 use Rattle.std.proofs.lemmas.List.Sums.{sum_by-cons}
 use Rattle.dh_types.specs.declared.lease.Charge.{Charge}
 use Rattle.dh_model.specs.Laws.{FeesAreNoMore}
-use Rattle.dh_model.specs.Runs.{charge_fee, fees_over, total_of}
+use Rattle.dh_model.specs.Runs.{charge_fee}
 
 -- a fee takes no more than the rent
 pub part_of_rent : (amount fee : ℕ) → fee ≤ 10000 → amount * fee / 10000 ≤ amount

@@ -6,7 +6,6 @@ use Rattle.sqlite.specs.State.{State, HasCleanDisk}
 use Rattle.sqlite_trees.specs.View.{doubt}
 use Rattle.dh_types.specs.declared.reply.Progress.{Progress}
 use Rattle.dh_model.specs.Books as machine
-use Rattle.dh_model.specs.Books.{Books}
 use Rattle.dh_model.specs.Runs.{batch_size}
 use Rattle.dh_model.specs.Whole.{whole}
 use Rattle.dh_laws.specs.Batches.{IsPostedInPart}

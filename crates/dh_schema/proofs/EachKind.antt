@@ -26,11 +26,11 @@ use Rattle.dh_catalog.specs.PartTable.{part}
 use Rattle.dh_catalog.specs.BranchFeeTable.{branch_fee}
 use Rattle.dh_catalog.specs.PartFeeTable.{part_fee}
 use Rattle.dh_catalog.specs.EndingTable.{ending}
-use Rattle.dh_model.specs.Kinds.{HasKind, IsSince, Kind, came_with, order_of, record_of}
+use Rattle.dh_model.specs.Kinds.{HasKind, IsSince, Kind, order_of, record_of}
 use Rattle.dh_schema.specs.Kinds.{shape_of, shelf_of}
 use Rattle.dh_model.specs.Kinds.{Branches, Staff, Owners, Properties, Clients, Registrations, Viewings, Inspections, Leases, Charges, Receipts, Runs}
 use Rattle.dh_model.specs.Kinds.{Parts, BranchFees, PartFees, Endings}
-use Rattle.dh_schema.specs.Tables.{empty_over, loaded_from, records_in, rows_since, version_of_tables}
+use Rattle.dh_schema.specs.Tables.{empty_over, loaded_from, records_in, rows_since}
 
 -- ---- the table
 

@@ -1,10 +1,14 @@
 //! Faults of the store.
 
-ghost use Rattle.std.specs.Prelude.{◌≡◌};
+ghost use Rattle.std.specs.Prelude.{◌≡◌, pos, true};
 ghost use Rattle.sqlite.specs.State.{HasCleanDisk};
 ghost use Rattle.sqlite.specs.Held.{state};
+ghost use Rattle.dh_rows.specs.Cells.{version_number};
+ghost use Rattle.dh_tables.specs.Calls.{HasOurTables};
 ghost use Rattle.dh_schema.specs.Faults.{fault_of, IsFirstFault};
+ghost use Rattle.dh_schema.specs.Store.{IsBlank};
 
+use crate::file_version::FileVersion;
 use dh_types::Fault;
 use sqlite::{Alter, Connection, Error, ErrorCode};
 use std::alloc::AllocError;
@@ -21,9 +25,9 @@ pub fn fault_of(error: Error) -> Fault
     }
 }
 
-/// Why a call over the store gave no answer: fault 21 or 22. It is made of an error that the store answered, of a growth that was
-/// refused, of tables that are not ours, or over a store that is not clean, and of nothing else. So no call may give up and call that
-/// a fault.
+/// Why a call over the store gave no answer: fault 21 or 22. It is made of an error of the store, of a growth that was refused, of
+/// tables that are not ours, of a file that is occupied, or over a store that is not clean, and of nothing else. When the store answers
+/// an error, no clause says.
 #[derive(Clone, Copy, Debug, PartialEq, Eq)]
 pub struct StoreFault {
     fault: Fault,
@@ -54,8 +58,31 @@ impl StoreFault {
         }
     }
 
-    /// The fault of a file whose tables are not ours, or which has an object where there should be none.
-    pub(crate) fn of_tables() -> StoreFault
+    /// The fault of a file whose tables are not ours.
+    pub(crate) fn foreign<S: Alter>(_conn: &Connection<S>) -> StoreFault
+        requires { ¬ HasOurTables (state S.Store _conn.now) }
+        ensures told { result ≡ Fault.Store }
+        ensures first { IsFirstFault result }
+    {
+        StoreFault {
+            fault: Fault::Store,
+        }
+    }
+
+    /// The fault of a file in which there is an object already, or a transaction.
+    pub(crate) fn occupied<S: Alter>(_conn: &Connection<S>) -> StoreFault
+        requires { IsBlank (state S.Store _conn.now) → (state S.Store _conn.now).in_transaction ≡ true }
+        ensures told { result ≡ Fault.Store }
+        ensures first { IsFirstFault result }
+    {
+        StoreFault {
+            fault: Fault::Store,
+        }
+    }
+
+    /// The fault of a file whose tables are of another version than `meta` gives.
+    pub(crate) fn of_other_version(_found: FileVersion) -> StoreFault
+        requires { (_found.number ≡ pos (version_number _found.tables)) → ⊥ }
         ensures told { result ≡ Fault.Store }
         ensures first { IsFirstFault result }
     {

@@ -42,7 +42,7 @@ impl FileVersion {
         match numbered(self.number) {
             None => Err(LoadFault::Damaged),
             Some(version) if version == self.tables => Ok(version),
-            Some(_) => Err(LoadFault::Fault(StoreFault::of_tables())),
+            Some(_) => Err(LoadFault::Fault(StoreFault::of_other_version(self))),
         }
     }
 }

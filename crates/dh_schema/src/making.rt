@@ -58,7 +58,7 @@ pub fn install<S: Alter>(
     let schema = conn.schema();
     let is_blank = schema.tables.is_empty() & schema.indexes.is_empty() & schema.views.is_empty();
     if !is_blank || !conn.is_autocommit() {
-        return Err(StoreFault::of_tables());
+        return Err(StoreFault::occupied(conn));
     }
     make_tables(alloc, conn, first)?;
     Ok(())

@@ -37,7 +37,7 @@ pub(crate) fn check_tables<S: Alter>(
 {
     match tables_found(alloc, conn)? {
         Some(version) => Ok(version),
-        None => Err(LoadFault::Fault(StoreFault::of_tables())),
+        None => Err(LoadFault::Fault(StoreFault::foreign(conn))),
     }
 }
 

@@ -1,6 +1,6 @@
 -- What SELECT .. ORDER BY key DESC LIMIT 1 shows of a table whose keys are numbers.
-use Rattle.std.proofs.Common.{get_or, subst₂, suc, ◌+◌, flat_map, ◌≡◌, ◌∙◌, ◌≤◌, ◌⊎◌, inl, inr, refl, sym, ap, subst, ℕ, pos, Bool, true, false, List}
-use Rattle.std.proofs.Common.{[], ◌∷◌, map, Result, Ok, Err, IfOk, IsPermutation, is_lt, nat_cmp, arith}
+use Rattle.std.proofs.Common.{get_or, subst₂, suc, ◌+◌, flat_map, ◌≡◌, ◌∙◌, ◌≤◌, refl, sym, ap, subst, ℕ, pos, false, List}
+use Rattle.std.proofs.Common.{[], ◌∷◌, map, Result, Ok, Err, IfOk, IsPermutation, is_lt, arith}
 use Rattle.std.specs.Prelude.{IsSorted, Vec}
 use Rattle.std.specs.declared.alloc.Global.{Global}
 use Rattle.std.specs.declared.cmp.Ordering.{Ordering}
@@ -23,10 +23,10 @@ use Rattle.sqlite.specs.State.{State, Shown}
 use Rattle.sqlite.specs.declared.error.Error.{Error}
 use Rattle.sqlite.proofs.Callers.{reads_as}
 use Rattle.dh_sql.specs.Queries.{downwards, last_query, shows}
-use Rattle.dh_sql.specs.Shape.{IsGreatest, IsStored, Shape, number_at, stored_in}
+use Rattle.dh_sql.specs.Shape.{IsGreatest, IsStored, Shape, number_at}
 use Rattle.dh_sql.specs.Texts.{IsLastText}
 use Rattle.dh_sql.proofs.WholeTable.{no_tests}
-use Rattle.dh_sql.proofs.Lists.{all_from_has, all_of, has_all}
+use Rattle.dh_sql.proofs.Lists.{all_from_has, has_all}
 use Rattle.dh_sql.proofs.Reading.{found, matched}
 
 module _ {X : Type 0} (it : Shape ℕ X) where

@@ -1,4 +1,4 @@
-use Rattle.std.proofs.Common.{◌≡◌, ◌∙◌, ◌+◌, ◌*◌, ◌++◌, [], ◌∷◌, ap, arith, map, nat_lt, take, subst, sym}
+use Rattle.std.proofs.Common.{◌≡◌, ◌∙◌, ◌+◌, ◌*◌, ◌++◌, [], ◌∷◌, ap, arith, map, nat_lt, take, sym}
 use Rattle.std.proofs.lemmas.List.{map-append}
 use Rattle.dh_model.specs.Runs.{batch_size}
 use Rattle.dh_leases.specs.declared.sums.Sum.{Sum}

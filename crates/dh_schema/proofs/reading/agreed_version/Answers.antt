@@ -1,12 +1,7 @@
-use Rattle.std.proofs.Common.{◌≡◌, ◌∙◌, ℤ, pos, Option, Some, None, Result, Ok, Err, IfOk, IfErr, ap, sym, subst}
-use Rattle.std.proofs.lemmas.Result.{err_from_is_err_and}
+use Rattle.std.proofs.Common.{◌≡◌, ◌∙◌, ℤ, Some, Result, Ok, Err, IfOk, ap, sym}
 use Rattle.sqlite.specs.Held.{state}
-use Rattle.dh_types.specs.declared.version.Version.{Version}
-use Rattle.dh_rows.specs.Cells.{version_number}
 use Rattle.dh_catalog.specs.Versions.{schema_of}
-use Rattle.dh_tables.specs.MetaTable.{meta_rows}
-use Rattle.dh_schema.specs.Version.{only_version}
-use Rattle.dh_schema.proofs.ReadTables.{no_version, same_fault}
+use Rattle.dh_schema.proofs.ReadTables.{no_version}
 use Rattle.dh_schema.proofs.reading.agreed_version.Goals as goal
 
 if_ok : {X E : Type 0} {A B : X → Type 0} (r : Result X E) → ((x : X) → A x → B x) → IfOk r A → IfOk r B

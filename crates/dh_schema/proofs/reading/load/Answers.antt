@@ -1,10 +1,5 @@
-use Rattle.std.proofs.Common.{◌∙◌, ap, Option, arith, subst}
+use Rattle.std.proofs.Common.{◌∙◌, ap}
 use Rattle.sqlite.specs.Effect.{Database}
-use Rattle.sqlite.specs.State.{HasCleanDisk}
-use Rattle.sqlite.specs.Held.{state}
-use Rattle.dh_model.specs.declared.open_run.OpenRun.{OpenRun}
-use Rattle.dh_model.specs.Books.{State}
-use Rattle.dh_schema.proofs.Changing.{showing}
 use Rattle.dh_schema.proofs.reading.load.Goals as goal
 
 pub load_tables-requires-clause-reading : goal.load_tables-requires-clause-reading

@@ -14,7 +14,7 @@ use Rattle.dh_catalog.specs.Versions.{schema_of}
 use Rattle.dh_tables.specs.MetaTable.{AreFound, meta_rows}
 use Rattle.dh_schema.specs.Kinds.{shelf_of}
 use Rattle.dh_schema.specs.Loaded.{AllAreRecords, AreLoaded, HasNone, kinds_of}
-use Rattle.dh_schema.specs.Tables.{HasValues, empty_over}
+use Rattle.dh_schema.specs.Tables.{empty_over}
 use Rattle.dh_schema.proofs.EachKind.{none_held}
 use Rattle.dh_schema.proofs.ReadTables.{all_of, given, loaded_books, loaded_order, months_have, no_values, same_fault}
 use Rattle.dh_schema.proofs.reading.load_tables.Goals as goal

@@ -1,4 +1,4 @@
-use Rattle.std.proofs.Common.{◌≡◌, ◌∙◌, Err, Some, ap, rules, sym}
+use Rattle.std.proofs.Common.{◌∙◌, Err, Some, ap, rules, sym}
 use Rattle.std.proofs.lemmas.Result.{err_from_is_err_and}
 use Rattle.dh_schema.proofs.ReadTables.{same_fault}
 use Rattle.dh_schema.proofs.Versions.{version_moved}
