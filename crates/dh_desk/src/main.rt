@@ -17,9 +17,9 @@ fn words_of(rt: &HostRuntime) -> io::Result<Vec<String>> {
 // What is done with them, `run_words` says, and why they can't be had, `refuse_words`.
 fn main(rt: HostRuntime) -> ExitCode {
     let mut writer = io::writer(&rt);
-    let code = match words_of(&rt) {
+    let status = match words_of(&rt) {
         Ok(words) => run_words(&rt, Unknown, &words, &mut rt.reader(), &mut writer),
         Err(error) => refuse_words(&error, &mut writer),
     };
-    ExitCode::from(code)
+    ExitCode::from(status.code())
 }

@@ -1,8 +1,10 @@
 //! Lives of a path. A line `letting WORDS -> STATUS TEXT` is a run, and so is `letting WORDS < INPUT -> STATUS TEXT` with an input; a run
-//! behind `crack` has a file that can't be closed. `answer` has what else a line may be.
+//! behind `crack` has a file that can't be closed, and one behind `moved`, `removed` or `replaced` a file that is so by the first line that it
+//! prints. `answer` has what else a line may be.
 
 use crate::cracks::cracked;
-use crate::runs::{LOG, PATH, clear, ran, standing};
+use crate::moving::ran_while;
+use crate::runs::{LOG, MOVED, PATH, clear, ran, standing};
 use dh_agency_scripts::{all_rows, compare, parted, rows_of};
 use dh_scripts::Tally;
 use sqlite::Connection;
@@ -46,26 +48,54 @@ fn made(rt: &HostRuntime, kind: &str, text: &str) -> io::Result<&'static str> {
     Ok("done")
 }
 
+// Writes a log of so many bytes.
+fn write_log(rt: &HostRuntime, count: &str) -> io::Result<&'static str> {
+    let mut bytes = Vec::new(rt.alloc());
+    for _ in 0..count.parse::<u32>().unwrap_or(0) {
+        bytes.push(b'0')?;
+    }
+    fs::write(rt, LOG, &bytes)?;
+    Ok("done")
+}
+
+// What a line comes to that changes a file or looks at one, which was as it is kept.
+fn handled(
+    rt: &HostRuntime,
+    kept: &mut Vec<u8>,
+    kind: &str,
+    rest: &str,
+) -> io::Result<&'static str> {
+    match kind {
+        "sql" => Ok(edited(rt, rest).unwrap_or("not done")),
+        "write" | "folder" | "folder-for-log" | "link" => made(rt, kind, rest),
+        "log" => write_log(rt, rest),
+        "back" => {
+            fs::rename(rt, MOVED, PATH)?;
+            Ok("done")
+        }
+        "keep" => {
+            *kept = fs::read(rt, PATH)?;
+            Ok("done")
+        }
+        "changed" if fs::read(rt, PATH)?.as_slice() == kept.as_slice() => Ok("no"),
+        "changed" => Ok("yes"),
+        "standing" => standing(rt),
+        _ => Ok("no kind"),
+    }
+}
+
 // What a line comes to, where the file was as it is kept.
 fn answer(rt: &HostRuntime, kept: &mut Vec<u8>, kind: &str, rest: &str) -> io::Result<String> {
     let alloc = rt.alloc();
-    let text = match kind {
-        "letting" => return Ok(run(rt, rest)?),
-        "crack" => return cracked(rt, rest),
-        "leads" => return Ok(fs::read_link(rt, PATH)?.into_string()),
-        "rows" => return Ok(rows_of(tables(rt)?.as_str(), rest).to_string(alloc)?),
-        "sql" => edited(rt, rest).unwrap_or("not done"),
-        "write" | "folder" | "folder-for-log" | "link" => made(rt, kind, rest)?,
-        "keep" => {
-            *kept = fs::read(rt, PATH)?;
-            "done"
-        }
-        "changed" if fs::read(rt, PATH)?.as_slice() == kept.as_slice() => "no",
-        "changed" => "yes",
-        "standing" => standing(rt)?,
-        _ => "no kind",
-    };
-    Ok(text.to_string(alloc)?)
+    match kind {
+        "letting" => Ok(run(rt, rest)?),
+        "crack" => cracked(rt, rest),
+        "moved" | "removed" | "replaced" => ran_while(rt, kind, rest),
+        "log-bytes" => Ok(format!(in alloc; "{}", fs::metadata(rt, LOG)?.len())?),
+        "leads" => Ok(fs::read_link(rt, PATH)?.into_string()),
+        "rows" => Ok(rows_of(tables(rt)?.as_str(), rest).to_string(alloc)?),
+        _ => Ok(handled(rt, kept, kind, rest)?.to_string(alloc)?),
+    }
 }
 
 /// Plays a line behind those above it, where the file was as it is kept.

@@ -9,14 +9,20 @@ mod cracks;
 mod edits;
 mod failing;
 mod forms;
+mod haste;
 mod imports;
+mod large;
 mod lives;
 mod manual;
 mod many;
+mod meddling;
+mod moving;
 mod pages;
+mod patterns;
 mod peers;
 mod runs;
 mod second_runs;
+mod turns;
 mod unasked;
 mod ways;
 
@@ -27,15 +33,18 @@ fn play(rt: &HostRuntime, tally: &mut Tally, kind: &str, lines: &str) -> io::Res
     match kind {
         "edited files" => edits::play(rt, tally, lines),
         "edited files of the first version" => edits::play_first(rt, tally, lines),
+        "answers in turn" => turns::play(rt, tally, lines),
         "an import" => imports::play(rt, tally, lines),
+        "large offices" => large::play(rt, tally, lines),
         "long inputs" => many::play(rt, tally, lines),
         "the manual and the examples" => manual::play(rt, tally, lines),
+        "places with which another program meddles" => meddling::play(rt, tally, lines),
         "peers" => peers::play(rt, tally, lines),
         "second runs" => second_runs::play(rt, tally, lines),
         "unasked" => unasked::play(rt, tally, lines),
         "a reader that fails" => failing::play_reader(rt, tally, lines),
-        "a writer that fails" => failing::play_writer(rt, tally, 3, lines),
-        "bad words to a writer that fails" => failing::play_writer(rt, tally, 2, lines),
+        "a writer that fails" => failing::play_writer(rt, tally, "3", lines),
+        "bad words to a writer that fails" => failing::play_writer(rt, tally, "2", lines),
         _ => lives::play(rt, tally, lines),
     }
 }

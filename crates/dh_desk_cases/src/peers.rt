@@ -5,7 +5,9 @@
 
 ghost use Rattle.std.specs.Prelude.{◌≡◌, Some};
 
+use crate::haste::serve_in_haste;
 use crate::lives;
+use crate::patterns::spread;
 use crate::runs::{clear, ended, outcome, ran, shown};
 use dh_agency_scripts::{compare, parted};
 use dh_scripts::Tally;
@@ -128,13 +130,19 @@ impl Write for Caller<'_> {
 // What a peer was answered: the status and the body, or nothing.
 fn answer_of(alloc: Global, peer: &mut TcpStream) -> Result<String, AllocError> {
     let mut bytes = Vec::new(alloc);
-    let _ = peer.read_to_end(&mut bytes);
+    let end = match peer.read_to_end(&mut bytes) {
+        Ok(_) => "",
+        Err(_) => " broken off",
+    };
     let text = str::from_utf8(&bytes).unwrap_or("no text");
     let (head, body) = text.split_once("\r\n\r\n").unwrap_or((text, ""));
     match head.get(9..12) {
-        Some(status) if body.is_empty() => status.to_string(alloc),
-        Some(status) => format!(in alloc; "{status} {}", shown(alloc, body.as_bytes())?.as_str()),
-        None => "nothing".to_string(alloc),
+        Some(status) if body.is_empty() => format!(in alloc; "{status}{end}"),
+        Some(status) => {
+            let body = shown(alloc, body.as_bytes())?;
+            format!(in alloc; "{status} {}{end}", body.as_str())
+        }
+        None => format!(in alloc; "nothing{end}"),
     }
 }
 
@@ -158,11 +166,8 @@ fn judge(
     Ok(())
 }
 
-// What a run comes to whose peers send these requests, without the line of the port.
-fn served(rt: &HostRuntime, tally: &mut Tally, asks: &[Ask], words: &str) -> io::Result<String> {
-    let mut caller = Caller::new(rt, asks);
-    let mut reader: &[u8] = b"";
-    let status = ended(rt, words, &mut reader, &mut caller)?;
+// Judges what the peers were answered, and gives what the caller was told, without the line of the port.
+fn judged(rt: &HostRuntime, tally: &mut Tally, asks: &[Ask], caller: Caller) -> io::Result<String> {
     let Caller {
         rt: _,
         asks: _,
@@ -175,7 +180,24 @@ fn served(rt: &HostRuntime, tally: &mut Tally, asks: &[Ask], words: &str) -> io:
     let told = shown(rt.alloc(), &told)?;
     let text = told.as_str();
     let (_, rest) = text.split_once("\\n").unwrap_or(("", text));
-    Ok(outcome(rt.alloc(), status.code(), rest)?)
+    Ok(rest.to_string(rt.alloc())?)
+}
+
+// What a run comes to whose peers send these requests.
+fn served(rt: &HostRuntime, tally: &mut Tally, asks: &[Ask], words: &str) -> io::Result<String> {
+    let mut caller = Caller::new(rt, asks);
+    let mut reader: &[u8] = b"";
+    let status = ended(rt, words, &mut reader, &mut caller)?;
+    let rest = judged(rt, tally, asks, caller)?;
+    Ok(outcome(rt.alloc(), status.code(), rest.as_str())?)
+}
+
+// What serving in haste comes to, whose peers send these requests.
+fn hurried(rt: &HostRuntime, tally: &mut Tally, asks: &[Ask], count: &str) -> io::Result<String> {
+    let mut caller = Caller::new(rt, asks);
+    let end = serve_in_haste(rt, count, &mut caller)?;
+    let rest = judged(rt, tally, asks, caller)?;
+    Ok(format!(in rt.alloc(); "{end} {}", rest.as_str())?)
 }
 
 // What a run comes to whose port is taken.
@@ -204,6 +226,11 @@ fn play_line(
             asks.clear();
             got
         }
+        "hurry" => {
+            let got = hurried(rt, tally, asks, words)?;
+            asks.clear();
+            got
+        }
         _ => return lives::play_line(rt, tally, &mut Vec::new(rt.alloc()), line),
     };
     compare(rt, tally, line, got.as_str(), wanted)
@@ -214,7 +241,8 @@ pub fn play(rt: &HostRuntime, tally: &mut Tally, lines: &str) -> io::Result<()> 
     clear(rt);
     let mut asks = Vec::new(rt.alloc());
     for line in lines.lines() {
-        play_line(rt, tally, &mut asks, line)?;
+        let line = spread(rt.alloc(), line)?;
+        play_line(rt, tally, &mut asks, line.as_str())?;
     }
     clear(rt);
     Ok(())

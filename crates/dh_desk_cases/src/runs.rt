@@ -11,6 +11,9 @@ pub const PATH: &str = "letting.db";
 /// Its log.
 pub const LOG: &str = "letting.db-wal";
 
+/// Where it is moved to.
+pub const MOVED: &str = "moved.db";
+
 // Three branches, of which the second has no lease: it is written `{three}` in an input.
 const THREE: &str = "branch,B001,1 Main St,Leeds,LS1 1AA\n\
     staff,S1,Ann Lee,Assistant,B001\n\
@@ -93,6 +96,7 @@ pub fn ran(rt: &HostRuntime, line: &str, input: &str) -> Result<String, AllocErr
 pub fn clear(rt: &HostRuntime) {
     let _ = fs::remove_file(rt, PATH);
     let _ = fs::remove_file(rt, LOG);
+    let _ = fs::remove_file(rt, MOVED);
     let _ = fs::remove_dir(rt, PATH);
     let _ = fs::remove_dir(rt, LOG);
 }

@@ -3,3 +3,4 @@ pub mod ServedLemmas
 mod FirstLineLemmas
 pub mod ServingLemmas
 pub mod PrintedLemmas
+mod CallLemmas

@@ -9,6 +9,7 @@ use Rattle.std.proofs.lemmas.List.Elements.{All-push}
 use Rattle.sqlite.specs.Store.{Ghosts}
 use Rattle.dh_types.specs.Output.{BreaksOff}
 use Rattle.dh_types.specs.declared.output.Output.{Output}
+use Rattle.dh_types.specs.declared.reply.Fault.{Fault}
 use Rattle.dh_agency.specs.Seat.{Seat}
 use Rattle.dh_http.specs.declared.listening.Unserved.{Unserved}
 use Rattle.dh_http.specs.declared.listening.Unserved.TheVariants as unserved
@@ -61,6 +62,11 @@ pub is_output : (failed : Output) (r : Result (Unit {0}) Unserved) → IsErrAnd 
 is_output failed (Ok done) h = absurd h
 is_output failed (Err why) h = ap Err h
 
+-- and so is a fault
+pub is_fault : (fault : Fault) (r : Result (Unit {0}) Unserved) → IsErrAnd r (λ e. e ≡ unserved.Fault fault) → r ≡ Err (unserved.Fault fault)
+is_fault fault (Ok done) h = absurd h
+is_fault fault (Err why) h = ap Err h
+
 module _ {S : Type 0} (g : Ghosts S) (old mid new : Seat S) (a m b : Option (List ℕ)) (count : ℕ) (outcome : Option ℕ) (was : HasServed g old mid a m count)
     (on : ServesOn g mid new (outcome ∷ [])) where
   all_on : ServesOn g old new (was.outcomes ++ outcome ∷ [])
@@ -107,11 +113,22 @@ module _ {S : Type 0} (g : Ghosts S) (old mid new : Seat S) (a m b : Option (Lis
     },
   )
 
+-- no further connection could be taken
+pub served_to_fault : {S : Type 0} (g : Ghosts S) (old mid new : Seat S) (a b : Option (List ℕ)) (count most : ℕ) (fault : Fault)
+    → HasServed g old mid a b count → new ≡ mid → count < most
+    → (outcomes : List (Option ℕ)) × ServesOn g old new outcomes × PrintsBehind most [] outcomes a b (Err (unserved.Fault fault))
+served_to_fault g old mid new a b count most fault was same within = (
+  was.outcomes,
+  subst (λ seat. ServesOn g old seat was.outcomes) (sym same) was.on,
+  (record { few = omega (arith, was.count_is, within); going = was.going }, was.written),
+)
+
 -- behind a text
 pub prints_behind : (count : ℕ) (text : List ℕ) (outcomes : List (Option ℕ)) (a m b : Option (List ℕ)) (r : Result (Unit {0}) Unserved)
     → Appends a m text → PrintsBehind count [] outcomes m b r → PrintsBehind count text outcomes a b r
 prints_behind count text outcomes a m b (Ok done) first h = (h.0, Appends-trans a m b text (outcome_lines outcomes) first h.1)
 prints_behind count text outcomes a m b (Err unserved.Stopped) first h = (h.0, Appends-trans a m b text (outcome_lines outcomes) first h.1)
+prints_behind count text outcomes a m b (Err (unserved.Fault fault)) first h = (h.0, Appends-trans a m b text (outcome_lines outcomes) first h.1)
 prints_behind count text outcomes a m b (Err (unserved.Output failed)) first h = record {
   last = h.last;
   ends = h.ends;

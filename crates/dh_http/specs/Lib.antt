@@ -3,3 +3,5 @@ pub mod Served
 pub mod FirstLines
 pub mod Service
 pub mod Printed
+pub mod Calls
+pub mod Taking

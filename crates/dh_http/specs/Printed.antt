@@ -59,10 +59,17 @@ pub record EndsHalted (count : ℕ) (outcomes : List (Option ℕ)) : Type 0 wher
   pub halts : IsHalt last
   pub ends : EndsWith count outcomes last
 
--- A line for each connection was printed: for all; or up to the one at which the agency stopped; or up to one in whose line the writer failed.
+-- fewer connections were served, and the agency goes on
+pub record AreFewer (count : ℕ) (outcomes : List (Option ℕ)) : Type 0 where
+  pub few : length outcomes < count
+  pub going : GoOn outcomes
+
+-- A line for each connection was printed: for all; or up to the one at which the agency stopped; or for those that were served before no further
+-- one could be taken; or up to one in whose line the writer failed.
 abbrev pub PrintsBehind : ℕ → List ℕ → List (Option ℕ) → Option (List ℕ) → Option (List ℕ) → Result (Unit {0}) Unserved → Type 0
 PrintsBehind count text outcomes a b (Ok done) = AreAll count outcomes × Appends a b (text ++ outcome_lines outcomes)
 PrintsBehind count text outcomes a b (Err unserved.Stopped) = EndsHalted count outcomes × Appends a b (text ++ outcome_lines outcomes)
+PrintsBehind count text outcomes a b (Err (unserved.Fault fault)) = AreFewer count outcomes × Appends a b (text ++ outcome_lines outcomes)
 PrintsBehind count text outcomes a b (Err (unserved.Output failed)) = BreaksAt count text outcomes a b
 PrintsBehind count text outcomes a b (Err unserved.NoListener) = ⊥
 

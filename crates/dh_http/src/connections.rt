@@ -1,20 +1,28 @@
 //! Serving connections, one after the other.
 
-ghost use Rattle.std.specs.Prelude.{◌≡◌, ℕ, List, [], ◌∷◌, Option, false, true, Err, OnOk};
+ghost use Rattle.std.specs.Prelude.{◌≡◌, ◌*◌, ℕ, List, [], ◌∷◌, Option, false, true, Err, IfErr, IfOk, IsOk, MatchOption, MatchResult, OnErr, OnOk};
 ghost use Rattle.dh_types.specs.Output.{Puts};
+ghost use Rattle.dh_types.specs.declared.reply.Fault.{Fault};
+ghost use Rattle.dh_schema.specs.Faults.{IsFirstFault};
 ghost use Rattle.dh_agency.specs.Agency.{IsClean, WasClean};
+ghost use Rattle.dh_http.specs.Calls.{Call, EndsAnswered, Makes};
 ghost use Rattle.dh_http.specs.Printed.{PrintsBehind, outcome_line};
 ghost use Rattle.dh_http.specs.Service.{ServesOn, StopsWith, WritesAnswer};
+ghost use Rattle.dh_http.specs.Taking.{is_taken};
 
 use crate::listening::Unserved;
+use crate::patience::Patience;
+use crate::peers::{Peer, SocketPeer};
 use crate::serving::serve_one;
-use crate::streams::{PEER_SECONDS, TimedStream, accept, end_answered};
+use crate::streams::{TimedStream, end_answered};
+use crate::taking::{accept, taken};
 use dh_agency::Agency;
-use dh_types::Output;
 use dh_types::writing::{put, put_parts};
+use dh_types::{Fault, Output};
 use http::StatusCode;
 use sqlite::Alter;
 use std::alloc::Global;
+use std::io;
 use std::io::{Read, Write};
 use std::net::{TcpListener, TcpStream};
 
@@ -36,39 +44,80 @@ fn serve_over<S: Alter, R: Read, W: Write>(
     }
 }
 
-// Answers a connection: the status, if it was answered.
-fn serve_connection<S: Alter>(
-    rt: &HostRuntime,
+// Answers a peer: the status, if it was answered.
+fn serve_peer<S: Alter, P: Peer + Copy>(
+    alloc: Global,
     agency: &mut Agency<S>,
-    stream: &TcpStream,
+    peer: P,
+    patience: Patience,
 ) -> Option<StatusCode>
     ensures on { ServesOn S.Store agency.old agency.new (result ∷ []) }
     ensures stops { StopsWith agency.old agency.new result }
     ensures was_clean { WasClean S.Store agency.old agency.new }
 {
-    let mut reader = TimedStream::new(rt, stream, PEER_SECONDS);
-    let mut writer = TimedStream::new(rt, stream, PEER_SECONDS);
-    let status = serve_over(rt.alloc(), agency, &mut reader, &mut writer);
-    if status.is_some() {
-        end_answered(rt, stream);
-    }
-    status
+    let mut reader = TimedStream::new(peer, patience.request_seconds);
+    let mut writer = TimedStream::new(peer, patience.answer_seconds);
+    serve_over(alloc, agency, &mut reader, &mut writer)
 }
 
-// Answers the next connection: the status, if it was answered.
+// Answers a connection: the status, if it was answered, and the peer behind it. Where it was answered the stream ends as such.
+fn serve_connection<S: Alter, P: Peer + Copy>(
+    alloc: Global,
+    agency: &mut Agency<S>,
+    peer: P,
+    patience: Patience,
+) -> (Option<StatusCode>, P)
+    ensures on { ServesOn S.Store agency.old agency.new (result.0 ∷ []) }
+    ensures stops { StopsWith agency.old agency.new result.0 }
+    ensures ended { MatchOption result.0 (P.calls result.1 ≡ P.calls peer) (λ _. (calls : List Call) × Makes (P.calls peer) (P.calls result.1) calls
+        × EndsAnswered (patience.rest_seconds * 1000000000) patience.rest_bytes calls) }
+    ensures was_clean { WasClean S.Store agency.old agency.new }
+{
+    match serve_peer(alloc, agency, peer, patience) {
+        Some(status) => (Some(status), end_answered(peer, patience)),
+        None => (None, peer),
+    }
+}
+
+// Answers what came of a call for the next connection: the status, if it was answered. A fault where no further connection can be taken.
+fn serve_taken<S: Alter>(
+    rt: &HostRuntime,
+    agency: &mut Agency<S>,
+    outcome: io::Result<TcpStream>,
+    patience: Patience,
+) -> Result<Option<StatusCode>, Fault>
+    ensures told { MatchResult (is_taken outcome) (λ _. IsOk result) (λ fault. result ≡ Err fault) }
+    ensures on { IfOk result (λ outcome. ServesOn S.Store agency.old agency.new (outcome ∷ [])) }
+    ensures stops { IfOk result (λ outcome. StopsWith agency.old agency.new outcome) }
+    ensures same { OnErr result (agency.new ≡ agency.old) }
+    ensures cause { IfErr result (λ fault. IsFirstFault fault) }
+    ensures was_clean { WasClean S.Store agency.old agency.new }
+{
+    match taken(outcome) {
+        Ok(Some(stream)) => {
+            let peer = SocketPeer::new(rt, &stream);
+            let (answered, _) = serve_connection(rt.alloc(), agency, peer, patience);
+            Ok(answered)
+        }
+        Ok(None) => Ok(None),
+        Err(fault) => Err(fault),
+    }
+}
+
+// Answers the next connection: the status, if it was answered. A fault where no further connection can be taken.
 fn serve_next<S: Alter>(
     rt: &HostRuntime,
     agency: &mut Agency<S>,
     listener: &TcpListener,
-) -> Option<StatusCode>
-    ensures on { ServesOn S.Store agency.old agency.new (result ∷ []) }
-    ensures stops { StopsWith agency.old agency.new result }
+    patience: Patience,
+) -> Result<Option<StatusCode>, Fault>
+    ensures on { IfOk result (λ outcome. ServesOn S.Store agency.old agency.new (outcome ∷ [])) }
+    ensures stops { IfOk result (λ outcome. StopsWith agency.old agency.new outcome) }
+    ensures same { OnErr result (agency.new ≡ agency.old) }
+    ensures cause { IfErr result (λ fault. IsFirstFault fault) }
     ensures was_clean { WasClean S.Store agency.old agency.new }
 {
-    match accept(listener) {
-        Ok(stream) => serve_connection(rt, agency, &stream),
-        Err(_) => None,
-    }
+    serve_taken(rt, agency, accept(listener), patience)
 }
 
 // Prints the status of a connection, or that it was lost.
@@ -82,12 +131,13 @@ fn print_outcome<W: Write>(writer: &mut W, outcome: &Option<StatusCode>) -> Resu
 }
 
 /// Answers so many connections and prints the status of each, or `lost`. `Stopped` behind the one at which the agency stopped, whether its
-/// answer was lost or not, `Output` where the writer failed.
+/// answer was lost or not, `Fault` where no further connection can be taken, `Output` where the writer failed.
 pub(crate) fn serve_connections<S: Alter, W: Write>(
     rt: &HostRuntime,
     agency: &mut Agency<S>,
     listener: &TcpListener,
     count: u32,
+    patience: Patience,
     writer: &mut W,
 ) -> Result<(), Unserved>
     requires { agency.old.is_stopped ≡ false }
@@ -95,10 +145,11 @@ pub(crate) fn serve_connections<S: Alter, W: Write>(
         × PrintsBehind count [] outcomes (W.contents writer.old) (W.contents writer.new) result }
     ensures going { OnOk result (agency.new.is_stopped ≡ false) }
     ensures stopped { result ≡ Err Unserved.Stopped → agency.new.is_stopped ≡ true }
+    ensures fault { (fault : Fault) → result ≡ Err (Unserved.Fault fault) → (agency.new.is_stopped ≡ false) × IsFirstFault fault }
     ensures was_clean { WasClean S.Store agency.old agency.new }
 {
     for _served in 0..count {
-        let outcome = serve_next(rt, agency, listener);
+        let outcome = serve_next(rt, agency, listener, patience)?;
         print_outcome(writer, &outcome)?;
         if agency.is_stopped() {
             return Err(Unserved::Stopped);

@@ -7,9 +7,13 @@ mod connections;
 mod fault;
 pub mod laws;
 mod listening;
+mod patience;
+mod peers;
 mod serving;
 mod streams;
+mod taking;
 
 pub use fault::NetFault;
-pub use listening::{Service, Unserved, serve};
+pub use listening::{Service, Unserved, serve, serve_within};
+pub use patience::Patience;
 pub use serving::serve_one;

@@ -3,15 +3,18 @@
 ghost use Rattle.std.specs.Prelude.{◌≡◌, ℕ, List, Option, Err, OnOk, false, true};
 ghost use Rattle.std.specs.Net.Socket.{socket_port};
 ghost use Rattle.dh_types.specs.Output.{Puts};
+ghost use Rattle.dh_types.specs.declared.reply.Fault.{Fault};
+ghost use Rattle.dh_schema.specs.Faults.{IsFirstFault};
 ghost use Rattle.dh_agency.specs.Agency.{WasClean};
 ghost use Rattle.dh_http.specs.Printed.{IsPortText, PrintsServed};
 ghost use Rattle.dh_http.specs.Service.{IsOfThisMachine, ServesOn};
 ghost use Rattle.dh_http.specs.declared.listening.Unserved.TheVariants as unserved;
 
 use crate::connections::serve_connections;
+use crate::patience::Patience;
 use dh_agency::Agency;
 use dh_types::writing::put_parts;
-use dh_types::{BatchCount, Output};
+use dh_types::{BatchCount, Fault, Output};
 use itoa::Buffer;
 use sqlite::Alter;
 use std::io::Write;
@@ -33,6 +36,9 @@ pub enum Unserved {
     Output(Output),
     /// The agency has stopped, behind an answer 503 or one that was lost.
     Stopped,
+    /// No further connection can be taken: 21 where memory ran out, 22 where the system gives no further file or the listener failed. The
+    /// agency goes on.
+    Fault(Fault),
 }
 
 impl From<Output> for Unserved {
@@ -40,6 +46,14 @@ impl From<Output> for Unserved {
 
     fn from(output: Output) -> Unserved {
         Unserved::Output(output)
+    }
+}
+
+impl From<Fault> for Unserved {
+    ghost from_gives = { λ fault e. e ≡ unserved.Fault fault };
+
+    fn from(fault: Fault) -> Unserved {
+        Unserved::Fault(fault)
     }
 }
 
@@ -70,8 +84,9 @@ fn print_port<W: Write>(writer: &mut W, asked: u16, port: u16) -> Result<(), Out
 }
 
 /// Listens at the service's port, answers its connections one after the other, and prints the status of each, or `lost`; before them
-/// `port P` where the system picks the port. `NoListener` where the port can't be had, `Stopped` behind the connection at which the agency
-/// stopped, whether its answer was lost or not, `Output` where the writer failed.
+/// `port P` where the system picks the port. Its peers have the standard time. `NoListener` where the port can't be had, `Stopped` behind
+/// the connection at which the agency stopped, whether its answer was lost or not, `Fault` where no further connection can be taken,
+/// `Output` where the writer failed.
 pub fn serve<S: Alter, W: Write>(
     rt: &HostRuntime,
     agency: &mut Agency<S>,
@@ -83,11 +98,38 @@ pub fn serve<S: Alter, W: Write>(
         × PrintsServed service outcomes (W.contents writer.old) (W.contents writer.new) result }
     ensures going { OnOk result (agency.new.is_stopped ≡ false) }
     ensures stopped { result ≡ Err unserved.Stopped → agency.new.is_stopped ≡ true }
+    ensures fault { (fault : Fault) → result ≡ Err (unserved.Fault fault) → (agency.new.is_stopped ≡ false) × IsFirstFault fault }
+    ensures was_clean { WasClean S.Store agency.old agency.new }
+{
+    serve_within(rt, agency, service, Patience::standard(), writer)
+}
+
+/// The same, with peers that have this time.
+pub fn serve_within<S: Alter, W: Write>(
+    rt: &HostRuntime,
+    agency: &mut Agency<S>,
+    service: Service,
+    patience: Patience,
+    writer: &mut W,
+) -> Result<(), Unserved>
+    requires { agency.old.is_stopped ≡ false }
+    ensures served { (outcomes : List (Option ℕ)) × ServesOn S.Store agency.old agency.new outcomes
+        × PrintsServed service outcomes (W.contents writer.old) (W.contents writer.new) result }
+    ensures going { OnOk result (agency.new.is_stopped ≡ false) }
+    ensures stopped { result ≡ Err unserved.Stopped → agency.new.is_stopped ≡ true }
+    ensures fault { (fault : Fault) → result ≡ Err (unserved.Fault fault) → (agency.new.is_stopped ≡ false) × IsFirstFault fault }
     ensures was_clean { WasClean S.Store agency.old agency.new }
 {
     let Some((listener, port)) = listen(rt, service.port) else {
         return Err(Unserved::NoListener);
     };
     print_port(writer, service.port, port)?;
-    serve_connections(rt, agency, &listener, service.count.number(), writer)
+    serve_connections(
+        rt,
+        agency,
+        &listener,
+        service.count.number(),
+        patience,
+        writer,
+    )
 }

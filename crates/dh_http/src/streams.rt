@@ -1,45 +1,44 @@
 //! Streams whose peer may be slow or gone.
 
+ghost use Rattle.std.specs.Prelude.{◌≡◌, ◌*◌, ℕ, List, Option, None};
+ghost use Rattle.std.specs.Io.{ReadsAtMost, WritesAtMost};
+ghost use Rattle.dh_http.specs.Calls.{AsksLeft, Call, EndsAnswered, HasTakenIn, Makes, Reads, UsesInTime, Writes};
+
+use crate::patience::Patience;
+use crate::peers::Peer;
 use std::io;
 use std::io::{ErrorKind, Read, Write};
-use std::net::{Shutdown, TcpListener, TcpStream};
 use std::time::{Duration, Instant};
-
-/// How many seconds a peer has to send its whole request, and as many again to take the answer.
-pub(crate) const PEER_SECONDS: u64 = 30;
-
-/// For how many seconds what comes behind a request is read.
-const REST_SECONDS: u64 = 2;
-
-/// How many bytes behind a request are read at most.
-const REST_BYTES: usize = 65_536;
 
 /// A stream that is read, or written, for so many seconds in all, from the first call on. Each later call fails.
 #[derive(Drop)]
-pub(crate) struct TimedStream<'a> {
-    rt: &'a HostRuntime,
-    stream: &'a TcpStream,
+pub(crate) struct TimedStream<P: Peer> {
+    peer: P,
     seconds: u64,
     begun: Option<Instant>,
 }
 
-impl<'a> TimedStream<'a> {
-    pub(crate) fn new(rt: &'a HostRuntime, stream: &'a TcpStream, seconds: u64) -> TimedStream<'a> {
+impl<P: Peer> TimedStream<P> {
+    pub(crate) fn new(peer: P, seconds: u64) -> TimedStream<P>
+        ensures peer { result.peer ≡ peer }
+        ensures seconds { result.seconds ≡ seconds }
+        ensures begun { result.begun ≡ None }
+    {
         TimedStream {
-            rt,
-            stream,
+            peer,
             seconds,
             begun: None,
         }
     }
 
     // How long the next call may wait.
-    fn time_left(&mut self) -> io::Result<Duration> {
-        let now = Instant::now(self.rt)?;
-        let begun = match self.begun {
-            Some(begun) => begun,
-            None => now,
-        };
+    fn time_left(&mut self) -> io::Result<Duration>
+        ensures asks { (calls : List Call) × Makes (P.calls self.old.peer) (P.calls self.new.peer) calls
+            × AsksLeft (self.old.seconds * 1000000000) self.old.begun self.new.begun calls result }
+        ensures seconds { self.new.seconds ≡ self.old.seconds }
+    {
+        let now = self.peer.time()?;
+        let begun = self.begun.unwrap_or(now);
         self.begun = Some(begun);
         let left = Duration::from_secs(self.seconds).saturating_sub(now.duration_since(begun));
         if left.is_zero() {
@@ -47,23 +46,62 @@ impl<'a> TimedStream<'a> {
         }
         Ok(left)
     }
-}
 
-impl Read for TimedStream<'_> {
-    fn read(&mut self, buf: &mut [u8]) -> io::Result<usize> {
+    // Reads some bytes within the time that is left.
+    fn read_in_time(&mut self, buf: &mut [u8]) -> io::Result<usize>
+        ensures bound { ReadsAtMost result buf.new }
+        ensures uses { (calls : List Call) × Makes (P.calls self.old.peer) (P.calls self.new.peer) calls
+            × UsesInTime (λ n r. Reads n r) (self.old.seconds * 1000000000) self.old.begun self.new.begun calls result }
+        ensures seconds { self.new.seconds ≡ self.old.seconds }
+    {
         let left = self.time_left()?;
-        let mut stream = self.stream;
-        stream.set_read_timeout(Some(left))?;
-        stream.read(buf)
+        self.peer.read_within(left, buf)
+    }
+
+    // Writes some bytes within the time that is left.
+    fn write_in_time(&mut self, buf: &[u8]) -> io::Result<usize>
+        ensures bound { WritesAtMost result buf.now }
+        ensures uses { (calls : List Call) × Makes (P.calls self.old.peer) (P.calls self.new.peer) calls
+            × UsesInTime (λ n r. Writes n r) (self.old.seconds * 1000000000) self.old.begun self.new.begun calls result }
+        ensures seconds { self.new.seconds ≡ self.old.seconds }
+    {
+        let left = self.time_left()?;
+        self.peer.write_within(left, buf)
+    }
+
+    // Reads what comes, up to so many bytes. A read that a signal interrupts is made again.
+    fn take_in(&mut self, bytes: usize)
+        ensures { (calls : List Call) × Makes (P.calls self.old.peer) (P.calls self.new.peer) calls
+            × HasTakenIn (self.old.seconds * 1000000000) self.old.begun bytes calls }
+    {
+        let mut buffer = [0u8; 4096];
+        let mut left = bytes;
+        for _turn in 0..u64::MAX {
+            if left == 0 {
+                return;
+            }
+            match self.read_in_time(&mut buffer) {
+                Ok(0) => return,
+                Ok(count) => left = left.saturating_sub(count),
+                Err(error) => {
+                    if error.kind() != ErrorKind::Interrupted {
+                        return;
+                    }
+                }
+            }
+        }
     }
 }
 
-impl Write for TimedStream<'_> {
+impl<P: Peer> Read for TimedStream<P> {
+    fn read(&mut self, buf: &mut [u8]) -> io::Result<usize> {
+        self.read_in_time(buf)
+    }
+}
+
+impl<P: Peer> Write for TimedStream<P> {
     fn write(&mut self, buf: &[u8]) -> io::Result<usize> {
-        let left = self.time_left()?;
-        let mut stream = self.stream;
-        stream.set_write_timeout(Some(left))?;
-        stream.write(buf)
+        self.write_in_time(buf)
     }
 
     fn flush(&mut self) -> io::Result<()> {
@@ -71,50 +109,20 @@ impl Write for TimedStream<'_> {
     }
 }
 
-/// The next connection. A call that a signal interrupts is made again.
-pub(crate) fn accept(listener: &TcpListener) -> io::Result<TcpStream> {
-    for _ in 0..u64::MAX {
-        match listener.accept() {
-            Ok((stream, _)) => return Ok(stream),
-            Err(error) => {
-                if error.kind() != ErrorKind::Interrupted {
-                    return Err(error);
-                }
-            }
-        }
-    }
-    Err(ErrorKind::Interrupted.into())
-}
-
-// Reads some bytes and gives how many; none at the end of input, and where the peer is slow or gone. A call that a signal interrupts is
-// made again.
-fn read_some(stream: &mut TimedStream<'_>, buffer: &mut [u8]) -> usize {
-    for _ in 0..u64::MAX {
-        match stream.read(buffer) {
-            Ok(count) => return count,
-            Err(error) => {
-                if error.kind() != ErrorKind::Interrupted {
-                    return 0;
-                }
-            }
-        }
-    }
-    0
-}
-
 /// Ends a stream whose answer was written: what the peer still sends is taken in, up to a limit, so that it loses nothing of the answer.
-pub(crate) fn end_answered(rt: &HostRuntime, stream: &TcpStream) {
-    if stream.shutdown(Shutdown::Write).is_err() {
-        return;
+pub(crate) fn end_answered<P: Peer>(mut peer: P, patience: Patience) -> P
+    ensures { (calls : List Call) × Makes (P.calls peer) (P.calls result) calls
+        × EndsAnswered (patience.rest_seconds * 1000000000) patience.rest_bytes calls }
+{
+    if peer.end_output().is_err() {
+        return peer;
     }
-    let mut rest = TimedStream::new(rt, stream, REST_SECONDS);
-    let mut buffer = [0u8; 4096];
-    let mut left = REST_BYTES;
-    while left > 0 {
-        let count = read_some(&mut rest, &mut buffer);
-        if count == 0 {
-            return;
-        }
-        left = left.saturating_sub(count);
-    }
+    let mut rest = TimedStream::new(peer, patience.rest_seconds);
+    rest.take_in(patience.rest_bytes);
+    let TimedStream {
+        peer,
+        seconds: _,
+        begun: _,
+    } = rest;
+    peer
 }

@@ -1,6 +1,7 @@
 -- What one record is answered, from what the agency's call and the writing of its line give.
-use Rattle.std.proofs.Common.{◌≡◌, ◌∙◌, ℕ, Bool, Option, List, ◌++◌, Result, Ok, Err, refl, sym, ap, subst}
+use Rattle.std.proofs.Common.{◌≡◌, ◌∙◌, ℕ, Bool, true, false, Option, List, ◌++◌, Result, Ok, Err, refl, sym, ap, subst}
 use Rattle.std.specs.Prelude.{IfErr, IsErrAnd}
+use Rattle.std.proofs.lemmas.Bool.{false≢true}
 use Rattle.std.specs.Io.KnownBytes.{Appends}
 use Rattle.sqlite.specs.Store.{Ghosts}
 use Rattle.dh_types.specs.Output.{BreaksOff, Puts}
@@ -39,6 +40,10 @@ fault_halts a b n fault (halt.Fault found outcome) told = tt
 fault_halts a b n fault (halt.Input cause) told = absurd told
 fault_halts a b n fault (halt.Output failed) told = absurd told
 
+-- an agency that stopped does not go on
+pub not_on : {P : Type 0} {is_stopped : Bool} → is_stopped ≡ true → is_stopped ≡ false → P
+not_on stopped on = absurd (false≢true (sym on ∙ stopped))
+
 -- want of memory is no fault of the store
 pub no_store_fault : (a b : Option (List ℕ)) (n : ℕ) (h : Halt) → TellsFault a b n faults.Memory h → ¬ IsStoreFault (batch_fault h)
 no_store_fault a b n (halt.Fault found outcome) told is = cc (told.0)
@@ -71,10 +76,12 @@ store_handed Stops (Err y) e is h = λ store. h (subst (λ z. IsStoreFault (batc
 
 module _ {S : Type 0} (g : Ghosts S) (old new : Seat S) (a b : Option (List ℕ)) (n : ℕ) where
   pub answers_fault : (it : Answered) (P : State → Type 0) (fault : Fault) (h : Halt) → TellsFault a b n fault h → (IsOpen g new → P (machine g new))
+      → (new.is_stopped ≡ false → machine g new ≡ machine g old)
       → Answers g old new a b n it P (Err h)
-  answers_fault it P fault (halt.Fault found outcome) told reads = (subst (λ f. Puts a b outcome (fault_line n f)) (sym told.0) told.1, reads)
-  answers_fault it P fault (halt.Input cause) told reads = absurd told
-  answers_fault it P fault (halt.Output failed) told reads = absurd told
+  answers_fault it P fault (halt.Fault found outcome) told reads undone =
+      (subst (λ f. Puts a b outcome (fault_line n f)) (sym told.0) told.1, reads, undone)
+  answers_fault it P fault (halt.Input cause) told reads undone = absurd told
+  answers_fault it P fault (halt.Output failed) told reads undone = absurd told
 
   -- the writer failed in the line
   pub answers_part : (it : Answered) (P : State → Type 0) (failed : writing.Output) (r : Result Bool Halt)

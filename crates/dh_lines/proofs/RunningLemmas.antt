@@ -15,7 +15,7 @@ use Rattle.dh_types.specs.declared.reply.Fault.TheVariants as faults
 use Rattle.dh_types.specs.declared.output.Output as writing
 use Rattle.dh_model.specs.Books.{State}
 use Rattle.dh_agency.specs.Seat.{Seat}
-use Rattle.dh_agency.specs.Agency.{Leaves, LeavesItsTables, machine, stand}
+use Rattle.dh_agency.specs.Agency.{Leaves, LeavesItsTables, machine, stand, stand_of}
 use Rattle.dh_agency.proofs.Standing.{leaves_more, leaves_what_holds}
 use Rattle.dh_fields.specs.Lines.{Fields}
 use Rattle.dh_lines.specs.Session.{answered, fault_line, line, records_of, state_after}
@@ -58,6 +58,7 @@ module _ {S R : Type 0} (g : Ghosts S) (old new : Seat S) (a b : Option (List �
     asked = λ other. absurd (other memory);
     written = puts_behind a b c _ _ outcome w.written put;
     state = λ is_open. inl w.state;
+    undone = λ on. w.state;
     left = λ rests. leaves_what_holds g new (IsWithin (state_after (stand g old) (take n (records_of input))) (slice_get (records_of input) n))
         (left rests) (inl w.state);
   }
@@ -141,6 +142,7 @@ module _ {S R : Type 0} (g : Ghosts S) (old mid new : Seat S) (a b c : Option (L
     asked = λ other. subst IsAsked (sym w.next.here) (asked other);
     written = puts_behind a b c _ _ outcome w.written h.0;
     state = λ is_open. moved (machine g new) (h.1 is_open);
+    undone = λ on. ap stand_of (h.2 on) ∙ w.state;
     left = λ rests. leaves_more g new (IsWithin (stand g mid) (Some f)) _ moved (left rests);
   }
   ends_early (halt.Input cause) h asked left = absurd h

@@ -108,12 +108,13 @@ OnlyOfRequests fields (halt.Fault fault outcome) = fault ≢ faults.Memory → I
 OnlyOfRequests fields (halt.Input cause) = ⊤
 OnlyOfRequests fields (halt.Output failed) = ⊤
 
--- Record n was answered so, as far as the result says. At a fault that was told, this holds of the tables that can be read;
--- where the writer failed in the answer, what was asked for was done.
+-- Record n was answered so, as far as the result says. At a fault that was told, this holds of the tables that can be read, and they are
+-- as they were where the agency goes on; where the writer failed in the answer, what was asked for was done.
 abbrev pub Answers : {S : Type 0} → Ghosts S → Seat S → Seat S → Option (List ℕ) → Option (List ℕ) → ℕ → Answered → (State → Type 0) → Result Bool Halt
     → Type 0
 Answers g old new a b n it P (Ok is_refused) = Appends a b (numbered n it.text) × (stand g new ≡ it.state) × (is_refused ≡ it.is_refused)
-Answers g old new a b n it P (Err (halt.Fault fault outcome)) = Puts a b outcome (fault_line n fault) × (IsOpen g new → P (machine g new))
+Answers g old new a b n it P (Err (halt.Fault fault outcome)) =
+    Puts a b outcome (fault_line n fault) × (IsOpen g new → P (machine g new)) × (new.is_stopped ≡ false → machine g new ≡ machine g old)
 Answers g old new a b n it P (Err (halt.Input cause)) = ⊥
 Answers g old new a b n it P (Err (halt.Output failed)) = BreaksOff a b (numbered n it.text) × (stand g new ≡ it.state)
 
@@ -151,14 +152,15 @@ module _ {S : Type 0} (g : Ghosts S) (old new : Seat S) where
       pub refused : summary.refused ≡ refused_in (stand g old) (records_of input)
 
     -- The first records were answered, and the fault's line was written behind their lines as the outcome says. The tables that can
-    -- be read, and those that a crash leaves, are those behind these records, or the next one was cut. But for want of memory the next one
-    -- asks something of the agency.
+    -- be read, and those that a crash leaves, are those behind these records, or the next one was cut. Where the agency goes on, the machine
+    -- stands where these records left it: nothing of the next one was done. But for want of memory the next one asks something of the agency.
     pub record Faulted (fault : Fault) (outcome : Result (Unit {0}) writing.Output) (input : List ℕ) : Type 0 where
       pub count : ℕ
       pub few : count ≤ length (records_of input)
       pub asked : fault ≢ faults.Memory → IsAsked (slice_get (records_of input) count)
       pub written : PutsBehind a b (lines_from 1 (stand g old) (take count (records_of input))) outcome (fault_line (count + 1) fault)
       pub state : IsOpen g new → IsWithin (state_after (stand g old) (take count (records_of input))) (slice_get (records_of input) count) (machine g new)
+      pub undone : new.is_stopped ≡ false → stand g new ≡ state_after (stand g old) (take count (records_of input))
       pub left : IsAtRest g old
           → Leaves g new (IsWithin (state_after (stand g old) (take count (records_of input))) (slice_get (records_of input) count))
 

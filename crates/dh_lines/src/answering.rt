@@ -108,7 +108,7 @@ fn answer_question<S: Alter, W: Write>(
     }
 }
 
-/// Answers the record: whether it was refused. At an `Output` what it asks for was done.
+/// Answers the record: whether it was refused. At a fault of an agency that goes on nothing was done; at an `Output` what it asks for was.
 pub fn answer<S: Alter, W: Write>(
     alloc: Global,
     agency: &mut Agency<S>,

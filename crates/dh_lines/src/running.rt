@@ -66,8 +66,9 @@ fn answer_records<S: Alter, R: Read, W: Write>(
 /// of records and refusals.
 ///
 /// At an `Agency` fault the agency answered it, or memory for reading ran out, or `csv` could not read on though the reader never failed;
-/// the fault's line was written, as far as the writer took it. At `Input` the reader failed, or 2^64 - 1 records were answered; what was
-/// written are whole lines. At `Output` the writer failed in a line, whose command was carried out.
+/// the fault's line was written, as far as the writer took it, and if the agency goes on, nothing of the record was done. At `Input` the
+/// reader failed, or 2^64 - 1 records were answered; what was written are whole lines. At `Output` the writer failed in a line, whose
+/// command was carried out.
 pub fn batch<S: Alter, R: Read, W: Write>(
     alloc: Global,
     agency: &mut Agency<S>,

@@ -1,8 +1,9 @@
 //! A reader that notes whether the one below it failed.
 
-ghost use Rattle.std.specs.Prelude.{◌≡◌, OnErr, OnOk, Some, None, false, true, if◌then◌else◌};
+ghost use Rattle.std.specs.Prelude.{◌≡◌, ◌≢◌, IfErr, OnErr, OnOk, Some, None, false, true, if◌then◌else◌};
 ghost use Rattle.std.specs.Io.{ReadsAtMost};
 ghost use Rattle.std.specs.Io.KnownBytes.{ReadConsumes};
+ghost use Rattle.std.specs.IoError.{error_kind};
 
 use std::io;
 use std::io::{ErrorKind, Read};
@@ -24,7 +25,8 @@ impl Input {
     }
 }
 
-/// Reads through another reader, and notes whether that failed. A read that a signal interrupts is made again, and is no failure.
+/// Reads through another reader, and notes whether that failed. A read that a signal interrupts is made again, and is no failure: no
+/// error has that kind. Only a reader that is interrupted without end fails by that, with an error of the kind `Other`.
 #[derive(Drop)]
 pub(crate) struct Watching<'a, R> {
     inner: &'a mut R,
@@ -63,6 +65,7 @@ impl<R: Read> Read for Watching<'_, R> {
         ensures bytes { ReadConsumes (R.remaining self.old.inner.now) (R.remaining self.new.inner.now) result buf.new }
         ensures unfailed { OnOk result (self.new.has_failed ≡ self.old.has_failed) }
         ensures failed { OnErr result (self.new.has_failed ≡ true) }
+        ensures again { IfErr result (λ e. error_kind e ≢ ErrorKind.Interrupted) }
     {
         for _ in 0..u64::MAX {
             match self.inner.read(buf) {
@@ -76,6 +79,6 @@ impl<R: Read> Read for Watching<'_, R> {
             }
         }
         self.has_failed = true;
-        Err(ErrorKind::Interrupted.into())
+        Err(ErrorKind::Other.into())
     }
 }

@@ -1,8 +1,5 @@
 -- Lines and questions, in the words of jobs.
-use Rattle.std.proofs.Common.{◌≡◌, ◌∙◌, ◌⊎◌, inl, inr, Bool, true, false, ℕ, ◌+◌, Option, List, ◌++◌, length, take, Result, Ok}
-use Rattle.std.proofs.Common.{Err, sym, ap, subst, arith}
-use Rattle.std.specs.Io.KnownBytes.{Appends}
-use Rattle.std.proofs.lemmas.List.{take_all}
+use Rattle.std.proofs.Common.{◌≡◌, ◌∙◌, ◌⊎◌, inl, inr, Bool, true, false, ℕ, Option, List, ◌++◌, Err, refl, sym, ap, subst}
 use Rattle.sqlite.specs.Store.{Ghosts}
 use Rattle.dh_types.specs.declared.question.Question.{Question}
 use Rattle.dh_types.specs.Reports.{Report, is_no_report}
@@ -16,29 +13,20 @@ use Rattle.dh_agency.specs.Agency.{Leaves, LeavesItsTables, machine, shown_by, s
 use Rattle.dh_agency.proofs.Standing.{reads_in_order, report_stands}
 use Rattle.dh_lines.specs.declared.outcome.BatchFault.{BatchFault}
 use Rattle.dh_lines.specs.declared.outcome.BatchFault.TheVariants as ended
-use Rattle.dh_lines.specs.Session as session
-use Rattle.dh_lines.specs.Session.{lines_from, records_of}
-use Rattle.dh_lines.specs.Batch.{AreAfter, EndsSo, LeavesAnswered, PutsBehind}
+use Rattle.dh_lines.specs.Session.{records_of}
+use Rattle.dh_lines.specs.Batch.{AreAfter, EndsSo, LeavesAnswered}
 use Rattle.dh_office.specs.Jobs.{report_shown}
 use Rattle.dh_office.specs.Texts.{report_lines}
 use Rattle.dh_office.specs.Ends.{AtFault, AtReading, AtWriting, Stops}
 use Rattle.dh_office.specs.Leaving.{LinesLeave}
 
--- whole or not, a beginning of the second text stands behind the first
-behind : {T E : Type 0} (a b : Option (List ℕ)) (first second : List ℕ) (outcome : Result T E) → PutsBehind a b first outcome second
-    → (taken : ℕ) × Appends a b (first ++ take taken second)
-behind a b first second (Ok it) h = (length second, subst (λ l. Appends a b (first ++ l)) (sym (take_all (length second) second (omega arith))) h)
-behind a b first second (Err e) h = (h.0, h.2)
-
 -- a batch that ended early
 pub stops : {S : Type 0} (g : Ghosts S) (old new : Seat S) (a b : Option (List ℕ)) (fault : BatchFault) (input : List ℕ)
     → EndsSo g old new a b (Err fault) input
-    → Stops (shown_by g new) a b (stand g old) (records_of input)
-stops g old new a b (ended.Agency fault) input (outcome, h) =
-    let told = behind a b (lines_from 1 (stand g old) (take h.count (records_of input))) (session.fault_line (h.count + 1) fault) outcome h.written in
-    AtFault h.count fault told.0 h.few told.1 h.state
-stops g old new a b (ended.Input cause) input h = AtReading h.count h.few h.written h.state
-stops g old new a b (ended.Output failed) input h = AtWriting h.count h.fields h.cut h.here h.part h.written h.state
+    → Stops (shown_by g new) a b (stand g old) (records_of input) fault
+stops g old new a b (ended.Agency fault) input (outcome, h) = AtFault h.count fault outcome refl h.few h.written h.state
+stops g old new a b (ended.Input cause) input h = AtReading h.count cause refl h.few h.written h.state
+stops g old new a b (ended.Output output) input h = AtWriting h.count output h.fields h.cut refl h.here h.part h.written h.state
 
 -- a batch that answered its lines has not stopped
 pub goes_on : (was is : Bool) → was ≡ false → (is ≡ was) ⊎ (⊥ × (is ≡ true)) → is ≡ false

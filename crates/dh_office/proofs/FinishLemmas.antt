@@ -3,6 +3,7 @@ use Rattle.std.proofs.Common.{◌≡◌, ◌∙◌, inl, inr, Bool, true, false,
 use Rattle.std.specs.Io.KnownBytes.{Appends}
 use Rattle.sqlite.specs.State as conn
 use Rattle.sqlite.specs.State.{HasCleanDisk}
+use Rattle.dh_types.specs.declared.output.Output.{Output}
 use Rattle.dh_types.specs.Output.{BreaksOff}
 use Rattle.dh_types.specs.declared.reply.Reply.{Reply}
 use Rattle.dh_types.specs.declared.run.Run.{Run}
@@ -14,10 +15,10 @@ use Rattle.dh_model.specs.Books.{Books, State}
 use Rattle.dh_schema.specs.Store as store
 use Rattle.dh_lines.specs.Session.{Answered, replied}
 use Rattle.dh_office.specs.declared.status.Status.{Status}
-use Rattle.dh_office.specs.declared.status.Status.TheVariants.{Done, SomeRefused, Failed, RunOpen}
-use Rattle.dh_office.specs.Statuses.{IsEnding, ending}
+use Rattle.dh_office.specs.declared.status.Status.TheVariants.{Done, SomeRefused, BadWords, Failed, RunOpen, FileRefused}
+use Rattle.dh_office.specs.Statuses.{IsAnswered, IsEnding, IsFailed, ending}
 use Rattle.dh_office.specs.Texts.{reply_line}
-use Rattle.dh_office.specs.Printed.{Behind, Prints, Whole, Within}
+use Rattle.dh_office.specs.Printed.{Behind, Prints, Whole, Within, breaking}
 use Rattle.dh_agency.specs.Agency.{stand_of}
 use Rattle.dh_office.specs.Jobs.{says_open, stand_in}
 use Rattle.dh_office.specs.Ends.{Comes, Finishes, Told, Unasked, Unheard}
@@ -72,14 +73,14 @@ module _ (mid new : conn.State) (a m b : Option (List ℕ)) (is_refused : Bool) 
       let now = left clean in
       Told (same_behind a m b it.text same h) (ap stand_of now.0 ∙ stands)
       (now.1 ∙ ap (λ (s : State). ending is_refused s.open_run) stands ∙ ap (λ r. ending r it.state.open_run) (sym refused))
-  comes_finished it refused h clean stands (inr (told, left, failed)) =
-      Unasked (told_behind a m b it.text h told) (λ is_open. ap stand_of (left clean is_open) ∙ stands) failed
+  comes_finished it refused h clean stands (inr (told, left)) =
+      Unasked (told_behind a m b it.text status h told) (λ is_open. ap stand_of (left clean is_open) ∙ stands)
 
   module _ (IsEnd : List ℕ → Status → Type 0) (text : List ℕ) (ends : (last : Status) → IsEnding is_refused last → IsEnd text last) where
     pub prints_finished : Appends a m text → Finishes mid new m b is_refused status → Prints IsEnd a b status
     prints_finished h (inl (same, kind, left)) = Whole text (ends status kind) (same_behind a m b text same h)
-    prints_finished h (inr (told, left, failed)) =
-        Behind text (ending is_refused None) (ends _ (ending_is is_refused None)) (told_behind a m b text h told) failed
+    prints_finished h (inr (told, left)) =
+        Behind text (ending is_refused None) (ends _ (ending_is is_refused None)) (told_behind a m b text status h told)
 
   -- a run, whose reply was printed
   pub run_finished : (told : State × Reply) (reply : Reply) → told ≡ (stand_in mid, reply) → is_refusal reply ≡ is_refused → Appends a m (reply_line reply)
@@ -87,16 +88,27 @@ module _ (mid new : conn.State) (a m b : Option (List ℕ)) (is_refused : Bool) 
   run_finished told reply is refused h clean finish =
       subst (λ it. Comes new a b (replied it) status) (sym is) (comes_finished (replied (stand_in mid, reply)) refused h clean refl finish)
 
--- the writer failed in the reply
-pub run_unheard : (new : conn.State) (a b : Option (List ℕ)) (told : State × Reply) (reply : Reply) → told ≡ (stand_in new, reply)
-    → BreaksOff a b (reply_line reply) → Comes new a b (replied told) Failed
-run_unheard new a b told reply is h = subst (λ it. Comes new a b (replied it) Failed) (sym is) (Unheard h refl refl)
+-- the output failed in the reply
+pub run_unheard : (new : conn.State) (a b : Option (List ℕ)) (told : State × Reply) (reply : Reply) (output : Output) → told ≡ (stand_in new, reply)
+    → BreaksOff a b (reply_line reply) → Comes new a b (replied told) (breaking output)
+run_unheard new a b told reply output is h =
+    subst (λ it. Comes new a b (replied it) (breaking output)) (sym is) (Unheard (output, refl, h) refl)
 
 pub finished_alike : (old new : conn.State) (a b : Option (List ℕ)) (is_refused same : Bool) (status : Status) → is_refused ≡ same
     → Finishes old new a b is_refused status → Finishes old new a b same status
 finished_alike old new a b is_refused same status is h = subst (λ r. Finishes old new a b r status) is h
 
--- the writer failed in the text
-pub prints_within : (IsEnd : List ℕ → Status → Type 0) (text : List ℕ) (is_refused : Bool) (a b : Option (List ℕ))
-    → ((last : Status) → IsEnding is_refused last → IsEnd text last) → BreaksOff a b text → Prints IsEnd a b Failed
-prints_within IsEnd text is_refused a b ends h = Within text (ending is_refused None) (ends _ (ending_is is_refused None)) h refl
+-- the output failed in the text
+pub prints_within : (IsEnd : List ℕ → Status → Type 0) (text : List ℕ) (is_refused : Bool) (a b : Option (List ℕ)) (output : Output)
+    → ((last : Status) → IsEnding is_refused last → IsEnd text last) → BreaksOff a b text → Prints IsEnd a b (breaking output)
+prints_within IsEnd text is_refused a b output ends h =
+    Within text (ending is_refused None) (ends _ (ending_is is_refused None)) (output, refl, h)
+
+-- nothing but the end was asked for since
+pub kept_finished : (status : Status) → IsFailed status → IsAnswered status → {A : Type 0} → A
+kept_finished (Failed why) failed answered = absurd answered
+kept_finished Done failed answered = absurd failed
+kept_finished SomeRefused failed answered = absurd failed
+kept_finished (BadWords outcome) failed answered = absurd failed
+kept_finished RunOpen failed answered = absurd failed
+kept_finished FileRefused failed answered = absurd failed

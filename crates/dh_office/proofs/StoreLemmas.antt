@@ -1,16 +1,18 @@
 -- From an agency to the store that it is over.
-use Rattle.std.proofs.Common.{◌≡◌, ◌⊎◌, ◌∙◌, inl, inr, ℕ, Option, Some, None, List, [], ◌++◌, refl, sym, ap, subst, arith}
-use Rattle.std.specs.Prelude.{pos, IfSome, IsTrue, Result, Ok, Err}
+use Rattle.std.proofs.Common.{◌≡◌, ◌⊎◌, ◌∙◌, inl, inr, ℕ, Option, Some, None, List, [], ◌++◌, refl, sym, ap, subst, arith, false}
+use Rattle.std.specs.Prelude.{pos, IfSome, IsTrue, OnOk, Result, Ok, Err}
 use Rattle.sqlite.specs.Store.{Ghosts}
 use Rattle.sqlite.specs.State as conn
 use Rattle.sqlite.specs.State.{HasCleanDisk}
 use Rattle.sqlite.specs.Held.{Held, state}
 use Rattle.sqlite.specs.Effect.{Database}
 use Rattle.dh_types.specs.declared.command.RunOrder.{RunOrder}
+use Rattle.dh_types.specs.declared.reply.Fault.{Fault}
 use Rattle.dh_types.specs.declared.reply.Refusal.{Refusal}
 use Rattle.dh_types.specs.declared.reply.Refusal.TheVariants as refusal
 use Rattle.dh_types.specs.declared.version.Version.TheVariants.{First, Second}
 use Rattle.dh_model.specs.Books.{State}
+use Rattle.dh_schema.specs.Faults.{IsFirstFault}
 use Rattle.dh_schema.specs.Store as store
 use Rattle.dh_schema.specs.Store.{Leaves}
 use Rattle.sqlite_trees.specs.Tree.{Trees}
@@ -30,20 +32,21 @@ use Rattle.dh_http.specs.declared.listening.Unserved.TheVariants as unserved
 use Rattle.dh_http.specs.Printed.{Listened, PrintsServed, Unlistened, Untold, outcome_lines}
 use Rattle.dh_http.specs.Service.{AreTold, IsAfterSome, IsServing}
 use Rattle.dh_office.specs.Jobs.{IsRunCut, stand_in}
-use Rattle.dh_office.specs.Leaving.{ServingLeaves, TakingLeaves, WorkLeaves}
+use Rattle.dh_office.specs.Leaving.{IsKept, ServingLeaves, TakingLeaves, WorkLeaves}
 use Rattle.dh_office.specs.declared.jobs.Work.{Work}
 use Rattle.dh_office.specs.declared.jobs.Work.TheVariants as work
 use Rattle.dh_office.specs.declared.taking.FileJob.{FileJob}
 use Rattle.dh_office.specs.declared.taking.FileJob.TheVariants as job
 use Rattle.dh_office.specs.declared.status.Status.{Status}
-use Rattle.dh_office.specs.declared.status.Status.TheVariants.{Failed, FileRefused}
-use Rattle.dh_office.specs.Statuses.{problem_status}
-use Rattle.dh_office.specs.Texts.{no_listener_line, problem_line}
-use Rattle.dh_office.specs.Printed.{Before, Behind, Closes, IsMakingEnd, IsMigrationEnd, IsNotMigratedEnd, IsOfLines, IsRecoveryEnd, IsRefusedEnd}
+use Rattle.dh_office.specs.declared.status.Status.TheVariants.{Done, SomeRefused, BadWords, Failed, RunOpen, FileRefused}
+use Rattle.dh_office.specs.Statuses.{IsAnswered, IsFailed}
+use Rattle.dh_office.specs.Texts.{refusal_line}
+use Rattle.dh_office.specs.Printed.{Before, Behind, Closes, IsMigrationEnd, IsNotMigratedEnd, IsOfLines, IsRecoveryEnd, IsRefusedEnd}
 use Rattle.dh_office.specs.Printed.{IsReportEnd, IsRunEnd, Prints}
-use Rattle.dh_office.specs.Printed.{PrintsEnd, PrintsJob, PrintsService, PrintsWork, PutsAs, Served, TellsFault, TellsServed, Unclosed, Whole, Within}
+use Rattle.dh_office.specs.Printed.{PrintsEnd, PrintsJob, PrintsService, PrintsWork, PutsAs, Served, TellsFault, TellsNoListener, TellsProblem, TellsServed}
+use Rattle.dh_office.specs.Printed.{Unclosed, Whole, Within}
 use Rattle.dh_office.specs.Ends.{IsNotRecovered, IsNotRecoveredFor, IsServed, LinesEnd, MendingEnds, RecoveryEnds, WorkEnds}
-use Rattle.dh_office.proofs.TextLemmas.{fault_as, told_behind}
+use Rattle.dh_office.proofs.TextLemmas.{broken_failed, fault_told, tells_behind, told_behind, told_failed}
 
 -- ---- what was printed
 
@@ -51,23 +54,36 @@ use Rattle.dh_office.proofs.TextLemmas.{fault_as, told_behind}
 pub prints_as : (IsEnd : List ℕ → Status → Type 0) (text : List ℕ) (wanted : Status) (a b : Option (List ℕ)) (status : Status) → IsEnd text wanted
     → PutsAs text wanted a b status → Prints IsEnd a b status
 prints_as IsEnd text wanted a b status ends (inl (is, h)) = Whole text (subst (IsEnd text) (sym is) ends) h
-prints_as IsEnd text wanted a b status ends (inr (failed, h)) = Within text wanted ends h failed
+prints_as IsEnd text wanted a b status ends (inr h) = Within text wanted ends h
 
 -- a problem: the file was refused, or a fault came
-pub problem_prints : (problem : Problem) (a b : Option (List ℕ)) (status : Status) → IsFirstProblem problem
-    → PutsAs (problem_line problem) (problem_status problem) a b status
+pub problem_prints : (problem : Problem) (a b : Option (List ℕ)) (status : Status) → IsFirstProblem problem → TellsProblem problem a b status
     → Prints IsRefusedEnd a b status
-problem_prints (problem.Refused why) a b status first h =
-    prints_as IsRefusedEnd (problem_line (problem.Refused why)) FileRefused a b status (why, first, refl, refl) h
-problem_prints (problem.Fault fault) a b status first h = let told = fault_as a b fault status first h in Before told.0 told.1
+problem_prints (problem.Refused why) a b status first h = prints_as IsRefusedEnd (refusal_line why) FileRefused a b status (why, first, refl, refl) h
+problem_prints (problem.Fault fault) a b status first h = Before (fault_told a b fault status first h)
 
 -- the same of a migration
 pub not_migrated_prints : (problem : Problem) (a b : Option (List ℕ)) (status : Status) → IsMigrationProblem problem
-    → PutsAs (problem_line problem) (problem_status problem) a b status
+    → TellsProblem problem a b status
     → Prints IsNotMigratedEnd a b status
 not_migrated_prints (problem.Refused why) a b status first h =
-    prints_as IsNotMigratedEnd (problem_line (problem.Refused why)) FileRefused a b status (why, first, refl, refl) h
-not_migrated_prints (problem.Fault fault) a b status first h = let told = fault_as a b fault status first h in Before told.0 told.1
+    prints_as IsNotMigratedEnd (refusal_line why) FileRefused a b status (why, first, refl, refl) h
+not_migrated_prints (problem.Fault fault) a b status first h = Before (fault_told a b fault status first h)
+
+-- what was told is no answer
+pub unanswered : (problem : Problem) (a b : Option (List ℕ)) (status : Status) → TellsProblem problem a b status → ¬ IsAnswered status
+unanswered (problem.Refused why) a b status (inl h) answered = subst IsAnswered h.0 answered
+unanswered (problem.Refused why) a b status (inr h) answered = subst IsAnswered h.1 answered
+unanswered (problem.Fault fault) a b status h answered = subst IsAnswered h.failed answered
+
+-- serving that was done ended without an error
+pub served_whole : (result : Result (Unit {0}) Unserved) (a b : Option (List ℕ)) (status : Status) → TellsServed result a b status → IsAnswered status
+    → {P : Type 0} → OnOk result P → P
+served_whole (Ok done) a b status told answered h = h
+served_whole (Err unserved.NoListener) a b status told answered h = absurd (subst IsAnswered told.1 answered)
+served_whole (Err (unserved.Output output)) a b status told answered h = absurd (subst IsAnswered told.1 answered)
+served_whole (Err unserved.Stopped) a b status told answered h = absurd (subst IsAnswered told.1 answered)
+served_whole (Err (unserved.Fault fault)) a b status told answered h = absurd (subst IsAnswered told.failed answered)
 
 -- ---- closing
 
@@ -77,53 +93,72 @@ module _ (IsEnd : List ℕ → Status → Type 0) (a m b : Option (List ℕ)) (b
 
   pub prints_closed : Prints IsEnd a m before → Closes m b before after → Prints IsEnd a b after
   prints_closed h (inl same) = stays same h
-  prints_closed (Whole text ends h) (inr (fine, told, failed)) = Behind text before ends (told_behind a m b text h told) failed
-  prints_closed (Within text last ends h wrong) (inr (fine, told, failed)) = absurd (fine wrong)
-  prints_closed (Behind text last ends h wrong) (inr (fine, told, failed)) = absurd (fine wrong)
-  prints_closed (Before h wrong) (inr (fine, told, failed)) = absurd (fine wrong)
+  prints_closed (Whole text ends h) (inr (fine, told)) = Behind text before ends (told_behind a m b text after h told)
+  prints_closed (Within text last ends h) (inr (fine, told)) = absurd (fine (broken_failed text a m before h))
+  prints_closed (Behind text last ends h) (inr (fine, told)) = absurd (fine (told_failed a m text h.fault before h.told))
+  prints_closed (Before h) (inr (fine, told)) = absurd (fine (told_failed a m [] h.fault before h.told))
 
-pub failed_of_lines : (status : Status) → status ≡ Failed → IsOfLines status
-failed_of_lines status failed = (λ is. cc, λ is. cc)
+pub failed_of_lines : (status : Status) → IsFailed status → IsOfLines status
+failed_of_lines (Failed why) failed = (λ is. is, λ is. cc)
+failed_of_lines Done failed = absurd failed
+failed_of_lines SomeRefused failed = absurd failed
+failed_of_lines (BadWords outcome) failed = absurd failed
+failed_of_lines RunOpen failed = absurd failed
+failed_of_lines FileRefused failed = absurd failed
 
 lines_closed : (m b : Option (List ℕ)) (before after : Status) → IsOfLines before → Closes m b before after → IsOfLines after
 lines_closed m b before after h (inl same) = subst IsOfLines (sym same.0) h
-lines_closed m b before after h (inr (fine, told, failed)) = failed_of_lines after failed
+lines_closed m b before after h (inr (fine, told)) = failed_of_lines after (told_failed m b [] told.fault after told.told)
 
 -- ---- connections that were served
 
 -- how serving ended is told behind the lines of the connections
 pub serving_prints : (service : Service) (outcomes : List (Option ℕ)) (a m b : Option (List ℕ)) (result : Result (Unit {0}) Unserved) (status : Status)
+    → ((fault : Fault) → result ≡ Err (unserved.Fault fault) → IsFirstFault fault)
     → PrintsServed service outcomes a m result → TellsServed result m b status → PrintsEnd service outcomes a b result status
-serving_prints service outcomes a m b (Ok done) status h (same, is) = (subst (λ o. PrintsServed service outcomes a o (Ok done)) (sym same) h, is)
-serving_prints service outcomes a m b (Err unserved.NoListener) status h told = by h
+serving_prints service outcomes a m b (Ok done) status first h (same, is) = (subst (λ o. PrintsServed service outcomes a o (Ok done)) (sym same) h, is)
+serving_prints service outcomes a m b (Err unserved.NoListener) status first h told = by h
   where
     by : PrintsServed service outcomes a m (Err unserved.NoListener) → PrintsEnd service outcomes a b (Err unserved.NoListener) status
     by (Listened text port never) = absurd never
     by (Untold text port broken none failed is) = cc
-    by (Unlistened same none is) = (none, subst (λ o. PutsAs no_listener_line Failed o b status) same told)
-serving_prints service outcomes a m b (Err (unserved.Output failed)) status h (same, is) =
+    by (Unlistened same none is) = (none, subst (λ o. TellsNoListener o b status) same told)
+serving_prints service outcomes a m b (Err (unserved.Output failed)) status first h (same, is) =
     (subst (λ o. PrintsServed service outcomes a o (Err (unserved.Output failed))) (sym same) h, is)
-serving_prints service outcomes a m b (Err unserved.Stopped) status h (same, is) =
+serving_prints service outcomes a m b (Err unserved.Stopped) status first h (same, is) =
     (subst (λ o. PrintsServed service outcomes a o (Err unserved.Stopped)) (sym same) h, is)
+serving_prints service outcomes a m b (Err (unserved.Fault fault)) status first h told = by h
+  where
+    by : PrintsServed service outcomes a m (Err (unserved.Fault fault)) → PrintsEnd service outcomes a b (Err (unserved.Fault fault)) status
+    by (Listened text port behind) = record {
+      text = text;
+      port = port;
+      fewer = behind.0;
+      first = first fault refl;
+      told = tells_behind a m b (text ++ outcome_lines outcomes) fault status behind.1 told;
+    }
+    by (Untold text port broken none failed is) = cc
+    by (Unlistened same none is) = cc
 
 module _ (service : Service) (outcomes : List (Option ℕ)) (a m b : Option (List ℕ)) (before after : Status) where
-  failed_end : (why : Unserved) → PrintsEnd service outcomes a m (Err why) before → before ≡ Failed
-  failed_end unserved.NoListener (none, inl h) = h.0
-  failed_end unserved.NoListener (none, inr h) = h.0
-  failed_end (unserved.Output failed) h = h.1
-  failed_end unserved.Stopped h = h.1
+  failed_end : (why : Unserved) → PrintsEnd service outcomes a m (Err why) before → IsFailed before
+  failed_end unserved.NoListener (none, h) = subst IsFailed (sym h.1) tt
+  failed_end (unserved.Output output) h = subst IsFailed (sym h.1) tt
+  failed_end unserved.Stopped h = subst IsFailed (sym h.1) tt
+  failed_end (unserved.Fault fault) h = told_failed a m (h.text ++ outcome_lines outcomes) fault before h.told
 
-  unclosed : (done : Unit {0}) → PrintsServed service outcomes a m (Ok done) → TellsFault m b [] → after ≡ Failed → PrintsService service outcomes a b after
-  unclosed done (Listened text port h) told failed = Unclosed text port h.0 (told_behind a m b (text ++ outcome_lines outcomes) h.1 told) failed
-  unclosed done (Untold text port broken none cause is) told failed = cc
-  unclosed done (Unlistened same none is) told failed = cc
+  unclosed : (done : Unit {0}) → PrintsServed service outcomes a m (Ok done) → TellsFault m b [] after → PrintsService service outcomes a b after
+  unclosed done (Listened text port h) told = Unclosed text port h.0 (told_behind a m b (text ++ outcome_lines outcomes) after h.1 told)
+  unclosed done (Untold text port broken none cause is) told = cc
+  unclosed done (Unlistened same none is) told = cc
 
   service_closed : PrintsService service outcomes a m before → Closes m b before after → PrintsService service outcomes a b after
   service_closed h (inl same) =
       subst (λ s. PrintsService service outcomes a b s) (sym same.0) (subst (λ o. PrintsService service outcomes a o before) (sym same.1) h)
-  service_closed (Served (Ok done) h) (inr (fine, told, failed)) = unclosed done h.0 told failed
-  service_closed (Served (Err why) h) (inr (fine, told, failed)) = absurd (fine (failed_end why h))
-  service_closed (Unclosed text port all behind wrong) (inr (fine, told, failed)) = absurd (fine wrong)
+  service_closed (Served (Ok done) h) (inr (fine, told)) = unclosed done h.0 told
+  service_closed (Served (Err why) h) (inr (fine, told)) = absurd (fine (failed_end why h))
+  service_closed (Unclosed text port all h) (inr (fine, told)) =
+      absurd (fine (told_failed a m (text ++ outcome_lines outcomes) h.fault before h.told))
 
 module _ (a m b : Option (List ℕ)) (before after : Status) (closes : Closes m b before after) where
   work_closed : (it : Work) → PrintsWork it a m before → PrintsWork it a b after
@@ -135,7 +170,6 @@ module _ (a m b : Option (List ℕ)) (before after : Status) (closes : Closes m 
   refused_closed h = prints_closed IsRefusedEnd a m b before after h closes
 
   pub job_closed : (it : FileJob) → PrintsJob it a m before → PrintsJob it a b after
-  job_closed (job.Make first) h = prints_closed (IsMakingEnd first) a m b before after h closes
   job_closed job.Recover (inl h) = inl (prints_closed IsRecoveryEnd a m b before after h closes)
   job_closed job.Recover (inr h) = inr (refused_closed h)
   job_closed job.Migrate (inl h) = inl (prints_closed IsMigrationEnd a m b before after h closes)
@@ -146,12 +180,11 @@ module _ (a m b : Option (List ℕ)) (before after : Status) (closes : Closes m 
   job_closed (job.Serve service) (inr h) = inr (refused_closed h)
 
 -- a fault that came first
-pub job_before : (it : FileJob) (a b : Option (List ℕ)) (status : Status) → TellsFault a b [] → status ≡ Failed → PrintsJob it a b status
-job_before (job.Make first) a b status told failed = Before told failed
-job_before job.Recover a b status told failed = inl (Before told failed)
-job_before job.Migrate a b status told failed = inl (Before told failed)
-job_before (job.Work it) a b status told failed = inr (Before told failed)
-job_before (job.Serve service) a b status told failed = inr (Before told failed)
+pub job_before : (it : FileJob) (a b : Option (List ℕ)) (status : Status) → TellsFault a b [] status → PrintsJob it a b status
+job_before job.Recover a b status told = inl (Before told)
+job_before job.Migrate a b status told = inl (Before told)
+job_before (job.Work it) a b status told = inr (Before told)
+job_before (job.Serve service) a b status told = inr (Before told)
 
 -- ---- the store behind an agency
 
@@ -159,8 +192,11 @@ module _ {S : Type 0} (g : Ghosts S) (after : Seat S) (last : Held S) (same : la
   pub was_clean : HasCleanDisk (state g last) → IsClean g after
   was_clean clean = subst (λ (h : Held S). HasCleanDisk (state g h)) same clean
 
-  back : (P : conn.State → Type 0) → P (shown_by g after) → P (state g last)
+  pub back : (P : conn.State → Type 0) → P (shown_by g after) → P (state g last)
   back P h = subst (λ (h : Held S). P (state g h)) (sym same) h
+
+  pub kept_behind : (status : Status) → IsKept (shown_by g after) status → IsKept (state g last) status
+  kept_behind status h = back (λ s. IsKept s status) h
 
   module _ (a b : Option (List ℕ)) (status : Status) where
     pub work_ends : (old : Held S) (taken : Seat S) → machine g taken ≡ store.tables (state g old) → (input : Option (List ℕ)) (it : Work)
@@ -178,12 +214,13 @@ module _ {S : Type 0} (g : Ghosts S) (after : Seat S) (last : Held S) (same : la
   -- connections were served
   module _ (old : Held S) (taken : Seat S) (is : machine g taken ≡ store.tables (state g old)) (outcomes : List (Option ℕ))
       (served : IsServing g (stand g taken) outcomes after) where
-    pub serving_ends : (a b : Option (List ℕ)) (service : Service) (status : Status) → PrintsService service outcomes a b status
-        → IsServed (state g old) (state g last) a b service status
-    serving_ends a b service status printed = record {
+    pub serving_ends : (a b : Option (List ℕ)) (service : Service) (status : Status) → (status ≡ Done → after.is_stopped ≡ false)
+        → PrintsService service outcomes a b status → IsServed (state g old) (state g last) a b service status
+    serving_ends a b service status goes_on printed = record {
       outcomes = outcomes;
       printed = printed;
       is_stopped = after.is_stopped;
+      goes_on = goes_on;
       told =
           subst (λ t. AreTold (stand_of t) outcomes (stand_in (state g last)) after.is_stopped) is
           (back (λ new. AreTold (stand_of (machine g taken)) outcomes (stand_in new) after.is_stopped) served.told);

@@ -1,21 +1,20 @@
 -- Texts that were printed, whole or not.
-use Rattle.std.proofs.Common.{◌≡◌, inl, inr, true, false, ℕ, Option, List, [], length, take, Result, Ok, Err, refl, sym, subst, arith}
+use Rattle.std.proofs.Common.{◌≡◌, inl, inr, ℕ, Option, List, [], take, Result, Ok, Err, refl, sym, subst}
 use Rattle.std.specs.Io.KnownBytes.{Appends}
-use Rattle.std.specs.Prelude.{is_err}
-use Rattle.std.proofs.lemmas.Bool.{false≢true}
 use Rattle.std.proofs.KnownBytes.{Appends-trans}
-use Rattle.std.proofs.lemmas.List.{take_all}
 use Rattle.dh_types.specs.declared.answer.Answer.{Answer}
 use Rattle.dh_types.specs.declared.answer.Answer.TheVariants.{Refused}
 use Rattle.dh_types.specs.declared.reply.Fault.{Fault}
 use Rattle.dh_types.specs.declared.reply.Refusal.{Refusal}
-use Rattle.dh_types.specs.Output.{BreaksOff, Puts}
+use Rattle.dh_types.specs.declared.output.Output.{Output}
+use Rattle.dh_types.specs.Output.{Puts}
 use Rattle.dh_types.specs.Reports.{report_of}
 use Rattle.dh_reports.specs.ReportTexts.{report_text}
 use Rattle.dh_schema.specs.Faults.{IsFirstFault}
+use Rattle.dh_lines.specs.Batch.{PutsBehind}
 use Rattle.dh_office.specs.declared.status.Status.{Status}
-use Rattle.dh_office.specs.declared.status.Status.TheVariants.{Failed}
-use Rattle.dh_office.specs.Printed.{PutsAs, TellsFault, heard}
+use Rattle.dh_office.specs.Printed.{BreaksIn, PutsAs, Tells, TellsFault, heard}
+use Rattle.dh_office.specs.Statuses.{IsFailed}
 use Rattle.dh_office.specs.Texts.{fault_line, report_lines}
 
 -- an answer that is no refusal is its report
@@ -23,38 +22,40 @@ pub lines_is : (answer : Answer) → ((refusal : Refusal) → answer ≡ Refused
 lines_is (Refused refusal) h = absurd (h refusal refl)
 lines_is _ h = refl
 
-pub puts_as : {T E : Type 0} (r : Result T E) (text : List ℕ) (wanted status : Status) (a b : Option (List ℕ)) → status ≡ heard r wanted → Puts a b r text
+pub puts_as : {T : Type 0} (r : Result T Output) (text : List ℕ) (wanted status : Status) (a b : Option (List ℕ)) → status ≡ heard r wanted → Puts a b r text
     → PutsAs text wanted a b status
 puts_as (Ok it) text wanted status a b is h = inl (is, h)
-puts_as (Err e) text wanted status a b is h = inr (is, h)
+puts_as (Err output) text wanted status a b is h = inr (output, is, h)
 
--- whether a text was written whole
-pub broken_text : {T E : Type 0} (r : Result T E) (a b : Option (List ℕ)) (text : List ℕ) → is_err r ≡ true → Puts a b r text → BreaksOff a b text
-broken_text (Ok it) a b text is h = absurd (false≢true is)
-broken_text (Err e) a b text is h = h
-
-pub whole_text : {T E : Type 0} (r : Result T E) (a b : Option (List ℕ)) (text : List ℕ) → is_err r ≡ false → Puts a b r text → Appends a b text
-whole_text (Ok it) a b text is h = h
-whole_text (Err e) a b text is h = absurd (false≢true (sym is))
+-- a text that was written behind another, whole or not
+pub put_behind : {T E : Type 0} (a m b : Option (List ℕ)) (first second : List ℕ) (outcome : Result T E) → Appends a m first → PutsBehind m b [] outcome second
+    → PutsBehind a b first outcome second
+put_behind a m b first second (Ok it) h put = Appends-trans a m b first second h put
+put_behind a m b first second (Err e) h put = (put.0, put.1, Appends-trans a m b first (take put.0 second) h put.2)
 
 -- a fault that was told, behind nothing, and behind a text
-pub fault_told : (a b : Option (List ℕ)) (fault : Fault) → IsFirstFault fault → (taken : ℕ) × Appends a b (take taken (fault_line fault)) → TellsFault a b []
-fault_told a b fault first h = record { fault = fault; first = first; taken = h.0; written = h.1 }
+pub fault_told : (a b : Option (List ℕ)) (fault : Fault) (status : Status) → IsFirstFault fault → Tells fault a b [] status → TellsFault a b [] status
+fault_told a b fault status first h = record { fault = fault; first = first; told = h }
 
-pub told_behind : (a m b : Option (List ℕ)) (text : List ℕ) → Appends a m text → TellsFault m b [] → TellsFault a b text
-told_behind a m b text h told = record {
-  fault = told.fault;
-  first = told.first;
-  taken = told.taken;
-  written = Appends-trans a m b text (take told.taken (fault_line told.fault)) h told.written;
+pub tells_behind : (a m b : Option (List ℕ)) (text : List ℕ) (fault : Fault) (status : Status) → Appends a m text → Tells fault m b [] status
+    → Tells fault a b text status
+tells_behind a m b text fault status h told = record {
+  outcome = told.outcome;
+  failed = told.failed;
+  written = put_behind a m b text (fault_line fault) told.outcome h told.written;
 }
 
-pub fault_as : (a b : Option (List ℕ)) (fault : Fault) (status : Status) → IsFirstFault fault → PutsAs (fault_line fault) Failed a b status
-    → TellsFault a b [] × (status ≡ Failed)
-fault_as a b fault status first (inl (failed, h)) =
-    let all : take (length (fault_line fault)) (fault_line fault) ≡ fault_line fault = take_all (length (fault_line fault)) (fault_line fault) (omega arith) in
-    (fault_told a b fault first (length (fault_line fault), subst (Appends a b) (sym all) h), failed)
-fault_as a b fault status first (inr (failed, h)) = (fault_told a b fault first (h.0, h.2), failed)
+pub told_behind : (a m b : Option (List ℕ)) (text : List ℕ) (status : Status) → Appends a m text → TellsFault m b [] status → TellsFault a b text status
+told_behind a m b text status h told =
+    record { fault = told.fault; first = told.first; told = tells_behind a m b text told.fault status h told.told }
+
+-- ---- failures
+
+pub told_failed : (a b : Option (List ℕ)) (text : List ℕ) (fault : Fault) (status : Status) → Tells fault a b text status → IsFailed status
+told_failed a b text fault status told = subst IsFailed (sym told.failed) tt
+
+pub broken_failed : (text : List ℕ) (a b : Option (List ℕ)) (status : Status) → BreaksIn text a b status → IsFailed status
+broken_failed text a b status h = subst IsFailed (sym h.1) tt
 
 -- nothing was printed behind a text
 pub same_behind : (a m b : Option (List ℕ)) (text : List ℕ) → b ≡ m → Appends a m text → Appends a b text

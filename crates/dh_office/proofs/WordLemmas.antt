@@ -21,7 +21,7 @@ use Rattle.dh_words.specs.declared.kinds.Job.TheVariants.{Init, Batch, Run, Reco
 use Rattle.dh_office.specs.declared.status.Status.{Status}
 use Rattle.dh_office.specs.Desk.{AskedEnds, BadPrints, BatchEnds}
 use Rattle.dh_office.specs.Ends.{MemoryLinesEnd}
-use Rattle.dh_office.proofs.TextLemmas.{fault_as}
+use Rattle.dh_office.proofs.TextLemmas.{fault_told}
 
 -- ---- the word `batch` alone
 
@@ -77,7 +77,7 @@ module _ (a b input : Option (List ℕ)) (it : Status) where
       let same : Some (codes "batch", []) ≡ Some why.0 = sym batch_found ∙ why.1.1 in
       let here : (codes "batch", []) ≡ why.0 = cc in
       other_text (codes "batch") (codes "report") (λ is. omega (arith, is)) (ap (λ (sub : Text × List Row). sub.0) here ∙ why.3)
-  batch_bad bad.Memory why said = let told = fault_as a b fault.Memory it tt said in inr (told.0, told.1)
+  batch_bad bad.Memory why said = inr (fault_told a b fault.Memory it tt said)
 
   pub bad_ends : (words : List Text) → words ≡ codes "batch" ∷ [] → (why : BadWords) → IsBadFor words why → BadPrints why a b it
       → MemoryLinesEnd a b 24300 input it

@@ -1,5 +1,5 @@
 -- What comes of the words behind the program's name.
-use Rattle.std.specs.Prelude.{◌≡◌, ◌⊎◌, ℕ, List, ◌++◌, Option, Some, None, codes}
+use Rattle.std.specs.Prelude.{◌≡◌, ◌⊎◌, ℕ, List, [], ◌++◌, Option, Some, None, codes}
 use Rattle.sqlite_disk.specs.declared.Disk as disk
 use Rattle.sqlite_wal.specs.Recovery.{Image}
 use Rattle.clap.specs.Values.{kind_of}
@@ -17,20 +17,21 @@ use Rattle.dh_office.specs.declared.jobs.Work.TheVariants as work
 use Rattle.dh_office.specs.declared.taking.FileJob.TheVariants as job
 use Rattle.dh_office.specs.declared.status.Status.{Status}
 use Rattle.dh_office.specs.declared.status.Status.TheVariants as status
-use Rattle.dh_office.specs.Texts.{fault_line, refusal_line}
-use Rattle.dh_office.specs.Printed.{IsOfLines, PutsAs, Tries}
+use Rattle.dh_office.specs.Texts.{refusal_line}
+use Rattle.dh_office.specs.Statuses.{IsBad, IsFailed}
+use Rattle.dh_office.specs.Printed.{IsOfLines, PutsBad, Tells}
 use Rattle.dh_office.specs.Ends.{MemoryLinesEnd}
-use Rattle.dh_office.specs.OnFile.{DoneOnFile}
+use Rattle.dh_office.specs.OnFile.{DoneOnFile, MadeOnFile}
 
--- help is all that was asked for, and else the words are bad
-abbrev pub message_status : ErrorKind → Status
-message_status DisplayHelp = status.Done
-message_status DisplayVersion = status.Done
-message_status _ = status.BadWords
+-- Help is all that was asked for, and it was printed, or that failed; else the words are bad, whether it could be said why or not.
+abbrev pub IsOfMessage : ErrorKind → Status → Type 0
+IsOfMessage DisplayHelp it = (it ≡ status.Done) ⊎ IsFailed it
+IsOfMessage DisplayVersion it = (it ≡ status.Done) ⊎ IsFailed it
+IsOfMessage _ it = IsBad it
 
--- What `clap` says of the words was printed, or that failed. Bad words stay bad where it failed, and help is a failure then.
+-- what `clap` says of the words was printed, or that failed
 abbrev pub MessagePrints : Error → Status → Type 0
-MessagePrints error it = (it ≡ message_status (kind_of error)) ⊎ ((message_status (kind_of error) ≡ status.Done) × (it ≡ status.Failed))
+MessagePrints error it = IsOfMessage (kind_of error) it
 
 -- the option whose value is bad
 abbrev pub value_line : List ℕ → List ℕ
@@ -38,9 +39,9 @@ value_line option = codes "bad " ++ option ++ newline
 
 abbrev pub BadPrints : BadWords → Option (List ℕ) → Option (List ℕ) → Status → Type 0
 BadPrints (bad.Refused error) a b it = MessagePrints error it
-BadPrints (bad.Value option) a b it = Tries (value_line option.now) a b × (it ≡ status.BadWords)
-BadPrints (bad.Question refusal) a b it = Tries (refusal_line refusal) a b × (it ≡ status.BadWords)
-BadPrints bad.Memory a b it = PutsAs (fault_line fault.Memory) status.Failed a b it
+BadPrints (bad.Value option) a b it = PutsBad (value_line option.now) a b it
+BadPrints (bad.Question refusal) a b it = PutsBad (refusal_line refusal) a b it
+BadPrints bad.Memory a b it = Tells fault.Memory a b [] it
 
 -- on a disk of these ghosts, whose files held this as they were opened
 module _ {D : Type 0} (g : disk.Ghosts D) (held : Image) where
@@ -50,7 +51,7 @@ module _ {D : Type 0} (g : disk.Ghosts D) (held : Image) where
   BatchEnds (Some file) first input a b it = DoneOnFile g held (job.Work work.Lines) input a b it
 
   abbrev pub AskedEnds : Job → Option (List ℕ) → Option (List ℕ) → Option (List ℕ) → Status → Type 0
-  AskedEnds (Init file first) input a b it = DoneOnFile g held (job.Make first) input a b it
+  AskedEnds (Init file first) input a b it = MadeOnFile g held first a b it
   AskedEnds (Batch file first) input a b it = BatchEnds file first input a b it
   AskedEnds (Run file order batches) input a b it = DoneOnFile g held (job.Work (work.Run order batches)) input a b it
   AskedEnds (Recover file) input a b it = DoneOnFile g held job.Recover input a b it

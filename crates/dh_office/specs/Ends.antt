@@ -1,5 +1,5 @@
 -- How jobs end: what was printed, the status, and where the tables stand.
-use Rattle.std.specs.Prelude.{◌≡◌, ◌⊎◌, ℕ, ◌+◌, ◌<◌, ◌≤◌, List, [], ◌++◌, length, take, slice_get, Option, Some, IfSome, Bool, IsTrue}
+use Rattle.std.specs.Prelude.{◌≡◌, ◌⊎◌, ℕ, ◌+◌, ◌<◌, ◌≤◌, List, [], ◌++◌, length, take, slice_get, Option, Some, IfSome, Bool, false, IsTrue, Result}
 use Rattle.std.specs.Io.KnownBytes.{Appends}
 use Rattle.sqlite.specs.State as conn
 use Rattle.sqlite.specs.State.{HasCleanDisk}
@@ -13,7 +13,7 @@ use Rattle.dh_types.specs.declared.reply.Refusal.{Refusal}
 use Rattle.dh_types.specs.declared.reply.Refusal.TheVariants as refusal
 use Rattle.dh_types.specs.declared.reply.Fault.{Fault}
 use Rattle.dh_types.specs.declared.version.Version.TheVariants.{First, Second}
-use Rattle.dh_types.specs.Output.{BreaksOff}
+use Rattle.dh_types.specs.declared.output.Output.{Output}
 use Rattle.dh_model.specs.Books.{State, start}
 use Rattle.dh_schema.specs.Faults.{IsFirstFault}
 use Rattle.dh_schema.specs.Store as store
@@ -26,20 +26,24 @@ use Rattle.dh_migration.specs.Moved.{CanBeMigrated, IsNotMigrated, StaysAsItWas}
 use Rattle.dh_agency.specs.Taken.{TakesAsTheyAre, TakesForward}
 use Rattle.dh_agency.specs.Agency.{stand_of}
 use Rattle.dh_fields.specs.Lines.{Fields}
+use Rattle.dh_lines.specs.declared.outcome.BatchFault.{BatchFault}
+use Rattle.dh_lines.specs.declared.outcome.BatchFault.TheVariants as ended
+use Rattle.dh_lines.specs.declared.watching.Input.{Input}
 use Rattle.dh_lines.specs.Session as session
 use Rattle.dh_lines.specs.Session.{Answered, line, lines_from, records_of, replied, state_after}
-use Rattle.dh_lines.specs.Batch.{IsWithin}
+use Rattle.dh_lines.specs.Batch.{IsWithin, PutsBehind}
 use Rattle.dh_http.specs.declared.listening.Service.{Service}
 use Rattle.dh_http.specs.Service.{AreTold, IsAfterSome}
 use Rattle.dh_office.specs.declared.jobs.Work.{Work}
 use Rattle.dh_office.specs.declared.jobs.Work.TheVariants as work
 use Rattle.dh_office.specs.declared.taking.FileJob.{FileJob}
 use Rattle.dh_office.specs.declared.taking.FileJob.TheVariants as job
+use Rattle.dh_office.specs.declared.status.Failure.TheVariants as failure
 use Rattle.dh_office.specs.declared.status.Status.{Status}
 use Rattle.dh_office.specs.declared.status.Status.TheVariants.{Done, Failed}
-use Rattle.dh_office.specs.Statuses.{IsEnding, ending, problem_status, status_of}
-use Rattle.dh_office.specs.Texts.{created_line, migrated_line, problem_line, recovered_line}
-use Rattle.dh_office.specs.Printed.{PrintsService, PutsAs, TellsFault}
+use Rattle.dh_office.specs.Statuses.{IsEnding, ending, status_of}
+use Rattle.dh_office.specs.Texts.{migrated_line, recovered_line}
+use Rattle.dh_office.specs.Printed.{BreaksIn, PrintsService, PutsAs, TellsFault, TellsProblem}
 use Rattle.dh_office.specs.Jobs.{IsRunCut, lines_answered, report_shown, run_told, stand_in}
 
 -- ---- over tables that were taken
@@ -48,38 +52,38 @@ use Rattle.dh_office.specs.Jobs.{IsRunCut, lines_answered, report_shown, run_tol
 -- behind it, as the open run was asked for.
 pub data Comes (new : conn.State) (a b : Option (List ℕ)) (it : Answered) (status : Status) : Type 0 where
   Told : Appends a b it.text → stand_in new ≡ it.state → status ≡ status_of it → Comes new a b it status
-  Unheard : BreaksOff a b it.text → stand_in new ≡ it.state → status ≡ Failed → Comes new a b it status
-  Unasked : TellsFault a b it.text → (IsTrue new.is_open → stand_in new ≡ it.state) → status ≡ Failed → Comes new a b it status
+  Unheard : BreaksIn it.text a b status → stand_in new ≡ it.state → Comes new a b it status
+  Unasked : TellsFault a b it.text status → (IsTrue new.is_open → stand_in new ≡ it.state) → Comes new a b it status
 
 -- A fault came first, and was told. Of tables that can be read this holds.
 pub record Breaks (new : conn.State) (a b : Option (List ℕ)) (P : State → Type 0) (status : Status) : Type 0 where
-  pub told : TellsFault a b []
+  pub told : TellsFault a b [] status
   pub left : IsTrue new.is_open → P (store.tables new)
-  pub failed : status ≡ Failed
 
--- The first records were answered, and then no more: by a fault within the next one, whose line or a beginning of it follows;
+-- The first records were answered, and then no more, for this: by a fault within the next one, whose line follows as the outcome says;
 -- by a reader that failed; or by a writer that failed in the next one's line, which was carried out.
-pub data Stops (new : conn.State) (a b : Option (List ℕ)) (s : State) (rows : List Fields) : Type 0 where
-  AtFault : (count : ℕ) (fault : Fault) (taken : ℕ) → count ≤ length rows
-      → Appends a b (lines_from 1 s (take count rows) ++ take taken (session.fault_line (count + 1) fault))
-      → (IsTrue new.is_open → IsWithin (state_after s (take count rows)) (slice_get rows count) (store.tables new)) → Stops new a b s rows
-  AtReading : (count : ℕ) → count ≤ length rows → Appends a b (lines_from 1 s (take count rows))
-      → stand_in new ≡ state_after s (take count rows) → Stops new a b s rows
-  AtWriting : (count : ℕ) (fields : Fields) (cut : ℕ) → slice_get rows count ≡ Some fields
+pub data Stops (new : conn.State) (a b : Option (List ℕ)) (s : State) (rows : List Fields) (why : BatchFault) : Type 0 where
+  AtFault : (count : ℕ) (fault : Fault) (outcome : Result (Unit {0}) Output) → why ≡ ended.Agency fault → count ≤ length rows
+      → PutsBehind a b (lines_from 1 s (take count rows)) outcome (session.fault_line (count + 1) fault)
+      → (IsTrue new.is_open → IsWithin (state_after s (take count rows)) (slice_get rows count) (store.tables new)) → Stops new a b s rows why
+  AtReading : (count : ℕ) (cause : Input) → why ≡ ended.Input cause → count ≤ length rows → Appends a b (lines_from 1 s (take count rows))
+      → stand_in new ≡ state_after s (take count rows) → Stops new a b s rows why
+  AtWriting : (count : ℕ) (output : Output) (fields : Fields) (cut : ℕ) → why ≡ ended.Output output → slice_get rows count ≡ Some fields
       → cut < length (line (count + 1) (state_after s (take count rows)) fields)
       → Appends a b (lines_from 1 s (take count rows) ++ take cut (line (count + 1) (state_after s (take count rows)) fields))
-      → stand_in new ≡ state_after s (take (count + 1) rows) → Stops new a b s rows
+      → stand_in new ≡ state_after s (take (count + 1) rows) → Stops new a b s rows why
 
 abbrev pub LinesEnd : conn.State → Option (List ℕ) → Option (List ℕ) → State → List ℕ → Status → Type 0
 LinesEnd new a b s input status =
-    Comes new a b (lines_answered s (records_of input)) status ⊎ (Stops new a b s (records_of input) × (status ≡ Failed))
+    Comes new a b (lines_answered s (records_of input)) status
+    ⊎ ((why : BatchFault) × Stops new a b s (records_of input) why × (status ≡ Failed (failure.Lines why)))
 
 -- Nothing is printed, and the status is by what is left; or a fault came, and was told. The tables are as they were.
 abbrev pub Finishes : conn.State → conn.State → Option (List ℕ) → Option (List ℕ) → Bool → Status → Type 0
 Finishes old new a b is_refused status =
     ((b ≡ a) × IsEnding is_refused status
     × (HasCleanDisk new → (store.tables new ≡ store.tables old) × (status ≡ ending is_refused (store.tables old).open_run)))
-    ⊎ (TellsFault a b [] × (HasCleanDisk new → IsTrue new.is_open → store.tables new ≡ store.tables old) × (status ≡ Failed))
+    ⊎ (TellsFault a b [] status × (HasCleanDisk new → IsTrue new.is_open → store.tables new ≡ store.tables old))
 
 -- a month's run over these tables
 abbrev pub RunEnds : conn.State → Option (List ℕ) → Option (List ℕ) → State → RunOrder → Option ℕ → Status → Type 0
@@ -100,7 +104,7 @@ WorkEnds new a b t input (work.Report question) status = ReportEnds new a b t qu
 pub record IsNotTaken (IsCause : Problem → Type 0) (a b : Option (List ℕ)) (status : Status) : Type 0 where
   pub problem : Problem
   pub cause : IsCause problem
-  pub told : PutsAs (problem_line problem) (problem_status problem) a b status
+  pub told : TellsProblem problem a b status
 
 -- The tables were sound and of the second version, and were worked on; or they were not taken, and are as they were.
 abbrev pub TakingEnds : conn.State → conn.State → Option (List ℕ) → Option (List ℕ) → Option (List ℕ) → Work → Status → Type 0
@@ -140,29 +144,24 @@ MigrationEnds old new a b status =
     (CanBeMigrated old.now.trees × (store.tables new ≡ migrated_state (store.tables old)) × PutsAs migrated_line Done a b status)
     ⊎ (IsNotTaken (IsNotMigrated old.now.trees) a b status × (IsTrue new.is_open → StaysAsItWas old new))
 
--- The tables of empty books were made; or a fault came, and what was committed is as it was.
-abbrev pub MakingEnds : conn.State → conn.State → Option (List ℕ) → Option (List ℕ) → ℕ → Status → Type 0
-MakingEnds old new a b first status =
-    ((store.tables new ≡ start first) × PutsAs (created_line first) Done a b status)
-    ⊎ (TellsFault a b [] × (status ≡ Failed) × (IsTrue new.is_open → new.committed ≡ old.committed))
-
 -- Lines are answered from the beginning with this month; or there was no agency, for a fault.
 abbrev pub NewLinesEnd : conn.State → Option (List ℕ) → Option (List ℕ) → ℕ → Option (List ℕ) → Status → Type 0
 NewLinesEnd new a b first input status =
-    IfSome input (λ input. LinesEnd new a b (start first) input status) ⊎ (TellsFault a b [] × (status ≡ Failed))
+    IfSome input (λ input. LinesEnd new a b (start first) input status) ⊎ TellsFault a b [] status
 
 -- the same in memory, which leaves some tables
 abbrev pub MemoryLinesEnd : Option (List ℕ) → Option (List ℕ) → ℕ → Option (List ℕ) → Status → Type 0
 MemoryLinesEnd a b first input status =
-    ((left : Held MemStore) × NewLinesEnd (state over_memory left) a b first input status) ⊎ (TellsFault a b [] × (status ≡ Failed))
+    ((left : Held MemStore) × NewLinesEnd (state over_memory left) a b first input status) ⊎ TellsFault a b [] status
 
 -- Connections were served, and the outcomes that were printed are those of the machine's answers; the tables that can be read are the machine's
--- behind some connections.
+-- behind some connections. An end that is done says that the agency goes on, and so does the status of each connection.
 pub record IsServed (old new : conn.State) (a b : Option (List ℕ)) (service : Service) (status : Status) : Type 0 where
   pub outcomes : List (Option ℕ)
   pub printed : PrintsService service outcomes a b status
   pub is_stopped : Bool
   pub told : AreTold (stand_of (store.tables old)) outcomes (stand_in new) is_stopped
+  pub goes_on : status ≡ Done → is_stopped ≡ false
   pub reads : IsTrue new.is_open → IsAfterSome (stand_of (store.tables old)) (store.tables new)
 
 -- The tables were sound and of the second version, and connections were served; or they were not taken.
@@ -172,7 +171,6 @@ ServingEnds old new a b service status =
     ⊎ (IsNotTaken (IsProblemOf Second old.now.trees) a b status × TakesAsTheyAre old new)
 
 abbrev pub JobEnds : conn.State → conn.State → Option (List ℕ) → Option (List ℕ) → Option (List ℕ) → FileJob → Status → Type 0
-JobEnds old new a b input (job.Make first) status = MakingEnds old new a b first status
 JobEnds old new a b input job.Recover status = RecoveryEnds old new a b status
 JobEnds old new a b input job.Migrate status = MigrationEnds old new a b status
 JobEnds old new a b input (job.Work it) status = TakingEnds old new a b input it status

@@ -2,8 +2,8 @@
 use Rattle.std.specs.Prelude.{◌≡◌, ◌⊎◌, ◌≤◌, List, ◌++◌, length}
 use Rattle.sqlite.specs.State as conn
 use Rattle.sqlite.specs.State.{HasCleanDisk}
-use Rattle.dh_model.specs.Books.{State, start}
-use Rattle.dh_schema.specs.Store.{Commits, Leaves, tables}
+use Rattle.dh_model.specs.Books.{State}
+use Rattle.dh_schema.specs.Store.{Leaves, LeavesItsTables, tables}
 use Rattle.dh_schema.specs.Tables.{IsSound}
 use Rattle.dh_runs.specs.Taking.{LeavesAsTheyWere}
 use Rattle.dh_migration.specs.Moved.{MovesOn}
@@ -16,7 +16,13 @@ use Rattle.dh_office.specs.declared.jobs.Work.{Work}
 use Rattle.dh_office.specs.declared.jobs.Work.TheVariants as work
 use Rattle.dh_office.specs.declared.taking.FileJob.{FileJob}
 use Rattle.dh_office.specs.declared.taking.FileJob.TheVariants as job
+use Rattle.dh_office.specs.declared.status.Status.{Status}
 use Rattle.dh_office.specs.Jobs.{IsRunCut}
+use Rattle.dh_office.specs.Statuses.{IsAnswered}
+
+-- What was told is there: where a job was answered, a crash now leaves the tables alone that the store reads.
+abbrev pub IsKept : conn.State → Status → Type 0
+IsKept s status = HasCleanDisk s → IsAnswered status → LeavesItsTables s
 
 -- Some records were answered, and one more at most was being answered: the whole of the tables is the machine's books after those, or
 -- after that one too.
@@ -43,7 +49,6 @@ pub record ServingLeaves (old new : conn.State) : Type 0 where
   pub untouched : HasCleanDisk new → ¬ IsSound old.now.trees → LeavesAsTheyWere old new
 
 abbrev pub JobLeaves : conn.State → conn.State → FileJob → Type 0
-JobLeaves old new (job.Make first) = Commits old new (λ t. t ≡ start first)
 JobLeaves old new job.Recover = TakesForward old new
 JobLeaves old new job.Migrate = MovesOn old new
 JobLeaves old new (job.Work it) = TakingLeaves old new it

@@ -1,17 +1,13 @@
--- What a process prints by its words, and its exit status.
+-- What a process prints by its words, and how it ends.
 use Rattle.std.specs.Prelude.{◌≡◌, ◌⊎◌, ◌++◌, ℕ, List, [], ◌∷◌, codes, Option}
-use Rattle.std.specs.IoError.{error_kind}
-use Rattle.std.specs.declared.io.Error.{Error}
 use Rattle.std.specs.declared.io.ErrorKind.{ErrorKind}
 use Rattle.std.specs.declared.io.ErrorKind.TheVariants.{InvalidData}
 use Rattle.sqlite_disk.specs.declared.Disk as disk
 use Rattle.sqlite_wal.specs.Recovery.{Image}
 use Rattle.dh_reports.specs.Columns.{newline}
 use Rattle.dh_office.specs.declared.status.Status.{Status}
-use Rattle.dh_office.specs.declared.status.Status.TheVariants.{BadWords, Failed}
 use Rattle.dh_office.specs.Desk.{DeskEnds}
-use Rattle.dh_office.specs.Printed.{TellsFault, Tries}
-use Rattle.dh_office.specs.Statuses.{status_code}
+use Rattle.dh_office.specs.Printed.{PutsBad, TellsFault}
 
 -- the words behind the program's name
 abbrev pub behind_name : {A : Type 0} → List A → List A
@@ -22,11 +18,7 @@ behind_name (name ∷ words) = words
 module _ {D : Type 0} (g : disk.Ghosts D) (held : Image) where
   -- What the words behind the program's name ask for was done; or there was no memory to look at them.
   abbrev pub WordsEnd : List (List ℕ) → Option (List ℕ) → Option (List ℕ) → Option (List ℕ) → Status → Type 0
-  WordsEnd words input a b status = DeskEnds g held (behind_name words) input a b status ⊎ (TellsFault a b [] × (status ≡ Failed))
-
-  -- The exit status says how that ended.
-  abbrev pub ProcessEnds : List (List ℕ) → Option (List ℕ) → Option (List ℕ) → Option (List ℕ) → ℕ → Type 0
-  ProcessEnds words input a b code = (status : Status) × (code ≡ status_code status) × WordsEnd words input a b status
+  WordsEnd words input a b status = DeskEnds g held (behind_name words) input a b status ⊎ TellsFault a b [] status
 
 abbrev pub no_text_line : List ℕ
 no_text_line = codes "error: invalid UTF-8 was detected in one or more arguments" ++ newline
@@ -34,7 +26,4 @@ no_text_line = codes "error: invalid UTF-8 was detected in one or more arguments
 -- why the words can't be had: one of them is no text, which makes them bad words; else memory ran out
 abbrev pub UnreadPrints : ErrorKind → Option (List ℕ) → Option (List ℕ) → Status → Type 0
 UnreadPrints kind a b status =
-    ((kind ≡ InvalidData) × Tries no_text_line a b × (status ≡ BadWords)) ⊎ (¬ (kind ≡ InvalidData) × TellsFault a b [] × (status ≡ Failed))
-
-abbrev pub WordsRefused : Error → Option (List ℕ) → Option (List ℕ) → ℕ → Type 0
-WordsRefused error a b code = (status : Status) × (code ≡ status_code status) × UnreadPrints (error_kind error) a b status
+    ((kind ≡ InvalidData) × PutsBad no_text_line a b status) ⊎ (¬ (kind ≡ InvalidData) × TellsFault a b [] status)

@@ -1,8 +1,6 @@
 -- How the program ends.
-use Rattle.std.specs.Prelude.{◌≡◌, ◌⊎◌, ℕ, Bool, true, false, Option, Some, None}
+use Rattle.std.specs.Prelude.{◌≡◌, ◌⊎◌, ℕ, Bool, true, false, Option, Some, None, ⊤}
 use Rattle.dh_model.specs.declared.open_run.OpenRun.{OpenRun}
-use Rattle.dh_runs.specs.declared.problem.Problem.{Problem}
-use Rattle.dh_runs.specs.declared.problem.Problem.TheVariants as problem
 use Rattle.dh_lines.specs.Session.{Answered}
 use Rattle.dh_office.specs.declared.status.Status.{Status}
 use Rattle.dh_office.specs.declared.status.Status.TheVariants.{Done, SomeRefused, BadWords, Failed, RunOpen, FileRefused}
@@ -11,8 +9,8 @@ use Rattle.dh_office.specs.declared.status.Status.TheVariants.{Done, SomeRefused
 abbrev pub status_code : Status → ℕ
 status_code Done = 0
 status_code SomeRefused = 1
-status_code BadWords = 2
-status_code Failed = 3
+status_code (BadWords outcome) = 2
+status_code (Failed why) = 3
 status_code RunOpen = 4
 status_code FileRefused = 5
 
@@ -30,7 +28,19 @@ abbrev pub IsEnding : Bool → Status → Type 0
 IsEnding true status = status ≡ SomeRefused
 IsEnding false status = (status ≡ Done) ⊎ (status ≡ RunOpen)
 
--- a refusal of the tables is the file's, and all else a failure
-abbrev pub problem_status : Problem → Status
-problem_status (problem.Refused why) = FileRefused
-problem_status (problem.Fault fault) = Failed
+-- the words were bad
+abbrev pub IsBad : Status → Type 0
+IsBad (BadWords outcome) = ⊤
+IsBad _ = ⊥
+
+-- a job failed
+abbrev pub IsFailed : Status → Type 0
+IsFailed (Failed why) = ⊤
+IsFailed _ = ⊥
+
+-- the tables were taken, and what was asked of them was answered
+abbrev pub IsAnswered : Status → Type 0
+IsAnswered Done = ⊤
+IsAnswered SomeRefused = ⊤
+IsAnswered RunOpen = ⊤
+IsAnswered _ = ⊥

@@ -6,8 +6,6 @@ use Rattle.dh_types.specs.declared.reply.Refusal.{Refusal}
 use Rattle.dh_types.specs.declared.reply.Fault.{Fault}
 use Rattle.dh_types.specs.Replies.{fault_text, refusal_text, reply_text}
 use Rattle.dh_types.specs.Reports.{Report, NoReport}
-use Rattle.dh_runs.specs.declared.problem.Problem.{Problem}
-use Rattle.dh_runs.specs.declared.problem.Problem.TheVariants as problem
 use Rattle.dh_reports.specs.ReportTexts.{report_text}
 use Rattle.dh_reports.specs.Columns.{newline}
 
@@ -24,10 +22,6 @@ fault_line fault = fault_text fault ++ newline
 abbrev pub report_lines : Report → List ℕ
 report_lines (NoReport why) = refusal_line why
 report_lines it = report_text it
-
-abbrev pub problem_line : Problem → List ℕ
-problem_line (problem.Refused why) = refusal_line why
-problem_line (problem.Fault fault) = fault_line fault
 
 -- the month that new books begin with
 abbrev pub created_line : ℕ → List ℕ

@@ -1,152 +1,123 @@
 //! Jobs on files and in memory: a store is opened for one job, and closed.
 
-ghost use Rattle.std.specs.Prelude.{◌≡◌, ◌≢◌, ℕ, take, IfErr};
-ghost use Rattle.std.specs.Io.KnownBytes.{Appends};
+ghost use Rattle.std.specs.Prelude.{◌≡◌, ℕ, [], IfErr, IfOk};
 ghost use Rattle.sqlite_wal.specs.Files.{image_at};
 ghost use Rattle.sqlite.specs.Files.{file_state};
 ghost use Rattle.sqlite.specs.State.{HasCleanDisk};
 ghost use Rattle.dh_runs.specs.Taking.{IsResting};
-ghost use Rattle.dh_schema.specs.Faults.{IsFirstFault, fault_of};
+ghost use Rattle.dh_schema.specs.Faults.{IsFirstFault};
 ghost use Rattle.dh_office.specs.Ends.{MemoryLinesEnd};
-ghost use Rattle.dh_office.specs.OnFile.{DoneOnFile, EndsOnFile, HasItsFiles};
-ghost use Rattle.dh_office.specs.Printed.{Closes, IsOfLines, PrintsJob};
-ghost use Rattle.dh_office.specs.Texts.{fault_line};
+ghost use Rattle.dh_office.specs.OnFile.{DoneOnFile, EndsOnFile, HasCommits, IsOpenedOn, MadeOnFile, MakesOnFile};
+ghost use Rattle.dh_office.specs.Printed.{Closes, IsMakingEnd, IsOfLines, Prints, PrintsJob, Tells};
+ghost use Rattle.dh_office.specs.Statuses.{IsFailed};
 
+use crate::sites::{Site, leave};
 use crate::status::Status;
 use crate::taking::{FileJob, begin, do_job};
-use crate::telling::tell_fault;
+use crate::telling::{heard, print_created, tell_fault};
+use dh_agency::{NotOpened, create};
 use dh_schema::fault_of;
 use dh_types::{EntryMonth, Fault};
-use sqlite::{Connection, Error, FileFrom, FileStore, Start};
-use sqlite_disk::Disk;
-use std::alloc::{AllocError, Global};
-use std::fs;
-use std::io::{ErrorKind, Read, Write};
+use sqlite::{Connection, Error, ErrorCode, FileFrom, FileStore, Start};
+use sqlite_disk::{Disk, Files};
+use std::alloc::Global;
+use std::io::{Read, Write};
 
-/// A page of a database has so many bytes at least, so a shorter file is none.
-const LEAST_BYTES: u64 = 512;
+// Whether another has the file open.
+fn is_busy(error: &Error) -> bool {
+    matches!(error, Error::SqliteFailure(ErrorCode::DatabaseBusy))
+}
 
-/// A new database without tables is one page of so many bytes.
-const EMPTY_BYTES: u64 = 4096;
-
-// Whether the job may open this path. An open makes a file where there is none, and a database of an empty file or of a beginning of one, so
-// only new tables may be asked for there.
-fn look(rt: &HostRuntime, path: &str, job: &FileJob) -> Result<(), Fault>
-    ensures { IfErr result IsFirstFault }
+// Opens the file at this path. An opening makes a file where there is none, so the path has to name the file still that was found there.
+fn open_at<S: Start>(
+    rt: &HostRuntime,
+    start: S,
+    path: &str,
+    site: &Site,
+) -> Result<Connection<FileStore<FileFrom<S>>>, Fault>
+    ensures opened { IfOk result (IsOpenedOn (image_at S.Start)) }
+    ensures cause { IfErr result IsFirstFault }
 {
-    if matches!(job, FileJob::Make(_)) {
-        return Ok(());
-    }
-    match fs::metadata(rt, path) {
-        Ok(found) if found.is_file() && found.len() >= LEAST_BYTES => Ok(()),
-        Err(error) if error.kind() == ErrorKind::OutOfMemory => Err(Fault::Memory),
-        _ => Err(Fault::Store),
+    match Connection::open_from(rt, path, false, start) {
+        Ok(conn) => {
+            if site.admits(rt, &conn) {
+                return Ok(conn);
+            }
+            leave(rt, path, site, conn);
+            Err(Fault::Store)
+        }
+        Err((error, left)) => {
+            if !is_busy(&error) {
+                site.clear(rt);
+            }
+            drop(left);
+            Err(fault_of(error))
+        }
     }
 }
 
-// The status behind a closing that failed. That is told, where nothing had failed before.
-fn tell_unclosed<W: Write>(error: Error, status: Status, writer: &mut W) -> Status
-    ensures closes { Closes (W.contents writer.old) (W.contents writer.new) status result }
-    ensures failed { result ≡ Status.Failed }
-    ensures told { status ≢ Status.Failed
-        → (taken : ℕ) × Appends (W.contents writer.old) (W.contents writer.new) (take taken (fault_line (fault_of error))) }
-{
-    if matches!(status, Status::Failed) {
-        return status;
-    }
-    tell_fault(writer, fault_of(error))
-}
-
-// Closes the files of a store behind a job that ended so, and gives the status that the program ends with.
-fn close_files<D: Disk + Drop, W: Write>(
+// Closes the store, whose files the path has to name still, and gives them. Where that fails, the place of new tables is left as it was found.
+fn close<D: Disk + Drop>(
+    rt: &HostRuntime,
     conn: Connection<FileStore<D>>,
-    status: Status,
-    writer: &mut W,
-) -> Status
-    ensures closes { Closes (W.contents writer.old) (W.contents writer.new) status result }
-    ensures copied { result ≢ Status.Failed → HasItsFiles conn }
+    site: &Site,
+) -> Result<Files<D>, Fault>
+    ensures copied { IfOk result (HasCommits conn) }
+    ensures cause { IfErr result IsFirstFault }
 {
     match conn.close_files() {
         Ok(files) => {
+            if site.is_there(rt) {
+                return Ok(files);
+            }
+            site.clear(rt);
             drop(files);
-            status
+            Err(Fault::Store)
         }
         Err((error, store)) => {
+            site.clear(rt);
             drop(store.close());
-            tell_unclosed(error, status, writer)
+            Err(fault_of(error))
         }
     }
+}
+
+// The status behind a closing that met this fault. It is told, where nothing had failed before.
+fn tell_unclosed<W: Write>(fault: Fault, status: Status, writer: &mut W) -> Status
+    requires { IsFirstFault fault }
+    ensures closes { Closes (W.contents writer.old) (W.contents writer.new) status result }
+    ensures failed { IsFailed result }
+    ensures told { ¬ IsFailed status → Tells fault (W.contents writer.old) (W.contents writer.new) [] result }
+{
+    if status.is_failed() {
+        return status;
+    }
+    tell_fault(writer, fault)
 }
 
 // Does the job over the store of a file, and closes it whatever came of the job, so that the file has all that was committed.
 fn do_and_close<D: Disk + Drop, R: Read, W: Write>(
     rt: &HostRuntime,
     conn: Connection<FileStore<D>>,
+    site: &Site,
     job: FileJob,
     reader: &mut R,
     writer: &mut W,
-) -> Status
+) -> (Status, Option<Files<D>>)
     requires { HasCleanDisk (file_state conn) → IsResting (file_state conn) }
-    ensures printed { PrintsJob job (W.contents writer.old) (W.contents writer.new) result }
-    ensures ends { EndsOnFile conn job (R.remaining reader.old) (W.contents writer.old) (W.contents writer.new) result }
+    ensures printed { PrintsJob job (W.contents writer.old) (W.contents writer.new) result.0 }
+    ensures ends { EndsOnFile conn job (R.remaining reader.old) (W.contents writer.old) (W.contents writer.new) result.0 result.1 }
 {
-    let (status, conn) = do_job(rt, conn, job, reader, writer);
-    close_files(conn, status, writer)
-}
-
-// Does the job on the file at this path, and closes it.
-fn open_and_do<S: Start, R: Read, W: Write>(
-    rt: &HostRuntime,
-    start: S,
-    path: &str,
-    job: FileJob,
-    reader: &mut R,
-    writer: &mut W,
-) -> Status
-    ensures { DoneOnFile ⟦<FileFrom<S> as Disk>⟧ (image_at S.Start) job (R.remaining reader.old) (W.contents writer.old) (W.contents writer.new) result }
-{
-    if let Err(fault) = look(rt, path, &job) {
-        return tell_fault(writer, fault);
+    let (done, conn) = do_job(rt, conn, job, reader, writer);
+    match close(rt, conn, site) {
+        Ok(files) => (done, Some(files)),
+        Err(fault) => (tell_unclosed(fault, done, writer), None),
     }
-    match Connection::open_from(rt, path, false, start) {
-        Ok(conn) => do_and_close(rt, conn, job, reader, writer),
-        Err((error, _)) => tell_fault(writer, fault_of(error)),
-    }
-}
-
-// Whether nothing stands at the path, not even a link that leads nowhere.
-fn is_free(rt: &HostRuntime, path: &str) -> bool {
-    matches!(fs::symlink_metadata(rt, path), Err(error) if error.kind() == ErrorKind::NotFound)
-}
-
-// How many bytes the file at the path has: 0 where there is none.
-fn size_at(rt: &HostRuntime, path: &str) -> u64 {
-    match fs::metadata(rt, path) {
-        Ok(found) if found.is_file() => found.len(),
-        _ => 0,
-    }
-}
-
-// Takes away the file at the path. A link stays, as no open makes one.
-fn remove(rt: &HostRuntime, path: &str) {
-    if matches!(fs::symlink_metadata(rt, path), Ok(found) if found.is_file()) {
-        let _ = fs::remove_file(rt, path);
-    }
-}
-
-// Takes away what is left of a file in which no tables were made.
-fn take_away(rt: &HostRuntime, path: &str) -> Result<(), AllocError> {
-    let log = format!(in rt.alloc(); "{path}-wal")?;
-    if size_at(rt, path) <= EMPTY_BYTES && size_at(rt, log.as_str()) == 0 {
-        remove(rt, path);
-        remove(rt, log.as_str());
-    }
-    Ok(())
 }
 
 /// Does the job on the file at this path. Fault 21 where an open or a look wants memory, and fault 22 where there is no file, nothing or
-/// no database in it, or it can't be opened or closed. The file is closed whatever came of the job, so that it has all that was committed.
-/// Where nothing stood at the path and no tables could be made there, nothing is left there.
+/// no database in it, or it can't be opened or closed, or the path names another file behind the job. The file is closed whatever came of
+/// the job, so that it has all that was committed.
 pub(crate) fn do_on_file<S: Start, R: Read, W: Write>(
     rt: &HostRuntime,
     start: S,
@@ -157,12 +128,70 @@ pub(crate) fn do_on_file<S: Start, R: Read, W: Write>(
 ) -> Status
     ensures { DoneOnFile ⟦<FileFrom<S> as Disk>⟧ (image_at S.Start) job (R.remaining reader.old) (W.contents writer.old) (W.contents writer.new) result }
 {
-    let is_new = matches!(job, FileJob::Make(_)) && is_free(rt, path);
-    let status = open_and_do(rt, start, path, job, reader, writer);
-    if is_new && matches!(status, Status::Failed) {
-        let _ = take_away(rt, path);
+    let site = match Site::found(rt, path) {
+        Ok(site) => site,
+        Err(fault) => return tell_fault(writer, fault),
+    };
+    match open_at(rt, start, path, &site) {
+        Ok(conn) => {
+            let (status, _) = do_and_close(rt, conn, &site, job, reader, writer);
+            status
+        }
+        Err(fault) => tell_fault(writer, fault),
     }
-    status
+}
+
+// Makes the tables of empty books in the store of a new file, closes it, and then tells that. Where they can't be made or closed, the place is
+// left as it was found.
+fn make_and_close<D: Disk + Drop, W: Write>(
+    rt: &HostRuntime,
+    conn: Connection<FileStore<D>>,
+    site: &Site,
+    first: EntryMonth,
+    writer: &mut W,
+) -> (Status, Option<Files<D>>)
+    ensures printed { Prints (IsMakingEnd first) (W.contents writer.old) (W.contents writer.new) result.0 }
+    ensures ends { MakesOnFile conn first (W.contents writer.old) (W.contents writer.new) result.0 result.1 }
+{
+    match create(rt.alloc(), conn, first.month()) {
+        Ok(agency) => match close(rt, agency.into_store(), site) {
+            Ok(files) => (
+                heard(print_created(writer, first), Status::Done),
+                Some(files),
+            ),
+            Err(fault) => (tell_fault(writer, fault), None),
+        },
+        Err(NotOpened { cause, conn }) => {
+            site.clear(rt);
+            drop(conn.into_store().close());
+            (tell_fault(writer, cause), None)
+        }
+    }
+}
+
+/// Makes the file of an agency whose books begin with this month, where nothing is at the path, or an empty file, beside no log with news.
+/// Fault 21 where memory runs out, and fault 22 where something else is there, another call has the file, or it can't be made or closed:
+/// then what was found is left.
+pub(crate) fn make_on_file<S: Start, W: Write>(
+    rt: &HostRuntime,
+    start: S,
+    path: &str,
+    first: EntryMonth,
+    writer: &mut W,
+) -> Status
+    ensures { MadeOnFile ⟦<FileFrom<S> as Disk>⟧ (image_at S.Start) first (W.contents writer.old) (W.contents writer.new) result }
+{
+    let site = match Site::new(rt, path) {
+        Ok(site) => site,
+        Err(fault) => return tell_fault(writer, fault),
+    };
+    match open_at(rt, start, path, &site) {
+        Ok(conn) => {
+            let (status, _) = make_and_close(rt, conn, &site, first, writer);
+            status
+        }
+        Err(fault) => tell_fault(writer, fault),
+    }
 }
 
 /// Answers lines in memory, from the beginning with this month.

@@ -1,16 +1,17 @@
 //! What is done over tables that were taken, and how that ends.
 
-ghost use Rattle.std.specs.Prelude.{◌≡◌, ◌≢◌, false, IfOk, IfErr, IfSome, OnOk, OnErr};
+ghost use Rattle.std.specs.Prelude.{◌≡◌, false, IfOk, IfErr, IfSome, OnOk, OnErr};
 ghost use Rattle.dh_schema.specs.Faults.{IsFirstFault};
 ghost use Rattle.dh_agency.specs.Agency.{IsClean, IsOpen, Leaves, LeavesItsTables, WasClean, machine, shown_by, stand};
 ghost use Rattle.dh_agency.specs.Told.{IsCut, IsSaid};
 ghost use Rattle.dh_office.specs.Ends.{Finishes, LinesEnd, ReportEnds, RunEnds, WorkEnds};
-ghost use Rattle.dh_office.specs.Leaving.{LinesLeave, WorkLeaves};
+ghost use Rattle.dh_office.specs.Leaving.{IsKept, LinesLeave, WorkLeaves};
 ghost use Rattle.dh_office.specs.Jobs.{IsRunCut, run_told};
 ghost use Rattle.dh_office.specs.Printed.{IsOfLines, IsReportEnd, IsRunEnd, Prints, PrintsWork};
+ghost use Rattle.dh_office.specs.Statuses.{IsFailed};
 
 use crate::asking::has_open_run;
-use crate::status::Status;
+use crate::status::{Failure, Status};
 use crate::telling::{print_answer, print_reply, tell_fault};
 use dh_agency::Agency;
 use dh_laws::asking::{answers_pass_the_run, open_runs_refuse_put_off};
@@ -41,6 +42,7 @@ fn finish<S: Alter, W: Write>(
     requires { agency.old.is_stopped ≡ false }
     ensures ends { Finishes (shown_by S.Store agency.old) (shown_by S.Store agency.new) (W.contents writer.old) (W.contents writer.new) is_refused result }
     ensures crash { IsClean S.Store agency.new → LeavesItsTables S.Store agency.old → Leaves S.Store agency.new (λ left. left ≡ machine S.Store agency.old) }
+    ensures kept { LeavesItsTables S.Store agency.old → IsKept (shown_by S.Store agency.new) result }
     ensures was_clean { WasClean S.Store agency.old agency.new }
 {
     if is_refused {
@@ -65,11 +67,12 @@ pub(crate) fn answer_lines<S: Alter, R: Read, W: Write>(
     ensures ends { IsClean S.Store agency.new → IfSome (R.remaining reader.old)
         (λ input. LinesEnd (shown_by S.Store agency.new) (W.contents writer.old) (W.contents writer.new) (stand S.Store agency.old) input result) }
     ensures crash { IsClean S.Store agency.new → LeavesItsTables S.Store agency.old → LinesLeave (shown_by S.Store agency.new) (stand S.Store agency.old) }
+    ensures kept { LeavesItsTables S.Store agency.old → IsKept (shown_by S.Store agency.new) result }
     ensures was_clean { WasClean S.Store agency.old agency.new }
 {
     match batch(alloc, agency, reader, writer) {
         Ok(summary) => finish(alloc, agency, summary.refused > 0, writer),
-        Err(_) => Status::Failed,
+        Err(fault) => Status::Failed(Failure::Lines(fault)),
     }
 }
 
@@ -130,12 +133,13 @@ fn run<S: Alter, W: Write>(
     ensures ends { IsClean S.Store agency.new → RunEnds (shown_by S.Store agency.new) (W.contents writer.old) (W.contents writer.new)
         (machine S.Store agency.old) order batches result }
     ensures crash { IsClean S.Store agency.new → Leaves S.Store agency.new (IsRunCut (stand S.Store agency.old) order batches) }
+    ensures kept { IsKept (shown_by S.Store agency.new) result }
     ensures was_clean { WasClean S.Store agency.old agency.new }
 {
     match tell_run(alloc, agency, order, batches) {
         Ok(reply) => {
-            if print_reply(writer, reply).is_err() {
-                return Status::Failed;
+            if let Err(output) = print_reply(writer, reply) {
+                return Status::Failed(Failure::Output(output));
             }
             finish(alloc, agency, reply.is_refusal(), writer)
         }
@@ -154,8 +158,9 @@ fn report<S: Alter, W: Write>(
     ensures printed { Prints IsReportEnd (W.contents writer.old) (W.contents writer.new) result }
     ensures ends { IsClean S.Store agency.new → ReportEnds (shown_by S.Store agency.new) (W.contents writer.old) (W.contents writer.new)
         (machine S.Store agency.old) question result }
-    ensures same { IsClean S.Store agency.new → result ≢ Status.Failed → machine S.Store agency.new ≡ machine S.Store agency.old }
+    ensures same { IsClean S.Store agency.new → ¬ IsFailed result → machine S.Store agency.new ≡ machine S.Store agency.old }
     ensures crash { IsClean S.Store agency.new → Leaves S.Store agency.new (λ left. left ≡ machine S.Store agency.old) }
+    ensures kept { IsKept (shown_by S.Store agency.new) result }
     ensures was_clean { WasClean S.Store agency.old agency.new }
 {
     // A question is answered alike by the tables and by their whole.
@@ -166,8 +171,8 @@ fn report<S: Alter, W: Write>(
             let outcome = print_answer(writer, &answer);
             let is_refused = answer.is_refusal();
             drop(answer);
-            if outcome.is_err() {
-                return Status::Failed;
+            if let Err(output) = outcome {
+                return Status::Failed(Failure::Output(output));
             }
             finish(alloc, agency, is_refused, writer)
         }
@@ -189,6 +194,7 @@ pub(crate) fn carry_out<S: Alter, R: Read, W: Write>(
         (machine S.Store agency.old) (R.remaining reader.old) work result }
     ensures crash { IsClean S.Store agency.new → LeavesItsTables S.Store agency.old
         → WorkLeaves (shown_by S.Store agency.new) (machine S.Store agency.old) work }
+    ensures kept { LeavesItsTables S.Store agency.old → IsKept (shown_by S.Store agency.new) result }
     ensures was_clean { WasClean S.Store agency.old agency.new }
 {
     match work {

@@ -4,8 +4,10 @@
 mod asking;
 mod files;
 mod jobs;
+pub mod places;
 mod process;
 mod serving;
+mod sites;
 mod status;
 mod taking;
 mod telling;
@@ -13,5 +15,5 @@ mod wording;
 
 pub use process::{refuse_words, run_words};
 pub use sqlite::{Start, Unknown};
-pub use status::Status;
+pub use status::{Failure, Status};
 pub use wording::{desk, desk_from};

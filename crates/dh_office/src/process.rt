@@ -1,9 +1,9 @@
-//! The words of the process, the program's name first, and its exit status.
+//! The words of the process, the program's name first, and how it ends.
 
 ghost use Rattle.std.specs.Prelude.{◌≡◌, IfOk, map, string_bytes};
 ghost use Rattle.std.specs.IoError.{error_kind};
 ghost use Rattle.sqlite_wal.specs.Files.{image_at};
-ghost use Rattle.dh_office.specs.Process.{ProcessEnds, UnreadPrints, WordsEnd, WordsRefused, behind_name};
+ghost use Rattle.dh_office.specs.Process.{UnreadPrints, WordsEnd, behind_name};
 
 use crate::status::Status;
 use crate::telling::tell_fault;
@@ -37,8 +37,10 @@ fn texts_of<'a>(alloc: Global, words: &'a [String]) -> Result<Vec<&'a str>, Allo
     Ok(texts)
 }
 
-// Does what the words behind the program's name ask for.
-fn do_words<S: Start, R: Read, W: Write>(
+/// Does what the words of a process ask for, of which the first is the program's name, with these as its input and output, and tells how
+/// the process ends: its exit status is the `code` of that. `start` stands for what the file holds as it is opened: a program passes
+/// `Unknown`.
+pub fn run_words<S: Start, R: Read, W: Write>(
     rt: &HostRuntime,
     start: S,
     words: &[String],
@@ -54,23 +56,9 @@ fn do_words<S: Start, R: Read, W: Write>(
     }
 }
 
-/// Does what the words of a process ask for, of which the first is the program's name, with these as its input and output. Returns the
-/// exit status of the process, 0 to 5. `start` stands for what the file holds as it is opened: a program passes `Unknown`.
-pub fn run_words<S: Start, R: Read, W: Write>(
-    rt: &HostRuntime,
-    start: S,
-    words: &[String],
-    reader: &mut R,
-    writer: &mut W,
-) -> u8
-    ensures { ProcessEnds ⟦<FileFrom<S> as Disk>⟧ (image_at S.Start) (map string_bytes words.now) (R.remaining reader.old) (W.contents writer.old)
-        (W.contents writer.new) result }
-{
-    do_words(rt, start, words, reader, writer).code()
-}
-
-// Says why the words can't be had.
-fn tell_unread<W: Write>(error: &io::Error, writer: &mut W) -> Status
+/// Says why the words of a process can't be had, and tells how it ends: `BadWords` where one of the words is no text, and fault 21 where
+/// memory ran out.
+pub fn refuse_words<W: Write>(error: &io::Error, writer: &mut W) -> Status
     ensures { UnreadPrints (error_kind error.now) (W.contents writer.old) (W.contents writer.new) result }
 {
     if error.kind() == ErrorKind::InvalidData {
@@ -80,11 +68,4 @@ fn tell_unread<W: Write>(error: &io::Error, writer: &mut W) -> Status
         ));
     }
     tell_fault(writer, Fault::Memory)
-}
-
-/// Says why the words of a process can't be had. Returns its exit status: 2 where one of the words is no text, and 3 where memory ran out.
-pub fn refuse_words<W: Write>(error: &io::Error, writer: &mut W) -> u8
-    ensures { WordsRefused error.now (W.contents writer.old) (W.contents writer.new) result }
-{
-    tell_unread(error, writer).code()
 }

@@ -5,24 +5,26 @@ ghost use Rattle.sqlite.specs.State.{HasCleanDisk};
 ghost use Rattle.sqlite.specs.Held.{state};
 ghost use Rattle.dh_runs.specs.Taking.{IsResting};
 ghost use Rattle.dh_office.specs.Ends.{ServingEnds};
-ghost use Rattle.dh_office.specs.Leaving.{ServingLeaves};
+ghost use Rattle.dh_office.specs.Leaving.{IsKept, ServingLeaves};
 ghost use Rattle.dh_office.specs.Printed.{IsRefusedEnd, Prints, PrintsService, TellsServed};
 
-use crate::status::Status;
-use crate::telling::{heard, print_no_listener, tell_problem};
+use crate::status::{Failure, Status};
+use crate::telling::{tell_fault, tell_no_listener, tell_problem};
 use dh_agency::{NotOpened, attach};
 use dh_http::{Service, Unserved, serve};
 use sqlite::{Alter, Connection};
 use std::io::Write;
 
-// How the program ends behind serving. That there is no listener is told.
+// How the program ends behind serving. A want of a listener, and a fault of it, are told.
 fn tell_served<W: Write>(outcome: Result<(), Unserved>, writer: &mut W) -> Status
     ensures { TellsServed outcome (W.contents writer.old) (W.contents writer.new) result }
 {
     match outcome {
         Ok(()) => Status::Done,
-        Err(Unserved::NoListener) => heard(print_no_listener(writer), Status::Failed),
-        Err(Unserved::Output(_) | Unserved::Stopped) => Status::Failed,
+        Err(Unserved::NoListener) => tell_no_listener(writer),
+        Err(Unserved::Output(output)) => Status::Failed(Failure::Output(output)),
+        Err(Unserved::Stopped) => Status::Failed(Failure::Stopped),
+        Err(Unserved::Fault(fault)) => tell_fault(writer, fault),
     }
 }
 
@@ -39,6 +41,7 @@ pub(crate) fn answer_requests<S: Alter, W: Write>(
     ensures ends { HasCleanDisk (state S.Store result.1)
         → ServingEnds (state S.Store conn) (state S.Store result.1) (W.contents writer.old) (W.contents writer.new) service result.0 }
     ensures crash { ServingLeaves (state S.Store conn) (state S.Store result.1) }
+    ensures kept { IsKept (state S.Store result.1) result.0 }
     ensures was_clean { HasCleanDisk (state S.Store result.1) → HasCleanDisk (state S.Store conn) }
 {
     match attach(rt.alloc(), conn) {

@@ -1,25 +1,20 @@
-//! Jobs over a store: its tables are made, recovered, migrated, or taken and worked on, and the store is handed back.
+//! Jobs over a store: its tables are recovered, migrated, or taken and worked on, and the store is handed back.
 
 ghost use Rattle.std.specs.Prelude.{◌≡◌, ◌≤◌, ◌↔◌, IsTrue, pos};
 ghost use Rattle.sqlite.specs.State.{HasCleanDisk};
 ghost use Rattle.sqlite.specs.Held.{state};
-ghost use Rattle.dh_types.specs.declared.reply.Fault.TheVariants as fault;
 ghost use Rattle.dh_types.specs.declared.reply.Refusal.TheVariants as refusal;
 ghost use Rattle.dh_types.specs.declared.version.Version.TheVariants.{First};
-ghost use Rattle.dh_schema.specs.Store.{IsBlank};
 ghost use Rattle.dh_runs.specs.declared.problem.Problem.TheVariants as problem;
 ghost use Rattle.dh_runs.specs.Taking.{CanBeTaken, IsProblemOf, IsResting};
-ghost use Rattle.dh_office.specs.Ends.{JobEnds, MakingEnds, MendingEnds, MigrationEnds, NewLinesEnd, RecoveryEnds, TakingEnds};
-ghost use Rattle.dh_office.specs.Leaving.{JobLeaves};
-ghost use Rattle.dh_office.specs.Printed.{IsMakingEnd, IsOfLines, IsRecoveryEnd, IsRefusedEnd, Prints, PrintsJob, PrintsWork, PutsAs};
-ghost use Rattle.dh_office.specs.Texts.{fault_line};
+ghost use Rattle.dh_office.specs.Ends.{JobEnds, MendingEnds, MigrationEnds, NewLinesEnd, RecoveryEnds, TakingEnds};
+ghost use Rattle.dh_office.specs.Leaving.{IsKept, JobLeaves};
+ghost use Rattle.dh_office.specs.Printed.{IsOfLines, IsRecoveryEnd, IsRefusedEnd, Prints, PrintsJob, PrintsWork};
 
 use crate::jobs::{Work, answer_lines, carry_out};
 use crate::serving::answer_requests;
 use crate::status::Status;
-use crate::telling::{
-    heard, print_created, print_migrated, print_recovered, tell_fault, tell_problem,
-};
+use crate::telling::{heard, print_migrated, print_recovered, tell_fault, tell_problem};
 use dh_agency::{NotOpened, Problem, attach, create, migrate, recover, recover_1};
 use dh_http::Service;
 use dh_types::{EntryMonth, Refusal};
@@ -30,8 +25,6 @@ use std::io::{Read, Write};
 /// What is done on a file.
 #[derive(Clone, Copy)]
 pub(crate) enum FileJob {
-    /// Makes the tables of empty books that begin with this month.
-    Make(EntryMonth),
     /// Makes the open run to its end.
     Recover,
     /// Takes tables of the first version to the second.
@@ -40,30 +33,6 @@ pub(crate) enum FileJob {
     Work(Work),
     /// Takes the tables, and serves requests over them.
     Serve(Service),
-}
-
-// Makes the tables of empty books.
-fn make<S: Alter, W: Write>(
-    alloc: Global,
-    conn: Connection<S>,
-    first: EntryMonth,
-    writer: &mut W,
-) -> (Status, Connection<S>)
-    ensures printed { Prints (IsMakingEnd first) (W.contents writer.old) (W.contents writer.new) result.0 }
-    ensures ends { HasCleanDisk (state S.Store result.1)
-        → MakingEnds (state S.Store conn) (state S.Store result.1) (W.contents writer.old) (W.contents writer.new) first result.0 }
-    ensures crash { JobLeaves (state S.Store conn) (state S.Store result.1) (FileJob.Make first) }
-    ensures was_clean { HasCleanDisk (state S.Store result.1) → HasCleanDisk (state S.Store conn) }
-    ensures occupied { ¬ IsBlank (state S.Store conn)
-        → PutsAs (fault_line fault.Store) Status.Failed (W.contents writer.old) (W.contents writer.new) result.0 × (result.1 ≡ conn) }
-{
-    match create(alloc, conn, first.month()) {
-        Ok(agency) => (
-            heard(print_created(writer, first), Status::Done),
-            agency.into_store(),
-        ),
-        Err(NotOpened { cause, conn }) => (tell_fault(writer, cause), conn),
-    }
 }
 
 // Whether tables were turned away as those of the first version.
@@ -84,6 +53,7 @@ fn mend_first<S: Alter, W: Write>(
     ensures ends { HasCleanDisk (state S.Store result.1) → MendingEnds (CanBeTaken First) (IsProblemOf First (state S.Store conn).now.trees)
         (state S.Store conn) (state S.Store result.1) (W.contents writer.old) (W.contents writer.new) result.0 }
     ensures crash { JobLeaves (state S.Store conn) (state S.Store result.1) FileJob.Recover }
+    ensures kept { IsKept (state S.Store result.1) result.0 }
     ensures was_clean { HasCleanDisk (state S.Store result.1) → HasCleanDisk (state S.Store conn) }
 {
     match recover_1(alloc, conn) {
@@ -103,6 +73,7 @@ fn mend<S: Alter, W: Write>(
     ensures ends { HasCleanDisk (state S.Store result.1)
         → RecoveryEnds (state S.Store conn) (state S.Store result.1) (W.contents writer.old) (W.contents writer.new) result.0 }
     ensures crash { JobLeaves (state S.Store conn) (state S.Store result.1) FileJob.Recover }
+    ensures kept { IsKept (state S.Store result.1) result.0 }
     ensures was_clean { HasCleanDisk (state S.Store result.1) → HasCleanDisk (state S.Store conn) }
 {
     match recover(alloc, conn) {
@@ -130,6 +101,7 @@ fn renew<S: Alter, W: Write>(
     ensures ends { HasCleanDisk (state S.Store result.1)
         → MigrationEnds (state S.Store conn) (state S.Store result.1) (W.contents writer.old) (W.contents writer.new) result.0 }
     ensures crash { JobLeaves (state S.Store conn) (state S.Store result.1) FileJob.Migrate }
+    ensures kept { IsKept (state S.Store result.1) result.0 }
     ensures was_clean { HasCleanDisk (state S.Store result.1) → HasCleanDisk (state S.Store conn) }
 {
     match migrate(alloc, conn) {
@@ -154,6 +126,7 @@ fn take<S: Alter, R: Read, W: Write>(
     ensures ends { HasCleanDisk (state S.Store result.1)
         → TakingEnds (state S.Store conn) (state S.Store result.1) (W.contents writer.old) (W.contents writer.new) (R.remaining reader.old) work result.0 }
     ensures crash { JobLeaves (state S.Store conn) (state S.Store result.1) (FileJob.Work work) }
+    ensures kept { IsKept (state S.Store result.1) result.0 }
     ensures was_clean { HasCleanDisk (state S.Store result.1) → HasCleanDisk (state S.Store conn) }
 {
     match attach(alloc, conn) {
@@ -199,10 +172,10 @@ pub(crate) fn do_job<S: Alter, R: Read, W: Write>(
     ensures ends { HasCleanDisk (state S.Store result.1)
         → JobEnds (state S.Store conn) (state S.Store result.1) (W.contents writer.old) (W.contents writer.new) (R.remaining reader.old) job result.0 }
     ensures crash { JobLeaves (state S.Store conn) (state S.Store result.1) job }
+    ensures kept { IsKept (state S.Store result.1) result.0 }
     ensures was_clean { HasCleanDisk (state S.Store result.1) → HasCleanDisk (state S.Store conn) }
 {
     match job {
-        FileJob::Make(first) => make(rt.alloc(), conn, first, writer),
         FileJob::Recover => mend(rt.alloc(), conn, writer),
         FileJob::Migrate => renew(rt.alloc(), conn, writer),
         FileJob::Work(work) => take(rt.alloc(), conn, work, reader, writer),

@@ -1,15 +1,13 @@
 //! What is printed, each text with one line feed at its end. It takes no memory.
 
-ghost use Rattle.std.specs.Prelude.{◌≡◌, ℕ, take};
-ghost use Rattle.std.specs.Io.KnownBytes.{Appends};
+ghost use Rattle.std.specs.Prelude.{◌≡◌, [], Ok, Err};
 ghost use Rattle.dh_types.specs.Output.{Puts};
 ghost use Rattle.dh_types.specs.Reports.{report_of};
-ghost use Rattle.dh_office.specs.Printed.{PutsAs, heard};
-ghost use Rattle.dh_office.specs.Statuses.{problem_status};
-ghost use Rattle.dh_office.specs.Texts.{created_line, fault_line, migrated_line, no_listener_line, problem_line, recovered_line};
+ghost use Rattle.dh_office.specs.Printed.{Tells, TellsNoListener, TellsProblem, heard};
+ghost use Rattle.dh_office.specs.Texts.{created_line, fault_line, migrated_line, no_listener_line, recovered_line};
 ghost use Rattle.dh_office.specs.Texts.{refusal_line, reply_line, report_lines};
 
-use crate::status::Status;
+use crate::status::{Failure, Status};
 use dh_agency::Problem;
 use dh_reports::write;
 use dh_types::writing::put;
@@ -34,7 +32,8 @@ pub(crate) fn print_refusal<W: Write>(writer: &mut W, refusal: Refusal) -> Resul
     put(writer, b"\n")
 }
 
-fn print_fault<W: Write>(writer: &mut W, fault: Fault) -> Result<(), Output>
+/// Writes the text of the fault and a line feed; at an `Output` a beginning of them.
+pub(crate) fn print_fault<W: Write>(writer: &mut W, fault: Fault) -> Result<(), Output>
     ensures { Puts (W.contents writer.old) (W.contents writer.new) result (fault_line fault) }
 {
     put_fault(writer, fault)?;
@@ -73,38 +72,44 @@ pub(crate) fn print_migrated<W: Write>(writer: &mut W) -> Result<(), Output>
     put(writer, b"migrated\n")
 }
 
-/// Writes that there is no listener; at an `Output` a beginning of that.
-pub(crate) fn print_no_listener<W: Write>(writer: &mut W) -> Result<(), Output>
+fn print_no_listener<W: Write>(writer: &mut W) -> Result<(), Output>
     ensures { Puts (W.contents writer.old) (W.contents writer.new) result no_listener_line }
 {
     put(writer, b"no listener\n")
 }
 
-/// The status, where the text was written whole.
+/// The status, where the text was written whole; else the output failed.
 pub(crate) fn heard(outcome: Result<(), Output>, status: Status) -> Status
     ensures { result ≡ heard outcome status }
 {
     match outcome {
         Ok(()) => status,
-        Err(_) => Status::Failed,
+        Err(output) => Status::Failed(Failure::Output(output)),
     }
 }
 
-/// Tells the fault, as far as the writer takes it.
+/// Tells the fault, as far as the writer takes it; the status says what came of that.
 pub(crate) fn tell_fault<W: Write>(writer: &mut W, fault: Fault) -> Status
-    ensures failed { result ≡ Status.Failed }
-    ensures told { (taken : ℕ) × Appends (W.contents writer.old) (W.contents writer.new) (take taken (fault_line fault)) }
+    ensures { Tells fault (W.contents writer.old) (W.contents writer.new) [] result }
 {
-    let _ = print_fault(writer, fault);
-    Status::Failed
+    let outcome = print_fault(writer, fault);
+    Status::Failed(Failure::Fault(fault, outcome))
+}
+
+/// Tells that there is no listener, as far as the writer takes it; the status says what came of that.
+pub(crate) fn tell_no_listener<W: Write>(writer: &mut W) -> Status
+    ensures { TellsNoListener (W.contents writer.old) (W.contents writer.new) result }
+{
+    let outcome = print_no_listener(writer);
+    Status::Failed(Failure::NoListener(outcome))
 }
 
 /// Tells why tables are not taken.
 pub(crate) fn tell_problem<W: Write>(writer: &mut W, problem: Problem) -> Status
-    ensures { PutsAs (problem_line problem) (problem_status problem) (W.contents writer.old) (W.contents writer.new) result }
+    ensures { TellsProblem problem (W.contents writer.old) (W.contents writer.new) result }
 {
     match problem {
         Problem::Refused(refusal) => heard(print_refusal(writer, refusal), Status::FileRefused),
-        Problem::Fault(fault) => heard(print_fault(writer, fault), Status::Failed),
+        Problem::Fault(fault) => tell_fault(writer, fault),
     }
 }

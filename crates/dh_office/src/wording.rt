@@ -1,56 +1,61 @@
 //! What the words behind the program's name ask for, done.
 
-ghost use Rattle.std.specs.Prelude.{◌≡◌, ◌⊎◌, [], ◌∷◌, codes, map};
+ghost use Rattle.std.specs.Prelude.{◌≡◌, [], ◌∷◌, codes, map};
 ghost use Rattle.sqlite_wal.specs.Files.{image_at};
 ghost use Rattle.dh_words.specs.Jobs.{IsBadFor};
 ghost use Rattle.dh_office.specs.Desk.{AskedEnds, BadPrints, BatchEnds, DeskEnds, MessagePrints};
 ghost use Rattle.dh_office.specs.Ends.{MemoryLinesEnd};
+ghost use Rattle.dh_office.specs.Statuses.{IsBad};
 
-use crate::files::{begin_in_memory, do_on_file};
+use crate::files::{begin_in_memory, do_on_file, make_on_file};
 use crate::jobs::Work;
-use crate::status::Status;
+use crate::status::{Failure, Status};
 use crate::taking::FileJob;
-use crate::telling::{heard, print_refusal, tell_fault};
+use crate::telling::{heard, print_fault, print_refusal, tell_fault};
 use clap::Error;
 use dh_http::Service;
 use dh_types::writing::put_parts;
 use dh_types::{EntryMonth, Fault, Output};
-use dh_words::{BadWords, Job, job};
+use dh_words::{BadWords, Job, Words, job};
 use sqlite::{FileFrom, Start, Unknown};
 use sqlite_disk::Disk;
 use std::alloc::Global;
 use std::io::{Read, Write};
 
-/// Words that ask for nothing are bad, whether it could be written why or not.
-pub(crate) fn refused(_outcome: Result<(), Output>) -> Status
-    ensures { result ≡ Status.BadWords }
+/// Words that ask for nothing are bad, whether it could be written why or not; the status says which.
+pub(crate) fn refused(outcome: Result<(), Output>) -> Status
+    ensures { result ≡ Status.BadWords outcome }
 {
-    Status::BadWords
+    Status::BadWords(outcome)
 }
 
-// Prints what `clap` says of the words, with one line feed at its end, or that there was no memory for it. It is done where all was written.
-fn put_message<W: Write>(alloc: Global, error: &Error, writer: &mut W) -> Status
-    ensures { (result ≡ Status.Done) ⊎ (result ≡ Status.Failed) }
-{
-    let Ok(text) = error.to_string(alloc) else {
-        return tell_fault(writer, Fault::Memory);
-    };
-    let message = text.as_str().trim_end_matches('\n');
-    heard(
-        put_parts(writer, &[message.as_bytes(), b"\n"]),
-        Status::Done,
-    )
+// Writes what `clap` says of the words, with one line feed at its end.
+fn put_message<W: Write>(writer: &mut W, text: &str) -> Result<(), Output> {
+    let message = text.trim_end_matches('\n');
+    put_parts(writer, &[message.as_bytes(), b"\n"])
 }
 
-// Prints what `clap` says of the words: that they are bad, or help.
+// Prints what `clap` says of the words: that they are bad, or help. Where there is no memory for it, that is told.
 fn print_message<W: Write>(alloc: Global, error: &Error, writer: &mut W) -> Status
     ensures { MessagePrints error.now result }
 {
-    let status = put_message(alloc, error, writer);
-    if error.use_stderr() {
-        return Status::BadWords;
+    let is_bad = error.use_stderr();
+    match error.to_string(alloc) {
+        Ok(text) => {
+            let outcome = put_message(writer, text.as_str());
+            if is_bad {
+                return refused(outcome);
+            }
+            heard(outcome, Status::Done)
+        }
+        Err(_) => {
+            let outcome = print_fault(writer, Fault::Memory);
+            if is_bad {
+                return refused(outcome);
+            }
+            Status::Failed(Failure::Fault(Fault::Memory, outcome))
+        }
     }
-    status
 }
 
 // Says why the words ask for no job.
@@ -96,14 +101,7 @@ fn do_asked<S: Start, R: Read, W: Write>(
     ensures { AskedEnds ⟦<FileFrom<S> as Disk>⟧ (image_at S.Start) job.now (R.remaining reader.old) (W.contents writer.old) (W.contents writer.new) result }
 {
     match job {
-        Job::Init { file, first } => do_on_file(
-            rt,
-            start,
-            file,
-            FileJob::Make(*first),
-            reader,
-            writer,
-        ),
+        Job::Init { file, first } => make_on_file(rt, start, file, *first, writer),
         Job::Batch { file, first } => do_batch(rt, start, *file, *first, reader, writer),
         Job::Run {
             file,
@@ -151,9 +149,12 @@ pub fn desk_from<S: Start, R: Read, W: Write>(
     // The lines are answered in memory, from 2025-01 on.
     ensures batch { map (λ word. word.now) words.now ≡ codes "batch" ∷ []
         → MemoryLinesEnd (W.contents writer.old) (W.contents writer.new) 24300 (R.remaining reader.old) result }
-    ensures bad_words { result ≡ Status.BadWords → (why : BadWords) × IsBadFor (map (λ word. word.now) words.now) why }
+    ensures bad_words { IsBad result → (why : BadWords) × IsBadFor (map (λ word. word.now) words.now) why }
 {
-    match job(rt.alloc(), words) {
+    let Ok(words) = Words::join(rt.alloc(), words) else {
+        return tell_fault(writer, Fault::Memory);
+    };
+    match job(rt.alloc(), &words) {
         Ok(job) => do_asked(rt, start, &job, reader, writer),
         Err(bad) => refuse(rt.alloc(), &bad, writer),
     }
@@ -170,7 +171,7 @@ pub fn desk<R: Read, W: Write>(
         (map (λ word. word.now) words.now) (R.remaining reader.old) (W.contents writer.old) (W.contents writer.new) result }
     ensures batch { map (λ word. word.now) words.now ≡ codes "batch" ∷ []
         → MemoryLinesEnd (W.contents writer.old) (W.contents writer.new) 24300 (R.remaining reader.old) result }
-    ensures bad_words { result ≡ Status.BadWords → (why : BadWords) × IsBadFor (map (λ word. word.now) words.now) why }
+    ensures bad_words { IsBad result → (why : BadWords) × IsBadFor (map (λ word. word.now) words.now) why }
 {
     desk_from(rt, Unknown, words, reader, writer)
 }

@@ -1,6 +1,7 @@
 //! The body of a request.
 
-ghost use Rattle.std.specs.Prelude.{◌≡◌, ◌++◌, ◌-◌, IfOk, IfSome, IsTrue, OnErr, Err, length, vec_len};
+ghost use Rattle.std.specs.Prelude.{◌≡◌, ◌≢◌, ◌++◌, ◌-◌, IfOk, IfErr, IfSome, IsTrue, OnErr, Err, length, vec_len};
+ghost use Rattle.std.specs.IoError.{error_kind};
 ghost use Rattle.dh_requests.specs.Bodies.{BodyOf, IsFilled};
 ghost use Rattle.dh_requests.specs.Known.{TakesAtMost};
 
@@ -8,7 +9,7 @@ use crate::failure::Failure;
 use crate::filling::fill;
 use std::alloc::Global;
 use std::io;
-use std::io::Read;
+use std::io::{ErrorKind, Read};
 
 /// Why no body was read.
 #[derive(Clone, Copy, Debug, PartialEq, Eq)]
@@ -30,6 +31,7 @@ fn fill_from<R: Read>(
     ensures whole { IfOk result (λ whole. IfSome (R.remaining reader.old) (λ after. IsFilled (front.now ++ after) body.new whole)) }
     ensures taken { TakesAtMost (length body.old - length front.now) (R.remaining reader.old) (R.remaining reader.new) }
     ensures lost { OnErr result (IsTrue failure.new.noted) }
+    ensures again { IfErr result (λ e. error_kind e ≢ ErrorKind.Interrupted) }
 {
     let most = body.len();
     if front.len() >= most {

@@ -1,8 +1,9 @@
 //! Reading, with a note of whether the reader failed.
 
-ghost use Rattle.std.specs.Prelude.{◌≡◌, ◌<◌, IfOk, OnErr, IsTrue, false, take, length};
+ghost use Rattle.std.specs.Prelude.{◌≡◌, ◌≢◌, ◌<◌, IfOk, IfErr, OnErr, IsTrue, false, take, length};
 ghost use Rattle.std.specs.Io.{ReadsAtMost};
 ghost use Rattle.std.specs.Io.KnownBytes.{Consumes, IsAtEnd, Keeps};
+ghost use Rattle.std.specs.IoError.{error_kind};
 
 use std::io;
 use std::io::{ErrorKind, Read};
@@ -23,7 +24,8 @@ impl Failure {
     }
 }
 
-/// One read, made again where a signal interrupts it.
+/// One read, made again where a signal interrupts it. An error is never that a signal came: `TimedOut` is told where each of
+/// `u64::MAX` reads was interrupted.
 pub(crate) fn read_some<R: Read>(
     reader: &mut R,
     failure: &mut Failure,
@@ -35,6 +37,7 @@ pub(crate) fn read_some<R: Read>(
     ensures end { IfOk result (λ n. n ≡ 0 → 0 < length buffer.old → IsAtEnd (R.remaining reader.new)) }
     ensures err { OnErr result (Keeps (R.remaining reader.old) (R.remaining reader.new)) }
     ensures lost { OnErr result (IsTrue failure.new.noted) }
+    ensures again { IfErr result (λ e. error_kind e ≢ ErrorKind.Interrupted) }
 {
     for _ in 0..u64::MAX {
         match reader.read(buffer) {
@@ -48,5 +51,5 @@ pub(crate) fn read_some<R: Read>(
         }
     }
     failure.noted = true;
-    Err(ErrorKind::Interrupted.into())
+    Err(ErrorKind::TimedOut.into())
 }

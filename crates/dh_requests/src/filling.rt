@@ -1,13 +1,14 @@
 //! Filling a buffer from a reader.
 
-ghost use Rattle.std.specs.Prelude.{◌≡◌, ◌-◌, ◌≤◌, ◌<◌, IfOk, OnErr, IsTrue, take, length, List, ℕ, Option};
+ghost use Rattle.std.specs.Prelude.{◌≡◌, ◌≢◌, ◌-◌, ◌≤◌, ◌<◌, IfOk, IfErr, OnErr, IsTrue, take, length, List, ℕ, Option};
 ghost use Rattle.std.specs.Io.KnownBytes.{Consumes, IsAtEnd, Keeps};
+ghost use Rattle.std.specs.IoError.{error_kind};
 ghost use Rattle.dh_requests.specs.Bodies.{FillsOrEnds};
 ghost use Rattle.dh_requests.specs.Known.{TakesAtMost};
 
 use crate::failure::{Failure, read_some};
 use std::io;
-use std::io::Read;
+use std::io::{ErrorKind, Read};
 
 /// Reads once, after the first `filled` bytes of the buffer, and gives how many it has then: as many at the end of input.
 pub(crate) fn read_more<R: Read>(
@@ -25,6 +26,7 @@ pub(crate) fn read_more<R: Read>(
     ensures taken { IfOk result (λ total. TakesAtMost (total - filled) (R.remaining reader.old) (R.remaining reader.new)) }
     ensures err { OnErr result (Keeps (R.remaining reader.old) (R.remaining reader.new)) }
     ensures lost { OnErr result (IsTrue failure.new.noted) }
+    ensures again { IfErr result (λ e. error_kind e ≢ ErrorKind.Interrupted) }
 {
     let count = read_some(reader, failure, &mut buffer[filled..])?;
     Ok(filled + count)
@@ -43,6 +45,7 @@ pub(crate) fn fill<R: Read>(
         → IfOk result (FillsOrEnds start (R.remaining reader.new) buffer.new) }
     ensures taken { TakesAtMost (length buffer.old - front) (R.remaining reader.old) (R.remaining reader.new) }
     ensures lost { OnErr result (IsTrue failure.new.noted) }
+    ensures again { IfErr result (λ e. error_kind e ≢ ErrorKind.Interrupted) }
 {
     let mut filled = front;
     while filled < buffer.len() {

@@ -1,6 +1,7 @@
 //! The head of a request.
 
-ghost use Rattle.std.specs.Prelude.{◌≡◌, ◌≤◌, ◌<◌, IfOk, IsTrue, OnErr, length, List, ℕ};
+ghost use Rattle.std.specs.Prelude.{◌≡◌, ◌≢◌, ◌≤◌, ◌<◌, IfOk, IfErr, IsTrue, OnErr, length, List, ℕ};
+ghost use Rattle.std.specs.IoError.{error_kind};
 ghost use Rattle.httparse.specs.Grammar.{RequestHead};
 ghost use Rattle.dh_requests.specs.Heads.{HeadOf, JudgedAs, IfFound, IsInBuffer, IsHead, IsBadHead, IsLargeHead};
 ghost use Rattle.dh_requests.specs.Known.{IfBoth, TakesAtMost};
@@ -11,7 +12,7 @@ use crate::limits::{HEAD_BYTES, HEADER_LINES, ROOM};
 use httparse::spans::{HeaderSpan, RequestSpans, parse_request};
 use httparse::{Error, Status};
 use std::io;
-use std::io::Read;
+use std::io::{ErrorKind, Read};
 
 /// A head in a buffer, of which `filled` bytes were read.
 #[derive(Clone, Copy, Debug)]
@@ -70,6 +71,7 @@ pub(crate) fn read_head<R: Read>(
         (λ input after. HeadOf input after buffer.new headers.new read)) }
     ensures taken { TakesAtMost ROOM (R.remaining reader.old) (R.remaining reader.new) }
     ensures lost { OnErr result (IsTrue failure.new.noted) }
+    ensures again { IfErr result (λ e. error_kind e ≢ ErrorKind.Interrupted) }
 {
     let mut filled = 0usize;
     while filled < ROOM {

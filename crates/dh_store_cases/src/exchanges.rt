@@ -1,7 +1,8 @@
-//! Requests played: read whole and byte by byte, with failures, and over a listener.
+//! Requests played: read whole and byte by byte, with failures and interrupted calls, and over a listener.
 
 use crate::cases::{Case, end_of, judge, judge_tables};
 use crate::failing_ends::{play_reads, play_writes};
+use crate::interrupted_ends::play_interrupted;
 use crate::serving::{Outcome, agency_behind, serve, tables_of};
 use dh_http::serve_one;
 use dh_lines::ends::FailingReader;
@@ -88,7 +89,8 @@ fn play_sent(rt: &HostRuntime, tally: &mut Tally, case: &Case) -> io::Result<()>
     judge(rt, tally, case, "over a listener", &got, &want)
 }
 
-/// Plays the case whole, a byte at a time, with each read and each write failing in turn, and over a listener where its block asks for it.
+/// Plays the case whole, a byte at a time, with each read and each write failing and interrupted in turn, and over a listener where its
+/// block asks for it.
 pub fn play_case(rt: &HostRuntime, tally: &mut Tally, case: &Case) -> io::Result<()> {
     let mut whole = case.request.as_slice();
     play_read(rt, tally, case, "whole", &mut whole)?;
@@ -96,6 +98,7 @@ pub fn play_case(rt: &HostRuntime, tally: &mut Tally, case: &Case) -> io::Result
     let after = play_tables(rt, tally, case)?;
     play_reads(rt, tally, case, reads)?;
     play_writes(rt, tally, case, after.as_str())?;
+    play_interrupted(rt, tally, case, after.as_str(), reads)?;
     if case.block.is_over_a_listener {
         play_sent(rt, tally, case)?;
     }

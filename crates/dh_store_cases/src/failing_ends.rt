@@ -10,12 +10,12 @@ use sqlite::Alter;
 use std::io;
 use std::io::Read;
 
-// Up to so many reads a reader gives a byte a read. A longer request comes in pieces, and what stands before the failing read in one
-// read: its head would be parsed anew with each.
-const MOST_SLOW_READS: u64 = 1000;
+/// Up to so many reads a reader gives a byte a read. A longer request comes in pieces, and what stands before the failing read in one
+/// read: its head would be parsed anew with each.
+pub const MOST_SLOW_READS: u64 = 1000;
 
-// How many bytes a piece has.
-const PIECE: usize = 16;
+/// How many bytes a piece has.
+pub const PIECE: usize = 16;
 
 // Serves the request to a reader that fails before the answer: nothing is written.
 fn play_read<S: Alter, R: Read>(

@@ -13,6 +13,7 @@ mod either;
 mod escapes;
 mod exchanges;
 mod failing_ends;
+mod interrupted_ends;
 mod made_tables;
 mod requests;
 mod rows;

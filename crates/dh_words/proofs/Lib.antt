@@ -1,3 +1,4 @@
+pub mod Joining
 pub mod Walks
 pub mod Complete
 pub mod Told

@@ -1,29 +1,36 @@
 -- What `job` answers, by what `clap` answered.
-use Rattle.std.proofs.Common.{◌≡◌, ◌∙◌, true, List, Some, None, Result, Ok, Err, IfErr, IfOk, codes, inl, inr, sym, ap, subst}
+use Rattle.std.proofs.Common.{◌≡◌, ◌∙◌, true, List, [], Some, None, Result, Ok, Err, IfErr, IfOk, codes, inl, inr, sym, ap, subst}
 use Rattle.clap.specs.Kinds.{HasKind, IsAmong}
-use Rattle.clap.specs.Words.{App, Row, Text, fault_of, first_of, is_simple_and_free, kind_of}
+use Rattle.clap.specs.Words.{App, Row, Text, fault_of, first_of, is_simple_and_free, kind_of, subcommand_of}
 use Rattle.clap.specs.declared.error.Error.{Error}
 use Rattle.dh_words.proofs.Complete.{simple_and_free}
 use Rattle.dh_words.specs.Jobs.{HandsOn, IsAnswer, IsBadFor, IsJobOf, IsReport, Takes, question_fields}
 use Rattle.dh_words.specs.Options.{first_bad}
 use Rattle.dh_words.specs.Table.{letting}
+use Rattle.dh_words.specs.Typed.{joined}
 use Rattle.dh_words.specs.declared.kinds.BadWords.{BadWords}
 use Rattle.dh_words.specs.declared.kinds.BadWords.TheVariants.{Refused, Value, Question, Memory}
 use Rattle.dh_words.specs.declared.kinds.Job.{Job}
 use Rattle.dh_words.specs.declared.kinds.Job.TheVariants.{Init, Batch, Run, Recover, Migrate, Report, Serve}
 
-told : (words : List Text) (error : Error) (bad : BadWords) → HasKind (fault_of letting words) error → HandsOn error bad → IsBadFor words bad
+told : (words : List Text) (error : Error) (bad : BadWords) → HasKind (fault_of letting (joined words)) error → HandsOn error bad → IsBadFor words bad
 told words error (Refused same) (inl none) h = absurd (h.1 none)
-told words error (Refused same) (inr kind) h = subst (λ e. IsAmong (kind_of e) (fault_of letting words)) (sym h.0) kind
+told words error (Refused same) (inr kind) h = subst (λ e. IsAmong (kind_of e) (fault_of letting (joined words))) (sym h.0) kind
 told words error (Value option) kind h = absurd h
 told words error (Question refusal) kind h = absurd h
 told words error Memory kind h = tt
 
 -- an error of `clap`
-pub refused_so : (a : App) (words : List Text) (error : Error) (bad : BadWords) → a ≡ letting → (is_simple_and_free a ≡ true → HasKind (fault_of a words) error)
-    → HandsOn error bad → IsBadFor words bad
-refused_so a words error bad e h =
-    told words error bad (subst (λ x. HasKind (fault_of x words) error) e (h (ap is_simple_and_free e ∙ simple_and_free)))
+pub refused_so : (a : App) (typed words : List Text) (error : Error) (bad : BadWords) → joined typed ≡ words → a ≡ letting
+    → (is_simple_and_free a ≡ true → HasKind (fault_of a words) error) → HandsOn error bad → IsBadFor typed bad
+refused_so a typed words error bad is e h =
+    let kind : HasKind (fault_of letting words) error = subst (λ x. HasKind (fault_of x words) error) e (h (ap is_simple_and_free e ∙ simple_and_free)) in
+    told typed error bad (subst (λ w. HasKind (fault_of letting w) error) (sym is) kind)
+
+-- words that are taken
+pub taken_as : (typed words : List Text) (sub : Text × List Row) → joined typed ≡ words → fault_of letting words ≡ [] → subcommand_of letting words ≡ Some sub
+    → Takes typed sub
+taken_as typed words sub is none found = (ap (fault_of letting) is ∙ none, ap (subcommand_of letting) is ∙ found)
 
 -- a subcommand
 module _ (words : List Text) (name : Text) (rows : List Row) (taken : Takes words (name, rows)) where

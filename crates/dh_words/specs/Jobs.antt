@@ -1,4 +1,4 @@
--- Which job the words behind `letting` ask for.
+-- Which job the words behind `letting` ask for, as they are typed.
 use Rattle.std.specs.Prelude.{◌≡◌, ◌≢◌, ◌||◌, ℕ, Bool, false, not, List, [], ◌∷◌, Some, None, is_some, option_map, unwrap_or, Result, Ok, Err}
 use Rattle.std.specs.Prelude.{find, codes, bytes_eq, ⊤}
 use Rattle.std.specs.List.{list_all}
@@ -13,14 +13,16 @@ use Rattle.dh_fields.specs.Lines.{request_of}
 use Rattle.dh_fields.specs.declared.request.Request.TheVariants as request
 use Rattle.dh_words.specs.Options.{first_bad, key_of, port_of, value}
 use Rattle.dh_words.specs.Table.{letting}
+use Rattle.dh_words.specs.Typed.{joined, texts_of}
 use Rattle.dh_words.specs.declared.kinds.BadWords.{BadWords}
 use Rattle.dh_words.specs.declared.kinds.BadWords.TheVariants as bad
 use Rattle.dh_words.specs.declared.kinds.Job.{Job}
+use Rattle.dh_words.specs.declared.typed.Words.{Words}
 use Rattle.dh_words.specs.declared.kinds.Job.TheVariants.{Init, Batch, Run, Recover, Migrate, Report, Serve}
 
--- `clap` takes the words, which name this subcommand and give its options and free words these rows
+-- `clap` takes the words, joined, which name this subcommand and give its options and free words these rows
 abbrev pub Takes : List Text → Text × List Row → Type 0
-Takes words sub = (fault_of letting words ≡ []) × (subcommand_of letting words ≡ Some sub)
+Takes words sub = (fault_of letting (joined words) ≡ []) × (subcommand_of letting (joined words) ≡ Some sub)
 
 -- 2025-01, counted as 12 * year + month - 1
 abbrev pub usual_first : ℕ
@@ -51,11 +53,15 @@ IsJobOf words job = (sub : Text × List Row) × Takes words sub × (first_bad su
 
 -- why the words ask for no job
 abbrev pub IsBadFor : List Text → BadWords → Type 0
-IsBadFor words (bad.Refused error) = IsAmong (kind_of error) (fault_of letting words)
+IsBadFor words (bad.Refused error) = IsAmong (kind_of error) (fault_of letting (joined words))
 IsBadFor words (bad.Value option) = (sub : Text × List Row) × Takes words sub × (first_bad sub.1 ≡ Some option.now)
 IsBadFor words (bad.Question refusal) = (sub : Text × List Row) × Takes words sub × (first_bad sub.1 ≡ None) × (sub.0 ≡ codes "report")
     × (request_of (question_fields sub.1) ≡ Err refusal)
 IsBadFor words bad.Memory = ⊤
+
+-- the words that were typed go to `clap` as these
+abbrev pub IsTyped : List Text → Words → Type 0
+IsTyped typed words = joined typed ≡ texts_of words
 
 -- ---- the steps to it
 

@@ -1,3 +1,4 @@
+pub mod Typed
 pub mod Table
 pub mod Options
 pub mod Jobs

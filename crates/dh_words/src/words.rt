@@ -1,12 +1,13 @@
 //! From words to a job.
 
-ghost use Rattle.std.specs.Prelude.{◌≡◌, codes, is_some, map, true, IfErr, IfOk};
-ghost use Rattle.clap.specs.Words.{first_of, found_of, rows_of};
-ghost use Rattle.dh_words.specs.Jobs.{HandsOn, IsAnswer, IsBadFor, IsJobOf, IsReport, is_complete, question_fields};
+ghost use Rattle.std.specs.Prelude.{◌≡◌, codes, is_some, true, IfErr, IfOk, List};
+ghost use Rattle.clap.specs.Words.{Text, first_of, found_of, rows_of};
+ghost use Rattle.dh_words.specs.Jobs.{HandsOn, IsAnswer, IsBadFor, IsJobOf, IsReport, IsTyped, is_complete, question_fields};
 
 use crate::commands::letting;
 use crate::options::read_options;
 use crate::questions::read_question;
+use crate::typed::Words;
 use crate::{BadWords, Job};
 use clap::error::ErrorKind;
 use clap::{ArgMatches, Error};
@@ -81,15 +82,15 @@ fn job_of<'a>(alloc: Global, name: &str, values: &ArgMatches<'a>) -> Result<Job<
     }
 }
 
-/// The job that the words behind the program's name ask for. `Refused` comes where `clap` does not take the words: they are
+/// The job that the words behind the program's name ask for, as they were typed. `Refused` comes where `clap` does not take the words: they are
 /// none of the table of subcommands, or ask for help. `Value` has the first option, in the order first, key, month,
 /// batches, port, count, whose text is none of its values, even one that is then passed over. `Question` has the first bad
 /// field of the question of a `report`, where `show` is field 1. `Memory` is want of memory.
-pub fn job<'a>(alloc: Global, words: &'a [&'a str]) -> Result<Job<'a>, BadWords>
-    ensures ok { IfOk result (IsJobOf (map (λ word. word.now) words.entry.now)) }
-    ensures err { IfErr result (IsBadFor (map (λ word. word.now) words.entry.now)) }
+pub fn job<'a>(alloc: Global, words: &'a Words) -> Result<Job<'a>, BadWords>
+    ensures ok { (typed : List Text) → IsTyped typed words.now → IfOk result (IsJobOf typed) }
+    ensures err { (typed : List Text) → IsTyped typed words.now → IfErr result (IsBadFor typed) }
 {
-    let matches = match letting(alloc)?.try_get_matches_from(words) {
+    let matches = match letting(alloc)?.try_get_matches_from(words.texts.as_slice()) {
         Ok(matches) => matches,
         Err(error) => return Err(refused(error)),
     };

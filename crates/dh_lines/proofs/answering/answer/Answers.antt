@@ -72,7 +72,7 @@ returns-in-Err-clause-answers g c clean =
     let old = c.args.agency.now in
     answers_fault g.S.Store old old _ _ c.args.number (answered (stand g.S.Store old) (fields_of c.args.row.now))
     (IsWithin (stand g.S.Store old) (Some (fields_of c.args.row.now))) _ c.end_by_fault.result c.end_by_fault.ensures
-    (λ is_open. same_within (fields_of c.args.row.now) (machine g.S.Store old) (machine g.S.Store old) refl)
+    (λ is_open. same_within (fields_of c.args.row.now) (machine g.S.Store old) (machine g.S.Store old) refl) (λ on. refl)
 
 pub returns-in-Err-clause-cause : goal.returns-in-Err-clause-cause
 returns-in-Err-clause-cause g c live = fault_first _ _ _ _ c.end_by_fault.result c.end_by_fault.ensures tt

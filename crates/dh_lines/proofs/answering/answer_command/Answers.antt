@@ -6,7 +6,7 @@ use Rattle.dh_agency.specs.Agency.{machine, stand}
 use Rattle.dh_agency.specs.Told.{IsCut}
 use Rattle.dh_agency.proofs.Standing.{cut_or_stopped}
 use Rattle.dh_lines.specs.Session.{replied}
-use Rattle.dh_lines.proofs.OneRecord.{answers_fault, fault_first, fault_halts, replied_part, replied_whole}
+use Rattle.dh_lines.proofs.OneRecord.{answers_fault, fault_first, fault_halts, not_on, replied_part, replied_whole}
 use Rattle.dh_lines.proofs.answering.answer_command.Goals as goal
 
 pub returns-in_ok-put_reply_line-in-Ok-clause-answers : goal.returns-in_ok-put_reply_line-in-Ok-clause-answers
@@ -36,6 +36,7 @@ returns-in-Err-clause-answers g c clean =
     answers_fault g.S.Store old new _ _ c.args.number (replied (step batch_size (stand g.S.Store old) told)) (IsCut told before) c.in-Err.fault
     c.end_by_fault.result c.end_by_fault.ensures
     (cut_or_stopped g.S.Store old new (IsCut told before) _ (c.in-Err.ensures.halted clean) c.in-Err.ensures.stopped (same_cut told before before refl))
+    (not_on c.in-Err.ensures.stops)
 
 pub returns-in-Err-clause-cause : goal.returns-in-Err-clause-cause
 returns-in-Err-clause-cause g c live =

@@ -5,7 +5,7 @@ use Rattle.dh_model.specs.Runs.{batch_size}
 use Rattle.dh_agency.specs.Agency.{machine, stand}
 use Rattle.dh_agency.proofs.Standing.{cut_or_stopped}
 use Rattle.dh_lines.specs.Session.{reported}
-use Rattle.dh_lines.proofs.OneRecord.{answers_fault, fault_first, fault_halts, reported_part, reported_whole}
+use Rattle.dh_lines.proofs.OneRecord.{answers_fault, fault_first, fault_halts, not_on, reported_part, reported_whole}
 use Rattle.dh_lines.proofs.answering.answer_question.Goals as goal
 
 pub returns-in_ok-put_answer_line-in-Ok-clause-answers : goal.returns-in_ok-put_answer_line-in-Ok-clause-answers
@@ -34,6 +34,7 @@ returns-in-Err-clause-answers g c clean =
     answers_fault g.S.Store old new _ _ c.args.number (reported (stand g.S.Store old) (report (stand g.S.Store old) c.args.question)) (λ now. now ≡ before)
     c.in-Err.fault c.end_by_fault.result c.end_by_fault.ensures
     (cut_or_stopped g.S.Store old new (λ now. now ≡ before) _ (c.in-Err.ensures.halted clean) c.in-Err.ensures.stopped refl)
+    (not_on c.in-Err.ensures.stops)
 
 pub returns-in-Err-clause-cause : goal.returns-in-Err-clause-cause
 returns-in-Err-clause-cause g c live =

@@ -23,7 +23,14 @@ returns-in-Ok-clause-crash g c clean rests =
     let left = c.in-Ok.ensures.left at rests (goes_on old.is_stopped mid.is_stopped c.requires c.in-Ok.ensures.stops) in
     lines_left g.S.Store old mid c.finish.new.agency (c.in-Ok.ensures.crash at c.requires rests) left (c.finish.ensures.crash clean left)
 
+pub returns-in-Ok-clause-kept : goal.returns-in-Ok-clause-kept
+returns-in-Ok-clause-kept g c rests clean =
+    let old = c.args.agency.now in
+    let mid = c.batch.new.agency in
+    let at : IsClean g.S.Store mid = omega (arith, c.finish.ensures.was_clean, clean) in
+    c.finish.ensures.kept (c.in-Ok.ensures.left at rests (goes_on old.is_stopped mid.is_stopped c.requires c.in-Ok.ensures.stops)) clean
+
 pub returns-in-Err-clause-ends : goal.returns-in-Err-clause-ends
 returns-in-Err-clause-ends g c clean =
     IfSome_then (g.R.Read.remaining c.args.reader.now) (c.in-Err.ensures.ends clean)
-    (λ input h. inr (stops g.S.Store c.args.agency.now c.batch.new.agency _ _ c.in-Err.field-0 input h, refl))
+    (λ input h. inr (c.in-Err.fault, stops g.S.Store c.args.agency.now c.batch.new.agency _ _ c.in-Err.fault input h, refl))

@@ -1,10 +1,12 @@
-use Rattle.std.proofs.Common.{[], arith, inl, inr, subst}
+use Rattle.std.proofs.Common.{[], arith, inl, inr, subst, sym}
 use Rattle.sqlite.specs.Held.{state}
 use Rattle.dh_schema.specs.Tables.{IsSound}
 use Rattle.dh_agency.specs.Agency.{IsClean, shown_by, stand}
 use Rattle.dh_http.proofs.ServingLemmas.{begins}
 use Rattle.dh_office.specs.Printed.{Served}
-use Rattle.dh_office.proofs.StoreLemmas.{kept_serving, problem_prints, serving_ends, serving_leaves, serving_prints, was_clean}
+use Rattle.dh_office.specs.Statuses.{IsAnswered}
+use Rattle.dh_office.proofs.StoreLemmas.{kept_behind, kept_serving, problem_prints, served_whole, serving_ends, serving_leaves, serving_prints}
+use Rattle.dh_office.proofs.StoreLemmas.{unanswered, was_clean}
 use Rattle.dh_office.proofs.serving.answer_requests.Goals as goal
 
 pub returns-in-Ok-clause-printed : goal.returns-in-Ok-clause-printed
@@ -13,7 +15,8 @@ returns-in-Ok-clause-printed g c =
     inl (
       did.0,
       Served c.serve-outcome.result
-          (serving_prints c.args.service did.0 _ _ _ c.serve-outcome.result c.tell_served-status.result did.2 c.tell_served-status.ensures),
+          (serving_prints c.args.service did.0 _ _ _ c.serve-outcome.result c.tell_served-status.result
+          (λ fault is. (c.serve-outcome.ensures.fault fault is).1) did.2 c.tell_served-status.ensures),
     )
 
 pub returns-in-Ok-clause-ends : goal.returns-in-Ok-clause-ends
@@ -28,8 +31,11 @@ returns-in-Ok-clause-ends g c clean =
       c.in-Ok.ensures.sound first,
       serving_ends g.S.Store after c.into_store.result c.into_store.ensures c.args.conn taken (c.in-Ok.ensures.taken.1 first) did.0 served _ _
           c.args.service c.tell_served-status.result
+          (λ is. served_whole c.serve-outcome.result _ _ c.tell_served-status.result c.tell_served-status.ensures (subst IsAnswered (sym is) tt)
+          c.serve-outcome.ensures.going)
           (Served c.serve-outcome.result
-          (serving_prints c.args.service did.0 _ _ _ c.serve-outcome.result c.tell_served-status.result did.2 c.tell_served-status.ensures)),
+          (serving_prints c.args.service did.0 _ _ _ c.serve-outcome.result c.tell_served-status.result
+          (λ fault is. (c.serve-outcome.ensures.fault fault is).1) did.2 c.tell_served-status.ensures)),
     )
 
 pub returns-in-Ok-clause-crash : goal.returns-in-Ok-clause-crash
@@ -57,3 +63,17 @@ returns-in-Err-clause-printed g c =
 
 pub returns-in-Err-clause-crash : goal.returns-in-Err-clause-crash
 returns-in-Err-clause-crash g c = kept_serving (state g.S.Store c.args.conn) (state g.S.Store c.in-Err.field-0.conn) c.in-Err.ensures.crash
+
+pub returns-in-Ok-clause-kept : goal.returns-in-Ok-clause-kept
+returns-in-Ok-clause-kept g c =
+    let taken = c.in-Ok.agency in
+    let after = c.serve-outcome.new.agency in
+    kept_behind g.S.Store after c.into_store.result c.into_store.ensures c.tell_served-status.result
+    (λ still answered.
+    let first : IsClean g.S.Store taken = omega (arith, c.serve-outcome.ensures.was_clean, still) in
+    let served = c.serve-outcome.ensures.served.1 (stand g.S.Store taken) []
+    (λ at. begins g.S.Store taken c.in-Ok.ensures.taken.0 (c.in-Ok.ensures.left at)) still in
+    served.rests (served_whole c.serve-outcome.result _ _ c.tell_served-status.result c.tell_served-status.ensures answered c.serve-outcome.ensures.going))
+
+pub returns-in-Err-clause-kept : goal.returns-in-Err-clause-kept
+returns-in-Err-clause-kept g c clean answered = absurd (unanswered c.in-Err.field-0.cause _ _ c.tell_problem.result c.tell_problem.ensures answered)

@@ -4,17 +4,6 @@ use Rattle.dh_office.specs.Ends.{JobEnds}
 use Rattle.dh_office.specs.Printed.{PrintsJob}
 use Rattle.dh_office.proofs.taking.do_job.Goals as goal
 
-pub returns-in-Make-clause-printed : goal.returns-in-Make-clause-printed
-returns-in-Make-clause-printed g c =
-    subst (λ job. PrintsJob job (g.W.Write.contents c.args.writer.now) (g.W.Write.contents c.make.new.writer) c.make.result.0) (sym c.in-Make.is)
-    c.make.ensures.printed
-
-pub returns-in-Make-clause-ends : goal.returns-in-Make-clause-ends
-returns-in-Make-clause-ends g c clean =
-    subst (λ job. JobEnds (state g.S.Store c.args.conn) (state g.S.Store c.make.result.1) (g.W.Write.contents c.args.writer.now)
-    (g.W.Write.contents c.make.new.writer) (g.R.Read.remaining c.args.reader.now) job c.make.result.0)
-    (sym c.in-Make.is) (c.make.ensures.ends clean)
-
 pub returns-in-Recover-clause-printed : goal.returns-in-Recover-clause-printed
 returns-in-Recover-clause-printed g c =
     subst (λ job. PrintsJob job (g.W.Write.contents c.args.writer.now) (g.W.Write.contents c.mend.new.writer) c.mend.result.0) (sym c.in-Recover.is)

@@ -2,11 +2,14 @@ use Rattle.std.proofs.Common.{◌∙◌, inl, inr, refl, subst, sym}
 use Rattle.std.proofs.lemmas.Bool.{false≢true}
 use Rattle.sqlite.specs.Held.{state}
 use Rattle.dh_types.specs.declared.version.Version.TheVariants.{Second}
+use Rattle.dh_schema.specs.Store.{tables}
 use Rattle.dh_runs.specs.Taking.{IsOfVersion, IsProblemOf}
+use Rattle.dh_runs.specs.Told.{IsMended}
 use Rattle.dh_office.specs.declared.status.Status.TheVariants.{Done}
 use Rattle.dh_office.specs.Printed.{IsRecoveryEnd}
 use Rattle.dh_office.specs.Texts.{recovered_line}
-use Rattle.dh_office.proofs.StoreLemmas.{forward_again, mended_again, prints_as, problem_prints, second_cause}
+use Rattle.dh_office.proofs.StoreLemmas.{back, forward_again, kept_behind, mended_again, prints_as, problem_prints, second_cause, unanswered}
+use Rattle.dh_office.proofs.StoreLemmas.{was_clean}
 use Rattle.dh_office.proofs.TextLemmas.{puts_as}
 use Rattle.dh_office.proofs.taking.mend.Goals as goal
 
@@ -14,6 +17,17 @@ pub returns-in-Ok-clause-printed : goal.returns-in-Ok-clause-printed
 returns-in-Ok-clause-printed g c =
     inl (prints_as IsRecoveryEnd recovered_line Done _ _ c.heard.result (refl, refl)
     (puts_as c.print_recovered.result recovered_line Done c.heard.result _ _ c.heard.ensures c.print_recovered.ensures))
+
+pub returns-in-Ok-clause-ends : goal.returns-in-Ok-clause-ends
+returns-in-Ok-clause-ends g c clean =
+    let made = c.in-Ok.agency in
+    let at = was_clean g.S.Store made c.into_store.result c.into_store.ensures clean in
+    inl (
+      inr (c.in-Ok.ensures.sound at),
+      back g.S.Store made c.into_store.result c.into_store.ensures (λ new. IsMended (tables (state g.S.Store c.args.conn)) (tables new))
+          (c.in-Ok.ensures.mended.1 at),
+      puts_as c.print_recovered.result recovered_line Done c.heard.result _ _ c.heard.ensures c.print_recovered.ensures,
+    )
 
 pub returns-then-is_first-clause-ends : goal.returns-then-is_first-clause-ends
 returns-then-is_first-clause-ends g c clean =
@@ -41,3 +55,11 @@ returns-else-is_first-clause-ends g c clean =
     second_cause (state g.S.Store c.args.conn).now.trees c.in-Err.field-0.cause
     (λ is. false≢true (sym c.if-is_first.false ∙ c.is_first.ensures.1 is)) (c.in-Err.ensures.refused clean) in
     inr (record { problem = c.in-Err.field-0.cause; cause = cause; told = c.tell_problem.ensures }, c.in-Err.ensures.crash)
+
+pub returns-in-Ok-clause-kept : goal.returns-in-Ok-clause-kept
+returns-in-Ok-clause-kept g c =
+    kept_behind g.S.Store c.in-Ok.agency c.into_store.result c.into_store.ensures c.heard.result (λ clean answered. c.in-Ok.ensures.left clean)
+
+pub returns-else-is_first-clause-kept : goal.returns-else-is_first-clause-kept
+returns-else-is_first-clause-kept g c clean answered =
+    absurd (unanswered c.in-Err.field-0.cause _ _ c.tell_problem.result c.tell_problem.ensures answered)

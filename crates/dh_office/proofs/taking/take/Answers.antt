@@ -1,7 +1,7 @@
 use Rattle.std.proofs.Common.{arith, inl, inr}
 use Rattle.sqlite.specs.Held.{state}
 use Rattle.dh_agency.specs.Agency.{IsClean}
-use Rattle.dh_office.proofs.StoreLemmas.{kept_leaves, problem_prints, was_clean, work_ends}
+use Rattle.dh_office.proofs.StoreLemmas.{kept_behind, kept_leaves, problem_prints, unanswered, was_clean, work_ends}
 use Rattle.dh_office.proofs.taking.take.Goals as goal
 
 pub returns-in-Ok-clause-ends : goal.returns-in-Ok-clause-ends
@@ -22,3 +22,11 @@ returns-in-Err-clause-printed g c = inr (problem_prints c.in-Err.field-0.cause _
 
 pub returns-in-Err-clause-crash : goal.returns-in-Err-clause-crash
 returns-in-Err-clause-crash g c = kept_leaves (state g.S.Store c.args.conn) (state g.S.Store c.in-Err.field-0.conn) c.args.work c.in-Err.ensures.crash
+
+pub returns-in-Ok-clause-kept : goal.returns-in-Ok-clause-kept
+returns-in-Ok-clause-kept g c =
+    kept_behind g.S.Store c.carry_out-status.new.agency c.into_store.result c.into_store.ensures c.carry_out-status.result
+    (λ clean. c.carry_out-status.ensures.kept (c.in-Ok.ensures.left (omega (arith, c.carry_out-status.ensures.was_clean, clean))) clean)
+
+pub returns-in-Err-clause-kept : goal.returns-in-Err-clause-kept
+returns-in-Err-clause-kept g c clean answered = absurd (unanswered c.in-Err.field-0.cause _ _ c.tell_problem.result c.tell_problem.ensures answered)

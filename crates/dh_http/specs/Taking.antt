@@ -1,0 +1,36 @@
+-- Which failures to take a connection are of that connection, and which of this machine.
+use Rattle.std.specs.Prelude.{ℕ, ℤ, List, [], ◌∷◌, Option, Some, None, Result, Ok, Err, Bool, true, false, if◌then◌else◌, ◌==◌, unsigned_abs}
+use Rattle.std.specs.IoError.{raw_os_error}
+use Rattle.std.specs.declared.io.Error.{Error}
+use Rattle.dh_types.specs.declared.reply.Fault.{Fault}
+use Rattle.dh_types.specs.declared.reply.Fault.TheVariants.{Memory, Store}
+
+-- The numbers of Linux's errors that accept(2) says are of the connection: it was aborted, or its network had failed.
+abbrev pub connection_errors : List ℕ
+connection_errors = 64 ∷ 71 ∷ 92 ∷ 95 ∷ 100 ∷ 101 ∷ 103 ∷ 112 ∷ 113 ∷ []
+
+-- those of want of memory
+abbrev pub memory_errors : List ℕ
+memory_errors = 12 ∷ 105 ∷ []
+
+abbrev pub is_one_of : ℕ → List ℕ → Bool
+is_one_of code [] = false
+is_one_of code (it ∷ rest) = if code == it then true else is_one_of code rest
+
+-- the fault that is told of such an error; none where it is of the connection
+abbrev pub fault_of_code : ℕ → Option Fault
+fault_of_code code = if is_one_of code connection_errors then None else (if is_one_of code memory_errors then Some Memory else Some Store)
+
+-- an error without a number is none of a connection
+abbrev pub fault_of : Option ℤ → Option Fault
+fault_of (Some code) = fault_of_code (unsigned_abs code)
+fault_of None = Some Store
+
+abbrev pub untaken : {T : Type 0} → Option Fault → Result (Option T) Fault
+untaken None = Ok None
+untaken (Some fault) = Err fault
+
+-- What came of a call for the next connection: it was taken; it was lost; or a fault is told.
+abbrev pub is_taken : {T : Type 0} → Result T Error → Result (Option T) Fault
+is_taken (Ok it) = Ok (Some it)
+is_taken (Err e) = untaken (fault_of (raw_os_error e))

@@ -1,0 +1,70 @@
+//! A peer's stream and the clock, by the calls that are made of them.
+
+ghost use Rattle.std.specs.Prelude.{ℕ, List, [], ◌∷◌, Option, None};
+ghost use Rattle.std.specs.Duration.{as_nanos};
+ghost use Rattle.std.specs.Io.{ReadsAtMost, WritesAtMost};
+ghost use Rattle.dh_http.specs.Calls.{AsksTime, Call, EndsOutput, Makes, Reads, Writes};
+
+use std::io;
+use std::io::{Read, Write};
+use std::net::{Shutdown, TcpStream};
+use std::time::{Duration, Instant};
+
+/// A peer's stream, and the clock.
+pub(crate) trait Peer {
+    // The calls that were made, in order, where they are known.
+    ghost calls: { Self → Option (List Call) } = { λ _. None };
+
+    /// What time it is.
+    fn time(&mut self) -> io::Result<Instant>
+        ensures { Makes (calls self.old) (calls self.new) (AsksTime result ∷ []) };
+
+    /// Reads some bytes; it waits for so long at most.
+    fn read_within(&mut self, limit: Duration, buf: &mut [u8]) -> io::Result<usize>
+        ensures bound { ReadsAtMost result buf.new }
+        ensures made { Makes (calls self.old) (calls self.new) (Reads (as_nanos limit) result ∷ []) };
+
+    /// Writes some bytes; it waits for so long at most.
+    fn write_within(&mut self, limit: Duration, buf: &[u8]) -> io::Result<usize>
+        ensures bound { WritesAtMost result buf.now }
+        ensures made { Makes (calls self.old) (calls self.new) (Writes (as_nanos limit) result ∷ []) };
+
+    /// Ends the output. The input stays open.
+    fn end_output(&mut self) -> io::Result<()>
+        ensures { Makes (calls self.old) (calls self.new) (EndsOutput result ∷ []) };
+}
+
+/// A peer of this machine.
+#[derive(Clone, Copy)]
+pub(crate) struct SocketPeer<'a> {
+    rt: &'a HostRuntime,
+    stream: &'a TcpStream,
+}
+
+impl<'a> SocketPeer<'a> {
+    pub(crate) fn new(rt: &'a HostRuntime, stream: &'a TcpStream) -> SocketPeer<'a> {
+        SocketPeer { rt, stream }
+    }
+}
+
+impl Peer for SocketPeer<'_> {
+    fn time(&mut self) -> io::Result<Instant> {
+        Instant::now(self.rt)
+    }
+
+    fn read_within(&mut self, limit: Duration, buf: &mut [u8]) -> io::Result<usize> {
+        let mut stream = self.stream;
+        stream.set_read_timeout(Some(limit))?;
+        stream.read(buf)
+    }
+
+    fn write_within(&mut self, limit: Duration, buf: &[u8]) -> io::Result<usize> {
+        let mut stream = self.stream;
+        stream.set_write_timeout(Some(limit))?;
+        stream.write(buf)
+    }
+
+    fn end_output(&mut self) -> io::Result<()> {
+        self.stream.shutdown(Shutdown::Write)
+    }
+}
