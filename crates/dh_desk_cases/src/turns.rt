@@ -31,26 +31,37 @@ fn marks_of(alloc: Global, wanted: &str, lines: usize) -> Result<Vec<usize>, All
     Ok(marks)
 }
 
-// A reader that gives a line a read, in its turn.
+// A reader that gives no more than a line a read, and each line in its turn.
 #[derive(Drop)]
 struct Asker<'a> {
     input: &'a [u8],
     marks: &'a [usize],
     written: &'a Cell<usize>,
+    is_within: bool,
+}
+
+impl Asker<'_> {
+    // Whether the next line may be given: all is written that is wanted before its answer.
+    fn is_in_turn(&mut self) -> bool
+        ensures { self.new.input ≡ self.old.input }
+    {
+        let Some((mark, marks)) = self.marks.split_first() else {
+            return true;
+        };
+        self.marks = marks;
+        self.written.get() == *mark
+    }
 }
 
 impl Read for Asker<'_> {
     fn read(&mut self, buf: &mut [u8]) -> io::Result<usize> {
-        let Some((mark, marks)) = self.marks.split_first() else {
-            return Ok(0);
-        };
-        if self.written.get() != *mark {
+        if !self.is_within && !self.is_in_turn() {
             return Err(ErrorKind::Other.into());
         }
-        self.marks = marks;
         let line = self.input.iter().position(|byte| *byte == b'\n');
         let length = line.map_or(self.input.len(), |at| at.saturating_add(1));
         let some = length.min(buf.len());
+        self.is_within = some < length;
         self.input.read(&mut buf[..some])
     }
 }
@@ -87,6 +98,7 @@ fn asked(rt: &HostRuntime, told: &str, wanted: &str) -> io::Result<String> {
         input: input.as_bytes(),
         marks: &marks,
         written: &written,
+        is_within: false,
     };
     let mut answers = Answers {
         told: Vec::new(alloc),

@@ -188,6 +188,11 @@ job_before (job.Serve service) a b status told = inr (Before told)
 
 -- ---- the store behind an agency
 
+-- a result has one error
+pub same_error : {T E : Type 0} (r : Result T E) (x y : E) → r ≡ Err x → r ≡ Err y → x ≡ y
+same_error (Ok it) x y is other = cc
+same_error (Err e) x y is other = cc
+
 module _ {S : Type 0} (g : Ghosts S) (after : Seat S) (last : Held S) (same : last ≡ after.conn) where
   pub was_clean : HasCleanDisk (state g last) → IsClean g after
   was_clean clean = subst (λ (h : Held S). HasCleanDisk (state g h)) same clean

@@ -13,14 +13,15 @@ use Rattle.sqlite.specs.Start.{FindsIn}
 use Rattle.sqlite.specs.State as conn
 use Rattle.sqlite.specs.State.{HasCleanDisk}
 use Rattle.dh_model.specs.Books.{start}
-use Rattle.dh_schema.specs.Store.{Commits, LeavesItsTables, tables}
+use Rattle.dh_types.specs.declared.reply.Fault.TheVariants as fault
+use Rattle.dh_schema.specs.Store.{Commits, IsBlank, LeavesItsTables, tables}
 use Rattle.dh_office.specs.declared.taking.FileJob.{FileJob}
 use Rattle.dh_office.specs.declared.status.Status.{Status}
 use Rattle.dh_office.specs.declared.status.Status.TheVariants.{Done}
 use Rattle.dh_office.specs.Statuses.{IsFailed}
 use Rattle.dh_office.specs.Ends.{JobEnds}
 use Rattle.dh_office.specs.Leaving.{IsKept, JobLeaves}
-use Rattle.dh_office.specs.Printed.{Closes, IsMakingEnd, Prints, PrintsJob, PutsAs, TellsFault}
+use Rattle.dh_office.specs.Printed.{Closes, IsMakingEnd, Prints, PrintsJob, PutsAs, Tells, TellsFault}
 use Rattle.dh_office.specs.Texts.{created_line}
 
 -- the tables of books that begin so were made, and a crash leaves these alone
@@ -61,11 +62,13 @@ module _ {D : Type 0} {g : disk.Ghosts D} where
     pub plain : HasCleanDisk (file_state conn) → IsBlankAs false held → (view conn.store).has_sums ≡ false
 
   -- The tables of empty books were made in this store, and its files were closed; then that was told. Or a fault came, and is told: what was
-  -- committed is as it was, or the tables were made and could not be closed.
+  -- committed is as it was, or the tables were made and could not be closed. A store that is not blank is left untouched, and that it can't be
+  -- used is told.
   pub record MakesOnFile (old : Held (FileStore D g)) (first : ℕ) (a b : Option (List ℕ)) (status : Status) (files : Option (Files D)) : Type 0 where
     pub last : Held (FileStore D g)
     pub was_clean : HasCleanDisk (file_state last) → HasCleanDisk (file_state old)
     pub left : Commits (file_state old) (file_state last) (λ t. t ≡ start first)
+    pub occupied : ¬ IsBlank (file_state old) → Tells fault.Store a b [] status × (last ≡ old)
     pub ends : (IsMade first (file_state last) × IsSomeAnd files (HasCommits last) × PutsAs (created_line first) Done a b status)
         ⊎ (TellsFault a b [] status × (IsUnmade (file_state old) (file_state last) ⊎ IsMade first (file_state last)))
 

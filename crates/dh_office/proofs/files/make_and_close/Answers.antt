@@ -1,4 +1,4 @@
-use Rattle.std.proofs.Common.{◌≡◌, ◌∙◌, ℕ, ap, inl, inr, refl, subst, arith}
+use Rattle.std.proofs.Common.{◌≡◌, ◌∙◌, ℕ, [], ap, inl, inr, refl, subst, arith}
 use Rattle.sqlite.specs.Files.{file_state, over_files}
 use Rattle.sqlite.specs.Held.{Held, state}
 use Rattle.sqlite.specs.State as conn
@@ -10,9 +10,9 @@ use Rattle.dh_agency.specs.Seat.{Seat}
 use Rattle.dh_agency.specs.Agency.{IsClean, machine, shown_by}
 use Rattle.dh_office.specs.declared.status.Status.TheVariants.{Done}
 use Rattle.dh_office.specs.OnFile.{IsMade}
-use Rattle.dh_office.specs.Printed.{IsMakingEnd}
+use Rattle.dh_office.specs.Printed.{IsMakingEnd, Tells}
 use Rattle.dh_office.specs.Texts.{created_line}
-use Rattle.dh_office.proofs.StoreLemmas.{back, prints_as, was_clean}
+use Rattle.dh_office.proofs.StoreLemmas.{back, prints_as, same_error, was_clean}
 use Rattle.dh_office.proofs.TextLemmas.{fault_told, puts_as}
 use Rattle.dh_office.proofs.files.make_and_close.Goals as goal
 
@@ -49,6 +49,7 @@ returns-in-Ok-close-clause-ends g c =
       last = c.into_store.result;
       was_clean = still_clean _ _ c.args.first left;
       left = left;
+      occupied = λ wrong. let no = c.in-Ok.ensures.occupied wrong in cc;
       ends =
           inl (
             made (over_files {g = g.D.Disk}) c.args.conn c.into_store.result c.in-Ok.agency same c.args.first begun c.in-Ok.ensures.left,
@@ -66,6 +67,7 @@ returns-in-Err-close-clause-ends g c =
       last = c.into_store.result;
       was_clean = still_clean _ _ c.args.first left;
       left = left;
+      occupied = λ wrong. let no = c.in-Ok.ensures.occupied wrong in cc;
       ends =
           inr (
             fault_told _ _ c.in-Err-close.fault c.tell_fault.result c.in-Err-close.ensures.cause c.tell_fault.ensures,
@@ -81,6 +83,14 @@ returns-in-Err-clause-ends g c =
       last = c.in-Err.field-0.conn;
       was_clean = still_clean _ _ c.args.first left;
       left = left;
+      occupied = λ wrong.
+          let is = same_error _ c.in-Err.field-0 _ refl (c.in-Err.ensures.occupied wrong) in (
+            subst
+                (λ f. Tells f (g.W.Write.contents c.args.writer.now) (g.W.Write.contents c.tell_fault-in-Err.new.writer) [] c.tell_fault-in-Err.result)
+                (ap (λ e. e.cause) is)
+                c.tell_fault-in-Err.ensures,
+            ap (λ e. e.conn) is,
+          );
       ends =
           inr (
             fault_told _ _ c.in-Err.field-0.cause c.tell_fault-in-Err.result c.in-Err.ensures.cause c.tell_fault-in-Err.ensures,
