@@ -8,7 +8,7 @@ use Rattle.matchit.specs.Seek.{first, seek, param_step, has_slash, segment, own,
 use Rattle.std.specs.Cmp.Lexicographic.{pointwise}
 use Rattle.matchit.specs.Router.{RouteOf}
 use Rattle.matchit.specs.Params.{walk, part_of, next_at}
-use Rattle.dh_requests.specs.Routes.{routes, IsPiece, arrears_row, branches_row, commands_row, matching_row, owner_row, run_row, statement_row, vacant_row}
+use Rattle.dh_requests.specs.Routes.{routes, IsPiece, row_of}
 use Rattle.dh_requests.specs.Targets.{IsTarget, IsText, IsAfter, AreAfter}
 use Rattle.dh_requests.specs.declared.routing.Route.{Route}
 use Rattle.dh_requests.specs.declared.routing.Route.TheVariants.{Commands, Branches, Vacant, Matching, Statement, Arrears, Run, Owner}
@@ -61,20 +61,20 @@ two w path bytes x =
 
 member : (t : List ℕ) (r : RouteOf Route) (path : List ℕ) → In (t, r) routes → Takes t path → IsTarget r.value path
 unfolding all_bytes
-member t r path (inl e) x = row_is arrears_row t r path (λ v. IsTarget v path) e x (after (codes "/arrears/") path (bytes_if (codes "/arrears/") refl))
-member t r path (inr (inl e)) x = row_is branches_row t r path (λ v. IsTarget v path) e x (whole (codes "/branches") path (bytes_if (codes "/branches") refl))
+member t r path (inl e) x = row_is (row_of Arrears) t r path (λ v. IsTarget v path) e x (after (codes "/arrears/") path (bytes_if (codes "/arrears/") refl))
+member t r path (inr (inl e)) x = row_is (row_of Branches) t r path (λ v. IsTarget v path) e x (whole (codes "/branches") path (bytes_if (codes "/branches") refl))
 member t r path (inr (inr (inl e))) x =
-    row_is commands_row t r path (λ v. IsTarget v path) e x (whole (codes "/commands") path (bytes_if (codes "/commands") refl))
+    row_is (row_of Commands) t r path (λ v. IsTarget v path) e x (whole (codes "/commands") path (bytes_if (codes "/commands") refl))
 member t r path (inr (inr (inr (inl e)))) x =
-    row_is matching_row t r path (λ v. IsTarget v path) e x (two (codes "/matching/") path (bytes_if (codes "/matching/") refl))
+    row_is (row_of Matching) t r path (λ v. IsTarget v path) e x (two (codes "/matching/") path (bytes_if (codes "/matching/") refl))
 member t r path (inr (inr (inr (inr (inl e))))) x =
-    row_is owner_row t r path (λ v. IsTarget v path) e x (two (codes "/owner/") path (bytes_if (codes "/owner/") refl))
+    row_is (row_of Owner) t r path (λ v. IsTarget v path) e x (two (codes "/owner/") path (bytes_if (codes "/owner/") refl))
 member t r path (inr (inr (inr (inr (inr (inl e)))))) x =
-    row_is run_row t r path (λ v. IsTarget v path) e x (after (codes "/run/") path (bytes_if (codes "/run/") refl))
+    row_is (row_of Run) t r path (λ v. IsTarget v path) e x (after (codes "/run/") path (bytes_if (codes "/run/") refl))
 member t r path (inr (inr (inr (inr (inr (inr (inl e))))))) x =
-    row_is statement_row t r path (λ v. IsTarget v path) e x (after (codes "/statement/") path (bytes_if (codes "/statement/") refl))
+    row_is (row_of Statement) t r path (λ v. IsTarget v path) e x (after (codes "/statement/") path (bytes_if (codes "/statement/") refl))
 member t r path (inr (inr (inr (inr (inr (inr (inr (inl e)))))))) x =
-    row_is vacant_row t r path (λ v. IsTarget v path) e x (after (codes "/vacant/") path (bytes_if (codes "/vacant/") refl))
+    row_is (row_of Vacant) t r path (λ v. IsTarget v path) e x (after (codes "/vacant/") path (bytes_if (codes "/vacant/") refl))
 member t r path (inr (inr (inr (inr (inr (inr (inr (inr e)))))))) x = absurd e
 
 pub found : (path : List ℕ) (r : RouteOf Route) → AreBytes path → first routes path ≡ Some r → IsTarget r.value path
@@ -113,7 +113,7 @@ rest_of path front rest at e at_is =
     rw inside (ap (λ n. take n (drop at path)) left ∙ ap (take (length rest)) dropped ∙ take_all (length rest) rest (le_refl (length rest)))
 
 -- what the parameter of a route took
-walk_vacant : (b : ℕ) (p : List ℕ) → walk vacant_row.0 (codes "/vacant/{day}") (codes "/vacant/" ++ b ∷ p) ((9, 12) ∷ []) 0 0 ≡ (codes "day", b ∷ p) ∷ []
+walk_vacant : (b : ℕ) (p : List ℕ) → walk (row_of Vacant).0 (codes "/vacant/{day}") (codes "/vacant/" ++ b ∷ p) ((9, 12) ∷ []) 0 0 ≡ (codes "day", b ∷ p) ∷ []
 walk_vacant b p =
     let len = length (codes "/vacant/" ++ b ∷ p) in
     rw (
@@ -180,27 +180,27 @@ lits (b ∷ w) path rs e =
     let two = both (is_none (step 257 rs)) (plain w (step b rs)) one.1 in
     lit b (w ++ path) rs (none_is (step 256 rs) one.0) (none_is (step 257 rs) two.0) ∙ lits w path (step b rs) two.1
 
-pub at_arrears : (b : ℕ) (p : List ℕ) → b < 256 → has_slash (b ∷ p) ≡ false → first routes (codes "/arrears/" ++ b ∷ p) ≡ Some arrears_row.1
+pub at_arrears : (b : ℕ) (p : List ℕ) → b < 256 → has_slash (b ∷ p) ≡ false → first routes (codes "/arrears/" ++ b ∷ p) ≡ Some (row_of Arrears).1
 unfolding plain steps is_none
-at_arrears b p byte free = lits (codes "/arrears/") (b ∷ p) routes refl ∙ last_piece arrears_row.1 b p byte free
+at_arrears b p byte free = lits (codes "/arrears/") (b ∷ p) routes refl ∙ last_piece (row_of Arrears).1 b p byte free
 
-pub at_statement : (b : ℕ) (p : List ℕ) → b < 256 → has_slash (b ∷ p) ≡ false → first routes (codes "/statement/" ++ b ∷ p) ≡ Some statement_row.1
+pub at_statement : (b : ℕ) (p : List ℕ) → b < 256 → has_slash (b ∷ p) ≡ false → first routes (codes "/statement/" ++ b ∷ p) ≡ Some (row_of Statement).1
 unfolding plain steps is_none
-at_statement b p byte free = lits (codes "/statement/") (b ∷ p) routes refl ∙ last_piece statement_row.1 b p byte free
+at_statement b p byte free = lits (codes "/statement/") (b ∷ p) routes refl ∙ last_piece (row_of Statement).1 b p byte free
 
-pub at_vacant : (b : ℕ) (p : List ℕ) → b < 256 → has_slash (b ∷ p) ≡ false → first routes (codes "/vacant/" ++ b ∷ p) ≡ Some vacant_row.1
+pub at_vacant : (b : ℕ) (p : List ℕ) → b < 256 → has_slash (b ∷ p) ≡ false → first routes (codes "/vacant/" ++ b ∷ p) ≡ Some (row_of Vacant).1
 unfolding plain steps is_none
-at_vacant b p byte free = lits (codes "/vacant/") (b ∷ p) routes refl ∙ last_piece vacant_row.1 b p byte free
+at_vacant b p byte free = lits (codes "/vacant/") (b ∷ p) routes refl ∙ last_piece (row_of Vacant).1 b p byte free
 
-pub at_run : (b : ℕ) (p : List ℕ) → b < 256 → has_slash (b ∷ p) ≡ false → first routes (codes "/run/" ++ b ∷ p) ≡ Some run_row.1
+pub at_run : (b : ℕ) (p : List ℕ) → b < 256 → has_slash (b ∷ p) ≡ false → first routes (codes "/run/" ++ b ∷ p) ≡ Some (row_of Run).1
 unfolding plain steps is_none
-at_run b p byte free = lits (codes "/run/") (b ∷ p) routes refl ∙ last_piece run_row.1 b p byte free
+at_run b p byte free = lits (codes "/run/") (b ∷ p) routes refl ∙ last_piece (row_of Run).1 b p byte free
 
-pub at_commands : first routes (codes "/commands") ≡ Some commands_row.1
+pub at_commands : first routes (codes "/commands") ≡ Some (row_of Commands).1
 unfolding plain steps is_none seek
 at_commands = lits (codes "/commands") [] routes refl
 
-pub at_branches : first routes (codes "/branches") ≡ Some branches_row.1
+pub at_branches : first routes (codes "/branches") ≡ Some (row_of Branches).1
 unfolding plain steps is_none seek
 at_branches = lits (codes "/branches") [] routes refl
 
@@ -249,16 +249,16 @@ two_first r b c d e byte free byte2 free2 =
     ∙ ap (λ o. or_else o None) (seek_over c (47 ∷ d ∷ e) row ∙ last)
 
 pub at_matching : (b : ℕ) (c : List ℕ) (d : ℕ) (e : List ℕ) → b < 256 → has_slash (b ∷ c) ≡ false → d < 256 → has_slash (d ∷ e) ≡ false
-    → first routes (codes "/matching/" ++ ((b ∷ c) ++ 47 ∷ d ∷ e)) ≡ Some matching_row.1
+    → first routes (codes "/matching/" ++ ((b ∷ c) ++ 47 ∷ d ∷ e)) ≡ Some (row_of Matching).1
 unfolding plain steps is_none
 at_matching b c d e byte free byte2 free2 =
-    lits (codes "/matching/") ((b ∷ c) ++ 47 ∷ d ∷ e) routes refl ∙ two_first matching_row.1 b c d e byte free byte2 free2
+    lits (codes "/matching/") ((b ∷ c) ++ 47 ∷ d ∷ e) routes refl ∙ two_first (row_of Matching).1 b c d e byte free byte2 free2
 
 pub at_owner : (b : ℕ) (c : List ℕ) (d : ℕ) (e : List ℕ) → b < 256 → has_slash (b ∷ c) ≡ false → d < 256 → has_slash (d ∷ e) ≡ false
-    → first routes (codes "/owner/" ++ ((b ∷ c) ++ 47 ∷ d ∷ e)) ≡ Some owner_row.1
+    → first routes (codes "/owner/" ++ ((b ∷ c) ++ 47 ∷ d ∷ e)) ≡ Some (row_of Owner).1
 unfolding plain steps is_none
 at_owner b c d e byte free byte2 free2 =
-    lits (codes "/owner/") ((b ∷ c) ++ 47 ∷ d ∷ e) routes refl ∙ two_first owner_row.1 b c d e byte free byte2 free2
+    lits (codes "/owner/") ((b ∷ c) ++ 47 ∷ d ∷ e) routes refl ∙ two_first (row_of Owner).1 b c d e byte free byte2 free2
 
 bytes_after : (front rest : List ℕ) → AreBytes (front ++ rest) → AreBytes rest
 bytes_after [] rest h = h
@@ -290,14 +290,14 @@ not_two front path r at bytes none (b ∷ c) (d ∷ f) e x y =
 
 pub missing : (route : Route) (path : List ℕ) → AreBytes path → first routes path ≡ None → IsTarget route path → ⊥
 missing Commands path bytes none x =
-    let no : None ≡ Some commands_row.1 = sym none ∙ ap (first routes) x.2.0 ∙ at_commands in
+    let no : None ≡ Some (row_of Commands).1 = sym none ∙ ap (first routes) x.2.0 ∙ at_commands in
     cc
 missing Branches path bytes none x =
-    let no : None ≡ Some branches_row.1 = sym none ∙ ap (first routes) x.2.0 ∙ at_branches in
+    let no : None ≡ Some (row_of Branches).1 = sym none ∙ ap (first routes) x.2.0 ∙ at_branches in
     cc
-missing Vacant path bytes none x = not_none (codes "/vacant/") path vacant_row.1 at_vacant bytes none x.0 x.2.0 x.2.1
-missing Matching path bytes none x = not_two (codes "/matching/") path matching_row.1 at_matching bytes none x.0 x.1 x.2.0 x.2.1 x.2.2
-missing Statement path bytes none x = not_none (codes "/statement/") path statement_row.1 at_statement bytes none x.0 x.2.0 x.2.1
-missing Arrears path bytes none x = not_none (codes "/arrears/") path arrears_row.1 at_arrears bytes none x.0 x.2.0 x.2.1
-missing Run path bytes none x = not_none (codes "/run/") path run_row.1 at_run bytes none x.0 x.2.0 x.2.1
-missing Owner path bytes none x = not_two (codes "/owner/") path owner_row.1 at_owner bytes none x.0 x.1 x.2.0 x.2.1 x.2.2
+missing Vacant path bytes none x = not_none (codes "/vacant/") path (row_of Vacant).1 at_vacant bytes none x.0 x.2.0 x.2.1
+missing Matching path bytes none x = not_two (codes "/matching/") path (row_of Matching).1 at_matching bytes none x.0 x.1 x.2.0 x.2.1 x.2.2
+missing Statement path bytes none x = not_none (codes "/statement/") path (row_of Statement).1 at_statement bytes none x.0 x.2.0 x.2.1
+missing Arrears path bytes none x = not_none (codes "/arrears/") path (row_of Arrears).1 at_arrears bytes none x.0 x.2.0 x.2.1
+missing Run path bytes none x = not_none (codes "/run/") path (row_of Run).1 at_run bytes none x.0 x.2.0 x.2.1
+missing Owner path bytes none x = not_two (codes "/owner/") path (row_of Owner).1 at_owner bytes none x.0 x.1 x.2.0 x.2.1 x.2.2

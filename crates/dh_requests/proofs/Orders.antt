@@ -25,13 +25,7 @@ use Rattle.dh_requests.specs.Steps.{Behind}
 pub of_question : (asking : Route) → asking ≢ route.Commands → (h : RequestHead) (rest : List ℕ) (it : Asked)
     → IsByMethod (codes "GET") h.method turned.OnlyByGet it (IsQuestionOf asking h.target it) → IsOfRoute asking h rest it
 of_question route.Commands other h rest it x = absurd (other refl)
-of_question route.Branches other h rest it x = x
-of_question route.Vacant other h rest it x = x
-of_question route.Matching other h rest it x = x
-of_question route.Statement other h rest it x = x
-of_question route.Arrears other h rest it x = x
-of_question route.Run other h rest it x = x
-of_question route.Owner other h rest it x = x
+of_question asking other h rest it x = x
 
 -- the same, where what was read of the reader is told
 pub by_question : (asking : Route) → asking ≢ route.Commands → (h : RequestHead) {method target : List ℕ} (front : List ℕ) (left : Option (List ℕ)) (it : Asked)

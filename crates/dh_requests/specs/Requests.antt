@@ -13,6 +13,7 @@ use Rattle.dh_requests.specs.HeaderLines.{body_length, values_of}
 use Rattle.dh_requests.specs.declared.limits.TheConstants.{ROOM}
 use Rattle.dh_requests.specs.declared.header_lines.BodyLength.{BodyLength}
 use Rattle.dh_requests.specs.declared.header_lines.BodyLength.TheVariants.{Absent, Invalid, TooLarge, Bytes}
+use Rattle.dh_requests.specs.Routes.{words_of}
 use Rattle.dh_requests.specs.Targets.{HasPieces, IsTarget}
 use Rattle.dh_requests.specs.declared.routing.Route.{Route}
 use Rattle.dh_requests.specs.declared.routing.Route.TheVariants as route
@@ -47,16 +48,16 @@ IsBodyOf (Bytes n) rest it = ((length rest < n) × (it ≡ asked.Turned turned.B
 
 -- ---- a question by its route
 
+-- as many pieces of a target as these
+abbrev pub taken_as : List (List ℕ) → List ℕ → List ℕ → Fields
+taken_as [] first second = []
+taken_as (piece ∷ []) first second = first ∷ []
+taken_as (piece ∷ other ∷ more) first second = first ∷ second ∷ []
+
 -- the fields of the question that a route asks with these pieces of its target
 abbrev pub question_fields : Route → List ℕ → List ℕ → Fields
 question_fields route.Commands first second = []
-question_fields route.Branches first second = codes "show" ∷ codes "branches" ∷ []
-question_fields route.Vacant day second = codes "show" ∷ codes "vacant" ∷ day ∷ []
-question_fields route.Matching client day = codes "show" ∷ codes "matching" ∷ client ∷ day ∷ []
-question_fields route.Statement lease second = codes "show" ∷ codes "statement" ∷ lease ∷ []
-question_fields route.Arrears branch second = codes "show" ∷ codes "arrears" ∷ branch ∷ []
-question_fields route.Run month second = codes "show" ∷ codes "run" ∷ month ∷ []
-question_fields route.Owner owner month = codes "show" ∷ codes "owner" ∷ owner ∷ month ∷ []
+question_fields asking first second = codes "show" ∷ (words_of asking).word ∷ taken_as (words_of asking).pieces first second
 
 abbrev pub IsQuestionOf : Route → List ℕ → Asked → Type 0
 IsQuestionOf asking target it =

@@ -1,5 +1,5 @@
 -- The routes, and what a target says of itself.
-use Rattle.std.specs.Prelude.{◌≡◌, ℕ, ◌<◌, List, [], ◌∷◌, ◌++◌, length, codes, false}
+use Rattle.std.specs.Prelude.{◌≡◌, ℕ, ◌<◌, ◌+◌, List, [], ◌∷◌, ◌++◌, length, map, codes, false}
 use Rattle.matchit.specs.Rows.{RowsOf, param_token}
 use Rattle.matchit.specs.Router.{RouteOf}
 use Rattle.matchit.specs.Seek.{has_slash}
@@ -9,37 +9,48 @@ use Rattle.dh_requests.specs.declared.routing.Route.TheVariants.{Commands, Branc
 abbrev pub row : List ℕ → List ℕ → List (ℕ × ℕ) → Route → List ℕ × RouteOf Route
 row pattern text names value = (pattern, record { pattern = pattern; text = text; names = names; value = value })
 
--- a route with one parameter at its end
-abbrev pub ends_in_param : List ℕ → List ℕ
-ends_in_param front = front ++ param_token ∷ []
+-- What a route says: its word, and what the pieces behind it are called.
+pub record Words : Type 0 where
+  pub word : List ℕ
+  pub pieces : List (List ℕ)
 
-abbrev pub arrears_row : List ℕ × RouteOf Route
-arrears_row = row (codes "/arrears/" ++ param_token ∷ []) (codes "/arrears/{branch}") ((10, 16) ∷ []) Arrears
+abbrev pub words_of : Route → Words
+words_of Commands = record { word = codes "commands"; pieces = [] }
+words_of Branches = record { word = codes "branches"; pieces = [] }
+words_of Vacant = record { word = codes "vacant"; pieces = codes "day" ∷ [] }
+words_of Matching = record { word = codes "matching"; pieces = codes "client" ∷ codes "day" ∷ [] }
+words_of Statement = record { word = codes "statement"; pieces = codes "lease" ∷ [] }
+words_of Arrears = record { word = codes "arrears"; pieces = codes "branch" ∷ [] }
+words_of Run = record { word = codes "run"; pieces = codes "month" ∷ [] }
+words_of Owner = record { word = codes "owner"; pieces = codes "owner" ∷ codes "month" ∷ [] }
 
-abbrev pub branches_row : List ℕ × RouteOf Route
-branches_row = row (codes "/branches") (codes "/branches") [] Branches
+-- what stands before the pieces
+abbrev pub front : List ℕ → List (List ℕ) → List ℕ
+front word [] = 47 ∷ word
+front word (piece ∷ pieces) = 47 ∷ (word ++ 47 ∷ [])
 
-abbrev pub commands_row : List ℕ × RouteOf Route
-commands_row = row (codes "/commands") (codes "/commands") [] Commands
+-- the pieces in a pattern, in a text, and where their names stand in the text
+abbrev pub tokens : List (List ℕ) → List ℕ
+tokens [] = []
+tokens (piece ∷ []) = param_token ∷ []
+tokens (piece ∷ pieces) = param_token ∷ 47 ∷ tokens pieces
 
-abbrev pub matching_row : List ℕ × RouteOf Route
-matching_row = row (codes "/matching/" ++ (param_token ∷ 47 ∷ param_token ∷ [])) (codes "/matching/{client}/{day}") ((11, 17) ∷ (20, 23) ∷ []) Matching
+abbrev pub braced : List (List ℕ) → List ℕ
+braced [] = []
+braced (piece ∷ pieces) = codes "/{" ++ (piece ++ (codes "}" ++ braced pieces))
 
-abbrev pub owner_row : List ℕ × RouteOf Route
-owner_row = row (codes "/owner/" ++ (param_token ∷ 47 ∷ param_token ∷ [])) (codes "/owner/{owner}/{month}") ((8, 13) ∷ (16, 21) ∷ []) Owner
+abbrev pub places : ℕ → List (List ℕ) → List (ℕ × ℕ)
+places at [] = []
+places at (piece ∷ pieces) = (at, at + length piece) ∷ places (at + length piece + 3) pieces
 
-abbrev pub run_row : List ℕ × RouteOf Route
-run_row = row (codes "/run/" ++ param_token ∷ []) (codes "/run/{month}") ((6, 11) ∷ []) Run
-
-abbrev pub statement_row : List ℕ × RouteOf Route
-statement_row = row (codes "/statement/" ++ param_token ∷ []) (codes "/statement/{lease}") ((12, 17) ∷ []) Statement
-
-abbrev pub vacant_row : List ℕ × RouteOf Route
-vacant_row = row (codes "/vacant/" ++ param_token ∷ []) (codes "/vacant/{day}") ((9, 12) ∷ []) Vacant
+abbrev pub row_of : Route → List ℕ × RouteOf Route
+row_of route =
+    let it = words_of route in
+    row (front it.word it.pieces ++ tokens it.pieces) (47 ∷ (it.word ++ braced it.pieces)) (places (length it.word + 3) it.pieces) route
 
 -- the routes in the order of a router's rows
 abbrev pub routes : RowsOf (RouteOf Route)
-routes = arrears_row ∷ branches_row ∷ commands_row ∷ matching_row ∷ owner_row ∷ run_row ∷ statement_row ∷ vacant_row ∷ []
+routes = map row_of (Arrears ∷ Branches ∷ Commands ∷ Matching ∷ Owner ∷ Run ∷ Statement ∷ Vacant ∷ [])
 
 -- some bytes, and no slash
 abbrev pub IsPiece : List ℕ → Type 0

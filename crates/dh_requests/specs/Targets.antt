@@ -1,8 +1,7 @@
 -- What a target says of itself, apart from how it is found.
-use Rattle.std.specs.Prelude.{◌≡◌, ℕ, List, [], ◌∷◌, ◌++◌, codes}
-use Rattle.dh_requests.specs.Routes.{IsPiece}
+use Rattle.std.specs.Prelude.{◌≡◌, ℕ, List, [], ◌∷◌, ◌++◌}
+use Rattle.dh_requests.specs.Routes.{IsPiece, front, words_of}
 use Rattle.dh_requests.specs.declared.routing.Route.{Route}
-use Rattle.dh_requests.specs.declared.routing.Route.TheVariants.{Commands, Branches, Vacant, Matching, Statement, Arrears, Run, Owner}
 
 -- the target is this text alone
 abbrev pub IsText : List ℕ → List ℕ → List ℕ → List ℕ → Type 0
@@ -16,16 +15,15 @@ IsAfter front target first second = (target ≡ front ++ first) × IsPiece first
 abbrev pub AreAfter : List ℕ → List ℕ → List ℕ → List ℕ → Type 0
 AreAfter front target first second = (target ≡ front ++ (first ++ 47 ∷ second)) × IsPiece first × IsPiece second
 
+-- as many as these pieces
+abbrev pub AreBehind : List (List ℕ) → List ℕ → List ℕ → List ℕ → List ℕ → Type 0
+AreBehind [] text target first second = IsText text target first second
+AreBehind (piece ∷ []) text target first second = IsAfter text target first second
+AreBehind (piece ∷ other ∷ more) text target first second = AreAfter text target first second
+
 -- the target is one of this route, with these pieces, each empty where the route has none
 abbrev pub HasPieces : Route → List ℕ → List ℕ → List ℕ → Type 0
-HasPieces Commands target first second = IsText (codes "/commands") target first second
-HasPieces Branches target first second = IsText (codes "/branches") target first second
-HasPieces Vacant target day second = IsAfter (codes "/vacant/") target day second
-HasPieces Matching target client day = AreAfter (codes "/matching/") target client day
-HasPieces Statement target lease second = IsAfter (codes "/statement/") target lease second
-HasPieces Arrears target branch second = IsAfter (codes "/arrears/") target branch second
-HasPieces Run target month second = IsAfter (codes "/run/") target month second
-HasPieces Owner target owner month = AreAfter (codes "/owner/") target owner month
+HasPieces route = AreBehind (words_of route).pieces (front (words_of route).word (words_of route).pieces)
 
 -- the target is one of this route
 abbrev pub IsTarget : Route → List ℕ → Type 0

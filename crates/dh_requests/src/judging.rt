@@ -1,11 +1,12 @@
 //! Judging a request by its head.
 
-ghost use Rattle.std.specs.Prelude.{◌≡◌, ◌↔◌, ◌≢◌, ℕ, map, length, drop, All, IsTrue, IfOk, IfSome, Err, codes};
+ghost use Rattle.std.specs.Prelude.{◌≡◌, ◌↔◌, ◌≢◌, ◌∷◌, ℕ, List, map, length, drop, All, IsTrue, IfOk, IfSome, Err, codes};
 ghost use Rattle.httparse.specs.Grammar.{RequestHead};
 ghost use Rattle.httparse.specs.Spans.{IsHeaderWithin, IsRequestAt, IsRequestWithin};
 ghost use Rattle.dh_requests.specs.Targets.{IsTarget};
 ghost use Rattle.dh_requests.specs.declared.routing.Route.{Route as AnyRoute};
-ghost use Rattle.dh_requests.specs.Requests.{IsByMethod, IsOfHead, IsOfRoute, IsOfTarget, IsQuestionOf, NeedsMemory, turned_by_lines};
+ghost use Rattle.dh_requests.specs.Requests.{IsByMethod, IsOfHead, IsOfRoute, IsOfTarget, IsQuestionOf, NeedsMemory, taken_as, turned_by_lines};
+ghost use Rattle.dh_fields.specs.Lines.{request_of};
 ghost use Rattle.dh_requests.specs.Steps.{Behind, TakesBody, TakesOrder};
 
 use crate::asked::{Asked, Turned};
@@ -74,6 +75,24 @@ fn find_route(alloc: Global, target: &str) -> Result<Option<Route>, Unread>
     Ok(route_of(&router, target))
 }
 
+// The request of the question of a word, with as many pieces.
+fn read_pieces<'a>(
+    alloc: Global,
+    word: &'a [u8],
+    count: usize,
+    first: &'a [u8],
+    second: &'a [u8],
+) -> Result<Result<Request, Refusal>, AllocError>
+    ensures { (pieces : List (List ℕ)) → count ≡ length pieces
+        → IfOk result (λ request. request ≡ request_of (codes "show" ∷ word.now ∷ taken_as pieces first.now second.now)) }
+{
+    match count {
+        0 => read_fields(alloc, &[b"show", word]),
+        1 => read_fields(alloc, &[b"show", word, first]),
+        _ => read_fields(alloc, &[b"show", word, first, second]),
+    }
+}
+
 // The request of the question that a target asks by its route.
 fn read_question(
     alloc: Global,
@@ -85,16 +104,8 @@ fn read_question(
     ensures { IfOk result (λ request. IsQuestionOf route target.now (Asked.Fields request)) }
 {
     let (first, second) = pieces_of(route, target);
-    match route {
-        Route::Commands => unreachable!(),
-        Route::Branches => read_fields(alloc, &[b"show", b"branches"]),
-        Route::Vacant => read_fields(alloc, &[b"show", b"vacant", first]),
-        Route::Matching => read_fields(alloc, &[b"show", b"matching", first, second]),
-        Route::Statement => read_fields(alloc, &[b"show", b"statement", first]),
-        Route::Arrears => read_fields(alloc, &[b"show", b"arrears", first]),
-        Route::Run => read_fields(alloc, &[b"show", b"run", first]),
-        Route::Owner => read_fields(alloc, &[b"show", b"owner", first, second]),
-    }
+    let (word, count) = route.words();
+    read_pieces(alloc, word.as_bytes(), count, first, second)
 }
 
 // What a request asks for whose target has the route of a question.

@@ -38,13 +38,11 @@ pub(crate) fn pieces_of(route: Route, target: &[u8]) -> (&[u8], &[u8])
     requires { IsTarget route target.now }
     ensures { HasPieces route target.now result.0.now result.1.now }
 {
-    match route {
-        Route::Commands | Route::Branches => (b"", b""),
-        Route::Vacant => (&target["/vacant/".len()..], b""),
-        Route::Matching => cut(&target["/matching/".len()..]),
-        Route::Statement => (&target["/statement/".len()..], b""),
-        Route::Arrears => (&target["/arrears/".len()..], b""),
-        Route::Run => (&target["/run/".len()..], b""),
-        Route::Owner => cut(&target["/owner/".len()..]),
+    let (word, count) = route.words();
+    let behind = word.len() + 2;
+    match count {
+        0 => (b"", b""),
+        1 => (&target[behind..], b""),
+        _ => cut(&target[behind..]),
     }
 }

@@ -1,7 +1,7 @@
 //! The routes, and the route of a target.
 
-ghost use Rattle.std.specs.Prelude.{◌≡◌, IfOk, IfSome, IfNone};
-ghost use Rattle.dh_requests.specs.Routes.{routes};
+ghost use Rattle.std.specs.Prelude.{◌≡◌, length, IfOk, IfSome, IfNone};
+ghost use Rattle.dh_requests.specs.Routes.{routes, words_of};
 ghost use Rattle.dh_requests.specs.Targets.{IsTarget};
 ghost use Rattle.dh_requests.specs.declared.routing.Route.{Route as AnyRoute};
 
@@ -27,6 +27,25 @@ pub(crate) enum Route {
     Run,
     /// `/owner/{owner}/{month}`
     Owner,
+}
+
+impl Route {
+    /// The word behind the first slash, and how many pieces follow it.
+    pub(crate) fn words(self) -> (&'static str, usize)
+        ensures word { result.0.now ≡ (words_of self).word }
+        ensures count { result.1 ≡ length (words_of self).pieces }
+    {
+        match self {
+            Route::Commands => ("commands", 0),
+            Route::Branches => ("branches", 0),
+            Route::Vacant => ("vacant", 1),
+            Route::Matching => ("matching", 2),
+            Route::Statement => ("statement", 1),
+            Route::Arrears => ("arrears", 1),
+            Route::Run => ("run", 1),
+            Route::Owner => ("owner", 2),
+        }
+    }
 }
 
 /// A router of all routes. An error comes only for want of memory.
