@@ -1,15 +1,18 @@
 -- An agency between calls.
-use Rattle.std.specs.Prelude.{◌≤◌, IsTrue}
+use Rattle.std.specs.Prelude.{◌≡◌, ◌≤◌, true, false, IsTrue, Result, Err, OnOk, OnErr, IfErr}
 use Rattle.sqlite.specs.Store.{Ghosts}
 use Rattle.sqlite.specs.State as conn
 use Rattle.sqlite.specs.State.{HasCleanDisk}
 use Rattle.sqlite.specs.Held.{state}
 use Rattle.sqlite_trees.specs.View.{doubt}
+use Rattle.dh_types.specs.declared.reply.Fault.{Fault}
+use Rattle.dh_types.specs.declared.reply.Fault.TheVariants as fault
 use Rattle.dh_types.specs.declared.version.Version.TheVariants.{Second}
 use Rattle.dh_model.specs.Books.{State}
 use Rattle.dh_model.specs.Runs.{batch_size}
 use Rattle.dh_laws.specs.Events.{state_of}
 use Rattle.dh_laws.specs.StateTables as laws
+use Rattle.dh_schema.specs.Faults.{IsFirstFault}
 use Rattle.dh_schema.specs.Store as store
 use Rattle.dh_schema.specs.Store.{tables}
 use Rattle.dh_runs.specs.Taking.{HasVersion}
@@ -57,3 +60,11 @@ Leaves g a P = store.Leaves (shown_by g a) P
 -- The tables that it reads are sound, no transaction is open, and this holds of them.
 abbrev pub ReadsAs : {S : Type 0} → Ghosts S → Seat S → (State → Type 0) → Type 0
 ReadsAs g a P = store.IsReadyWith (shown_by g a) P
+
+-- How a call of an agency ends: at a fault it stops, and each later call answers that alone.
+pub record Ends {S X : Type 0} (g : Ghosts S) (old new : Seat S) (result : Result X Fault) : Type 0 where
+  pub goes_on : OnOk result ((old.is_stopped ≡ false) × (new.is_stopped ≡ false))
+  pub stops : OnErr result (new.is_stopped ≡ true)
+  pub cause : old.is_stopped ≡ false → IfErr result IsFirstFault
+  pub stopped : old.is_stopped ≡ true → (result ≡ Err fault.Stopped) × (new ≡ old)
+  pub was_clean : WasClean g old new

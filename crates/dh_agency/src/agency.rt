@@ -1,14 +1,13 @@
 //! An agency over a store, and its calls.
 
-ghost use Rattle.std.specs.Prelude.{◌≡◌, true, false, IfOk, IfErr, OnOk, OnErr, Err};
+ghost use Rattle.std.specs.Prelude.{◌≡◌, false, IfOk, OnOk, OnErr};
 ghost use Rattle.sqlite.specs.State.{HasCleanDisk};
 ghost use Rattle.sqlite.specs.Held.{state};
 ghost use Rattle.dh_types.specs.declared.command.Command.TheVariants as command;
 ghost use Rattle.dh_types.specs.Reports.{report_of};
 ghost use Rattle.dh_model.specs.Answers.{report};
 ghost use Rattle.dh_laws.specs.Batches.{IsPostedInPart};
-ghost use Rattle.dh_schema.specs.Faults.{IsFirstFault};
-ghost use Rattle.dh_agency.specs.Agency.{IsClean, IsOpen, IsServed, WasClean, LeavesItsTables, Leaves, ReadsAs, machine};
+ghost use Rattle.dh_agency.specs.Agency.{Ends, IsClean, IsOpen, IsServed, LeavesItsTables, Leaves, ReadsAs, machine};
 ghost use Rattle.dh_agency.specs.Told.{IsCut, IsSaid, reply_of};
 
 use crate::carrying::carry_out;
@@ -62,11 +61,7 @@ impl<S: Alter> Agency<S> {
         ensures crash { IsClean S.Store self.new → self.old.is_stopped ≡ false → Leaves S.Store self.new (IsCut command.now (machine S.Store self.old)) }
         ensures halted { IsClean S.Store self.new → self.old.is_stopped ≡ false → IsOpen S.Store self.new
             → OnErr result (ReadsAs S.Store self.new (IsCut command.now (machine S.Store self.old))) }
-        ensures goes_on { OnOk result ((self.old.is_stopped ≡ false) × (self.new.is_stopped ≡ false)) }
-        ensures stops { OnErr result (self.new.is_stopped ≡ true) }
-        ensures cause { self.old.is_stopped ≡ false → IfErr result IsFirstFault }
-        ensures stopped { self.old.is_stopped ≡ true → (result ≡ Err Fault.Stopped) × (self.new ≡ self.old) }
-        ensures was_clean { WasClean S.Store self.old self.new }
+        ensures ends { Ends S.Store self.old self.new result }
     {
         if self.is_stopped {
             return Err(Fault::Stopped);
@@ -90,11 +85,7 @@ impl<S: Alter> Agency<S> {
         ensures crash { IsClean S.Store self.new → self.old.is_stopped ≡ false → Leaves S.Store self.new (IsPostedInPart most (machine S.Store self.old)) }
         ensures halted { IsClean S.Store self.new → self.old.is_stopped ≡ false → IsOpen S.Store self.new
             → OnErr result (ReadsAs S.Store self.new (IsPostedInPart most (machine S.Store self.old))) }
-        ensures goes_on { OnOk result ((self.old.is_stopped ≡ false) × (self.new.is_stopped ≡ false)) }
-        ensures stops { OnErr result (self.new.is_stopped ≡ true) }
-        ensures cause { self.old.is_stopped ≡ false → IfErr result IsFirstFault }
-        ensures stopped { self.old.is_stopped ≡ true → (result ≡ Err Fault.Stopped) × (self.new ≡ self.old) }
-        ensures was_clean { WasClean S.Store self.old self.new }
+        ensures ends { Ends S.Store self.old self.new result }
     {
         if self.is_stopped {
             return Err(Fault::Stopped);
@@ -116,11 +107,7 @@ impl<S: Alter> Agency<S> {
         ensures crash { IsClean S.Store self.new → self.old.is_stopped ≡ false → Leaves S.Store self.new (λ left. left ≡ machine S.Store self.old) }
         ensures halted { IsClean S.Store self.new → self.old.is_stopped ≡ false → IsOpen S.Store self.new
             → OnErr result (ReadsAs S.Store self.new (λ now. now ≡ machine S.Store self.old)) }
-        ensures goes_on { OnOk result ((self.old.is_stopped ≡ false) × (self.new.is_stopped ≡ false)) }
-        ensures stops { OnErr result (self.new.is_stopped ≡ true) }
-        ensures cause { self.old.is_stopped ≡ false → IfErr result IsFirstFault }
-        ensures stopped { self.old.is_stopped ≡ true → (result ≡ Err Fault.Stopped) × (self.new ≡ self.old) }
-        ensures was_clean { WasClean S.Store self.old self.new }
+        ensures ends { Ends S.Store self.old self.new result }
     {
         if self.is_stopped {
             return Err(Fault::Stopped);

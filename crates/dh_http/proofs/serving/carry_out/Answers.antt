@@ -25,5 +25,5 @@ returns-in-Err-clause-serves g c clean =
     let before = machine g.S.Store old in
     let it = asked.Fields (Ok (request.Command told)) in
     serves_fault g.S.Store old new _ _ (λ x. x ≡ it) it refl tt c.in-Err.fault c.put_fault.result c.heard.result c.heard.ensures c.put_fault.ensures
-    (fault_of old new c.in-Err.fault c.in-Err.ensures.cause c.in-Err.ensures.stopped) c.in-Err.ensures.stops
-    (cut_or_stopped g.S.Store old new (IsCut told before) _ (c.in-Err.ensures.halted clean) c.in-Err.ensures.stopped (same_cut told before before refl))
+    (fault_of old new c.in-Err.fault c.in-Err.ensures.ends.cause c.in-Err.ensures.ends.stopped) c.in-Err.ensures.ends.stops
+    (cut_or_stopped g.S.Store old new (IsCut told before) _ (c.in-Err.ensures.halted clean) c.in-Err.ensures.ends.stopped (same_cut told before before refl))

@@ -35,13 +35,13 @@ returns-in-Err-clause-answers g c clean =
     let before = machine g.S.Store old in
     answers_fault g.S.Store old new _ _ c.args.number (replied (step batch_size (stand g.S.Store old) told)) (IsCut told before) c.in-Err.fault
     c.end_by_fault.result c.end_by_fault.ensures
-    (cut_or_stopped g.S.Store old new (IsCut told before) _ (c.in-Err.ensures.halted clean) c.in-Err.ensures.stopped (same_cut told before before refl))
-    (not_on c.in-Err.ensures.stops)
+    (cut_or_stopped g.S.Store old new (IsCut told before) _ (c.in-Err.ensures.halted clean) c.in-Err.ensures.ends.stopped (same_cut told before before refl))
+    (not_on c.in-Err.ensures.ends.stops)
 
 pub returns-in-Err-clause-cause : goal.returns-in-Err-clause-cause
 returns-in-Err-clause-cause g c live =
-    fault_first _ _ _ c.in-Err.fault c.end_by_fault.result c.end_by_fault.ensures (c.in-Err.ensures.cause live)
+    fault_first _ _ _ c.in-Err.fault c.end_by_fault.result c.end_by_fault.ensures (c.in-Err.ensures.ends.cause live)
 
 pub returns-in-Err-clause-stops : goal.returns-in-Err-clause-stops
 returns-in-Err-clause-stops g c =
-    inr (fault_halts _ _ _ c.in-Err.fault c.end_by_fault.result c.end_by_fault.ensures, c.in-Err.ensures.stops)
+    inr (fault_halts _ _ _ c.in-Err.fault c.end_by_fault.result c.end_by_fault.ensures, c.in-Err.ensures.ends.stops)

@@ -33,13 +33,13 @@ returns-in-Err-clause-answers g c clean =
     let before = machine g.S.Store old in
     answers_fault g.S.Store old new _ _ c.args.number (reported (stand g.S.Store old) (report (stand g.S.Store old) c.args.question)) (λ now. now ≡ before)
     c.in-Err.fault c.end_by_fault.result c.end_by_fault.ensures
-    (cut_or_stopped g.S.Store old new (λ now. now ≡ before) _ (c.in-Err.ensures.halted clean) c.in-Err.ensures.stopped refl)
-    (not_on c.in-Err.ensures.stops)
+    (cut_or_stopped g.S.Store old new (λ now. now ≡ before) _ (c.in-Err.ensures.halted clean) c.in-Err.ensures.ends.stopped refl)
+    (not_on c.in-Err.ensures.ends.stops)
 
 pub returns-in-Err-clause-cause : goal.returns-in-Err-clause-cause
 returns-in-Err-clause-cause g c live =
-    fault_first _ _ _ c.in-Err.fault c.end_by_fault.result c.end_by_fault.ensures (c.in-Err.ensures.cause live)
+    fault_first _ _ _ c.in-Err.fault c.end_by_fault.result c.end_by_fault.ensures (c.in-Err.ensures.ends.cause live)
 
 pub returns-in-Err-clause-stops : goal.returns-in-Err-clause-stops
 returns-in-Err-clause-stops g c =
-    inr (fault_halts _ _ _ c.in-Err.fault c.end_by_fault.result c.end_by_fault.ensures, c.in-Err.ensures.stops)
+    inr (fault_halts _ _ _ c.in-Err.fault c.end_by_fault.result c.end_by_fault.ensures, c.in-Err.ensures.ends.stops)
