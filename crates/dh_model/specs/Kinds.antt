@@ -42,12 +42,169 @@ pub data Kind : Type 0 where
   PartFees : Kind
   Endings : Kind
 
+-- What there is to a kind of record.
+pub record Entry : Type 1 where
+  -- its keys, and their order
+  pub Key : Type 0
+  pub order : Key → Key → Ordering
+  -- its records, and the key of each
+  pub Row : Type 0
+  pub key : Row → Key
+  -- the version that it came with
+  pub since : Version
+  -- where the books have its records, and the books with others
+  pub held : Books → FinMap order Row
+  pub with : Books → FinMap order Row → Books
+
+abbrev pub entry : Kind → Entry
+entry Branches = record {
+  Key = List ℕ;
+  order = text_cmp;
+  Row = Branch;
+  key = λ it. it.number;
+  since = First;
+  held = λ books. books.branches;
+  with = λ books rows. record books { branches = rows };
+}
+entry Staff = record {
+  Key = List ℕ;
+  order = text_cmp;
+  Row = staff.Staff;
+  key = λ it. it.number;
+  since = First;
+  held = λ books. books.staff;
+  with = λ books rows. record books { staff = rows };
+}
+entry Owners = record {
+  Key = List ℕ;
+  order = text_cmp;
+  Row = Owner;
+  key = λ it. it.number;
+  since = First;
+  held = λ books. books.owners;
+  with = λ books rows. record books { owners = rows };
+}
+entry Properties = record {
+  Key = List ℕ;
+  order = text_cmp;
+  Row = Property;
+  key = λ it. it.number;
+  since = First;
+  held = λ books. books.properties;
+  with = λ books rows. record books { properties = rows };
+}
+entry Clients = record {
+  Key = List ℕ;
+  order = text_cmp;
+  Row = Client;
+  key = λ it. it.number;
+  since = First;
+  held = λ books. books.clients;
+  with = λ books rows. record books { clients = rows };
+}
+entry Registrations = record {
+  Key = List ℕ × List ℕ;
+  order = pair_cmp text_cmp text_cmp;
+  Row = Registration;
+  key = λ it. (it.client, it.branch);
+  since = First;
+  held = λ books. books.registrations;
+  with = λ books rows. record books { registrations = rows };
+}
+entry Viewings = record {
+  Key = List ℕ × List ℕ;
+  order = pair_cmp text_cmp text_cmp;
+  Row = Viewing;
+  key = λ it. (it.client, it.property);
+  since = First;
+  held = λ books. books.viewings;
+  with = λ books rows. record books { viewings = rows };
+}
+entry Inspections = record {
+  Key = List ℕ × ℕ;
+  order = pair_cmp text_cmp nat_cmp;
+  Row = Inspection;
+  key = λ it. (it.property, it.day);
+  since = First;
+  held = λ books. books.inspections;
+  with = λ books rows. record books { inspections = rows };
+}
+entry Leases = record {
+  Key = ℕ;
+  order = nat_cmp;
+  Row = Lease;
+  key = λ it. it.terms.number;
+  since = First;
+  held = λ books. books.leases;
+  with = λ books rows. record books { leases = rows };
+}
+entry Charges = record {
+  Key = ℕ × ℕ;
+  order = pair_cmp nat_cmp nat_cmp;
+  Row = Charge;
+  key = λ it. charge_key it;
+  since = First;
+  held = λ books. books.charges;
+  with = λ books rows. record books { charges = rows };
+}
+entry Receipts = record {
+  Key = ℕ;
+  order = nat_cmp;
+  Row = Receipt;
+  key = λ it. it.number;
+  since = First;
+  held = λ books. books.receipts;
+  with = λ books rows. record books { receipts = rows };
+}
+entry Runs = record {
+  Key = ℕ;
+  order = nat_cmp;
+  Row = Run;
+  key = λ it. it.month;
+  since = First;
+  held = λ books. books.runs;
+  with = λ books rows. record books { runs = rows };
+}
+entry Parts = record {
+  Key = ℕ × List ℕ;
+  order = pair_cmp nat_cmp text_cmp;
+  Row = Part;
+  key = λ it. part_key it;
+  since = First;
+  held = λ books. books.parts;
+  with = λ books rows. record books { parts = rows };
+}
+entry BranchFees = record {
+  Key = List ℕ;
+  order = text_cmp;
+  Row = BranchFee;
+  key = λ it. it.branch;
+  since = Second;
+  held = λ books. books.branch_fees;
+  with = λ books rows. record books { branch_fees = rows };
+}
+entry PartFees = record {
+  Key = ℕ × List ℕ;
+  order = pair_cmp nat_cmp text_cmp;
+  Row = PartFee;
+  key = λ it. part_fee_key it;
+  since = Second;
+  held = λ books. books.part_fees;
+  with = λ books rows. record books { part_fees = rows };
+}
+entry Endings = record {
+  Key = ℕ;
+  order = nat_cmp;
+  Row = Ending;
+  key = λ it. it.lease;
+  since = Second;
+  held = λ books. books.endings;
+  with = λ books rows. record books { endings = rows };
+}
+
 -- the version that a kind came with
 abbrev pub came_with : Kind → Version
-came_with BranchFees = Second
-came_with PartFees = Second
-came_with Endings = Second
-came_with _ = First
+came_with kind = (entry kind).since
 
 -- What came with the first version is in both, and what came with the second in that alone.
 abbrev pub IsSince : Version → Version → Type 0
@@ -59,113 +216,23 @@ abbrev pub HasKind : Version → Kind → Type 0
 HasKind version kind = IsSince (came_with kind) version
 
 abbrev pub key_of : Kind → Type 0
-key_of Branches = List ℕ
-key_of Staff = List ℕ
-key_of Owners = List ℕ
-key_of Properties = List ℕ
-key_of Clients = List ℕ
-key_of Registrations = List ℕ × List ℕ
-key_of Viewings = List ℕ × List ℕ
-key_of Inspections = List ℕ × ℕ
-key_of Leases = ℕ
-key_of Charges = ℕ × ℕ
-key_of Receipts = ℕ
-key_of Runs = ℕ
-key_of Parts = ℕ × List ℕ
-key_of BranchFees = List ℕ
-key_of PartFees = ℕ × List ℕ
-key_of Endings = ℕ
+key_of kind = (entry kind).Key
 
 abbrev pub record_of : Kind → Type 0
-record_of Branches = Branch
-record_of Staff = staff.Staff
-record_of Owners = Owner
-record_of Properties = Property
-record_of Clients = Client
-record_of Registrations = Registration
-record_of Viewings = Viewing
-record_of Inspections = Inspection
-record_of Leases = Lease
-record_of Charges = Charge
-record_of Receipts = Receipt
-record_of Runs = Run
-record_of Parts = Part
-record_of BranchFees = BranchFee
-record_of PartFees = PartFee
-record_of Endings = Ending
+record_of kind = (entry kind).Row
 
 -- the order of the keys
 abbrev pub order_of : (kind : Kind) → key_of kind → key_of kind → Ordering
-order_of Branches = text_cmp
-order_of Staff = text_cmp
-order_of Owners = text_cmp
-order_of Properties = text_cmp
-order_of Clients = text_cmp
-order_of Registrations = pair_cmp text_cmp text_cmp
-order_of Viewings = pair_cmp text_cmp text_cmp
-order_of Inspections = pair_cmp text_cmp nat_cmp
-order_of Leases = nat_cmp
-order_of Charges = pair_cmp nat_cmp nat_cmp
-order_of Receipts = nat_cmp
-order_of Runs = nat_cmp
-order_of Parts = pair_cmp nat_cmp text_cmp
-order_of BranchFees = text_cmp
-order_of PartFees = pair_cmp nat_cmp text_cmp
-order_of Endings = nat_cmp
+order_of kind = (entry kind).order
 
 -- the key of a record
 abbrev pub key_in : (kind : Kind) → record_of kind → key_of kind
-key_in Branches it = it.number
-key_in Staff it = it.number
-key_in Owners it = it.number
-key_in Properties it = it.number
-key_in Clients it = it.number
-key_in Registrations it = (it.client, it.branch)
-key_in Viewings it = (it.client, it.property)
-key_in Inspections it = (it.property, it.day)
-key_in Leases it = it.terms.number
-key_in Charges it = charge_key it
-key_in Receipts it = it.number
-key_in Runs it = it.month
-key_in Parts it = part_key it
-key_in BranchFees it = it.branch
-key_in PartFees it = part_fee_key it
-key_in Endings it = it.lease
+key_in kind = (entry kind).key
 
 -- the records of a kind
 abbrev pub records_of : (kind : Kind) → Books → FinMap (order_of kind) (record_of kind)
-records_of Branches books = books.branches
-records_of Staff books = books.staff
-records_of Owners books = books.owners
-records_of Properties books = books.properties
-records_of Clients books = books.clients
-records_of Registrations books = books.registrations
-records_of Viewings books = books.viewings
-records_of Inspections books = books.inspections
-records_of Leases books = books.leases
-records_of Charges books = books.charges
-records_of Receipts books = books.receipts
-records_of Runs books = books.runs
-records_of Parts books = books.parts
-records_of BranchFees books = books.branch_fees
-records_of PartFees books = books.part_fees
-records_of Endings books = books.endings
+records_of kind = (entry kind).held
 
 -- the books with other records of a kind
 abbrev pub with_records : (kind : Kind) → FinMap (order_of kind) (record_of kind) → Books → Books
-with_records Branches rows books = record books { branches = rows }
-with_records Staff rows books = record books { staff = rows }
-with_records Owners rows books = record books { owners = rows }
-with_records Properties rows books = record books { properties = rows }
-with_records Clients rows books = record books { clients = rows }
-with_records Registrations rows books = record books { registrations = rows }
-with_records Viewings rows books = record books { viewings = rows }
-with_records Inspections rows books = record books { inspections = rows }
-with_records Leases rows books = record books { leases = rows }
-with_records Charges rows books = record books { charges = rows }
-with_records Receipts rows books = record books { receipts = rows }
-with_records Runs rows books = record books { runs = rows }
-with_records Parts rows books = record books { parts = rows }
-with_records BranchFees rows books = record books { branch_fees = rows }
-with_records PartFees rows books = record books { part_fees = rows }
-with_records Endings rows books = record books { endings = rows }
+with_records kind rows books = (entry kind).with books rows

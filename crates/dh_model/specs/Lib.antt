@@ -3,6 +3,7 @@ pub mod Codes
 pub mod Leases
 pub mod Runs
 pub mod Kinds
+pub mod Edits
 pub mod Checks
 pub mod Verdicts
 pub mod Machine

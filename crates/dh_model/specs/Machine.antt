@@ -1,6 +1,6 @@
 -- The machine: what each command does to the books and the open run, and what it is answered.
 use Rattle.std.specs.Prelude.{ℕ, ◌+◌, nat_le, if◌then◌else◌, Option, Some, None}
-use Rattle.std.specs.FinMap.{get, insert}
+use Rattle.std.specs.FinMap.{get}
 use Rattle.dh_types.specs.declared.property.Property.{Property}
 use Rattle.dh_types.specs.declared.viewing.Viewing.{Viewing}
 use Rattle.dh_types.specs.declared.command.Command.{Command}
@@ -19,43 +19,23 @@ use Rattle.dh_model.specs.declared.rows.Change.TheVariants as change
 use Rattle.dh_model.specs.declared.rows.Verdict.{Verdict}
 use Rattle.dh_model.specs.declared.rows.Verdict.TheVariants as verdict
 use Rattle.dh_model.specs.Books.{Books, State}
+use Rattle.dh_model.specs.Kinds.{Properties, Viewings}
+use Rattle.dh_model.specs.Edits.{edit_of, edited, updated}
 use Rattle.dh_model.specs.Runs.{batches, ran, sum_of}
 use Rattle.dh_model.specs.Verdicts.{verdict_on}
 
--- the property with another manager, or none
 abbrev pub managed : Books → Assignment → Option Property → Books
-managed books it None = books
-managed books it (Some property) = record books { properties = insert books.properties it.property (record property { staff = it.staff }) }
+managed books it found = updated Properties it.property (λ row. record row { staff = it.staff }) books found
 
 abbrev pub at_rent : Books → RentChange → Option Property → Books
-at_rent books it None = books
-at_rent books it (Some property) = record books { properties = insert books.properties it.property (record property { rent = it.rent }) }
+at_rent books it found = updated Properties it.property (λ row. record row { rent = it.rent }) books found
 
 abbrev pub with_comment : Books → ViewingComment → Option Viewing → Books
-with_comment books it None = books
-with_comment books it (Some viewing) = record books { viewings = insert books.viewings (it.client, it.property) (record viewing { comment = Some it.comment }) }
+with_comment books it found = updated Viewings (it.client, it.property) (λ row. record row { comment = Some it.comment }) books found
 
 -- the books with the rows of the change
 abbrev pub changed : Change → Books → Books
-changed (change.Branch it) books = record books { branches = insert books.branches it.number it }
-changed (change.NewFee it) books = record books { branch_fees = insert books.branch_fees it.branch it }
-changed (change.Fee it) books = record books { branch_fees = insert books.branch_fees it.branch it }
-changed (change.Staff it) books = record books { staff = insert books.staff it.number it }
-changed (change.Owner it) books = record books { owners = insert books.owners it.number it }
-changed (change.Property it) books = record books { properties = insert books.properties it.number it }
-changed (change.Assign it) books = managed books it (get books.properties it.property)
-changed (change.Rent it) books = at_rent books it (get books.properties it.property)
-changed (change.Client it) books = record books { clients = insert books.clients it.number it }
-changed (change.Register it) books = record books { registrations = insert books.registrations (it.client, it.branch) it }
-changed (change.Viewing it) books = record books { viewings = insert books.viewings (it.client, it.property) it }
-changed (change.Comment it) books = with_comment books it (get books.viewings (it.client, it.property))
-changed (change.Inspection it) books = record books { inspections = insert books.inspections (it.property, it.day) it }
-changed (change.Lease it) books = record books { leases = insert books.leases it.terms.number it }
-changed (change.NewEnding it) books = record books { endings = insert books.endings it.lease it }
-changed (change.Ending it) books = record books { endings = insert books.endings it.lease it }
-changed (change.Receipt it) books = record books { receipts = insert books.receipts it.number it }
-changed (change.Open it) books = record books { runs = insert books.runs it.month it; next = it.month + 1 }
-changed change.Post books = books
+changed rows = edited (edit_of rows)
 
 -- what an accepted change is answered
 abbrev pub accepted : Change → Reply

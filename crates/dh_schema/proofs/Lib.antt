@@ -3,6 +3,7 @@ pub mod Changing
 pub mod Installing
 pub mod Crashing
 pub mod Keyed
+pub mod OfKind
 pub mod FirstTables
 pub mod Versions
 pub mod ReadTables

@@ -1,4 +1,3 @@
-pub mod Kinds
 pub mod Tables
 pub mod Version
 pub mod Loaded
@@ -6,3 +5,4 @@ pub mod Store
 pub mod Faults
 pub mod LoadFaults
 pub mod TableLaws
+pub use Rattle.dh_tables.specs.Kinds

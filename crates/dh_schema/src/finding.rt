@@ -2,12 +2,11 @@
 
 ghost use Rattle.std.specs.Prelude.{◌≡◌, true, false, IfErr, IfOk, OnErr, OnOk};
 ghost use Rattle.std.specs.FinMap.{get};
-ghost use Rattle.sqlite_trees.specs.Tree.{Trees};
 ghost use Rattle.sqlite.specs.State.{HasCleanDisk, IsUnchanged};
 ghost use Rattle.sqlite.specs.Held.{state};
 ghost use Rattle.dh_types.specs.declared.version.Version.TheVariants.{First, Second};
 ghost use Rattle.dh_model.specs.Kinds.{IsSince};
-ghost use Rattle.dh_sql.specs.Shape.{IsKept, rows_in, rows_of};
+ghost use Rattle.dh_sql.specs.Shape.{rows_in, rows_of};
 ghost use Rattle.dh_tables.specs.Calls.{CommitsNothing, HasOurTables};
 ghost use Rattle.dh_tables.specs.Questions.{AsksFor, only_record};
 ghost use Rattle.dh_schema.specs.LoadFaults.{IsLoadFault, IsTurnedAway};
@@ -33,9 +32,6 @@ pub trait KeyedRecord: Tabled {
         ensures { result ≡ question key.now };
 
     ghost asks_for: { (key : Self.Key) → AsksFor Self.Tabled.shape (Self.ByKey.asks (question key)) key };
-
-    ghost is_kept: { (trees : Trees) → AreInOrder trees → IsSince Self.Tabled.since (version_of_tables trees)
-        → IsKept Self.Tabled.shape Self.Tabled.order trees };
 }
 
 // Whether tables of this version have what came with the other.

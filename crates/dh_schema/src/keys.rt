@@ -14,7 +14,6 @@ use dh_types::{
 
 impl KeyedRecord for Branch {
     ghost use Rattle.dh_tables.specs.BranchTable.{branch_shape};
-    ghost use Rattle.dh_model.specs.Kinds.{Branches};
     ghost use Rattle.dh_tables.proofs.ByKey.{by_text};
 
     type ByKey = BranchNumbered;
@@ -26,13 +25,10 @@ impl KeyedRecord for Branch {
     }
 
     ghost asks_for = { by_text branch_shape };
-
-    ghost is_kept = { λ trees order since. (order.tables Branches since).kept };
 }
 
 impl KeyedRecord for Staff {
     ghost use Rattle.dh_tables.specs.StaffTable.{staff_shape};
-    ghost use Rattle.dh_model.specs.Kinds.{Staff};
     ghost use Rattle.dh_tables.proofs.ByKey.{by_text};
 
     type ByKey = MemberNumbered;
@@ -44,13 +40,10 @@ impl KeyedRecord for Staff {
     }
 
     ghost asks_for = { by_text staff_shape };
-
-    ghost is_kept = { λ trees order since. (order.tables Staff since).kept };
 }
 
 impl KeyedRecord for Owner {
     ghost use Rattle.dh_tables.specs.OwnerTable.{owner_shape};
-    ghost use Rattle.dh_model.specs.Kinds.{Owners};
     ghost use Rattle.dh_tables.proofs.ByKey.{by_text};
 
     type ByKey = OwnerNumbered;
@@ -62,13 +55,10 @@ impl KeyedRecord for Owner {
     }
 
     ghost asks_for = { by_text owner_shape };
-
-    ghost is_kept = { λ trees order since. (order.tables Owners since).kept };
 }
 
 impl KeyedRecord for Property {
     ghost use Rattle.dh_tables.specs.PropertyTable.{property_shape};
-    ghost use Rattle.dh_model.specs.Kinds.{Properties};
     ghost use Rattle.dh_tables.proofs.ByKey.{by_text};
 
     type ByKey = PropertyNumbered;
@@ -80,13 +70,10 @@ impl KeyedRecord for Property {
     }
 
     ghost asks_for = { by_text property_shape };
-
-    ghost is_kept = { λ trees order since. (order.tables Properties since).kept };
 }
 
 impl KeyedRecord for Client {
     ghost use Rattle.dh_tables.specs.ClientTable.{client_shape};
-    ghost use Rattle.dh_model.specs.Kinds.{Clients};
     ghost use Rattle.dh_tables.proofs.ByKey.{by_text};
 
     type ByKey = ClientNumbered;
@@ -98,13 +85,10 @@ impl KeyedRecord for Client {
     }
 
     ghost asks_for = { by_text client_shape };
-
-    ghost is_kept = { λ trees order since. (order.tables Clients since).kept };
 }
 
 impl KeyedRecord for Registration {
     ghost use Rattle.dh_tables.specs.RegistrationTable.{registration_shape};
-    ghost use Rattle.dh_model.specs.Kinds.{Registrations};
     ghost use Rattle.dh_tables.proofs.ByKey.{by_texts};
 
     type ByKey = RegistrationAt;
@@ -119,13 +103,10 @@ impl KeyedRecord for Registration {
     }
 
     ghost asks_for = { by_texts registration_shape };
-
-    ghost is_kept = { λ trees order since. (order.tables Registrations since).kept };
 }
 
 impl KeyedRecord for Viewing {
     ghost use Rattle.dh_tables.specs.ViewingTable.{viewing_shape};
-    ghost use Rattle.dh_model.specs.Kinds.{Viewings};
     ghost use Rattle.dh_tables.proofs.ByKey.{by_texts};
 
     type ByKey = ViewingOf;
@@ -140,13 +121,10 @@ impl KeyedRecord for Viewing {
     }
 
     ghost asks_for = { by_texts viewing_shape };
-
-    ghost is_kept = { λ trees order since. (order.tables Viewings since).kept };
 }
 
 impl KeyedRecord for Inspection {
     ghost use Rattle.dh_tables.specs.InspectionTable.{inspection_shape};
-    ghost use Rattle.dh_model.specs.Kinds.{Inspections};
     ghost use Rattle.dh_tables.proofs.ByKey.{by_text_and_number};
 
     type ByKey = InspectionOf;
@@ -161,13 +139,10 @@ impl KeyedRecord for Inspection {
     }
 
     ghost asks_for = { by_text_and_number inspection_shape };
-
-    ghost is_kept = { λ trees order since. (order.tables Inspections since).kept };
 }
 
 impl KeyedRecord for Lease {
     ghost use Rattle.dh_tables.specs.LeaseTable.{lease_shape};
-    ghost use Rattle.dh_model.specs.Kinds.{Leases};
     ghost use Rattle.dh_tables.proofs.ByKey.{by_number};
 
     type ByKey = LeaseNumbered;
@@ -179,13 +154,10 @@ impl KeyedRecord for Lease {
     }
 
     ghost asks_for = { by_number lease_shape };
-
-    ghost is_kept = { λ trees order since. (order.tables Leases since).kept };
 }
 
 impl KeyedRecord for Charge {
     ghost use Rattle.dh_tables.specs.ChargeTable.{charge_shape};
-    ghost use Rattle.dh_model.specs.Kinds.{Charges};
     ghost use Rattle.dh_tables.proofs.ByKey.{by_numbers};
 
     type ByKey = ChargeOf;
@@ -200,13 +172,10 @@ impl KeyedRecord for Charge {
     }
 
     ghost asks_for = { by_numbers charge_shape };
-
-    ghost is_kept = { λ trees order since. (order.tables Charges since).kept };
 }
 
 impl KeyedRecord for Receipt {
     ghost use Rattle.dh_tables.specs.ReceiptTable.{receipt_shape};
-    ghost use Rattle.dh_model.specs.Kinds.{Receipts};
     ghost use Rattle.dh_tables.proofs.ByKey.{by_number};
 
     type ByKey = ReceiptNumbered;
@@ -218,13 +187,10 @@ impl KeyedRecord for Receipt {
     }
 
     ghost asks_for = { by_number receipt_shape };
-
-    ghost is_kept = { λ trees order since. (order.tables Receipts since).kept };
 }
 
 impl KeyedRecord for Run {
     ghost use Rattle.dh_tables.specs.RunTable.{run_shape};
-    ghost use Rattle.dh_model.specs.Kinds.{Runs};
     ghost use Rattle.dh_tables.proofs.ByKey.{by_number};
 
     type ByKey = RunOf;
@@ -236,13 +202,10 @@ impl KeyedRecord for Run {
     }
 
     ghost asks_for = { by_number run_shape };
-
-    ghost is_kept = { λ trees order since. (order.tables Runs since).kept };
 }
 
 impl KeyedRecord for Part {
     ghost use Rattle.dh_tables.specs.PartTable.{part_shape};
-    ghost use Rattle.dh_model.specs.Kinds.{Parts};
     ghost use Rattle.dh_tables.proofs.ByKey.{by_number_and_text};
 
     type ByKey = PartOf;
@@ -257,13 +220,10 @@ impl KeyedRecord for Part {
     }
 
     ghost asks_for = { by_number_and_text part_shape };
-
-    ghost is_kept = { λ trees order since. (order.tables Parts since).kept };
 }
 
 impl KeyedRecord for BranchFee {
     ghost use Rattle.dh_tables.specs.BranchFeeTable.{branch_fee_shape};
-    ghost use Rattle.dh_model.specs.Kinds.{BranchFees};
     ghost use Rattle.dh_tables.proofs.ByKey.{by_text};
 
     type ByKey = FeeOfBranch;
@@ -275,13 +235,10 @@ impl KeyedRecord for BranchFee {
     }
 
     ghost asks_for = { by_text branch_fee_shape };
-
-    ghost is_kept = { λ trees order since. (order.tables BranchFees since).kept };
 }
 
 impl KeyedRecord for PartFee {
     ghost use Rattle.dh_tables.specs.PartFeeTable.{part_fee_shape};
-    ghost use Rattle.dh_model.specs.Kinds.{PartFees};
     ghost use Rattle.dh_tables.proofs.ByKey.{by_number_and_text};
 
     type ByKey = FeeOfPart;
@@ -296,13 +253,10 @@ impl KeyedRecord for PartFee {
     }
 
     ghost asks_for = { by_number_and_text part_fee_shape };
-
-    ghost is_kept = { λ trees order since. (order.tables PartFees since).kept };
 }
 
 impl KeyedRecord for Ending {
     ghost use Rattle.dh_tables.specs.EndingTable.{ending_shape};
-    ghost use Rattle.dh_model.specs.Kinds.{Endings};
     ghost use Rattle.dh_tables.proofs.ByKey.{by_number};
 
     type ByKey = EndingOf;
@@ -314,6 +268,4 @@ impl KeyedRecord for Ending {
     }
 
     ghost asks_for = { by_number ending_shape };
-
-    ghost is_kept = { λ trees order since. (order.tables Endings since).kept };
 }

@@ -7,5 +7,6 @@ pub mod AskedBooks
 pub mod PutOff
 pub mod Committing
 pub mod Putting
+pub mod Editing
 pub mod EndingsBeside
 pub mod ReadsInTurn

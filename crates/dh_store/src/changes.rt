@@ -7,15 +7,16 @@ ghost use Rattle.sqlite.specs.State.{HasCleanDisk};
 ghost use Rattle.sqlite.specs.Held.{state};
 ghost use Rattle.dh_days.specs.declared.limits.TheConstants.{LAST_NEXT_MONTH};
 ghost use Rattle.dh_model.specs.declared.rows.Change.TheVariants as change;
+ghost use Rattle.dh_model.specs.Edits.{Insert, Update, edit_of};
 ghost use Rattle.dh_laws.specs.Looks.{FitsIn};
 ghost use Rattle.dh_laws.specs.StateTables.{IsStateInOrder};
 ghost use Rattle.dh_schema.specs.Faults.{IsFirstFault};
 ghost use Rattle.dh_schema.specs.Store.{IsReady, IsWriting, LeavesItsTables, Leaves, Commits, StaysReady, tables, with_change};
-ghost use Rattle.dh_store.specs.Putting.{HasPlace, PutsRows};
+ghost use Rattle.dh_store.specs.Putting.{HasPlace, PutsRows, Replaces};
 
 use dh_model::Change;
 use dh_schema::StoreFault;
-use dh_tables::{insert, set_next_month, update};
+use dh_tables::{Amend, Tabled, insert, set_next_month, update};
 use dh_types::{Month, Run};
 use sqlite::{Alter, Connection, Error, Transaction};
 use std::alloc::Global;
@@ -39,6 +40,59 @@ fn put_run<S: Alter>(alloc: Global, tx: &mut Transaction<'_, S>, run: &Run) -> R
     set_next_month(tx, month_after(run))
 }
 
+// Adds the only row of the change.
+fn add<R: Tabled, S: Alter>(
+    alloc: Global,
+    tx: &mut Transaction<'_, S>,
+    row: &R,
+    change: &Change,
+) -> Result<(), Error>
+    requires writing { HasCleanDisk (state S.Store tx.old.conn.now) → IsWriting (state S.Store tx.old.conn.now) }
+    requires fits { HasCleanDisk (state S.Store tx.old.conn.now) → FitsIn change.now (tables (state S.Store tx.old.conn.now)).books }
+    requires place { HasCleanDisk (state S.Store tx.old.conn.now) → HasPlace (tables (state S.Store tx.old.conn.now)).books.version change.now }
+    requires is { edit_of change.now ≡ Insert R.is_kind.kind (R.is_kind.as_row row.now) }
+    requires keeps { R.Record.can_keep row.now }
+    ensures same_reference { tx.new.conn.ghost_name ≡ tx.old.conn.ghost_name }
+    ensures puts { PutsRows change.now result (state S.Store tx.old.conn.now) (state S.Store tx.new.conn.now) }
+{
+    insert(alloc, tx, row)
+}
+
+// Makes the row of the change another.
+fn amend<A: Amend, S: Alter>(
+    alloc: Global,
+    tx: &mut Transaction<'_, S>,
+    amendment: &A,
+    change: &Change,
+) -> Result<(), Error>
+    requires writing { HasCleanDisk (state S.Store tx.old.conn.now) → IsWriting (state S.Store tx.old.conn.now) }
+    requires fits { HasCleanDisk (state S.Store tx.old.conn.now) → FitsIn change.now (tables (state S.Store tx.old.conn.now)).books }
+    requires place { HasCleanDisk (state S.Store tx.old.conn.now) → HasPlace (tables (state S.Store tx.old.conn.now)).books.version change.now }
+    requires is { edit_of change.now ≡ Update A.Record.is_kind.kind (A.Record.is_kind.as_key (A.key amendment.now))
+        (λ row. A.Record.is_kind.as_row (A.amended amendment.now (A.Record.is_kind.of_row row))) }
+    ensures same_reference { tx.new.conn.ghost_name ≡ tx.old.conn.ghost_name }
+    ensures puts { PutsRows change.now result (state S.Store tx.old.conn.now) (state S.Store tx.new.conn.now) }
+{
+    update(alloc, tx, amendment)
+}
+
+// Puts the row of the change in the place of the one that has its key.
+fn replace<A: Amend, S: Alter>(
+    alloc: Global,
+    tx: &mut Transaction<'_, S>,
+    amendment: &A,
+    change: &Change,
+) -> Result<(), Error>
+    requires writing { HasCleanDisk (state S.Store tx.old.conn.now) → IsWriting (state S.Store tx.old.conn.now) }
+    requires fits { HasCleanDisk (state S.Store tx.old.conn.now) → FitsIn change.now (tables (state S.Store tx.old.conn.now)).books }
+    requires place { HasCleanDisk (state S.Store tx.old.conn.now) → HasPlace (tables (state S.Store tx.old.conn.now)).books.version change.now }
+    requires is { Replaces A.Record.is_kind change.now (A.key amendment.now) (A.amended amendment.now) }
+    ensures same_reference { tx.new.conn.ghost_name ≡ tx.old.conn.ghost_name }
+    ensures puts { PutsRows change.now result (state S.Store tx.old.conn.now) (state S.Store tx.new.conn.now) }
+{
+    update(alloc, tx, amendment)
+}
+
 // Puts the rows of the change into their tables.
 fn put_rows<S: Alter>(
     alloc: Global,
@@ -52,23 +106,23 @@ fn put_rows<S: Alter>(
     ensures puts { PutsRows change.now result (state S.Store tx.old.conn.now) (state S.Store tx.new.conn.now) }
 {
     match change {
-        Change::Branch(it) => insert(alloc, tx, it),
-        Change::NewFee(it) => insert(alloc, tx, it),
-        Change::Fee(it) => update(alloc, tx, it),
-        Change::Staff(it) => insert(alloc, tx, it),
-        Change::Owner(it) => insert(alloc, tx, it),
-        Change::Property(it) => insert(alloc, tx, it),
-        Change::Assign(it) => update(alloc, tx, it),
-        Change::Rent(it) => update(alloc, tx, it),
-        Change::Client(it) => insert(alloc, tx, it),
-        Change::Register(it) => insert(alloc, tx, it),
-        Change::Viewing(it) => insert(alloc, tx, it),
-        Change::Comment(it) => update(alloc, tx, it),
-        Change::Inspection(it) => insert(alloc, tx, it),
-        Change::Lease(it) => insert(alloc, tx, it),
-        Change::NewEnding(it) => insert(alloc, tx, it),
-        Change::Ending(it) => update(alloc, tx, it),
-        Change::Receipt(it) => insert(alloc, tx, it),
+        Change::Branch(it) => add(alloc, tx, it, change),
+        Change::NewFee(it) => add(alloc, tx, it, change),
+        Change::Fee(it) => replace(alloc, tx, it, change),
+        Change::Staff(it) => add(alloc, tx, it, change),
+        Change::Owner(it) => add(alloc, tx, it, change),
+        Change::Property(it) => add(alloc, tx, it, change),
+        Change::Assign(it) => amend(alloc, tx, it, change),
+        Change::Rent(it) => amend(alloc, tx, it, change),
+        Change::Client(it) => add(alloc, tx, it, change),
+        Change::Register(it) => add(alloc, tx, it, change),
+        Change::Viewing(it) => add(alloc, tx, it, change),
+        Change::Comment(it) => amend(alloc, tx, it, change),
+        Change::Inspection(it) => add(alloc, tx, it, change),
+        Change::Lease(it) => add(alloc, tx, it, change),
+        Change::NewEnding(it) => add(alloc, tx, it, change),
+        Change::Ending(it) => replace(alloc, tx, it, change),
+        Change::Receipt(it) => add(alloc, tx, it, change),
         Change::Open(it) => put_run(alloc, tx, it),
         Change::Post => Ok(()),
     }

@@ -7,5 +7,5 @@ mod reading;
 
 pub(crate) use endings::{held_leases, look_at_endings_of};
 pub use later::{look_at_later, look_later};
-pub use looking::{KeptRecord, look, look_at_all};
+pub use looking::{look, look_at_all};
 pub use reading::{find_open_run, months_now, no_rows, no_rows_of};

@@ -25,3 +25,5 @@ pub mod ViewingChanges
 pub mod RunChanges
 pub mod FeeChanges
 pub mod Listing
+pub mod Kinds
+pub mod Commands

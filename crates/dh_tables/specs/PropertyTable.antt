@@ -28,6 +28,7 @@ use Rattle.dh_tables.specs.declared.property.PropertyNumbered.{PropertyNumbered}
 use Rattle.dh_tables.specs.declared.property.PropertiesManaged.{PropertiesManaged}
 use Rattle.dh_tables.specs.declared.property.PropertiesOfOwner.{PropertiesOfOwner}
 use Rattle.dh_tables.specs.Cells.{is_text as text_is, number_from, optional_text_that, pass_one, read_as, same_optional, same_text, text_that}
+use Rattle.dh_tables.specs.Commands.{insert_text, select_text, select_where}
 use Rattle.dh_tables.specs.Listing.{IsListing, Listing}
 use Rattle.dh_tables.specs.Questions.{Asking, IsAsking}
 use Rattle.dh_tables.specs.Tables.{Adding, IsAdding, Shelf, without_rowid}
@@ -54,15 +55,17 @@ property_shelf = record {
   with_held = λ s. refl;
 }
 
--- ---- adding a row
+-- the columns
+abbrev pub property_names : List (List ℕ)
+property_names =
+    codes "property_no" ∷ codes "street" ∷ codes "city" ∷ codes "postcode" ∷ codes "type" ∷ codes "rooms" ∷ codes "rent" ∷ codes "owner_no"
+    ∷ codes "staff_no" ∷ codes "branch_no" ∷ []
 
-abbrev pub property_insert : List ℕ
-property_insert =
-    codes "INSERT INTO property (property_no, street, city, postcode, type, rooms, rent, owner_no, staff_no, branch_no) VALUES (?1,?2,?3,?4,?5,?6,?7,?8,?9,?10)"
+-- ---- adding a row
 
 abbrev pub property_adding : Adding Property
 property_adding = record {
-  text = property_insert;
+  text = insert_text (codes "property") property_names;
   place = 4;
   table = property;
   terms = lit Null ∷ col 0 0 ∷ col 0 1 ∷ col 0 2 ∷ col 0 3 ∷ col 0 4 ∷ col 0 5 ∷ col 0 6 ∷ col 0 7 ∷ col 0 8 ∷ col 0 9 ∷ [];
@@ -92,19 +95,14 @@ property_is_adding = record {
 abbrev property_project : List Term
 property_project = col 1 1 ∷ col 1 2 ∷ col 1 3 ∷ col 1 4 ∷ col 1 5 ∷ col 1 6 ∷ col 1 7 ∷ col 1 8 ∷ col 1 9 ∷ col 1 10 ∷ []
 
-abbrev property_names : List (List ℕ)
-property_names =
-    codes "property_no" ∷ codes "street" ∷ codes "city" ∷ codes "postcode" ∷ codes "type" ∷ codes "rooms" ∷ codes "rent" ∷ codes "owner_no"
-    ∷ codes "staff_no" ∷ codes "branch_no" ∷ []
-
 -- ---- the whole table
 
 abbrev pub property_listing : Listing
 property_listing = record {
-  text = codes "SELECT property_no, street, city, postcode, type, rooms, rent, owner_no, staff_no, branch_no FROM property";
+  text = select_text (codes "property") property_names;
   project = property_project;
   names = property_names;
-  rowid_text = codes "SELECT rowid FROM property";
+  rowid_text = select_text (codes "property") (codes "rowid" ∷ []);
   rowid_name = codes "rowid";
 }
 
@@ -124,7 +122,7 @@ property_is_listing = record {
 
 abbrev pub property_numbered : Asking
 property_numbered = record {
-  text = codes "SELECT property_no, street, city, postcode, type, rooms, rent, owner_no, staff_no, branch_no FROM property WHERE property_no = ?1";
+  text = select_where (codes "property") property_names (codes "property_no");
   tests = op2 (Compare Eq Binary) (col 1 1) (col 0 0) ∷ [];
   project = property_project;
   names = property_names;
@@ -151,7 +149,7 @@ property_numbered_is = record {
 
 abbrev pub properties_managed : Asking
 properties_managed = record {
-  text = codes "SELECT property_no, street, city, postcode, type, rooms, rent, owner_no, staff_no, branch_no FROM property WHERE staff_no = ?1";
+  text = select_where (codes "property") property_names (codes "staff_no");
   tests = op2 (Compare Eq Binary) (col 1 9) (col 0 0) ∷ [];
   project = property_project;
   names = property_names;
@@ -178,7 +176,7 @@ properties_managed_is = record {
 
 abbrev pub properties_of_owner : Asking
 properties_of_owner = record {
-  text = codes "SELECT property_no, street, city, postcode, type, rooms, rent, owner_no, staff_no, branch_no FROM property WHERE owner_no = ?1";
+  text = select_where (codes "property") property_names (codes "owner_no");
   tests = op2 (Compare Eq Binary) (col 1 8) (col 0 0) ∷ [];
   project = property_project;
   names = property_names;

@@ -11,6 +11,8 @@ impl Tabled for Branch {
     ghost use Rattle.std.specs.Prelude.{refl};
     ghost use Rattle.dh_model.specs.Books.{text_cmp};
     ghost use Rattle.dh_model.proofs.KeyOrders.{text_total, text_ties};
+    ghost use Rattle.dh_model.specs.Kinds.{Branches};
+    ghost use Rattle.dh_tables.specs.Kinds.{itself};
     ghost use Rattle.dh_tables.specs.BranchTable.{branch_adding, branch_is_adding, branch_shape, branch_shelf};
 
     ghost shape = { branch_shape };
@@ -26,6 +28,8 @@ impl Tabled for Branch {
     ghost adding = { branch_adding };
 
     ghost shelf = { branch_shelf };
+
+    ghost is_kind = { itself Branches };
 
     fn insert_text() -> &'static str {
         "INSERT INTO branch (branch_no, street, city, postcode) VALUES (?1, ?2, ?3, ?4)"

@@ -11,6 +11,8 @@ impl Tabled for BranchFee {
     ghost use Rattle.std.specs.Prelude.{refl};
     ghost use Rattle.dh_model.specs.Books.{text_cmp};
     ghost use Rattle.dh_model.proofs.KeyOrders.{text_total, text_ties};
+    ghost use Rattle.dh_model.specs.Kinds.{BranchFees};
+    ghost use Rattle.dh_tables.specs.Kinds.{itself};
     ghost use Rattle.dh_tables.specs.BranchFeeTable.{branch_fee_adding, branch_fee_is_adding, branch_fee_shape, branch_fee_shelf};
 
     ghost shape = { branch_fee_shape };
@@ -26,6 +28,8 @@ impl Tabled for BranchFee {
     ghost adding = { branch_fee_adding };
 
     ghost shelf = { branch_fee_shelf };
+
+    ghost is_kind = { itself BranchFees };
 
     fn insert_text() -> &'static str {
         "INSERT INTO branch_fee (branch_no, fee) VALUES (?1, ?2)"

@@ -12,6 +12,8 @@ impl Tabled for Charge {
     ghost use Rattle.std.specs.Ordering.{nat_cmp};
     ghost use Rattle.dh_model.specs.Books.{pair_cmp};
     ghost use Rattle.dh_model.proofs.KeyOrders.{nats_total, nats_tie};
+    ghost use Rattle.dh_model.specs.Kinds.{Charges};
+    ghost use Rattle.dh_tables.specs.Kinds.{itself};
     ghost use Rattle.dh_tables.specs.ChargeTable.{charge_adding, charge_is_adding, charge_shape, charge_shelf};
 
     ghost shape = { charge_shape };
@@ -27,6 +29,8 @@ impl Tabled for Charge {
     ghost adding = { charge_adding };
 
     ghost shelf = { charge_shelf };
+
+    ghost is_kind = { itself Charges };
 
     fn insert_text() -> &'static str {
         "INSERT INTO charge (lease_no, k, month, day, amount) VALUES (?1, ?2, ?3, ?4, ?5)"

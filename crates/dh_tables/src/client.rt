@@ -11,6 +11,8 @@ impl Tabled for Client {
     ghost use Rattle.std.specs.Prelude.{refl};
     ghost use Rattle.dh_model.specs.Books.{text_cmp};
     ghost use Rattle.dh_model.proofs.KeyOrders.{text_total, text_ties};
+    ghost use Rattle.dh_model.specs.Kinds.{Clients};
+    ghost use Rattle.dh_tables.specs.Kinds.{itself};
     ghost use Rattle.dh_tables.specs.ClientTable.{client_adding, client_is_adding, client_shape, client_shelf};
 
     ghost shape = { client_shape };
@@ -26,6 +28,8 @@ impl Tabled for Client {
     ghost adding = { client_adding };
 
     ghost shelf = { client_shelf };
+
+    ghost is_kind = { itself Clients };
 
     fn insert_text() -> &'static str {
         "INSERT INTO client (client_no, name, telephone, pref_type, max_rent) VALUES (?1, ?2, ?3, ?4, ?5)"

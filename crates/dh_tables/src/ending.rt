@@ -11,6 +11,8 @@ impl Tabled for Ending {
     ghost use Rattle.std.specs.Prelude.{refl};
     ghost use Rattle.std.specs.Ordering.{nat_cmp};
     ghost use Rattle.dh_model.proofs.KeyOrders.{nat_total, nat_ties};
+    ghost use Rattle.dh_model.specs.Kinds.{Endings};
+    ghost use Rattle.dh_tables.specs.Kinds.{itself};
     ghost use Rattle.dh_tables.specs.EndingTable.{ending_adding, ending_is_adding, ending_shape, ending_shelf};
 
     ghost shape = { ending_shape };
@@ -26,6 +28,8 @@ impl Tabled for Ending {
     ghost adding = { ending_adding };
 
     ghost shelf = { ending_shelf };
+
+    ghost is_kind = { itself Endings };
 
     fn insert_text() -> &'static str {
         "INSERT INTO ending (lease_no, months) VALUES (?1, ?2)"

@@ -12,6 +12,8 @@ impl Tabled for Inspection {
     ghost use Rattle.std.specs.Ordering.{nat_cmp};
     ghost use Rattle.dh_model.specs.Books.{pair_cmp, text_cmp};
     ghost use Rattle.dh_model.proofs.KeyOrders.{text_nat_total, text_nat_ties};
+    ghost use Rattle.dh_model.specs.Kinds.{Inspections};
+    ghost use Rattle.dh_tables.specs.Kinds.{itself};
     ghost use Rattle.dh_tables.specs.InspectionTable.{inspection_adding, inspection_is_adding, inspection_shape, inspection_shelf};
 
     ghost shape = { inspection_shape };
@@ -27,6 +29,8 @@ impl Tabled for Inspection {
     ghost adding = { inspection_adding };
 
     ghost shelf = { inspection_shelf };
+
+    ghost is_kind = { itself Inspections };
 
     fn insert_text() -> &'static str {
         "INSERT INTO inspection (property_no, day, staff_no, comment) VALUES (?1, ?2, ?3, ?4)"

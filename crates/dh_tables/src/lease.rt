@@ -11,6 +11,8 @@ impl Tabled for Lease {
     ghost use Rattle.std.specs.Prelude.{refl};
     ghost use Rattle.std.specs.Ordering.{nat_cmp};
     ghost use Rattle.dh_model.proofs.KeyOrders.{nat_total, nat_ties};
+    ghost use Rattle.dh_model.specs.Kinds.{Leases};
+    ghost use Rattle.dh_tables.specs.Kinds.{itself};
     ghost use Rattle.dh_tables.specs.LeaseTable.{lease_adding, lease_is_adding, lease_shape, lease_shelf};
 
     ghost shape = { lease_shape };
@@ -26,6 +28,8 @@ impl Tabled for Lease {
     ghost adding = { lease_adding };
 
     ghost shelf = { lease_shelf };
+
+    ghost is_kind = { itself Leases };
 
     fn insert_text() -> &'static str {
         "INSERT INTO lease (lease_no, client_no, property_no, start_day, months, method, rent) VALUES (?1, ?2, ?3, ?4, ?5, ?6, ?7)"

@@ -11,6 +11,8 @@ impl Tabled for Owner {
     ghost use Rattle.std.specs.Prelude.{refl};
     ghost use Rattle.dh_model.specs.Books.{text_cmp};
     ghost use Rattle.dh_model.proofs.KeyOrders.{text_total, text_ties};
+    ghost use Rattle.dh_model.specs.Kinds.{Owners};
+    ghost use Rattle.dh_tables.specs.Kinds.{itself};
     ghost use Rattle.dh_tables.specs.OwnerTable.{owner_adding, owner_is_adding, owner_shape, owner_shelf};
 
     ghost shape = { owner_shape };
@@ -26,6 +28,8 @@ impl Tabled for Owner {
     ghost adding = { owner_adding };
 
     ghost shelf = { owner_shelf };
+
+    ghost is_kind = { itself Owners };
 
     fn insert_text() -> &'static str {
         "INSERT INTO owner (owner_no, name, address, telephone) VALUES (?1, ?2, ?3, ?4)"

@@ -12,6 +12,8 @@ impl Tabled for Part {
     ghost use Rattle.std.specs.Ordering.{nat_cmp};
     ghost use Rattle.dh_model.specs.Books.{pair_cmp, text_cmp};
     ghost use Rattle.dh_model.proofs.KeyOrders.{nat_text_total, nat_text_ties};
+    ghost use Rattle.dh_model.specs.Kinds.{Parts};
+    ghost use Rattle.dh_tables.specs.Kinds.{itself};
     ghost use Rattle.dh_tables.specs.PartTable.{part_adding, part_is_adding, part_shape, part_shelf};
 
     ghost shape = { part_shape };
@@ -27,6 +29,8 @@ impl Tabled for Part {
     ghost adding = { part_adding };
 
     ghost shelf = { part_shelf };
+
+    ghost is_kind = { itself Parts };
 
     fn insert_text() -> &'static str {
         "INSERT INTO part (month, branch_no, through_lease, due_count, due_total) VALUES (?1, ?2, ?3, ?4, ?5)"

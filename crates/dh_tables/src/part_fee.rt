@@ -12,6 +12,8 @@ impl Tabled for PartFee {
     ghost use Rattle.std.specs.Ordering.{nat_cmp};
     ghost use Rattle.dh_model.specs.Books.{pair_cmp, text_cmp};
     ghost use Rattle.dh_model.proofs.KeyOrders.{nat_text_total, nat_text_ties};
+    ghost use Rattle.dh_model.specs.Kinds.{PartFees};
+    ghost use Rattle.dh_tables.specs.Kinds.{itself};
     ghost use Rattle.dh_tables.specs.PartFeeTable.{part_fee_adding, part_fee_is_adding, part_fee_shape, part_fee_shelf};
 
     ghost shape = { part_fee_shape };
@@ -27,6 +29,8 @@ impl Tabled for PartFee {
     ghost adding = { part_fee_adding };
 
     ghost shelf = { part_fee_shelf };
+
+    ghost is_kind = { itself PartFees };
 
     fn insert_text() -> &'static str {
         "INSERT INTO part_fee (month, branch_no, fee, fee_total) VALUES (?1, ?2, ?3, ?4)"

@@ -6,11 +6,24 @@ use dh_types::{Id, Property, Version};
 use sqlite::types::ValueRef;
 use std::alloc::{AllocError, Global};
 
+// Its columns, between two texts.
+macro_rules! of_property {
+    ($before:literal, $after:literal) => {
+        concat!(
+            $before,
+            "property_no, street, city, postcode, type, rooms, rent, owner_no, staff_no, branch_no",
+            $after
+        )
+    };
+}
+
 impl Tabled for Property {
     ghost use Rattle.dh_types.specs.declared.version.Version.TheVariants.{First};
     ghost use Rattle.std.specs.Prelude.{refl};
     ghost use Rattle.dh_model.specs.Books.{text_cmp};
     ghost use Rattle.dh_model.proofs.KeyOrders.{text_total, text_ties};
+    ghost use Rattle.dh_model.specs.Kinds.{Properties};
+    ghost use Rattle.dh_tables.specs.Kinds.{itself};
     ghost use Rattle.dh_tables.specs.PropertyTable.{property_adding, property_is_adding, property_shape, property_shelf};
 
     ghost shape = { property_shape };
@@ -27,8 +40,13 @@ impl Tabled for Property {
 
     ghost shelf = { property_shelf };
 
+    ghost is_kind = { itself Properties };
+
     fn insert_text() -> &'static str {
-        "INSERT INTO property (property_no, street, city, postcode, type, rooms, rent, owner_no, staff_no, branch_no) VALUES (?1,?2,?3,?4,?5,?6,?7,?8,?9,?10)"
+        of_property!(
+            "INSERT INTO property (",
+            ") VALUES (?1, ?2, ?3, ?4, ?5, ?6, ?7, ?8, ?9, ?10)"
+        )
     }
 
     fn put(self, books: &mut Books) -> Result<(), AllocError> {
@@ -50,7 +68,7 @@ impl Listed for Property {
     ghost listing = { property_listing };
 
     fn list_text() -> &'static str {
-        "SELECT property_no, street, city, postcode, type, rooms, rent, owner_no, staff_no, branch_no FROM property"
+        of_property!("SELECT ", " FROM property")
     }
 
     fn rowid_text() -> &'static str {
@@ -85,7 +103,7 @@ impl Look for PropertyNumbered {
     ghost given = { λ q. Text q.number ∷ [] };
 
     fn text() -> &'static str {
-        "SELECT property_no, street, city, postcode, type, rooms, rent, owner_no, staff_no, branch_no FROM property WHERE property_no = ?1"
+        of_property!("SELECT ", " FROM property WHERE property_no = ?1")
     }
 
     fn day_bytes(&self, alloc: Global) -> Result<Vec<u8>, AllocError> {
@@ -125,7 +143,7 @@ impl Look for PropertiesManaged {
     ghost given = { λ q. Text q.staff ∷ [] };
 
     fn text() -> &'static str {
-        "SELECT property_no, street, city, postcode, type, rooms, rent, owner_no, staff_no, branch_no FROM property WHERE staff_no = ?1"
+        of_property!("SELECT ", " FROM property WHERE staff_no = ?1")
     }
 
     fn day_bytes(&self, alloc: Global) -> Result<Vec<u8>, AllocError> {
@@ -164,7 +182,7 @@ impl Look for PropertiesOfOwner {
     ghost given = { λ q. Text q.owner ∷ [] };
 
     fn text() -> &'static str {
-        "SELECT property_no, street, city, postcode, type, rooms, rent, owner_no, staff_no, branch_no FROM property WHERE owner_no = ?1"
+        of_property!("SELECT ", " FROM property WHERE owner_no = ?1")
     }
 
     fn day_bytes(&self, alloc: Global) -> Result<Vec<u8>, AllocError> {

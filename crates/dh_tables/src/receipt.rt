@@ -11,6 +11,8 @@ impl Tabled for Receipt {
     ghost use Rattle.std.specs.Prelude.{refl};
     ghost use Rattle.std.specs.Ordering.{nat_cmp};
     ghost use Rattle.dh_model.proofs.KeyOrders.{nat_total, nat_ties};
+    ghost use Rattle.dh_model.specs.Kinds.{Receipts};
+    ghost use Rattle.dh_tables.specs.Kinds.{itself};
     ghost use Rattle.dh_tables.specs.ReceiptTable.{receipt_adding, receipt_is_adding, receipt_shape, receipt_shelf};
 
     ghost shape = { receipt_shape };
@@ -26,6 +28,8 @@ impl Tabled for Receipt {
     ghost adding = { receipt_adding };
 
     ghost shelf = { receipt_shelf };
+
+    ghost is_kind = { itself Receipts };
 
     fn insert_text() -> &'static str {
         "INSERT INTO receipt (receipt_no, req_key, lease_no, kind, amount, day) VALUES (?1, ?2, ?3, ?4, ?5, ?6)"

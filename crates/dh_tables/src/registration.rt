@@ -11,6 +11,8 @@ impl Tabled for Registration {
     ghost use Rattle.std.specs.Prelude.{refl};
     ghost use Rattle.dh_model.specs.Books.{pair_cmp, text_cmp};
     ghost use Rattle.dh_model.proofs.KeyOrders.{texts_total, texts_tie};
+    ghost use Rattle.dh_model.specs.Kinds.{Registrations};
+    ghost use Rattle.dh_tables.specs.Kinds.{itself};
     ghost use Rattle.dh_tables.specs.RegistrationTable.{registration_adding, registration_is_adding, registration_shape, registration_shelf};
 
     ghost shape = { registration_shape };
@@ -26,6 +28,8 @@ impl Tabled for Registration {
     ghost adding = { registration_adding };
 
     ghost shelf = { registration_shelf };
+
+    ghost is_kind = { itself Registrations };
 
     fn insert_text() -> &'static str {
         "INSERT INTO registration (client_no, branch_no, staff_no, day) VALUES (?1, ?2, ?3, ?4)"

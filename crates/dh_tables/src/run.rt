@@ -11,6 +11,8 @@ impl Tabled for Run {
     ghost use Rattle.std.specs.Prelude.{refl};
     ghost use Rattle.std.specs.Ordering.{nat_cmp};
     ghost use Rattle.dh_model.proofs.KeyOrders.{nat_total, nat_ties};
+    ghost use Rattle.dh_model.specs.Kinds.{Runs};
+    ghost use Rattle.dh_tables.specs.Kinds.{itself};
     ghost use Rattle.dh_tables.specs.RunTable.{run_adding, run_is_adding, run_shape, run_shelf};
 
     ghost shape = { run_shape };
@@ -26,6 +28,8 @@ impl Tabled for Run {
     ghost adding = { run_adding };
 
     ghost shelf = { run_shelf };
+
+    ghost is_kind = { itself Runs };
 
     fn insert_text() -> &'static str {
         "INSERT INTO run (month, req_key, due_count, due_total, closed) VALUES (?1, ?2, ?3, ?4, ?5)"

@@ -11,6 +11,8 @@ impl Tabled for Staff {
     ghost use Rattle.std.specs.Prelude.{refl};
     ghost use Rattle.dh_model.specs.Books.{text_cmp};
     ghost use Rattle.dh_model.proofs.KeyOrders.{text_total, text_ties};
+    ghost use Rattle.dh_model.specs.Kinds.{Staff};
+    ghost use Rattle.dh_tables.specs.Kinds.{itself};
     ghost use Rattle.dh_tables.specs.StaffTable.{staff_adding, staff_is_adding, staff_shape, staff_shelf};
 
     ghost shape = { staff_shape };
@@ -26,6 +28,8 @@ impl Tabled for Staff {
     ghost adding = { staff_adding };
 
     ghost shelf = { staff_shelf };
+
+    ghost is_kind = { itself Staff };
 
     fn insert_text() -> &'static str {
         "INSERT INTO staff (staff_no, name, position, branch_no) VALUES (?1, ?2, ?3, ?4)"

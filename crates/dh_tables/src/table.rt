@@ -9,6 +9,7 @@ ghost use Rattle.sqlite.specs.Held.{state};
 ghost use Rattle.dh_types.specs.declared.version.Version.{Version};
 ghost use Rattle.dh_sql.specs.Shape.{Shape, IsKept, rows_in};
 ghost use Rattle.dh_sql.specs.Changes.{Becomes};
+ghost use Rattle.dh_tables.specs.Kinds.{IsKind};
 ghost use Rattle.dh_tables.specs.Tables.{Adding, HasShape, IsAdding, Shelf};
 ghost use Rattle.dh_tables.specs.Calls.{Adds, CommitsNothing, StaysInTransaction, IsNew, IsUndone, IsInTransaction, IsWritingSince};
 
@@ -37,6 +38,9 @@ pub trait Tabled: Record {
 
     /// Where the books have records of this kind.
     ghost shelf: { Shelf Self.Key Self order };
+
+    /// The kind of record that it is.
+    ghost is_kind: { IsKind (record { Key = Self.Key; Row = Self; order = order; since = since; shape = shape; shelf = shelf }) };
 
     /// The text that adds a row.
     fn insert_text() -> &'static str

@@ -11,6 +11,8 @@ impl Tabled for Viewing {
     ghost use Rattle.std.specs.Prelude.{refl};
     ghost use Rattle.dh_model.specs.Books.{pair_cmp, text_cmp};
     ghost use Rattle.dh_model.proofs.KeyOrders.{texts_total, texts_tie};
+    ghost use Rattle.dh_model.specs.Kinds.{Viewings};
+    ghost use Rattle.dh_tables.specs.Kinds.{itself};
     ghost use Rattle.dh_tables.specs.ViewingTable.{viewing_adding, viewing_is_adding, viewing_shape, viewing_shelf};
 
     ghost shape = { viewing_shape };
@@ -26,6 +28,8 @@ impl Tabled for Viewing {
     ghost adding = { viewing_adding };
 
     ghost shelf = { viewing_shelf };
+
+    ghost is_kind = { itself Viewings };
 
     fn insert_text() -> &'static str {
         "INSERT INTO viewing (client_no, property_no, day, comment) VALUES (?1, ?2, ?3, ?4)"

@@ -9,7 +9,7 @@ ghost use Rattle.dh_schema.specs.Store.{IsReady, tables};
 ghost use Rattle.dh_store.specs.Looked.{Brings};
 ghost use Rattle.dh_store.specs.Reading.{OnlyReads};
 
-use crate::looks::{KeptRecord, look, look_at_all, months_now};
+use crate::looks::{look, look_at_all, months_now};
 use dh_books::Books;
 use dh_schema::StoreFault;
 use dh_tables::{Listed, Look};
@@ -18,7 +18,7 @@ use sqlite::{Alter, Connection};
 use std::alloc::Global;
 
 /// Puts all records of a kind that came with the second version into books that have none of it; tables of the first version have none.
-pub fn look_at_later<R: Listed + KeptRecord, S: Alter>(
+pub fn look_at_later<R: Listed, S: Alter>(
     alloc: Global,
     conn: &mut Connection<S>,
     books: &mut Books,
@@ -45,8 +45,6 @@ pub fn look_later<L: Look, S: Alter>(
     question: &L,
     books: &mut Books,
 ) -> Result<(), StoreFault>
-where
-    L::Record: KeptRecord,
     requires ready { HasCleanDisk (state S.Store conn.old) → IsReady (state S.Store conn.old) }
     requires later { L.Record.since ≡ Second }
     ensures brought { Brings L.Record.shelf (L.asks question.now) result (state S.Store conn.old) books.old (state S.Store conn.new) books.new }

@@ -17,6 +17,7 @@ use Rattle.dh_tables.proofs.OneRecord.{found_ok}
 use Rattle.dh_schema.specs.Tables.{rows_since, version_of_tables}
 use Rattle.dh_schema.proofs.Crashing.{survives_both}
 use Rattle.dh_schema.proofs.EachKind.{all_since}
+use Rattle.dh_schema.proofs.OfKind.{is_kept}
 use Rattle.dh_schema.proofs.ReadTables.{version_given}
 use Rattle.dh_schema.proofs.Versions.{has_since}
 use Rattle.dh_schema.proofs.finding.find.Goals as goal
@@ -46,7 +47,7 @@ rows_asked-requires-clause-kept g c clean =
     let order = c.requires early c.in_ok-version.ensures.ours in
     let its = version_given c.in_ok-version.version old.now.trees order (c.in_ok-version.ensures.given clean) in
     let since = subst (λ (v : Version). IsSince v c.in_ok-version.version) c.came_with.ensures (c.is_since.ensures.yes c.if-not-is_since.false) in
-    let kept = g.met.R.KeyedRecord.is_kept old.now.trees order (subst (IsSince g.R.Tabled.since) (sym its) since) in
+    let kept = is_kept _ g.R.Tabled.is_kind old.now.trees order (subst (IsSince g.R.Tabled.since) (sym its) since) in
     subst (λ (t : Trees). IsKept g.R.Tabled.shape g.R.Tabled.order t) (sym trees) kept
 
 pub returns-then-not-is_since-clause-found : goal.returns-then-not-is_since-clause-found

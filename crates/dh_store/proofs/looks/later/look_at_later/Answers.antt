@@ -9,6 +9,7 @@ use Rattle.dh_schema.specs.Store.{tables}
 use Rattle.dh_schema.specs.Tables.{rows_since, version_of_tables}
 use Rattle.dh_schema.proofs.EachKind.{all_since}
 use Rattle.dh_schema.proofs.ReadTables.{on_ok}
+use Rattle.dh_schema.proofs.OfKind.{holds}
 use Rattle.dh_store.proofs.ReadsInTurn.{reads_then}
 use Rattle.dh_store.proofs.looks.later.look_at_later.Goals as goal
 
@@ -28,7 +29,7 @@ returns-in-First-clause-taken g c clean =
     let shelf = g.R.Tabled.shelf in
     let books = c.args.books.now in
     let none : shelf.held (tables old) ≡ empty =
-    g.met.R.KeptRecord.holds old.now.trees ∙ (λ i. rows_since (c.requires.later i) (first i) (rows_in g.R.Tabled.shape old.now.trees)) in
+    holds _ g.R.Tabled.is_kind old.now.trees ∙ (λ i. rows_since (c.requires.later i) (first i) (rows_in g.R.Tabled.shape old.now.trees)) in
     sym (shelf.with_held books) ∙ ap (shelf.with books) (c.requires.none early ∙ sym none)
 
 pub returns-in-Second-clause-taken : goal.returns-in-Second-clause-taken
@@ -42,7 +43,7 @@ returns-in-Second-clause-taken g c clean =
     let has = subst (λ since. IsSince since (version_of_tables mid.now.trees)) (sym c.requires.later) second in
     let all = all_since g.R.Tabled.since (version_of_tables mid.now.trees) (rows_in g.R.Tabled.shape mid.now.trees) has in
     on_ok c.look_at_all.result (λ taken. taken
-    ∙ ap (shelf.with c.args.books.now) (sym all ∙ sym (g.met.R.KeptRecord.holds mid.now.trees) ∙ ap shelf.held stays))
+    ∙ ap (shelf.with c.args.books.now) (sym all ∙ sym (holds _ g.R.Tabled.is_kind mid.now.trees) ∙ ap shelf.held stays))
     (c.look_at_all.ensures.taken clean)
 
 pub returns-in-Second-clause-reads : goal.returns-in-Second-clause-reads

@@ -7,6 +7,7 @@ use Rattle.dh_model.specs.Kinds.{IsSince}
 use Rattle.dh_sql.specs.Shape.{rows_in}
 use Rattle.dh_schema.specs.Store.{tables}
 use Rattle.dh_schema.specs.Tables.{rows_since, version_of_tables}
+use Rattle.dh_schema.proofs.OfKind.{holds}
 use Rattle.dh_store.proofs.Later.{brought_since, none_brought}
 use Rattle.dh_store.proofs.ReadsInTurn.{reads_then}
 use Rattle.dh_store.proofs.looks.later.look_later.Goals as goal
@@ -26,7 +27,7 @@ returns-in-First-clause-brought g c =
     let laws = g.met.L.Record.Tabled in
     let none : HasCleanDisk mid → T.shelf.held (tables old) ≡ empty = λ clean.
     let first = sym (c.in_ok-months.ensures.found clean).2 ∙ sym c.version.ensures ∙ c.in-First.is in
-    g.met.L.Record.KeptRecord.holds old.now.trees ∙ (λ i. rows_since (c.requires.later i) (first i) (rows_in T.shape {R = T.order} old.now.trees)) in
+    holds _ g.L.Record.Tabled.is_kind old.now.trees ∙ (λ i. rows_since (c.requires.later i) (first i) (rows_in T.shape {R = T.order} old.now.trees)) in
     none_brought laws.total laws.ties T.shelf (g.L.Look.asks c.args.question.now) old mid
     (λ clean. omega (arith, c.months_now.ensures.reads.crash.clean, clean))
     (λ clean. (c.in_ok-months.ensures.reads.done clean).1) c.args.books.now none

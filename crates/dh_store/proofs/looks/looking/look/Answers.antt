@@ -6,6 +6,7 @@ use Rattle.dh_sql.specs.Shape.{rows_in}
 use Rattle.dh_schema.specs.Tables.{state_in, version_of_tables}
 use Rattle.dh_schema.proofs.EachKind.{all_since}
 use Rattle.dh_schema.proofs.Versions.{has_since}
+use Rattle.dh_schema.proofs.OfKind.{holds, is_kept}
 use Rattle.dh_store.proofs.Taken.{taken, taken_more}
 use Rattle.dh_store.proofs.looks.looking.look.Goals as goal
 
@@ -16,7 +17,7 @@ fetch_more-requires-clause-reading g c clean =
 
 pub fetch_more-requires-clause-kept : goal.fetch_more-requires-clause-kept
 fetch_more-requires-clause-kept g c clean =
-    g.met.L.Record.KeptRecord.is_kept _ (c.requires.ready clean).sound.in_order (c.requires.since clean)
+    is_kept _ g.L.Record.Tabled.is_kind _ (c.requires.ready clean).sound.in_order (c.requires.since clean)
 
 pub returns-in-Ok-true-clause-brought : goal.returns-in-Ok-true-clause-brought
 returns-in-Ok-true-clause-brought g c =
@@ -27,7 +28,7 @@ returns-in-Ok-true-clause-brought g c =
     let trees = old.now.trees in
     let books = c.args.books.now in
     let after = c.fetch_more.new.books in
-    let holds : HasCleanDisk old → T.shelf.held (state_in trees) ≡ rows_in T.shape {R = T.order} trees = λ early. g.met.L.Record.KeptRecord.holds trees
+    let held : HasCleanDisk old → T.shelf.held (state_in trees) ≡ rows_in T.shape {R = T.order} trees = λ early. holds _ g.L.Record.Tabled.is_kind trees
     ∙ all_since T.since (version_of_tables trees) (rows_in T.shape {R = T.order} trees) (c.requires.since early) in
     record {
       first = λ t b both none clean.
@@ -35,13 +36,13 @@ returns-in-Ok-true-clause-brought g c =
           let same = both early in
           let fetched = c.in-Ok-true.ensures.fetched clean c.in-Ok-true.field-0-test in (
             ap (λ (d : Database). state_in d.trees) (c.in-Ok-true.ensures.same clean).0.now_is ∙ same.0,
-            taken laws.total laws.ties T.shape T.shelf asks trees t b books after (holds early) same.0 same.1 fetched none,
+            taken laws.total laws.ties T.shape T.shelf asks trees t b books after (held early) same.0 same.1 fetched none,
           );
       more = λ t b test both had clean.
           let early : HasCleanDisk old = omega (arith, c.fetch_more.ensures.crash.clean, clean) in
           let same = both early in
           let fetched = c.in-Ok-true.ensures.fetched clean c.in-Ok-true.field-0-test in (
             ap (λ (d : Database). state_in d.trees) (c.in-Ok-true.ensures.same clean).0.now_is ∙ same.0,
-            taken_more laws.total laws.ties T.shape T.shelf asks trees t b books after (holds early) same.0 same.1 fetched test had,
+            taken_more laws.total laws.ties T.shape T.shelf asks trees t b books after (held early) same.0 same.1 fetched test had,
           );
     }
