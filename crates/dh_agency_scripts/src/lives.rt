@@ -171,24 +171,38 @@ fn recovered<S: Alter + Reopen + Drop>(alloc: Global, conn: Connection<S>) -> Op
     Some((text, again))
 }
 
-// One line, before which the power was cut.
-fn live<S: Alter + Reopen + Drop>(
-    alloc: Global,
-    conn: Connection<S>,
-    line: &str,
-) -> Option<Lived<S>> {
-    let conn = next_life(alloc, conn)?;
-    if line == "recover" {
-        return recovered(alloc, conn);
-    }
-    match request(alloc, line) {
-        Ok(Request::Command(command)) => stepped(alloc, conn, &command),
-        _ => Some(told_anew(alloc, conn, line)),
+/// How a line is told to a store.
+pub trait Telling {
+    /// What the line comes to over the store, before which the power was cut. `None` where it can't be opened anew.
+    fn live<S: Alter + Reopen + Drop>(
+        alloc: Global,
+        conn: Connection<S>,
+        line: &str,
+    ) -> Option<Lived<S>>;
+}
+
+// Lines are told to an agency that takes the tables anew.
+struct ToAnAgency;
+
+impl Telling for ToAnAgency {
+    fn live<S: Alter + Reopen + Drop>(
+        alloc: Global,
+        conn: Connection<S>,
+        line: &str,
+    ) -> Option<Lived<S>> {
+        let conn = next_life(alloc, conn)?;
+        if line == "recover" {
+            return recovered(alloc, conn);
+        }
+        match request(alloc, line) {
+            Ok(Request::Command(command)) => stepped(alloc, conn, &command),
+            _ => Some(told_anew(alloc, conn, line)),
+        }
     }
 }
 
 // The lines before those of the block, without a look at the replies.
-fn live_before<S: Alter + Reopen + Drop>(
+fn live_before<T: Telling, S: Alter + Reopen + Drop>(
     alloc: Global,
     mut conn: Connection<S>,
     lines: &[String],
@@ -196,14 +210,14 @@ fn live_before<S: Alter + Reopen + Drop>(
     for line in lines {
         let (words, _) = parted(line.as_str());
         if table_of(words).is_none() {
-            let (_answer, next) = live(alloc, conn, words)?;
+            let (_answer, next) = T::live(alloc, conn, words)?;
             conn = next;
         }
     }
     Some(conn)
 }
 
-fn live_each<S: Alter + Reopen + Drop>(
+fn live_each<T: Telling, S: Alter + Reopen + Drop>(
     rt: &HostRuntime,
     tally: &mut Tally,
     mut conn: Connection<S>,
@@ -212,7 +226,7 @@ fn live_each<S: Alter + Reopen + Drop>(
     for line in lines {
         let (words, want) = parted(line.as_str());
         if table_of(words).is_none() {
-            let Some((answer, next)) = live(rt.alloc(), conn, words) else {
+            let Some((answer, next)) = T::live(rt.alloc(), conn, words) else {
                 return Ok(None);
             };
             conn = next;
@@ -222,16 +236,17 @@ fn live_each<S: Alter + Reopen + Drop>(
     Ok(Some(conn))
 }
 
-fn play_over<S: Alter + Reopen + Drop>(
+/// The block, told so to this store, and the tables in the end.
+pub fn play_block<T: Telling, S: Alter + Reopen + Drop>(
     rt: &HostRuntime,
     tally: &mut Tally,
     block: &Block,
     conn: Connection<S>,
 ) -> io::Result<()> {
-    let Some(begun) = live_before(rt.alloc(), conn, &block.before) else {
+    let Some(begun) = live_before::<T, S>(rt.alloc(), conn, &block.before) else {
         return compare(rt, tally, block.name.as_str(), "not opened", "opened");
     };
-    let Some(mut ended) = live_each(rt, tally, begun, &block.lines)? else {
+    let Some(mut ended) = live_each::<T, S>(rt, tally, begun, &block.lines)? else {
         return compare(rt, tally, block.name.as_str(), "not opened", "opened");
     };
     let tables = all_rows(rt.alloc(), &mut ended);
@@ -246,7 +261,7 @@ pub fn play_lives(rt: &HostRuntime, tally: &mut Tally, text: &str) -> io::Result
     };
     for block in &blocks {
         match in_memory(rt.alloc())? {
-            Some(agency) => play_over(rt, tally, block, agency.into_store())?,
+            Some(agency) => play_block::<ToAnAgency, _>(rt, tally, block, agency.into_store())?,
             None => compare(rt, tally, block.name.as_str(), "no agency", "an agency")?,
         }
     }

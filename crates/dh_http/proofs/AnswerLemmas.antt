@@ -2,7 +2,7 @@
 use Rattle.std.proofs.Common.{◌≡◌, ◌∙◌, ◌++◌, [], ℕ, List, Option, Some, Result, Ok, Err, ap, false, refl, subst, sym}
 use Rattle.std.specs.Result.{is_err}
 use Rattle.dh_types.specs.Output.{Puts}
-use Rattle.dh_types.specs.Reports.{Report, BranchList, VacantList, MatchingList, LeaseStatement, BranchArrears, RunParts, OwnerCharges, NoReport}
+use Rattle.dh_types.specs.Reports.{Report, NoReport}
 use Rattle.dh_types.specs.Reports.{is_no_report}
 use Rattle.dh_reports.specs.ReportTexts.{report_text}
 use Rattle.dh_types.specs.declared.reply.Reply.{Reply}
@@ -35,13 +35,7 @@ sent a b it (Err e) result broken passed = subst (Sends a b it) (sym passed) bro
 -- a report is told as its text
 pub report_is : (it : Report) → is_no_report it ≡ false → record { status = 200; content = Text; allow = []; body = report_text it } ≡ report_answer it
 report_is (NoReport why) none = cc
-report_is (BranchList branches) none = refl
-report_is (VacantList properties) none = refl
-report_is (MatchingList properties) none = refl
-report_is (LeaseStatement lease charges receipts balance) none = refl
-report_is (BranchArrears debts total) none = refl
-report_is (RunParts parts sum) none = refl
-report_is (OwnerCharges lines total fees payable) none = refl
+report_is it none = refl
 
 -- what is written to an empty list is the list
 pub filled : (r : Result (Unit {0}) Output) (old new text : List ℕ) → is_err r ≡ false → old ≡ [] → Puts (Some old) (Some new) r text → new ≡ text

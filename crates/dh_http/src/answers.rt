@@ -136,10 +136,8 @@ fn put_answer<W: Write>(
     ensures { Writes (W.contents writer.old) (W.contents writer.new)
         (record { status = status; content = content; allow = allow.now; body = body.now }) result }
 {
-    match put_whole(writer, status, content, allow, body) {
-        Ok(()) => Ok(status),
-        Err(output) => Err(output),
-    }
+    put_whole(writer, status, content, allow, body)?;
+    Ok(status)
 }
 
 // What came of an answer, which wanted memory before it.

@@ -1,5 +1,5 @@
 -- What the routes find.
-use Rattle.std.proofs.Common.{◌≡◌, ℕ, ◌<◌, List, [], ◌∷◌, ◌++◌, Option, Some, None, refl, sym, ap, ◌∙◌, subst, arith, codes, inl, inr, append-nil, Bool, true}
+use Rattle.std.proofs.Common.{◌≡◌, ℕ, ◌≤◌, map, ◌<◌, List, [], ◌∷◌, ◌++◌, Option, Some, None, refl, sym, ap, ◌∙◌, subst, arith, codes, inl, inr, append-nil, Bool, true}
 use Rattle.std.proofs.Common.{false, ltb, ◌&&◌, ◌==◌, get_or, suc, length, ◌-◌, ◌+◌, cond, leb, length-append, drop, take, drop_at, take_all, le_refl, nat_eq}
 use Rattle.std.specs.List.{ends_with}
 use Rattle.matchit.specs.Rows.{RowsOf}
@@ -7,11 +7,10 @@ use Rattle.std.proofs.lemmas.Bool.Decides.{nat_tests}
 use Rattle.matchit.specs.Seek.{first, seek, param_step, has_slash, segment, own, step, or_else, longest_suffix, with_suffix}
 use Rattle.std.specs.Cmp.Lexicographic.{pointwise}
 use Rattle.matchit.specs.Router.{RouteOf}
-use Rattle.matchit.specs.Params.{walk, part_of, next_at}
-use Rattle.dh_requests.specs.Routes.{routes, IsPiece, row_of}
-use Rattle.dh_requests.specs.Targets.{IsTarget, IsText, IsAfter, AreAfter}
+use Rattle.dh_requests.specs.Routes.{front, in_order, routes, row_of, tokens, words_of}
+use Rattle.dh_requests.specs.Targets.{AreAfter, AreBehind, IsAfter, IsTarget, IsText}
 use Rattle.dh_requests.specs.declared.routing.Route.{Route}
-use Rattle.dh_requests.specs.declared.routing.Route.TheVariants.{Commands, Branches, Vacant, Matching, Statement, Arrears, Run, Owner}
+use Rattle.dh_requests.specs.declared.routing.Route.TheVariants.{Commands}
 use Rattle.dh_requests.proofs.Seeking.{In, Takes, AreBytes, seek_sound, takes_text, takes_piece, takes_last, seek_none, seek_past}
 
 after : (w path : List ℕ) → AreBytes w → Takes (w ++ 256 ∷ []) path → (first : List ℕ) × (second : List ℕ) × IsAfter w path first second
@@ -59,23 +58,39 @@ two w path bytes x =
     let slash = takes_text (47 ∷ []) (256 ∷ []) piece.1 (bytes_if (47 ∷ []) refl) piece.4 in
     (piece.0, slash.0, (text.1 ∙ ap (λ l. w ++ l) (piece.2 ∙ ap (λ l. piece.0 ++ l) slash.1), piece.3, takes_last slash.0 slash.2))
 
+-- as many pieces as a route has behind its text
+behind : (pieces : List (List ℕ)) → length pieces ≤ 2 → (w path : List ℕ) → AreBytes w → Takes (w ++ tokens pieces) path
+    → (first : List ℕ) × (second : List ℕ) × AreBehind pieces w path first second
+behind [] few w path bytes x = whole w path bytes x
+behind (piece ∷ []) few w path bytes x = after w path bytes x
+behind (piece ∷ other ∷ []) few w path bytes x = two w path bytes x
+behind (piece ∷ other ∷ third ∷ more) few w path bytes x = absurd (omega (arith, few))
+
+-- what stands before the pieces of a route
+text_of : Route → List ℕ
+text_of route = front (words_of route).word (words_of route).pieces
+
+text_bytes : (route : Route) → all_bytes (text_of route) ≡ true
+unfolding all_bytes text_of
+text_bytes Commands = refl
+text_bytes route = refl
+
+few_pieces : (route : Route) → length (words_of route).pieces ≤ 2
+few_pieces Commands = omega arith
+few_pieces route = omega arith
+
+-- a row of some routes is that of one of them
+row_among : (x : List ℕ × RouteOf Route) (all : List Route) → In x (map row_of all) → (route : Route) × (row_of route ≡ x)
+row_among x [] none = absurd none
+row_among x (route ∷ all) (inl e) = (route, e)
+row_among x (route ∷ all) (inr rest) = row_among x all rest
+
 member : (t : List ℕ) (r : RouteOf Route) (path : List ℕ) → In (t, r) routes → Takes t path → IsTarget r.value path
-unfolding all_bytes
-member t r path (inl e) x = row_is (row_of Arrears) t r path (λ v. IsTarget v path) e x (after (codes "/arrears/") path (bytes_if (codes "/arrears/") refl))
-member t r path (inr (inl e)) x = row_is (row_of Branches) t r path (λ v. IsTarget v path) e x (whole (codes "/branches") path (bytes_if (codes "/branches") refl))
-member t r path (inr (inr (inl e))) x =
-    row_is (row_of Commands) t r path (λ v. IsTarget v path) e x (whole (codes "/commands") path (bytes_if (codes "/commands") refl))
-member t r path (inr (inr (inr (inl e)))) x =
-    row_is (row_of Matching) t r path (λ v. IsTarget v path) e x (two (codes "/matching/") path (bytes_if (codes "/matching/") refl))
-member t r path (inr (inr (inr (inr (inl e))))) x =
-    row_is (row_of Owner) t r path (λ v. IsTarget v path) e x (two (codes "/owner/") path (bytes_if (codes "/owner/") refl))
-member t r path (inr (inr (inr (inr (inr (inl e)))))) x =
-    row_is (row_of Run) t r path (λ v. IsTarget v path) e x (after (codes "/run/") path (bytes_if (codes "/run/") refl))
-member t r path (inr (inr (inr (inr (inr (inr (inl e))))))) x =
-    row_is (row_of Statement) t r path (λ v. IsTarget v path) e x (after (codes "/statement/") path (bytes_if (codes "/statement/") refl))
-member t r path (inr (inr (inr (inr (inr (inr (inr (inl e)))))))) x =
-    row_is (row_of Vacant) t r path (λ v. IsTarget v path) e x (after (codes "/vacant/") path (bytes_if (codes "/vacant/") refl))
-member t r path (inr (inr (inr (inr (inr (inr (inr (inr e)))))))) x = absurd e
+unfolding text_of
+member t r path within x =
+    let at = row_among (t, r) in_order within in
+    row_is (row_of at.0) t r path (λ v. IsTarget v path) at.1 x
+    (behind (words_of at.0).pieces (few_pieces at.0) (text_of at.0) path (bytes_if (text_of at.0) (text_bytes at.0)))
 
 pub found : (path : List ℕ) (r : RouteOf Route) → AreBytes path → first routes path ≡ Some r → IsTarget r.value path
 found path r bytes e =
@@ -99,34 +114,6 @@ segment_of (b ∷ piece) rest free = segment_at b piece rest (b == 47) refl free
         → cond v (b ∷ []) (b ∷ segment (piece ++ 47 ∷ rest)) ≡ b ∷ (piece ++ 47 ∷ [])
     segment_at b piece rest true e free again = cc
     segment_at b piece rest false e free again = ap (λ l. b ∷ l) (again free)
-
--- one place on
-next_is : (len at : ℕ) → at < len → next_at len at ≡ at + 1
-next_is len at h = grind (arith, nat_tests)
-
-rest_of : (path front rest : List ℕ) (at : ℕ) → path ≡ front ++ rest → at ≡ length front → part_of path at (length path) ≡ rest
-rest_of path front rest at e at_is =
-    let whole_len : length path ≡ length front + length rest = ap length e ∙ length-append front rest in
-    let inside : (leb at (length path) && leb (length path) (length path)) ≡ true = grind (arith, nat_tests) in
-    let left : length path - at ≡ length rest = omega arith in
-    let dropped : drop at path ≡ rest = ap (drop at) e ∙ drop_at front rest at (sym at_is) in
-    rw inside (ap (λ n. take n (drop at path)) left ∙ ap (take (length rest)) dropped ∙ take_all (length rest) rest (le_refl (length rest)))
-
--- what the parameter of a route took
-walk_vacant : (b : ℕ) (p : List ℕ) → walk (row_of Vacant).0 (codes "/vacant/{day}") (codes "/vacant/" ++ b ∷ p) ((9, 12) ∷ []) 0 0 ≡ (codes "day", b ∷ p) ∷ []
-walk_vacant b p =
-    let len = length (codes "/vacant/" ++ b ∷ p) in
-    rw (
-      next_is len 0 (omega arith),
-      next_is len 1 (omega arith),
-      next_is len 2 (omega arith),
-      next_is len 3 (omega arith),
-      next_is len 4 (omega arith),
-      next_is len 5 (omega arith),
-      next_is len 6 (omega arith),
-      next_is len 7 (omega arith),
-    )
-    (ap (λ r. (codes "day", r) ∷ []) (rest_of (codes "/vacant/" ++ b ∷ p) (codes "/vacant/") (b ∷ p) 8 refl refl))
 
 -- ---- the other direction, for each route
 
@@ -180,29 +167,19 @@ lits (b ∷ w) path rs e =
     let two = both (is_none (step 257 rs)) (plain w (step b rs)) one.1 in
     lit b (w ++ path) rs (none_is (step 256 rs) one.0) (none_is (step 257 rs) two.0) ∙ lits w path (step b rs) two.1
 
-pub at_arrears : (b : ℕ) (p : List ℕ) → b < 256 → has_slash (b ∷ p) ≡ false → first routes (codes "/arrears/" ++ b ∷ p) ≡ Some (row_of Arrears).1
-unfolding plain steps is_none
-at_arrears b p byte free = lits (codes "/arrears/") (b ∷ p) routes refl ∙ last_piece (row_of Arrears).1 b p byte free
+-- the rows that are left behind the text of a route are its own alone
+is_plain : (route : Route) → plain (text_of route) routes ≡ true
+unfolding plain is_none text_of
+is_plain Commands = refl
+is_plain route = refl
 
-pub at_statement : (b : ℕ) (p : List ℕ) → b < 256 → has_slash (b ∷ p) ≡ false → first routes (codes "/statement/" ++ b ∷ p) ≡ Some (row_of Statement).1
-unfolding plain steps is_none
-at_statement b p byte free = lits (codes "/statement/") (b ∷ p) routes refl ∙ last_piece (row_of Statement).1 b p byte free
+is_left : (route : Route) → steps (text_of route) routes ≡ (tokens (words_of route).pieces, (row_of route).1) ∷ []
+unfolding steps text_of
+is_left Commands = refl
+is_left route = refl
 
-pub at_vacant : (b : ℕ) (p : List ℕ) → b < 256 → has_slash (b ∷ p) ≡ false → first routes (codes "/vacant/" ++ b ∷ p) ≡ Some (row_of Vacant).1
-unfolding plain steps is_none
-at_vacant b p byte free = lits (codes "/vacant/") (b ∷ p) routes refl ∙ last_piece (row_of Vacant).1 b p byte free
-
-pub at_run : (b : ℕ) (p : List ℕ) → b < 256 → has_slash (b ∷ p) ≡ false → first routes (codes "/run/" ++ b ∷ p) ≡ Some (row_of Run).1
-unfolding plain steps is_none
-at_run b p byte free = lits (codes "/run/") (b ∷ p) routes refl ∙ last_piece (row_of Run).1 b p byte free
-
-pub at_commands : first routes (codes "/commands") ≡ Some (row_of Commands).1
-unfolding plain steps is_none seek
-at_commands = lits (codes "/commands") [] routes refl
-
-pub at_branches : first routes (codes "/branches") ≡ Some (row_of Branches).1
-unfolding plain steps is_none seek
-at_branches = lits (codes "/branches") [] routes refl
+at_text : (route : Route) (rest : List ℕ) → first routes (text_of route ++ rest) ≡ first ((tokens (words_of route).pieces, (row_of route).1) ∷ []) rest
+at_text route rest = lits (text_of route) rest routes (is_plain route) ∙ ap (λ (rs : RowsOf (RouteOf Route)). first rs rest) (is_left route)
 
 seek_over : (front path : List ℕ) (rs : RowsOf (RouteOf Route)) → seek (length front) rs (front ++ path) ≡ seek 0 rs path
 unfolding seek
@@ -248,56 +225,36 @@ two_first r b c d e byte free byte2 free2 =
     ∙ ap (λ n. or_else (seek n row rest) None) same
     ∙ ap (λ o. or_else o None) (seek_over c (47 ∷ d ∷ e) row ∙ last)
 
-pub at_matching : (b : ℕ) (c : List ℕ) (d : ℕ) (e : List ℕ) → b < 256 → has_slash (b ∷ c) ≡ false → d < 256 → has_slash (d ∷ e) ≡ false
-    → first routes (codes "/matching/" ++ ((b ∷ c) ++ 47 ∷ d ∷ e)) ≡ Some (row_of Matching).1
-unfolding plain steps is_none
-at_matching b c d e byte free byte2 free2 =
-    lits (codes "/matching/") ((b ∷ c) ++ 47 ∷ d ∷ e) routes refl ∙ two_first (row_of Matching).1 b c d e byte free byte2 free2
-
-pub at_owner : (b : ℕ) (c : List ℕ) (d : ℕ) (e : List ℕ) → b < 256 → has_slash (b ∷ c) ≡ false → d < 256 → has_slash (d ∷ e) ≡ false
-    → first routes (codes "/owner/" ++ ((b ∷ c) ++ 47 ∷ d ∷ e)) ≡ Some (row_of Owner).1
-unfolding plain steps is_none
-at_owner b c d e byte free byte2 free2 =
-    lits (codes "/owner/") ((b ∷ c) ++ 47 ∷ d ∷ e) routes refl ∙ two_first (row_of Owner).1 b c d e byte free byte2 free2
-
 bytes_after : (front rest : List ℕ) → AreBytes (front ++ rest) → AreBytes rest
 bytes_after [] rest h = h
 bytes_after (b ∷ front) rest h = bytes_after front rest h.1
 
--- what each piece at the end finds stands against finding nothing
-not_none : (front path : List ℕ) (r : RouteOf Route) → ((b : ℕ) (p : List ℕ) → b < 256 → has_slash (b ∷ p) ≡ false → first routes (front ++ b ∷ p) ≡ Some r)
-    → AreBytes path → first routes path ≡ None → (piece : List ℕ) → path ≡ front ++ piece → IsPiece piece → ⊥
-not_none front path r at bytes none [] e x = absurd (omega (arith, x.0))
-not_none front path r at bytes none (b ∷ p) e x =
-    let byte = bytes_after front (b ∷ p) (subst AreBytes e bytes) in
-    let some : first routes path ≡ Some r = ap (first routes) e ∙ at b p byte.0 x.1 in
+-- what its pieces find stands against finding nothing
+not_none : (pieces : List (List ℕ)) → length pieces ≤ 2 → (w path : List ℕ) (r : RouteOf Route)
+    → ((rest : List ℕ) → first routes (w ++ rest) ≡ first ((tokens pieces, r) ∷ []) rest) → AreBytes path → first routes path ≡ None
+    → (one two : List ℕ) → AreBehind pieces w path one two → ⊥
+unfolding seek
+not_none [] few w path r at bytes none one two x =
+    let some : first routes path ≡ Some r = ap (first routes) (x.0 ∙ sym (append-nil w)) ∙ at [] in
     let no : None ≡ Some r = sym none ∙ some in
     cc
-
--- and each two pieces
-not_two : (front path : List ℕ) (r : RouteOf Route)
-    → ((b : ℕ) (c : List ℕ) (d : ℕ) (e : List ℕ) → b < 256 → has_slash (b ∷ c) ≡ false → d < 256 → has_slash (d ∷ e) ≡ false
-    → first routes (front ++ ((b ∷ c) ++ 47 ∷ d ∷ e)) ≡ Some r)
-    → AreBytes path → first routes path ≡ None → (one two : List ℕ) → path ≡ front ++ (one ++ 47 ∷ two) → IsPiece one → IsPiece two → ⊥
-not_two front path r at bytes none [] two e x y = absurd (omega (arith, x.0))
-not_two front path r at bytes none (b ∷ c) [] e x y = absurd (omega (arith, y.0))
-not_two front path r at bytes none (b ∷ c) (d ∷ f) e x y =
-    let all = bytes_after front ((b ∷ c) ++ 47 ∷ d ∷ f) (subst AreBytes e bytes) in
+not_none (piece ∷ []) few w path r at bytes none [] two x = absurd (omega (arith, x.1.0))
+not_none (piece ∷ []) few w path r at bytes none (b ∷ p) two x =
+    let byte = bytes_after w (b ∷ p) (subst AreBytes x.0 bytes) in
+    let some : first routes path ≡ Some r = ap (first routes) x.0 ∙ at (b ∷ p) ∙ last_piece r b p byte.0 x.1.1 in
+    let no : None ≡ Some r = sym none ∙ some in
+    cc
+not_none (piece ∷ other ∷ []) few w path r at bytes none [] two x = absurd (omega (arith, x.1.0))
+not_none (piece ∷ other ∷ []) few w path r at bytes none (b ∷ c) [] x = absurd (omega (arith, x.2.0))
+not_none (piece ∷ other ∷ []) few w path r at bytes none (b ∷ c) (d ∷ f) x =
+    let all = bytes_after w ((b ∷ c) ++ 47 ∷ d ∷ f) (subst AreBytes x.0 bytes) in
     let last = bytes_after (b ∷ c) (47 ∷ d ∷ f) all in
-    let some : first routes path ≡ Some r = ap (first routes) e ∙ at b c d f all.0 x.1 last.1.0 y.1 in
+    let some : first routes path ≡ Some r = ap (first routes) x.0 ∙ at ((b ∷ c) ++ 47 ∷ d ∷ f) ∙ two_first r b c d f all.0 x.1.1 last.1.0 x.2.1 in
     let no : None ≡ Some r = sym none ∙ some in
     cc
+not_none (piece ∷ other ∷ third ∷ more) few w path r at bytes none one two x = absurd (omega (arith, few))
 
 pub missing : (route : Route) (path : List ℕ) → AreBytes path → first routes path ≡ None → IsTarget route path → ⊥
-missing Commands path bytes none x =
-    let no : None ≡ Some (row_of Commands).1 = sym none ∙ ap (first routes) x.2.0 ∙ at_commands in
-    cc
-missing Branches path bytes none x =
-    let no : None ≡ Some (row_of Branches).1 = sym none ∙ ap (first routes) x.2.0 ∙ at_branches in
-    cc
-missing Vacant path bytes none x = not_none (codes "/vacant/") path (row_of Vacant).1 at_vacant bytes none x.0 x.2.0 x.2.1
-missing Matching path bytes none x = not_two (codes "/matching/") path (row_of Matching).1 at_matching bytes none x.0 x.1 x.2.0 x.2.1 x.2.2
-missing Statement path bytes none x = not_none (codes "/statement/") path (row_of Statement).1 at_statement bytes none x.0 x.2.0 x.2.1
-missing Arrears path bytes none x = not_none (codes "/arrears/") path (row_of Arrears).1 at_arrears bytes none x.0 x.2.0 x.2.1
-missing Run path bytes none x = not_none (codes "/run/") path (row_of Run).1 at_run bytes none x.0 x.2.0 x.2.1
-missing Owner path bytes none x = not_two (codes "/owner/") path (row_of Owner).1 at_owner bytes none x.0 x.1 x.2.0 x.2.1 x.2.2
+unfolding text_of
+missing route path bytes none x =
+    not_none (words_of route).pieces (few_pieces route) (text_of route) path (row_of route).1 (at_text route) bytes none x.0 x.1 x.2

@@ -49,8 +49,11 @@ row_of route =
     row (front it.word it.pieces ++ tokens it.pieces) (47 ∷ (it.word ++ braced it.pieces)) (places (length it.word + 3) it.pieces) route
 
 -- the routes in the order of a router's rows
+abbrev pub in_order : List Route
+in_order = Arrears ∷ Branches ∷ Commands ∷ Matching ∷ Owner ∷ Run ∷ Statement ∷ Vacant ∷ []
+
 abbrev pub routes : RowsOf (RouteOf Route)
-routes = map row_of (Arrears ∷ Branches ∷ Commands ∷ Matching ∷ Owner ∷ Run ∷ Statement ∷ Vacant ∷ [])
+routes = map row_of in_order
 
 -- some bytes, and no slash
 abbrev pub IsPiece : List ℕ → Type 0

@@ -7,18 +7,10 @@ ghost use Rattle.dh_requests.specs.Known.{TakesAtMost};
 
 use crate::failure::Failure;
 use crate::filling::fill;
+use crate::unread::Unread;
 use std::alloc::Global;
 use std::io;
 use std::io::{ErrorKind, Read};
-
-/// Why no body was read.
-#[derive(Clone, Copy, Debug, PartialEq, Eq)]
-pub(crate) enum BodyFault {
-    /// Memory ran out.
-    Memory,
-    /// The reader failed.
-    Input,
-}
 
 // Fills the body from what was read already, with what may follow it, and from the reader. False: the input ends first.
 fn fill_from<R: Read>(
@@ -50,19 +42,19 @@ pub(crate) fn read_body<R: Read>(
     failure: &mut Failure,
     front: &[u8],
     bytes: usize,
-) -> Result<Option<Vec<u8>>, BodyFault>
+) -> Result<Option<Vec<u8>>, Unread>
     ensures length { IfOk result (λ body. IfSome body (λ whole. vec_len whole ≡ bytes)) }
     ensures body { IfOk result (λ body. IfSome (R.remaining reader.old) (λ after. BodyOf (front.now ++ after) bytes body)) }
     ensures taken { TakesAtMost (bytes - length front.now) (R.remaining reader.old) (R.remaining reader.new) }
-    ensures memory { result ≡ Err BodyFault.Memory → reader.new ≡ reader.old }
-    ensures lost { result ≡ Err BodyFault.Input → IsTrue failure.new.noted }
+    ensures memory { result ≡ Err Unread.Memory → reader.new ≡ reader.old }
+    ensures lost { result ≡ Err Unread.Input → IsTrue failure.new.noted }
 {
     let Ok(mut body) = vec![in alloc; 0u8; bytes] else {
-        return Err(BodyFault::Memory);
+        return Err(Unread::Memory);
     };
     match fill_from(reader, failure, body.as_mut_slice(), front) {
         Ok(true) => Ok(Some(body)),
         Ok(false) => Ok(None),
-        Err(_) => Err(BodyFault::Input),
+        Err(_) => Err(Unread::Input),
     }
 }

@@ -1,15 +1,15 @@
 //! A body that is a list of texts.
 
-ghost use Rattle.std.specs.Prelude.{◌≡◌, ◌≢◌, ◌≤◌, ◌<◌, ◌↔◌, List, [], ◌∷◌, ℕ, length, map, Some, false};
-ghost use Rattle.std.specs.Prelude.{IfOk, IfErr, IsTrue, OnErr, OnOk, MatchBool, MatchOption};
+ghost use Rattle.std.specs.Prelude.{◌≡◌, ◌≢◌, ◌≤◌, ◌<◌, ◌↔◌, List, [], ◌∷◌, ℕ, length, map, Some, None, Err, false};
+ghost use Rattle.std.specs.Prelude.{IfOk, IfSome, IsTrue, OnErr, MatchBool, MatchOption};
 ghost use Rattle.json.specs.Scratch.{room};
 ghost use Rattle.json.specs.Token.{Token as JsonToken};
 ghost use Rattle.serde_json.specs.Data.{array};
 ghost use Rattle.serde_json.specs.View.{items_view};
 ghost use Rattle.dh_requests.specs.Texts.{AreTexts, list_of};
 ghost use Rattle.serde_json.specs.Read.{read};
-ghost use Rattle.dh_requests.specs.declared.body_texts.NoTexts.TheVariants.{NotTexts, Memory};
 
+use crate::unread::Unread;
 use json::{Reader, Scratch, Token};
 use serde_json::Value;
 use std::alloc::{AllocError, Global};
@@ -34,15 +34,6 @@ pub(crate) fn texts_of<'a>(
         }
     }
     Ok(Some(texts))
-}
-
-/// Why a body gives no list.
-#[derive(Clone, Copy, Debug, PartialEq, Eq)]
-pub(crate) enum NoTexts {
-    /// The body is no JSON list.
-    NotTexts,
-    /// Memory ran out.
-    Memory,
 }
 
 // Takes the bracket that opens a list, if it is next, and else whatever is.
@@ -88,33 +79,34 @@ fn is_list(text: &str, scratch: &mut Scratch) -> bool
     is_at_end(&mut reader)
 }
 
-/// The values of the list that the body is. Want of memory is told of a list of texts alone.
+/// The values of the list that the body is; `None` where it is no list of texts. Want of memory is told of a list of texts alone.
 pub(crate) fn list_in(
     alloc: Global,
     scratch: &mut Scratch,
     body: &[u8],
-) -> Result<Vec<Value>, NoTexts>
+) -> Result<Option<Vec<Value>>, Unread>
     requires { length body.now ≤ room scratch.old }
-    ensures ok { IfOk result (λ v. (texts : List (List ℕ)) → array (items_view v.items) ≡ list_of texts → AreTexts body.now texts) }
-    ensures only { IfOk result (λ v. (texts : List (List ℕ)) → AreTexts body.now texts → array (items_view v.items) ≡ list_of texts) }
-    ensures texts { OnOk result ((texts : List (List ℕ)) × AreTexts body.now texts) }
-    ensures err { IfErr result (λ e. e ≡ NotTexts → (texts : List (List ℕ)) → ¬ AreTexts body.now texts) }
-    ensures memory { IfErr result (λ e. e ≡ Memory → (texts : List (List ℕ)) × AreTexts body.now texts) }
+    ensures ok { IfOk result (λ found. IfSome found (λ v. (texts : List (List ℕ)) → array (items_view v.items) ≡ list_of texts → AreTexts body.now texts)) }
+    ensures only { IfOk result (λ found. IfSome found (λ v. (texts : List (List ℕ)) → AreTexts body.now texts → array (items_view v.items) ≡ list_of texts)) }
+    ensures texts { IfOk result (λ found. IfSome found (λ _. (texts : List (List ℕ)) × AreTexts body.now texts)) }
+    ensures none { IfOk result (λ found. found ≡ None → (texts : List (List ℕ)) → ¬ AreTexts body.now texts) }
+    ensures memory { result ≡ Err Unread.Memory → (texts : List (List ℕ)) × AreTexts body.now texts }
+    ensures lost { result ≢ Err Unread.Input }
 {
     let Ok(text) = str::from_utf8(body) else {
-        return Err(NoTexts::NotTexts);
+        return Ok(None);
     };
     if !is_list(text, scratch) {
-        return Err(NoTexts::NotTexts);
+        return Ok(None);
     }
     match Value::from_str(alloc, text) {
-        Ok(Value::Array(items)) => Ok(items),
+        Ok(Value::Array(items)) => Ok(Some(items)),
         Ok(_) => unreachable!(),
         Err(error) => {
             if !error.is_memory() {
                 unreachable!();
             }
-            Err(NoTexts::Memory)
+            Err(Unread::Memory)
         }
     }
 }

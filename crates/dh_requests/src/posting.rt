@@ -8,8 +8,8 @@ ghost use Rattle.dh_requests.specs.Requests.{IsBodyOf, IsPosted, is_question, po
 ghost use Rattle.dh_requests.specs.Steps.{Behind, IsListed, IsTextsOf, TakesLength};
 
 use crate::asked::{Asked, Turned};
-use crate::body::{BodyFault, read_body};
-use crate::body_texts::{NoTexts, list_in, texts_of};
+use crate::body::read_body;
+use crate::body_texts::{list_in, texts_of};
 use crate::failure::Failure;
 use crate::header_lines::BodyLength;
 use crate::unread::Unread;
@@ -58,10 +58,9 @@ fn judge_body(alloc: Global, scratch: &mut Scratch, body: &[u8]) -> Result<Asked
     ensures memory { result ≡ Err Unread.Memory → (texts : List (List ℕ)) × AreTexts body.now texts }
     ensures lost { result ≢ Err Unread.Input }
 {
-    match list_in(alloc, scratch, body) {
-        Ok(items) => judge_list(alloc, &items),
-        Err(NoTexts::NotTexts) => Ok(Asked::Turned(Turned::BadRequest)),
-        Err(NoTexts::Memory) => Err(Unread::Memory),
+    match list_in(alloc, scratch, body)? {
+        Some(items) => judge_list(alloc, &items),
+        None => Ok(Asked::Turned(Turned::BadRequest)),
     }
 }
 
@@ -81,11 +80,9 @@ fn read_posted<R: Read>(
 {
     let mut scratch = Scratch::new(alloc);
     scratch.reserve(bytes as usize)?;
-    match read_body(alloc, reader, failure, front, bytes as usize) {
-        Ok(Some(body)) => judge_body(alloc, &mut scratch, &body),
-        Ok(None) => Ok(Asked::Turned(Turned::BadRequest)),
-        Err(BodyFault::Memory) => Err(Unread::Memory),
-        Err(BodyFault::Input) => Err(Unread::Input),
+    match read_body(alloc, reader, failure, front, bytes as usize)? {
+        Some(body) => judge_body(alloc, &mut scratch, &body),
+        None => Ok(Asked::Turned(Turned::BadRequest)),
     }
 }
 

@@ -34,10 +34,7 @@ pub(crate) fn read_noting<R: Read>(
                 headers: &headers,
                 spans: head.spans,
             };
-            match judge(alloc, reader, failure, &found) {
-                Ok(asked) => Ok(Some(asked)),
-                Err(unread) => Err(unread),
-            }
+            Ok(Some(judge(alloc, reader, failure, &found)?))
         }
         Ok(HeadRead::Bad) => Ok(Some(Asked::Turned(Turned::BadRequest))),
         Ok(HeadRead::Large) => Ok(Some(Asked::Turned(Turned::HeadTooLarge))),

@@ -1,6 +1,6 @@
 //! The subcommands of `letting` and their options, as `clap` is told them.
 
-ghost use Rattle.std.specs.Prelude.{◌≡◌, [], IfOk};
+ghost use Rattle.std.specs.Prelude.{◌≡◌, [], IfOk, codes};
 ghost use Rattle.clap.specs.Words.{app_of};
 ghost use Rattle.dh_words.specs.Table as table;
 ghost use Rattle.dh_words.specs.Table.{Adds, IsArgument, IsSubcommand};
@@ -115,6 +115,18 @@ fn required<'a>(alloc: Global, name: &'a str, value: &'a str, help: &'a str) -> 
     option(alloc, name, value, help).required(true)
 }
 
+// The option for the file of an agency that was made.
+fn agency_file<'a>(alloc: Global) -> Arg<'a>
+    ensures { IsArgument (table.required (table.option (codes "file"))) result }
+{
+    required(
+        alloc,
+        "file",
+        "FILE",
+        "The agency's file, as --file letting.db",
+    )
+}
+
 // A subcommand before it has its arguments.
 fn subcommand<'a>(alloc: Global, name: &'a str, about: &'a str, help: &'a str) -> Command<'a>
     ensures { IsSubcommand (table.subcommand name.entry.now []) result }
@@ -188,12 +200,7 @@ fn run<'a>(alloc: Global) -> Result<Command<'a>, AllocError>
         "Charges a month's rent and prints the reply",
         REPLIES,
     )
-    .arg(required(
-        alloc,
-        "file",
-        "FILE",
-        "The agency's file, as --file letting.db",
-    ))?
+    .arg(agency_file(alloc))?
     .arg(required(
         alloc,
         "key",
@@ -223,12 +230,7 @@ fn recover<'a>(alloc: Global) -> Result<Command<'a>, AllocError>
         "Brings the open rent run to its end and prints `recovered`",
         STATUSES,
     )
-    .arg(required(
-        alloc,
-        "file",
-        "FILE",
-        "The agency's file, as --file letting.db",
-    ))
+    .arg(agency_file(alloc))
 }
 
 fn migrate<'a>(alloc: Global) -> Result<Command<'a>, AllocError>
@@ -240,12 +242,7 @@ fn migrate<'a>(alloc: Global) -> Result<Command<'a>, AllocError>
         "Takes a file of the first version to the second and prints `migrated`; copy the file first, there is no way back",
         STATUSES,
     )
-    .arg(required(
-        alloc,
-        "file",
-        "FILE",
-        "The agency's file, as --file letting.db",
-    ))
+    .arg(agency_file(alloc))
 }
 
 fn report<'a>(alloc: Global) -> Result<Command<'a>, AllocError>
@@ -257,12 +254,7 @@ fn report<'a>(alloc: Global) -> Result<Command<'a>, AllocError>
         "Answers a question: prints the report, or the refusal",
         QUESTIONS,
     )
-    .arg(required(
-        alloc,
-        "file",
-        "FILE",
-        "The agency's file, as --file letting.db",
-    ))?
+    .arg(agency_file(alloc))?
     .arg(free_words(alloc))
 }
 
@@ -275,12 +267,7 @@ fn serve<'a>(alloc: Global) -> Result<Command<'a>, AllocError>
         "Answers HTTP requests on this machine, and prints the status of each answer",
         ANSWERS,
     )
-    .arg(required(
-        alloc,
-        "file",
-        "FILE",
-        "The agency's file, as --file letting.db",
-    ))?
+    .arg(agency_file(alloc))?
     .arg(required(
         alloc,
         "port",

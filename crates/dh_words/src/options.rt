@@ -1,6 +1,6 @@
 //! The options behind a subcommand.
 
-ghost use Rattle.std.specs.Prelude.{◌≡◌, None, Some, MatchResult};
+ghost use Rattle.std.specs.Prelude.{◌≡◌, ℕ, List, Option, None, Some, MatchResult};
 ghost use Rattle.clap.specs.Words.{found_of, rows_of};
 ghost use Rattle.dh_values.specs.Counts.{batch_count_of};
 ghost use Rattle.dh_days.specs.Months.{month_of};
@@ -8,7 +8,7 @@ ghost use Rattle.dh_words.specs.Options.{HasValues, IsReadBy, first_bad, key_of,
 
 use crate::ports::port_from_text;
 use clap::ArgMatches;
-use dh_types::{BatchCount, EntryMonth, Key};
+use dh_types::{BadText, BatchCount, EntryMonth, Key};
 
 /// An option whose text has to be a value.
 #[derive(Clone, Copy)]
@@ -49,54 +49,58 @@ pub(crate) struct Options<'a> {
     pub(crate) count: Option<BatchCount>,
 }
 
-// The month that the option gives, if it is given. The option itself where its text is none.
-fn read_month(values: &ArgMatches, option: Judged) -> Result<Option<EntryMonth>, Judged>
-    ensures { IsReadBy month_of option (rows_of (found_of values.now)) result }
-{
-    let Some(text) = values.get_str(option.name()) else {
-        return Ok(None);
-    };
-    match EntryMonth::read(text) {
-        Ok(month) => Ok(Some(month)),
-        Err(_) => Err(option),
+/// A value that an option may have.
+pub(crate) trait OptionValue: Copy {
+    /// The value of a text, if it has one.
+    ghost value_of: { List ℕ → Option Self };
+
+    /// The value that the text is. `BadText` where it is none.
+    fn of_text(text: &str) -> Result<Self, BadText>
+        ensures { MatchResult result (λ it. value_of text.now ≡ Some it) (λ _. value_of text.now ≡ None) };
+}
+
+impl OptionValue for EntryMonth {
+    ghost value_of = { month_of };
+
+    fn of_text(text: &str) -> Result<EntryMonth, BadText> {
+        EntryMonth::read(text)
     }
 }
 
-// The key that the option gives, if it is given. The option itself where its text is none.
-fn read_key(values: &ArgMatches, option: Judged) -> Result<Option<Key>, Judged>
-    ensures { IsReadBy key_of option (rows_of (found_of values.now)) result }
-{
-    let Some(text) = values.get_str(option.name()) else {
-        return Ok(None);
-    };
-    match Key::read(text) {
-        Ok(key) => Ok(Some(key)),
-        Err(_) => Err(option),
+impl OptionValue for Key {
+    ghost value_of = { key_of };
+
+    fn of_text(text: &str) -> Result<Key, BadText> {
+        Key::read(text)
     }
 }
 
-// The count that the option gives, if it is given. The option itself where its text is none.
-fn read_count(values: &ArgMatches, option: Judged) -> Result<Option<BatchCount>, Judged>
-    ensures { IsReadBy batch_count_of option (rows_of (found_of values.now)) result }
-{
-    let Some(text) = values.get_str(option.name()) else {
-        return Ok(None);
-    };
-    match BatchCount::read(text) {
-        Ok(count) => Ok(Some(count)),
-        Err(_) => Err(option),
+impl OptionValue for BatchCount {
+    ghost value_of = { batch_count_of };
+
+    fn of_text(text: &str) -> Result<BatchCount, BadText> {
+        BatchCount::read(text)
     }
 }
 
-// The port that the option gives, if it is given. The option itself where its text is none.
-fn read_port(values: &ArgMatches, option: Judged) -> Result<Option<u16>, Judged>
-    ensures { IsReadBy port_of option (rows_of (found_of values.now)) result }
+/// A port.
+impl OptionValue for u16 {
+    ghost value_of = { port_of };
+
+    fn of_text(text: &str) -> Result<u16, BadText> {
+        port_from_text(text)
+    }
+}
+
+// The value that the option gives, if it is given. The option itself where its text is none.
+fn read_value<T: OptionValue>(values: &ArgMatches, option: Judged) -> Result<Option<T>, Judged>
+    ensures { IsReadBy T.value_of option (rows_of (found_of values.now)) result }
 {
     let Some(text) = values.get_str(option.name()) else {
         return Ok(None);
     };
-    match port_from_text(text) {
-        Ok(port) => Ok(Some(port)),
+    match T::of_text(text) {
+        Ok(value) => Ok(Some(value)),
         Err(_) => Err(option),
     }
 }
@@ -108,11 +112,11 @@ pub(crate) fn read_options<'a>(values: &ArgMatches<'a>) -> Result<Options<'a>, J
 {
     Ok(Options {
         file: values.get_str("file"),
-        first: read_month(values, Judged::First)?,
-        key: read_key(values, Judged::Key)?,
-        month: read_month(values, Judged::Month)?,
-        batches: read_count(values, Judged::Batches)?,
-        port: read_port(values, Judged::Port)?,
-        count: read_count(values, Judged::Count)?,
+        first: read_value(values, Judged::First)?,
+        key: read_value(values, Judged::Key)?,
+        month: read_value(values, Judged::Month)?,
+        batches: read_value(values, Judged::Batches)?,
+        port: read_value(values, Judged::Port)?,
+        count: read_value(values, Judged::Count)?,
     })
 }
