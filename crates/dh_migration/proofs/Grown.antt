@@ -26,13 +26,13 @@ use Rattle.dh_sql.proofs.Lists.{all_at}
 use Rattle.dh_sql.proofs.Staying.{same_tree}
 use Rattle.dh_tables.specs.Calls.{CommitsNothing, IsUndone, StaysInTransaction}
 use Rattle.dh_tables.specs.MetaTable.{AreMonths, HasItsRow, SetsMonths, SetsVersion, meta_columns, meta_rows}
-use Rattle.dh_schema.specs.Kinds.{shape_of}
+use Rattle.dh_schema.specs.Kinds.{place_of, shape_of, table_of}
 use Rattle.dh_schema.specs.Store.{HasItsSchema, IsWriting, tables}
 use Rattle.dh_schema.specs.Tables.{AreInOrder, IsTableInOrder, books_in, months_of, records_in, rows_since, version_of_tables}
 use Rattle.dh_schema.proofs.Changing.{told}
 use Rattle.dh_schema.proofs.Crashing.{survives_both}
 use Rattle.dh_schema.proofs.Installing.{empty_apart, empty_kept, no_records, none_since}
-use Rattle.dh_schema.proofs.EachKind.{beside_meta, listed, place_of, table_of, tree_is}
+use Rattle.dh_schema.proofs.EachKind.{beside_meta, listed, tree_is}
 use Rattle.dh_store.specs.Putting.{TurnsBooks}
 use Rattle.dh_store.proofs.Putting.{keeps_both, keeps_commit}
 use Rattle.dh_migration.specs.Migrated.{as_second, migrated, no_fee, with_no_fees}

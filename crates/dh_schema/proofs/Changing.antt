@@ -28,13 +28,13 @@ use Rattle.dh_sql.specs.Shape.{rows_in}
 use Rattle.dh_sql.proofs.Staying.{same_beside}
 use Rattle.dh_tables.specs.MetaTable.{AreMonths, HasMonths, SetsMonths, SetsNext, meta_columns, meta_rows}
 use Rattle.dh_model.specs.Kinds.{HasKind, Kind, came_with, order_of, record_of}
-use Rattle.dh_schema.specs.Kinds.{shape_of, shelf_of}
+use Rattle.dh_schema.specs.Kinds.{place_of, shape_of, shelf_of, table_of}
 use Rattle.dh_model.specs.Kinds.{Branches, Staff, Owners, Properties, Clients, Registrations, Viewings, Inspections, Leases, Charges, Receipts, Runs}
 use Rattle.dh_model.specs.Kinds.{Parts, BranchFees, PartFees, Endings}
 use Rattle.dh_schema.specs.Store.{AreTables, HasItsSchema, with_change}
 use Rattle.dh_schema.specs.Tables.{AreInOrder, IsTableInOrder, books_in, loaded_from, months_of, records_in, rows_since, version_of_tables}
-use Rattle.dh_schema.proofs.EachKind.{all_since, beside_meta, held_beside, held_in, listed, meta_listed, months_beside, one_kind, place_of}
-use Rattle.dh_schema.proofs.EachKind.{same_books, same_since, table_of, tree_is}
+use Rattle.dh_schema.proofs.EachKind.{all_since, beside_meta, held_beside, held_in, listed, meta_listed, months_beside, one_kind}
+use Rattle.dh_schema.proofs.EachKind.{same_books, same_since, tree_is}
 use Rattle.dh_schema.proofs.Keyed.{books_are_keyed}
 
 -- ---- the version and the months that meta gives

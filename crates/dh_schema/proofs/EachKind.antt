@@ -2,7 +2,6 @@
 use Rattle.std.proofs.Common.{◌≡◌, refl, ℕ, nat_eq, true, false, Some, slice_get}
 use Rattle.std.specs.declared.cmp.Ordering.{Ordering}
 use Rattle.std.specs.FinMap.{FinMap, empty}
-use Rattle.sqlite_schema.specs.declared.schema.Table.{Table}
 use Rattle.sqlite_trees.specs.Tree.{Trees}
 use Rattle.dh_model.specs.Books.{State}
 use Rattle.dh_rows.specs.Months.{Months}
@@ -10,24 +9,8 @@ use Rattle.dh_types.specs.declared.version.Version.{Version}
 use Rattle.dh_types.specs.declared.version.Version.TheVariants.{First, Second}
 use Rattle.dh_catalog.specs.Versions.{schema_of}
 use Rattle.dh_catalog.specs.MetaTable.{meta}
-use Rattle.dh_catalog.specs.BranchTable.{branch}
-use Rattle.dh_catalog.specs.StaffTable.{staff}
-use Rattle.dh_catalog.specs.OwnerTable.{owner}
-use Rattle.dh_catalog.specs.PropertyTable.{property}
-use Rattle.dh_catalog.specs.ClientTable.{client}
-use Rattle.dh_catalog.specs.RegistrationTable.{registration}
-use Rattle.dh_catalog.specs.ViewingTable.{viewing}
-use Rattle.dh_catalog.specs.InspectionTable.{inspection}
-use Rattle.dh_catalog.specs.LeaseTable.{lease}
-use Rattle.dh_catalog.specs.ChargeTable.{charge}
-use Rattle.dh_catalog.specs.ReceiptTable.{receipt}
-use Rattle.dh_catalog.specs.RunTable.{run}
-use Rattle.dh_catalog.specs.PartTable.{part}
-use Rattle.dh_catalog.specs.BranchFeeTable.{branch_fee}
-use Rattle.dh_catalog.specs.PartFeeTable.{part_fee}
-use Rattle.dh_catalog.specs.EndingTable.{ending}
 use Rattle.dh_model.specs.Kinds.{HasKind, IsSince, Kind, order_of, record_of}
-use Rattle.dh_schema.specs.Kinds.{shape_of, shelf_of}
+use Rattle.dh_schema.specs.Kinds.{place_of, shape_of, shelf_of, table_of}
 use Rattle.dh_model.specs.Kinds.{Branches, Staff, Owners, Properties, Clients, Registrations, Viewings, Inspections, Leases, Charges, Receipts, Runs}
 use Rattle.dh_model.specs.Kinds.{Parts, BranchFees, PartFees, Endings}
 use Rattle.dh_schema.specs.Tables.{empty_over, loaded_from, records_in, rows_since}
@@ -37,42 +20,6 @@ use Rattle.dh_schema.specs.Tables.{empty_over, loaded_from, records_in, rows_sin
 pub meta_listed : (version : Version) → slice_get (schema_of version).tables 0 ≡ Some meta
 meta_listed First = refl
 meta_listed Second = refl
-
-abbrev pub place_of : Kind → ℕ
-place_of Branches = 1
-place_of Staff = 2
-place_of Owners = 3
-place_of Properties = 4
-place_of Clients = 5
-place_of Registrations = 6
-place_of Viewings = 7
-place_of Inspections = 8
-place_of Leases = 9
-place_of Charges = 10
-place_of Receipts = 11
-place_of Runs = 12
-place_of Parts = 13
-place_of BranchFees = 14
-place_of PartFees = 15
-place_of Endings = 16
-
-abbrev pub table_of : Kind → Table
-table_of Branches = branch
-table_of Staff = staff
-table_of Owners = owner
-table_of Properties = property
-table_of Clients = client
-table_of Registrations = registration
-table_of Viewings = viewing
-table_of Inspections = inspection
-table_of Leases = lease
-table_of Charges = charge
-table_of Receipts = receipt
-table_of Runs = run
-table_of Parts = part
-table_of BranchFees = branch_fee
-table_of PartFees = part_fee
-table_of Endings = ending
 
 -- each table that the version has stands at its place
 pub listed : (version : Version) (kind : Kind) → HasKind version kind → slice_get (schema_of version).tables (place_of kind) ≡ Some (table_of kind)

@@ -26,11 +26,11 @@ use Rattle.dh_sql.specs.Shape.{AreApart, IsKept, Shape, entry_in, rows_in}
 use Rattle.dh_sql.proofs.Lists.{all_at}
 use Rattle.dh_tables.specs.MetaTable.{SetsMonths}
 use Rattle.dh_model.specs.Kinds.{HasKind, Kind, came_with, order_of}
-use Rattle.dh_schema.specs.Kinds.{shape_of}
+use Rattle.dh_schema.specs.Kinds.{place_of, shape_of, table_of}
 use Rattle.dh_schema.specs.Tables.{AreInOrder, empty_over, loaded_from, records_in, rows_since, state_in, version_of_tables}
 use Rattle.dh_schema.specs.Store.{AreTables, HasItsSchema, IsReady, tables}
 use Rattle.dh_schema.proofs.Changing.{showing, told}
-use Rattle.dh_schema.proofs.EachKind.{beside_meta, held_in, listed, none_held, place_of, same_books, same_since, table_of, tree_is}
+use Rattle.dh_schema.proofs.EachKind.{beside_meta, held_in, listed, none_held, same_books, same_since, tree_is}
 
 -- ---- a table without a row
 

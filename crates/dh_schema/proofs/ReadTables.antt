@@ -1,5 +1,6 @@
 -- Calls that only read, one after the other, and the books that they make.
-use Rattle.std.proofs.Common.{◌≡◌, ◌⊎◌, ◌∙◌, ◌++◌, inl, inr, refl, sym, ap, subst, arith, List, [], ◌∷◌, ℤ, pos, Some, Result, Ok, Err, OnOk, OnErr}
+use Rattle.std.proofs.Common.{◌≡◌, ◌⊎◌, ◌∙◌, ◌++◌, inl, inr, refl, sym, ap, subst, arith, List, [], ◌∷◌, ℕ, ℤ, pos, Bool, true, false, cond, nat_eq, ◌&&◌, Some, Result, Ok, Err, OnOk, OnErr}
+use Rattle.std.proofs.lemmas.Bool.{and_parts}
 use Rattle.std.specs.List.{AllByRecursion}
 use Rattle.sqlite_schema.specs.declared.schema.Schema.{Schema}
 use Rattle.sqlite_trees.specs.Tree.{Trees}
@@ -18,15 +19,16 @@ use Rattle.dh_tables.specs.Calls.{HasOurTables, IsUndone}
 use Rattle.dh_tables.specs.Listing.{IsLoaded}
 use Rattle.dh_tables.specs.MetaTable.{HasMonths, meta_rows}
 use Rattle.dh_schema.specs.declared.load_fault.LoadFault.{LoadFault}
-use Rattle.dh_model.specs.Kinds.{HasKind, Kind, order_of}
+use Rattle.dh_model.specs.Kinds.{HasKind, IsSince, Kind, came_with, order_of}
 use Rattle.dh_schema.specs.Kinds.{shape_of, shelf_of}
-use Rattle.dh_model.specs.Kinds.{Branches, Staff, Owners, Properties, Clients, Registrations, Viewings, Inspections, Leases, Charges, Receipts, Runs}
-use Rattle.dh_model.specs.Kinds.{Parts, BranchFees, PartFees, Endings}
+use Rattle.dh_model.specs.Kinds.{Branches}
+use Rattle.dh_model.specs.Kinds.{BranchFees, PartFees, Endings}
 use Rattle.dh_schema.specs.Loaded.{AllAreRecords, AreLoaded, HasNone, Loads, Reads, first_kinds, kinds_of, with_records}
 use Rattle.dh_schema.specs.Store.{Keeps}
 use Rattle.dh_schema.specs.Tables.{AreInOrder, AreRecords, HasValues, IsTableInOrder, empty_over, loaded_from, rows_since, version_of_tables}
 use Rattle.dh_schema.specs.Version.{only_version}
 use Rattle.dh_schema.proofs.Changing.{told}
+use Rattle.dh_schema.proofs.EachKind.{one_kind}
 use Rattle.dh_schema.proofs.Crashing.{survives_both}
 
 -- ---- what they leave
@@ -80,108 +82,64 @@ pub all_of : (P : Kind → Type 0) → ((kind : Kind) → P kind) → (kinds : L
 all_of P each [] = tt
 all_of P each (kind ∷ kinds) = (each kind, all_of P each kinds)
 
--- what holds of each kind that the version has holds of all that are read
+-- ---- of each kind, and of each that is read
+
+is_since : Version → Version → Bool
+is_since First version = true
+is_since Second First = false
+is_since Second Second = true
+
+since : (came version : Version) → is_since came version ≡ true → IsSince came version
+unfolding is_since
+since First version is = tt
+since Second First is = cc
+since Second Second is = refl
+
+all_since : Version → List Kind → Bool
+all_since version [] = true
+all_since version (kind ∷ kinds) = is_since (came_with kind) version && all_since version kinds
+
+all_since_it : (P : Kind → Type 0) (version : Version) (kinds : List Kind) → all_since version kinds ≡ true → ((kind : Kind) → HasKind version kind → P kind)
+    → AllByRecursion P kinds
+unfolding all_since
+all_since_it P version [] are each = tt
+all_since_it P version (kind ∷ kinds) are each =
+    let both = and_parts (is_since (came_with kind) version) (all_since version kinds) are in
+    (each kind (since (came_with kind) version both.0), all_since_it P version kinds both.1 each)
+
+-- what holds of each kind that the version has holds of those that are read
 pub of_each : (P : Kind → Type 0) (version : Version) → ((kind : Kind) → HasKind version kind → P kind) → AllByRecursion P (kinds_of version)
-of_each P First each = (
-  each Branches tt,
-  (
-    each Staff tt,
-    (
-      each Owners tt,
-      (
-        each Clients tt,
-        (
-          each Properties tt,
-          (
-            each Registrations tt,
-            (
-              each Viewings tt,
-              (each Inspections tt, (each Leases tt, (each Charges tt, (each Receipts tt, (each Runs tt, (each Parts tt, tt)))))),
-            ),
-          ),
-        ),
-      ),
-    ),
-  ),
-)
-of_each P Second each = (
-  each Branches tt,
-  (
-    each Staff tt,
-    (
-      each Owners tt,
-      (
-        each Clients tt,
-        (
-          each Properties tt,
-          (
-            each Registrations tt,
-            (
-              each Viewings tt,
-              (
-                each Inspections tt,
-                (
-                  each Leases tt,
-                  (
-                    each Charges tt,
-                    (
-                      each Receipts tt,
-                      (
-                        each Runs tt,
-                        (
-                          each Parts tt,
-                          (
-                            each BranchFees refl,
-                            (each PartFees refl, (each Endings refl, tt)),
-                          ),
-                        ),
-                      ),
-                    ),
-                  ),
-                ),
-              ),
-            ),
-          ),
-        ),
-      ),
-    ),
-  ),
-)
+unfolding all_since is_since
+of_each P First each = all_since_it P First (kinds_of First) refl each
+of_each P Second each = all_since_it P Second (kinds_of Second) refl each
+
+has_tree : ℕ → List Kind → Bool
+has_tree tree [] = false
+has_tree tree (kind ∷ kinds) = cond (nat_eq (shape_of kind).tree tree) true (has_tree tree kinds)
+
+found : (P : Kind → Type 0) (kinds : List Kind) → AllByRecursion P kinds → (kind : Kind) → has_tree (shape_of kind).tree kinds ≡ true → P kind
+unfolding has_tree
+found P [] all kind is = cc
+found P (other ∷ kinds) all kind is = by (nat_eq (shape_of other).tree (shape_of kind).tree) refl is (found P kinds all.1 kind)
+  where
+    by : (b : Bool) → nat_eq (shape_of other).tree (shape_of kind).tree ≡ b → cond b true (has_tree (shape_of kind).tree kinds) ≡ true
+        → (has_tree (shape_of kind).tree kinds ≡ true → P kind)
+        → P kind
+    by true same is later = subst P (one_kind other kind same) all.0
+    by false apart is later = later is
+
+is_read : (version : Version) (kind : Kind) → HasKind version kind → has_tree (shape_of kind).tree (kinds_of version) ≡ true
+unfolding has_tree
+is_read First BranchFees has = let none : First ≡ Second = has in cc
+is_read First PartFees has = let none : First ≡ Second = has in cc
+is_read First Endings has = let none : First ≡ Second = has in cc
+is_read First kind has = refl
+is_read Second Branches has = refl
+is_read Second kind has = refl
 
 -- and the other way round
 pub each_of : (P : Kind → Type 0) (version : Version) → AllByRecursion P (kinds_of version) → (kind : Kind) → HasKind version kind → P kind
-each_of P First all BranchFees has = let none : First ≡ Second = has in cc
-each_of P First all PartFees has = let none : First ≡ Second = has in cc
-each_of P First all Endings has = let none : First ≡ Second = has in cc
-each_of P First all Branches has = all.0
-each_of P First all Staff has = all.1.0
-each_of P First all Owners has = all.1.1.0
-each_of P First all Clients has = all.1.1.1.0
-each_of P First all Properties has = all.1.1.1.1.0
-each_of P First all Registrations has = all.1.1.1.1.1.0
-each_of P First all Viewings has = all.1.1.1.1.1.1.0
-each_of P First all Inspections has = all.1.1.1.1.1.1.1.0
-each_of P First all Leases has = all.1.1.1.1.1.1.1.1.0
-each_of P First all Charges has = all.1.1.1.1.1.1.1.1.1.0
-each_of P First all Receipts has = all.1.1.1.1.1.1.1.1.1.1.0
-each_of P First all Runs has = all.1.1.1.1.1.1.1.1.1.1.1.0
-each_of P First all Parts has = all.1.1.1.1.1.1.1.1.1.1.1.1.0
-each_of P Second all Branches has = all.0
-each_of P Second all Staff has = all.1.0
-each_of P Second all Owners has = all.1.1.0
-each_of P Second all Clients has = all.1.1.1.0
-each_of P Second all Properties has = all.1.1.1.1.0
-each_of P Second all Registrations has = all.1.1.1.1.1.0
-each_of P Second all Viewings has = all.1.1.1.1.1.1.0
-each_of P Second all Inspections has = all.1.1.1.1.1.1.1.0
-each_of P Second all Leases has = all.1.1.1.1.1.1.1.1.0
-each_of P Second all Charges has = all.1.1.1.1.1.1.1.1.1.0
-each_of P Second all Receipts has = all.1.1.1.1.1.1.1.1.1.1.0
-each_of P Second all Runs has = all.1.1.1.1.1.1.1.1.1.1.1.0
-each_of P Second all Parts has = all.1.1.1.1.1.1.1.1.1.1.1.1.0
-each_of P Second all BranchFees has = all.1.1.1.1.1.1.1.1.1.1.1.1.1.0
-each_of P Second all PartFees has = all.1.1.1.1.1.1.1.1.1.1.1.1.1.1.0
-each_of P Second all Endings has = all.1.1.1.1.1.1.1.1.1.1.1.1.1.1.1.0
+each_of P version all kind has = found P (kinds_of version) all kind (is_read version kind has)
 
 -- ---- one table after the other
 

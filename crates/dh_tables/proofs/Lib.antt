@@ -9,3 +9,4 @@ pub mod MetaChanges
 pub mod MetaUpdates
 pub mod AmendedRecord
 pub mod ByKey
+pub mod OfKind

@@ -1,5 +1,5 @@
 -- The table branch_fee, which came with the second version.
-use Rattle.std.specs.Prelude.{refl, ℕ, List, [], ◌∷◌, codes, true}
+use Rattle.std.specs.Prelude.{refl, ℕ, List, [], ◌∷◌, codes, true, length, ◌+◌}
 use Rattle.sqlite_value.specs.declared.value.Value.TheVariants.{Null, Text}
 use Rattle.sqlite_value.specs.declared.keys.Collation.TheVariants.{Binary}
 use Rattle.sqlite_value.specs.Order.{Row, column}
@@ -11,7 +11,6 @@ use Rattle.sqlite.specs.Listing.{understood}
 use Rattle.dh_values.specs.Texts.{is_id}
 use Rattle.dh_values.specs.declared.limits.TheConstants.{MOST_FEE}
 use Rattle.dh_types.specs.declared.fee.BranchFee.{BranchFee}
-use Rattle.dh_model.specs.Books.{text_cmp}
 use Rattle.dh_model.specs.Checks.{is_same_text}
 use Rattle.dh_rows.specs.BranchFeeRows.{branch_fee_in, branch_fee_row, is_branch_fee_row}
 use Rattle.sqlite_schema.specs.declared.schema.Schema.{Schema}
@@ -24,9 +23,10 @@ use Rattle.dh_sql.specs.Texts.{IsInsertText, IsSelectText}
 use Rattle.dh_sql.proofs.Casting.{cast_null, pass_each, row_stays}
 use Rattle.dh_tables.specs.declared.branch_fee.FeeOfBranch.{FeeOfBranch}
 use Rattle.dh_tables.specs.Cells.{is_text as text_is, number_from, pass_one, same_text, text_that}
+use Rattle.dh_tables.specs.Commands.{insert_text, select_text, select_where, terms_from}
 use Rattle.dh_tables.specs.Listing.{IsListing, Listing}
 use Rattle.dh_tables.specs.Questions.{Asking, IsAsking}
-use Rattle.dh_tables.specs.Tables.{Adding, IsAdding, Shelf, without_rowid}
+use Rattle.dh_tables.specs.Tables.{Adding, IsAdding, without_rowid}
 
 abbrev pub branch_fee_columns : Row → Row
 branch_fee_columns row = column row 1 ∷ column row 2 ∷ []
@@ -37,29 +37,24 @@ branch_fee_cells = text_that is_id ∷ number_from 0 MOST_FEE ∷ []
 abbrev pub branch_fee_shape : Shape (List ℕ) BranchFee
 branch_fee_shape = record { tree = 26; columns = branch_fee_columns; is_row = is_branch_fee_row; row_in = branch_fee_in; key = λ it. it.branch }
 
-abbrev pub branch_fee_shelf : Shelf (List ℕ) BranchFee text_cmp
-branch_fee_shelf = record {
-  held = λ s. s.books.branch_fees;
-  with = λ s m. record s { books = record s.books { branch_fees = m } };
-  held_with = λ s m. refl;
-  with_with = λ s m n. refl;
-  with_held = λ s. refl;
-}
+-- the columns
+abbrev pub branch_fee_names : List (List ℕ)
+branch_fee_names = codes "branch_no" ∷ codes "fee" ∷ []
 
 -- ---- adding a row
 
 abbrev pub branch_fee_adding : Adding BranchFee
 branch_fee_adding = record {
-  text = codes "INSERT INTO branch_fee (branch_no, fee) VALUES (?1, ?2)";
+  text = insert_text (codes "branch_fee") branch_fee_names;
   place = 14;
   table = branch_fee;
-  terms = lit Null ∷ col 0 0 ∷ col 0 1 ∷ [];
-  width = 3;
+  terms = lit Null ∷ terms_from 0 0 branch_fee_names;
+  width = length branch_fee_names + 1;
   source = without_rowid branch_fee_row;
 }
 
 inserts : (s : Schema) → HasSince Second s → (x : BranchFee)
-    → IsInsertText branch_fee_adding.text s 14 branch_fee branch_fee_adding.terms 3 (branch_fee_row x) (branch_fee_adding.source x)
+    → IsInsertText branch_fee_adding.text s 14 branch_fee branch_fee_adding.terms branch_fee_adding.width (branch_fee_row x) (branch_fee_adding.source x)
 unfolding understood everything
 inserts = of_second (λ s. (x : BranchFee) → IsInsertText branch_fee_adding.text s 14 branch_fee branch_fee_adding.terms 3
     (branch_fee_row x) (branch_fee_adding.source x))
@@ -78,19 +73,16 @@ branch_fee_is_adding = record {
 -- ---- what the texts show
 
 abbrev branch_fee_project : List Term
-branch_fee_project = col 1 1 ∷ col 1 2 ∷ []
-
-abbrev branch_fee_names : List (List ℕ)
-branch_fee_names = codes "branch_no" ∷ codes "fee" ∷ []
+branch_fee_project = terms_from 1 1 branch_fee_names
 
 -- ---- the whole table
 
 abbrev pub branch_fee_listing : Listing
 branch_fee_listing = record {
-  text = codes "SELECT branch_no, fee FROM branch_fee";
+  text = select_text (codes "branch_fee") branch_fee_names;
   project = branch_fee_project;
   names = branch_fee_names;
-  rowid_text = codes "SELECT rowid FROM branch_fee";
+  rowid_text = select_text (codes "branch_fee") (codes "rowid" ∷ []);
   rowid_name = codes "rowid";
 }
 
@@ -108,7 +100,7 @@ branch_fee_is_listing = record {
 
 abbrev pub fee_of_branch : Asking
 fee_of_branch = record {
-  text = codes "SELECT branch_no, fee FROM branch_fee WHERE branch_no = ?1";
+  text = select_where (codes "branch_fee") branch_fee_names (codes "branch_no" ∷ []);
   tests = op2 (Compare Eq Binary) (col 1 1) (col 0 0) ∷ [];
   project = branch_fee_project;
   names = branch_fee_names;

@@ -1,5 +1,5 @@
 -- The table branch.
-use Rattle.std.specs.Prelude.{refl, ℕ, List, [], ◌∷◌, codes, true}
+use Rattle.std.specs.Prelude.{refl, ℕ, List, [], ◌∷◌, codes, true, length, ◌+◌}
 use Rattle.sqlite_value.specs.declared.value.Value.TheVariants.{Null, Text}
 use Rattle.sqlite_value.specs.declared.keys.Collation.TheVariants.{Binary}
 use Rattle.sqlite_value.specs.Order.{Row, column}
@@ -10,7 +10,6 @@ use Rattle.sqlite_tied.specs.Compute.{everything}
 use Rattle.sqlite.specs.Listing.{understood}
 use Rattle.dh_values.specs.Texts.{is_id, is_text}
 use Rattle.dh_types.specs.declared.branch.Branch.{Branch}
-use Rattle.dh_model.specs.Books.{text_cmp}
 use Rattle.dh_model.specs.Checks.{is_same_text}
 use Rattle.dh_rows.specs.BranchRows.{branch_in, branch_row, is_branch_row}
 use Rattle.sqlite_schema.specs.declared.schema.Schema.{Schema}
@@ -23,9 +22,10 @@ use Rattle.dh_sql.specs.Texts.{IsInsertText, IsSelectText}
 use Rattle.dh_sql.proofs.Casting.{cast_null, pass_each, row_stays}
 use Rattle.dh_tables.specs.declared.branch.BranchNumbered.{BranchNumbered}
 use Rattle.dh_tables.specs.Cells.{is_text as text_is, pass_one, same_text, text_that}
+use Rattle.dh_tables.specs.Commands.{insert_text, select_text, select_where, terms_from}
 use Rattle.dh_tables.specs.Listing.{IsListing, Listing}
 use Rattle.dh_tables.specs.Questions.{Asking, IsAsking}
-use Rattle.dh_tables.specs.Tables.{Adding, IsAdding, Shelf, without_rowid}
+use Rattle.dh_tables.specs.Tables.{Adding, IsAdding, without_rowid}
 
 abbrev pub branch_columns : Row → Row
 branch_columns row = column row 1 ∷ column row 2 ∷ column row 3 ∷ column row 4 ∷ []
@@ -36,31 +36,26 @@ branch_cells = text_that is_id ∷ text_that (is_text 60) ∷ text_that (is_text
 abbrev pub branch_shape : Shape (List ℕ) Branch
 branch_shape = record { tree = 1; columns = branch_columns; is_row = is_branch_row; row_in = branch_in; key = λ b. b.number }
 
-abbrev pub branch_shelf : Shelf (List ℕ) Branch text_cmp
-branch_shelf = record {
-  held = λ s. s.books.branches;
-  with = λ s m. record s { books = record s.books { branches = m } };
-  held_with = λ s m. refl;
-  with_with = λ s m n. refl;
-  with_held = λ s. refl;
-}
+-- the columns
+abbrev pub branch_names : List (List ℕ)
+branch_names = codes "branch_no" ∷ codes "street" ∷ codes "city" ∷ codes "postcode" ∷ []
 
 -- ---- adding a row
 
 abbrev pub branch_adding : Adding Branch
 branch_adding = record {
-  text = codes "INSERT INTO branch (branch_no, street, city, postcode) VALUES (?1, ?2, ?3, ?4)";
+  text = insert_text (codes "branch") branch_names;
   place = 1;
   table = branch;
-  terms = lit Null ∷ col 0 0 ∷ col 0 1 ∷ col 0 2 ∷ col 0 3 ∷ [];
-  width = 5;
+  terms = lit Null ∷ terms_from 0 0 branch_names;
+  width = length branch_names + 1;
   source = without_rowid branch_row;
 }
 
 inserts : (s : Schema) → HasSince First s → (x : Branch)
-    → IsInsertText branch_adding.text s 1 branch branch_adding.terms 5 (branch_row x) (branch_adding.source x)
+    → IsInsertText branch_adding.text s 1 branch branch_adding.terms branch_adding.width (branch_row x) (branch_adding.source x)
 unfolding understood everything
-inserts = of_both (λ s. (x : Branch) → IsInsertText branch_adding.text s 1 branch branch_adding.terms 5 (branch_row x) (branch_adding.source x))
+inserts = of_both (λ s. (x : Branch) → IsInsertText branch_adding.text s 1 branch branch_adding.terms branch_adding.width (branch_row x) (branch_adding.source x))
     (λ x. record { command = refl; plain = (refl, refl); listed = refl; is_uncounted = refl; value = refl })
     (λ x. record { command = refl; plain = (refl, refl); listed = refl; is_uncounted = refl; value = refl })
 
@@ -77,19 +72,16 @@ branch_is_adding = record {
 -- ---- what the texts show
 
 abbrev branch_project : List Term
-branch_project = col 1 1 ∷ col 1 2 ∷ col 1 3 ∷ col 1 4 ∷ []
-
-abbrev branch_names : List (List ℕ)
-branch_names = codes "branch_no" ∷ codes "street" ∷ codes "city" ∷ codes "postcode" ∷ []
+branch_project = terms_from 1 1 branch_names
 
 -- ---- the whole table
 
 abbrev pub branch_listing : Listing
 branch_listing = record {
-  text = codes "SELECT branch_no, street, city, postcode FROM branch";
+  text = select_text (codes "branch") branch_names;
   project = branch_project;
   names = branch_names;
-  rowid_text = codes "SELECT rowid FROM branch";
+  rowid_text = select_text (codes "branch") (codes "rowid" ∷ []);
   rowid_name = codes "rowid";
 }
 
@@ -109,7 +101,7 @@ branch_is_listing = record {
 
 abbrev pub branch_numbered : Asking
 branch_numbered = record {
-  text = codes "SELECT branch_no, street, city, postcode FROM branch WHERE branch_no = ?1";
+  text = select_where (codes "branch") branch_names (codes "branch_no" ∷ []);
   tests = op2 (Compare Eq Binary) (col 1 1) (col 0 0) ∷ [];
   project = branch_project;
   names = branch_names;

@@ -1,6 +1,5 @@
 -- The table charge.
-use Rattle.std.specs.Prelude.{refl, ℕ, List, [], ◌∷◌, ◌&&◌, codes, true, pos, nat_eq}
-use Rattle.std.specs.Ordering.{nat_cmp}
+use Rattle.std.specs.Prelude.{refl, ℕ, List, [], ◌∷◌, ◌&&◌, codes, true, pos, nat_eq, length, ◌+◌}
 use Rattle.sqlite_value.specs.declared.value.Value.TheVariants.{Int, Null}
 use Rattle.sqlite_value.specs.declared.keys.Collation.TheVariants.{Binary}
 use Rattle.sqlite_value.specs.Order.{Row, column}
@@ -13,7 +12,6 @@ use Rattle.dh_values.specs.declared.limits.TheConstants.{MOST_CHARGE_INDEX, MOST
 use Rattle.dh_days.specs.declared.limits.TheConstants.{FIRST_MONTH, LAST_ENTRY_MONTH}
 use Rattle.dh_days.specs.Days.{due_day_of}
 use Rattle.dh_types.specs.declared.lease.Charge.{Charge}
-use Rattle.dh_model.specs.Books.{pair_cmp}
 use Rattle.dh_rows.specs.ChargeRows.{charge_in, charge_row, is_charge_row}
 use Rattle.sqlite_schema.specs.declared.schema.Schema.{Schema}
 use Rattle.dh_types.specs.declared.version.Version.TheVariants.{First}
@@ -27,9 +25,10 @@ use Rattle.dh_tables.specs.declared.charge.ChargeOf.{ChargeOf}
 use Rattle.dh_tables.specs.declared.charge.ChargesOfLease.{ChargesOfLease}
 use Rattle.dh_tables.specs.declared.charge.ChargesOfMonth.{ChargesOfMonth}
 use Rattle.dh_tables.specs.Cells.{is_number, number_from, pass_both, pass_one, read_as, same_number}
+use Rattle.dh_tables.specs.Commands.{insert_text, select_text, select_where, terms_from}
 use Rattle.dh_tables.specs.Listing.{IsListing, Listing}
 use Rattle.dh_tables.specs.Questions.{Asking, IsAsking}
-use Rattle.dh_tables.specs.Tables.{Adding, IsAdding, Shelf, without_rowid}
+use Rattle.dh_tables.specs.Tables.{Adding, IsAdding, without_rowid}
 
 abbrev pub charge_columns : Row → Row
 charge_columns row = column row 1 ∷ column row 2 ∷ column row 3 ∷ column row 4 ∷ column row 5 ∷ []
@@ -42,31 +41,26 @@ charge_cells =
 abbrev pub charge_shape : Shape (ℕ × ℕ) Charge
 charge_shape = record { tree = 18; columns = charge_columns; is_row = is_charge_row; row_in = charge_in; key = λ c. (c.lease, c.index) }
 
-abbrev pub charge_shelf : Shelf (ℕ × ℕ) Charge (pair_cmp nat_cmp nat_cmp)
-charge_shelf = record {
-  held = λ s. s.books.charges;
-  with = λ s m. record s { books = record s.books { charges = m } };
-  held_with = λ s m. refl;
-  with_with = λ s m n. refl;
-  with_held = λ s. refl;
-}
+-- the columns
+abbrev pub charge_names : List (List ℕ)
+charge_names = codes "lease_no" ∷ codes "k" ∷ codes "month" ∷ codes "day" ∷ codes "amount" ∷ []
 
 -- ---- adding a row
 
 abbrev pub charge_adding : Adding Charge
 charge_adding = record {
-  text = codes "INSERT INTO charge (lease_no, k, month, day, amount) VALUES (?1, ?2, ?3, ?4, ?5)";
+  text = insert_text (codes "charge") charge_names;
   place = 10;
   table = charge;
-  terms = lit Null ∷ col 0 0 ∷ col 0 1 ∷ col 0 2 ∷ col 0 3 ∷ col 0 4 ∷ [];
-  width = 6;
+  terms = lit Null ∷ terms_from 0 0 charge_names;
+  width = length charge_names + 1;
   source = without_rowid charge_row;
 }
 
 inserts : (s : Schema) → HasSince First s → (x : Charge)
-    → IsInsertText charge_adding.text s 10 charge charge_adding.terms 6 (charge_row x) (charge_adding.source x)
+    → IsInsertText charge_adding.text s 10 charge charge_adding.terms charge_adding.width (charge_row x) (charge_adding.source x)
 unfolding understood everything
-inserts = of_both (λ s. (x : Charge) → IsInsertText charge_adding.text s 10 charge charge_adding.terms 6 (charge_row x) (charge_adding.source x))
+inserts = of_both (λ s. (x : Charge) → IsInsertText charge_adding.text s 10 charge charge_adding.terms charge_adding.width (charge_row x) (charge_adding.source x))
     (λ x. record { command = refl; plain = (refl, refl); listed = refl; is_uncounted = refl; value = refl })
     (λ x. record { command = refl; plain = (refl, refl); listed = refl; is_uncounted = refl; value = refl })
 
@@ -83,19 +77,16 @@ charge_is_adding = record {
 -- ---- what the texts show
 
 abbrev charge_project : List Term
-charge_project = col 1 1 ∷ col 1 2 ∷ col 1 3 ∷ col 1 4 ∷ col 1 5 ∷ []
-
-abbrev charge_names : List (List ℕ)
-charge_names = codes "lease_no" ∷ codes "k" ∷ codes "month" ∷ codes "day" ∷ codes "amount" ∷ []
+charge_project = terms_from 1 1 charge_names
 
 -- ---- the whole table
 
 abbrev pub charge_listing : Listing
 charge_listing = record {
-  text = codes "SELECT lease_no, k, month, day, amount FROM charge";
+  text = select_text (codes "charge") charge_names;
   project = charge_project;
   names = charge_names;
-  rowid_text = codes "SELECT rowid FROM charge";
+  rowid_text = select_text (codes "charge") (codes "rowid" ∷ []);
   rowid_name = codes "rowid";
 }
 
@@ -115,7 +106,7 @@ charge_is_listing = record {
 
 abbrev pub charge_of : Asking
 charge_of = record {
-  text = codes "SELECT lease_no, k, month, day, amount FROM charge WHERE lease_no = ?1 AND k = ?2";
+  text = select_where (codes "charge") charge_names (codes "lease_no" ∷ codes "k" ∷ []);
   tests = op2 (Compare Eq Binary) (col 1 1) (col 0 0) ∷ op2 (Compare Eq Binary) (col 1 2) (col 0 1) ∷ [];
   project = charge_project;
   names = charge_names;
@@ -142,7 +133,7 @@ charge_of_is = record {
 
 abbrev pub charges_of_lease : Asking
 charges_of_lease = record {
-  text = codes "SELECT lease_no, k, month, day, amount FROM charge WHERE lease_no = ?1";
+  text = select_where (codes "charge") charge_names (codes "lease_no" ∷ []);
   tests = op2 (Compare Eq Binary) (col 1 1) (col 0 0) ∷ [];
   project = charge_project;
   names = charge_names;
@@ -168,7 +159,7 @@ charges_of_lease_is = record {
 
 abbrev pub charges_of_month : Asking
 charges_of_month = record {
-  text = codes "SELECT lease_no, k, month, day, amount FROM charge WHERE month = ?1";
+  text = select_where (codes "charge") charge_names (codes "month" ∷ []);
   tests = op2 (Compare Eq Binary) (col 1 3) (col 0 0) ∷ [];
   project = charge_project;
   names = charge_names;

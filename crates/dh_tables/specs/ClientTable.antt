@@ -1,5 +1,5 @@
 -- The table client.
-use Rattle.std.specs.Prelude.{refl, ℕ, List, [], ◌∷◌, codes, true}
+use Rattle.std.specs.Prelude.{refl, ℕ, List, [], ◌∷◌, codes, true, length, ◌+◌}
 use Rattle.sqlite_value.specs.declared.value.Value.TheVariants.{Null, Text}
 use Rattle.sqlite_value.specs.declared.keys.Collation.TheVariants.{Binary}
 use Rattle.sqlite_value.specs.Order.{Row, column}
@@ -12,7 +12,6 @@ use Rattle.dh_values.specs.Texts.{is_id, is_text}
 use Rattle.dh_values.specs.Kinds.{property_type_of}
 use Rattle.dh_values.specs.declared.limits.TheConstants.{MOST_RENT}
 use Rattle.dh_types.specs.declared.client.Client.{Client}
-use Rattle.dh_model.specs.Books.{text_cmp}
 use Rattle.dh_model.specs.Checks.{is_same_text}
 use Rattle.dh_rows.specs.ClientRows.{client_in, client_row, is_client_row}
 use Rattle.sqlite_schema.specs.declared.schema.Schema.{Schema}
@@ -25,9 +24,10 @@ use Rattle.dh_sql.specs.Texts.{IsInsertText, IsSelectText}
 use Rattle.dh_sql.proofs.Casting.{cast_null, pass_each, row_stays}
 use Rattle.dh_tables.specs.declared.client.ClientNumbered.{ClientNumbered}
 use Rattle.dh_tables.specs.Cells.{is_text as text_is, number_from, pass_one, read_as, same_text, text_that}
+use Rattle.dh_tables.specs.Commands.{insert_text, select_text, select_where, terms_from}
 use Rattle.dh_tables.specs.Listing.{IsListing, Listing}
 use Rattle.dh_tables.specs.Questions.{Asking, IsAsking}
-use Rattle.dh_tables.specs.Tables.{Adding, IsAdding, Shelf, without_rowid}
+use Rattle.dh_tables.specs.Tables.{Adding, IsAdding, without_rowid}
 
 abbrev pub client_columns : Row → Row
 client_columns row = column row 1 ∷ column row 2 ∷ column row 3 ∷ column row 4 ∷ column row 5 ∷ []
@@ -38,31 +38,26 @@ client_cells = text_that is_id ∷ text_that (is_text 60) ∷ text_that (is_text
 abbrev pub client_shape : Shape (List ℕ) Client
 client_shape = record { tree = 9; columns = client_columns; is_row = is_client_row; row_in = client_in; key = λ c. c.number }
 
-abbrev pub client_shelf : Shelf (List ℕ) Client text_cmp
-client_shelf = record {
-  held = λ s. s.books.clients;
-  with = λ s m. record s { books = record s.books { clients = m } };
-  held_with = λ s m. refl;
-  with_with = λ s m n. refl;
-  with_held = λ s. refl;
-}
+-- the columns
+abbrev pub client_names : List (List ℕ)
+client_names = codes "client_no" ∷ codes "name" ∷ codes "telephone" ∷ codes "pref_type" ∷ codes "max_rent" ∷ []
 
 -- ---- adding a row
 
 abbrev pub client_adding : Adding Client
 client_adding = record {
-  text = codes "INSERT INTO client (client_no, name, telephone, pref_type, max_rent) VALUES (?1, ?2, ?3, ?4, ?5)";
+  text = insert_text (codes "client") client_names;
   place = 5;
   table = client;
-  terms = lit Null ∷ col 0 0 ∷ col 0 1 ∷ col 0 2 ∷ col 0 3 ∷ col 0 4 ∷ [];
-  width = 6;
+  terms = lit Null ∷ terms_from 0 0 client_names;
+  width = length client_names + 1;
   source = without_rowid client_row;
 }
 
 inserts : (s : Schema) → HasSince First s → (x : Client)
-    → IsInsertText client_adding.text s 5 client client_adding.terms 6 (client_row x) (client_adding.source x)
+    → IsInsertText client_adding.text s 5 client client_adding.terms client_adding.width (client_row x) (client_adding.source x)
 unfolding understood everything
-inserts = of_both (λ s. (x : Client) → IsInsertText client_adding.text s 5 client client_adding.terms 6 (client_row x) (client_adding.source x))
+inserts = of_both (λ s. (x : Client) → IsInsertText client_adding.text s 5 client client_adding.terms client_adding.width (client_row x) (client_adding.source x))
     (λ x. record { command = refl; plain = (refl, refl); listed = refl; is_uncounted = refl; value = refl })
     (λ x. record { command = refl; plain = (refl, refl); listed = refl; is_uncounted = refl; value = refl })
 
@@ -79,19 +74,16 @@ client_is_adding = record {
 -- ---- what the texts show
 
 abbrev client_project : List Term
-client_project = col 1 1 ∷ col 1 2 ∷ col 1 3 ∷ col 1 4 ∷ col 1 5 ∷ []
-
-abbrev client_names : List (List ℕ)
-client_names = codes "client_no" ∷ codes "name" ∷ codes "telephone" ∷ codes "pref_type" ∷ codes "max_rent" ∷ []
+client_project = terms_from 1 1 client_names
 
 -- ---- the whole table
 
 abbrev pub client_listing : Listing
 client_listing = record {
-  text = codes "SELECT client_no, name, telephone, pref_type, max_rent FROM client";
+  text = select_text (codes "client") client_names;
   project = client_project;
   names = client_names;
-  rowid_text = codes "SELECT rowid FROM client";
+  rowid_text = select_text (codes "client") (codes "rowid" ∷ []);
   rowid_name = codes "rowid";
 }
 
@@ -111,7 +103,7 @@ client_is_listing = record {
 
 abbrev pub client_numbered : Asking
 client_numbered = record {
-  text = codes "SELECT client_no, name, telephone, pref_type, max_rent FROM client WHERE client_no = ?1";
+  text = select_where (codes "client") client_names (codes "client_no" ∷ []);
   tests = op2 (Compare Eq Binary) (col 1 1) (col 0 0) ∷ [];
   project = client_project;
   names = client_names;

@@ -1,5 +1,6 @@
--- The texts of SQL that add a row to a table and ask for rows, of its name and its columns.
-use Rattle.std.specs.Prelude.{ℕ, ◌+◌, ◌/◌, ◌%◌, nat_lt, if◌then◌else◌, List, [], ◌∷◌, ◌++◌, codes}
+-- The texts of SQL that add a row to a table, ask for rows and change one, of its name and its columns.
+use Rattle.std.specs.Prelude.{ℕ, ◌+◌, ◌/◌, ◌%◌, nat_lt, if◌then◌else◌, List, [], ◌∷◌, ◌++◌, length, codes}
+use Rattle.sqlite_sql.specs.Term.{Term, col}
 
 -- texts with this between them
 abbrev pub joined : List ℕ → List (List ℕ) → List ℕ
@@ -23,5 +24,21 @@ insert_text table columns =
 abbrev pub select_text : List ℕ → List (List ℕ) → List ℕ
 select_text table columns = codes "SELECT " ++ joined (codes ", ") columns ++ codes " FROM " ++ table
 
-abbrev pub select_where : List ℕ → List (List ℕ) → List ℕ → List ℕ
-select_where table columns column = select_text table columns ++ codes " WHERE " ++ column ++ codes " = ?1"
+-- each column with a parameter, of which the first has this number
+abbrev pub given_by : ℕ → List (List ℕ) → List (List ℕ)
+given_by n [] = []
+given_by n (column ∷ columns) = (column ++ codes " = ?" ++ small n) ∷ given_by (n + 1) columns
+
+abbrev pub select_where : List ℕ → List (List ℕ) → List (List ℕ) → List ℕ
+select_where table columns keys = select_text table columns ++ codes " WHERE " ++ joined (codes " AND ") (given_by 1 keys)
+
+-- the columns behind those of the key are set
+abbrev pub update_text : List ℕ → List (List ℕ) → List (List ℕ) → List ℕ
+update_text table keys columns =
+    codes "UPDATE " ++ table ++ codes " SET " ++ joined (codes ", ") (given_by (length keys + 1) columns) ++ codes " WHERE "
+    ++ joined (codes " AND ") (given_by 1 keys)
+
+-- a term for each column, which stand one behind the other from this place on
+abbrev pub terms_from : ℕ → ℕ → List (List ℕ) → List Term
+terms_from row n [] = []
+terms_from row n (column ∷ columns) = col row n ∷ terms_from row (n + 1) columns

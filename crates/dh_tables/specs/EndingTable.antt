@@ -1,6 +1,5 @@
 -- The table ending, which came with the second version. Its key is its rowid.
-use Rattle.std.specs.Prelude.{◌≡◌, refl, ℕ, List, [], ◌∷◌, codes, drop, true, pos, nat_eq}
-use Rattle.std.specs.Ordering.{nat_cmp}
+use Rattle.std.specs.Prelude.{◌≡◌, refl, ℕ, List, [], ◌∷◌, codes, drop, true, pos, nat_eq, length, ◌+◌}
 use Rattle.sqlite_value.specs.declared.value.Value.TheVariants.{Int, Null}
 use Rattle.sqlite_value.specs.declared.keys.Collation.TheVariants.{Binary}
 use Rattle.sqlite_value.specs.Order.{Row, column}
@@ -23,9 +22,10 @@ use Rattle.dh_sql.specs.Texts.{IsInsertText, IsSelectText}
 use Rattle.dh_sql.proofs.Casting.{cast_int, pass_each, row_stays}
 use Rattle.dh_tables.specs.declared.ending.EndingOf.{EndingOf}
 use Rattle.dh_tables.specs.Cells.{is_number, number_from, pass_one, rowid_column, same_number}
+use Rattle.dh_tables.specs.Commands.{insert_text, select_text, select_where, terms_from}
 use Rattle.dh_tables.specs.Listing.{IsListing, Listing}
 use Rattle.dh_tables.specs.Questions.{Asking, IsAsking}
-use Rattle.dh_tables.specs.Tables.{Adding, IsAdding, Shelf, own_rowid}
+use Rattle.dh_tables.specs.Tables.{Adding, IsAdding, own_rowid}
 
 -- the key is the rowid, and its own column holds NULL
 abbrev pub ending_columns : Row → Row
@@ -37,31 +37,26 @@ ending_cells = number_from 1 MOST_NUMBER ∷ number_from LEAST_LEASE_MONTHS MOST
 abbrev pub ending_shape : Shape ℕ Ending
 ending_shape = record { tree = 30; columns = ending_columns; is_row = is_ending_row; row_in = ending_in; key = λ e. e.lease }
 
-abbrev pub ending_shelf : Shelf ℕ Ending nat_cmp
-ending_shelf = record {
-  held = λ s. s.books.endings;
-  with = λ s m. record s { books = record s.books { endings = m } };
-  held_with = λ s m. refl;
-  with_with = λ s m n. refl;
-  with_held = λ s. refl;
-}
+-- the columns
+abbrev pub ending_names : List (List ℕ)
+ending_names = codes "lease_no" ∷ codes "months" ∷ []
 
 -- ---- adding a row
 
 abbrev pub ending_adding : Adding Ending
 ending_adding = record {
-  text = codes "INSERT INTO ending (lease_no, months) VALUES (?1, ?2)";
+  text = insert_text (codes "ending") ending_names;
   place = 16;
   table = ending;
-  terms = col 0 0 ∷ lit Null ∷ col 0 1 ∷ [];
-  width = 3;
+  terms = col 0 0 ∷ lit Null ∷ terms_from 0 1 (drop 1 ending_names);
+  width = length ending_names + 1;
   source = own_rowid ending_row;
 }
 
 inserts : (s : Schema) → HasSince Second s → (x : Ending)
-    → IsInsertText ending_adding.text s 16 ending ending_adding.terms 3 (ending_row x) (ending_adding.source x)
+    → IsInsertText ending_adding.text s 16 ending ending_adding.terms ending_adding.width (ending_row x) (ending_adding.source x)
 unfolding understood everything
-inserts = of_second (λ s. (x : Ending) → IsInsertText ending_adding.text s 16 ending ending_adding.terms 3 (ending_row x) (ending_adding.source x))
+inserts = of_second (λ s. (x : Ending) → IsInsertText ending_adding.text s 16 ending ending_adding.terms ending_adding.width (ending_row x) (ending_adding.source x))
     (λ x. record { command = refl; plain = (refl, refl); listed = refl; is_uncounted = refl; value = refl })
 
 stays : (x : Ending) → is_ending_row (ending_row x) ≡ true → cast_row ending (ending_adding.source x) ≡ ending_adding.source x
@@ -83,19 +78,16 @@ ending_is_adding = record {
 -- ---- what the texts show
 
 abbrev ending_project : List Term
-ending_project = col 1 0 ∷ col 1 2 ∷ []
-
-abbrev ending_names : List (List ℕ)
-ending_names = codes "lease_no" ∷ codes "months" ∷ []
+ending_project = col 1 0 ∷ terms_from 1 2 (drop 1 ending_names)
 
 -- ---- the whole table
 
 abbrev pub ending_listing : Listing
 ending_listing = record {
-  text = codes "SELECT lease_no, months FROM ending";
+  text = select_text (codes "ending") ending_names;
   project = ending_project;
   names = ending_names;
-  rowid_text = codes "SELECT rowid FROM ending";
+  rowid_text = select_text (codes "ending") (codes "rowid" ∷ []);
   rowid_name = codes "lease_no";
 }
 
@@ -113,7 +105,7 @@ ending_is_listing = record {
 
 abbrev pub ending_of : Asking
 ending_of = record {
-  text = codes "SELECT lease_no, months FROM ending WHERE lease_no = ?1";
+  text = select_where (codes "ending") ending_names (codes "lease_no" ∷ []);
   tests = op2 (Compare Eq Binary) (col 1 0) (col 0 0) ∷ [];
   project = ending_project;
   names = ending_names;

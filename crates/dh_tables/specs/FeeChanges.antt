@@ -26,12 +26,13 @@ use Rattle.dh_tables.specs.Amendments.{Amending, IsAmending}
 use Rattle.dh_tables.specs.Cells.{in_range, is_number, is_text as text_is, pass_one, rowid_column, same_number, same_text, tells_number, tells_text, to_limit}
 use Rattle.dh_tables.specs.BranchFeeTable.{branch_fee_cells, branch_fee_columns, branch_fee_shape, fee_of_branch}
 use Rattle.dh_tables.specs.EndingTable.{ending_cells, ending_columns, ending_of, ending_shape}
+use Rattle.dh_tables.specs.Commands.{update_text}
 
 -- ---- UPDATE branch_fee SET fee = ?2 WHERE branch_no = ?1
 
 abbrev pub branch_fee_amending : Amending
 branch_fee_amending = record {
-  text = codes "UPDATE branch_fee SET fee = ?2 WHERE branch_no = ?1";
+  text = update_text (codes "branch_fee") (codes "branch_no" ∷ []) (codes "fee" ∷ []);
   place = 14;
   table = branch_fee;
   tests = fee_of_branch.tests;
@@ -83,7 +84,7 @@ branch_fee_is = record {
 
 abbrev pub ending_amending : Amending
 ending_amending = record {
-  text = codes "UPDATE ending SET months = ?2 WHERE lease_no = ?1";
+  text = update_text (codes "ending") (codes "lease_no" ∷ []) (codes "months" ∷ []);
   place = 16;
   table = ending;
   tests = ending_of.tests;

@@ -1,6 +1,5 @@
 -- The table inspection.
-use Rattle.std.specs.Prelude.{refl, ℕ, List, [], ◌∷◌, codes, true, nat_eq, ◌&&◌}
-use Rattle.std.specs.Ordering.{nat_cmp}
+use Rattle.std.specs.Prelude.{refl, ℕ, List, [], ◌∷◌, codes, true, nat_eq, ◌&&◌, length, ◌+◌}
 use Rattle.sqlite_value.specs.declared.value.Value.TheVariants.{Null, Text}
 use Rattle.sqlite_value.specs.declared.keys.Collation.TheVariants.{Binary}
 use Rattle.sqlite_value.specs.Order.{Row, column}
@@ -12,7 +11,6 @@ use Rattle.sqlite.specs.Listing.{understood}
 use Rattle.dh_values.specs.Texts.{is_id, is_text}
 use Rattle.dh_days.specs.Days.{IsEntryDay, day_of, day_text}
 use Rattle.dh_types.specs.declared.viewing.Inspection.{Inspection}
-use Rattle.dh_model.specs.Books.{pair_cmp, text_cmp}
 use Rattle.dh_model.specs.Checks.{is_same_text}
 use Rattle.dh_rows.specs.InspectionRows.{inspection_in, inspection_row, is_inspection_row}
 use Rattle.sqlite_schema.specs.declared.schema.Schema.{Schema}
@@ -25,9 +23,10 @@ use Rattle.dh_sql.specs.Texts.{IsInsertText, IsSelectText}
 use Rattle.dh_sql.proofs.Casting.{cast_null, pass_each, row_stays}
 use Rattle.dh_tables.specs.declared.inspection.InspectionOf.{InspectionOf}
 use Rattle.dh_tables.specs.Cells.{is_text as text_is, pass_both, read_as, same_day, same_text, text_that}
+use Rattle.dh_tables.specs.Commands.{insert_text, select_text, select_where, terms_from}
 use Rattle.dh_tables.specs.Listing.{IsListing, Listing}
 use Rattle.dh_tables.specs.Questions.{Asking, IsAsking}
-use Rattle.dh_tables.specs.Tables.{Adding, IsAdding, Shelf, without_rowid}
+use Rattle.dh_tables.specs.Tables.{Adding, IsAdding, without_rowid}
 
 abbrev pub inspection_columns : Row → Row
 inspection_columns row = column row 1 ∷ column row 2 ∷ column row 3 ∷ column row 4 ∷ []
@@ -38,32 +37,27 @@ inspection_cells = text_that is_id ∷ read_as day_of ∷ text_that is_id ∷ te
 abbrev pub inspection_shape : Shape (List ℕ × ℕ) Inspection
 inspection_shape = record { tree = 15; columns = inspection_columns; is_row = is_inspection_row; row_in = inspection_in; key = λ n. (n.property, n.day) }
 
-abbrev pub inspection_shelf : Shelf (List ℕ × ℕ) Inspection (pair_cmp text_cmp nat_cmp)
-inspection_shelf = record {
-  held = λ s. s.books.inspections;
-  with = λ s m. record s { books = record s.books { inspections = m } };
-  held_with = λ s m. refl;
-  with_with = λ s m n. refl;
-  with_held = λ s. refl;
-}
+-- the columns
+abbrev pub inspection_names : List (List ℕ)
+inspection_names = codes "property_no" ∷ codes "day" ∷ codes "staff_no" ∷ codes "comment" ∷ []
 
 -- ---- adding a row
 
 abbrev pub inspection_adding : Adding Inspection
 inspection_adding = record {
-  text = codes "INSERT INTO inspection (property_no, day, staff_no, comment) VALUES (?1, ?2, ?3, ?4)";
+  text = insert_text (codes "inspection") inspection_names;
   place = 8;
   table = inspection;
-  terms = lit Null ∷ col 0 0 ∷ col 0 1 ∷ col 0 2 ∷ col 0 3 ∷ [];
-  width = 5;
+  terms = lit Null ∷ terms_from 0 0 inspection_names;
+  width = length inspection_names + 1;
   source = without_rowid inspection_row;
 }
 
 inserts : (s : Schema) → HasSince First s → (x : Inspection)
-    → IsInsertText inspection_adding.text s 8 inspection inspection_adding.terms 5 (inspection_row x) (inspection_adding.source x)
+    → IsInsertText inspection_adding.text s 8 inspection inspection_adding.terms inspection_adding.width (inspection_row x) (inspection_adding.source x)
 unfolding understood everything
 inserts = of_both (λ s. (x : Inspection)
-    → IsInsertText inspection_adding.text s 8 inspection inspection_adding.terms 5 (inspection_row x) (inspection_adding.source x))
+    → IsInsertText inspection_adding.text s 8 inspection inspection_adding.terms inspection_adding.width (inspection_row x) (inspection_adding.source x))
     (λ x. record { command = refl; plain = (refl, refl); listed = refl; is_uncounted = refl; value = refl })
     (λ x. record { command = refl; plain = (refl, refl); listed = refl; is_uncounted = refl; value = refl })
 
@@ -81,19 +75,16 @@ inspection_is_adding = record {
 -- ---- what the texts show
 
 abbrev inspection_project : List Term
-inspection_project = col 1 1 ∷ col 1 2 ∷ col 1 3 ∷ col 1 4 ∷ []
-
-abbrev inspection_names : List (List ℕ)
-inspection_names = codes "property_no" ∷ codes "day" ∷ codes "staff_no" ∷ codes "comment" ∷ []
+inspection_project = terms_from 1 1 inspection_names
 
 -- ---- the whole table
 
 abbrev pub inspection_listing : Listing
 inspection_listing = record {
-  text = codes "SELECT property_no, day, staff_no, comment FROM inspection";
+  text = select_text (codes "inspection") inspection_names;
   project = inspection_project;
   names = inspection_names;
-  rowid_text = codes "SELECT rowid FROM inspection";
+  rowid_text = select_text (codes "inspection") (codes "rowid" ∷ []);
   rowid_name = codes "rowid";
 }
 
@@ -113,7 +104,7 @@ inspection_is_listing = record {
 
 abbrev pub inspection_of : Asking
 inspection_of = record {
-  text = codes "SELECT property_no, day, staff_no, comment FROM inspection WHERE property_no = ?1 AND day = ?2";
+  text = select_where (codes "inspection") inspection_names (codes "property_no" ∷ codes "day" ∷ []);
   tests = op2 (Compare Eq Binary) (col 1 1) (col 0 0) ∷ op2 (Compare Eq Binary) (col 1 2) (col 0 1) ∷ [];
   project = inspection_project;
   names = inspection_names;

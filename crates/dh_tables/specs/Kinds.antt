@@ -1,64 +1,63 @@
 -- How the records of each kind stand in their table.
+use Rattle.std.specs.Prelude.{ℕ}
+use Rattle.sqlite_schema.specs.declared.schema.Table.{Table}
 use Rattle.std.specs.declared.cmp.Ordering.{Ordering}
 use Rattle.dh_types.specs.declared.version.Version.{Version}
 use Rattle.dh_model.specs.Kinds.{Kind, came_with, key_of, order_of, record_of}
 use Rattle.dh_model.specs.Kinds.{Branches, Staff, Owners, Properties, Clients, Registrations, Viewings, Inspections, Leases, Charges, Receipts, Runs}
 use Rattle.dh_model.specs.Kinds.{Parts, BranchFees, PartFees, Endings}
 use Rattle.dh_sql.specs.Shape.{Shape}
-use Rattle.dh_tables.specs.Tables.{Shelf}
-use Rattle.dh_tables.specs.BranchTable.{branch_shape, branch_shelf}
-use Rattle.dh_tables.specs.StaffTable.{staff_shape, staff_shelf}
-use Rattle.dh_tables.specs.OwnerTable.{owner_shape, owner_shelf}
-use Rattle.dh_tables.specs.PropertyTable.{property_shape, property_shelf}
-use Rattle.dh_tables.specs.ClientTable.{client_shape, client_shelf}
-use Rattle.dh_tables.specs.RegistrationTable.{registration_shape, registration_shelf}
-use Rattle.dh_tables.specs.ViewingTable.{viewing_shape, viewing_shelf}
-use Rattle.dh_tables.specs.InspectionTable.{inspection_shape, inspection_shelf}
-use Rattle.dh_tables.specs.LeaseTable.{lease_shape, lease_shelf}
-use Rattle.dh_tables.specs.ChargeTable.{charge_shape, charge_shelf}
-use Rattle.dh_tables.specs.ReceiptTable.{receipt_shape, receipt_shelf}
-use Rattle.dh_tables.specs.RunTable.{run_shape, run_shelf}
-use Rattle.dh_tables.specs.PartTable.{part_shape, part_shelf}
-use Rattle.dh_tables.specs.BranchFeeTable.{branch_fee_shape, branch_fee_shelf}
-use Rattle.dh_tables.specs.PartFeeTable.{part_fee_shape, part_fee_shelf}
-use Rattle.dh_tables.specs.EndingTable.{ending_shape, ending_shelf}
+use Rattle.dh_tables.specs.Tables.{Adding, Shelf}
+pub use Rattle.dh_tables.specs.Shelves.{shelf_of}
+use Rattle.dh_tables.specs.BranchTable.{branch_adding, branch_shape}
+use Rattle.dh_tables.specs.StaffTable.{staff_adding, staff_shape}
+use Rattle.dh_tables.specs.OwnerTable.{owner_adding, owner_shape}
+use Rattle.dh_tables.specs.PropertyTable.{property_adding, property_shape}
+use Rattle.dh_tables.specs.ClientTable.{client_adding, client_shape}
+use Rattle.dh_tables.specs.RegistrationTable.{registration_adding, registration_shape}
+use Rattle.dh_tables.specs.ViewingTable.{viewing_adding, viewing_shape}
+use Rattle.dh_tables.specs.InspectionTable.{inspection_adding, inspection_shape}
+use Rattle.dh_tables.specs.LeaseTable.{lease_adding, lease_shape}
+use Rattle.dh_tables.specs.ChargeTable.{charge_adding, charge_shape}
+use Rattle.dh_tables.specs.ReceiptTable.{receipt_adding, receipt_shape}
+use Rattle.dh_tables.specs.RunTable.{run_adding, run_shape}
+use Rattle.dh_tables.specs.PartTable.{part_adding, part_shape}
+use Rattle.dh_tables.specs.BranchFeeTable.{branch_fee_adding, branch_fee_shape}
+use Rattle.dh_tables.specs.PartFeeTable.{part_fee_adding, part_fee_shape}
+use Rattle.dh_tables.specs.EndingTable.{ending_adding, ending_shape}
+
+-- Its shape, and the text that adds a row at its place.
+pub record Place (K X : Type 0) : Type 0 where
+  pub shape : Shape K X
+  pub adding : Adding X
+
+abbrev pub place_in : (kind : Kind) → Place (key_of kind) (record_of kind)
+place_in Branches = record { shape = branch_shape; adding = branch_adding }
+place_in Staff = record { shape = staff_shape; adding = staff_adding }
+place_in Owners = record { shape = owner_shape; adding = owner_adding }
+place_in Properties = record { shape = property_shape; adding = property_adding }
+place_in Clients = record { shape = client_shape; adding = client_adding }
+place_in Registrations = record { shape = registration_shape; adding = registration_adding }
+place_in Viewings = record { shape = viewing_shape; adding = viewing_adding }
+place_in Inspections = record { shape = inspection_shape; adding = inspection_adding }
+place_in Leases = record { shape = lease_shape; adding = lease_adding }
+place_in Charges = record { shape = charge_shape; adding = charge_adding }
+place_in Receipts = record { shape = receipt_shape; adding = receipt_adding }
+place_in Runs = record { shape = run_shape; adding = run_adding }
+place_in Parts = record { shape = part_shape; adding = part_adding }
+place_in BranchFees = record { shape = branch_fee_shape; adding = branch_fee_adding }
+place_in PartFees = record { shape = part_fee_shape; adding = part_fee_adding }
+place_in Endings = record { shape = ending_shape; adding = ending_adding }
 
 abbrev pub shape_of : (kind : Kind) → Shape (key_of kind) (record_of kind)
-shape_of Branches = branch_shape
-shape_of Staff = staff_shape
-shape_of Owners = owner_shape
-shape_of Properties = property_shape
-shape_of Clients = client_shape
-shape_of Registrations = registration_shape
-shape_of Viewings = viewing_shape
-shape_of Inspections = inspection_shape
-shape_of Leases = lease_shape
-shape_of Charges = charge_shape
-shape_of Receipts = receipt_shape
-shape_of Runs = run_shape
-shape_of Parts = part_shape
-shape_of BranchFees = branch_fee_shape
-shape_of PartFees = part_fee_shape
-shape_of Endings = ending_shape
+shape_of kind = (place_in kind).shape
 
--- where the books have them
-abbrev pub shelf_of : (kind : Kind) → Shelf (key_of kind) (record_of kind) (order_of kind)
-shelf_of Branches = branch_shelf
-shelf_of Staff = staff_shelf
-shelf_of Owners = owner_shelf
-shelf_of Properties = property_shelf
-shelf_of Clients = client_shelf
-shelf_of Registrations = registration_shelf
-shelf_of Viewings = viewing_shelf
-shelf_of Inspections = inspection_shelf
-shelf_of Leases = lease_shelf
-shelf_of Charges = charge_shelf
-shelf_of Receipts = receipt_shelf
-shelf_of Runs = run_shelf
-shelf_of Parts = part_shelf
-shelf_of BranchFees = branch_fee_shelf
-shelf_of PartFees = part_fee_shelf
-shelf_of Endings = ending_shelf
+-- the place of the table among those of a schema, and the table
+abbrev pub place_of : Kind → ℕ
+place_of kind = (place_in kind).adding.place
+
+abbrev pub table_of : Kind → Table
+table_of kind = (place_in kind).adding.table
 
 -- How a kind of record stands in its table and in the books.
 pub record Stored : Type 1 where

@@ -1,6 +1,5 @@
 -- The table lease, whose key is its rowid.
-use Rattle.std.specs.Prelude.{◌≡◌, refl, ℕ, List, [], ◌∷◌, codes, drop, true, pos, nat_eq, ◌&&◌}
-use Rattle.std.specs.Ordering.{nat_cmp}
+use Rattle.std.specs.Prelude.{◌≡◌, refl, ℕ, List, [], ◌∷◌, codes, drop, true, pos, nat_eq, ◌&&◌, length, ◌+◌}
 use Rattle.sqlite_value.specs.declared.value.Value.TheVariants.{Int, Null, Text}
 use Rattle.sqlite_value.specs.declared.keys.Collation.TheVariants.{Binary}
 use Rattle.sqlite_value.specs.Order.{Row, column}
@@ -30,9 +29,10 @@ use Rattle.dh_tables.specs.declared.lease.LeasesOfProperty.{LeasesOfProperty}
 use Rattle.dh_tables.specs.declared.lease.LeasesOfClientFrom.{LeasesOfClientFrom}
 use Rattle.dh_tables.specs.Cells.{is_number, is_text as text_is, number_from, pass_both, pass_one}
 use Rattle.dh_tables.specs.Cells.{read_as, rowid_column, same_day, same_number, same_text, text_that}
+use Rattle.dh_tables.specs.Commands.{insert_text, select_text, select_where, terms_from}
 use Rattle.dh_tables.specs.Listing.{IsListing, Listing}
 use Rattle.dh_tables.specs.Questions.{Asking, IsAsking}
-use Rattle.dh_tables.specs.Tables.{Adding, IsAdding, Shelf, own_rowid}
+use Rattle.dh_tables.specs.Tables.{Adding, IsAdding, own_rowid}
 
 -- the key is the rowid, and its own column holds NULL
 abbrev pub lease_columns : Row → Row
@@ -46,30 +46,25 @@ lease_cells =
 abbrev pub lease_shape : Shape ℕ Lease
 lease_shape = record { tree = 17; columns = lease_columns; is_row = is_lease_row; row_in = lease_in; key = λ l. l.terms.number }
 
-abbrev pub lease_shelf : Shelf ℕ Lease nat_cmp
-lease_shelf = record {
-  held = λ s. s.books.leases;
-  with = λ s m. record s { books = record s.books { leases = m } };
-  held_with = λ s m. refl;
-  with_with = λ s m n. refl;
-  with_held = λ s. refl;
-}
+-- the columns
+abbrev pub lease_names : List (List ℕ)
+lease_names = codes "lease_no" ∷ codes "client_no" ∷ codes "property_no" ∷ codes "start_day" ∷ codes "months" ∷ codes "method" ∷ codes "rent" ∷ []
 
 -- ---- adding a row
 
 abbrev pub lease_adding : Adding Lease
 lease_adding = record {
-  text = codes "INSERT INTO lease (lease_no, client_no, property_no, start_day, months, method, rent) VALUES (?1, ?2, ?3, ?4, ?5, ?6, ?7)";
+  text = insert_text (codes "lease") lease_names;
   place = 9;
   table = lease;
-  terms = col 0 0 ∷ lit Null ∷ col 0 1 ∷ col 0 2 ∷ col 0 3 ∷ col 0 4 ∷ col 0 5 ∷ col 0 6 ∷ [];
-  width = 8;
+  terms = col 0 0 ∷ lit Null ∷ terms_from 0 1 (drop 1 lease_names);
+  width = length lease_names + 1;
   source = own_rowid lease_row;
 }
 
-inserts : (s : Schema) → HasSince First s → (x : Lease) → IsInsertText lease_adding.text s 9 lease lease_adding.terms 8 (lease_row x) (lease_adding.source x)
+inserts : (s : Schema) → HasSince First s → (x : Lease) → IsInsertText lease_adding.text s 9 lease lease_adding.terms lease_adding.width (lease_row x) (lease_adding.source x)
 unfolding understood everything
-inserts = of_both (λ s. (x : Lease) → IsInsertText lease_adding.text s 9 lease lease_adding.terms 8 (lease_row x) (lease_adding.source x))
+inserts = of_both (λ s. (x : Lease) → IsInsertText lease_adding.text s 9 lease lease_adding.terms lease_adding.width (lease_row x) (lease_adding.source x))
     (λ x. record { command = refl; plain = (refl, refl); listed = refl; is_uncounted = refl; value = refl })
     (λ x. record { command = refl; plain = (refl, refl); listed = refl; is_uncounted = refl; value = refl })
 
@@ -92,19 +87,16 @@ lease_is_adding = record {
 -- ---- what the texts show
 
 abbrev lease_project : List Term
-lease_project = col 1 0 ∷ col 1 2 ∷ col 1 3 ∷ col 1 4 ∷ col 1 5 ∷ col 1 6 ∷ col 1 7 ∷ []
-
-abbrev lease_names : List (List ℕ)
-lease_names = codes "lease_no" ∷ codes "client_no" ∷ codes "property_no" ∷ codes "start_day" ∷ codes "months" ∷ codes "method" ∷ codes "rent" ∷ []
+lease_project = col 1 0 ∷ terms_from 1 2 (drop 1 lease_names)
 
 -- ---- the whole table
 
 abbrev pub lease_listing : Listing
 lease_listing = record {
-  text = codes "SELECT lease_no, client_no, property_no, start_day, months, method, rent FROM lease";
+  text = select_text (codes "lease") lease_names;
   project = lease_project;
   names = lease_names;
-  rowid_text = codes "SELECT rowid FROM lease";
+  rowid_text = select_text (codes "lease") (codes "rowid" ∷ []);
   rowid_name = codes "lease_no";
 }
 
@@ -124,7 +116,7 @@ lease_is_listing = record {
 
 abbrev pub lease_numbered : Asking
 lease_numbered = record {
-  text = codes "SELECT lease_no, client_no, property_no, start_day, months, method, rent FROM lease WHERE lease_no = ?1";
+  text = select_where (codes "lease") lease_names (codes "lease_no" ∷ []);
   tests = op2 (Compare Eq Binary) (col 1 0) (col 0 0) ∷ [];
   project = lease_project;
   names = lease_names;
@@ -150,7 +142,7 @@ lease_numbered_is = record {
 
 abbrev pub leases_of_property : Asking
 leases_of_property = record {
-  text = codes "SELECT lease_no, client_no, property_no, start_day, months, method, rent FROM lease WHERE property_no = ?1";
+  text = select_where (codes "lease") lease_names (codes "property_no" ∷ []);
   tests = op2 (Compare Eq Binary) (col 1 3) (col 0 0) ∷ [];
   project = lease_project;
   names = lease_names;
@@ -176,7 +168,7 @@ leases_of_property_is = record {
 
 abbrev pub leases_of_client_from : Asking
 leases_of_client_from = record {
-  text = codes "SELECT lease_no, client_no, property_no, start_day, months, method, rent FROM lease WHERE client_no = ?1 AND start_day = ?2";
+  text = select_where (codes "lease") lease_names (codes "client_no" ∷ codes "start_day" ∷ []);
   tests = op2 (Compare Eq Binary) (col 1 2) (col 0 0) ∷ op2 (Compare Eq Binary) (col 1 4) (col 0 1) ∷ [];
   project = lease_project;
   names = lease_names;

@@ -1,5 +1,5 @@
 -- The table owner.
-use Rattle.std.specs.Prelude.{refl, ℕ, List, [], ◌∷◌, codes, true}
+use Rattle.std.specs.Prelude.{refl, ℕ, List, [], ◌∷◌, codes, true, length, ◌+◌}
 use Rattle.sqlite_value.specs.declared.value.Value.TheVariants.{Null, Text}
 use Rattle.sqlite_value.specs.declared.keys.Collation.TheVariants.{Binary}
 use Rattle.sqlite_value.specs.Order.{Row, column}
@@ -10,7 +10,6 @@ use Rattle.sqlite_tied.specs.Compute.{everything}
 use Rattle.sqlite.specs.Listing.{understood}
 use Rattle.dh_values.specs.Texts.{is_id, is_text}
 use Rattle.dh_types.specs.declared.owner.Owner.{Owner}
-use Rattle.dh_model.specs.Books.{text_cmp}
 use Rattle.dh_model.specs.Checks.{is_same_text}
 use Rattle.dh_rows.specs.OwnerRows.{owner_in, owner_row, is_owner_row}
 use Rattle.sqlite_schema.specs.declared.schema.Schema.{Schema}
@@ -23,9 +22,10 @@ use Rattle.dh_sql.specs.Texts.{IsInsertText, IsSelectText}
 use Rattle.dh_sql.proofs.Casting.{cast_null, pass_each, row_stays}
 use Rattle.dh_tables.specs.declared.owner.OwnerNumbered.{OwnerNumbered}
 use Rattle.dh_tables.specs.Cells.{is_text as text_is, pass_one, same_text, text_that}
+use Rattle.dh_tables.specs.Commands.{insert_text, select_text, select_where, terms_from}
 use Rattle.dh_tables.specs.Listing.{IsListing, Listing}
 use Rattle.dh_tables.specs.Questions.{Asking, IsAsking}
-use Rattle.dh_tables.specs.Tables.{Adding, IsAdding, Shelf, without_rowid}
+use Rattle.dh_tables.specs.Tables.{Adding, IsAdding, without_rowid}
 
 abbrev pub owner_columns : Row → Row
 owner_columns row = column row 1 ∷ column row 2 ∷ column row 3 ∷ column row 4 ∷ []
@@ -36,30 +36,25 @@ owner_cells = text_that is_id ∷ text_that (is_text 60) ∷ text_that (is_text 
 abbrev pub owner_shape : Shape (List ℕ) Owner
 owner_shape = record { tree = 5; columns = owner_columns; is_row = is_owner_row; row_in = owner_in; key = λ o. o.number }
 
-abbrev pub owner_shelf : Shelf (List ℕ) Owner text_cmp
-owner_shelf = record {
-  held = λ s. s.books.owners;
-  with = λ s m. record s { books = record s.books { owners = m } };
-  held_with = λ s m. refl;
-  with_with = λ s m n. refl;
-  with_held = λ s. refl;
-}
+-- the columns
+abbrev pub owner_names : List (List ℕ)
+owner_names = codes "owner_no" ∷ codes "name" ∷ codes "address" ∷ codes "telephone" ∷ []
 
 -- ---- adding a row
 
 abbrev pub owner_adding : Adding Owner
 owner_adding = record {
-  text = codes "INSERT INTO owner (owner_no, name, address, telephone) VALUES (?1, ?2, ?3, ?4)";
+  text = insert_text (codes "owner") owner_names;
   place = 3;
   table = owner;
-  terms = lit Null ∷ col 0 0 ∷ col 0 1 ∷ col 0 2 ∷ col 0 3 ∷ [];
-  width = 5;
+  terms = lit Null ∷ terms_from 0 0 owner_names;
+  width = length owner_names + 1;
   source = without_rowid owner_row;
 }
 
-inserts : (s : Schema) → HasSince First s → (x : Owner) → IsInsertText owner_adding.text s 3 owner owner_adding.terms 5 (owner_row x) (owner_adding.source x)
+inserts : (s : Schema) → HasSince First s → (x : Owner) → IsInsertText owner_adding.text s 3 owner owner_adding.terms owner_adding.width (owner_row x) (owner_adding.source x)
 unfolding understood everything
-inserts = of_both (λ s. (x : Owner) → IsInsertText owner_adding.text s 3 owner owner_adding.terms 5 (owner_row x) (owner_adding.source x))
+inserts = of_both (λ s. (x : Owner) → IsInsertText owner_adding.text s 3 owner owner_adding.terms owner_adding.width (owner_row x) (owner_adding.source x))
     (λ x. record { command = refl; plain = (refl, refl); listed = refl; is_uncounted = refl; value = refl })
     (λ x. record { command = refl; plain = (refl, refl); listed = refl; is_uncounted = refl; value = refl })
 
@@ -76,19 +71,16 @@ owner_is_adding = record {
 -- ---- what the texts show
 
 abbrev owner_project : List Term
-owner_project = col 1 1 ∷ col 1 2 ∷ col 1 3 ∷ col 1 4 ∷ []
-
-abbrev owner_names : List (List ℕ)
-owner_names = codes "owner_no" ∷ codes "name" ∷ codes "address" ∷ codes "telephone" ∷ []
+owner_project = terms_from 1 1 owner_names
 
 -- ---- the whole table
 
 abbrev pub owner_listing : Listing
 owner_listing = record {
-  text = codes "SELECT owner_no, name, address, telephone FROM owner";
+  text = select_text (codes "owner") owner_names;
   project = owner_project;
   names = owner_names;
-  rowid_text = codes "SELECT rowid FROM owner";
+  rowid_text = select_text (codes "owner") (codes "rowid" ∷ []);
   rowid_name = codes "rowid";
 }
 
@@ -108,7 +100,7 @@ owner_is_listing = record {
 
 abbrev pub owner_numbered : Asking
 owner_numbered = record {
-  text = codes "SELECT owner_no, name, address, telephone FROM owner WHERE owner_no = ?1";
+  text = select_where (codes "owner") owner_names (codes "owner_no" ∷ []);
   tests = op2 (Compare Eq Binary) (col 1 1) (col 0 0) ∷ [];
   project = owner_project;
   names = owner_names;

@@ -1,6 +1,5 @@
 -- The table part_fee, which came with the second version.
-use Rattle.std.specs.Prelude.{refl, ℕ, List, [], ◌∷◌, codes, true, pos, nat_eq, ◌&&◌}
-use Rattle.std.specs.Ordering.{nat_cmp}
+use Rattle.std.specs.Prelude.{refl, ℕ, List, [], ◌∷◌, codes, true, pos, nat_eq, ◌&&◌, length, ◌+◌}
 use Rattle.sqlite_value.specs.declared.value.Value.TheVariants.{Int, Null, Text}
 use Rattle.sqlite_value.specs.declared.keys.Collation.TheVariants.{Binary}
 use Rattle.sqlite_value.specs.Order.{Row, column}
@@ -13,7 +12,6 @@ use Rattle.dh_values.specs.Texts.{is_id}
 use Rattle.dh_values.specs.declared.limits.TheConstants.{MOST_FEE, MOST_PENCE}
 use Rattle.dh_days.specs.declared.limits.TheConstants.{FIRST_MONTH, LAST_ENTRY_MONTH}
 use Rattle.dh_types.specs.declared.fee.PartFee.{PartFee}
-use Rattle.dh_model.specs.Books.{pair_cmp, text_cmp}
 use Rattle.dh_model.specs.Checks.{is_same_text}
 use Rattle.dh_rows.specs.PartFeeRows.{is_part_fee_row, part_fee_in, part_fee_row}
 use Rattle.sqlite_schema.specs.declared.schema.Schema.{Schema}
@@ -27,9 +25,10 @@ use Rattle.dh_sql.proofs.Casting.{cast_null, pass_each, row_stays}
 use Rattle.dh_tables.specs.declared.part_fee.FeeOfPart.{FeeOfPart}
 use Rattle.dh_tables.specs.declared.part_fee.FeesOfMonth.{FeesOfMonth}
 use Rattle.dh_tables.specs.Cells.{is_number, is_text as text_is, number_from, pass_both, pass_one, same_number, same_text, text_that}
+use Rattle.dh_tables.specs.Commands.{insert_text, select_text, select_where, terms_from}
 use Rattle.dh_tables.specs.Listing.{IsListing, Listing}
 use Rattle.dh_tables.specs.Questions.{Asking, IsAsking}
-use Rattle.dh_tables.specs.Tables.{Adding, IsAdding, Shelf, without_rowid}
+use Rattle.dh_tables.specs.Tables.{Adding, IsAdding, without_rowid}
 
 abbrev pub part_fee_columns : Row → Row
 part_fee_columns row = column row 1 ∷ column row 2 ∷ column row 3 ∷ column row 4 ∷ []
@@ -40,31 +39,26 @@ part_fee_cells = number_from FIRST_MONTH LAST_ENTRY_MONTH ∷ text_that is_id �
 abbrev pub part_fee_shape : Shape (ℕ × List ℕ) PartFee
 part_fee_shape = record { tree = 28; columns = part_fee_columns; is_row = is_part_fee_row; row_in = part_fee_in; key = λ it. (it.month, it.branch) }
 
-abbrev pub part_fee_shelf : Shelf (ℕ × List ℕ) PartFee (pair_cmp nat_cmp text_cmp)
-part_fee_shelf = record {
-  held = λ s. s.books.part_fees;
-  with = λ s m. record s { books = record s.books { part_fees = m } };
-  held_with = λ s m. refl;
-  with_with = λ s m n. refl;
-  with_held = λ s. refl;
-}
+-- the columns
+abbrev pub part_fee_names : List (List ℕ)
+part_fee_names = codes "month" ∷ codes "branch_no" ∷ codes "fee" ∷ codes "fee_total" ∷ []
 
 -- ---- adding a row
 
 abbrev pub part_fee_adding : Adding PartFee
 part_fee_adding = record {
-  text = codes "INSERT INTO part_fee (month, branch_no, fee, fee_total) VALUES (?1, ?2, ?3, ?4)";
+  text = insert_text (codes "part_fee") part_fee_names;
   place = 15;
   table = part_fee;
-  terms = lit Null ∷ col 0 0 ∷ col 0 1 ∷ col 0 2 ∷ col 0 3 ∷ [];
-  width = 5;
+  terms = lit Null ∷ terms_from 0 0 part_fee_names;
+  width = length part_fee_names + 1;
   source = without_rowid part_fee_row;
 }
 
 inserts : (s : Schema) → HasSince Second s → (x : PartFee) → IsInsertText part_fee_adding.text s 15 part_fee part_fee_adding.terms 5
     (part_fee_row x) (part_fee_adding.source x)
 unfolding understood everything
-inserts = of_second (λ s. (x : PartFee) → IsInsertText part_fee_adding.text s 15 part_fee part_fee_adding.terms 5 (part_fee_row x) (part_fee_adding.source x))
+inserts = of_second (λ s. (x : PartFee) → IsInsertText part_fee_adding.text s 15 part_fee part_fee_adding.terms part_fee_adding.width (part_fee_row x) (part_fee_adding.source x))
     (λ x. record { command = refl; plain = (refl, refl); listed = refl; is_uncounted = refl; value = refl })
 
 pub part_fee_is_adding : IsAdding Second part_fee_shape part_fee_row is_part_fee_row part_fee_adding
@@ -80,19 +74,16 @@ part_fee_is_adding = record {
 -- ---- what the texts show
 
 abbrev part_fee_project : List Term
-part_fee_project = col 1 1 ∷ col 1 2 ∷ col 1 3 ∷ col 1 4 ∷ []
-
-abbrev part_fee_names : List (List ℕ)
-part_fee_names = codes "month" ∷ codes "branch_no" ∷ codes "fee" ∷ codes "fee_total" ∷ []
+part_fee_project = terms_from 1 1 part_fee_names
 
 -- ---- the whole table
 
 abbrev pub part_fee_listing : Listing
 part_fee_listing = record {
-  text = codes "SELECT month, branch_no, fee, fee_total FROM part_fee";
+  text = select_text (codes "part_fee") part_fee_names;
   project = part_fee_project;
   names = part_fee_names;
-  rowid_text = codes "SELECT rowid FROM part_fee";
+  rowid_text = select_text (codes "part_fee") (codes "rowid" ∷ []);
   rowid_name = codes "rowid";
 }
 
@@ -110,7 +101,7 @@ part_fee_is_listing = record {
 
 abbrev pub fee_of_part : Asking
 fee_of_part = record {
-  text = codes "SELECT month, branch_no, fee, fee_total FROM part_fee WHERE month = ?1 AND branch_no = ?2";
+  text = select_where (codes "part_fee") part_fee_names (codes "month" ∷ codes "branch_no" ∷ []);
   tests = op2 (Compare Eq Binary) (col 1 1) (col 0 0) ∷ op2 (Compare Eq Binary) (col 1 2) (col 0 1) ∷ [];
   project = part_fee_project;
   names = part_fee_names;
@@ -134,7 +125,7 @@ fee_of_part_is = record {
 
 abbrev pub fees_of_month : Asking
 fees_of_month = record {
-  text = codes "SELECT month, branch_no, fee, fee_total FROM part_fee WHERE month = ?1";
+  text = select_where (codes "part_fee") part_fee_names (codes "month" ∷ []);
   tests = op2 (Compare Eq Binary) (col 1 1) (col 0 0) ∷ [];
   project = part_fee_project;
   names = part_fee_names;

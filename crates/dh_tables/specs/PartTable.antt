@@ -1,6 +1,5 @@
 -- The table part.
-use Rattle.std.specs.Prelude.{refl, ℕ, List, [], ◌∷◌, codes, true, pos, nat_eq, ◌&&◌}
-use Rattle.std.specs.Ordering.{nat_cmp}
+use Rattle.std.specs.Prelude.{refl, ℕ, List, [], ◌∷◌, codes, true, pos, nat_eq, ◌&&◌, length, ◌+◌}
 use Rattle.sqlite_value.specs.declared.value.Value.TheVariants.{Int, Null, Text}
 use Rattle.sqlite_value.specs.declared.keys.Collation.TheVariants.{Binary}
 use Rattle.sqlite_value.specs.Order.{Row, column}
@@ -13,7 +12,6 @@ use Rattle.dh_values.specs.Texts.{is_id}
 use Rattle.dh_values.specs.declared.limits.TheConstants.{MOST_NUMBER, MOST_PENCE}
 use Rattle.dh_days.specs.declared.limits.TheConstants.{FIRST_MONTH, LAST_ENTRY_MONTH}
 use Rattle.dh_types.specs.declared.run.Part.{Part}
-use Rattle.dh_model.specs.Books.{pair_cmp, text_cmp}
 use Rattle.dh_model.specs.Checks.{is_same_text}
 use Rattle.dh_rows.specs.declared.limits.TheConstants.{MOST_COUNT}
 use Rattle.dh_rows.specs.PartRows.{part_in, part_row, is_part_row}
@@ -28,9 +26,10 @@ use Rattle.dh_sql.proofs.Casting.{cast_null, pass_each, row_stays}
 use Rattle.dh_tables.specs.declared.part.PartOf.{PartOf}
 use Rattle.dh_tables.specs.declared.part.PartsOfMonth.{PartsOfMonth}
 use Rattle.dh_tables.specs.Cells.{is_number, is_text as text_is, number_from, pass_both, pass_one, same_number, same_text, text_that}
+use Rattle.dh_tables.specs.Commands.{insert_text, select_text, select_where, terms_from}
 use Rattle.dh_tables.specs.Listing.{IsListing, Listing}
 use Rattle.dh_tables.specs.Questions.{Asking, IsAsking}
-use Rattle.dh_tables.specs.Tables.{Adding, IsAdding, Shelf, without_rowid}
+use Rattle.dh_tables.specs.Tables.{Adding, IsAdding, without_rowid}
 
 abbrev pub part_columns : Row → Row
 part_columns row = column row 1 ∷ column row 2 ∷ column row 3 ∷ column row 4 ∷ column row 5 ∷ []
@@ -42,30 +41,25 @@ part_cells =
 abbrev pub part_shape : Shape (ℕ × List ℕ) Part
 part_shape = record { tree = 24; columns = part_columns; is_row = is_part_row; row_in = part_in; key = λ p. (p.month, p.branch) }
 
-abbrev pub part_shelf : Shelf (ℕ × List ℕ) Part (pair_cmp nat_cmp text_cmp)
-part_shelf = record {
-  held = λ s. s.books.parts;
-  with = λ s m. record s { books = record s.books { parts = m } };
-  held_with = λ s m. refl;
-  with_with = λ s m n. refl;
-  with_held = λ s. refl;
-}
+-- the columns
+abbrev pub part_names : List (List ℕ)
+part_names = codes "month" ∷ codes "branch_no" ∷ codes "through_lease" ∷ codes "due_count" ∷ codes "due_total" ∷ []
 
 -- ---- adding a row
 
 abbrev pub part_adding : Adding Part
 part_adding = record {
-  text = codes "INSERT INTO part (month, branch_no, through_lease, due_count, due_total) VALUES (?1, ?2, ?3, ?4, ?5)";
+  text = insert_text (codes "part") part_names;
   place = 13;
   table = part;
-  terms = lit Null ∷ col 0 0 ∷ col 0 1 ∷ col 0 2 ∷ col 0 3 ∷ col 0 4 ∷ [];
-  width = 6;
+  terms = lit Null ∷ terms_from 0 0 part_names;
+  width = length part_names + 1;
   source = without_rowid part_row;
 }
 
-inserts : (s : Schema) → HasSince First s → (x : Part) → IsInsertText part_adding.text s 13 part part_adding.terms 6 (part_row x) (part_adding.source x)
+inserts : (s : Schema) → HasSince First s → (x : Part) → IsInsertText part_adding.text s 13 part part_adding.terms part_adding.width (part_row x) (part_adding.source x)
 unfolding understood everything
-inserts = of_both (λ s. (x : Part) → IsInsertText part_adding.text s 13 part part_adding.terms 6 (part_row x) (part_adding.source x))
+inserts = of_both (λ s. (x : Part) → IsInsertText part_adding.text s 13 part part_adding.terms part_adding.width (part_row x) (part_adding.source x))
     (λ x. record { command = refl; plain = (refl, refl); listed = refl; is_uncounted = refl; value = refl })
     (λ x. record { command = refl; plain = (refl, refl); listed = refl; is_uncounted = refl; value = refl })
 
@@ -82,19 +76,16 @@ part_is_adding = record {
 -- ---- what the texts show
 
 abbrev part_project : List Term
-part_project = col 1 1 ∷ col 1 2 ∷ col 1 3 ∷ col 1 4 ∷ col 1 5 ∷ []
-
-abbrev part_names : List (List ℕ)
-part_names = codes "month" ∷ codes "branch_no" ∷ codes "through_lease" ∷ codes "due_count" ∷ codes "due_total" ∷ []
+part_project = terms_from 1 1 part_names
 
 -- ---- the whole table
 
 abbrev pub part_listing : Listing
 part_listing = record {
-  text = codes "SELECT month, branch_no, through_lease, due_count, due_total FROM part";
+  text = select_text (codes "part") part_names;
   project = part_project;
   names = part_names;
-  rowid_text = codes "SELECT rowid FROM part";
+  rowid_text = select_text (codes "part") (codes "rowid" ∷ []);
   rowid_name = codes "rowid";
 }
 
@@ -114,7 +105,7 @@ part_is_listing = record {
 
 abbrev pub part_of : Asking
 part_of = record {
-  text = codes "SELECT month, branch_no, through_lease, due_count, due_total FROM part WHERE month = ?1 AND branch_no = ?2";
+  text = select_where (codes "part") part_names (codes "month" ∷ codes "branch_no" ∷ []);
   tests = op2 (Compare Eq Binary) (col 1 1) (col 0 0) ∷ op2 (Compare Eq Binary) (col 1 2) (col 0 1) ∷ [];
   project = part_project;
   names = part_names;
@@ -141,7 +132,7 @@ part_of_is = record {
 
 abbrev pub parts_of_month : Asking
 parts_of_month = record {
-  text = codes "SELECT month, branch_no, through_lease, due_count, due_total FROM part WHERE month = ?1";
+  text = select_where (codes "part") part_names (codes "month" ∷ []);
   tests = op2 (Compare Eq Binary) (col 1 1) (col 0 0) ∷ [];
   project = part_project;
   names = part_names;

@@ -28,12 +28,13 @@ use Rattle.dh_sql.proofs.Casting.{cast_rowid, pass_all, pass_each, row_stays}
 use Rattle.dh_tables.specs.Amendments.{Amending, IsAmending}
 use Rattle.dh_tables.specs.Cells.{in_range, is_text as text_is, optional_passes, pass_one, same_text, tells_text}
 use Rattle.dh_tables.specs.PropertyTable.{property_cells, property_columns, property_numbered, property_shape}
+use Rattle.dh_tables.specs.Commands.{update_text}
 
 -- ---- UPDATE property SET staff_no = ?2 WHERE property_no = ?1
 
 abbrev pub manager_amending : Amending
 manager_amending = record {
-  text = codes "UPDATE property SET staff_no = ?2 WHERE property_no = ?1";
+  text = update_text (codes "property") (codes "property_no" ∷ []) (codes "staff_no" ∷ []);
   place = 4;
   table = property;
   tests = property_numbered.tests;
@@ -101,7 +102,7 @@ manager_is = record {
 
 abbrev pub rent_amending : Amending
 rent_amending = record {
-  text = codes "UPDATE property SET rent = ?2 WHERE property_no = ?1";
+  text = update_text (codes "property") (codes "property_no" ∷ []) (codes "rent" ∷ []);
   place = 4;
   table = property;
   tests = property_numbered.tests;

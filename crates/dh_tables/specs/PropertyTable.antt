@@ -1,5 +1,5 @@
 -- The table property.
-use Rattle.std.specs.Prelude.{refl, ℕ, List, [], ◌∷◌, codes, true, Some}
+use Rattle.std.specs.Prelude.{refl, ℕ, List, [], ◌∷◌, codes, true, Some, length, ◌+◌}
 use Rattle.sqlite_value.specs.declared.value.Value.TheVariants.{Null, Text}
 use Rattle.sqlite_value.specs.declared.keys.Collation.TheVariants.{Binary}
 use Rattle.sqlite_value.specs.Order.{Row, column}
@@ -13,7 +13,6 @@ use Rattle.dh_values.specs.Kinds.{property_type_of}
 use Rattle.dh_values.specs.declared.limits.TheConstants.{MOST_RENT, MOST_ROOMS}
 use Rattle.dh_types.specs.declared.property.Property.{Property}
 use Rattle.dh_types.specs.Records.{is_same_optional}
-use Rattle.dh_model.specs.Books.{text_cmp}
 use Rattle.dh_model.specs.Checks.{is_same_text}
 use Rattle.dh_rows.specs.PropertyRows.{property_in, property_row, is_property_row}
 use Rattle.sqlite_schema.specs.declared.schema.Schema.{Schema}
@@ -28,10 +27,10 @@ use Rattle.dh_tables.specs.declared.property.PropertyNumbered.{PropertyNumbered}
 use Rattle.dh_tables.specs.declared.property.PropertiesManaged.{PropertiesManaged}
 use Rattle.dh_tables.specs.declared.property.PropertiesOfOwner.{PropertiesOfOwner}
 use Rattle.dh_tables.specs.Cells.{is_text as text_is, number_from, optional_text_that, pass_one, read_as, same_optional, same_text, text_that}
-use Rattle.dh_tables.specs.Commands.{insert_text, select_text, select_where}
+use Rattle.dh_tables.specs.Commands.{insert_text, select_text, select_where, terms_from}
 use Rattle.dh_tables.specs.Listing.{IsListing, Listing}
 use Rattle.dh_tables.specs.Questions.{Asking, IsAsking}
-use Rattle.dh_tables.specs.Tables.{Adding, IsAdding, Shelf, without_rowid}
+use Rattle.dh_tables.specs.Tables.{Adding, IsAdding, without_rowid}
 
 abbrev pub property_columns : Row → Row
 property_columns row =
@@ -46,15 +45,6 @@ property_cells =
 abbrev pub property_shape : Shape (List ℕ) Property
 property_shape = record { tree = 7; columns = property_columns; is_row = is_property_row; row_in = property_in; key = λ p. p.number }
 
-abbrev pub property_shelf : Shelf (List ℕ) Property text_cmp
-property_shelf = record {
-  held = λ s. s.books.properties;
-  with = λ s m. record s { books = record s.books { properties = m } };
-  held_with = λ s m. refl;
-  with_with = λ s m n. refl;
-  with_held = λ s. refl;
-}
-
 -- the columns
 abbrev pub property_names : List (List ℕ)
 property_names =
@@ -68,15 +58,15 @@ property_adding = record {
   text = insert_text (codes "property") property_names;
   place = 4;
   table = property;
-  terms = lit Null ∷ col 0 0 ∷ col 0 1 ∷ col 0 2 ∷ col 0 3 ∷ col 0 4 ∷ col 0 5 ∷ col 0 6 ∷ col 0 7 ∷ col 0 8 ∷ col 0 9 ∷ [];
-  width = 11;
+  terms = lit Null ∷ terms_from 0 0 property_names;
+  width = length property_names + 1;
   source = without_rowid property_row;
 }
 
 inserts : (s : Schema) → HasSince First s → (x : Property)
-    → IsInsertText property_adding.text s 4 property property_adding.terms 11 (property_row x) (property_adding.source x)
+    → IsInsertText property_adding.text s 4 property property_adding.terms property_adding.width (property_row x) (property_adding.source x)
 unfolding understood everything
-inserts = of_both (λ s. (x : Property) → IsInsertText property_adding.text s 4 property property_adding.terms 11 (property_row x) (property_adding.source x))
+inserts = of_both (λ s. (x : Property) → IsInsertText property_adding.text s 4 property property_adding.terms property_adding.width (property_row x) (property_adding.source x))
     (λ x. record { command = refl; plain = (refl, refl); listed = refl; is_uncounted = refl; value = refl })
     (λ x. record { command = refl; plain = (refl, refl); listed = refl; is_uncounted = refl; value = refl })
 
@@ -93,7 +83,7 @@ property_is_adding = record {
 -- ---- what the texts show
 
 abbrev property_project : List Term
-property_project = col 1 1 ∷ col 1 2 ∷ col 1 3 ∷ col 1 4 ∷ col 1 5 ∷ col 1 6 ∷ col 1 7 ∷ col 1 8 ∷ col 1 9 ∷ col 1 10 ∷ []
+property_project = terms_from 1 1 property_names
 
 -- ---- the whole table
 
@@ -122,7 +112,7 @@ property_is_listing = record {
 
 abbrev pub property_numbered : Asking
 property_numbered = record {
-  text = select_where (codes "property") property_names (codes "property_no");
+  text = select_where (codes "property") property_names (codes "property_no" ∷ []);
   tests = op2 (Compare Eq Binary) (col 1 1) (col 0 0) ∷ [];
   project = property_project;
   names = property_names;
@@ -149,7 +139,7 @@ property_numbered_is = record {
 
 abbrev pub properties_managed : Asking
 properties_managed = record {
-  text = select_where (codes "property") property_names (codes "staff_no");
+  text = select_where (codes "property") property_names (codes "staff_no" ∷ []);
   tests = op2 (Compare Eq Binary) (col 1 9) (col 0 0) ∷ [];
   project = property_project;
   names = property_names;
@@ -176,7 +166,7 @@ properties_managed_is = record {
 
 abbrev pub properties_of_owner : Asking
 properties_of_owner = record {
-  text = select_where (codes "property") property_names (codes "owner_no");
+  text = select_where (codes "property") property_names (codes "owner_no" ∷ []);
   tests = op2 (Compare Eq Binary) (col 1 8) (col 0 0) ∷ [];
   project = property_project;
   names = property_names;

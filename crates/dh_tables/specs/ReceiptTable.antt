@@ -2,8 +2,7 @@
 use Rattle.std.proofs.Common.{◌∙◌, inl, inr, subst, sym, true≢false}
 use Rattle.std.proofs.lemmas.Bool.{cases_Bool}
 use Rattle.std.proofs.lemmas.Slice.Eq.{bytes_eq-Decides}
-use Rattle.std.specs.Prelude.{◌&&◌, bytes_eq, is_some, unwrap_or, ◌≡◌, refl, ℕ, List, [], ◌∷◌, codes, drop, true, pos, nat_eq}
-use Rattle.std.specs.Ordering.{nat_cmp}
+use Rattle.std.specs.Prelude.{◌++◌, ◌&&◌, bytes_eq, is_some, unwrap_or, ◌≡◌, refl, ℕ, List, [], ◌∷◌, codes, drop, true, pos, nat_eq, length, ◌+◌}
 use Rattle.sqlite_value.specs.declared.value.Value.{Value}
 use Rattle.sqlite_value.specs.declared.value.Value.TheVariants.{Blob, Int, Null, Real, Text}
 use Rattle.sqlite_value.specs.declared.keys.Collation.TheVariants.{Binary}
@@ -39,9 +38,10 @@ use Rattle.dh_tables.specs.declared.receipt.ReceiptKeyed.{ReceiptKeyed}
 use Rattle.dh_tables.specs.declared.receipt.ReceiptNumbered.{ReceiptNumbered}
 use Rattle.dh_tables.specs.declared.receipt.ReceiptsOfLease.{ReceiptsOfLease}
 use Rattle.dh_tables.specs.Cells.{is_number, is_text as text_is, number_from, pass_both, pass_one, read_as, rowid_column, same_number, same_text, text_that}
+use Rattle.dh_tables.specs.Commands.{insert_text, select_text, select_where, terms_from}
 use Rattle.dh_tables.specs.Listing.{IsListing, Listing}
 use Rattle.dh_tables.specs.Questions.{Asking, IsAsking}
-use Rattle.dh_tables.specs.Tables.{Adding, IsAdding, Shelf, own_rowid}
+use Rattle.dh_tables.specs.Tables.{Adding, IsAdding, own_rowid}
 
 -- the key is the rowid, and its own column holds NULL
 abbrev pub receipt_columns : Row → Row
@@ -55,31 +55,26 @@ receipt_cells =
 abbrev pub receipt_shape : Shape ℕ Receipt
 receipt_shape = record { tree = 20; columns = receipt_columns; is_row = is_receipt_row; row_in = receipt_in; key = λ r. r.number }
 
-abbrev pub receipt_shelf : Shelf ℕ Receipt nat_cmp
-receipt_shelf = record {
-  held = λ s. s.books.receipts;
-  with = λ s m. record s { books = record s.books { receipts = m } };
-  held_with = λ s m. refl;
-  with_with = λ s m n. refl;
-  with_held = λ s. refl;
-}
+-- the columns
+abbrev pub receipt_names : List (List ℕ)
+receipt_names = codes "receipt_no" ∷ codes "req_key" ∷ codes "lease_no" ∷ codes "kind" ∷ codes "amount" ∷ codes "day" ∷ []
 
 -- ---- adding a row
 
 abbrev pub receipt_adding : Adding Receipt
 receipt_adding = record {
-  text = codes "INSERT INTO receipt (receipt_no, req_key, lease_no, kind, amount, day) VALUES (?1, ?2, ?3, ?4, ?5, ?6)";
+  text = insert_text (codes "receipt") receipt_names;
   place = 11;
   table = receipt;
-  terms = col 0 0 ∷ lit Null ∷ col 0 1 ∷ col 0 2 ∷ col 0 3 ∷ col 0 4 ∷ col 0 5 ∷ [];
-  width = 7;
+  terms = col 0 0 ∷ lit Null ∷ terms_from 0 1 (drop 1 receipt_names);
+  width = length receipt_names + 1;
   source = own_rowid receipt_row;
 }
 
 inserts : (s : Schema) → HasSince First s → (x : Receipt)
-    → IsInsertText receipt_adding.text s 11 receipt receipt_adding.terms 7 (receipt_row x) (receipt_adding.source x)
+    → IsInsertText receipt_adding.text s 11 receipt receipt_adding.terms receipt_adding.width (receipt_row x) (receipt_adding.source x)
 unfolding understood everything
-inserts = of_both (λ s. (x : Receipt) → IsInsertText receipt_adding.text s 11 receipt receipt_adding.terms 7 (receipt_row x) (receipt_adding.source x))
+inserts = of_both (λ s. (x : Receipt) → IsInsertText receipt_adding.text s 11 receipt receipt_adding.terms receipt_adding.width (receipt_row x) (receipt_adding.source x))
     (λ x. record { command = refl; plain = (refl, refl); listed = refl; is_uncounted = refl; value = refl })
     (λ x. record { command = refl; plain = (refl, refl); listed = refl; is_uncounted = refl; value = refl })
 
@@ -102,19 +97,16 @@ receipt_is_adding = record {
 -- ---- what the texts show
 
 abbrev pub receipt_project : List Term
-receipt_project = col 1 0 ∷ col 1 2 ∷ col 1 3 ∷ col 1 4 ∷ col 1 5 ∷ col 1 6 ∷ []
-
-abbrev pub receipt_names : List (List ℕ)
-receipt_names = codes "receipt_no" ∷ codes "req_key" ∷ codes "lease_no" ∷ codes "kind" ∷ codes "amount" ∷ codes "day" ∷ []
+receipt_project = col 1 0 ∷ terms_from 1 2 (drop 1 receipt_names)
 
 -- ---- the whole table
 
 abbrev pub receipt_listing : Listing
 receipt_listing = record {
-  text = codes "SELECT receipt_no, req_key, lease_no, kind, amount, day FROM receipt";
+  text = select_text (codes "receipt") receipt_names;
   project = receipt_project;
   names = receipt_names;
-  rowid_text = codes "SELECT rowid FROM receipt";
+  rowid_text = select_text (codes "receipt") (codes "rowid" ∷ []);
   rowid_name = codes "receipt_no";
 }
 
@@ -134,7 +126,7 @@ receipt_is_listing = record {
 
 abbrev pub receipt_numbered : Asking
 receipt_numbered = record {
-  text = codes "SELECT receipt_no, req_key, lease_no, kind, amount, day FROM receipt WHERE receipt_no = ?1";
+  text = select_where (codes "receipt") receipt_names (codes "receipt_no" ∷ []);
   tests = op2 (Compare Eq Binary) (col 1 0) (col 0 0) ∷ [];
   project = receipt_project;
   names = receipt_names;
@@ -160,7 +152,7 @@ receipt_numbered_is = record {
 
 abbrev pub receipt_keyed : Asking
 receipt_keyed = record {
-  text = codes "SELECT receipt_no, req_key, lease_no, kind, amount, day FROM receipt WHERE req_key = ?1";
+  text = select_where (codes "receipt") receipt_names (codes "req_key" ∷ []);
   tests = op2 (Compare Eq Binary) (col 1 2) (col 0 0) ∷ [];
   project = receipt_project;
   names = receipt_names;
@@ -185,7 +177,7 @@ receipt_keyed_is = record {
 
 abbrev pub receipts_of_lease : Asking
 receipts_of_lease = record {
-  text = codes "SELECT receipt_no, req_key, lease_no, kind, amount, day FROM receipt WHERE lease_no = ?1";
+  text = select_where (codes "receipt") receipt_names (codes "lease_no" ∷ []);
   tests = op2 (Compare Eq Binary) (col 1 3) (col 0 0) ∷ [];
   project = receipt_project;
   names = receipt_names;
@@ -211,7 +203,7 @@ receipts_of_lease_is = record {
 
 abbrev pub deposits_of_lease : Asking
 deposits_of_lease = record {
-  text = codes "SELECT receipt_no, req_key, lease_no, kind, amount, day FROM receipt WHERE lease_no = ?1 AND kind = 'deposit'";
+  text = select_where (codes "receipt") receipt_names (codes "lease_no" ∷ []) ++ codes " AND kind = 'deposit'";
   tests = op2 (Compare Eq Binary) (col 1 3) (col 0 0) ∷ op2 (Compare Eq Binary) (col 1 4) (lit (Text (codes "deposit"))) ∷ [];
   project = receipt_project;
   names = receipt_names;

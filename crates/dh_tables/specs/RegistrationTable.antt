@@ -1,5 +1,5 @@
 -- The table registration.
-use Rattle.std.specs.Prelude.{refl, ℕ, List, [], ◌∷◌, codes, true, ◌&&◌}
+use Rattle.std.specs.Prelude.{refl, ℕ, List, [], ◌∷◌, codes, true, ◌&&◌, length, ◌+◌}
 use Rattle.sqlite_value.specs.declared.value.Value.TheVariants.{Null, Text}
 use Rattle.sqlite_value.specs.declared.keys.Collation.TheVariants.{Binary}
 use Rattle.sqlite_value.specs.Order.{Row, column}
@@ -11,7 +11,6 @@ use Rattle.sqlite.specs.Listing.{understood}
 use Rattle.dh_values.specs.Texts.{is_id}
 use Rattle.dh_days.specs.Days.{day_of}
 use Rattle.dh_types.specs.declared.client.Registration.{Registration}
-use Rattle.dh_model.specs.Books.{pair_cmp, text_cmp}
 use Rattle.dh_model.specs.Checks.{is_same_text}
 use Rattle.dh_rows.specs.RegistrationRows.{registration_in, registration_row, is_registration_row}
 use Rattle.sqlite_schema.specs.declared.schema.Schema.{Schema}
@@ -24,9 +23,10 @@ use Rattle.dh_sql.specs.Texts.{IsInsertText, IsSelectText}
 use Rattle.dh_sql.proofs.Casting.{cast_null, pass_each, row_stays}
 use Rattle.dh_tables.specs.declared.registration.RegistrationAt.{RegistrationAt}
 use Rattle.dh_tables.specs.Cells.{is_text as text_is, pass_both, read_as, same_text, text_that}
+use Rattle.dh_tables.specs.Commands.{insert_text, select_text, select_where, terms_from}
 use Rattle.dh_tables.specs.Listing.{IsListing, Listing}
 use Rattle.dh_tables.specs.Questions.{Asking, IsAsking}
-use Rattle.dh_tables.specs.Tables.{Adding, IsAdding, Shelf, without_rowid}
+use Rattle.dh_tables.specs.Tables.{Adding, IsAdding, without_rowid}
 
 abbrev pub registration_columns : Row → Row
 registration_columns row = column row 1 ∷ column row 2 ∷ column row 3 ∷ column row 4 ∷ []
@@ -43,32 +43,27 @@ registration_shape = record {
   key = λ r. (r.client, r.branch);
 }
 
-abbrev pub registration_shelf : Shelf (List ℕ × List ℕ) Registration (pair_cmp text_cmp text_cmp)
-registration_shelf = record {
-  held = λ s. s.books.registrations;
-  with = λ s m. record s { books = record s.books { registrations = m } };
-  held_with = λ s m. refl;
-  with_with = λ s m n. refl;
-  with_held = λ s. refl;
-}
+-- the columns
+abbrev pub registration_names : List (List ℕ)
+registration_names = codes "client_no" ∷ codes "branch_no" ∷ codes "staff_no" ∷ codes "day" ∷ []
 
 -- ---- adding a row
 
 abbrev pub registration_adding : Adding Registration
 registration_adding = record {
-  text = codes "INSERT INTO registration (client_no, branch_no, staff_no, day) VALUES (?1, ?2, ?3, ?4)";
+  text = insert_text (codes "registration") registration_names;
   place = 6;
   table = registration;
-  terms = lit Null ∷ col 0 0 ∷ col 0 1 ∷ col 0 2 ∷ col 0 3 ∷ [];
-  width = 5;
+  terms = lit Null ∷ terms_from 0 0 registration_names;
+  width = length registration_names + 1;
   source = without_rowid registration_row;
 }
 
 inserts : (s : Schema) → HasSince First s → (x : Registration)
-    → IsInsertText registration_adding.text s 6 registration registration_adding.terms 5 (registration_row x) (registration_adding.source x)
+    → IsInsertText registration_adding.text s 6 registration registration_adding.terms registration_adding.width (registration_row x) (registration_adding.source x)
 unfolding understood everything
 inserts = of_both (λ s. (x : Registration)
-    → IsInsertText registration_adding.text s 6 registration registration_adding.terms 5 (registration_row x) (registration_adding.source x))
+    → IsInsertText registration_adding.text s 6 registration registration_adding.terms registration_adding.width (registration_row x) (registration_adding.source x))
     (λ x. record { command = refl; plain = (refl, refl); listed = refl; is_uncounted = refl; value = refl })
     (λ x. record { command = refl; plain = (refl, refl); listed = refl; is_uncounted = refl; value = refl })
 
@@ -86,19 +81,16 @@ registration_is_adding = record {
 -- ---- what the texts show
 
 abbrev registration_project : List Term
-registration_project = col 1 1 ∷ col 1 2 ∷ col 1 3 ∷ col 1 4 ∷ []
-
-abbrev registration_names : List (List ℕ)
-registration_names = codes "client_no" ∷ codes "branch_no" ∷ codes "staff_no" ∷ codes "day" ∷ []
+registration_project = terms_from 1 1 registration_names
 
 -- ---- the whole table
 
 abbrev pub registration_listing : Listing
 registration_listing = record {
-  text = codes "SELECT client_no, branch_no, staff_no, day FROM registration";
+  text = select_text (codes "registration") registration_names;
   project = registration_project;
   names = registration_names;
-  rowid_text = codes "SELECT rowid FROM registration";
+  rowid_text = select_text (codes "registration") (codes "rowid" ∷ []);
   rowid_name = codes "rowid";
 }
 
@@ -118,7 +110,7 @@ registration_is_listing = record {
 
 abbrev pub registration_at : Asking
 registration_at = record {
-  text = codes "SELECT client_no, branch_no, staff_no, day FROM registration WHERE client_no = ?1 AND branch_no = ?2";
+  text = select_where (codes "registration") registration_names (codes "client_no" ∷ codes "branch_no" ∷ []);
   tests = op2 (Compare Eq Binary) (col 1 1) (col 0 0) ∷ op2 (Compare Eq Binary) (col 1 2) (col 0 1) ∷ [];
   project = registration_project;
   names = registration_names;

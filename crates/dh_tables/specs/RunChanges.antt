@@ -34,6 +34,7 @@ use Rattle.dh_tables.specs.Cells.{same_number, same_text, tells_both, tells_numb
 use Rattle.dh_tables.specs.RunTable.{run_cells, run_columns, run_of, run_shape}
 use Rattle.dh_tables.specs.PartTable.{part_cells, part_columns, part_of, part_shape}
 use Rattle.dh_tables.specs.PartFeeTable.{fee_of_part, part_fee_cells, part_fee_columns, part_fee_shape}
+use Rattle.dh_tables.specs.Commands.{update_text}
 
 -- ---- UPDATE run SET due_count = ?2, due_total = ?3, closed = 1 WHERE month = ?1
 
@@ -97,7 +98,7 @@ closing_is = record {
 
 abbrev pub part_amending : Amending
 part_amending = record {
-  text = codes "UPDATE part SET through_lease = ?3, due_count = ?4, due_total = ?5 WHERE month = ?1 AND branch_no = ?2";
+  text = update_text (codes "part") (codes "month" ∷ codes "branch_no" ∷ []) (codes "through_lease" ∷ codes "due_count" ∷ codes "due_total" ∷ []);
   place = 13;
   table = part;
   tests = part_of.tests;
@@ -157,7 +158,7 @@ part_is = record {
 
 abbrev pub fee_amending : Amending
 fee_amending = record {
-  text = codes "UPDATE part_fee SET fee = ?3, fee_total = ?4 WHERE month = ?1 AND branch_no = ?2";
+  text = update_text (codes "part_fee") (codes "month" ∷ codes "branch_no" ∷ []) (codes "fee" ∷ codes "fee_total" ∷ []);
   place = 15;
   table = part_fee;
   tests = fee_of_part.tests;

@@ -1,6 +1,5 @@
 -- The table run, whose key is its rowid.
-use Rattle.std.specs.Prelude.{◌≡◌, refl, ℕ, List, [], ◌∷◌, codes, drop, true, pos, nat_eq}
-use Rattle.std.specs.Ordering.{nat_cmp}
+use Rattle.std.specs.Prelude.{◌≡◌, refl, ℕ, List, [], ◌∷◌, codes, drop, true, pos, nat_eq, length, ◌+◌}
 use Rattle.sqlite_value.specs.declared.value.Value.TheVariants.{Int, Null, Text}
 use Rattle.sqlite_value.specs.declared.keys.Collation.TheVariants.{Binary}
 use Rattle.sqlite_value.specs.Order.{Row, column}
@@ -28,9 +27,10 @@ use Rattle.dh_sql.proofs.Casting.{cast_int, pass_each, row_stays}
 use Rattle.dh_tables.specs.declared.run.RunOf.{RunOf}
 use Rattle.dh_tables.specs.declared.run.RunKeyed.{RunKeyed}
 use Rattle.dh_tables.specs.Cells.{is_number, is_text as text_is, number_from, pass_one, rowid_column, same_number, same_text, text_that}
+use Rattle.dh_tables.specs.Commands.{insert_text, select_text, select_where, terms_from}
 use Rattle.dh_tables.specs.Listing.{IsListing, Listing}
 use Rattle.dh_tables.specs.Questions.{Asking, IsAsking}
-use Rattle.dh_tables.specs.Tables.{Adding, IsAdding, Shelf, own_rowid}
+use Rattle.dh_tables.specs.Tables.{Adding, IsAdding, own_rowid}
 
 -- the key is the rowid, and its own column holds NULL
 abbrev pub run_columns : Row → Row
@@ -42,30 +42,25 @@ run_cells = number_from FIRST_MONTH LAST_ENTRY_MONTH ∷ text_that is_key ∷ nu
 abbrev pub run_shape : Shape ℕ Run
 run_shape = record { tree = 22; columns = run_columns; is_row = is_run_row; row_in = run_in; key = λ r. r.month }
 
-abbrev pub run_shelf : Shelf ℕ Run nat_cmp
-run_shelf = record {
-  held = λ s. s.books.runs;
-  with = λ s m. record s { books = record s.books { runs = m } };
-  held_with = λ s m. refl;
-  with_with = λ s m n. refl;
-  with_held = λ s. refl;
-}
+-- the columns
+abbrev pub run_names : List (List ℕ)
+run_names = codes "month" ∷ codes "req_key" ∷ codes "due_count" ∷ codes "due_total" ∷ codes "closed" ∷ []
 
 -- ---- adding a row
 
 abbrev pub run_adding : Adding Run
 run_adding = record {
-  text = codes "INSERT INTO run (month, req_key, due_count, due_total, closed) VALUES (?1, ?2, ?3, ?4, ?5)";
+  text = insert_text (codes "run") run_names;
   place = 12;
   table = run;
-  terms = col 0 0 ∷ lit Null ∷ col 0 1 ∷ col 0 2 ∷ col 0 3 ∷ col 0 4 ∷ [];
-  width = 6;
+  terms = col 0 0 ∷ lit Null ∷ terms_from 0 1 (drop 1 run_names);
+  width = length run_names + 1;
   source = own_rowid run_row;
 }
 
-inserts : (s : Schema) → HasSince First s → (x : Run) → IsInsertText run_adding.text s 12 run run_adding.terms 6 (run_row x) (run_adding.source x)
+inserts : (s : Schema) → HasSince First s → (x : Run) → IsInsertText run_adding.text s 12 run run_adding.terms run_adding.width (run_row x) (run_adding.source x)
 unfolding understood everything
-inserts = of_both (λ s. (x : Run) → IsInsertText run_adding.text s 12 run run_adding.terms 6 (run_row x) (run_adding.source x))
+inserts = of_both (λ s. (x : Run) → IsInsertText run_adding.text s 12 run run_adding.terms run_adding.width (run_row x) (run_adding.source x))
     (λ x. record { command = refl; plain = (refl, refl); listed = refl; is_uncounted = refl; value = refl })
     (λ x. record { command = refl; plain = (refl, refl); listed = refl; is_uncounted = refl; value = refl })
 
@@ -87,19 +82,16 @@ run_is_adding = record {
 -- ---- what the texts show
 
 abbrev pub run_project : List Term
-run_project = col 1 0 ∷ col 1 2 ∷ col 1 3 ∷ col 1 4 ∷ col 1 5 ∷ []
-
-abbrev pub run_names : List (List ℕ)
-run_names = codes "month" ∷ codes "req_key" ∷ codes "due_count" ∷ codes "due_total" ∷ codes "closed" ∷ []
+run_project = col 1 0 ∷ terms_from 1 2 (drop 1 run_names)
 
 -- ---- the whole table
 
 abbrev pub run_listing : Listing
 run_listing = record {
-  text = codes "SELECT month, req_key, due_count, due_total, closed FROM run";
+  text = select_text (codes "run") run_names;
   project = run_project;
   names = run_names;
-  rowid_text = codes "SELECT rowid FROM run";
+  rowid_text = select_text (codes "run") (codes "rowid" ∷ []);
   rowid_name = codes "month";
 }
 
@@ -119,7 +111,7 @@ run_is_listing = record {
 
 abbrev pub run_of : Asking
 run_of = record {
-  text = codes "SELECT month, req_key, due_count, due_total, closed FROM run WHERE month = ?1";
+  text = select_where (codes "run") run_names (codes "month" ∷ []);
   tests = op2 (Compare Eq Binary) (col 1 0) (col 0 0) ∷ [];
   project = run_project;
   names = run_names;
@@ -144,7 +136,7 @@ run_of_is = record {
 
 abbrev pub run_keyed : Asking
 run_keyed = record {
-  text = codes "SELECT month, req_key, due_count, due_total, closed FROM run WHERE req_key = ?1";
+  text = select_where (codes "run") run_names (codes "req_key" ∷ []);
   tests = op2 (Compare Eq Binary) (col 1 2) (col 0 0) ∷ [];
   project = run_project;
   names = run_names;

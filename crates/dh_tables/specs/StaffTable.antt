@@ -1,5 +1,5 @@
 -- The table staff.
-use Rattle.std.specs.Prelude.{refl, ℕ, List, [], ◌∷◌, codes, true}
+use Rattle.std.specs.Prelude.{refl, ℕ, List, [], ◌∷◌, codes, true, length, ◌+◌}
 use Rattle.sqlite_value.specs.declared.value.Value.TheVariants.{Null, Text}
 use Rattle.sqlite_value.specs.declared.keys.Collation.TheVariants.{Binary}
 use Rattle.sqlite_value.specs.Order.{Row, column}
@@ -11,7 +11,6 @@ use Rattle.sqlite.specs.Listing.{understood}
 use Rattle.dh_values.specs.Texts.{is_id, is_text}
 use Rattle.dh_values.specs.Kinds.{position_of}
 use Rattle.dh_types.specs.declared.staff.Staff.{Staff}
-use Rattle.dh_model.specs.Books.{text_cmp}
 use Rattle.dh_model.specs.Checks.{is_same_text}
 use Rattle.dh_rows.specs.StaffRows.{staff_in, staff_row, is_staff_row}
 use Rattle.sqlite_schema.specs.declared.schema.Schema.{Schema}
@@ -24,9 +23,10 @@ use Rattle.dh_sql.specs.Texts.{IsInsertText, IsSelectText}
 use Rattle.dh_sql.proofs.Casting.{cast_null, pass_each, row_stays}
 use Rattle.dh_tables.specs.declared.staff.MemberNumbered.{MemberNumbered}
 use Rattle.dh_tables.specs.Cells.{is_text as text_is, pass_one, read_as, same_text, text_that}
+use Rattle.dh_tables.specs.Commands.{insert_text, select_text, select_where, terms_from}
 use Rattle.dh_tables.specs.Listing.{IsListing, Listing}
 use Rattle.dh_tables.specs.Questions.{Asking, IsAsking}
-use Rattle.dh_tables.specs.Tables.{Adding, IsAdding, Shelf, without_rowid}
+use Rattle.dh_tables.specs.Tables.{Adding, IsAdding, without_rowid}
 
 abbrev pub staff_columns : Row → Row
 staff_columns row = column row 1 ∷ column row 2 ∷ column row 3 ∷ column row 4 ∷ []
@@ -37,30 +37,25 @@ staff_cells = text_that is_id ∷ text_that (is_text 60) ∷ read_as position_of
 abbrev pub staff_shape : Shape (List ℕ) Staff
 staff_shape = record { tree = 3; columns = staff_columns; is_row = is_staff_row; row_in = staff_in; key = λ s. s.number }
 
-abbrev pub staff_shelf : Shelf (List ℕ) Staff text_cmp
-staff_shelf = record {
-  held = λ s. s.books.staff;
-  with = λ s m. record s { books = record s.books { staff = m } };
-  held_with = λ s m. refl;
-  with_with = λ s m n. refl;
-  with_held = λ s. refl;
-}
+-- the columns
+abbrev pub staff_names : List (List ℕ)
+staff_names = codes "staff_no" ∷ codes "name" ∷ codes "position" ∷ codes "branch_no" ∷ []
 
 -- ---- adding a row
 
 abbrev pub staff_adding : Adding Staff
 staff_adding = record {
-  text = codes "INSERT INTO staff (staff_no, name, position, branch_no) VALUES (?1, ?2, ?3, ?4)";
+  text = insert_text (codes "staff") staff_names;
   place = 2;
   table = staff;
-  terms = lit Null ∷ col 0 0 ∷ col 0 1 ∷ col 0 2 ∷ col 0 3 ∷ [];
-  width = 5;
+  terms = lit Null ∷ terms_from 0 0 staff_names;
+  width = length staff_names + 1;
   source = without_rowid staff_row;
 }
 
-inserts : (s : Schema) → HasSince First s → (x : Staff) → IsInsertText staff_adding.text s 2 staff staff_adding.terms 5 (staff_row x) (staff_adding.source x)
+inserts : (s : Schema) → HasSince First s → (x : Staff) → IsInsertText staff_adding.text s 2 staff staff_adding.terms staff_adding.width (staff_row x) (staff_adding.source x)
 unfolding understood everything
-inserts = of_both (λ s. (x : Staff) → IsInsertText staff_adding.text s 2 staff staff_adding.terms 5 (staff_row x) (staff_adding.source x))
+inserts = of_both (λ s. (x : Staff) → IsInsertText staff_adding.text s 2 staff staff_adding.terms staff_adding.width (staff_row x) (staff_adding.source x))
     (λ x. record { command = refl; plain = (refl, refl); listed = refl; is_uncounted = refl; value = refl })
     (λ x. record { command = refl; plain = (refl, refl); listed = refl; is_uncounted = refl; value = refl })
 
@@ -77,19 +72,16 @@ staff_is_adding = record {
 -- ---- what the texts show
 
 abbrev staff_project : List Term
-staff_project = col 1 1 ∷ col 1 2 ∷ col 1 3 ∷ col 1 4 ∷ []
-
-abbrev staff_names : List (List ℕ)
-staff_names = codes "staff_no" ∷ codes "name" ∷ codes "position" ∷ codes "branch_no" ∷ []
+staff_project = terms_from 1 1 staff_names
 
 -- ---- the whole table
 
 abbrev pub staff_listing : Listing
 staff_listing = record {
-  text = codes "SELECT staff_no, name, position, branch_no FROM staff";
+  text = select_text (codes "staff") staff_names;
   project = staff_project;
   names = staff_names;
-  rowid_text = codes "SELECT rowid FROM staff";
+  rowid_text = select_text (codes "staff") (codes "rowid" ∷ []);
   rowid_name = codes "rowid";
 }
 
@@ -109,7 +101,7 @@ staff_is_listing = record {
 
 abbrev pub member_numbered : Asking
 member_numbered = record {
-  text = codes "SELECT staff_no, name, position, branch_no FROM staff WHERE staff_no = ?1";
+  text = select_where (codes "staff") staff_names (codes "staff_no" ∷ []);
   tests = op2 (Compare Eq Binary) (col 1 1) (col 0 0) ∷ [];
   project = staff_project;
   names = staff_names;

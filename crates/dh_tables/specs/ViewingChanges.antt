@@ -22,10 +22,11 @@ use Rattle.dh_sql.proofs.Casting.{cast_rowid, pass_all, pass_each, row_stays}
 use Rattle.dh_tables.specs.Amendments.{Amending, IsAmending}
 use Rattle.dh_tables.specs.Cells.{is_text as text_is, optional_passes, pass_both, same_text, tells_both, tells_text}
 use Rattle.dh_tables.specs.ViewingTable.{viewing_cells, viewing_columns, viewing_of, viewing_shape}
+use Rattle.dh_tables.specs.Commands.{update_text}
 
 abbrev pub comment_amending : Amending
 comment_amending = record {
-  text = codes "UPDATE viewing SET comment = ?3 WHERE client_no = ?1 AND property_no = ?2";
+  text = update_text (codes "viewing") (codes "client_no" ∷ codes "property_no" ∷ []) (codes "comment" ∷ []);
   place = 7;
   table = viewing;
   tests = viewing_of.tests;

@@ -1,5 +1,5 @@
 -- The table viewing.
-use Rattle.std.specs.Prelude.{refl, ℕ, List, [], ◌∷◌, codes, true, ◌&&◌}
+use Rattle.std.specs.Prelude.{refl, ℕ, List, [], ◌∷◌, codes, true, ◌&&◌, length, ◌+◌}
 use Rattle.sqlite_value.specs.declared.value.Value.TheVariants.{Null, Text}
 use Rattle.sqlite_value.specs.declared.keys.Collation.TheVariants.{Binary}
 use Rattle.sqlite_value.specs.Order.{Row, column}
@@ -11,7 +11,6 @@ use Rattle.sqlite.specs.Listing.{understood}
 use Rattle.dh_values.specs.Texts.{is_id, is_text}
 use Rattle.dh_days.specs.Days.{day_of}
 use Rattle.dh_types.specs.declared.viewing.Viewing.{Viewing}
-use Rattle.dh_model.specs.Books.{pair_cmp, text_cmp}
 use Rattle.dh_model.specs.Checks.{is_same_text}
 use Rattle.dh_rows.specs.ViewingRows.{viewing_in, viewing_row, is_viewing_row}
 use Rattle.sqlite_schema.specs.declared.schema.Schema.{Schema}
@@ -24,9 +23,10 @@ use Rattle.dh_sql.specs.Texts.{IsInsertText, IsSelectText}
 use Rattle.dh_sql.proofs.Casting.{cast_null, pass_each, row_stays}
 use Rattle.dh_tables.specs.declared.viewing.ViewingOf.{ViewingOf}
 use Rattle.dh_tables.specs.Cells.{is_text as text_is, optional_text_that, pass_both, read_as, same_text, text_that}
+use Rattle.dh_tables.specs.Commands.{insert_text, select_text, select_where, terms_from}
 use Rattle.dh_tables.specs.Listing.{IsListing, Listing}
 use Rattle.dh_tables.specs.Questions.{Asking, IsAsking}
-use Rattle.dh_tables.specs.Tables.{Adding, IsAdding, Shelf, without_rowid}
+use Rattle.dh_tables.specs.Tables.{Adding, IsAdding, without_rowid}
 
 abbrev pub viewing_columns : Row → Row
 viewing_columns row = column row 1 ∷ column row 2 ∷ column row 3 ∷ column row 4 ∷ []
@@ -37,31 +37,26 @@ viewing_cells = text_that is_id ∷ text_that is_id ∷ read_as day_of ∷ optio
 abbrev pub viewing_shape : Shape (List ℕ × List ℕ) Viewing
 viewing_shape = record { tree = 13; columns = viewing_columns; is_row = is_viewing_row; row_in = viewing_in; key = λ v. (v.client, v.property) }
 
-abbrev pub viewing_shelf : Shelf (List ℕ × List ℕ) Viewing (pair_cmp text_cmp text_cmp)
-viewing_shelf = record {
-  held = λ s. s.books.viewings;
-  with = λ s m. record s { books = record s.books { viewings = m } };
-  held_with = λ s m. refl;
-  with_with = λ s m n. refl;
-  with_held = λ s. refl;
-}
+-- the columns
+abbrev pub viewing_names : List (List ℕ)
+viewing_names = codes "client_no" ∷ codes "property_no" ∷ codes "day" ∷ codes "comment" ∷ []
 
 -- ---- adding a row
 
 abbrev pub viewing_adding : Adding Viewing
 viewing_adding = record {
-  text = codes "INSERT INTO viewing (client_no, property_no, day, comment) VALUES (?1, ?2, ?3, ?4)";
+  text = insert_text (codes "viewing") viewing_names;
   place = 7;
   table = viewing;
-  terms = lit Null ∷ col 0 0 ∷ col 0 1 ∷ col 0 2 ∷ col 0 3 ∷ [];
-  width = 5;
+  terms = lit Null ∷ terms_from 0 0 viewing_names;
+  width = length viewing_names + 1;
   source = without_rowid viewing_row;
 }
 
 inserts : (s : Schema) → HasSince First s → (x : Viewing)
-    → IsInsertText viewing_adding.text s 7 viewing viewing_adding.terms 5 (viewing_row x) (viewing_adding.source x)
+    → IsInsertText viewing_adding.text s 7 viewing viewing_adding.terms viewing_adding.width (viewing_row x) (viewing_adding.source x)
 unfolding understood everything
-inserts = of_both (λ s. (x : Viewing) → IsInsertText viewing_adding.text s 7 viewing viewing_adding.terms 5 (viewing_row x) (viewing_adding.source x))
+inserts = of_both (λ s. (x : Viewing) → IsInsertText viewing_adding.text s 7 viewing viewing_adding.terms viewing_adding.width (viewing_row x) (viewing_adding.source x))
     (λ x. record { command = refl; plain = (refl, refl); listed = refl; is_uncounted = refl; value = refl })
     (λ x. record { command = refl; plain = (refl, refl); listed = refl; is_uncounted = refl; value = refl })
 
@@ -78,19 +73,16 @@ viewing_is_adding = record {
 -- ---- what the texts show
 
 abbrev viewing_project : List Term
-viewing_project = col 1 1 ∷ col 1 2 ∷ col 1 3 ∷ col 1 4 ∷ []
-
-abbrev viewing_names : List (List ℕ)
-viewing_names = codes "client_no" ∷ codes "property_no" ∷ codes "day" ∷ codes "comment" ∷ []
+viewing_project = terms_from 1 1 viewing_names
 
 -- ---- the whole table
 
 abbrev pub viewing_listing : Listing
 viewing_listing = record {
-  text = codes "SELECT client_no, property_no, day, comment FROM viewing";
+  text = select_text (codes "viewing") viewing_names;
   project = viewing_project;
   names = viewing_names;
-  rowid_text = codes "SELECT rowid FROM viewing";
+  rowid_text = select_text (codes "viewing") (codes "rowid" ∷ []);
   rowid_name = codes "rowid";
 }
 
@@ -110,7 +102,7 @@ viewing_is_listing = record {
 
 abbrev pub viewing_of : Asking
 viewing_of = record {
-  text = codes "SELECT client_no, property_no, day, comment FROM viewing WHERE client_no = ?1 AND property_no = ?2";
+  text = select_where (codes "viewing") viewing_names (codes "client_no" ∷ codes "property_no" ∷ []);
   tests = op2 (Compare Eq Binary) (col 1 1) (col 0 0) ∷ op2 (Compare Eq Binary) (col 1 2) (col 0 1) ∷ [];
   project = viewing_project;
   names = viewing_names;

@@ -6,14 +6,25 @@ use dh_types::{Branch, Id, Version};
 use sqlite::types::ValueRef;
 use std::alloc::{AllocError, Global};
 
+// Its columns, between two texts.
+macro_rules! of_branch {
+    ($before:literal, $after:literal) => {
+        concat!(
+            $before,
+            "branch_no, street, city, postcode",
+            $after
+        )
+    };
+}
+
 impl Tabled for Branch {
     ghost use Rattle.dh_types.specs.declared.version.Version.TheVariants.{First};
     ghost use Rattle.std.specs.Prelude.{refl};
     ghost use Rattle.dh_model.specs.Books.{text_cmp};
-    ghost use Rattle.dh_model.proofs.KeyOrders.{text_total, text_ties};
     ghost use Rattle.dh_model.specs.Kinds.{Branches};
     ghost use Rattle.dh_tables.specs.Kinds.{itself};
-    ghost use Rattle.dh_tables.specs.BranchTable.{branch_adding, branch_is_adding, branch_shape, branch_shelf};
+    ghost use Rattle.dh_tables.specs.Shelves.{shelf_of};
+    ghost use Rattle.dh_tables.specs.BranchTable.{branch_adding, branch_is_adding, branch_shape};
 
     ghost shape = { branch_shape };
 
@@ -27,21 +38,17 @@ impl Tabled for Branch {
 
     ghost adding = { branch_adding };
 
-    ghost shelf = { branch_shelf };
+    ghost shelf = { shelf_of Branches };
 
     ghost is_kind = { itself Branches };
 
     fn insert_text() -> &'static str {
-        "INSERT INTO branch (branch_no, street, city, postcode) VALUES (?1, ?2, ?3, ?4)"
+        of_branch!("INSERT INTO branch (", ") VALUES (?1, ?2, ?3, ?4)")
     }
 
     fn put(self, books: &mut Books) -> Result<(), AllocError> {
         books.put_branch(self)
     }
-
-    ghost total = { text_total };
-
-    ghost ties = { text_ties };
 
     ghost has_shape = { record { is_row_is = λ r. refl; row_in_is = λ r. refl; key_is = λ x. refl } };
 
@@ -54,7 +61,7 @@ impl Listed for Branch {
     ghost listing = { branch_listing };
 
     fn list_text() -> &'static str {
-        "SELECT branch_no, street, city, postcode FROM branch"
+        of_branch!("SELECT ", " FROM branch")
     }
 
     fn rowid_text() -> &'static str {
@@ -89,7 +96,7 @@ impl Look for BranchNumbered {
     ghost given = { λ q. Text q.number ∷ [] };
 
     fn text() -> &'static str {
-        "SELECT branch_no, street, city, postcode FROM branch WHERE branch_no = ?1"
+        of_branch!("SELECT ", " FROM branch WHERE branch_no = ?1")
     }
 
     fn day_bytes(&self, alloc: Global) -> Result<Vec<u8>, AllocError> {

@@ -6,14 +6,25 @@ use dh_types::{BranchFee, Id, Version};
 use sqlite::types::ValueRef;
 use std::alloc::{AllocError, Global};
 
+// Its columns, between two texts.
+macro_rules! of_branch_fee {
+    ($before:literal, $after:literal) => {
+        concat!(
+            $before,
+            "branch_no, fee",
+            $after
+        )
+    };
+}
+
 impl Tabled for BranchFee {
     ghost use Rattle.dh_types.specs.declared.version.Version.TheVariants.{Second};
     ghost use Rattle.std.specs.Prelude.{refl};
     ghost use Rattle.dh_model.specs.Books.{text_cmp};
-    ghost use Rattle.dh_model.proofs.KeyOrders.{text_total, text_ties};
     ghost use Rattle.dh_model.specs.Kinds.{BranchFees};
     ghost use Rattle.dh_tables.specs.Kinds.{itself};
-    ghost use Rattle.dh_tables.specs.BranchFeeTable.{branch_fee_adding, branch_fee_is_adding, branch_fee_shape, branch_fee_shelf};
+    ghost use Rattle.dh_tables.specs.Shelves.{shelf_of};
+    ghost use Rattle.dh_tables.specs.BranchFeeTable.{branch_fee_adding, branch_fee_is_adding, branch_fee_shape};
 
     ghost shape = { branch_fee_shape };
 
@@ -27,21 +38,17 @@ impl Tabled for BranchFee {
 
     ghost adding = { branch_fee_adding };
 
-    ghost shelf = { branch_fee_shelf };
+    ghost shelf = { shelf_of BranchFees };
 
     ghost is_kind = { itself BranchFees };
 
     fn insert_text() -> &'static str {
-        "INSERT INTO branch_fee (branch_no, fee) VALUES (?1, ?2)"
+        of_branch_fee!("INSERT INTO branch_fee (", ") VALUES (?1, ?2)")
     }
 
     fn put(self, books: &mut Books) -> Result<(), AllocError> {
         books.put_branch_fee(self)
     }
-
-    ghost total = { text_total };
-
-    ghost ties = { text_ties };
 
     ghost has_shape = { record { is_row_is = λ r. refl; row_in_is = λ r. refl; key_is = λ x. refl } };
 
@@ -54,7 +61,7 @@ impl Listed for BranchFee {
     ghost listing = { branch_fee_listing };
 
     fn list_text() -> &'static str {
-        "SELECT branch_no, fee FROM branch_fee"
+        of_branch_fee!("SELECT ", " FROM branch_fee")
     }
 
     fn rowid_text() -> &'static str {
@@ -89,7 +96,7 @@ impl Look for FeeOfBranch {
     ghost given = { λ q. Text q.branch ∷ [] };
 
     fn text() -> &'static str {
-        "SELECT branch_no, fee FROM branch_fee WHERE branch_no = ?1"
+        of_branch_fee!("SELECT ", " FROM branch_fee WHERE branch_no = ?1")
     }
 
     fn day_bytes(&self, alloc: Global) -> Result<Vec<u8>, AllocError> {

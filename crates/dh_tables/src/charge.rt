@@ -6,15 +6,26 @@ use dh_types::{Charge, ChargeIndex, EntryMonth, LeaseNo, Version};
 use sqlite::types::ValueRef;
 use std::alloc::{AllocError, Global};
 
+// Its columns, between two texts.
+macro_rules! of_charge {
+    ($before:literal, $after:literal) => {
+        concat!(
+            $before,
+            "lease_no, k, month, day, amount",
+            $after
+        )
+    };
+}
+
 impl Tabled for Charge {
     ghost use Rattle.dh_types.specs.declared.version.Version.TheVariants.{First};
     ghost use Rattle.std.specs.Prelude.{refl};
     ghost use Rattle.std.specs.Ordering.{nat_cmp};
     ghost use Rattle.dh_model.specs.Books.{pair_cmp};
-    ghost use Rattle.dh_model.proofs.KeyOrders.{nats_total, nats_tie};
     ghost use Rattle.dh_model.specs.Kinds.{Charges};
     ghost use Rattle.dh_tables.specs.Kinds.{itself};
-    ghost use Rattle.dh_tables.specs.ChargeTable.{charge_adding, charge_is_adding, charge_shape, charge_shelf};
+    ghost use Rattle.dh_tables.specs.Shelves.{shelf_of};
+    ghost use Rattle.dh_tables.specs.ChargeTable.{charge_adding, charge_is_adding, charge_shape};
 
     ghost shape = { charge_shape };
 
@@ -28,21 +39,17 @@ impl Tabled for Charge {
 
     ghost adding = { charge_adding };
 
-    ghost shelf = { charge_shelf };
+    ghost shelf = { shelf_of Charges };
 
     ghost is_kind = { itself Charges };
 
     fn insert_text() -> &'static str {
-        "INSERT INTO charge (lease_no, k, month, day, amount) VALUES (?1, ?2, ?3, ?4, ?5)"
+        of_charge!("INSERT INTO charge (", ") VALUES (?1, ?2, ?3, ?4, ?5)")
     }
 
     fn put(self, books: &mut Books) -> Result<(), AllocError> {
         books.put_charge(self)
     }
-
-    ghost total = { nats_total };
-
-    ghost ties = { nats_tie };
 
     ghost has_shape = { record { is_row_is = λ r. refl; row_in_is = λ r. refl; key_is = λ x. refl } };
 
@@ -55,7 +62,7 @@ impl Listed for Charge {
     ghost listing = { charge_listing };
 
     fn list_text() -> &'static str {
-        "SELECT lease_no, k, month, day, amount FROM charge"
+        of_charge!("SELECT ", " FROM charge")
     }
 
     fn rowid_text() -> &'static str {
@@ -90,7 +97,7 @@ impl Look for ChargeOf {
     ghost given = { λ q. Int (pos q.lease) ∷ Int (pos q.index) ∷ [] };
 
     fn text() -> &'static str {
-        "SELECT lease_no, k, month, day, amount FROM charge WHERE lease_no = ?1 AND k = ?2"
+        of_charge!("SELECT ", " FROM charge WHERE lease_no = ?1 AND k = ?2")
     }
 
     fn day_bytes(&self, alloc: Global) -> Result<Vec<u8>, AllocError> {
@@ -132,7 +139,7 @@ impl Look for ChargesOfLease {
     ghost given = { λ q. Int (pos q.lease) ∷ [] };
 
     fn text() -> &'static str {
-        "SELECT lease_no, k, month, day, amount FROM charge WHERE lease_no = ?1"
+        of_charge!("SELECT ", " FROM charge WHERE lease_no = ?1")
     }
 
     fn day_bytes(&self, alloc: Global) -> Result<Vec<u8>, AllocError> {
@@ -170,7 +177,7 @@ impl Look for ChargesOfMonth {
     ghost given = { λ q. Int (pos q.month) ∷ [] };
 
     fn text() -> &'static str {
-        "SELECT lease_no, k, month, day, amount FROM charge WHERE month = ?1"
+        of_charge!("SELECT ", " FROM charge WHERE month = ?1")
     }
 
     fn day_bytes(&self, alloc: Global) -> Result<Vec<u8>, AllocError> {

@@ -6,14 +6,25 @@ use dh_types::{Client, Id, Version};
 use sqlite::types::ValueRef;
 use std::alloc::{AllocError, Global};
 
+// Its columns, between two texts.
+macro_rules! of_client {
+    ($before:literal, $after:literal) => {
+        concat!(
+            $before,
+            "client_no, name, telephone, pref_type, max_rent",
+            $after
+        )
+    };
+}
+
 impl Tabled for Client {
     ghost use Rattle.dh_types.specs.declared.version.Version.TheVariants.{First};
     ghost use Rattle.std.specs.Prelude.{refl};
     ghost use Rattle.dh_model.specs.Books.{text_cmp};
-    ghost use Rattle.dh_model.proofs.KeyOrders.{text_total, text_ties};
     ghost use Rattle.dh_model.specs.Kinds.{Clients};
     ghost use Rattle.dh_tables.specs.Kinds.{itself};
-    ghost use Rattle.dh_tables.specs.ClientTable.{client_adding, client_is_adding, client_shape, client_shelf};
+    ghost use Rattle.dh_tables.specs.Shelves.{shelf_of};
+    ghost use Rattle.dh_tables.specs.ClientTable.{client_adding, client_is_adding, client_shape};
 
     ghost shape = { client_shape };
 
@@ -27,21 +38,17 @@ impl Tabled for Client {
 
     ghost adding = { client_adding };
 
-    ghost shelf = { client_shelf };
+    ghost shelf = { shelf_of Clients };
 
     ghost is_kind = { itself Clients };
 
     fn insert_text() -> &'static str {
-        "INSERT INTO client (client_no, name, telephone, pref_type, max_rent) VALUES (?1, ?2, ?3, ?4, ?5)"
+        of_client!("INSERT INTO client (", ") VALUES (?1, ?2, ?3, ?4, ?5)")
     }
 
     fn put(self, books: &mut Books) -> Result<(), AllocError> {
         books.put_client(self)
     }
-
-    ghost total = { text_total };
-
-    ghost ties = { text_ties };
 
     ghost has_shape = { record { is_row_is = λ r. refl; row_in_is = λ r. refl; key_is = λ x. refl } };
 
@@ -54,7 +61,7 @@ impl Listed for Client {
     ghost listing = { client_listing };
 
     fn list_text() -> &'static str {
-        "SELECT client_no, name, telephone, pref_type, max_rent FROM client"
+        of_client!("SELECT ", " FROM client")
     }
 
     fn rowid_text() -> &'static str {
@@ -89,7 +96,7 @@ impl Look for ClientNumbered {
     ghost given = { λ q. Text q.number ∷ [] };
 
     fn text() -> &'static str {
-        "SELECT client_no, name, telephone, pref_type, max_rent FROM client WHERE client_no = ?1"
+        of_client!("SELECT ", " FROM client WHERE client_no = ?1")
     }
 
     fn day_bytes(&self, alloc: Global) -> Result<Vec<u8>, AllocError> {

@@ -6,14 +6,25 @@ use dh_types::{Ending, LeaseNo, Version};
 use sqlite::types::ValueRef;
 use std::alloc::{AllocError, Global};
 
+// Its columns, between two texts.
+macro_rules! of_ending {
+    ($before:literal, $after:literal) => {
+        concat!(
+            $before,
+            "lease_no, months",
+            $after
+        )
+    };
+}
+
 impl Tabled for Ending {
     ghost use Rattle.dh_types.specs.declared.version.Version.TheVariants.{Second};
     ghost use Rattle.std.specs.Prelude.{refl};
     ghost use Rattle.std.specs.Ordering.{nat_cmp};
-    ghost use Rattle.dh_model.proofs.KeyOrders.{nat_total, nat_ties};
     ghost use Rattle.dh_model.specs.Kinds.{Endings};
     ghost use Rattle.dh_tables.specs.Kinds.{itself};
-    ghost use Rattle.dh_tables.specs.EndingTable.{ending_adding, ending_is_adding, ending_shape, ending_shelf};
+    ghost use Rattle.dh_tables.specs.Shelves.{shelf_of};
+    ghost use Rattle.dh_tables.specs.EndingTable.{ending_adding, ending_is_adding, ending_shape};
 
     ghost shape = { ending_shape };
 
@@ -27,21 +38,17 @@ impl Tabled for Ending {
 
     ghost adding = { ending_adding };
 
-    ghost shelf = { ending_shelf };
+    ghost shelf = { shelf_of Endings };
 
     ghost is_kind = { itself Endings };
 
     fn insert_text() -> &'static str {
-        "INSERT INTO ending (lease_no, months) VALUES (?1, ?2)"
+        of_ending!("INSERT INTO ending (", ") VALUES (?1, ?2)")
     }
 
     fn put(self, books: &mut Books) -> Result<(), AllocError> {
         books.put_ending(self)
     }
-
-    ghost total = { nat_total };
-
-    ghost ties = { nat_ties };
 
     ghost has_shape = { record { is_row_is = λ r. refl; row_in_is = λ r. refl; key_is = λ x. refl } };
 
@@ -54,7 +61,7 @@ impl Listed for Ending {
     ghost listing = { ending_listing };
 
     fn list_text() -> &'static str {
-        "SELECT lease_no, months FROM ending"
+        of_ending!("SELECT ", " FROM ending")
     }
 
     fn rowid_text() -> &'static str {
@@ -88,7 +95,7 @@ impl Look for EndingOf {
     ghost given = { λ q. Int (pos q.lease) ∷ [] };
 
     fn text() -> &'static str {
-        "SELECT lease_no, months FROM ending WHERE lease_no = ?1"
+        of_ending!("SELECT ", " FROM ending WHERE lease_no = ?1")
     }
 
     fn day_bytes(&self, alloc: Global) -> Result<Vec<u8>, AllocError> {

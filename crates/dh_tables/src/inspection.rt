@@ -6,15 +6,26 @@ use dh_types::{EntryDay, Id, Inspection, Version};
 use sqlite::types::ValueRef;
 use std::alloc::{AllocError, Global};
 
+// Its columns, between two texts.
+macro_rules! of_inspection {
+    ($before:literal, $after:literal) => {
+        concat!(
+            $before,
+            "property_no, day, staff_no, comment",
+            $after
+        )
+    };
+}
+
 impl Tabled for Inspection {
     ghost use Rattle.dh_types.specs.declared.version.Version.TheVariants.{First};
     ghost use Rattle.std.specs.Prelude.{refl};
     ghost use Rattle.std.specs.Ordering.{nat_cmp};
     ghost use Rattle.dh_model.specs.Books.{pair_cmp, text_cmp};
-    ghost use Rattle.dh_model.proofs.KeyOrders.{text_nat_total, text_nat_ties};
     ghost use Rattle.dh_model.specs.Kinds.{Inspections};
     ghost use Rattle.dh_tables.specs.Kinds.{itself};
-    ghost use Rattle.dh_tables.specs.InspectionTable.{inspection_adding, inspection_is_adding, inspection_shape, inspection_shelf};
+    ghost use Rattle.dh_tables.specs.Shelves.{shelf_of};
+    ghost use Rattle.dh_tables.specs.InspectionTable.{inspection_adding, inspection_is_adding, inspection_shape};
 
     ghost shape = { inspection_shape };
 
@@ -28,21 +39,17 @@ impl Tabled for Inspection {
 
     ghost adding = { inspection_adding };
 
-    ghost shelf = { inspection_shelf };
+    ghost shelf = { shelf_of Inspections };
 
     ghost is_kind = { itself Inspections };
 
     fn insert_text() -> &'static str {
-        "INSERT INTO inspection (property_no, day, staff_no, comment) VALUES (?1, ?2, ?3, ?4)"
+        of_inspection!("INSERT INTO inspection (", ") VALUES (?1, ?2, ?3, ?4)")
     }
 
     fn put(self, books: &mut Books) -> Result<(), AllocError> {
         books.put_inspection(self)
     }
-
-    ghost total = { text_nat_total };
-
-    ghost ties = { text_nat_ties };
 
     ghost has_shape = { record { is_row_is = λ r. refl; row_in_is = λ r. refl; key_is = λ x. refl } };
 
@@ -55,7 +62,7 @@ impl Listed for Inspection {
     ghost listing = { inspection_listing };
 
     fn list_text() -> &'static str {
-        "SELECT property_no, day, staff_no, comment FROM inspection"
+        of_inspection!("SELECT ", " FROM inspection")
     }
 
     fn rowid_text() -> &'static str {
@@ -96,7 +103,10 @@ impl Look for InspectionOf {
     ghost can_ask = { λ q. IsEntryDay q.day };
 
     fn text() -> &'static str {
-        "SELECT property_no, day, staff_no, comment FROM inspection WHERE property_no = ?1 AND day = ?2"
+        of_inspection!(
+            "SELECT ",
+            " FROM inspection WHERE property_no = ?1 AND day = ?2"
+        )
     }
 
     fn day_bytes(&self, alloc: Global) -> Result<Vec<u8>, AllocError> {

@@ -6,14 +6,25 @@ use dh_types::{EntryDay, Id, Lease, LeaseNo, Version};
 use sqlite::types::ValueRef;
 use std::alloc::{AllocError, Global};
 
+// Its columns, between two texts.
+macro_rules! of_lease {
+    ($before:literal, $after:literal) => {
+        concat!(
+            $before,
+            "lease_no, client_no, property_no, start_day, months, method, rent",
+            $after
+        )
+    };
+}
+
 impl Tabled for Lease {
     ghost use Rattle.dh_types.specs.declared.version.Version.TheVariants.{First};
     ghost use Rattle.std.specs.Prelude.{refl};
     ghost use Rattle.std.specs.Ordering.{nat_cmp};
-    ghost use Rattle.dh_model.proofs.KeyOrders.{nat_total, nat_ties};
     ghost use Rattle.dh_model.specs.Kinds.{Leases};
     ghost use Rattle.dh_tables.specs.Kinds.{itself};
-    ghost use Rattle.dh_tables.specs.LeaseTable.{lease_adding, lease_is_adding, lease_shape, lease_shelf};
+    ghost use Rattle.dh_tables.specs.Shelves.{shelf_of};
+    ghost use Rattle.dh_tables.specs.LeaseTable.{lease_adding, lease_is_adding, lease_shape};
 
     ghost shape = { lease_shape };
 
@@ -27,21 +38,20 @@ impl Tabled for Lease {
 
     ghost adding = { lease_adding };
 
-    ghost shelf = { lease_shelf };
+    ghost shelf = { shelf_of Leases };
 
     ghost is_kind = { itself Leases };
 
     fn insert_text() -> &'static str {
-        "INSERT INTO lease (lease_no, client_no, property_no, start_day, months, method, rent) VALUES (?1, ?2, ?3, ?4, ?5, ?6, ?7)"
+        of_lease!(
+            "INSERT INTO lease (",
+            ") VALUES (?1, ?2, ?3, ?4, ?5, ?6, ?7)"
+        )
     }
 
     fn put(self, books: &mut Books) -> Result<(), AllocError> {
         books.put_lease(self)
     }
-
-    ghost total = { nat_total };
-
-    ghost ties = { nat_ties };
 
     ghost has_shape = { record { is_row_is = λ r. refl; row_in_is = λ r. refl; key_is = λ x. refl } };
 
@@ -54,7 +64,7 @@ impl Listed for Lease {
     ghost listing = { lease_listing };
 
     fn list_text() -> &'static str {
-        "SELECT lease_no, client_no, property_no, start_day, months, method, rent FROM lease"
+        of_lease!("SELECT ", " FROM lease")
     }
 
     fn rowid_text() -> &'static str {
@@ -88,7 +98,7 @@ impl Look for LeaseNumbered {
     ghost given = { λ q. Int (pos q.number) ∷ [] };
 
     fn text() -> &'static str {
-        "SELECT lease_no, client_no, property_no, start_day, months, method, rent FROM lease WHERE lease_no = ?1"
+        of_lease!("SELECT ", " FROM lease WHERE lease_no = ?1")
     }
 
     fn day_bytes(&self, alloc: Global) -> Result<Vec<u8>, AllocError> {
@@ -127,7 +137,7 @@ impl Look for LeasesOfProperty {
     ghost given = { λ q. Text q.property ∷ [] };
 
     fn text() -> &'static str {
-        "SELECT lease_no, client_no, property_no, start_day, months, method, rent FROM lease WHERE property_no = ?1"
+        of_lease!("SELECT ", " FROM lease WHERE property_no = ?1")
     }
 
     fn day_bytes(&self, alloc: Global) -> Result<Vec<u8>, AllocError> {
@@ -172,7 +182,10 @@ impl Look for LeasesOfClientFrom {
     ghost can_ask = { λ q. IsEntryDay q.start };
 
     fn text() -> &'static str {
-        "SELECT lease_no, client_no, property_no, start_day, months, method, rent FROM lease WHERE client_no = ?1 AND start_day = ?2"
+        of_lease!(
+            "SELECT ",
+            " FROM lease WHERE client_no = ?1 AND start_day = ?2"
+        )
     }
 
     fn day_bytes(&self, alloc: Global) -> Result<Vec<u8>, AllocError> {

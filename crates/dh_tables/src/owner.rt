@@ -6,14 +6,25 @@ use dh_types::{Id, Owner, Version};
 use sqlite::types::ValueRef;
 use std::alloc::{AllocError, Global};
 
+// Its columns, between two texts.
+macro_rules! of_owner {
+    ($before:literal, $after:literal) => {
+        concat!(
+            $before,
+            "owner_no, name, address, telephone",
+            $after
+        )
+    };
+}
+
 impl Tabled for Owner {
     ghost use Rattle.dh_types.specs.declared.version.Version.TheVariants.{First};
     ghost use Rattle.std.specs.Prelude.{refl};
     ghost use Rattle.dh_model.specs.Books.{text_cmp};
-    ghost use Rattle.dh_model.proofs.KeyOrders.{text_total, text_ties};
     ghost use Rattle.dh_model.specs.Kinds.{Owners};
     ghost use Rattle.dh_tables.specs.Kinds.{itself};
-    ghost use Rattle.dh_tables.specs.OwnerTable.{owner_adding, owner_is_adding, owner_shape, owner_shelf};
+    ghost use Rattle.dh_tables.specs.Shelves.{shelf_of};
+    ghost use Rattle.dh_tables.specs.OwnerTable.{owner_adding, owner_is_adding, owner_shape};
 
     ghost shape = { owner_shape };
 
@@ -27,21 +38,17 @@ impl Tabled for Owner {
 
     ghost adding = { owner_adding };
 
-    ghost shelf = { owner_shelf };
+    ghost shelf = { shelf_of Owners };
 
     ghost is_kind = { itself Owners };
 
     fn insert_text() -> &'static str {
-        "INSERT INTO owner (owner_no, name, address, telephone) VALUES (?1, ?2, ?3, ?4)"
+        of_owner!("INSERT INTO owner (", ") VALUES (?1, ?2, ?3, ?4)")
     }
 
     fn put(self, books: &mut Books) -> Result<(), AllocError> {
         books.put_owner(self)
     }
-
-    ghost total = { text_total };
-
-    ghost ties = { text_ties };
 
     ghost has_shape = { record { is_row_is = λ r. refl; row_in_is = λ r. refl; key_is = λ x. refl } };
 
@@ -54,7 +61,7 @@ impl Listed for Owner {
     ghost listing = { owner_listing };
 
     fn list_text() -> &'static str {
-        "SELECT owner_no, name, address, telephone FROM owner"
+        of_owner!("SELECT ", " FROM owner")
     }
 
     fn rowid_text() -> &'static str {
@@ -89,7 +96,7 @@ impl Look for OwnerNumbered {
     ghost given = { λ q. Text q.number ∷ [] };
 
     fn text() -> &'static str {
-        "SELECT owner_no, name, address, telephone FROM owner WHERE owner_no = ?1"
+        of_owner!("SELECT ", " FROM owner WHERE owner_no = ?1")
     }
 
     fn day_bytes(&self, alloc: Global) -> Result<Vec<u8>, AllocError> {

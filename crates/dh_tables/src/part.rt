@@ -6,15 +6,26 @@ use dh_types::{EntryMonth, Id, Part, Version};
 use sqlite::types::ValueRef;
 use std::alloc::{AllocError, Global};
 
+// Its columns, between two texts.
+macro_rules! of_part {
+    ($before:literal, $after:literal) => {
+        concat!(
+            $before,
+            "month, branch_no, through_lease, due_count, due_total",
+            $after
+        )
+    };
+}
+
 impl Tabled for Part {
     ghost use Rattle.dh_types.specs.declared.version.Version.TheVariants.{First};
     ghost use Rattle.std.specs.Prelude.{refl};
     ghost use Rattle.std.specs.Ordering.{nat_cmp};
     ghost use Rattle.dh_model.specs.Books.{pair_cmp, text_cmp};
-    ghost use Rattle.dh_model.proofs.KeyOrders.{nat_text_total, nat_text_ties};
     ghost use Rattle.dh_model.specs.Kinds.{Parts};
     ghost use Rattle.dh_tables.specs.Kinds.{itself};
-    ghost use Rattle.dh_tables.specs.PartTable.{part_adding, part_is_adding, part_shape, part_shelf};
+    ghost use Rattle.dh_tables.specs.Shelves.{shelf_of};
+    ghost use Rattle.dh_tables.specs.PartTable.{part_adding, part_is_adding, part_shape};
 
     ghost shape = { part_shape };
 
@@ -28,21 +39,17 @@ impl Tabled for Part {
 
     ghost adding = { part_adding };
 
-    ghost shelf = { part_shelf };
+    ghost shelf = { shelf_of Parts };
 
     ghost is_kind = { itself Parts };
 
     fn insert_text() -> &'static str {
-        "INSERT INTO part (month, branch_no, through_lease, due_count, due_total) VALUES (?1, ?2, ?3, ?4, ?5)"
+        of_part!("INSERT INTO part (", ") VALUES (?1, ?2, ?3, ?4, ?5)")
     }
 
     fn put(self, books: &mut Books) -> Result<(), AllocError> {
         books.put_part(self)
     }
-
-    ghost total = { nat_text_total };
-
-    ghost ties = { nat_text_ties };
 
     ghost has_shape = { record { is_row_is = λ r. refl; row_in_is = λ r. refl; key_is = λ x. refl } };
 
@@ -55,7 +62,7 @@ impl Listed for Part {
     ghost listing = { part_listing };
 
     fn list_text() -> &'static str {
-        "SELECT month, branch_no, through_lease, due_count, due_total FROM part"
+        of_part!("SELECT ", " FROM part")
     }
 
     fn rowid_text() -> &'static str {
@@ -91,7 +98,7 @@ impl Look for PartOf {
     ghost given = { λ q. Int (pos q.month) ∷ Text q.branch ∷ [] };
 
     fn text() -> &'static str {
-        "SELECT month, branch_no, through_lease, due_count, due_total FROM part WHERE month = ?1 AND branch_no = ?2"
+        of_part!("SELECT ", " FROM part WHERE month = ?1 AND branch_no = ?2")
     }
 
     fn day_bytes(&self, alloc: Global) -> Result<Vec<u8>, AllocError> {
@@ -133,7 +140,7 @@ impl Look for PartsOfMonth {
     ghost given = { λ q. Int (pos q.month) ∷ [] };
 
     fn text() -> &'static str {
-        "SELECT month, branch_no, through_lease, due_count, due_total FROM part WHERE month = ?1"
+        of_part!("SELECT ", " FROM part WHERE month = ?1")
     }
 
     fn day_bytes(&self, alloc: Global) -> Result<Vec<u8>, AllocError> {

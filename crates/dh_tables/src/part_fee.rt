@@ -6,15 +6,26 @@ use dh_types::{EntryMonth, Id, PartFee, Version};
 use sqlite::types::ValueRef;
 use std::alloc::{AllocError, Global};
 
+// Its columns, between two texts.
+macro_rules! of_part_fee {
+    ($before:literal, $after:literal) => {
+        concat!(
+            $before,
+            "month, branch_no, fee, fee_total",
+            $after
+        )
+    };
+}
+
 impl Tabled for PartFee {
     ghost use Rattle.dh_types.specs.declared.version.Version.TheVariants.{Second};
     ghost use Rattle.std.specs.Prelude.{refl};
     ghost use Rattle.std.specs.Ordering.{nat_cmp};
     ghost use Rattle.dh_model.specs.Books.{pair_cmp, text_cmp};
-    ghost use Rattle.dh_model.proofs.KeyOrders.{nat_text_total, nat_text_ties};
     ghost use Rattle.dh_model.specs.Kinds.{PartFees};
     ghost use Rattle.dh_tables.specs.Kinds.{itself};
-    ghost use Rattle.dh_tables.specs.PartFeeTable.{part_fee_adding, part_fee_is_adding, part_fee_shape, part_fee_shelf};
+    ghost use Rattle.dh_tables.specs.Shelves.{shelf_of};
+    ghost use Rattle.dh_tables.specs.PartFeeTable.{part_fee_adding, part_fee_is_adding, part_fee_shape};
 
     ghost shape = { part_fee_shape };
 
@@ -28,21 +39,17 @@ impl Tabled for PartFee {
 
     ghost adding = { part_fee_adding };
 
-    ghost shelf = { part_fee_shelf };
+    ghost shelf = { shelf_of PartFees };
 
     ghost is_kind = { itself PartFees };
 
     fn insert_text() -> &'static str {
-        "INSERT INTO part_fee (month, branch_no, fee, fee_total) VALUES (?1, ?2, ?3, ?4)"
+        of_part_fee!("INSERT INTO part_fee (", ") VALUES (?1, ?2, ?3, ?4)")
     }
 
     fn put(self, books: &mut Books) -> Result<(), AllocError> {
         books.put_part_fee(self)
     }
-
-    ghost total = { nat_text_total };
-
-    ghost ties = { nat_text_ties };
 
     ghost has_shape = { record { is_row_is = λ r. refl; row_in_is = λ r. refl; key_is = λ x. refl } };
 
@@ -55,7 +62,7 @@ impl Listed for PartFee {
     ghost listing = { part_fee_listing };
 
     fn list_text() -> &'static str {
-        "SELECT month, branch_no, fee, fee_total FROM part_fee"
+        of_part_fee!("SELECT ", " FROM part_fee")
     }
 
     fn rowid_text() -> &'static str {
@@ -91,7 +98,10 @@ impl Look for FeeOfPart {
     ghost given = { λ q. Int (pos q.month) ∷ Text q.branch ∷ [] };
 
     fn text() -> &'static str {
-        "SELECT month, branch_no, fee, fee_total FROM part_fee WHERE month = ?1 AND branch_no = ?2"
+        of_part_fee!(
+            "SELECT ",
+            " FROM part_fee WHERE month = ?1 AND branch_no = ?2"
+        )
     }
 
     fn day_bytes(&self, alloc: Global) -> Result<Vec<u8>, AllocError> {
@@ -133,7 +143,7 @@ impl Look for FeesOfMonth {
     ghost given = { λ q. Int (pos q.month) ∷ [] };
 
     fn text() -> &'static str {
-        "SELECT month, branch_no, fee, fee_total FROM part_fee WHERE month = ?1"
+        of_part_fee!("SELECT ", " FROM part_fee WHERE month = ?1")
     }
 
     fn day_bytes(&self, alloc: Global) -> Result<Vec<u8>, AllocError> {

@@ -21,10 +21,10 @@ impl Tabled for Property {
     ghost use Rattle.dh_types.specs.declared.version.Version.TheVariants.{First};
     ghost use Rattle.std.specs.Prelude.{refl};
     ghost use Rattle.dh_model.specs.Books.{text_cmp};
-    ghost use Rattle.dh_model.proofs.KeyOrders.{text_total, text_ties};
     ghost use Rattle.dh_model.specs.Kinds.{Properties};
     ghost use Rattle.dh_tables.specs.Kinds.{itself};
-    ghost use Rattle.dh_tables.specs.PropertyTable.{property_adding, property_is_adding, property_shape, property_shelf};
+    ghost use Rattle.dh_tables.specs.Shelves.{shelf_of};
+    ghost use Rattle.dh_tables.specs.PropertyTable.{property_adding, property_is_adding, property_shape};
 
     ghost shape = { property_shape };
 
@@ -38,7 +38,7 @@ impl Tabled for Property {
 
     ghost adding = { property_adding };
 
-    ghost shelf = { property_shelf };
+    ghost shelf = { shelf_of Properties };
 
     ghost is_kind = { itself Properties };
 
@@ -52,10 +52,6 @@ impl Tabled for Property {
     fn put(self, books: &mut Books) -> Result<(), AllocError> {
         books.put_property(self)
     }
-
-    ghost total = { text_total };
-
-    ghost ties = { text_ties };
 
     ghost has_shape = { record { is_row_is = λ r. refl; row_in_is = λ r. refl; key_is = λ x. refl } };
 

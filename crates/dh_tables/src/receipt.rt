@@ -6,14 +6,25 @@ use dh_types::{Key, LeaseNo, Receipt, ReceiptNo, Version};
 use sqlite::types::ValueRef;
 use std::alloc::{AllocError, Global};
 
+// Its columns, between two texts.
+macro_rules! of_receipt {
+    ($before:literal, $after:literal) => {
+        concat!(
+            $before,
+            "receipt_no, req_key, lease_no, kind, amount, day",
+            $after
+        )
+    };
+}
+
 impl Tabled for Receipt {
     ghost use Rattle.dh_types.specs.declared.version.Version.TheVariants.{First};
     ghost use Rattle.std.specs.Prelude.{refl};
     ghost use Rattle.std.specs.Ordering.{nat_cmp};
-    ghost use Rattle.dh_model.proofs.KeyOrders.{nat_total, nat_ties};
     ghost use Rattle.dh_model.specs.Kinds.{Receipts};
     ghost use Rattle.dh_tables.specs.Kinds.{itself};
-    ghost use Rattle.dh_tables.specs.ReceiptTable.{receipt_adding, receipt_is_adding, receipt_shape, receipt_shelf};
+    ghost use Rattle.dh_tables.specs.Shelves.{shelf_of};
+    ghost use Rattle.dh_tables.specs.ReceiptTable.{receipt_adding, receipt_is_adding, receipt_shape};
 
     ghost shape = { receipt_shape };
 
@@ -27,21 +38,17 @@ impl Tabled for Receipt {
 
     ghost adding = { receipt_adding };
 
-    ghost shelf = { receipt_shelf };
+    ghost shelf = { shelf_of Receipts };
 
     ghost is_kind = { itself Receipts };
 
     fn insert_text() -> &'static str {
-        "INSERT INTO receipt (receipt_no, req_key, lease_no, kind, amount, day) VALUES (?1, ?2, ?3, ?4, ?5, ?6)"
+        of_receipt!("INSERT INTO receipt (", ") VALUES (?1, ?2, ?3, ?4, ?5, ?6)")
     }
 
     fn put(self, books: &mut Books) -> Result<(), AllocError> {
         books.put_receipt(self)
     }
-
-    ghost total = { nat_total };
-
-    ghost ties = { nat_ties };
 
     ghost has_shape = { record { is_row_is = λ r. refl; row_in_is = λ r. refl; key_is = λ x. refl } };
 
@@ -54,7 +61,7 @@ impl Listed for Receipt {
     ghost listing = { receipt_listing };
 
     fn list_text() -> &'static str {
-        "SELECT receipt_no, req_key, lease_no, kind, amount, day FROM receipt"
+        of_receipt!("SELECT ", " FROM receipt")
     }
 
     fn rowid_text() -> &'static str {
@@ -88,7 +95,7 @@ impl Look for ReceiptNumbered {
     ghost given = { λ q. Int (pos q.number) ∷ [] };
 
     fn text() -> &'static str {
-        "SELECT receipt_no, req_key, lease_no, kind, amount, day FROM receipt WHERE receipt_no = ?1"
+        of_receipt!("SELECT ", " FROM receipt WHERE receipt_no = ?1")
     }
 
     fn day_bytes(&self, alloc: Global) -> Result<Vec<u8>, AllocError> {
@@ -127,7 +134,7 @@ impl Look for ReceiptKeyed {
     ghost given = { λ q. Text q.key ∷ [] };
 
     fn text() -> &'static str {
-        "SELECT receipt_no, req_key, lease_no, kind, amount, day FROM receipt WHERE req_key = ?1"
+        of_receipt!("SELECT ", " FROM receipt WHERE req_key = ?1")
     }
 
     fn day_bytes(&self, alloc: Global) -> Result<Vec<u8>, AllocError> {
@@ -165,7 +172,7 @@ impl Look for ReceiptsOfLease {
     ghost given = { λ q. Int (pos q.lease) ∷ [] };
 
     fn text() -> &'static str {
-        "SELECT receipt_no, req_key, lease_no, kind, amount, day FROM receipt WHERE lease_no = ?1"
+        of_receipt!("SELECT ", " FROM receipt WHERE lease_no = ?1")
     }
 
     fn day_bytes(&self, alloc: Global) -> Result<Vec<u8>, AllocError> {
@@ -205,7 +212,10 @@ impl Look for DepositsOfLease {
     ghost given = { λ q. Int (pos q.lease) ∷ [] };
 
     fn text() -> &'static str {
-        "SELECT receipt_no, req_key, lease_no, kind, amount, day FROM receipt WHERE lease_no = ?1 AND kind = 'deposit'"
+        of_receipt!(
+            "SELECT ",
+            " FROM receipt WHERE lease_no = ?1 AND kind = 'deposit'"
+        )
     }
 
     fn day_bytes(&self, alloc: Global) -> Result<Vec<u8>, AllocError> {

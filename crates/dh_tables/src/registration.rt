@@ -6,14 +6,25 @@ use dh_types::{Id, Registration, Version};
 use sqlite::types::ValueRef;
 use std::alloc::{AllocError, Global};
 
+// Its columns, between two texts.
+macro_rules! of_registration {
+    ($before:literal, $after:literal) => {
+        concat!(
+            $before,
+            "client_no, branch_no, staff_no, day",
+            $after
+        )
+    };
+}
+
 impl Tabled for Registration {
     ghost use Rattle.dh_types.specs.declared.version.Version.TheVariants.{First};
     ghost use Rattle.std.specs.Prelude.{refl};
     ghost use Rattle.dh_model.specs.Books.{pair_cmp, text_cmp};
-    ghost use Rattle.dh_model.proofs.KeyOrders.{texts_total, texts_tie};
     ghost use Rattle.dh_model.specs.Kinds.{Registrations};
     ghost use Rattle.dh_tables.specs.Kinds.{itself};
-    ghost use Rattle.dh_tables.specs.RegistrationTable.{registration_adding, registration_is_adding, registration_shape, registration_shelf};
+    ghost use Rattle.dh_tables.specs.Shelves.{shelf_of};
+    ghost use Rattle.dh_tables.specs.RegistrationTable.{registration_adding, registration_is_adding, registration_shape};
 
     ghost shape = { registration_shape };
 
@@ -27,21 +38,17 @@ impl Tabled for Registration {
 
     ghost adding = { registration_adding };
 
-    ghost shelf = { registration_shelf };
+    ghost shelf = { shelf_of Registrations };
 
     ghost is_kind = { itself Registrations };
 
     fn insert_text() -> &'static str {
-        "INSERT INTO registration (client_no, branch_no, staff_no, day) VALUES (?1, ?2, ?3, ?4)"
+        of_registration!("INSERT INTO registration (", ") VALUES (?1, ?2, ?3, ?4)")
     }
 
     fn put(self, books: &mut Books) -> Result<(), AllocError> {
         books.put_registration(self)
     }
-
-    ghost total = { texts_total };
-
-    ghost ties = { texts_tie };
 
     ghost has_shape = { record { is_row_is = λ r. refl; row_in_is = λ r. refl; key_is = λ x. refl } };
 
@@ -54,7 +61,7 @@ impl Listed for Registration {
     ghost listing = { registration_listing };
 
     fn list_text() -> &'static str {
-        "SELECT client_no, branch_no, staff_no, day FROM registration"
+        of_registration!("SELECT ", " FROM registration")
     }
 
     fn rowid_text() -> &'static str {
@@ -90,7 +97,10 @@ impl Look for RegistrationAt {
     ghost given = { λ q. Text q.client ∷ Text q.branch ∷ [] };
 
     fn text() -> &'static str {
-        "SELECT client_no, branch_no, staff_no, day FROM registration WHERE client_no = ?1 AND branch_no = ?2"
+        of_registration!(
+            "SELECT ",
+            " FROM registration WHERE client_no = ?1 AND branch_no = ?2"
+        )
     }
 
     fn day_bytes(&self, alloc: Global) -> Result<Vec<u8>, AllocError> {

@@ -6,14 +6,25 @@ use dh_types::{EntryMonth, Key, Run, Version};
 use sqlite::types::ValueRef;
 use std::alloc::{AllocError, Global};
 
+// Its columns, between two texts.
+macro_rules! of_run {
+    ($before:literal, $after:literal) => {
+        concat!(
+            $before,
+            "month, req_key, due_count, due_total, closed",
+            $after
+        )
+    };
+}
+
 impl Tabled for Run {
     ghost use Rattle.dh_types.specs.declared.version.Version.TheVariants.{First};
     ghost use Rattle.std.specs.Prelude.{refl};
     ghost use Rattle.std.specs.Ordering.{nat_cmp};
-    ghost use Rattle.dh_model.proofs.KeyOrders.{nat_total, nat_ties};
     ghost use Rattle.dh_model.specs.Kinds.{Runs};
     ghost use Rattle.dh_tables.specs.Kinds.{itself};
-    ghost use Rattle.dh_tables.specs.RunTable.{run_adding, run_is_adding, run_shape, run_shelf};
+    ghost use Rattle.dh_tables.specs.Shelves.{shelf_of};
+    ghost use Rattle.dh_tables.specs.RunTable.{run_adding, run_is_adding, run_shape};
 
     ghost shape = { run_shape };
 
@@ -27,21 +38,17 @@ impl Tabled for Run {
 
     ghost adding = { run_adding };
 
-    ghost shelf = { run_shelf };
+    ghost shelf = { shelf_of Runs };
 
     ghost is_kind = { itself Runs };
 
     fn insert_text() -> &'static str {
-        "INSERT INTO run (month, req_key, due_count, due_total, closed) VALUES (?1, ?2, ?3, ?4, ?5)"
+        of_run!("INSERT INTO run (", ") VALUES (?1, ?2, ?3, ?4, ?5)")
     }
 
     fn put(self, books: &mut Books) -> Result<(), AllocError> {
         books.put_run(self)
     }
-
-    ghost total = { nat_total };
-
-    ghost ties = { nat_ties };
 
     ghost has_shape = { record { is_row_is = λ r. refl; row_in_is = λ r. refl; key_is = λ x. refl } };
 
@@ -54,7 +61,7 @@ impl Listed for Run {
     ghost listing = { run_listing };
 
     fn list_text() -> &'static str {
-        "SELECT month, req_key, due_count, due_total, closed FROM run"
+        of_run!("SELECT ", " FROM run")
     }
 
     fn rowid_text() -> &'static str {
@@ -88,7 +95,7 @@ impl Look for RunOf {
     ghost given = { λ q. Int (pos q.month) ∷ [] };
 
     fn text() -> &'static str {
-        "SELECT month, req_key, due_count, due_total, closed FROM run WHERE month = ?1"
+        of_run!("SELECT ", " FROM run WHERE month = ?1")
     }
 
     fn day_bytes(&self, alloc: Global) -> Result<Vec<u8>, AllocError> {
@@ -127,7 +134,7 @@ impl Look for RunKeyed {
     ghost given = { λ q. Text q.key ∷ [] };
 
     fn text() -> &'static str {
-        "SELECT month, req_key, due_count, due_total, closed FROM run WHERE req_key = ?1"
+        of_run!("SELECT ", " FROM run WHERE req_key = ?1")
     }
 
     fn day_bytes(&self, alloc: Global) -> Result<Vec<u8>, AllocError> {

@@ -6,14 +6,25 @@ use dh_types::{Id, Staff, Version};
 use sqlite::types::ValueRef;
 use std::alloc::{AllocError, Global};
 
+// Its columns, between two texts.
+macro_rules! of_staff {
+    ($before:literal, $after:literal) => {
+        concat!(
+            $before,
+            "staff_no, name, position, branch_no",
+            $after
+        )
+    };
+}
+
 impl Tabled for Staff {
     ghost use Rattle.dh_types.specs.declared.version.Version.TheVariants.{First};
     ghost use Rattle.std.specs.Prelude.{refl};
     ghost use Rattle.dh_model.specs.Books.{text_cmp};
-    ghost use Rattle.dh_model.proofs.KeyOrders.{text_total, text_ties};
     ghost use Rattle.dh_model.specs.Kinds.{Staff};
     ghost use Rattle.dh_tables.specs.Kinds.{itself};
-    ghost use Rattle.dh_tables.specs.StaffTable.{staff_adding, staff_is_adding, staff_shape, staff_shelf};
+    ghost use Rattle.dh_tables.specs.Shelves.{shelf_of};
+    ghost use Rattle.dh_tables.specs.StaffTable.{staff_adding, staff_is_adding, staff_shape};
 
     ghost shape = { staff_shape };
 
@@ -27,21 +38,17 @@ impl Tabled for Staff {
 
     ghost adding = { staff_adding };
 
-    ghost shelf = { staff_shelf };
+    ghost shelf = { shelf_of Staff };
 
     ghost is_kind = { itself Staff };
 
     fn insert_text() -> &'static str {
-        "INSERT INTO staff (staff_no, name, position, branch_no) VALUES (?1, ?2, ?3, ?4)"
+        of_staff!("INSERT INTO staff (", ") VALUES (?1, ?2, ?3, ?4)")
     }
 
     fn put(self, books: &mut Books) -> Result<(), AllocError> {
         books.put_member(self)
     }
-
-    ghost total = { text_total };
-
-    ghost ties = { text_ties };
 
     ghost has_shape = { record { is_row_is = λ r. refl; row_in_is = λ r. refl; key_is = λ x. refl } };
 
@@ -54,7 +61,7 @@ impl Listed for Staff {
     ghost listing = { staff_listing };
 
     fn list_text() -> &'static str {
-        "SELECT staff_no, name, position, branch_no FROM staff"
+        of_staff!("SELECT ", " FROM staff")
     }
 
     fn rowid_text() -> &'static str {
@@ -89,7 +96,7 @@ impl Look for MemberNumbered {
     ghost given = { λ q. Text q.number ∷ [] };
 
     fn text() -> &'static str {
-        "SELECT staff_no, name, position, branch_no FROM staff WHERE staff_no = ?1"
+        of_staff!("SELECT ", " FROM staff WHERE staff_no = ?1")
     }
 
     fn day_bytes(&self, alloc: Global) -> Result<Vec<u8>, AllocError> {

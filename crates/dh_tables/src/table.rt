@@ -2,7 +2,6 @@
 
 ghost use Rattle.std.specs.Prelude.{◌≡◌, ℕ, true, List, None, OnOk, OnErr};
 ghost use Rattle.std.specs.declared.cmp.Ordering.{Ordering};
-ghost use Rattle.std.specs.Cmp.{IsTotalOrder};
 ghost use Rattle.std.specs.FinMap as fin;
 ghost use Rattle.sqlite.specs.State.{HasCleanDisk, Shows};
 ghost use Rattle.sqlite.specs.Held.{state};
@@ -49,10 +48,6 @@ pub trait Tabled: Record {
     /// Puts the record under its key.
     fn put(self, books: &mut Books) -> Result<(), AllocError>
         ensures { OnOk result (books.new ≡ shelf.with books.old (fin.insert (shelf.held books.old) (shape.key self) self)) };
-
-    ghost total: { IsTotalOrder order };
-
-    ghost ties: { fin.IsAntisymmetric order };
 
     ghost has_shape: { HasShape shape Self.Record.is_row Self.Record.decode Self.Record.key_of };
 

@@ -6,14 +6,25 @@ use dh_types::{Id, Version, Viewing};
 use sqlite::types::ValueRef;
 use std::alloc::{AllocError, Global};
 
+// Its columns, between two texts.
+macro_rules! of_viewing {
+    ($before:literal, $after:literal) => {
+        concat!(
+            $before,
+            "client_no, property_no, day, comment",
+            $after
+        )
+    };
+}
+
 impl Tabled for Viewing {
     ghost use Rattle.dh_types.specs.declared.version.Version.TheVariants.{First};
     ghost use Rattle.std.specs.Prelude.{refl};
     ghost use Rattle.dh_model.specs.Books.{pair_cmp, text_cmp};
-    ghost use Rattle.dh_model.proofs.KeyOrders.{texts_total, texts_tie};
     ghost use Rattle.dh_model.specs.Kinds.{Viewings};
     ghost use Rattle.dh_tables.specs.Kinds.{itself};
-    ghost use Rattle.dh_tables.specs.ViewingTable.{viewing_adding, viewing_is_adding, viewing_shape, viewing_shelf};
+    ghost use Rattle.dh_tables.specs.Shelves.{shelf_of};
+    ghost use Rattle.dh_tables.specs.ViewingTable.{viewing_adding, viewing_is_adding, viewing_shape};
 
     ghost shape = { viewing_shape };
 
@@ -27,21 +38,17 @@ impl Tabled for Viewing {
 
     ghost adding = { viewing_adding };
 
-    ghost shelf = { viewing_shelf };
+    ghost shelf = { shelf_of Viewings };
 
     ghost is_kind = { itself Viewings };
 
     fn insert_text() -> &'static str {
-        "INSERT INTO viewing (client_no, property_no, day, comment) VALUES (?1, ?2, ?3, ?4)"
+        of_viewing!("INSERT INTO viewing (", ") VALUES (?1, ?2, ?3, ?4)")
     }
 
     fn put(self, books: &mut Books) -> Result<(), AllocError> {
         books.put_viewing(self)
     }
-
-    ghost total = { texts_total };
-
-    ghost ties = { texts_tie };
 
     ghost has_shape = { record { is_row_is = λ r. refl; row_in_is = λ r. refl; key_is = λ x. refl } };
 
@@ -54,7 +61,7 @@ impl Listed for Viewing {
     ghost listing = { viewing_listing };
 
     fn list_text() -> &'static str {
-        "SELECT client_no, property_no, day, comment FROM viewing"
+        of_viewing!("SELECT ", " FROM viewing")
     }
 
     fn rowid_text() -> &'static str {
@@ -90,7 +97,10 @@ impl Look for ViewingOf {
     ghost given = { λ q. Text q.client ∷ Text q.property ∷ [] };
 
     fn text() -> &'static str {
-        "SELECT client_no, property_no, day, comment FROM viewing WHERE client_no = ?1 AND property_no = ?2"
+        of_viewing!(
+            "SELECT ",
+            " FROM viewing WHERE client_no = ?1 AND property_no = ?2"
+        )
     }
 
     fn day_bytes(&self, alloc: Global) -> Result<Vec<u8>, AllocError> {

@@ -20,6 +20,7 @@ use Rattle.dh_schema.proofs.EachKind.{all_since}
 use Rattle.dh_schema.proofs.OfKind.{is_kept}
 use Rattle.dh_schema.proofs.ReadTables.{version_given}
 use Rattle.dh_schema.proofs.Versions.{has_since}
+use Rattle.dh_tables.proofs.OfKind.{ties, total}
 use Rattle.dh_schema.proofs.finding.find.Goals as goal
 
 if_ok : {X E : Type 0} {A B : X → Type 0} (r : Result X E) → ((x : X) → A x → B x) → IfOk r A → IfOk r B
@@ -63,7 +64,6 @@ returns-then-not-is_since-clause-found g c clean =
 pub returns-clause-found : goal.returns-clause-found
 returns-clause-found g c clean =
     let T = g.R.Tabled in
-    let laws = g.met.R.Tabled in
     let old = state g.S.Store c.args.conn.now in
     let mid = state g.S.Store c.agreed_version.new.conn in
     let half : HasCleanDisk mid = omega (arith, c.rows_asked.ensures.crash.clean, clean) in
@@ -78,8 +78,8 @@ returns-clause-found g c clean =
     let asks = g.R.ByKey.Look.asks in
     let asked = subst (λ q. AreAsked T.shape T.order (asks q) mid c.in_ok-rows.rows.items) c.by_key.ensures (c.in_ok-rows.ensures.rows clean) in
     let same = ap (λ (rows : List Row). rows_of T.shape {R = T.order} rows) c.deref.ensures.value ∙ asked in
-    let found = found_ok laws.total laws.ties T.shape (asks (g.R.KeyedRecord.question key)) (rows_in T.shape trees)
-    (keyed_rows laws.total laws.ties T.shape trees)
+    let found = found_ok (total T.is_kind) (ties T.is_kind) T.shape (asks (g.R.KeyedRecord.question key)) (rows_in T.shape trees)
+    (keyed_rows (total T.is_kind) (ties T.is_kind) T.shape trees)
     c.only.result (rows_of T.shape c.deref.result.now) c.only.ensures.found same in
     let there : rows_in T.shape {R = T.order} trees ≡ rows_since T.since (version_of_tables old.now.trees) (rows_in T.shape {R = T.order} old.now.trees) =
     ap (λ (t : Trees). rows_in T.shape {R = T.order} t) stays ∙ sym all in

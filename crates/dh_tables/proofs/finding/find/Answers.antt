@@ -4,13 +4,13 @@ use Rattle.sqlite.specs.Held.{state}
 use Rattle.dh_sql.specs.Shape.{rows_in, rows_of}
 use Rattle.dh_sql.proofs.Found.{keyed_rows}
 use Rattle.dh_tables.proofs.OneRecord.{found_ok}
+use Rattle.dh_tables.proofs.OfKind.{ties, total}
 use Rattle.dh_tables.proofs.finding.find.Goals as goal
 
 pub returns-clause-found : goal.returns-clause-found
 returns-clause-found g c clean =
     let T = g.L.Record.Tabled in
-    let laws = g.met.L.Record.Tabled in
     let trees = (state g.S.Store c.args.conn.now).now.trees in
     let same = ap (λ (rows : List Row). rows_of T.shape {R = T.order} rows) c.deref.ensures.value ∙ c.in_ok-rows.ensures.rows clean in
-    found_ok laws.total laws.ties T.shape (g.L.Look.asks c.args.question.now) (rows_in T.shape trees) (keyed_rows laws.total laws.ties T.shape trees)
+    found_ok (total T.is_kind) (ties T.is_kind) T.shape (g.L.Look.asks c.args.question.now) (rows_in T.shape trees) (keyed_rows (total T.is_kind) (ties T.is_kind) T.shape trees)
     c.only.result (rows_of T.shape c.deref.result.now) c.only.ensures same

@@ -5,6 +5,7 @@ use Rattle.dh_sql.proofs.Asking.{asked, asked_once}
 use Rattle.dh_sql.proofs.Selecting.{commits_none, same_ok, undone_err}
 use Rattle.dh_tables.proofs.Undone.{undone_from}
 use Rattle.dh_tables.proofs.look.rows_asked.Given.{Over}
+use Rattle.dh_tables.proofs.OfKind.{ties, total}
 use Rattle.dh_tables.proofs.look.rows_asked.Goals as goal
 
 -- the rows are shown by the text of the question
@@ -26,9 +27,8 @@ returns-clause-rows g c clean =
     let q = c.args.question.now in
     let it = g.L.Record.Tabled.shape in
     let how = g.L.Look.asking in
-    let table = g.met.L.Record.Tabled in
     let law = g.met.L.Look.is_asking in
-    asked table.total table.ties it how.text old.now.schema how.tests how.project how.names (g.L.Look.given q) (g.L.Look.asks q)
+    asked (total g.L.Record.Tabled.is_kind) (ties g.L.Record.Tabled.is_kind) it how.text old.now.schema how.tests how.project how.names (g.L.Look.given q) (g.L.Look.asks q)
     (law.selects old.now.schema (c.requires.reading early)) (law.shows_columns q) (λ r. law.passes q r c.in_ok-params.ensures.known)
     old new refl (c.requires.kept early) c.query_all.result (shown g c clean)
 
@@ -40,9 +40,8 @@ returns-clause-distinct g c clean =
     let q = c.args.question.now in
     let it = g.L.Record.Tabled.shape in
     let how = g.L.Look.asking in
-    let table = g.met.L.Record.Tabled in
     let law = g.met.L.Look.is_asking in
-    asked_once table.total table.ties it how.text old.now.schema how.tests how.project how.names (g.L.Look.given q) (g.L.Look.asks q)
+    asked_once (total g.L.Record.Tabled.is_kind) (ties g.L.Record.Tabled.is_kind) it how.text old.now.schema how.tests how.project how.names (g.L.Look.given q) (g.L.Look.asks q)
     (law.selects old.now.schema (c.requires.reading early)) (law.shows_columns q) (λ r. law.passes q r c.in_ok-params.ensures.known)
     old new refl (c.requires.kept early) c.query_all.result (shown g c clean)
 

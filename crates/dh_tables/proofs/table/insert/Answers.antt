@@ -8,6 +8,7 @@ use Rattle.dh_sql.specs.Shape.{rows_in}
 use Rattle.dh_sql.proofs.Adding.{adds}
 use Rattle.dh_tables.proofs.Quiet.{quiet}
 use Rattle.dh_tables.proofs.table.insert.Given.{Over}
+use Rattle.dh_tables.proofs.OfKind.{ties, total}
 use Rattle.dh_tables.proofs.table.insert.Goals as goal
 
 did : (g : Over) (c : goal.After-drop-day-2 g) → HasCleanDisk (state g.S.Store c.execute.new.self.conn.now)
@@ -27,7 +28,7 @@ did g c clean =
     let good = c.in_ok-values.ensures.grammar c.requires.keeps in
     let one = rw (c.deref-2.ensures.value, c.in_ok-values.ensures.columns) at ran.0 in
     let told = subst (λ (t : List ℕ). Executes t (g.R.Record.row x) old new (Ok c.in_ok-execute.field-0)) c.insert_text.ensures one in
-    adds laws.total laws.ties it old.now.schema (quiet old.now.schema (is_ours g.R.Tabled.since old.now.schema was.has))
+    adds (total g.R.Tabled.is_kind) (ties g.R.Tabled.is_kind) it old.now.schema (quiet old.now.schema (is_ours g.R.Tabled.since old.now.schema was.has))
     how.text how.place how.table how.terms how.width (g.R.Record.row x) (how.source x) x
     laws.is_adding.tree_is (laws.is_adding.inserts old.now.schema was.has x) old new c.in_ok-execute.field-0 (record {
       stays = laws.is_adding.stays x good;

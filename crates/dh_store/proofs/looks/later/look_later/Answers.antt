@@ -10,6 +10,7 @@ use Rattle.dh_schema.specs.Tables.{rows_since, version_of_tables}
 use Rattle.dh_schema.proofs.OfKind.{holds}
 use Rattle.dh_store.proofs.Later.{brought_since, none_brought}
 use Rattle.dh_store.proofs.ReadsInTurn.{reads_then}
+use Rattle.dh_tables.proofs.OfKind.{ties, total}
 use Rattle.dh_store.proofs.looks.later.look_later.Goals as goal
 
 pub look-requires-clause-since : goal.look-requires-clause-since
@@ -24,11 +25,10 @@ returns-in-First-clause-brought g c =
     let old = state g.S.Store c.args.conn.now in
     let mid = state g.S.Store c.months_now.new.conn in
     let T = g.L.Record.Tabled in
-    let laws = g.met.L.Record.Tabled in
     let none : HasCleanDisk mid → T.shelf.held (tables old) ≡ empty = λ clean.
     let first = sym (c.in_ok-months.ensures.found clean).2 ∙ sym c.version.ensures ∙ c.in-First.is in
     holds _ g.L.Record.Tabled.is_kind old.now.trees ∙ (λ i. rows_since (c.requires.later i) (first i) (rows_in T.shape {R = T.order} old.now.trees)) in
-    none_brought laws.total laws.ties T.shelf (g.L.Look.asks c.args.question.now) old mid
+    none_brought (total T.is_kind) (ties T.is_kind) T.shelf (g.L.Look.asks c.args.question.now) old mid
     (λ clean. omega (arith, c.months_now.ensures.reads.crash.clean, clean))
     (λ clean. (c.in_ok-months.ensures.reads.done clean).1) c.args.books.now none
 
@@ -38,8 +38,7 @@ returns-in-Second-clause-brought g c =
     let mid = state g.S.Store c.months_now.new.conn in
     let new = state g.S.Store c.look.new.conn in
     let T = g.L.Record.Tabled in
-    let laws = g.met.L.Record.Tabled in
-    brought_since laws.total laws.ties T.shelf (g.L.Look.asks c.args.question.now) old mid
+    brought_since (total T.is_kind) (ties T.is_kind) T.shelf (g.L.Look.asks c.args.question.now) old mid
     (λ clean. omega (arith, c.months_now.ensures.reads.crash.clean, clean))
     (λ clean. (c.in_ok-months.ensures.reads.done clean).1) c.look.result c.args.books.now new c.look.new.books c.look.ensures.brought
 

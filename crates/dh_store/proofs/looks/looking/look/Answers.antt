@@ -8,6 +8,7 @@ use Rattle.dh_schema.proofs.EachKind.{all_since}
 use Rattle.dh_schema.proofs.Versions.{has_since}
 use Rattle.dh_schema.proofs.OfKind.{holds, is_kept}
 use Rattle.dh_store.proofs.Taken.{taken, taken_more}
+use Rattle.dh_tables.proofs.OfKind.{ties, total}
 use Rattle.dh_store.proofs.looks.looking.look.Goals as goal
 
 pub fetch_more-requires-clause-reading : goal.fetch_more-requires-clause-reading
@@ -23,7 +24,6 @@ pub returns-in-Ok-true-clause-brought : goal.returns-in-Ok-true-clause-brought
 returns-in-Ok-true-clause-brought g c =
     let old = state g.S.Store c.args.conn.now in
     let T = g.L.Record.Tabled in
-    let laws = g.met.L.Record.Tabled in
     let asks = g.L.Look.asks c.args.question.now in
     let trees = old.now.trees in
     let books = c.args.books.now in
@@ -36,13 +36,13 @@ returns-in-Ok-true-clause-brought g c =
           let same = both early in
           let fetched = c.in-Ok-true.ensures.fetched clean c.in-Ok-true.field-0-test in (
             ap (λ (d : Database). state_in d.trees) (c.in-Ok-true.ensures.same clean).0.now_is ∙ same.0,
-            taken laws.total laws.ties T.shape T.shelf asks trees t b books after (held early) same.0 same.1 fetched none,
+            taken (total T.is_kind) (ties T.is_kind) T.shape T.shelf asks trees t b books after (held early) same.0 same.1 fetched none,
           );
       more = λ t b test both had clean.
           let early : HasCleanDisk old = omega (arith, c.fetch_more.ensures.crash.clean, clean) in
           let same = both early in
           let fetched = c.in-Ok-true.ensures.fetched clean c.in-Ok-true.field-0-test in (
             ap (λ (d : Database). state_in d.trees) (c.in-Ok-true.ensures.same clean).0.now_is ∙ same.0,
-            taken_more laws.total laws.ties T.shape T.shelf asks trees t b books after (held early) same.0 same.1 fetched test had,
+            taken_more (total T.is_kind) (ties T.is_kind) T.shape T.shelf asks trees t b books after (held early) same.0 same.1 fetched test had,
           );
     }
