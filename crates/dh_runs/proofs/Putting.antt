@@ -16,7 +16,9 @@ use Rattle.dh_leases.specs.Plans.{HasItsFeeRow}
 use Rattle.std.specs.Prelude.{IfSome}
 use Rattle.dh_model.specs.Runs.{charge_key, part_fee_key, part_key}
 use Rattle.dh_model.proofs.KeyOrders.{nat_text_ties, nat_text_total, nats_tie, nats_total}
+use Rattle.dh_catalog.specs.Versions.{schema_of}
 use Rattle.dh_sql.specs.Shape.{rows_in}
+use Rattle.dh_tables.specs.Calls.{IsWritingSince}
 use Rattle.dh_model.specs.Kinds.{order_of}
 use Rattle.dh_schema.specs.Kinds.{shape_of}
 use Rattle.dh_model.specs.Kinds.{PartFees, Parts}
@@ -28,6 +30,10 @@ use Rattle.dh_schema.proofs.Keyed.{keyed}
 use Rattle.dh_store.proofs.Putting.{IsThere, Means, keeps_both}
 use Rattle.dh_store.specs.Putting.{TurnsBooks}
 use Rattle.dh_runs.specs.Putting.{with_charges, with_fees, with_part}
+
+-- what writes tables of the second version writes those that came with it
+pub later_writing : (s : State) → IsWriting s → version_of_tables s.now.trees ≡ Second → IsWritingSince Second s
+later_writing s writing second = record { inside = writing.inside; has = writing.version ∙ ap schema_of second }
 
 -- ---- rows of a map
 
