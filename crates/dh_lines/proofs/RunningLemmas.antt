@@ -15,18 +15,19 @@ use Rattle.dh_types.specs.declared.reply.Fault.TheVariants as faults
 use Rattle.dh_types.specs.declared.output.Output as writing
 use Rattle.dh_model.specs.Books.{State}
 use Rattle.dh_agency.specs.Seat.{Seat}
-use Rattle.dh_agency.specs.Agency.{Leaves, LeavesItsTables, machine, stand, stand_of}
+use Rattle.dh_agency.specs.Agency.{Leaves, LeavesItsTables, WasClean, machine, stand, stand_of}
 use Rattle.dh_agency.proofs.Standing.{leaves_more, leaves_what_holds}
 use Rattle.dh_fields.specs.Lines.{Fields}
 use Rattle.dh_lines.specs.Session.{answered, fault_line, line, records_of, state_after}
-use Rattle.dh_lines.specs.Batch.{Answers, AnsweredAll, AnsweredFirst, EndsSo, Faulted, HaltsByFault, HaltsSo, IsAgencyFault, IsAtRest, IsFirst}
-use Rattle.dh_lines.specs.Batch.{IsAsked, IsWithin}
+use Rattle.dh_lines.specs.Batch.{Answers, AnsweredAll, AnsweredFirst, EndsSo, Faulted, Halts, HaltsByFault, HaltsSo, IsAgencyFault, IsAtRest, IsFirst}
+use Rattle.dh_lines.specs.Batch.{IsAsked, IsStoreFault, IsWithin}
 use Rattle.dh_lines.specs.Batch.{OnlyOfRequests, PutsBehind, TellsFault, TellsReading, batch_fault}
 use Rattle.dh_lines.specs.declared.watching.Input.{Input}
 use Rattle.dh_lines.specs.declared.outcome.Summary.{Summary}
 use Rattle.dh_lines.specs.declared.outcome.BatchFault.{BatchFault}
 use Rattle.dh_lines.specs.declared.outcome.Halt.{Halt}
 use Rattle.dh_lines.specs.declared.outcome.Halt.TheVariants as halt
+use Rattle.dh_lines.proofs.OneRecord.{no_store_fault}
 use Rattle.dh_lines.proofs.Following.{Ended, Follows, Found, state-more}
 
 few : {X : Type 0} (xs : List X) (n : ℕ) → length (take n xs) ≡ n → n ≤ length xs
@@ -111,6 +112,17 @@ first_unread {W} held one two n k noted h told = by k noted told
     by (kind.Deserialize pos e) noted told = absurd told
     by kind.OutOfMemory noted told = memory h told
 
+-- no such end is a fault of the store
+pub no_store_unread : {W : Type 0} (held : W → Option (List ℕ)) (one two : W) (n : ℕ) (k : ErrorKind) (noted : Option Input) (h : Halt)
+    → TellsReading held one two n k noted h → ¬ IsStoreFault (batch_fault h)
+no_store_unread held one two n (kind.Io e) (Some cause) h told store = subst (λ z. IsStoreFault (batch_fault z)) told.0 store
+no_store_unread held one two n (kind.Io e) None h told store = no_store_fault (held one) (held two) n h told store
+no_store_unread held one two n (kind.Utf8 pos e) noted h told store = told
+no_store_unread held one two n (kind.UnequalLengths pos expected len) noted h told store = told
+no_store_unread held one two n (kind.Serialize text) noted h told store = told
+no_store_unread held one two n (kind.Deserialize pos e) noted h told store = told
+no_store_unread held one two n kind.OutOfMemory noted h told store = no_store_fault (held one) (held two) n h told store
+
 -- a reader that was noted to fail is not the count that is full
 pub noted_of_reader : (has_failed : Bool) (noted : Option Input) → noted ≡ (if has_failed then Some (record { is_full = false }) else None)
     → IfSome noted (λ cause. cause.is_full ≡ false)
@@ -192,3 +204,16 @@ one_at_most false k h = omega arith
 pub still_on : (e : Halt) {before after : Bool} → (after ≡ before) ⊎ (HaltsByFault {T = Bool} (Err e) × (after ≡ true)) → after ≡ false → before ≡ false
 still_on e (inl same) h = sym same ∙ h
 still_on e (inr stopped) h = cc (stopped.1, h)
+
+-- what a record's answer said of its end, said of the batch's
+pub halts_handed : {S : Type 0} (g : Ghosts S) (old mid new : Seat S) (r : Result Summary Halt) (e : Halt) → IsErrAnd r (λ y. y ≡ e)
+    → mid.is_stopped ≡ old.is_stopped → WasClean g old mid → (old.is_stopped ≡ true → mid ≡ old) → Halts {X = Bool} g mid new (Err e)
+    → Halts g old new r
+halts_handed g old mid new (Ok s) e is same clean unmoved did = absurd is
+halts_handed g old mid new (Err y) e is same clean unmoved did = record {
+  cause = λ live. subst (λ z. IsFirst (batch_fault z)) (sym is) (did.cause (same ∙ live));
+  stops = elim did.stops [ inl alike ↦ inl (alike ∙ same) | inr stopped ↦ inr (subst (λ z. HaltsByFault {T = Summary} (Err z)) (sym is) stopped.0, stopped.1) ];
+  store = λ store. did.store (subst (λ z. IsStoreFault (batch_fault z)) is store);
+  stopped = λ dead. did.stopped (same ∙ dead) ∙ unmoved dead;
+  was_clean = omega (arith, clean, did.was_clean);
+}

@@ -1,6 +1,6 @@
 -- What a batch does to the tables, and what of its lines was written.
 use Rattle.std.specs.Prelude.{◌≡◌, ◌≢◌, ◌⊎◌, ◌≤◌, ◌<◌, ℕ, ◌+◌, ◌-◌, ◌^◌, Bool, true, false, List, ◌++◌, length, take, slice_get, Option, None, Some}
-use Rattle.std.specs.Prelude.{MatchResult, Result, Ok, Err, ⊤}
+use Rattle.std.specs.Prelude.{IfErr, MatchResult, Result, Ok, Err, ⊤}
 use Rattle.std.specs.Io.KnownBytes.{Appends}
 use Rattle.csv.specs.declared.error.ErrorKind.{ErrorKind}
 use Rattle.csv.specs.declared.error.ErrorKind.TheVariants as kind
@@ -17,7 +17,7 @@ use Rattle.dh_model.specs.Whole.{whole}
 use Rattle.dh_laws.specs.Events.{RunIfDone, RunIfUndone}
 use Rattle.dh_schema.specs.Faults.{IsFirstFault}
 use Rattle.dh_agency.specs.Seat.{Seat}
-use Rattle.dh_agency.specs.Agency.{IsOpen, Leaves, LeavesItsTables, machine, stand, stand_of}
+use Rattle.dh_agency.specs.Agency.{IsOpen, Leaves, LeavesItsTables, WasClean, machine, stand, stand_of}
 use Rattle.dh_lines.specs.declared.outcome.Summary.{Summary}
 use Rattle.dh_lines.specs.declared.outcome.BatchFault.{BatchFault}
 use Rattle.dh_lines.specs.declared.outcome.BatchFault.TheVariants as ended
@@ -117,6 +117,15 @@ Answers g old new a b n it P (Err (halt.Fault fault outcome)) =
     Puts a b outcome (fault_line n fault) × (IsOpen g new → P (machine g new)) × (new.is_stopped ≡ false → machine g new ≡ machine g old)
 Answers g old new a b n it P (Err (halt.Input cause)) = ⊥
 Answers g old new a b n it P (Err (halt.Output failed)) = BreaksOff a b (numbered n it.text) × (stand g new ≡ it.state)
+
+-- How answering ends: at a fault that the agency answers it has stopped, and at any other end it is as before. An agency that had stopped stays
+-- as it is.
+pub record Halts {S X : Type 0} (g : Ghosts S) (old new : Seat S) (result : Result X Halt) : Type 0 where
+  pub cause : old.is_stopped ≡ false → IfErr result (λ it. IsFirst (batch_fault it))
+  pub stops : (new.is_stopped ≡ old.is_stopped) ⊎ (HaltsByFault result × (new.is_stopped ≡ true))
+  pub store : IfErr result (λ it. IsStoreFault (batch_fault it) → new.is_stopped ≡ true)
+  pub stopped : old.is_stopped ≡ true → new ≡ old
+  pub was_clean : WasClean g old new
 
 -- ---- all records
 

@@ -1,15 +1,15 @@
 //! Answering one record: the command is carried out or the question is asked, and then its line is written.
 
-ghost use Rattle.std.specs.Prelude.{◌≡◌, ◌⊎◌, Some, true, false, IfErr};
+ghost use Rattle.std.specs.Prelude.{◌≡◌, Some, true, false, IfErr};
 ghost use Rattle.csv.specs.Reading.{error_kind, stops_reader};
 ghost use Rattle.csv.specs.Records.{fields_of};
 ghost use Rattle.dh_model.specs.Answers.{report};
 ghost use Rattle.dh_model.specs.Machine.{step};
 ghost use Rattle.dh_model.specs.Runs.{batch_size};
-ghost use Rattle.dh_agency.specs.Agency.{IsClean, Leaves, LeavesItsTables, WasClean, machine, stand};
+ghost use Rattle.dh_agency.specs.Agency.{IsClean, Leaves, LeavesItsTables, machine, stand};
 ghost use Rattle.dh_agency.specs.Told.{IsCut};
 ghost use Rattle.dh_lines.specs.Session.{answered, replied, reported};
-ghost use Rattle.dh_lines.specs.Batch.{Answers, HaltsByFault, IsFirst, IsStoreFault, IsWithin, OnlyOfRequests, TellsFault, TellsReading, batch_fault};
+ghost use Rattle.dh_lines.specs.Batch.{Answers, Halts, IsWithin, OnlyOfRequests, TellsFault, TellsReading};
 
 use crate::outcome::Halt;
 use crate::replies::{put_answer_line, put_fault_line, put_refused_line, put_reply_line};
@@ -61,11 +61,7 @@ fn answer_command<S: Alter, W: Write>(
     ensures crash { IsClean S.Store agency.new → agency.old.is_stopped ≡ false
         → Leaves S.Store agency.new (IsCut command.now (machine S.Store agency.old)) }
     ensures left { IsClean S.Store agency.new → agency.new.is_stopped ≡ false → LeavesItsTables S.Store agency.new }
-    ensures cause { agency.old.is_stopped ≡ false → IfErr result (λ it. IsFirst (batch_fault it)) }
-    ensures stops { (agency.new.is_stopped ≡ agency.old.is_stopped) ⊎ (HaltsByFault result × (agency.new.is_stopped ≡ true)) }
-    ensures store { IfErr result (λ it. IsStoreFault (batch_fault it) → agency.new.is_stopped ≡ true) }
-    ensures stopped { agency.old.is_stopped ≡ true → agency.new ≡ agency.old }
-    ensures was_clean { WasClean S.Store agency.old agency.new }
+    ensures halts { Halts S.Store agency.old agency.new result }
 {
     match agency.step(alloc, command) {
         Ok(reply) => {
@@ -89,11 +85,7 @@ fn answer_question<S: Alter, W: Write>(
         (reported (stand S.Store agency.old) (report (stand S.Store agency.old) question)) (λ now. now ≡ machine S.Store agency.old) result }
     ensures crash { IsClean S.Store agency.new → agency.old.is_stopped ≡ false → Leaves S.Store agency.new (λ left. left ≡ machine S.Store agency.old) }
     ensures left { IsClean S.Store agency.new → agency.new.is_stopped ≡ false → LeavesItsTables S.Store agency.new }
-    ensures cause { agency.old.is_stopped ≡ false → IfErr result (λ it. IsFirst (batch_fault it)) }
-    ensures stops { (agency.new.is_stopped ≡ agency.old.is_stopped) ⊎ (HaltsByFault result × (agency.new.is_stopped ≡ true)) }
-    ensures store { IfErr result (λ it. IsStoreFault (batch_fault it) → agency.new.is_stopped ≡ true) }
-    ensures stopped { agency.old.is_stopped ≡ true → agency.new ≡ agency.old }
-    ensures was_clean { WasClean S.Store agency.old agency.new }
+    ensures halts { Halts S.Store agency.old agency.new result }
 {
     // A question is answered alike by the tables and by their whole.
     answers_pass_the_run();
@@ -123,11 +115,7 @@ pub fn answer<S: Alter, W: Write>(
     ensures crash { IsClean S.Store agency.new → agency.old.is_stopped ≡ false → LeavesItsTables S.Store agency.old
         → Leaves S.Store agency.new (IsWithin (stand S.Store agency.old) (Some (fields_of row.now))) }
     ensures left { IsClean S.Store agency.new → LeavesItsTables S.Store agency.old → agency.new.is_stopped ≡ false → LeavesItsTables S.Store agency.new }
-    ensures cause { agency.old.is_stopped ≡ false → IfErr result (λ it. IsFirst (batch_fault it)) }
-    ensures stops { (agency.new.is_stopped ≡ agency.old.is_stopped) ⊎ (HaltsByFault result × (agency.new.is_stopped ≡ true)) }
-    ensures store { IfErr result (λ it. IsStoreFault (batch_fault it) → agency.new.is_stopped ≡ true) }
-    ensures stopped { agency.old.is_stopped ≡ true → agency.new ≡ agency.old }
-    ensures was_clean { WasClean S.Store agency.old agency.new }
+    ensures halts { Halts S.Store agency.old agency.new result }
 {
     match read_line(alloc, row) {
         Ok(Ok(Request::Command(command))) => {

@@ -2,7 +2,7 @@
 
 ghost use Rattle.std.specs.Prelude.{◌≡◌, ◌⊎◌, true, false, IfSome, IfErr, if◌then◌else◌};
 ghost use Rattle.dh_agency.specs.Agency.{IsClean, LeavesItsTables, WasClean};
-ghost use Rattle.dh_lines.specs.Batch.{EndsSo, HaltsByFault, HaltsSo, IsAgencyFault, IsFirst, IsStoreFault, LeavesAnswered, batch_fault};
+ghost use Rattle.dh_lines.specs.Batch.{EndsSo, Halts, HaltsSo, IsAgencyFault, IsFirst, IsStoreFault, LeavesAnswered};
 
 use crate::answering::{answer, end_by_reading};
 use crate::outcome::{BatchFault, Halt, Summary};
@@ -32,11 +32,7 @@ fn answer_records<S: Alter, R: Read, W: Write>(
     ensures crash { IsClean S.Store agency.new → agency.old.is_stopped ≡ false → LeavesItsTables S.Store agency.old
         → LeavesAnswered S.Store agency.old agency.new }
     ensures left { IsClean S.Store agency.new → LeavesItsTables S.Store agency.old → agency.new.is_stopped ≡ false → LeavesItsTables S.Store agency.new }
-    ensures cause { agency.old.is_stopped ≡ false → IfErr result (λ it. IsFirst (batch_fault it)) }
-    ensures stops { (agency.new.is_stopped ≡ agency.old.is_stopped) ⊎ (HaltsByFault result × (agency.new.is_stopped ≡ true)) }
-    ensures store { IfErr result (λ it. IsStoreFault (batch_fault it) → agency.new.is_stopped ≡ true) }
-    ensures stopped { agency.old.is_stopped ≡ true → agency.new ≡ agency.old }
-    ensures was_clean { WasClean S.Store agency.old agency.new }
+    ensures halts { Halts S.Store agency.old agency.new result }
 {
     let mut records = ReaderBuilder::new()
         .has_headers(false)

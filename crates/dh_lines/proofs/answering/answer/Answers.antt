@@ -1,4 +1,4 @@
-use Rattle.std.proofs.Common.{◌≡◌, Ok, Some, ap, sym, refl, rules}
+use Rattle.std.proofs.Common.{◌≡◌, Ok, Some, ap, arith, inl, sym, refl, rules}
 use Rattle.csv.specs.Records.{fields_of}
 use Rattle.dh_agency.specs.Agency.{machine, stand}
 use Rattle.dh_agency.specs.Told.{IsCut}
@@ -7,7 +7,7 @@ use Rattle.dh_fields.specs.declared.request.Request.TheVariants as request
 use Rattle.dh_fields.specs.Lines.{request_of}
 use Rattle.dh_lines.specs.Session.{answered, answered_request}
 use Rattle.dh_lines.specs.Batch.{IsWithin}
-use Rattle.dh_lines.proofs.OneRecord.{answers_fault, fault_first, memory_of_any, of_output, of_request}
+use Rattle.dh_lines.proofs.OneRecord.{answers_fault, fault_first, memory_of_any, no_store_fault, of_output, of_request}
 use Rattle.dh_lines.proofs.CrashLemmas.{answers_so, cut_within, same_within}
 use Rattle.dh_lines.proofs.answering.answer.Goals as goal
 
@@ -74,8 +74,14 @@ returns-in-Err-clause-answers g c clean =
     (IsWithin (stand g.S.Store old) (Some (fields_of c.args.row.now))) _ c.end_by_fault.result c.end_by_fault.ensures
     (λ is_open. same_within (fields_of c.args.row.now) (machine g.S.Store old) (machine g.S.Store old) refl) (λ on. refl)
 
-pub returns-in-Err-clause-cause : goal.returns-in-Err-clause-cause
-returns-in-Err-clause-cause g c live = fault_first _ _ _ _ c.end_by_fault.result c.end_by_fault.ensures tt
+pub returns-in-Err-clause-halts : goal.returns-in-Err-clause-halts
+returns-in-Err-clause-halts g c = record {
+  cause = λ live. fault_first _ _ _ _ c.end_by_fault.result c.end_by_fault.ensures tt;
+  stops = inl refl;
+  store = λ is. absurd (no_store_fault _ _ _ c.end_by_fault.result c.end_by_fault.ensures is);
+  stopped = λ dead. refl;
+  was_clean = omega arith;
+}
 
 pub returns-in-Ok-Ok-Command-clause-asked : goal.returns-in-Ok-Ok-Command-clause-asked
 returns-in-Ok-Ok-Command-clause-asked g c =

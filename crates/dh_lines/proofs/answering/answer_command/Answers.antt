@@ -38,10 +38,13 @@ returns-in-Err-clause-answers g c clean =
     (cut_or_stopped g.S.Store old new (IsCut told before) _ (c.in-Err.ensures.halted clean) c.in-Err.ensures.ends.stopped (same_cut told before before refl))
     (not_on c.in-Err.ensures.ends.stops)
 
-pub returns-in-Err-clause-cause : goal.returns-in-Err-clause-cause
-returns-in-Err-clause-cause g c live =
-    fault_first _ _ _ c.in-Err.fault c.end_by_fault.result c.end_by_fault.ensures (c.in-Err.ensures.ends.cause live)
-
-pub returns-in-Err-clause-stops : goal.returns-in-Err-clause-stops
-returns-in-Err-clause-stops g c =
-    inr (fault_halts _ _ _ c.in-Err.fault c.end_by_fault.result c.end_by_fault.ensures, c.in-Err.ensures.ends.stops)
+pub returns-in-Err-clause-halts : goal.returns-in-Err-clause-halts
+returns-in-Err-clause-halts g c =
+    let ends = c.in-Err.ensures.ends in
+    record {
+      cause = λ live. fault_first _ _ _ c.in-Err.fault c.end_by_fault.result c.end_by_fault.ensures (ends.cause live);
+      stops = inr (fault_halts _ _ _ c.in-Err.fault c.end_by_fault.result c.end_by_fault.ensures, ends.stops);
+      store = λ is. ends.stops;
+      stopped = λ dead. (ends.stopped dead).1;
+      was_clean = ends.was_clean;
+    }

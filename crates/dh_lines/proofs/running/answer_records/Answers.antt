@@ -8,7 +8,7 @@ use Rattle.dh_lines.specs.declared.watching.Watching.{Watching}
 use Rattle.dh_lines.proofs.CrashLemmas.{answered_next, leaves_between, leaves_within}
 use Rattle.dh_lines.proofs.Following.{goes_on, ends, found}
 use Rattle.dh_lines.proofs.RunningLemmas.{all_answered, first_answered, first_unread, ends_early, ends_handed, ends_unread, noted_of_reader}
-use Rattle.dh_lines.proofs.RunningLemmas.{one_at_most, still_on}
+use Rattle.dh_lines.proofs.RunningLemmas.{halts_handed, no_store_unread, one_at_most, still_on}
 use Rattle.dh_lines.proofs.running.answer_records.Goals as goal
 
 pub loop-n-preserved : goal.loop-n-preserved
@@ -21,16 +21,16 @@ loop-n-preserved g c =
     let known : Option (List ℕ) = g.R.Read.remaining c.args.reader.now in
     let f = fields_of c.read_byte_record.new.row in
     let small : c.count_of-refused.result ≤ 1 = one_at_most c.in_ok-is_refused.is_refused c.count_of-refused.result c.count_of-refused.ensures in
-    let stays : c.answer.new.agency.is_stopped ≡ c.loop-n.agency.is_stopped = elim did.stops [ inl h ↦ h | inr h ↦ absurd h.0 ] in
-    let was : IsClean g.S.Store c.answer.new.agency → IsClean g.S.Store c.loop-n.agency = λ clean. omega (arith, did.was_clean, clean) in
+    let stays : c.answer.new.agency.is_stopped ≡ c.loop-n.agency.is_stopped = elim did.halts.stops [ inl h ↦ h | inr h ↦ absurd h.0 ] in
+    let was : IsClean g.S.Store c.answer.new.agency → IsClean g.S.Store c.loop-n.agency = λ clean. omega (arith, did.halts.was_clean, clean) in
     record {
       plain = on.1 ∙ inv.plain;
       ready = (on.4 inv.ready).0;
       config = on.0 ∙ inv.config;
       flexible = on.2 ∙ inv.flexible;
       few = omega (arith, inv.few, small);
-      was_clean = omega (arith, inv.was_clean, did.was_clean);
-      unmoved = λ dead. did.stopped (inv.stopped ∙ dead) ∙ inv.unmoved dead;
+      was_clean = omega (arith, inv.was_clean, did.halts.was_clean);
+      unmoved = λ dead. did.halts.stopped (inv.stopped ∙ dead) ∙ inv.unmoved dead;
       stopped = stays ∙ inv.stopped;
       left = λ clean h live. did.left clean (inv.left (was clean) h (sym stays ∙ live)) live;
       answered = λ clean. answered_next g.S.Store c.args.agency.now c.loop-n.agency c.answer.new.agency f (inv.answered (was clean)) (did.answers clean).1;
@@ -69,9 +69,18 @@ returns-in-Err-clause-crash g c clean live h =
     let inv = c.loop-n.invariant in
     leaves_between g.S.Store c.args.agency.now c.loop-n.agency (inv.answered clean) (inv.left clean h (inv.stopped ∙ live))
 
-pub returns-in-Err-clause-cause : goal.returns-in-Err-clause-cause
-returns-in-Err-clause-cause g c live = first_unread g.W.Write.contents _ _ _ (error_kind c.in-Err.error) c.failure-failure.result c.end_by_reading.result
-    c.end_by_reading.ensures
+pub returns-in-Err-clause-halts : goal.returns-in-Err-clause-halts
+returns-in-Err-clause-halts g c =
+    let inv = c.loop-n.invariant in
+    record {
+      cause = λ live. first_unread g.W.Write.contents _ _ _ (error_kind c.in-Err.error) c.failure-failure.result c.end_by_reading.result
+          c.end_by_reading.ensures;
+      stops = inl inv.stopped;
+      store = λ is. absurd (no_store_unread g.W.Write.contents _ _ _ (error_kind c.in-Err.error) c.failure-failure.result c.end_by_reading.result
+          c.end_by_reading.ensures is);
+      stopped = inv.unmoved;
+      was_clean = inv.was_clean;
+    }
 
 pub returns-clause-ends : goal.returns-clause-ends
 returns-clause-ends g c clean =
@@ -91,7 +100,7 @@ returns-in_err-is_refused-clause-ends g c clean =
     let rem : Watching g.row.R.Denot → Option (List ℕ) = λ w. g.R.Read.remaining w.inner.now in
     let known : Option (List ℕ) = g.R.Read.remaining c.args.reader.now in
     let f = fields_of c.read_byte_record.new.row in
-    let was : IsClean g.S.Store c.loop-n.agency = omega (arith, did.was_clean, clean) in
+    let was : IsClean g.S.Store c.loop-n.agency = omega (arith, did.halts.was_clean, clean) in
     let next = found rem known c.loop-n.records c.read_byte_record.new.self _ _ _ _ c.loop-n.n c.loop-n.refused f inv.config read (inv.follows was) in
     IfSome_then known next (λ input w.
     ends_handed g.S.Store c.args.agency.now c.answer.new.agency _ _ c.from_residual.result _ input c.from_residual.ensures.1
@@ -103,7 +112,7 @@ pub returns-in_err-is_refused-clause-crash : goal.returns-in_err-is_refused-clau
 returns-in_err-is_refused-clause-crash g c clean live h =
     let inv = c.loop-n.invariant in
     let did = c.in_err-is_refused.ensures in
-    let was : IsClean g.S.Store c.loop-n.agency = omega (arith, did.was_clean, clean) in
+    let was : IsClean g.S.Store c.loop-n.agency = omega (arith, did.halts.was_clean, clean) in
     let on : c.loop-n.agency.is_stopped ≡ false = inv.stopped ∙ live in
     leaves_within g.S.Store c.args.agency.now c.loop-n.agency c.answer.new.agency (fields_of c.read_byte_record.new.row) (inv.answered was)
     (did.crash clean on (inv.left was h on))
@@ -112,11 +121,12 @@ pub returns-in_err-is_refused-clause-left : goal.returns-in_err-is_refused-claus
 returns-in_err-is_refused-clause-left g c clean h live =
     let inv = c.loop-n.invariant in
     let did = c.in_err-is_refused.ensures in
-    let was : IsClean g.S.Store c.loop-n.agency = omega (arith, did.was_clean, clean) in
-    let on : c.loop-n.agency.is_stopped ≡ false = still_on c.in_err-is_refused.field-0.0 did.stops live in
+    let was : IsClean g.S.Store c.loop-n.agency = omega (arith, did.halts.was_clean, clean) in
+    let on : c.loop-n.agency.is_stopped ≡ false = still_on c.in_err-is_refused.field-0.0 did.halts.stops live in
     did.left clean (inv.left was h on) live
 
-pub returns-in_err-is_refused-clause-stopped : goal.returns-in_err-is_refused-clause-stopped
-returns-in_err-is_refused-clause-stopped g c dead =
+pub returns-in_err-is_refused-clause-halts : goal.returns-in_err-is_refused-clause-halts
+returns-in_err-is_refused-clause-halts g c =
     let inv = c.loop-n.invariant in
-    c.in_err-is_refused.ensures.stopped (inv.stopped ∙ dead) ∙ inv.unmoved dead
+    halts_handed g.S.Store c.args.agency.now c.loop-n.agency c.answer.new.agency c.from_residual.result c.in_err-is_refused.field-0.0 c.from_residual.ensures.1
+    inv.stopped inv.was_clean inv.unmoved c.in_err-is_refused.ensures.halts

@@ -10,7 +10,7 @@ returns-in_err-answer_records-clause-ends g c clean =
     c.from_residual.ensures.1 h)
 
 pub returns-in_err-answer_records-clause-stops : goal.returns-in_err-answer_records-clause-stops
-returns-in_err-answer_records-clause-stops g c = elim c.in_err-answer_records.ensures.stops [
+returns-in_err-answer_records-clause-stops g c = elim c.in_err-answer_records.ensures.halts.stops [
   | inl same ↦ inl same
   | inr stopped ↦ inr (stops_told c.from_residual.result c.in_err-answer_records.field-0.0 c.from_residual.ensures.1 stopped.0, stopped.1)
 ]
