@@ -5,3 +5,4 @@ pub mod Migrating
 pub mod Moving
 pub mod Reopened
 pub mod Unchanged
+pub mod Through

@@ -1,5 +1,5 @@
 -- Attempts to migrate, and lives before and after them.
-use Rattle.std.proofs.Common.{◌≡◌, ◌⊎◌, ◌∙◌, inl, inr, refl, sym, ap, subst, List, [], ◌∷◌, ◌++◌, None}
+use Rattle.std.proofs.Common.{◌≡◌, ◌⊎◌, ◌∙◌, inl, inr, refl, sym, ap, subst, List, [], ◌∷◌, ◌++◌, Some, None, pos}
 use Rattle.sqlite.specs.Store.{Ghosts}
 use Rattle.sqlite.specs.Held.{Held, state}
 use Rattle.sqlite_trees.specs.Tree.{Trees}
@@ -12,13 +12,25 @@ use Rattle.dh_laws.proofs.TellingWhole.{own_state, shows_none}
 use Rattle.dh_schema.specs.Store.{AreTables, tables}
 use Rattle.dh_schema.specs.Tables.{IsSound, state_in}
 use Rattle.dh_migration.specs.Migrated.{migrated_state}
-use Rattle.dh_migration.specs.Moved.{CanBeMigrated}
+use Rattle.dh_types.specs.declared.reply.Refusal.{Refusal}
+use Rattle.dh_types.specs.declared.reply.Refusal.TheVariants as refusal
+use Rattle.dh_types.specs.declared.version.Version.{Version}
+use Rattle.dh_rows.specs.Cells.{version_number}
+use Rattle.dh_runs.specs.Taking.{GivesVersion}
+use Rattle.dh_migration.specs.Moved.{CanBeMigrated, IsNotMigratedFor, IsOf}
 use Rattle.dh_histories.specs.Histories.{IsHistory, IsSoundIn, Moment, event_of, tables_of}
 use Rattle.dh_histories.specs.HistoryLaws.{StandBehind}
 use Rattle.dh_histories.specs.Migrations.{AreAttempts, Attempt, Attempted, LivesGoOnOverMigrations, MigrationsMoveOnce}
 use Rattle.dh_histories.proofs.Ending.{sound_in_order, tables_are_the_machines}
 use Rattle.dh_histories.proofs.Following.{found_after, found_so}
-use Rattle.dh_histories.proofs.Taken.{comes_so}
+use Rattle.dh_histories.proofs.Taken.{comes_so, number_given, sound_is_taken}
+
+-- tables that are refused can't be migrated
+pub never_migrated : (trees : Trees) (why : Refusal) → IsNotMigratedFor trees why → CanBeMigrated trees → ⊥
+never_migrated trees (refusal.RunOpen month) it can = subst (IsOf month) can.closed it.run
+never_migrated trees why it can =
+    let given : GivesVersion First trees = number_given trees can.sound ∙ ap (λ (v : Version). Some (pos (version_number v))) can.first in
+    sound_is_taken First trees why can.sound given it
 
 -- sound tables that are these or those
 abbrev Are : machine.State → machine.State → Trees → Type 0
@@ -43,7 +55,7 @@ module _ {S : Type 0} (g : Ghosts S) where
   trees_of it = (state g it).now.trees
 
   -- one attempt on tables that can be migrated
-  one_moves : (before : Held S) (it : Attempt S) → CanBeMigrated (trees_of before) → Attempted g before it
+  pub one_moves : (before : Held S) (it : Attempt S) → CanBeMigrated (trees_of before) → Attempted g before it
       → Are (tables (state g before)) (migrated_state (tables (state g before))) (trees_of it.found)
   one_moves before it can so =
       let these = tables (state g before) in

@@ -25,7 +25,7 @@ use Rattle.dh_histories.proofs.Following.{Comes, found_after}
 use Rattle.dh_laws.proofs.Versions.{the_version_stays}
 
 -- the number that meta has is that of the version that it gives
-number_given : (trees : Trees) → IsSound trees → only_version (meta_rows trees) ≡ Some (pos (version_number (version_of_tables trees)))
+pub number_given : (trees : Trees) → IsSound trees → only_version (meta_rows trees) ≡ Some (pos (version_number (version_of_tables trees)))
 number_given trees sound =
     let order = sound.in_order in
     ap only_version order.meta.rows_are
@@ -42,7 +42,7 @@ module _ (version : Version) where
   keeps_rule_zero trees sound given (inl none) = let same : Some (pos (version_number version)) ≡ None = sym given ∙ none in cc
   keeps_rule_zero trees sound given (inr it) = it.1 (order_has_values trees sound.in_order)
 
-  sound_is_taken : (trees : Trees) (why : Refusal) → IsSound trees → GivesVersion version trees → IsRefusedFor version trees why → ⊥
+  pub sound_is_taken : (trees : Trees) (why : Refusal) → IsSound trees → GivesVersion version trees → IsRefusedFor version trees why → ⊥
   sound_is_taken trees (refusal.Version found) sound given it =
       let same : Some found ≡ Some (pos (version_number version)) = sym it.0 ∙ given in
       it.1 (cc)

@@ -4,7 +4,8 @@
 ghost use Rattle.dh_histories.specs.HistoryLaws.{AcknowledgedReceiptsStay, AcknowledgedRunsStay, EachLifeKeepsABeginning, FromTheBeginning};
 ghost use Rattle.dh_histories.specs.HistoryLaws.{HistoriesAreEvents, MonthsAreChargedOnce, NoneIsRefused, RecoveredBooksAreLawful, TablesAreTheMachines};
 ghost use Rattle.dh_histories.specs.HistoryLaws.{TablesStayWithoutNews};
-ghost use Rattle.dh_histories.specs.Migrations.{LivesGoOnOverMigrations, MigrationsMoveOnce};
+ghost use Rattle.dh_histories.specs.Migrations.{AnsweredAttemptsMigrate, DaysAreMigrated, FilesAreMigratedLater, RecoveredFilesAreMigrated};
+ghost use Rattle.dh_histories.specs.Migrations.{LivesGoOnOverMigrations, MachinesOverMigrations, MigrationsMoveOnce, StepsStandOverMigrations};
 
 use dh_laws::{lives, standings};
 use sqlite::Alter;
@@ -92,3 +93,23 @@ pub fn lives_go_on_over_migrations<S: Alter>()
 {
     lives::lives();
 }
+
+/// Calls and attempts to migrate in any order, each answered, refused or cut: the machine stands at the tables that are found, that was told
+/// commands of the calls before the attempt that moved the tables, was migrated, and was told commands of those behind it; or no attempt did.
+pub fn steps_stand_over_migrations<S: Alter>()
+    ensures { StepsStandOverMigrations S.Store }
+{}
+
+/// The same where the last call is a recovery: the tables are the machine's, row for row.
+pub fn machines_over_migrations<S: Alter>()
+    ensures { MachinesOverMigrations S.Store }
+{}
+
+/// An attempt to migrate that was answered, whatever was called and tried before it: a day's calls and no more, or an attempt that was refused and
+/// a recovery, or an attempt that was cut and another day's calls.
+pub fn answered_attempts_migrate<S: Alter>()
+    ensures any { AnsweredAttemptsMigrate S.Store }
+    ensures day { DaysAreMigrated S.Store }
+    ensures recovered { RecoveredFilesAreMigrated S.Store }
+    ensures later { FilesAreMigratedLater S.Store }
+{}

@@ -15,7 +15,7 @@ ghost use Rattle.dh_agency.specs.Taken.{TakesForward};
 ghost use Rattle.dh_histories.specs.Calls.{Tells};
 ghost use Rattle.dh_histories.specs.Calls.{AttachCut, Attached, Recovered, RecoveryCut, ResumeCut, Resumed, ShowCut, Shown, StepCut, Stepped};
 ghost use Rattle.dh_histories.specs.Histories.{IsSoundIn};
-ghost use Rattle.dh_histories.specs.Migrations.{Migrates};
+ghost use Rattle.dh_histories.specs.Migrations.{EndsWith, IsRefusal, Migrated, Migrates, Refused};
 
 use crate::answers::nothing_new_leaves_the_tables;
 use dh_agency::{
@@ -129,6 +129,8 @@ pub fn migrate_tells<S: Alter>(
     requires { HasCleanDisk (state S.Store conn) → IsResting (state S.Store conn) }
     ensures migrated { IfOk result (λ a. (a.is_stopped ≡ false) × Migrates (state S.Store conn) (shown_by S.Store a)) }
     ensures cut { IfErr result (λ e. Migrates (state S.Store conn) (state S.Store e.conn)) }
+    ensures answered { IfOk result (λ a. EndsWith Migrated (state S.Store conn) (shown_by S.Store a)) }
+    ensures refused { IfErr result (λ e. IsRefusal e.cause → EndsWith Refused (state S.Store conn) (state S.Store e.conn)) }
 {
     migrate(alloc, conn)
 }
