@@ -4,6 +4,8 @@ ghost use Rattle.std.specs.Prelude.{◌≡◌, ◌≤◌, true, false, IfOk, IfE
 ghost use Rattle.sqlite.specs.State.{HasCleanDisk};
 ghost use Rattle.sqlite.specs.Held.{state};
 ghost use Rattle.dh_days.specs.declared.limits.TheConstants.{LAST_ENTRY_MONTH};
+ghost use Rattle.dh_types.specs.Reports.{report_of};
+ghost use Rattle.dh_model.specs.Answers.{report};
 ghost use Rattle.dh_model.specs.Books.{start};
 ghost use Rattle.dh_laws.specs.Batches.{IsPostedInPart};
 ghost use Rattle.dh_laws.specs.InOrder.{IsEntered};
@@ -86,6 +88,8 @@ pub fn show_tells<S: Alter>(
 ) -> Result<Answer, Fault>
     ensures answered { agency.old.is_stopped ≡ false → OnOk result (Tells Shown (shown_by S.Store agency.old) (shown_by S.Store agency.new)) }
     ensures cut { agency.old.is_stopped ≡ false → OnErr result (Tells ShowCut (shown_by S.Store agency.old) (shown_by S.Store agency.new)) }
+    // The answer is the report of the tables.
+    ensures said { IsClean S.Store agency.new → IfOk result (λ answer. report_of answer ≡ report (machine S.Store agency.old) question.now) }
     // At a stop within it no result is known.
     ensures stop { agency.old.is_stopped ≡ false → IsClean S.Store agency.new
         → Leaves S.Store agency.new (λ left. left ≡ machine S.Store agency.old) }
