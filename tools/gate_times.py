@@ -1,11 +1,12 @@
 #!/usr/bin/env python3
-"""Runs the gate and tells what each crate took of it: processor seconds and the most memory of its proof, its tests and its edits.
+"""Runs the gate and tells what each crate took of it: processor seconds and the most memory of its proof, and those of its edits.
 
     tools/gate_times.py [LOG] [NAME..]     runs `rt ci` at the top of the repository, of these crates alone where some are named, with its
                                            output in LOG (gate.log beside the repository)
 
 Twice a second it looks at the toolchain's processes that this run began, and at no others. So a time may lack the last half second of
-each process; the sum over all, in the last line, is the system's own. The status is that of `rt ci`.
+each process; the sum over all, in the last line, is the system's own. The status is that of `rt ci`. Where no crate is named, each was proved
+in this run, and the gate passed, it writes the table to docs/gate-times.txt too.
 """
 import os
 import re
@@ -13,6 +14,7 @@ import resource
 import subprocess
 import sys
 import time
+from datetime import date
 
 TICK = os.sysconf('SC_CLK_TCK')
 PAGE = os.sysconf('SC_PAGE_SIZE')
@@ -70,7 +72,7 @@ def process(pid):
         return None
     if crate.endswith('_tests'):
         crate = crate[:-len('_tests')]
-    work = 'edits' if 'rt-edit-' in folder else 'tests' if '--test' in words else 'proof'
+    work = 'edits' if 'rt-edit-' in folder else 'proof'
     return crate, work, seconds, memory
 
 
@@ -97,18 +99,23 @@ def main():
     for crate in re.findall(r'^rt: must-fail ([a-z_0-9]+)/', text, re.M):
         tried[crate] = tried.get(crate, 0) + 1
     order = [line.split(':')[0].split()[0] for line in read(f'{top}/crates.txt').splitlines() if re.match(r'[a-z]', line)]
-    print('| crate | proof | its tests | edits | edits tried | memory, proof | memory, tests |')
-    print('|---|---|---|---|---|---|---|')
+    table = [f"{'crate':<18}{'proof, s':>10}{'wrong bodies, s':>17}{'how many':>10}{'memory of the proof, GB':>25}"]
     for crate in order:
         def took(work):
             found = [taken for key, taken in seconds.items() if key[:2] == (crate, work)]
-            return f'{sum(found):.0f} s' if found else '-'
+            return f'{sum(found):.0f}' if found else '-'
 
-        def most(work):
-            return f'{peaks[crate, work] / 1e9:.1f} GB' if (crate, work) in peaks else '-'
-        print(f"| `{crate}` | {took('proof')} | {took('tests')} | {took('edits')} | {tried.get(crate, 0)} | {most('proof')} | {most('tests')} |")
+        memory = f"{peaks[crate, 'proof'] / 1e9:.1f}" if (crate, 'proof') in peaks else '-'
+        table.append(f"{crate:<18}{took('proof'):>10}{took('edits'):>17}{tried.get(crate, 0):>10}{memory:>25}")
     used = resource.getrusage(resource.RUSAGE_CHILDREN)
-    print(f'{(used.ru_utime + used.ru_stime) / 60:.1f} processor minutes, {(time.monotonic() - begun) / 60:.1f} minutes; {text.rstrip().splitlines()[-1]}')
+    told = (f'{(used.ru_utime + used.ru_stime) / 60:.0f} processor minutes, {(time.monotonic() - begun) / 60:.0f} minutes; '
+            f'{text.rstrip().splitlines()[-1]}')
+    print('\n'.join([*table, told]))
+    if not sys.argv[2:] and gate.returncode == 0 and all((crate, 'proof') in peaks for crate in order):
+        head = [f'tools/gate_times.py printed this of the whole run of the gate on {date.today()}:', told,
+                'docs/PERFORMANCE.md says on which machine, and what changed since.', '']
+        with open(f'{top}/docs/gate-times.txt', 'w') as out:
+            out.write('\n'.join([*head, *table]) + '\n')
     return gate.returncode
 
 
