@@ -1,0 +1,268 @@
+#!/usr/bin/env bash
+# Tries an office's set-up on clean folders: `./letting --install`, office/nightly-copy, the man page and the units.
+#
+#     bench/install.sh     with the program that is built in this repository; it builds none
+#
+# - Installing, and installing over a program that is serving; each call that fails, with its status and its message.
+# - A copy of a file, of one that a `batch` holds, and of one that is written all the while; a copy that is put back.
+# - Files of which no copy is kept: damaged, edited, of the first version, empty, with a journal, never at rest.
+# - The lint of mandoc, man, systemd-analyze and shellcheck, where they are there.
+#
+# Prints each check that came otherwise, and how many there were. Ends with 0 if none did.
+set -u
+cd "$(dirname "$0")/.." || exit 1
+top=$PWD
+built=$top/crates/dh_desk/out/dh_desk
+[ -x "$built" ] || {
+    echo "bench/install.sh: the program is not built: \`./letting init ..\` or \`.ci/run\` builds it" >&2
+    exit 3
+}
+work=$(mktemp -d)
+trap 'umount "$work/disk" 2>/dev/null; rm -rf "$work"' EXIT
+# Another user runs some of it.
+chmod 755 "$work"
+cd "$work" || exit 1
+checks=0
+wrong=0
+as=()
+
+# same WHAT WANTED GOT
+same() {
+    checks=$((checks + 1))
+    [ "$2" = "$3" ] && return
+    wrong=$((wrong + 1))
+    echo "DIFFERS: $1: $3, and not $2"
+}
+
+# call WORD..: its status and all that it prints, in one text.
+call() {
+    local said status
+    said=$("${as[@]}" "$@" 2>&1 </dev/null)
+    status=$?
+    echo "$status $said"
+}
+
+# The names in a folder, hidden ones too.
+listed() {
+    find "$1" -mindepth 1 -printf '%P\n' | sort | paste -sd' '
+}
+
+# A repository with no more than installing looks at. A `rt` is on the path that leaves a mark, and builds nothing.
+mkdir -p repo/crates/dh_desk/src repo/crates/dh_desk/out bin
+cp "$top/letting" "$top/crates.txt" "$top/README.md" repo
+cp -r "$top/office" repo
+echo '//! The program.' >repo/crates/dh_desk/src/main.rt
+printf '#!/bin/sh\ntouch %s/was_called\n' "$work" >bin/rt
+chmod 755 bin/rt
+PATH=$work/bin:$PATH
+# shellcheck disable=SC2016
+not_built='3 letting: --install: the program is not built of these sources; `./letting init ..` or `.ci/run` builds it'
+
+installing() {
+    mkdir new
+    same 'not built' "$not_built" "$(call repo/letting --install new)"
+    cp "$built" repo/crates/dh_desk/out/dh_desk
+    touch -d '1 minute' repo/crates/dh_desk/src/main.rt
+    same 'older than a source' "$not_built" "$(call repo/letting --install new)"
+    touch -d '1 minute ago' repo/crates/dh_desk/src/main.rt repo/crates.txt
+    touch repo/crates/dh_desk/out/dh_desk
+    same 'nothing was built' '' "$(ls was_called 2>/dev/null)"
+    same 'no folder named' '2 letting: --install takes one folder' "$(call repo/letting --install)"
+    same 'two folders' '2 letting: --install takes one folder' "$(call repo/letting --install new new)"
+    same 'no such folder' '2 letting: --install: there is no folder none' "$(call repo/letting --install none)"
+    same 'a file' '2 letting: --install: there is no folder repo/letting' "$(call repo/letting --install repo/letting)"
+    same 'the repository' '2 letting: --install: repo is the repository, with this script in it' \
+        "$(call repo/letting --install repo)"
+    same 'nothing was put anywhere' '' "$(listed new)"
+    same 'installing' '0 letting: put letting and letting.1 into new' "$(umask 077; call repo/letting --install new)"
+    same 'what is there' 'letting letting.1' "$(listed new)"
+    same 'the modes' '755 644' "$(stat -c %a new/letting new/letting.1 | paste -sd' ')"
+    same 'the program' 0 "$(cmp -s "$built" new/letting; echo $?)"
+    same 'the page' 0 "$(cmp -s "$top/office/letting.1" new/letting.1; echo $?)"
+    mkdir -p taken/letting
+    same 'a folder in its place' '3 letting: --install: taken/letting is a folder' \
+        "$(call repo/letting --install taken)"
+    same 'that folder' letting "$(listed taken)"
+}
+
+# Folders that can't be written: by a user who may not, and on a disk that is full.
+shut() {
+    local said="3 letting: --install: shut can't be written"
+    mkdir shut
+    [ "$(id -u)" != 0 ] || as=(setpriv --reuid=65534 --regid=65534 --clear-groups)
+    chmod 555 shut
+    if "${as[@]}" true 2>/dev/null; then
+        same 'a folder that may not be written' "$said" "$(call repo/letting --install shut)"
+        same 'a folder of copies that may not be written' "3 nightly-copy: $work/shut can't be written" \
+            "$(call repo/office/nightly-copy repo/crates.txt shut new/letting)"
+        same 'that folder' '' "$(listed shut)"
+    else
+        echo 'not tried: another user'
+    fi
+    as=()
+    mkdir disk
+    if mount -t tmpfs -o size=1m letting disk 2>/dev/null; then
+        said="3 letting: --install: disk can't be written"
+        same 'a full disk' "$said" "$(call repo/letting --install disk)"
+        same 'that disk' '' "$(listed disk)"
+        umount disk
+    else
+        echo 'not tried: a full disk'
+    fi
+}
+
+# A program that serves goes on as another is put in its place.
+over_a_running_one() {
+    local port before pid
+    new/letting init --file served.db --first 2025-01 >said
+    before=$(stat -c %i new/letting)
+    new/letting serve --file served.db --port 0 --count 1 >served &
+    pid=$!
+    until grep -q port served 2>/dev/null || ! kill -0 $pid 2>/dev/null; do sleep 0.1; done
+    port=$(sed -n 's/^port //p' served)
+    same 'installing over it' '0 letting: put letting and letting.1 into new' "$(call repo/letting --install new)"
+    same 'another file is there' no "$([ "$before" = "$(stat -c %i new/letting)" ] && echo yes || echo no)"
+    same 'what is there then' 'letting letting.1' "$(listed new)"
+    same 'the running one answers' 200 \
+        "$(python3 -c 'import sys, urllib.request as r; print(r.urlopen(sys.argv[1], timeout=60).status)' \
+            "http://127.0.0.1:$port/branches")"
+    wait $pid
+    same 'its status' 0 $?
+}
+
+copying() {
+    local at want
+    mkdir copies office
+    new/letting init --file office/office.db --first 2025-01 >said
+    new/letting batch --file office/office.db <"$top/examples/rent-run.csv" >said
+    want=$(new/letting report --file office/office.db run 2025-01)
+    at=$(new/nightly-copy office/office.db copies)
+    same 'a copy' 0 $?
+    same 'its name' yes "$([[ $at =~ ^$work/copies/[0-9]{4}-[0-9]{2}-[0-9]{2}-[0-9]{6}-office.db$ ]] && echo yes)"
+    same 'nothing beside it' "${at##*/}" "$(listed copies)"
+    same 'its mode' 600 "$(stat -c %a "$at")"
+    new/letting batch --file office/office.db <<<'branch,B777,1 Main St,Leeds,LS1 1AA' >said
+    # It is put back.
+    mkdir away && mv office/office.db office/office.db-wal away && cp "$at" office/office.db
+    same 'the copy put back' "0 $want" "$(call new/letting report --file office/office.db run 2025-01)"
+    same 'a line behind the copy' '' "$(new/letting report --file office/office.db branches | grep B777)"
+    rm copies/*
+    same 'a copy named by a link, in a folder with a space' 0 \
+        "$(ln -s office/office.db link; mkdir 'a b'; new/nightly-copy link 'a b' >said; echo $?)"
+    same 'nothing to copy' '2 nightly-copy: there is no file none' "$(call new/nightly-copy none copies)"
+    same 'nowhere to copy to' '2 nightly-copy: there is no folder none' "$(call new/nightly-copy link none)"
+    same 'no program' '2 nightly-copy: there is no program none' "$(call new/nightly-copy link copies none)"
+    same 'one word' '2 nightly-copy: the words are FILE DIR [LETTING]' "$(call new/nightly-copy link)"
+    same 'no copies of these' '' "$(listed copies)"
+}
+
+# A copy while a `batch` holds the file, with lines in its log; and an open run.
+while_it_is_held() {
+    local at reply pid count
+    new/letting init --file held.db --first 2025-01 >said
+    coproc held { exec new/letting batch --file held.db; }
+    # shellcheck disable=SC2154
+    pid=$held_PID
+    echo 'branch,B001,1 Main St,Leeds,LS1 1AA' >&"${held[1]}"
+    read -r reply <&"${held[0]}"
+    same 'the line before the copy' '1 ok' "$reply"
+    at=$(new/nightly-copy held.db copies)
+    same 'a copy of a held file' 0 $?
+    same 'the copy has that line' '0 B001     Leeds' "$(call new/letting report --file "$at" branches)"
+    echo 'open,R-1,2025-01' >&"${held[1]}"
+    # shellcheck disable=SC1083,SC2093
+    exec {held[1]}>&-
+    same 'the batch goes on' '2 opened 2025-01' "$(cat <&"${held[0]}")"
+    wait "$pid"
+    rm -f copies/*
+    at=$(new/nightly-copy held.db copies)
+    same 'a copy with an open run' 0 $?
+    same 'the run is open in it' '4 B001     Leeds' "$(call new/letting report --file "$at" branches)"
+    new/letting recover --file held.db >said
+    # Lines come all the while.
+    for ((count = 10; count < 200; count++)); do
+        echo "branch,C$count,1 Main St,Leeds,LS1 1AA"
+        sleep 0.05
+    done | new/letting batch --file held.db >said &
+    sleep 2
+    count=$(wc -l <said)
+    rm -f copies/*
+    at=$(new/nightly-copy held.db copies)
+    same 'a copy between lines' 0 $?
+    same 'it has what was answered before it' yes \
+        "$([ "$(new/letting report --file "$at" branches | wc -l)" -gt "$count" ] && echo yes)"
+    wait
+    rm -f copies/*
+}
+
+# refused NAME WHY: no copy of this file is kept. What it says begins so.
+refused() {
+    local got want="3 nightly-copy: no copy of $1: $2"
+    got=$(call new/nightly-copy "$1" copies)
+    same "$1" "$want" "${got:0:${#want}}"
+    same "$1: one line" 1 "$(wc -l <<<"$got")"
+    same "$1: nothing is left" '' "$(listed copies)"
+}
+
+unsound() {
+    local said='letting says of the copy: '
+    cp held.db cut.db && truncate -s 50000 cut.db
+    refused cut.db "$said"
+    cp held.db zeros.db && dd if=/dev/zero of=zeros.db bs=4096 seek=1 count=30 conv=notrunc status=none
+    refused zeros.db "$said"
+    : >empty.db
+    refused empty.db "${said}fault 22 (status 3)"
+    cp held.db edited.db
+    python3 -c "import sqlite3; c = sqlite3.connect('edited.db'); c.execute('UPDATE meta SET version = 7'); c.commit()"
+    refused edited.db "${said}refused 16 7 (status 5)"
+    "$top"/bench/migration.py make first.db 20 >said
+    refused first.db "${said}refused 16 1 (status 5)"
+    cp held.db journal.db && echo journal >journal.db-journal
+    refused journal.db "${said}fault 22 (status 3)"
+    cp held.db busy.db
+    # Each copying has a write behind it.
+    mkdir odd
+    printf '#!/bin/sh\n/bin/cp "$@" && echo >>busy.db\n' >odd/cp
+    chmod 755 odd/cp
+    PATH=$work/odd:$PATH refused busy.db 'it is being written all the time'
+    # A call that is broken off.
+    PATH=$work/odd:$PATH new/nightly-copy busy.db copies 2>/dev/null &
+    sleep 1
+    same 'a call that goes on' yes "$([[ $(listed copies) = .unfinished-* ]] && echo yes)"
+    kill $!
+    wait $! 2>/dev/null
+    same 'a call that is broken off' '' "$(listed copies)"
+}
+
+# lint TOOL WORD..: the words end with 0 and say nothing.
+lint() {
+    if ! type -P "$1" >/dev/null; then
+        echo "not tried: no $1"
+        return
+    fi
+    same "lint by $1" '0 ' "$(call timeout 120 "${@:2}")"
+}
+
+linted() {
+    local unit
+    mkdir units
+    for unit in letting.service letting-copy.service letting-copy.timer; do
+        sed "s|/usr/local/bin/|$work/new/|" "$top/office/$unit" >"units/$unit"
+    done
+    lint mandoc mandoc -Tlint -W style "$top/office/letting.1"
+    lint man sh -c 'LC_ALL=C.UTF-8 man --warnings -l "$1" >/dev/null' man "$top/office/letting.1"
+    lint systemd-analyze systemd-analyze verify --man=no units/letting.service units/letting-copy.service \
+        units/letting-copy.timer
+    lint shellcheck shellcheck -S warning "$top/letting" "$top/office/nightly-copy" "$top/bench/install.sh"
+}
+
+installing
+shut
+over_a_running_one
+cp "$top/office/nightly-copy" new
+copying
+while_it_is_held
+unsound
+linted
+echo "$checks checks, $wrong differ"
+[ $wrong = 0 ]
