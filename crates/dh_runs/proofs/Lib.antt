@@ -5,6 +5,7 @@ pub mod Following
 pub mod NextRows
 pub mod OfMonth
 pub mod PartSums
+pub mod SumsFit
 pub mod Putting
 pub mod Along
 pub mod Stages

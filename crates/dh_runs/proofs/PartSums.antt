@@ -95,7 +95,7 @@ module _ (size : ℕ) (books : Books) (month : ℕ) (pos : 1 ≤ size)
       ∙ ap (λ (it : Books). get it.runs row.month) (closing_makes_whole size books month row pos order order.shown.1)
       ∙ found_whole)
 
-  same_count : length (charges_in books month) ≡ length (all_charges month)
+  pub same_count : length (charges_in books month) ≡ length (all_charges month)
   same_count = subst (λ (m : ℕ). length (charges_in books m) ≡ length (all_charges m)) order.shown.2 (ap (λ (run : Run). run.count) same_row)
 
   same_total : total_of (charges_in books month) ≡ total_of (all_charges month)

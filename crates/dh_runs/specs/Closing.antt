@@ -1,7 +1,8 @@
 -- What a run comes to that is closed.
-use Rattle.std.specs.Prelude.{◌≡◌, ℕ, List, Some, length, true}
+use Rattle.std.specs.Prelude.{◌≡◌, ◌≤◌, ◌<◌, ◌^◌, ◌⊎◌, ℕ, List, Some, length, true}
 use Rattle.std.specs.List.{sum_by}
 use Rattle.std.specs.FinMap.{insert}
+use Rattle.dh_values.specs.declared.limits.TheConstants.{MOST_PENCE}
 use Rattle.dh_types.specs.declared.lease.Charge.{Charge}
 use Rattle.dh_types.specs.declared.run.Part.{Part}
 use Rattle.dh_types.specs.declared.run.Run.{Run}
@@ -18,6 +19,10 @@ sum_over month charges = record { month = month; count = length charges; total =
 -- the sums of the counts and the totals of part rows, which are those of the charges that they stand for
 abbrev pub sum_of_parts : ℕ → List Part → RunSum
 sum_of_parts month parts = record { month = month; count = sum_by (λ part. part.count) parts; total = sum_by (λ part. part.total) parts }
+
+-- the count or the total is more than a run's row can have
+abbrev pub IsTooMuch : RunSum → Type 0
+IsTooMuch sum = (2 ^ 32 ≤ sum.count) ⊎ (MOST_PENCE < sum.total)
 
 -- the month is that of the open run
 abbrev pub IsOpenMonth : Books → ℕ → Type 0

@@ -1,6 +1,6 @@
 //! The end of a run in one transaction.
 
-ghost use Rattle.std.specs.Prelude.{◌≡◌, ◌≤◌, ◌⊎◌, Some, false, IsTrue, IfOk, IfErr, IfSome, OnOk, OnErr};
+ghost use Rattle.std.specs.Prelude.{◌≡◌, ◌≤◌, ◌⊎◌, Some, false, IsTrue, IfOk, IfErr, IfNone, IfSome, OnOk, OnErr};
 ghost use Rattle.std.specs.FinMap.{values};
 ghost use Rattle.sqlite.specs.State.{HasCleanDisk};
 ghost use Rattle.sqlite.specs.Held.{state};
@@ -11,19 +11,21 @@ ghost use Rattle.dh_laws.specs.Batches.{IsAtItsEnd, IsUnderWay, closed_state, su
 ghost use Rattle.dh_schema.specs.Faults.{IsFirstFault};
 ghost use Rattle.dh_schema.specs.Store.{Commits, IsReady, IsReadyWith, Leaves, StaysReady, tables};
 ghost use Rattle.dh_store.specs.Reading.{OnlyReads};
-ghost use Rattle.dh_runs.specs.Closing.{IsOpenMonth, IsSumOfOpen, sum_of_parts};
+ghost use Rattle.dh_runs.specs.Closing.{IsOpenMonth, IsSumOfOpen, IsTooMuch, sum_of_parts};
 
 use dh_books::Books;
 use dh_schema::StoreFault;
 use dh_store::{find_open_run, look, months_now, no_rows};
 use dh_tables::{PartsOfMonth, update};
 use dh_types::{EntryMonth, Pence, RunSum};
-use sqlite::{Alter, Connection, Error, ErrorCode};
+use dh_values::limits::MOST_PENCE;
+use sqlite::{Alter, Connection, Error};
 use std::alloc::Global;
 
 // What the part rows of the books come to, in a run of this month. `None` where they are more than a run can have.
 fn sum_of(month: EntryMonth, books: &Books) -> Option<RunSum>
-    ensures { IfSome result (λ sum. sum ≡ sum_of_parts month (values books.now.books.parts)) }
+    ensures some { IfSome result (λ sum. sum ≡ sum_of_parts month (values books.now.books.parts)) }
+    ensures none { IfNone result (IsTooMuch (sum_of_parts month (values books.now.books.parts))) }
 {
     let mut count = 0u32;
     let mut total = 0u64;
@@ -31,21 +33,27 @@ fn sum_of(month: EntryMonth, books: &Books) -> Option<RunSum>
         count = count.checked_add(part.count)?;
         total = total.checked_add(part.total.pence())?;
     }
-    let total = Pence::try_of_pence(i64::try_from(total).ok()?)?;
+    if total > MOST_PENCE {
+        return None;
+    }
     Some(RunSum {
         month,
         count,
-        total,
+        total: Pence::of_pence(total),
     })
 }
 
-// What the part rows of the month come to. More than a run can have come only from a store that is not clean.
+// What the part rows of the open run come to, of which no batch is left. More than a run can have come only from a store that is not
+// clean.
 fn month_sum<S: Alter>(
     alloc: Global,
     conn: &mut Connection<S>,
     month: EntryMonth,
 ) -> Result<RunSum, StoreFault>
-    requires { HasCleanDisk (state S.Store conn.old) → IsReady (state S.Store conn.old) }
+    requires ready { HasCleanDisk (state S.Store conn.old) → IsReady (state S.Store conn.old) }
+    requires end { HasCleanDisk (state S.Store conn.old)
+        → (tables (state S.Store conn.old)).open_run
+        ≡ Some (record { month = month; done = batches batch_size (tables (state S.Store conn.old)).books month }) }
     ensures told { HasCleanDisk (state S.Store conn.new)
         → IfOk result (λ sum. sum ≡ sum_of_parts month (parts_in (tables (state S.Store conn.old)).books month)) }
     ensures reads { OnlyReads (state S.Store conn.old) (state S.Store conn.new) result }
@@ -54,7 +62,7 @@ fn month_sum<S: Alter>(
     look(alloc, conn, &PartsOfMonth { month }, &mut books)?;
     match sum_of(month, &books) {
         Some(sum) => Ok(sum),
-        None => Err(Error::SqliteFailure(ErrorCode::DatabaseCorrupt).into()),
+        None => Err(StoreFault::unclean(conn)),
     }
 }
 
