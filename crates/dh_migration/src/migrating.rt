@@ -1,6 +1,6 @@
 //! The migration, in one transaction.
 
-ghost use Rattle.std.specs.Prelude.{◌≡◌, ◌≤◌, ◌⊎◌, None, false, IsTrue, IfErr, IfOk, OnOk, OnErr, Some, IfSome};
+ghost use Rattle.std.specs.Prelude.{◌≡◌, ◌≤◌, ◌⊎◌, None, false, IsTrue, IfErr, IfOk, OnOk, OnErr};
 ghost use Rattle.std.specs.FinMap.{values};
 ghost use Rattle.sqlite.specs.State.{HasCleanDisk};
 ghost use Rattle.sqlite.specs.Held.{state};
@@ -9,18 +9,17 @@ ghost use Rattle.dh_types.specs.declared.version.Version.TheVariants.{First};
 ghost use Rattle.dh_tables.specs.Calls.{HasOurTables};
 ghost use Rattle.dh_schema.specs.Faults.{IsFirstFault};
 ghost use Rattle.dh_schema.specs.Store.{Commits, IsReady, IsReadyWith, Leaves, StaysReady, tables};
-ghost use Rattle.dh_store.specs.Reading.{OnlyReads};
 ghost use Rattle.dh_runs.specs.Problems.{IsNotTaken};
 ghost use Rattle.dh_runs.specs.Taking.{HasTablesOfAnother, HasVersion, IsResting};
 ghost use Rattle.dh_migration.specs.Migrated.{migrated_state};
-ghost use Rattle.dh_migration.specs.Moved.{CanBeMigrated, IsMigrationProblem, IsNotMigrated, IsOf, MovesOn, StaysAsItWas};
+ghost use Rattle.dh_migration.specs.Moved.{CanBeMigrated, IsMigrationProblem, IsNotMigrated, MovesOn, StaysAsItWas};
 
 use crate::growing::grow;
 use dh_books::Books;
-use dh_runs::{Problem, check};
+use dh_leases::open_row;
+use dh_runs::{Problem, checked_books};
 use dh_schema::StoreFault;
-use dh_store::{find_open_run, look_at_all, months_now, no_rows};
-use dh_types::{EntryMonth, Part, Refusal, Version};
+use dh_types::{Part, Refusal, Version};
 use sqlite::{Alter, Connection, Error};
 use std::alloc::{AllocError, Global};
 
@@ -33,40 +32,6 @@ fn listed_parts(alloc: Global, books: &Books) -> Result<Vec<Part>, AllocError>
         parts.push(*part)?;
     }
     Ok(parts)
-}
-
-// The parts that the tables have.
-fn held_parts<S: Alter>(alloc: Global, conn: &mut Connection<S>) -> Result<Vec<Part>, StoreFault>
-    requires { HasCleanDisk (state S.Store conn.old) → IsReady (state S.Store conn.old) }
-    ensures parts { HasCleanDisk (state S.Store conn.new)
-        → IfOk result (λ parts. parts.items ≡ values (tables (state S.Store conn.old)).books.parts) }
-    ensures reads { OnlyReads (state S.Store conn.old) (state S.Store conn.new) result }
-{
-    let mut books = no_rows(alloc);
-    look_at_all::<Part, S>(alloc, conn, &mut books)?;
-    match listed_parts(alloc, &books) {
-        Ok(parts) => Ok(parts),
-        Err(error) => Err(error.into()),
-    }
-}
-
-// The month of the run that stands open, if one does.
-fn open_month<S: Alter>(
-    alloc: Global,
-    conn: &mut Connection<S>,
-) -> Result<Option<EntryMonth>, StoreFault>
-    requires { HasCleanDisk (state S.Store conn.old) → IsReady (state S.Store conn.old) }
-    ensures some { HasCleanDisk (state S.Store conn.new)
-        → IfOk result (λ found. IfSome found (λ month. IsOf month (tables (state S.Store conn.old)).open_run)) }
-    ensures none { HasCleanDisk (state S.Store conn.new)
-        → IfOk result (λ found. found ≡ None → (tables (state S.Store conn.old)).open_run ≡ None) }
-    ensures reads { OnlyReads (state S.Store conn.old) (state S.Store conn.new) result }
-{
-    let months = months_now(alloc, conn)?;
-    match find_open_run(alloc, conn, months)? {
-        Some(run) => Ok(Some(run.month)),
-        None => Ok(None),
-    }
 }
 
 // Makes the tables those of the second version, and commits them.
@@ -92,12 +57,17 @@ fn commit_second<S: Alter>(
     Ok(())
 }
 
-// Migrates sound tables of the first version that show no open run. At a fault the tables are the migrated ones or those before, and
-// while the store is open those before.
-fn move_on<S: Alter>(alloc: Global, conn: &mut Connection<S>) -> Result<(), StoreFault>
+// Migrates sound tables of the first version that have these parts and show no open run. At a fault the tables are the migrated ones or
+// those before, and while the store is open those before.
+fn move_on<S: Alter>(
+    alloc: Global,
+    conn: &mut Connection<S>,
+    parts: &[Part],
+) -> Result<(), StoreFault>
     requires ready { HasCleanDisk (state S.Store conn.old) → IsReady (state S.Store conn.old) }
     requires first { HasCleanDisk (state S.Store conn.old) → HasVersion First (state S.Store conn.old) }
     requires closed { HasCleanDisk (state S.Store conn.old) → (tables (state S.Store conn.old)).open_run ≡ None }
+    requires all { HasCleanDisk (state S.Store conn.old) → parts.now ≡ values (tables (state S.Store conn.old)).books.parts }
     ensures done { HasCleanDisk (state S.Store conn.new)
         → OnOk result (IsReadyWith (state S.Store conn.new) (λ t. t ≡ migrated_state (tables (state S.Store conn.old)))) }
     ensures undone { HasCleanDisk (state S.Store conn.new) → IsTrue (state S.Store conn.new).is_open
@@ -107,11 +77,10 @@ fn move_on<S: Alter>(alloc: Global, conn: &mut Connection<S>) -> Result<(), Stor
         → Leaves (state S.Store conn.new) (λ t. (t ≡ tables (state S.Store conn.old)) ⊎ (t ≡ migrated_state (tables (state S.Store conn.old)))) }
     ensures was_clean { doubt (state S.Store conn.old).is_clean ≤ doubt (state S.Store conn.new).is_clean }
 {
-    let parts = held_parts(alloc, conn)?;
     if !conn.is_autocommit() {
         return Err(StoreFault::unclean(conn));
     }
-    commit_second(alloc, conn, &parts)?;
+    commit_second(alloc, conn, parts)?;
     Ok(())
 }
 
@@ -133,10 +102,11 @@ pub fn migrate_in<S: Alter>(alloc: Global, conn: &mut Connection<S>) -> Result<(
         → OnErr result (StaysAsItWas (state S.Store conn.old) (state S.Store conn.new)) }
     ensures moves { MovesOn (state S.Store conn.old) (state S.Store conn.new) }
 {
-    check(alloc, conn, Version::First)?;
-    if let Some(month) = open_month(alloc, conn)? {
-        return Err(Problem::Refused(Refusal::RunOpen(month.month())));
+    let books = checked_books(alloc, conn, Version::First)?;
+    if let Some(run) = open_row(&books) {
+        return Err(Problem::Refused(Refusal::RunOpen(run.month.month())));
     }
-    move_on(alloc, conn)?;
+    let parts = listed_parts(alloc, &books)?;
+    move_on(alloc, conn, &parts)?;
     Ok(())
 }

@@ -22,4 +22,4 @@ pub use problem::Problem;
 pub use recovering::recover_in;
 pub use rows::put_fee;
 pub use running::{RunState, post_some, run_all};
-pub use taking::check;
+pub use taking::{check, checked_books};

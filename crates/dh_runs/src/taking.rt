@@ -9,8 +9,8 @@ ghost use Rattle.dh_model.specs.Rules.{MeetsRules};
 ghost use Rattle.dh_model.specs.Runs.{batch_size};
 ghost use Rattle.dh_catalog.specs.Versions.{schema_of};
 ghost use Rattle.dh_tables.specs.Calls.{HasOurTables};
-ghost use Rattle.dh_schema.specs.Store.{HasItsSchema, IsReady};
-ghost use Rattle.dh_schema.specs.Tables.{IsSound};
+ghost use Rattle.dh_schema.specs.Store.{HasItsSchema, IsReady, tables};
+ghost use Rattle.dh_schema.specs.Tables.{IsSound, books_in};
 ghost use Rattle.dh_runs.specs.Problems.{IsFoundIn, IsNotTaken};
 ghost use Rattle.dh_runs.specs.Taking.{CanBeTaken, GivesVersion, HasTablesOfAnother, HasVersion, IsFirstProblem, IsOfVersion, IsProblemOf, IsResting};
 
@@ -66,17 +66,18 @@ fn check_books(alloc: Global, books: &Books) -> Result<(), Problem>
     }
 }
 
-// Refuses tables of the version that is wanted and that are not sound.
+// The books of tables of the version that is wanted; it refuses tables that are not sound.
 fn check_rows<S: Alter>(
     alloc: Global,
     conn: &mut Connection<S>,
     wanted: Version,
     version: Version,
-) -> Result<(), Problem>
+) -> Result<Books, Problem>
     requires resting { HasCleanDisk (state S.Store conn.old) → IsResting (state S.Store conn.old) }
     requires reading { HasCleanDisk (state S.Store conn.old) → (state S.Store conn.old).now.schema ≡ schema_of version }
     requires given { HasCleanDisk (state S.Store conn.old) → GivesVersion version (state S.Store conn.old).now.trees }
     requires wanted { HasCleanDisk (state S.Store conn.old) → GivesVersion wanted (state S.Store conn.old).now.trees }
+    ensures books { HasCleanDisk (state S.Store conn.new) → IfOk result (λ it. it.books ≡ books_in (state S.Store conn.old).now.trees) }
     ensures sound { HasCleanDisk (state S.Store conn.new) → OnOk result (IsSound (state S.Store conn.old).now.trees) }
     ensures its { HasCleanDisk (state S.Store conn.new) → OnOk result (HasItsSchema (state S.Store conn.old)) }
     ensures refused { HasCleanDisk (state S.Store conn.new) → IfErr result (IsProblemOf wanted (state S.Store conn.old).now.trees) }
@@ -89,7 +90,35 @@ fn check_rows<S: Alter>(
     ensures was_clean { doubt (state S.Store conn.old).is_clean ≤ doubt (state S.Store conn.new).is_clean }
 {
     let books = load_tables(alloc, conn, version)?;
-    check_books(alloc, &books)
+    check_books(alloc, &books)?;
+    Ok(books)
+}
+
+/// [`check`], which hands back the books that it loaded, without the run that they show as open.
+pub fn checked_books<S: Alter>(
+    alloc: Global,
+    conn: &mut Connection<S>,
+    wanted: Version,
+) -> Result<Books, Problem>
+    requires { HasCleanDisk (state S.Store conn.old) → IsResting (state S.Store conn.old) }
+    ensures books { HasCleanDisk (state S.Store conn.new) → IfOk result (λ it. it.books ≡ (tables (state S.Store conn.old)).books) }
+    ensures ready { HasCleanDisk (state S.Store conn.new) → OnOk result (IsReady (state S.Store conn.new)) }
+    ensures version { HasCleanDisk (state S.Store conn.new) → OnOk result (HasVersion wanted (state S.Store conn.new)) }
+    ensures taken { HasCleanDisk (state S.Store conn.new) → OnOk result (CanBeTaken wanted (state S.Store conn.old).now.trees) }
+    ensures refused { HasCleanDisk (state S.Store conn.new) → IfErr result (IsProblemOf wanted (state S.Store conn.old).now.trees) }
+    ensures cause { IfErr result IsFirstProblem }
+    ensures still_open { HasCleanDisk (state S.Store conn.new)
+        → IfErr result (λ problem. IsOfVersion problem → IsTrue (state S.Store conn.new).is_open) }
+    ensures others { ¬ HasOurTables (state S.Store conn.old) → IsNotTaken result × (conn.new ≡ conn.old) }
+    ensures another { HasCleanDisk (state S.Store conn.new) → HasTablesOfAnother wanted (state S.Store conn.old) → IsNotTaken result }
+    ensures same { HasCleanDisk (state S.Store conn.new) → IsTrue (state S.Store conn.new).is_open
+        → IsResting (state S.Store conn.new) × ((state S.Store conn.new).now ≡ (state S.Store conn.old).now) }
+    ensures crash { HasCleanDisk (state S.Store conn.new)
+        → (left : Trees) → (state S.Store conn.new).may_leave left → left ≡ (state S.Store conn.old).now.trees }
+    ensures was_clean { doubt (state S.Store conn.old).is_clean ≤ doubt (state S.Store conn.new).is_clean }
+{
+    let version = check_version(alloc, conn, wanted)?;
+    check_rows(alloc, conn, wanted, version)
 }
 
 /// Whether the tables are sound, and of the version that is wanted. Refusal 16 comes exactly where `meta` gives another version; else
@@ -117,6 +146,6 @@ pub fn check<S: Alter>(
         → (left : Trees) → (state S.Store conn.new).may_leave left → left ≡ (state S.Store conn.old).now.trees }
     ensures was_clean { doubt (state S.Store conn.old).is_clean ≤ doubt (state S.Store conn.new).is_clean }
 {
-    let version = check_version(alloc, conn, wanted)?;
-    check_rows(alloc, conn, wanted, version)
+    let _books = checked_books(alloc, conn, wanted)?;
+    Ok(())
 }

@@ -1,5 +1,4 @@
 use Rattle.std.proofs.Common.{subst}
-use Rattle.std.proofs.lemmas.Result.{on_ok_weaker}
 use Rattle.dh_model.specs.Books as machine
 use Rattle.dh_model.specs.Rules.{MeetsRules}
 use Rattle.dh_model.specs.Runs.{batch_size}
@@ -9,5 +8,4 @@ pub returns-clause-sound : goal.returns-clause-sound
 returns-clause-sound g c clean =
     let loaded = c.in_ok-books.ensures.books clean in
     let order = c.in_ok-books.ensures.in_order clean in
-    on_ok_weaker c.check_books.result
-    (λ rules. record { in_order = order; rules = subst (λ (s : machine.State). MeetsRules s.books batch_size) loaded rules }) c.check_books.ensures.sound
+    record { in_order = order; rules = subst (λ (s : machine.State). MeetsRules s.books batch_size) loaded c.in_ok-check_books.ensures.sound }

@@ -3,7 +3,7 @@ use Rattle.std.proofs.lemmas.Result.{on_ok_weaker}
 use Rattle.sqlite.specs.State.{HasCleanDisk}
 use Rattle.sqlite.specs.Held.{state}
 use Rattle.dh_runs.proofs.Taken.{both_ok, can_be_taken, version_taken}
-use Rattle.dh_runs.proofs.taking.check.Goals as goal
+use Rattle.dh_runs.proofs.taking.checked_books.Goals as goal
 
 pub returns-clause-version : goal.returns-clause-version
 returns-clause-version g c clean =
