@@ -19,7 +19,7 @@ use Rattle.dh_catalog.specs.Versions.{HasSince, of_both}
 use Rattle.dh_catalog.specs.ChargeTable.{charge}
 use Rattle.dh_sql.specs.CellTests.{Cell}
 use Rattle.dh_sql.specs.Shape.{Shape}
-use Rattle.dh_sql.specs.Texts.{IsInsertText, IsSelectText}
+use Rattle.dh_sql.specs.Texts.{IsSelectText}
 use Rattle.dh_sql.proofs.Casting.{cast_null, pass_each, row_stays}
 use Rattle.dh_tables.specs.declared.charge.ChargeOf.{ChargeOf}
 use Rattle.dh_tables.specs.declared.charge.ChargesOfLease.{ChargesOfLease}
@@ -27,7 +27,7 @@ use Rattle.dh_tables.specs.Cells.{is_number, number_from, pass_both, pass_one, r
 use Rattle.dh_tables.specs.Commands.{insert_text, select_text, select_where, terms_from}
 use Rattle.dh_tables.specs.Listing.{IsListing, Listing}
 use Rattle.dh_tables.specs.Questions.{Asking, IsAsking}
-use Rattle.dh_tables.specs.Tables.{Adding, IsAdding, without_rowid}
+use Rattle.dh_tables.specs.Tables.{Adding, IsAdding, IsInsertOf, without_rowid}
 
 abbrev pub charge_columns : Row → Row
 charge_columns row = column row 1 ∷ column row 2 ∷ column row 3 ∷ column row 4 ∷ column row 5 ∷ []
@@ -56,10 +56,9 @@ charge_adding = record {
   source = without_rowid charge_row;
 }
 
-inserts : (s : Schema) → HasSince First s → (x : Charge)
-    → IsInsertText charge_adding.text s 10 charge charge_adding.terms charge_adding.width (charge_row x) (charge_adding.source x)
+inserts : (s : Schema) → HasSince First s → IsInsertOf charge_row charge_adding s
 unfolding understood everything
-inserts = of_both (λ s. (x : Charge) → IsInsertText charge_adding.text s 10 charge charge_adding.terms charge_adding.width (charge_row x) (charge_adding.source x))
+inserts = of_both (IsInsertOf charge_row charge_adding)
     (λ x. record { command = refl; plain = (refl, refl); listed = refl; is_uncounted = refl; value = refl })
     (λ x. record { command = refl; plain = (refl, refl); listed = refl; is_uncounted = refl; value = refl })
 
