@@ -21,7 +21,7 @@ use Rattle.dh_catalog.specs.Versions.{HasSince, of_both}
 use Rattle.dh_catalog.specs.PropertyTable.{property}
 use Rattle.dh_sql.specs.CellTests.{Cell}
 use Rattle.dh_sql.specs.Shape.{Shape}
-use Rattle.dh_sql.specs.Texts.{IsInsertText, IsSelectText}
+use Rattle.dh_sql.specs.Texts.{IsSelectText}
 use Rattle.dh_sql.proofs.Casting.{cast_null, pass_each, row_stays}
 use Rattle.dh_tables.specs.declared.property.PropertyNumbered.{PropertyNumbered}
 use Rattle.dh_tables.specs.declared.property.PropertiesManaged.{PropertiesManaged}
@@ -30,7 +30,7 @@ use Rattle.dh_tables.specs.Cells.{is_text as text_is, number_from, optional_text
 use Rattle.dh_tables.specs.Commands.{insert_text, select_text, select_where, terms_from}
 use Rattle.dh_tables.specs.Listing.{IsListing, Listing}
 use Rattle.dh_tables.specs.Questions.{Asking, IsAsking}
-use Rattle.dh_tables.specs.Tables.{Adding, IsAdding, without_rowid}
+use Rattle.dh_tables.specs.Tables.{Adding, IsAdding, IsInsertOf, without_rowid}
 
 abbrev pub property_columns : Row → Row
 property_columns row =
@@ -63,10 +63,9 @@ property_adding = record {
   source = without_rowid property_row;
 }
 
-inserts : (s : Schema) → HasSince First s → (x : Property)
-    → IsInsertText property_adding.text s 4 property property_adding.terms property_adding.width (property_row x) (property_adding.source x)
+inserts : (s : Schema) → HasSince First s → IsInsertOf property_row property_adding s
 unfolding understood everything
-inserts = of_both (λ s. (x : Property) → IsInsertText property_adding.text s 4 property property_adding.terms property_adding.width (property_row x) (property_adding.source x))
+inserts = of_both (IsInsertOf property_row property_adding)
     (λ x. record { command = refl; plain = (refl, refl); listed = refl; is_uncounted = refl; value = refl })
     (λ x. record { command = refl; plain = (refl, refl); listed = refl; is_uncounted = refl; value = refl })
 

@@ -36,7 +36,7 @@ mod viewing_changes;
 pub use amend::{Amend, update};
 pub use branch::BranchNumbered;
 pub use branch_fee::FeeOfBranch;
-pub use charge::{ChargeOf, ChargesOfLease, ChargesOfMonth};
+pub use charge::{ChargeOf, ChargesOfLease};
 pub use client::ClientNumbered;
 pub use ending::EndingOf;
 pub use fetching::fetch_more;

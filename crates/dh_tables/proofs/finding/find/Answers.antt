@@ -12,5 +12,5 @@ returns-clause-found g c clean =
     let T = g.L.Record.Tabled in
     let trees = (state g.S.Store c.args.conn.now).now.trees in
     let same = ap (λ (rows : List Row). rows_of T.shape {R = T.order} rows) c.deref.ensures.value ∙ c.in_ok-rows.ensures.rows clean in
-    found_ok (total T.is_kind) (ties T.is_kind) T.shape (g.L.Look.asks c.args.question.now) (rows_in T.shape trees) (keyed_rows (total T.is_kind) (ties T.is_kind) T.shape trees)
-    c.only.result (rows_of T.shape c.deref.result.now) c.only.ensures same
+    found_ok (total T.is_kind) (ties T.is_kind) T.shape (g.L.Look.asks c.args.question.now) (rows_in T.shape trees)
+    (keyed_rows (total T.is_kind) (ties T.is_kind) T.shape trees) c.only.result (rows_of T.shape c.deref.result.now) c.only.ensures same

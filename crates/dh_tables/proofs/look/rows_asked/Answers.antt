@@ -25,10 +25,10 @@ returns-clause-rows g c clean =
     let new = state g.S.Store c.query_all.new.self in
     let early : HasCleanDisk old = omega (arith, c.query_all.ensures.survives.clean, clean) in
     let q = c.args.question.now in
-    let it = g.L.Record.Tabled.shape in
+    let T = g.L.Record.Tabled in
     let how = g.L.Look.asking in
     let law = g.met.L.Look.is_asking in
-    asked (total g.L.Record.Tabled.is_kind) (ties g.L.Record.Tabled.is_kind) it how.text old.now.schema how.tests how.project how.names (g.L.Look.given q) (g.L.Look.asks q)
+    asked (total T.is_kind) (ties T.is_kind) T.shape how.text old.now.schema how.tests how.project how.names (g.L.Look.given q) (g.L.Look.asks q)
     (law.selects old.now.schema (c.requires.reading early)) (law.shows_columns q) (λ r. law.passes q r c.in_ok-params.ensures.known)
     old new refl (c.requires.kept early) c.query_all.result (shown g c clean)
 
@@ -38,10 +38,10 @@ returns-clause-distinct g c clean =
     let new = state g.S.Store c.query_all.new.self in
     let early : HasCleanDisk old = omega (arith, c.query_all.ensures.survives.clean, clean) in
     let q = c.args.question.now in
-    let it = g.L.Record.Tabled.shape in
+    let T = g.L.Record.Tabled in
     let how = g.L.Look.asking in
     let law = g.met.L.Look.is_asking in
-    asked_once (total g.L.Record.Tabled.is_kind) (ties g.L.Record.Tabled.is_kind) it how.text old.now.schema how.tests how.project how.names (g.L.Look.given q) (g.L.Look.asks q)
+    asked_once (total T.is_kind) (ties T.is_kind) T.shape how.text old.now.schema how.tests how.project how.names (g.L.Look.given q) (g.L.Look.asks q)
     (law.selects old.now.schema (c.requires.reading early)) (law.shows_columns q) (λ r. law.passes q r c.in_ok-params.ensures.known)
     old new refl (c.requires.kept early) c.query_all.result (shown g c clean)
 
