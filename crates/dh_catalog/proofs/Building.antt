@@ -27,6 +27,7 @@ use Rattle.dh_catalog.proofs.RunText.{run_is}
 use Rattle.dh_catalog.proofs.PartText.{part_is}
 use Rattle.dh_catalog.proofs.PropertyStaffText.{property_staff_goes, property_staff_is, later_property_staff_is}
 use Rattle.dh_catalog.proofs.PropertyOwnerText.{later_property_owner_is}
+use Rattle.dh_catalog.proofs.PropertyBranchText.{later_property_branch_is}
 use Rattle.dh_catalog.proofs.LeasePropertyText.{lease_property_goes, lease_property_is, later_lease_property_is}
 use Rattle.dh_catalog.proofs.LeaseClientText.{lease_client_goes, lease_client_is, later_lease_client_is}
 use Rattle.dh_catalog.proofs.ChargeMonthText.{charge_month_goes, charge_month_is}
@@ -111,8 +112,12 @@ later_looks_build = (
     inr (inl later_property_owner_is),
     (
       _,
-      inr (inl later_lease_property_is),
-      (_, inr (inl later_lease_client_is), (_, inr (inl later_receipt_lease_is), (_, inr (inl later_viewing_property_is), refl))),
+      inr (inl later_property_branch_is),
+      (
+        _,
+        inr (inl later_lease_property_is),
+        (_, inr (inl later_lease_client_is), (_, inr (inl later_receipt_lease_is), (_, inr (inl later_viewing_property_is), refl))),
+      ),
     ),
   ),
 )

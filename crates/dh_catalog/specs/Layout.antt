@@ -133,15 +133,18 @@ later_property_staff_schema = second 17 15
 abbrev pub later_property_owner_schema : Schema
 later_property_owner_schema = second 17 16
 
+abbrev pub later_property_branch_schema : Schema
+later_property_branch_schema = second 17 17
+
 abbrev pub later_lease_property_schema : Schema
-later_lease_property_schema = second 17 17
+later_lease_property_schema = second 17 18
 
 abbrev pub later_lease_client_schema : Schema
-later_lease_client_schema = second 17 18
+later_lease_client_schema = second 17 19
 
 abbrev pub later_receipt_lease_schema : Schema
-later_receipt_lease_schema = second 17 19
+later_receipt_lease_schema = second 17 20
 
 -- all of them
 abbrev pub our_schema : Schema
-our_schema = second 17 20
+our_schema = second 17 21

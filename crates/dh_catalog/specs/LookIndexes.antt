@@ -11,6 +11,10 @@ property_staff tree = look_index (codes "property_staff") tree 7 (9 ∷ [])
 abbrev pub property_owner : ℕ → Index
 property_owner tree = look_index (codes "property_owner") tree 7 (8 ∷ [])
 
+-- the properties of a branch
+abbrev pub property_branch : ℕ → Index
+property_branch tree = look_index (codes "property_branch") tree 7 (10 ∷ [])
+
 -- the leases of a property
 abbrev pub lease_property : ℕ → Index
 lease_property tree = look_index (codes "lease_property") tree 17 (3 ∷ [])
@@ -39,5 +43,5 @@ first_looks tree =
 
 abbrev pub second_looks : ℕ → List Index
 second_looks tree =
-    property_staff tree ∷ property_owner (tree + 1) ∷ lease_property (tree + 2)
-    ∷ lease_client (tree + 3) ∷ receipt_lease (tree + 4) ∷ viewing_property (tree + 5) ∷ []
+    property_staff tree ∷ property_owner (tree + 1) ∷ property_branch (tree + 2) ∷ lease_property (tree + 3)
+    ∷ lease_client (tree + 4) ∷ receipt_lease (tree + 5) ∷ viewing_property (tree + 6) ∷ []

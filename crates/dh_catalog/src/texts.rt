@@ -124,6 +124,9 @@ pub const PROPERTY_STAFF: &str = "CREATE INDEX property_staff ON property (staff
 /// The index of the properties of an owner, which came with the second version.
 pub const PROPERTY_OWNER: &str = "CREATE INDEX property_owner ON property (owner_no)";
 
+/// The index of the properties of a branch, which came with the second version.
+pub const PROPERTY_BRANCH: &str = "CREATE INDEX property_branch ON property (branch_no)";
+
 /// The index of the leases of a property.
 pub const LEASE_PROPERTY: &str = "CREATE INDEX lease_property ON lease (property_no)";
 
@@ -201,7 +204,7 @@ pub static FIRST: [&str; 20] = [
 ];
 
 /// The texts that make those of the second: the indexes for look-ups come behind all tables.
-pub static SECOND: [&str; 23] = [
+pub static SECOND: [&str; 24] = [
     META,
     BRANCH,
     STAFF,
@@ -221,6 +224,7 @@ pub static SECOND: [&str; 23] = [
     ENDING,
     PROPERTY_STAFF,
     PROPERTY_OWNER,
+    PROPERTY_BRANCH,
     LEASE_PROPERTY,
     LEASE_CLIENT,
     RECEIPT_LEASE,
@@ -229,7 +233,7 @@ pub static SECOND: [&str; 23] = [
 
 /// The texts that make those of the second of those of the first. The indexes for look-ups are taken away, and made anew behind the later
 /// tables.
-pub static FIRST_TO_SECOND: [&str; 15] = [
+pub static FIRST_TO_SECOND: [&str; 16] = [
     DROP_VIEWING_PROPERTY,
     DROP_RECEIPT_LEASE,
     DROP_CHARGE_MONTH,
@@ -241,6 +245,7 @@ pub static FIRST_TO_SECOND: [&str; 15] = [
     ENDING,
     PROPERTY_STAFF,
     PROPERTY_OWNER,
+    PROPERTY_BRANCH,
     LEASE_PROPERTY,
     LEASE_CLIENT,
     RECEIPT_LEASE,
