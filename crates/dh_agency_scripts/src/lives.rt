@@ -26,7 +26,7 @@ use std::io;
 pub fn problem_text(alloc: Global, problem: Problem) -> Result<String, AllocError> {
     match problem {
         Problem::Refused(refusal) => format!(in alloc; "{refusal}"),
-        Problem::Fault(fault) => format!(in alloc; "{fault}"),
+        Problem::Fault(fault) => format!(in alloc; "{}", fault.fault()),
     }
 }
 

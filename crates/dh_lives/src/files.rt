@@ -4,11 +4,12 @@ ghost use Rattle.std.specs.Prelude.{◌≡◌, None, IsTrue, IsSome, IfSome, IfO
 ghost use Rattle.sqlite.specs.Files.{file_state};
 ghost use Rattle.sqlite.specs.State.{HasCleanDisk};
 ghost use Rattle.dh_schema.specs.Faults.{IsFirstFault};
-ghost use Rattle.dh_runs.specs.Taking.{IsFirstProblem, IsResting};
+ghost use Rattle.dh_runs.specs.Taking.{IsResting};
+ghost use Rattle.dh_lives.specs.Causes.{IsFirstCause};
 ghost use Rattle.dh_lives.specs.Lives.{FitsCommands, IsWhole};
 
+use crate::cause::Cause;
 use crate::work::{Done, create_over, live_over, load_over};
-use dh_agency::Problem;
 use dh_schema::fault_of;
 use dh_types::{Command, EntryMonth, Fault};
 use sqlite::{Connection, Error, FileStore, Files, Options};
@@ -80,29 +81,29 @@ pub fn open_on<D: Disk + Drop>(
     Err((Unopened::NotUsable, files))
 }
 
-// Closes the files. The problem is that of a closing that failed.
-fn closed<D: Disk + Drop>(conn: Connection<FileStore<D>>) -> (Option<Problem>, Files<D>)
-    ensures { IfSome result.0 IsFirstProblem }
+// Closes the files. The cause is that of a closing that failed.
+fn closed<D: Disk + Drop>(conn: Connection<FileStore<D>>) -> (Option<Cause>, Files<D>)
+    ensures { IfSome result.0 IsFirstCause }
 {
     match conn.close_files() {
         Ok(files) => (None, files),
-        Err((error, store)) => (Some(Problem::Fault(fault_of(error))), store.close()),
+        Err((error, store)) => (Some(Cause::Fault(fault_of(error))), store.close()),
     }
 }
 
 // Closes the files of work that nothing cut, and leaves those of work that was cut as they are.
 fn ended<D: Disk + Drop>(mut done: Done, conn: Connection<FileStore<D>>) -> (Done, Files<D>)
-    requires { IfSome done.problem IsFirstProblem }
+    requires { IfSome done.cause IsFirstCause }
     ensures lived { result.0.lived ≡ done.lived }
     ensures books { result.0.books ≡ done.books }
-    ensures uncut { result.0.problem ≡ None → done.problem ≡ None }
-    ensures cause { IfSome result.0.problem IsFirstProblem }
+    ensures uncut { result.0.cause ≡ None → done.cause ≡ None }
+    ensures cause { IfSome result.0.cause IsFirstCause }
 {
-    if done.problem.is_some() {
+    if done.cause.is_some() {
         return (done, conn.into_store().close());
     }
-    let (problem, left) = closed(conn);
-    done.problem = problem;
+    let (cause, left) = closed(conn);
+    done.cause = cause;
     (done, left)
 }
 
@@ -112,14 +113,14 @@ pub(crate) fn create_on<D: Disk + Drop>(
     files: Files<D>,
     first: EntryMonth,
 ) -> (Done, Files<D>)
-    ensures { IfSome result.0.problem IsFirstProblem }
+    ensures { IfSome result.0.cause IsFirstCause }
 {
     match open_on(alloc, files, options()) {
         Ok(conn) => {
             let (done, conn) = create_over(alloc, conn, first);
             ended(done, conn)
         }
-        Err((why, left)) => (Done::nothing(alloc, Problem::Fault(why.fault())), left),
+        Err((why, left)) => (Done::nothing(alloc, Cause::Fault(why.fault())), left),
     }
 }
 
@@ -130,28 +131,28 @@ pub(crate) fn live_on<D: Disk + Drop>(
     commands: &[Command],
 ) -> (Done, Files<D>)
     ensures fits { FitsCommands commands.now result.0.lived }
-    ensures whole { result.0.problem ≡ None → IsWhole result.0.lived }
-    ensures cause { IfSome result.0.problem IsFirstProblem }
+    ensures whole { result.0.cause ≡ None → IsWhole result.0.lived }
+    ensures cause { IfSome result.0.cause IsFirstCause }
 {
     match open_on(alloc, files, options()) {
         Ok(conn) => {
             let (done, conn) = live_over(alloc, conn, commands);
             ended(done, conn)
         }
-        Err((why, left)) => (Done::nothing(alloc, Problem::Fault(why.fault())), left),
+        Err((why, left)) => (Done::nothing(alloc, Cause::Fault(why.fault())), left),
     }
 }
 
 /// Loads the tables of the files.
 pub(crate) fn load_on<D: Disk + Drop>(alloc: Global, files: Files<D>) -> (Done, Files<D>)
-    ensures loaded { result.0.problem ≡ None → IsSome result.0.books }
-    ensures cause { IfSome result.0.problem IsFirstProblem }
+    ensures loaded { result.0.cause ≡ None → IsSome result.0.books }
+    ensures cause { IfSome result.0.cause IsFirstCause }
 {
     match open_on(alloc, files, options()) {
         Ok(mut conn) => {
             let done = load_over(alloc, &mut conn);
             ended(done, conn)
         }
-        Err((why, left)) => (Done::nothing(alloc, Problem::Fault(why.fault())), left),
+        Err((why, left)) => (Done::nothing(alloc, Cause::Fault(why.fault())), left),
     }
 }

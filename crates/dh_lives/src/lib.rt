@@ -1,6 +1,7 @@
 //! Rehearsals of stops: lives of an agency on disks in memory, one of which may stop in the middle of a life. Read [`rehearse`] first.
 #![tactic(auto)]
 
+mod cause;
 mod disks;
 mod files;
 mod lives;

@@ -3,14 +3,14 @@
 ghost use Rattle.std.specs.Prelude.{◌≡◌, ◌++◌, ◌≤◌, None, [], ◌∷◌, is_some, IfSome, IsSome, IfOk, IfErr, OnOk};
 ghost use Rattle.dh_days.specs.declared.limits.TheConstants.{LAST_ENTRY_MONTH};
 ghost use Rattle.dh_schema.specs.Faults.{IsFirstFault};
-ghost use Rattle.dh_runs.specs.Taking.{IsFirstProblem};
+ghost use Rattle.dh_lives.specs.Causes.{IsFirstCause};
 ghost use Rattle.dh_lives.specs.Lives.{AreAccountsOf, IsAccountOf, ends_whole};
 
+use crate::cause::Cause;
 use crate::disks::{Measures, Stopping, copy_of, no_files};
 use crate::files::{create_on, live_on, load_on};
 use crate::lives::{Account, Life, Lived, Stop};
 use crate::work::Done;
-use dh_agency::Problem;
 use dh_books::Books;
 use dh_types::{EntryMonth, Fault, Month};
 use sqlite::Files;
@@ -26,23 +26,23 @@ pub struct Rehearsed {
 }
 
 // The fault that a rehearsal ends with. An agency's own tables are sound, so a store that shows others is not clean.
-fn fault_of_problem(problem: Problem) -> Fault
-    requires { IsFirstProblem problem }
+fn fault_of_cause(cause: Cause) -> Fault
+    requires { IsFirstCause cause }
     ensures { IsFirstFault result }
 {
-    match problem {
-        Problem::Fault(fault) => fault,
-        Problem::Refused(_) => Fault::Store,
+    match cause {
+        Cause::Fault(fault) => fault,
+        Cause::Refused => Fault::Store,
     }
 }
 
 // Disks in memory fail to be made for want of memory alone.
-fn made(files: io::Result<Files<Stopping>>) -> Result<Files<Stopping>, Problem>
-    ensures { IfErr result IsFirstProblem }
+fn made(files: io::Result<Files<Stopping>>) -> Result<Files<Stopping>, Cause>
+    ensures { IfErr result IsFirstCause }
 {
     match files {
         Ok(files) => Ok(files),
-        Err(_) => Err(Problem::Fault(Fault::Memory)),
+        Err(_) => Err(Cause::Fault(Fault::Memory)),
     }
 }
 
@@ -65,41 +65,41 @@ fn copied(
     alloc: Global,
     files: &Files<Stopping>,
     stop: Option<Stop>,
-) -> Result<Files<Stopping>, Problem>
-    ensures { IfErr result IsFirstProblem }
+) -> Result<Files<Stopping>, Cause>
+    ensures { IfErr result IsFirstCause }
 {
     made(copy_of(alloc, files, measures_of(stop)))
 }
 
 // The files of a new agency, behind a power cut.
-fn created(alloc: Global, first: EntryMonth) -> Result<Files<Stopping>, Problem>
-    ensures { IfErr result IsFirstProblem }
+fn created(alloc: Global, first: EntryMonth) -> Result<Files<Stopping>, Cause>
+    ensures { IfErr result IsFirstCause }
 {
     let files = made(no_files(alloc, Measures::NO_END))?;
     let (done, left) = create_on(alloc, files, first);
     let Done {
         lived,
         books,
-        problem,
+        cause,
     } = done;
     drop(lived);
     drop(books);
-    match problem {
+    match cause {
         None => Ok(left_by_power_cut(left)),
-        Some(problem) => Err(problem),
+        Some(cause) => Err(cause),
     }
 }
 
 // The life as it was lived, if nothing cut it but its stop.
-fn accounted(done: Done, stop: Option<Stop>) -> Result<Lived, Problem>
-    requires { IfSome done.problem IsFirstProblem }
+fn accounted(done: Done, stop: Option<Stop>) -> Result<Lived, Cause>
+    requires { IfSome done.cause IsFirstCause }
     ensures lived { IfOk result (λ lived. lived ≡ done.lived) }
-    ensures whole { stop ≡ None → OnOk result (done.problem ≡ None) }
-    ensures cause { IfErr result IsFirstProblem }
+    ensures whole { stop ≡ None → OnOk result (done.cause ≡ None) }
+    ensures cause { IfErr result IsFirstCause }
 {
-    match (done.problem, stop) {
-        (None, _) | (Some(Problem::Fault(_)), Some(_)) => Ok(done.lived),
-        (Some(problem), _) => Err(problem),
+    match (done.cause, stop) {
+        (None, _) | (Some(Cause::Fault(_)), Some(_)) => Ok(done.lived),
+        (Some(cause), _) => Err(cause),
     }
 }
 
@@ -108,9 +108,9 @@ fn live(
     alloc: Global,
     files: &Files<Stopping>,
     life: &Life,
-) -> Result<(Lived, Files<Stopping>), Problem>
+) -> Result<(Lived, Files<Stopping>), Cause>
     ensures account { IfOk result (λ it. IsAccountOf life.now it.0) }
-    ensures cause { IfErr result IsFirstProblem }
+    ensures cause { IfErr result IsFirstCause }
 {
     let files = copied(alloc, files, life.stop)?;
     let (done, left) = live_on(alloc, files, &life.commands);
@@ -129,9 +129,9 @@ fn live_each(
     alloc: Global,
     mut files: Files<Stopping>,
     lives: &[Life],
-) -> Result<Rehearsed, Problem>
+) -> Result<Rehearsed, Cause>
     ensures accounts { IfOk result (λ it. AreAccountsOf lives.now it.lives.items) }
-    ensures cause { IfErr result IsFirstProblem }
+    ensures cause { IfErr result IsFirstCause }
 {
     let mut accounts = Vec::new(alloc);
     for life in lives {
@@ -146,9 +146,9 @@ fn live_each(
 }
 
 // Makes an agency and plays the lives.
-fn live_anew(alloc: Global, first: EntryMonth, lives: &[Life]) -> Result<Rehearsed, Problem>
+fn live_anew(alloc: Global, first: EntryMonth, lives: &[Life]) -> Result<Rehearsed, Cause>
     ensures accounts { IfOk result (λ it. AreAccountsOf lives.now it.lives.items) }
-    ensures cause { IfErr result IsFirstProblem }
+    ensures cause { IfErr result IsFirstCause }
 {
     let files = created(alloc, first)?;
     live_each(alloc, files, lives)
@@ -159,9 +159,9 @@ fn live_on_copy(
     alloc: Global,
     files: &Files<Stopping>,
     lives: &[Life],
-) -> Result<Rehearsed, Problem>
+) -> Result<Rehearsed, Cause>
     ensures accounts { IfOk result (λ it. AreAccountsOf lives.now it.lives.items) }
-    ensures cause { IfErr result IsFirstProblem }
+    ensures cause { IfErr result IsFirstCause }
 {
     let files = copied(alloc, files, None)?;
     live_each(alloc, files, lives)
@@ -177,12 +177,12 @@ fn loaded(alloc: Global, files: Files<Stopping>) -> Result<Option<Books>, Fault>
     let Done {
         lived,
         books,
-        problem,
+        cause,
     } = done;
     drop(lived);
-    match problem {
+    match cause {
         None => Ok(books),
-        Some(problem) => Err(fault_of_problem(problem)),
+        Some(cause) => Err(fault_of_cause(cause)),
     }
 }
 
@@ -227,7 +227,7 @@ pub fn live_through(alloc: Global, first: Month, lives: &[Life]) -> Result<Rehea
 {
     match live_anew(alloc, EntryMonth::of_number(first.number()), lives) {
         Ok(rehearsed) => Ok(rehearsed),
-        Err(problem) => Err(fault_of_problem(problem)),
+        Err(cause) => Err(fault_of_cause(cause)),
     }
 }
 
@@ -239,7 +239,7 @@ pub fn live_behind(alloc: Global, behind: &Rehearsed, lives: &[Life]) -> Result<
 {
     match live_on_copy(alloc, &behind.files, lives) {
         Ok(rehearsed) => Ok(rehearsed),
-        Err(problem) => Err(fault_of_problem(problem)),
+        Err(cause) => Err(fault_of_cause(cause)),
     }
 }
 

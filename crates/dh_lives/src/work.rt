@@ -4,13 +4,15 @@ ghost use Rattle.std.specs.Prelude.{◌≡◌, ◌+◌, true, false, None, Some,
 ghost use Rattle.sqlite.specs.State.{HasCleanDisk};
 ghost use Rattle.sqlite.specs.Held.{state};
 ghost use Rattle.dh_schema.specs.Faults.{IsFirstFault};
-ghost use Rattle.dh_runs.specs.Taking.{IsFirstProblem, IsResting};
-ghost use Rattle.dh_runs.specs.declared.problem.Problem.TheVariants as problem;
+ghost use Rattle.dh_runs.specs.Taking.{IsResting};
+ghost use Rattle.dh_lives.specs.declared.cause.Cause.TheVariants as cause;
 ghost use Rattle.dh_types.specs.declared.command.Command.{Command};
+ghost use Rattle.dh_lives.specs.Causes.{IsFirstCause};
 ghost use Rattle.dh_lives.specs.Lives.{FitsCommands, IsWhole};
 
+use crate::cause::Cause;
 use crate::lives::Lived;
-use dh_agency::{Agency, NotOpened, Problem, create, recover};
+use dh_agency::{Agency, NotOpened, create, recover};
 use dh_books::Books;
 use dh_schema::load;
 use dh_types::{Command, EntryMonth, Fault, Reply};
@@ -24,7 +26,7 @@ pub(crate) struct Done {
     /// The books that were loaded.
     pub books: Option<Books>,
     /// What cut it.
-    pub problem: Option<Problem>,
+    pub cause: Option<Cause>,
 }
 
 // No recovery and no command.
@@ -39,21 +41,21 @@ fn no_life(alloc: Global) -> Lived
 }
 
 impl Done {
-    /// Nothing was done, for this problem.
-    pub fn nothing(alloc: Global, problem: Problem) -> Done
-        ensures problem { result.problem ≡ Some problem }
+    /// Nothing was done, for this cause.
+    pub fn nothing(alloc: Global, cause: Cause) -> Done
+        ensures cause { result.cause ≡ Some cause }
         ensures fits { (commands : List Command) → FitsCommands commands result.lived }
     {
         Done {
             lived: no_life(alloc),
             books: None,
-            problem: Some(problem),
+            cause: Some(cause),
         }
     }
 
     // A life in which so many commands were answered.
     fn answered(replies: Vec<Reply>) -> Done
-        ensures problem { result.problem ≡ None }
+        ensures cause { result.cause ≡ None }
         ensures whole { IsWhole result.lived }
         ensures replies { result.lived.replies ≡ replies }
     {
@@ -64,13 +66,13 @@ impl Done {
                 cut: None,
             },
             books: None,
-            problem: None,
+            cause: None,
         }
     }
 
     // The same, and the next command was cut by the fault.
     fn cut(replies: Vec<Reply>, fault: Fault) -> Done
-        ensures problem { result.problem ≡ Some (problem.Fault fault) }
+        ensures cause { result.cause ≡ Some (cause.Fault fault) }
         ensures recovered { result.lived.recovered ≡ true }
         ensures cut { result.lived.cut ≡ Some (length replies.items) }
         ensures replies { result.lived.replies ≡ replies }
@@ -83,7 +85,7 @@ impl Done {
                 cut,
             },
             books: None,
-            problem: Some(Problem::Fault(fault)),
+            cause: Some(Cause::Fault(fault)),
         }
     }
 }
@@ -112,8 +114,8 @@ fn tell<S: Alter>(
 fn tell_all<S: Alter>(alloc: Global, agency: &mut Agency<S>, commands: &[Command]) -> Done
     requires { agency.old.is_stopped ≡ false }
     ensures fits { FitsCommands commands.now result.lived }
-    ensures whole { result.problem ≡ None → IsWhole result.lived }
-    ensures cause { IfSome result.problem IsFirstProblem }
+    ensures whole { result.cause ≡ None → IsWhole result.lived }
+    ensures cause { IfSome result.cause IsFirstCause }
 {
     let mut replies = Vec::new(alloc);
     for command in commands {
@@ -130,11 +132,11 @@ pub(crate) fn create_over<S: Alter>(
     conn: Connection<S>,
     first: EntryMonth,
 ) -> (Done, Connection<S>)
-    ensures { IfSome result.0.problem IsFirstProblem }
+    ensures { IfSome result.0.cause IsFirstCause }
 {
     match create(alloc, conn, first.month()) {
         Ok(agency) => (Done::answered(Vec::new(alloc)), agency.into_store()),
-        Err(NotOpened { cause, conn }) => (Done::nothing(alloc, Problem::Fault(cause)), conn),
+        Err(NotOpened { cause, conn }) => (Done::nothing(alloc, Cause::Fault(cause)), conn),
     }
 }
 
@@ -146,29 +148,29 @@ pub(crate) fn live_over<S: Alter>(
 ) -> (Done, Connection<S>)
     requires { HasCleanDisk (state S.Store conn) → IsResting (state S.Store conn) }
     ensures fits { FitsCommands commands.now result.0.lived }
-    ensures whole { result.0.problem ≡ None → IsWhole result.0.lived }
-    ensures cause { IfSome result.0.problem IsFirstProblem }
+    ensures whole { result.0.cause ≡ None → IsWhole result.0.lived }
+    ensures cause { IfSome result.0.cause IsFirstCause }
 {
     match recover(alloc, conn) {
         Ok(mut agency) => {
             let done = tell_all(alloc, &mut agency, commands);
             (done, agency.into_store())
         }
-        Err(NotOpened { cause, conn }) => (Done::nothing(alloc, cause), conn),
+        Err(NotOpened { cause, conn }) => (Done::nothing(alloc, Cause::from(cause)), conn),
     }
 }
 
 /// Loads the tables.
 pub(crate) fn load_over<S: Alter>(alloc: Global, conn: &mut Connection<S>) -> Done
-    ensures loaded { result.problem ≡ None → IsSome result.books }
-    ensures cause { IfSome result.problem IsFirstProblem }
+    ensures loaded { result.cause ≡ None → IsSome result.books }
+    ensures cause { IfSome result.cause IsFirstCause }
 {
     match load(alloc, conn) {
         Ok(books) => Done {
             lived: no_life(alloc),
             books: Some(books),
-            problem: None,
+            cause: None,
         },
-        Err(fault) => Done::nothing(alloc, Problem::from(fault)),
+        Err(fault) => Done::nothing(alloc, Cause::from(fault)),
     }
 }

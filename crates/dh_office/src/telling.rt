@@ -110,6 +110,6 @@ pub(crate) fn tell_problem<W: Write>(writer: &mut W, problem: Problem) -> Status
 {
     match problem {
         Problem::Refused(refusal) => heard(print_refusal(writer, refusal), Status::FileRefused),
-        Problem::Fault(fault) => tell_fault(writer, fault),
+        Problem::Fault(fault) => tell_fault(writer, fault.fault()),
     }
 }

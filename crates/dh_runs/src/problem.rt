@@ -1,7 +1,7 @@
 //! Why tables are not taken.
 
 use dh_schema::{LoadFault, StoreFault};
-use dh_types::{Fault, Refusal};
+use dh_types::Refusal;
 use std::alloc::AllocError;
 
 /// Why tables are not taken.
@@ -9,8 +9,8 @@ use std::alloc::AllocError;
 pub enum Problem {
     /// Refusal 16 or 17: they are of another version, or a rule of the audit is broken. Of a migration also refusal 10: a run stands open.
     Refused(Refusal),
-    /// Fault 21 or 22.
-    Fault(Fault),
+    /// Fault 21 or 22, which nothing but its reason makes.
+    Fault(StoreFault),
 }
 
 impl From<StoreFault> for Problem {
@@ -21,7 +21,7 @@ impl From<StoreFault> for Problem {
     ghost from_gives = { λ fault told. (told ≡ problem.Fault fault) × IsFirstFault fault };
 
     fn from(fault: StoreFault) -> Problem {
-        Problem::Fault(fault.fault())
+        Problem::Fault(fault)
     }
 }
 
@@ -32,8 +32,8 @@ impl From<AllocError> for Problem {
 
     ghost from_gives = { λ _ told. told ≡ problem.Fault Memory };
 
-    fn from(_error: AllocError) -> Problem {
-        Problem::Fault(Fault::Memory)
+    fn from(error: AllocError) -> Problem {
+        Problem::Fault(StoreFault::from(error))
     }
 }
 
@@ -46,7 +46,7 @@ impl From<LoadFault> for Problem {
     fn from(fault: LoadFault) -> Problem {
         match fault {
             LoadFault::Damaged => Problem::Refused(Refusal::Damaged(0)),
-            LoadFault::Fault(fault) => Problem::Fault(fault.fault()),
+            LoadFault::Fault(fault) => Problem::Fault(fault),
         }
     }
 }
