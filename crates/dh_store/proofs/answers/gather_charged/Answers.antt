@@ -3,7 +3,6 @@ use Rattle.std.specs.List.{All, list_any}
 use Rattle.std.specs.FinMap.{get, values}
 use Rattle.sqlite.specs.State.{HasCleanDisk}
 use Rattle.sqlite.specs.Held.{state}
-use Rattle.dh_types.specs.declared.lease.Lease.{Lease}
 use Rattle.dh_model.specs.Books.{State}
 use Rattle.dh_model.specs.Whole.{rows_where}
 use Rattle.dh_laws.specs.AskedAbout.{is_owned_by}
