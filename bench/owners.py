@@ -1,19 +1,23 @@
 #!/usr/bin/env python3
 """Lines for bench/owners.sh, and what Python's own sqlite3 takes for the same statements and early ends.
 
-owners.py lines LEASES            lines that give so many leases of ten branches with a fee each and of so many owners that each has a hundred,
-                                  and the rent run of a month; then, behind `time NAME`, statements of owners and ends of leases
-owners.py python LEASES [FILE]    makes the same tables, in memory or in FILE, and prints the microseconds of a statement and of an end: by the
-                                  same looks at rows, a commit an end
+owners.py lines LEASES MONTHS            lines that give so many leases of ten branches with a fee each and of so many owners that each has a
+                                         hundred, and the rent runs of so many months; then, behind `time NAME`, statements of owners for the
+                                         last of them, and ends of leases where one month was charged. Past a year a property has one lease
+                                         after the other
+owners.py python LEASES MONTHS [FILE]    makes the same tables, in memory or in FILE, and prints the microseconds of a statement and of an end:
+                                         by the same looks at rows, a commit an end
 """
 
 import sys
 import time
 
-from runs import BRANCHES, FIRST_MONTH, fill, put_branches, put_lease, run
+from runs import BRANCHES, FIRST_MONTH, fill, month, put_branches, put_lease
 from tables import made_tables
 
 OF_ONE = 100
+# The months of each lease.
+TERM = 12
 TIMED_OWNERS = 100
 TIMED_ENDS = 500
 
@@ -31,21 +35,41 @@ def ended_leases(leases):
     return [n * stride + 1 for n in range(min(TIMED_ENDS, leases))]
 
 
-def put_lines(leases):
+def terms(months):
+    """How many leases a property has, one after the other."""
+    return (months + TERM - 1) // TERM
+
+
+def start_of(n, homes):
+    """The first day of a lease behind the first of its property."""
+    return f"{2025 + n // homes}-01-{n % homes % 28 + 1:02}"
+
+
+def put_lines(leases, months):
     put_branches()
     for n in range(BRANCHES):
         print(f"fee,B{n},{n * 100 + 50}")
     for n in range(owners(leases)):
         print(f"owner,O{n},Tom Ray,2 Low Rd Leeds,0113 1")
-    for n in range(leases):
+    homes = leases // terms(months)
+    for n in range(homes):
         put_lease(n, f"O{n % owners(leases)}")
-    print("run,R-0,2025-01")
+    for n in range(homes, homes * terms(months)):
+        print(f"lease,{n + 1},C{n % homes},P{n % homes},{start_of(n, homes)},{TERM},Cash")
+    for k in range(months):
+        print(f"run,R-{k},{month(k)}")
     print("time owner")
     for n in asked_owners(leases):
-        print(f"show,owner,O{n},2025-01")
+        print(f"show,owner,O{n},{month(months - 1)}")
+    if months > 1:
+        return
     print("time end")
     for number in ended_leases(leases):
         print(f"end,{number},3")
+
+
+def month_of(day):
+    return int(day[:4]) * 12 + int(day[5:7]) - 1
 
 
 def money(amount):
@@ -65,9 +89,10 @@ def statement(conn, owner, month):
     fees = dict(conn.execute("SELECT branch_no, fee FROM part_fee WHERE month = ?", (month,)))
     rows = []
     for number, branch in conn.execute("SELECT property_no, branch_no FROM property WHERE owner_no = ?", (owner,)).fetchall():
-        for (lease,) in conn.execute("SELECT lease_no FROM lease WHERE property_no = ?", (number,)):
-            for charged, amount in conn.execute("SELECT month, amount FROM charge WHERE lease_no = ?", (lease,)):
-                if charged == month:
+        for lease, start in conn.execute("SELECT lease_no, start_day FROM lease WHERE property_no = ?", (number,)):
+            k = month - month_of(start)
+            if 0 <= k < TERM:
+                for (amount,) in conn.execute("SELECT amount FROM charge WHERE lease_no = ? AND k = ?", (lease, k)):
                     rows.append((lease, number, amount, amount * fees[branch] // 10000))
     rows.sort()
     amounts = sum(row[2] for row in rows)
@@ -91,8 +116,7 @@ def end(conn, number, months):
         return "already"
     if months > length:
         return f"refused 19 {length}"
-    start = int(found[0][:4]) * 12 + int(found[0][5:7]) - 1
-    if start + months < next_month:
+    if month_of(found[0]) + months < next_month:
         return "refused 7"
     conn.execute("BEGIN")
     if ending:
@@ -112,25 +136,48 @@ def timed(name, calls):
     print(f"{name} {(time.perf_counter() - start) * 1e6 / count:.1f}")
 
 
-def time_both(leases, path):
-    conn = made_tables(path)
-    fill(conn, leases)
+def charge(conn, k):
+    """The run of a month, whole: each lease that is running then has its due."""
+    at = FIRST_MONTH + k
+    conn.execute("INSERT INTO run VALUES (?, ?, 0, 0, 1)", (at, f"R-{k}"))
+    conn.execute("INSERT INTO charge SELECT lease_no, ?1 - start, ?1, ?2 || substr(start_day, 8), rent FROM "
+                 "(SELECT *, substr(start_day, 1, 4) * 12 + substr(start_day, 6, 2) - 1 AS start FROM lease) "
+                 "WHERE start <= ?1 AND ?1 < start + ?3", (at, month(k), TERM))
+    conn.execute("INSERT INTO part SELECT ?, branch_no, 0, 0, 0 FROM branch", (at,))
+    conn.execute("INSERT INTO part_fee SELECT ?, branch_no, substr(branch_no, 2) * 100 + 50, 0 FROM branch", (at,))
+
+
+def fill_all(conn, leases, months):
+    homes = leases // terms(months)
+    fill(conn, homes)
     conn.execute("BEGIN")
     for n in range(owners(leases)):
         conn.execute("INSERT OR IGNORE INTO owner VALUES (?, 'Tom Ray', '2 Low Rd Leeds', '0113 1')", (f"O{n}",))
     conn.execute("UPDATE property SET owner_no = 'O' || (substr(property_no, 2) % ?)", (owners(leases),))
+    for n in range(homes, homes * terms(months)):
+        rent = (n % homes % 900 + 100) * 100
+        conn.execute("INSERT INTO lease VALUES (?, ?, ?, ?, ?, 'Cash', ?)",
+                     (n + 1, f"C{n % homes}", f"P{n % homes}", start_of(n, homes), TERM, rent))
+    for k in range(months):
+        charge(conn, k)
+    conn.execute("UPDATE meta SET next_month = ?", (FIRST_MONTH + months,))
     conn.execute("COMMIT")
-    run(conn)
-    conn.execute("UPDATE part_fee SET fee = substr(branch_no, 2) * 100 + 50")
-    timed("owner", [lambda n=n: statement(conn, f"O{n}", FIRST_MONTH) for n in asked_owners(leases)])
-    timed("end", [lambda number=number: end(conn, number, 3) for number in ended_leases(leases)])
+
+
+def time_both(leases, months, path):
+    conn = made_tables(path)
+    fill_all(conn, leases, months)
+    last = FIRST_MONTH + months - 1
+    timed("owner", [lambda n=n: statement(conn, f"O{n}", last) for n in asked_owners(leases)])
+    if months == 1:
+        timed("end", [lambda number=number: end(conn, number, 3) for number in ended_leases(leases)])
     conn.close()
 
 
 match sys.argv[1:]:
-    case ["lines", leases]:
-        put_lines(int(leases))
-    case ["python", leases, *path]:
-        time_both(int(leases), path[0] if path else ":memory:")
+    case ["lines", leases, months]:
+        put_lines(int(leases), int(months))
+    case ["python", leases, months, *path]:
+        time_both(int(leases), int(months), path[0] if path else ":memory:")
     case _:
         sys.exit(__doc__)

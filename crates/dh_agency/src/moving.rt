@@ -9,7 +9,7 @@ ghost use Rattle.dh_schema.specs.Store as store;
 ghost use Rattle.dh_schema.specs.Store.{IsReadyWith, tables};
 ghost use Rattle.dh_schema.specs.Tables.{IsSound};
 ghost use Rattle.dh_runs.specs.Problems.{IsNotTaken};
-ghost use Rattle.dh_runs.specs.Taking.{CanBeTaken, HasTablesOfAnother, HasVersion, IsFirstProblem, IsOfVersion, IsProblemOf, IsResting, ReadsAsItDid};
+ghost use Rattle.dh_runs.specs.Taking.{CanBeTaken, HasTablesOfAnother, HasVersion, IsFirstProblem, IsOfVersion, IsProblemOf, IsResting, ReadsAsItDid, StaysPut};
 ghost use Rattle.dh_migration.specs.Migrated.{migrated_state};
 ghost use Rattle.dh_migration.specs.Moved.{CanBeMigrated, IsMigrationProblem, IsNotMigrated, MovesOn, StaysAsItWas};
 ghost use Rattle.dh_agency.specs.Agency.{IsClean, LeavesItsTables, machine, shown_by};
@@ -58,7 +58,7 @@ pub fn migrate<S: Alter>(
 /// Takes tables of the first version and makes the run that they show as open to its end; they stay tables of the first version. The
 /// refusals and faults are those of [`recover`](crate::recover), where the first version is the one that is wanted, and at a refusal
 /// the tables stay as they are. At a fault, and wherever a crash cuts it, sound tables are sound with the same whole books, and the
-/// open run is moved on.
+/// open run is moved on; tables that are not sound, or not of the first version, stay as they are.
 pub fn recover_1<S: Alter>(
     alloc: Global,
     conn: Connection<S>,
@@ -78,6 +78,8 @@ pub fn recover_1<S: Alter>(
         → IfErr result (λ e. HasCleanDisk (state S.Store e.conn) → IsNotTaken {X = Unit {0}} (Err e.cause)) }
     ensures made { IfOk result (λ c. TakesForward (state S.Store conn) (state S.Store c)) }
     ensures crash { IfErr result (λ e. TakesForward (state S.Store conn) (state S.Store e.conn)) }
+    ensures not_taken { IfErr result (λ e. HasCleanDisk (state S.Store e.conn) → ¬ CanBeTaken First (state S.Store conn).now.trees
+        → StaysPut (state S.Store conn) (state S.Store e.conn)) }
     ensures halted { IfErr result (λ e. HasCleanDisk (state S.Store e.conn) → IsTrue (state S.Store e.conn).is_open
         → HasOurTables (state S.Store conn) → IsSound (state S.Store conn).now.trees
         → IsReadyWith (state S.Store e.conn) (IsTorn (tables (state S.Store conn)))) }

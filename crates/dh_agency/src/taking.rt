@@ -8,7 +8,7 @@ ghost use Rattle.dh_tables.specs.Calls.{HasOurTables};
 ghost use Rattle.dh_schema.specs.Store.{IsReadyWith, tables};
 ghost use Rattle.dh_schema.specs.Tables.{IsSound};
 ghost use Rattle.dh_runs.specs.Problems.{IsNotTaken};
-ghost use Rattle.dh_runs.specs.Taking.{CanBeTaken, HasTablesOfAnother, IsFirstProblem, IsOfVersion, IsProblemOf, IsResting, ReadsAsItDid};
+ghost use Rattle.dh_runs.specs.Taking.{CanBeTaken, HasTablesOfAnother, IsFirstProblem, IsOfVersion, IsProblemOf, IsResting, ReadsAsItDid, StaysPut};
 ghost use Rattle.dh_agency.specs.Agency.{IsClean, LeavesItsTables, machine, shown_by};
 ghost use Rattle.dh_agency.specs.Taken.{TakesAsTheyAre, TakesForward};
 ghost use Rattle.dh_agency.specs.Told.{IsMended, IsTorn};
@@ -50,7 +50,7 @@ pub fn attach<S: Alter>(
 
 /// Takes the tables and makes the run that they show as open to its end. The refusals and faults are those of [`attach`], and at a
 /// refusal the tables stay as they are. At a fault, and wherever a crash cuts it, sound tables are sound with the same whole books,
-/// and the open run is moved on.
+/// and the open run is moved on; tables that are not sound, or not of the second version, stay as they are.
 pub fn recover<S: Alter>(
     alloc: Global,
     conn: Connection<S>,
@@ -69,6 +69,8 @@ pub fn recover<S: Alter>(
         → IfErr result (λ e. HasCleanDisk (state S.Store e.conn) → IsNotTaken {X = Unit {0}} (Err e.cause)) }
     ensures made { IfOk result (λ a. TakesForward (state S.Store conn) (shown_by S.Store a)) }
     ensures crash { IfErr result (λ e. TakesForward (state S.Store conn) (state S.Store e.conn)) }
+    ensures not_taken { IfErr result (λ e. HasCleanDisk (state S.Store e.conn) → ¬ CanBeTaken Second (state S.Store conn).now.trees
+        → StaysPut (state S.Store conn) (state S.Store e.conn)) }
     ensures halted { IfErr result (λ e. HasCleanDisk (state S.Store e.conn) → IsTrue (state S.Store e.conn).is_open
         → HasOurTables (state S.Store conn) → IsSound (state S.Store conn).now.trees
         → IsReadyWith (state S.Store e.conn) (IsTorn (tables (state S.Store conn)))) }

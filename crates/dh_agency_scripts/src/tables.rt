@@ -97,8 +97,8 @@ pub fn load_text<S: Alter>(alloc: Global, conn: &mut Connection<S>) -> Result<St
 
 // The number that meta gives, and of which version the tables are where it is not the second.
 fn file_version_text(alloc: Global, found: FileVersion) -> Result<String, AllocError> {
-    let number = found.number;
-    match found.tables {
+    let number = found.number();
+    match found.tables() {
         Version::First => format!(in alloc; "version {number} in tables of the first"),
         Version::Second => format!(in alloc; "version {number}"),
     }

@@ -26,9 +26,11 @@ use Rattle.dh_catalog.proofs.ReceiptText.{receipt_is}
 use Rattle.dh_catalog.proofs.RunText.{run_is}
 use Rattle.dh_catalog.proofs.PartText.{part_is}
 use Rattle.dh_catalog.proofs.PropertyStaffText.{property_staff_goes, property_staff_is, later_property_staff_is}
+use Rattle.dh_catalog.proofs.PropertyOwnerText.{later_property_owner_is}
+use Rattle.dh_catalog.proofs.PropertyBranchText.{later_property_branch_is}
 use Rattle.dh_catalog.proofs.LeasePropertyText.{lease_property_goes, lease_property_is, later_lease_property_is}
 use Rattle.dh_catalog.proofs.LeaseClientText.{lease_client_goes, lease_client_is, later_lease_client_is}
-use Rattle.dh_catalog.proofs.ChargeMonthText.{charge_month_goes, charge_month_is, later_charge_month_is}
+use Rattle.dh_catalog.proofs.ChargeMonthText.{charge_month_goes, charge_month_is}
 use Rattle.dh_catalog.proofs.ReceiptLeaseText.{receipt_lease_goes, receipt_lease_is, later_receipt_lease_is}
 use Rattle.dh_catalog.proofs.ViewingPropertyText.{viewing_property_goes, viewing_property_is, later_viewing_property_is}
 use Rattle.dh_catalog.proofs.BranchFeeText.{branch_fee_is}
@@ -43,7 +45,7 @@ texts_of Second = map (λ text. text.now) SECOND
 abbrev pub later_texts : List (List ℕ)
 later_texts = map (λ text. text.now) FIRST_TO_SECOND
 
--- their parts: the tables of the first version, the later ones, the indexes for look-ups, and what takes these away
+-- their parts: the tables of the first version, the later ones, the indexes for look-ups of each version, and what takes the first ones away
 abbrev table_texts : List (List ℕ)
 table_texts = take 14 (texts_of First)
 
@@ -52,6 +54,9 @@ new_texts = take 3 (drop 14 (texts_of Second))
 
 abbrev look_texts : List (List ℕ)
 look_texts = drop 14 (texts_of First)
+
+abbrev later_look_texts : List (List ℕ)
+later_look_texts = drop 17 (texts_of Second)
 
 abbrev drop_texts : List (List ℕ)
 drop_texts = take 6 later_texts
@@ -98,17 +103,21 @@ looks_go = (
 new_tables_build : Build new_texts part_schema ending_schema
 new_tables_build = (_, inl branch_fee_is, (_, inl part_fee_is, (_, inl ending_is, refl)))
 
-later_looks_build : Build look_texts ending_schema our_schema
+later_looks_build : Build later_look_texts ending_schema our_schema
 later_looks_build = (
   _,
   inr (inl later_property_staff_is),
   (
     _,
-    inr (inl later_lease_property_is),
+    inr (inl later_property_owner_is),
     (
       _,
-      inr (inl later_lease_client_is),
-      (_, inr (inl later_charge_month_is), (_, inr (inl later_receipt_lease_is), (_, inr (inl later_viewing_property_is), refl))),
+      inr (inl later_property_branch_is),
+      (
+        _,
+        inr (inl later_lease_property_is),
+        (_, inr (inl later_lease_client_is), (_, inr (inl later_receipt_lease_is), (_, inr (inl later_viewing_property_is), refl))),
+      ),
     ),
   ),
 )
@@ -120,15 +129,15 @@ builds_on [] more before middle after is on = subst (λ s. Build more s after) (
 builds_on (text ∷ first) more before middle after is on = (is.0, is.1, builds_on first more is.0 middle after is.2 on)
 
 -- the later tables, and the indexes behind them
-behind_build : Build (new_texts ++ look_texts) part_schema our_schema
-behind_build = builds_on new_texts look_texts part_schema ending_schema our_schema new_tables_build later_looks_build
+behind_build : Build (new_texts ++ later_look_texts) part_schema our_schema
+behind_build = builds_on new_texts later_look_texts part_schema ending_schema our_schema new_tables_build later_looks_build
 
 build_of : (version : Version) → Build (texts_of version) no_schema (schema_of version)
 build_of First = builds_on table_texts look_texts no_schema part_schema first_schema tables_build looks_build
-build_of Second = builds_on table_texts (new_texts ++ look_texts) no_schema part_schema our_schema tables_build behind_build
+build_of Second = builds_on table_texts (new_texts ++ later_look_texts) no_schema part_schema our_schema tables_build behind_build
 
 later_build : Build later_texts first_schema our_schema
-later_build = builds_on drop_texts (new_texts ++ look_texts) first_schema part_schema our_schema looks_go behind_build
+later_build = builds_on drop_texts (new_texts ++ later_look_texts) first_schema part_schema our_schema looks_go behind_build
 
 -- so they have made it, where there was no table
 pub made_all : {E : Type 0} (version : Version) (r : Result (Unit {0}) E) (old new : State) → old.now.schema ≡ no_schema

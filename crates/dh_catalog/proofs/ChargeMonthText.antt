@@ -6,27 +6,12 @@ use Rattle.sqlite_resolve.specs.Compile.{index_defined_by}
 use Rattle.dh_catalog.specs.declared.texts.TheConstants.{CHARGE_MONTH, DROP_CHARGE_MONTH}
 use Rattle.dh_catalog.specs.ChargeTable.{charge}
 use Rattle.dh_catalog.specs.LookIndexes.{charge_month}
-use Rattle.dh_catalog.specs.Layout.{lease_client_schema, charge_month_schema, later_lease_client_schema, later_charge_month_schema}
+use Rattle.dh_catalog.specs.Layout.{lease_client_schema, charge_month_schema}
 use Rattle.dh_catalog.specs.Meanings.{DropsIndex, MakesIndex}
 
 pub charge_month_is : MakesIndex CHARGE_MONTH.now lease_client_schema charge_month_schema
 unfolding understood index_defined_by everything
 charge_month_is = record {
-  at = 10;
-  table = charge;
-  index = charge_month 0;
-  command = refl;
-  whole = refl;
-  plain = (refl, refl);
-  listed = refl;
-  defines = refl;
-  grows = refl;
-}
-
--- behind the later tables
-pub later_charge_month_is : MakesIndex CHARGE_MONTH.now later_lease_client_schema later_charge_month_schema
-unfolding understood index_defined_by everything
-later_charge_month_is = record {
   at = 10;
   table = charge;
   index = charge_month 0;

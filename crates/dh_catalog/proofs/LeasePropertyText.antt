@@ -6,7 +6,7 @@ use Rattle.sqlite_resolve.specs.Compile.{index_defined_by}
 use Rattle.dh_catalog.specs.declared.texts.TheConstants.{LEASE_PROPERTY, DROP_LEASE_PROPERTY}
 use Rattle.dh_catalog.specs.LeaseTable.{lease}
 use Rattle.dh_catalog.specs.LookIndexes.{lease_property}
-use Rattle.dh_catalog.specs.Layout.{property_staff_schema, lease_property_schema, later_property_staff_schema, later_lease_property_schema}
+use Rattle.dh_catalog.specs.Layout.{property_staff_schema, lease_property_schema, later_property_branch_schema, later_lease_property_schema}
 use Rattle.dh_catalog.specs.Meanings.{DropsIndex, MakesIndex}
 
 pub lease_property_is : MakesIndex LEASE_PROPERTY.now property_staff_schema lease_property_schema
@@ -24,7 +24,7 @@ lease_property_is = record {
 }
 
 -- behind the later tables
-pub later_lease_property_is : MakesIndex LEASE_PROPERTY.now later_property_staff_schema later_lease_property_schema
+pub later_lease_property_is : MakesIndex LEASE_PROPERTY.now later_property_branch_schema later_lease_property_schema
 unfolding understood index_defined_by everything
 later_lease_property_is = record {
   at = 9;

@@ -15,6 +15,8 @@ pub mod ReceiptText
 pub mod RunText
 pub mod PartText
 pub mod PropertyStaffText
+pub mod PropertyOwnerText
+pub mod PropertyBranchText
 pub mod LeasePropertyText
 pub mod LeaseClientText
 pub mod ChargeMonthText

@@ -6,7 +6,7 @@ use Rattle.sqlite_resolve.specs.Compile.{index_defined_by}
 use Rattle.dh_catalog.specs.declared.texts.TheConstants.{RECEIPT_LEASE, DROP_RECEIPT_LEASE}
 use Rattle.dh_catalog.specs.ReceiptTable.{receipt}
 use Rattle.dh_catalog.specs.LookIndexes.{receipt_lease}
-use Rattle.dh_catalog.specs.Layout.{charge_month_schema, receipt_lease_schema, later_charge_month_schema, later_receipt_lease_schema}
+use Rattle.dh_catalog.specs.Layout.{charge_month_schema, receipt_lease_schema, later_lease_client_schema, later_receipt_lease_schema}
 use Rattle.dh_catalog.specs.Meanings.{DropsIndex, MakesIndex}
 
 pub receipt_lease_is : MakesIndex RECEIPT_LEASE.now charge_month_schema receipt_lease_schema
@@ -24,7 +24,7 @@ receipt_lease_is = record {
 }
 
 -- behind the later tables
-pub later_receipt_lease_is : MakesIndex RECEIPT_LEASE.now later_charge_month_schema later_receipt_lease_schema
+pub later_receipt_lease_is : MakesIndex RECEIPT_LEASE.now later_lease_client_schema later_receipt_lease_schema
 unfolding understood index_defined_by everything
 later_receipt_lease_is = record {
   at = 11;

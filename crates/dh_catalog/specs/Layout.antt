@@ -21,7 +21,7 @@ use Rattle.dh_catalog.specs.PartTable.{part, part_key}
 use Rattle.dh_catalog.specs.BranchFeeTable.{branch_fee, branch_fee_key}
 use Rattle.dh_catalog.specs.PartFeeTable.{part_fee, part_fee_key}
 use Rattle.dh_catalog.specs.EndingTable.{ending}
-use Rattle.dh_catalog.specs.LookIndexes.{looks}
+use Rattle.dh_catalog.specs.LookIndexes.{first_looks, second_looks}
 
 -- those of the first version, and those that came with the second
 abbrev pub first_tables : List Table
@@ -46,10 +46,10 @@ later_keys = branch_fee_key ∷ part_fee_key ∷ []
 
 -- the schema of the first version as far as so many tables and so many indexes, and that of the second
 abbrev pub first : ℕ → ℕ → Schema
-first tables indexes = record { tables = take tables first_tables; indexes = take indexes (first_keys ++ looks 26); views = [] }
+first tables indexes = record { tables = take tables first_tables; indexes = take indexes (first_keys ++ first_looks 26); views = [] }
 
 abbrev pub second : ℕ → ℕ → Schema
-second tables indexes = record { tables = take tables our_tables; indexes = take indexes (first_keys ++ later_keys ++ looks 31); views = [] }
+second tables indexes = record { tables = take tables our_tables; indexes = take indexes (first_keys ++ later_keys ++ second_looks 31); views = [] }
 
 -- the schema before all, and after each that is made
 abbrev pub no_schema : Schema
@@ -130,18 +130,21 @@ ending_schema = second 17 14
 abbrev pub later_property_staff_schema : Schema
 later_property_staff_schema = second 17 15
 
+abbrev pub later_property_owner_schema : Schema
+later_property_owner_schema = second 17 16
+
+abbrev pub later_property_branch_schema : Schema
+later_property_branch_schema = second 17 17
+
 abbrev pub later_lease_property_schema : Schema
-later_lease_property_schema = second 17 16
+later_lease_property_schema = second 17 18
 
 abbrev pub later_lease_client_schema : Schema
-later_lease_client_schema = second 17 17
-
-abbrev pub later_charge_month_schema : Schema
-later_charge_month_schema = second 17 18
+later_lease_client_schema = second 17 19
 
 abbrev pub later_receipt_lease_schema : Schema
-later_receipt_lease_schema = second 17 19
+later_receipt_lease_schema = second 17 20
 
 -- all of them
 abbrev pub our_schema : Schema
-our_schema = second 17 20
+our_schema = second 17 21

@@ -121,13 +121,19 @@ pub const PART: &str = "CREATE TABLE part (\
 /// The index of the properties that a member of staff manages.
 pub const PROPERTY_STAFF: &str = "CREATE INDEX property_staff ON property (staff_no)";
 
+/// The index of the properties of an owner, which came with the second version.
+pub const PROPERTY_OWNER: &str = "CREATE INDEX property_owner ON property (owner_no)";
+
+/// The index of the properties of a branch, which came with the second version.
+pub const PROPERTY_BRANCH: &str = "CREATE INDEX property_branch ON property (branch_no)";
+
 /// The index of the leases of a property.
 pub const LEASE_PROPERTY: &str = "CREATE INDEX lease_property ON lease (property_no)";
 
 /// The index of the leases of a client, and those of a client that start on a day.
 pub const LEASE_CLIENT: &str = "CREATE INDEX lease_client ON lease (client_no, start_day)";
 
-/// The index of the charges of a month.
+/// The index of the charges of a month, which the first version alone has.
 pub const CHARGE_MONTH: &str = "CREATE INDEX charge_month ON charge (month)";
 
 /// The index of the receipts of a lease, and those of a kind.
@@ -198,7 +204,7 @@ pub static FIRST: [&str; 20] = [
 ];
 
 /// The texts that make those of the second: the indexes for look-ups come behind all tables.
-pub static SECOND: [&str; 23] = [
+pub static SECOND: [&str; 24] = [
     META,
     BRANCH,
     STAFF,
@@ -217,16 +223,17 @@ pub static SECOND: [&str; 23] = [
     PART_FEE,
     ENDING,
     PROPERTY_STAFF,
+    PROPERTY_OWNER,
+    PROPERTY_BRANCH,
     LEASE_PROPERTY,
     LEASE_CLIENT,
-    CHARGE_MONTH,
     RECEIPT_LEASE,
     VIEWING_PROPERTY,
 ];
 
 /// The texts that make those of the second of those of the first. The indexes for look-ups are taken away, and made anew behind the later
 /// tables.
-pub static FIRST_TO_SECOND: [&str; 15] = [
+pub static FIRST_TO_SECOND: [&str; 16] = [
     DROP_VIEWING_PROPERTY,
     DROP_RECEIPT_LEASE,
     DROP_CHARGE_MONTH,
@@ -237,9 +244,10 @@ pub static FIRST_TO_SECOND: [&str; 15] = [
     PART_FEE,
     ENDING,
     PROPERTY_STAFF,
+    PROPERTY_OWNER,
+    PROPERTY_BRANCH,
     LEASE_PROPERTY,
     LEASE_CLIENT,
-    CHARGE_MONTH,
     RECEIPT_LEASE,
     VIEWING_PROPERTY,
 ];

@@ -11,8 +11,8 @@ use std::{fs, io};
 
 // What makes a file one of the first version: its indexes for look-ups come behind its own tables.
 const TO_FIRST: &str =
-    "DROP INDEX viewing_property; DROP INDEX receipt_lease; DROP INDEX charge_month; \
-    DROP INDEX lease_client; DROP INDEX lease_property; DROP INDEX property_staff; DROP TABLE ending; \
+    "DROP INDEX viewing_property; DROP INDEX receipt_lease; DROP INDEX lease_client; \
+    DROP INDEX lease_property; DROP INDEX property_branch; DROP INDEX property_owner; DROP INDEX property_staff; DROP TABLE ending; \
     DROP TABLE part_fee; DROP TABLE branch_fee; CREATE INDEX property_staff ON property (staff_no); \
     CREATE INDEX lease_property ON lease (property_no); \
     CREATE INDEX lease_client ON lease (client_no, start_day); \

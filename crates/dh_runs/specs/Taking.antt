@@ -77,6 +77,11 @@ LeavesAsTheyWere old new = (left : Trees) → new.may_leave left → left ≡ ol
 abbrev pub ReadsAsItDid : State → State → Type 0
 ReadsAsItDid old new = IsResting new × (new.now ≡ old.now)
 
+-- What a crash leaves, and what it reads, is what the tables were.
+pub record StaysPut (old new : State) : Type 0 where
+  pub crash : LeavesAsTheyWere old new
+  pub same : IsTrue new.is_open → ReadsAsItDid old new
+
 -- the tables are of another version
 abbrev pub IsOfVersion : Problem → Type 0
 IsOfVersion (problem.Refused (refusal.Version found)) = ⊤

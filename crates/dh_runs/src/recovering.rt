@@ -4,13 +4,12 @@ ghost use Rattle.std.specs.Prelude.{◌≡◌, ◌≤◌, IsTrue, IfErr, OnOk, O
 ghost use Rattle.sqlite.specs.State.{HasCleanDisk};
 ghost use Rattle.sqlite.specs.Held.{state};
 ghost use Rattle.sqlite_trees.specs.View.{doubt};
-ghost use Rattle.sqlite_trees.specs.Tree.{Trees};
 ghost use Rattle.dh_tables.specs.Calls.{HasOurTables};
 ghost use Rattle.dh_schema.specs.Faults.{IsFirstFault};
 ghost use Rattle.dh_schema.specs.Store.{IsReady, IsReadyWith, Leaves, tables};
 ghost use Rattle.dh_schema.specs.Tables.{IsSound};
 ghost use Rattle.dh_runs.specs.Problems.{IsNotTaken};
-ghost use Rattle.dh_runs.specs.Taking.{CanBeTaken, HasTablesOfAnother, HasVersion, IsFirstProblem, IsOfVersion, IsProblemOf, IsResting, ReadsAsItDid};
+ghost use Rattle.dh_runs.specs.Taking.{CanBeTaken, HasTablesOfAnother, HasVersion, IsFirstProblem, IsOfVersion, IsProblemOf, IsResting, ReadsAsItDid, StaysPut};
 ghost use Rattle.dh_runs.specs.Told.{IsMended, IsTorn};
 
 use crate::problem::Problem;
@@ -41,7 +40,8 @@ fn finish<S: Alter>(alloc: Global, conn: &mut Connection<S>) -> Result<(), Store
 /// Takes the tables where they are sound and of the version that is wanted, and makes the open run to its end. The version stays.
 /// Refusals 16 and 17 come as [`check`] tells them, and change nothing; fault 21 or 22 comes where memory ran out or the store failed,
 /// or the tables are not ours, or not those of the version that `meta` gives. Whatever cuts it, sound tables stay sound with the same
-/// whole books, and the open run is moved on.
+/// whole books, and the open run is moved on. Tables that are not sound, or not of the version that is wanted, stay as they are, at a
+/// fault too.
 pub fn recover_in<S: Alter>(
     alloc: Global,
     conn: &mut Connection<S>,
@@ -64,10 +64,8 @@ pub fn recover_in<S: Alter>(
     ensures resting { HasCleanDisk (state S.Store conn.new) → IsTrue (state S.Store conn.new).is_open → IsSound (state S.Store conn.old).now.trees
         → OnErr result (IsResting (state S.Store conn.new) × IsSound (state S.Store conn.new).now.trees
         × IsTorn (tables (state S.Store conn.old)) (tables (state S.Store conn.new))) }
-    ensures untouched { HasCleanDisk (state S.Store conn.new) → ¬ IsSound (state S.Store conn.old).now.trees
-        → (left : Trees) → (state S.Store conn.new).may_leave left → left ≡ (state S.Store conn.old).now.trees }
-    ensures unchanged { HasCleanDisk (state S.Store conn.new) → IsTrue (state S.Store conn.new).is_open
-        → ¬ IsSound (state S.Store conn.old).now.trees → IsResting (state S.Store conn.new) × ((state S.Store conn.new).now ≡ (state S.Store conn.old).now) }
+    ensures not_taken { HasCleanDisk (state S.Store conn.new) → ¬ CanBeTaken wanted (state S.Store conn.old).now.trees
+        → StaysPut (state S.Store conn.old) (state S.Store conn.new) }
     ensures others { ¬ HasOurTables (state S.Store conn.old) → IsNotTaken result × (conn.new ≡ conn.old) }
     ensures another { HasCleanDisk (state S.Store conn.new) → HasTablesOfAnother wanted (state S.Store conn.old) → IsNotTaken result }
     ensures was_clean { doubt (state S.Store conn.old).is_clean ≤ doubt (state S.Store conn.new).is_clean }

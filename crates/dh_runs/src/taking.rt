@@ -49,8 +49,8 @@ fn check_version<S: Alter>(
     ensures was_clean { doubt (state S.Store conn.old).is_clean ≤ doubt (state S.Store conn.new).is_clean }
 {
     let found = version(alloc, conn)?;
-    if found.number != version_number(wanted) {
-        return Err(Problem::Refused(Refusal::Version(found.number)));
+    if found.number() != version_number(wanted) {
+        return Err(Problem::Refused(Refusal::Version(found.number())));
     }
     Ok(found.agreed()?)
 }

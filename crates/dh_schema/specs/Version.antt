@@ -9,6 +9,11 @@ use Rattle.dh_rows.specs.Cells.{version_number}
 use Rattle.dh_catalog.specs.Versions.{schema_of}
 use Rattle.dh_tables.specs.MetaTable.{meta_rows}
 
+-- whose tables a file has, and the number that meta gives
+pub record VersionFound : Type 0 where
+  pub tables : Version
+  pub number : ℤ
+
 abbrev pub whole_number : Value → Option ℤ
 whole_number (Int n) = Some n
 whole_number _ = None

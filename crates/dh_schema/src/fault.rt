@@ -26,8 +26,8 @@ pub fn fault_of(error: Error) -> Fault
 }
 
 /// Why a call over the store gave no answer: fault 21 or 22. It is made of an error of the store, of a growth that was refused, of
-/// tables that are not ours, of a file that is occupied, or over a store that is not clean, and of nothing else. When the store answers
-/// an error, no clause says.
+/// tables that are not ours or of another version than `meta` gives, of a file that is occupied, or over a store that is not clean,
+/// and of nothing else. When the store answers an error, no clause says.
 #[derive(Clone, Copy, Debug, PartialEq, Eq)]
 pub struct StoreFault {
     fault: Fault,

@@ -74,7 +74,7 @@ pub fn version<S: Alter>(alloc: Global, conn: &mut Connection<S>) -> Result<File
     let tables = check_tables(alloc, conn)?;
     let rows = meta_rows_shown(conn)?;
     let number = version_of(&rows)?;
-    Ok(FileVersion { tables, number })
+    Ok(FileVersion::found(conn, tables, number))
 }
 
 /// The version of the file, where meta gives the one whose tables it has; where it gives the other one, that is a fault of the store,

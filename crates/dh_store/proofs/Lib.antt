@@ -10,3 +10,5 @@ pub mod Putting
 pub mod Editing
 pub mod EndingsBeside
 pub mod ReadsInTurn
+pub mod AnsweredFrom
+pub mod ChargeOfMonth

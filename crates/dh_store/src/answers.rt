@@ -1,12 +1,16 @@
 //! The answer to a question, from the rows that it is about.
 
-ghost use Rattle.std.specs.Prelude.{◌≡◌, ◌≤◌, ◌++◌, List, ◌∷◌, [], map, nat_eq, true, IsTrue, None, IfOk, IfErr, OnOk, OnErr};
+ghost use Rattle.std.specs.Prelude.{◌≡◌, ◌≤◌, ◌<◌, ◌+◌, ◌↔◌, ◌++◌, List, ◌∷◌, [], map, nat_eq, true, ◌&&◌, ◌||◌, Bool, IsTrue, None};
+ghost use Rattle.std.specs.Prelude.{All, IsSome, IfSome, IfOk, IfErr, OnOk, OnErr};
 ghost use Rattle.std.specs.List.{filter, list_any};
 ghost use Rattle.std.specs.FinMap as fin;
+ghost use Rattle.std.specs.FinMap.{get};
 ghost use Rattle.sqlite_trees.specs.View.{doubt};
 ghost use Rattle.sqlite.specs.State.{HasCleanDisk};
 ghost use Rattle.sqlite.specs.Held.{state};
+ghost use Rattle.dh_days.specs.Days.{month_of_day};
 ghost use Rattle.dh_days.specs.declared.limits.TheConstants.{FIRST_MONTH};
+ghost use Rattle.dh_types.specs.declared.lease.Charge.{Charge as charge_row};
 ghost use Rattle.dh_types.specs.declared.lease.Lease.{Lease as lease_row};
 ghost use Rattle.dh_types.specs.declared.question.Question.TheVariants as asked;
 ghost use Rattle.dh_types.specs.Reports.{report_of};
@@ -18,6 +22,7 @@ ghost use Rattle.dh_model.specs.Whole.{rows_where};
 ghost use Rattle.dh_laws.specs.AskedAbout.{account_of, asked_about, charged_by, leases_at, let_or_vacant, with_accounts};
 ghost use Rattle.dh_schema.specs.Faults.{IsFirstFault};
 ghost use Rattle.dh_schema.specs.Store.{IsReady, Leaves, StaysReady, tables};
+ghost use Rattle.dh_store.specs.AnsweredFrom.{answered_from, charged_in, let_by};
 ghost use Rattle.dh_store.specs.Reading.{OnlyReads};
 
 use crate::looks::{
@@ -27,11 +32,12 @@ use dh_answers::{answer, is_put_off};
 use dh_books::Books;
 use dh_schema::StoreFault;
 use dh_tables::{
-    BranchNumbered, ChargesOfLease, ClientNumbered, FeesOfMonth, LeaseNumbered, LeasesOfProperty,
-    OwnerNumbered, PartsOfMonth, PropertiesOfOwner, ReceiptsOfLease, RunOf,
+    BranchNumbered, ChargeOf, ChargesOfLease, ClientNumbered, FeesOfMonth, LeaseNumbered,
+    LeasesOfProperty, OwnerNumbered, PartsOfMonth, PropertiesOfBranch, PropertiesOfOwner, ReceiptsOfLease, RunOf,
 };
 use dh_types::{
-    Answer, Branch, Ending, EntryMonth, Id, Lease, LeaseNo, OwnerMonth, Property, Question, Refusal,
+    Answer, Branch, ChargeIndex, Ending, EntryMonth, Id, Lease, LeaseNo, OwnerMonth, Property,
+    Question, Refusal,
 };
 use sqlite::{Alter, Connection};
 use std::alloc::{AllocError, Global};
@@ -114,23 +120,6 @@ fn gather_run<S: Alter>(
     Ok(())
 }
 
-// The numbers of the branch's properties that the books have.
-fn numbers_at(alloc: Global, books: &Books, branch: Id) -> Result<Vec<Id>, StoreFault>
-    ensures numbers { IfOk result (λ numbers. numbers.items
-        ≡ map (λ property. property.number) (filter (λ property. is_same_text property.branch branch) (fin.values books.now.books.properties))) }
-    ensures cause { IfErr result IsFirstFault }
-{
-    let numbers = books
-        .properties()
-        .filter(|property| property.branch == branch)
-        .map(|property| property.number)
-        .collect(alloc);
-    match numbers {
-        Ok(numbers) => Ok(numbers),
-        Err(error) => Err(error.into()),
-    }
-}
-
 // The leases on the properties of these numbers.
 fn gather_leases<S: Alter>(
     alloc: Global,
@@ -196,7 +185,7 @@ fn gather_accounts<S: Alter>(
     Ok(())
 }
 
-// The branch, all properties, and the leases of the branch's properties.
+// The branch, its properties, and the leases of these.
 fn gather_branch<S: Alter>(
     alloc: Global,
     conn: &mut Connection<S>,
@@ -206,12 +195,12 @@ fn gather_branch<S: Alter>(
     requires ready { HasCleanDisk (state S.Store conn.old) → IsReady (state S.Store conn.old) }
     requires none { books.old ≡ start FIRST_MONTH }
     ensures taken { HasCleanDisk (state S.Store conn.new)
-        → OnOk result (books.new ≡ record { books = leases_at (tables (state S.Store conn.old)).books branch; open_run = None }) }
+        → OnOk result (books.new ≡ record { books = let_by (tables (state S.Store conn.old)).books branch; open_run = None }) }
     ensures reads { OnlyReads (state S.Store conn.old) (state S.Store conn.new) result }
 {
     look(alloc, conn, &BranchNumbered { number: branch }, books)?;
-    look_at_all::<Property, S>(alloc, conn, books)?;
-    let numbers = numbers_at(alloc, books, branch)?;
+    look(alloc, conn, &PropertiesOfBranch { branch }, books)?;
+    let numbers = held_properties(alloc, books)?;
     gather_leases(alloc, conn, &numbers, books)?;
     Ok(())
 }
@@ -226,7 +215,7 @@ fn gather_arrears<S: Alter>(
     requires ready { HasCleanDisk (state S.Store conn.old) → IsReady (state S.Store conn.old) }
     requires none { books.old ≡ start FIRST_MONTH }
     ensures taken { HasCleanDisk (state S.Store conn.new)
-        → OnOk result (books.new ≡ record { books = asked_about (tables (state S.Store conn.old)).books (asked.Arrears branch); open_run = None }) }
+        → OnOk result (books.new ≡ record { books = answered_from (tables (state S.Store conn.old)).books (asked.Arrears branch); open_run = None }) }
     ensures reads { OnlyReads (state S.Store conn.old) (state S.Store conn.new) result }
 {
     gather_branch(alloc, conn, branch, books)?;
@@ -273,47 +262,94 @@ fn gather_owned<S: Alter>(
     Ok(())
 }
 
-// What was charged on each of these leases.
+// The index of the lease's charge of the month, if the lease runs as long as it was signed for. `None` where the month comes
+// before its start or after its last.
+fn index_in(lease: &Lease, month: EntryMonth) -> Option<ChargeIndex>
+    ensures value { IfSome result (λ k. month_of_day lease.now.terms.start + k ≡ month) }
+    ensures exact { IsSome result
+        ↔ ((month_of_day lease.now.terms.start ≤ month) × (month < month_of_day lease.now.terms.start + lease.now.terms.months)) }
+{
+    let start = lease.terms.start.day();
+    let months = lease.terms.months.number();
+    let index = month.number().checked_sub(start.month().number())?;
+    if index >= months {
+        return None;
+    }
+    Some(ChargeIndex::of_number(index))
+}
+
+// What was charged on the lease in the month, beside the charges that the books have. The lease is one of the tables. It is one
+// look by key, where the lease can have a charge in the month, and else none.
+fn put_charge<S: Alter>(
+    alloc: Global,
+    conn: &mut Connection<S>,
+    lease: &Lease,
+    month: EntryMonth,
+    books: &mut Books,
+) -> Result<(), StoreFault>
+    requires ready { HasCleanDisk (state S.Store conn.old) → IsReady (state S.Store conn.old) }
+    requires there { HasCleanDisk (state S.Store conn.old)
+        → get (tables (state S.Store conn.old)).books.leases lease.now.terms.number ≡ Some lease.now }
+    ensures put { HasCleanDisk (state S.Store conn.new) → OnOk result ((test : charge_row → Bool)
+        → books.old.books.charges ≡ rows_where test (tables (state S.Store conn.old)).books.charges
+        → books.new ≡ record books.old {
+          books = record books.old.books {
+            charges = rows_where (λ charge. test charge || (nat_eq charge.lease lease.now.terms.number && nat_eq charge.month month))
+                (tables (state S.Store conn.old)).books.charges;
+          };
+        }) }
+    ensures reads { OnlyReads (state S.Store conn.old) (state S.Store conn.new) result }
+{
+    let number = lease.terms.number;
+    match index_in(lease, month) {
+        Some(index) => look(alloc, conn, &ChargeOf { lease: number, index }, books),
+        None => Ok(()),
+    }
+}
+
+// What was charged on each of these leases in the month. They are leases of the tables.
 fn gather_charges<S: Alter>(
     alloc: Global,
     conn: &mut Connection<S>,
     leases: &[Lease],
+    month: EntryMonth,
     books: &mut Books,
 ) -> Result<(), StoreFault>
     requires ready { HasCleanDisk (state S.Store conn.old) → IsReady (state S.Store conn.old) }
+    requires there { HasCleanDisk (state S.Store conn.old)
+        → All (λ lease. get (tables (state S.Store conn.old)).books.leases lease.terms.number ≡ Some lease) leases.now }
     requires none { HasCleanDisk (state S.Store conn.old) → books.old.books.charges ≡ fin.empty }
     ensures taken { HasCleanDisk (state S.Store conn.new)
         → OnOk result (books.new ≡ record books.old {
           books = record books.old.books {
-            charges = rows_where (λ charge. list_any (λ lease. nat_eq charge.lease lease.terms.number) leases.now)
+            charges = rows_where (λ charge. list_any (λ lease. nat_eq charge.lease lease.terms.number) leases.now && nat_eq charge.month month)
                 (tables (state S.Store conn.old)).books.charges;
           };
         }) }
     ensures reads { OnlyReads (state S.Store conn.old) (state S.Store conn.new) result }
 {
     for lease in leases {
-        let number = lease.terms.number;
-        look(alloc, conn, &ChargesOfLease { lease: number }, books)?;
+        put_charge(alloc, conn, lease, month, books)?;
     }
     Ok(())
 }
 
-// The owner, the owner's properties, the leases of these, and what was charged on these.
+// The owner, the owner's properties, the leases of these, and what was charged on these in the month.
 fn gather_charged<S: Alter>(
     alloc: Global,
     conn: &mut Connection<S>,
-    owner: Id,
+    it: OwnerMonth,
     books: &mut Books,
 ) -> Result<(), StoreFault>
     requires ready { HasCleanDisk (state S.Store conn.old) → IsReady (state S.Store conn.old) }
     requires none { books.old ≡ start FIRST_MONTH }
     ensures taken { HasCleanDisk (state S.Store conn.new)
-        → OnOk result (books.new ≡ record { books = charged_by (tables (state S.Store conn.old)).books owner; open_run = None }) }
+        → OnOk result (books.new ≡ record { books = charged_in (tables (state S.Store conn.old)).books it.owner it.month; open_run = None }) }
     ensures reads { OnlyReads (state S.Store conn.old) (state S.Store conn.new) result }
 {
-    gather_owned(alloc, conn, owner, books)?;
+    gather_owned(alloc, conn, it.owner, books)?;
     let leases = held_leases(alloc, books)?;
-    gather_charges(alloc, conn, &leases, books)?;
+    gather_charges(alloc, conn, &leases, it.month, books)?;
     Ok(())
 }
 
@@ -327,17 +363,17 @@ fn gather_owner<S: Alter>(
     requires ready { HasCleanDisk (state S.Store conn.old) → IsReady (state S.Store conn.old) }
     requires none { books.old ≡ start FIRST_MONTH }
     ensures taken { HasCleanDisk (state S.Store conn.new)
-        → OnOk result (books.new ≡ record { books = asked_about (tables (state S.Store conn.old)).books (asked.Owner it); open_run = None }) }
+        → OnOk result (books.new ≡ record { books = answered_from (tables (state S.Store conn.old)).books (asked.Owner it); open_run = None }) }
     ensures reads { OnlyReads (state S.Store conn.old) (state S.Store conn.new) result }
 {
     let month = it.month;
-    gather_charged(alloc, conn, it.owner, books)?;
+    gather_charged(alloc, conn, it, books)?;
     look(alloc, conn, &RunOf { month }, books)?;
     look_later(alloc, conn, &FeesOfMonth { month }, books)?;
     Ok(())
 }
 
-// The rows that the question is about.
+// The rows that the question is about; of an owner's statement not the charges of other months.
 fn gather<S: Alter>(
     alloc: Global,
     conn: &mut Connection<S>,
@@ -347,7 +383,7 @@ fn gather<S: Alter>(
     requires ready { HasCleanDisk (state S.Store conn.old) → IsReady (state S.Store conn.old) }
     requires none { books.old ≡ start FIRST_MONTH }
     ensures taken { HasCleanDisk (state S.Store conn.new)
-        → OnOk result (books.new ≡ record { books = asked_about (tables (state S.Store conn.old)).books question.now; open_run = None }) }
+        → OnOk result (books.new ≡ record { books = answered_from (tables (state S.Store conn.old)).books question.now; open_run = None }) }
     ensures reads { OnlyReads (state S.Store conn.old) (state S.Store conn.new) result }
 {
     match *question {

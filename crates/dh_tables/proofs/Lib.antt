@@ -1,5 +1,6 @@
 pub mod Quiet
 pub mod Undone
+pub mod Corrupt
 pub mod Numbers
 pub mod Whole
 pub mod OneRecord

@@ -19,14 +19,14 @@ use Rattle.dh_catalog.specs.Versions.{HasSince, of_second}
 use Rattle.dh_catalog.specs.BranchFeeTable.{branch_fee}
 use Rattle.dh_sql.specs.CellTests.{Cell}
 use Rattle.dh_sql.specs.Shape.{Shape}
-use Rattle.dh_sql.specs.Texts.{IsInsertText, IsSelectText}
+use Rattle.dh_sql.specs.Texts.{IsSelectText}
 use Rattle.dh_sql.proofs.Casting.{cast_null, pass_each, row_stays}
 use Rattle.dh_tables.specs.declared.branch_fee.FeeOfBranch.{FeeOfBranch}
 use Rattle.dh_tables.specs.Cells.{is_text as text_is, number_from, pass_one, same_text, text_that}
 use Rattle.dh_tables.specs.Commands.{insert_text, select_text, select_where, terms_from}
 use Rattle.dh_tables.specs.Listing.{IsListing, Listing}
 use Rattle.dh_tables.specs.Questions.{Asking, IsAsking}
-use Rattle.dh_tables.specs.Tables.{Adding, IsAdding, without_rowid}
+use Rattle.dh_tables.specs.Tables.{Adding, IsAdding, IsInsertOf, without_rowid}
 
 abbrev pub branch_fee_columns : Row → Row
 branch_fee_columns row = column row 1 ∷ column row 2 ∷ []
@@ -53,11 +53,9 @@ branch_fee_adding = record {
   source = without_rowid branch_fee_row;
 }
 
-inserts : (s : Schema) → HasSince Second s → (x : BranchFee)
-    → IsInsertText branch_fee_adding.text s 14 branch_fee branch_fee_adding.terms branch_fee_adding.width (branch_fee_row x) (branch_fee_adding.source x)
+inserts : (s : Schema) → HasSince Second s → IsInsertOf branch_fee_row branch_fee_adding s
 unfolding understood everything
-inserts = of_second (λ s. (x : BranchFee) → IsInsertText branch_fee_adding.text s 14 branch_fee branch_fee_adding.terms 3
-    (branch_fee_row x) (branch_fee_adding.source x))
+inserts = of_second (IsInsertOf branch_fee_row branch_fee_adding)
     (λ x. record { command = refl; plain = (refl, refl); listed = refl; is_uncounted = refl; value = refl })
 
 pub branch_fee_is_adding : IsAdding Second branch_fee_shape branch_fee_row is_branch_fee_row branch_fee_adding

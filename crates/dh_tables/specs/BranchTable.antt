@@ -18,14 +18,14 @@ use Rattle.dh_catalog.specs.Versions.{HasSince, of_both}
 use Rattle.dh_catalog.specs.BranchTable.{branch}
 use Rattle.dh_sql.specs.CellTests.{Cell}
 use Rattle.dh_sql.specs.Shape.{Shape}
-use Rattle.dh_sql.specs.Texts.{IsInsertText, IsSelectText}
+use Rattle.dh_sql.specs.Texts.{IsSelectText}
 use Rattle.dh_sql.proofs.Casting.{cast_null, pass_each, row_stays}
 use Rattle.dh_tables.specs.declared.branch.BranchNumbered.{BranchNumbered}
 use Rattle.dh_tables.specs.Cells.{is_text as text_is, pass_one, same_text, text_that}
 use Rattle.dh_tables.specs.Commands.{insert_text, select_text, select_where, terms_from}
 use Rattle.dh_tables.specs.Listing.{IsListing, Listing}
 use Rattle.dh_tables.specs.Questions.{Asking, IsAsking}
-use Rattle.dh_tables.specs.Tables.{Adding, IsAdding, without_rowid}
+use Rattle.dh_tables.specs.Tables.{Adding, IsAdding, IsInsertOf, without_rowid}
 
 abbrev pub branch_columns : Row → Row
 branch_columns row = column row 1 ∷ column row 2 ∷ column row 3 ∷ column row 4 ∷ []
@@ -52,10 +52,9 @@ branch_adding = record {
   source = without_rowid branch_row;
 }
 
-inserts : (s : Schema) → HasSince First s → (x : Branch)
-    → IsInsertText branch_adding.text s 1 branch branch_adding.terms branch_adding.width (branch_row x) (branch_adding.source x)
+inserts : (s : Schema) → HasSince First s → IsInsertOf branch_row branch_adding s
 unfolding understood everything
-inserts = of_both (λ s. (x : Branch) → IsInsertText branch_adding.text s 1 branch branch_adding.terms branch_adding.width (branch_row x) (branch_adding.source x))
+inserts = of_both (IsInsertOf branch_row branch_adding)
     (λ x. record { command = refl; plain = (refl, refl); listed = refl; is_uncounted = refl; value = refl })
     (λ x. record { command = refl; plain = (refl, refl); listed = refl; is_uncounted = refl; value = refl })
 

@@ -1,9 +1,13 @@
 -- What a call on our tables needs, and what it leaves.
-use Rattle.std.specs.Prelude.{◌≡◌, ◌⊎◌, ◌||◌, Bool, true, IsTrue, List, Option, Some, None}
+use Rattle.std.specs.Prelude.{◌≡◌, ◌⊎◌, ◌||◌, Bool, true, IsTrue, List, Option, Some, None, Result, Err}
 use Rattle.std.specs.declared.cmp.Ordering.{Ordering}
 use Rattle.std.specs.FinMap.{FinMap, get, insert}
 use Rattle.sqlite_value.specs.Order.{Row}
-use Rattle.sqlite.specs.State.{IsRolledBack, IsUnchanged, Shows, State, Survives}
+use Rattle.sqlite_trees.specs.declared.error.StoreError.TheVariants.{Corrupt}
+use Rattle.sqlite.specs.declared.error.Error.{Error}
+use Rattle.sqlite.specs.declared.error.Error.TheVariants.{SqliteFailure}
+use Rattle.sqlite.specs.declared.error.ErrorCode.TheVariants.{DatabaseCorrupt}
+use Rattle.sqlite.specs.State.{HasCause, IsRolledBack, IsUnchanged, Shows, State, Survives}
 use Rattle.dh_model.specs.Books as machine
 use Rattle.dh_model.specs.Whole.{rows_where}
 use Rattle.dh_types.specs.declared.version.Version.{Version}
@@ -35,6 +39,14 @@ pub record IsInTransaction (s : State) : Type 0 where
 -- a call that failed and left the store open has changed nothing, or has ended the transaction
 abbrev pub IsUndone : State → State → Type 0
 IsUndone old new = IsTrue new.is_open → IsUnchanged old new ⊎ IsRolledBack old new
+
+-- the answer is that the database is corrupt
+abbrev pub IsCorrupt : {X : Type 0} → Result X Error → Type 0
+IsCorrupt result = result ≡ Err (SqliteFailure DatabaseCorrupt)
+
+-- the disk has failed in between
+abbrev pub HasFailed : State → State → Type 0
+HasFailed old new = HasCause old new ⊥ Corrupt
 
 -- no call but a commit commits
 abbrev pub CommitsNothing : State → State → Type 0

@@ -19,16 +19,15 @@ use Rattle.dh_catalog.specs.Versions.{HasSince, of_both}
 use Rattle.dh_catalog.specs.ChargeTable.{charge}
 use Rattle.dh_sql.specs.CellTests.{Cell}
 use Rattle.dh_sql.specs.Shape.{Shape}
-use Rattle.dh_sql.specs.Texts.{IsInsertText, IsSelectText}
+use Rattle.dh_sql.specs.Texts.{IsSelectText}
 use Rattle.dh_sql.proofs.Casting.{cast_null, pass_each, row_stays}
 use Rattle.dh_tables.specs.declared.charge.ChargeOf.{ChargeOf}
 use Rattle.dh_tables.specs.declared.charge.ChargesOfLease.{ChargesOfLease}
-use Rattle.dh_tables.specs.declared.charge.ChargesOfMonth.{ChargesOfMonth}
 use Rattle.dh_tables.specs.Cells.{is_number, number_from, pass_both, pass_one, read_as, same_number}
 use Rattle.dh_tables.specs.Commands.{insert_text, select_text, select_where, terms_from}
 use Rattle.dh_tables.specs.Listing.{IsListing, Listing}
 use Rattle.dh_tables.specs.Questions.{Asking, IsAsking}
-use Rattle.dh_tables.specs.Tables.{Adding, IsAdding, without_rowid}
+use Rattle.dh_tables.specs.Tables.{Adding, IsAdding, IsInsertOf, without_rowid}
 
 abbrev pub charge_columns : Row → Row
 charge_columns row = column row 1 ∷ column row 2 ∷ column row 3 ∷ column row 4 ∷ column row 5 ∷ []
@@ -57,10 +56,9 @@ charge_adding = record {
   source = without_rowid charge_row;
 }
 
-inserts : (s : Schema) → HasSince First s → (x : Charge)
-    → IsInsertText charge_adding.text s 10 charge charge_adding.terms charge_adding.width (charge_row x) (charge_adding.source x)
+inserts : (s : Schema) → HasSince First s → IsInsertOf charge_row charge_adding s
 unfolding understood everything
-inserts = of_both (λ s. (x : Charge) → IsInsertText charge_adding.text s 10 charge charge_adding.terms charge_adding.width (charge_row x) (charge_adding.source x))
+inserts = of_both (IsInsertOf charge_row charge_adding)
     (λ x. record { command = refl; plain = (refl, refl); listed = refl; is_uncounted = refl; value = refl })
     (λ x. record { command = refl; plain = (refl, refl); listed = refl; is_uncounted = refl; value = refl })
 
@@ -153,30 +151,4 @@ charges_of_lease_is = record {
   passes = λ q r known good.
       let cells = (pass_each charge_cells true (charge_columns r) good).1 in
       pass_one (same_number (column r 1) q.lease (is_number 1 MOST_NUMBER (column r 1) cells.0));
-}
-
--- ---- the charges of a month
-
-abbrev pub charges_of_month : Asking
-charges_of_month = record {
-  text = select_where (codes "charge") charge_names (codes "month" ∷ []);
-  tests = op2 (Compare Eq Binary) (col 1 3) (col 0 0) ∷ [];
-  project = charge_project;
-  names = charge_names;
-}
-
-charges_of_month_selects : (s : Schema) → HasSince First s → IsSelectText charges_of_month.text s 18 charges_of_month.tests charge_project [] charge_names
-unfolding understood everything
-charges_of_month_selects = of_both (λ s. IsSelectText charges_of_month.text s 18 charges_of_month.tests charge_project [] charge_names)
-    (record { command = refl; unlisted = refl; plain = (refl, refl); stored = λ db. refl })
-    (record { command = refl; unlisted = refl; plain = (refl, refl); stored = λ db. refl })
-
-pub charges_of_month_is : IsAsking First charge_shape charges_of_month
-    (λ (q : ChargesOfMonth). Unit {0}) (λ q. Int (pos q.month) ∷ []) (λ q c. nat_eq c.month q.month)
-charges_of_month_is = record {
-  selects = charges_of_month_selects;
-  shows_columns = λ q r. refl;
-  passes = λ q r known good.
-      let cells = (pass_each charge_cells true (charge_columns r) good).1 in
-      pass_one (same_number (column r 3) q.month (is_number FIRST_MONTH LAST_ENTRY_MONTH (column r 3) cells.1.1.0));
 }

@@ -20,14 +20,14 @@ use Rattle.dh_catalog.specs.Versions.{HasSince, of_both}
 use Rattle.dh_catalog.specs.ClientTable.{client}
 use Rattle.dh_sql.specs.CellTests.{Cell}
 use Rattle.dh_sql.specs.Shape.{Shape}
-use Rattle.dh_sql.specs.Texts.{IsInsertText, IsSelectText}
+use Rattle.dh_sql.specs.Texts.{IsSelectText}
 use Rattle.dh_sql.proofs.Casting.{cast_null, pass_each, row_stays}
 use Rattle.dh_tables.specs.declared.client.ClientNumbered.{ClientNumbered}
 use Rattle.dh_tables.specs.Cells.{is_text as text_is, number_from, pass_one, read_as, same_text, text_that}
 use Rattle.dh_tables.specs.Commands.{insert_text, select_text, select_where, terms_from}
 use Rattle.dh_tables.specs.Listing.{IsListing, Listing}
 use Rattle.dh_tables.specs.Questions.{Asking, IsAsking}
-use Rattle.dh_tables.specs.Tables.{Adding, IsAdding, without_rowid}
+use Rattle.dh_tables.specs.Tables.{Adding, IsAdding, IsInsertOf, without_rowid}
 
 abbrev pub client_columns : Row → Row
 client_columns row = column row 1 ∷ column row 2 ∷ column row 3 ∷ column row 4 ∷ column row 5 ∷ []
@@ -54,10 +54,9 @@ client_adding = record {
   source = without_rowid client_row;
 }
 
-inserts : (s : Schema) → HasSince First s → (x : Client)
-    → IsInsertText client_adding.text s 5 client client_adding.terms client_adding.width (client_row x) (client_adding.source x)
+inserts : (s : Schema) → HasSince First s → IsInsertOf client_row client_adding s
 unfolding understood everything
-inserts = of_both (λ s. (x : Client) → IsInsertText client_adding.text s 5 client client_adding.terms client_adding.width (client_row x) (client_adding.source x))
+inserts = of_both (IsInsertOf client_row client_adding)
     (λ x. record { command = refl; plain = (refl, refl); listed = refl; is_uncounted = refl; value = refl })
     (λ x. record { command = refl; plain = (refl, refl); listed = refl; is_uncounted = refl; value = refl })
 

@@ -18,14 +18,14 @@ use Rattle.dh_catalog.specs.Versions.{HasSince, of_second}
 use Rattle.dh_catalog.specs.EndingTable.{ending}
 use Rattle.dh_sql.specs.CellTests.{Cell}
 use Rattle.dh_sql.specs.Shape.{Shape}
-use Rattle.dh_sql.specs.Texts.{IsInsertText, IsSelectText}
+use Rattle.dh_sql.specs.Texts.{IsSelectText}
 use Rattle.dh_sql.proofs.Casting.{cast_int, pass_each, row_stays}
 use Rattle.dh_tables.specs.declared.ending.EndingOf.{EndingOf}
 use Rattle.dh_tables.specs.Cells.{is_number, number_from, pass_one, rowid_column, same_number}
 use Rattle.dh_tables.specs.Commands.{insert_text, select_text, select_where, terms_from}
 use Rattle.dh_tables.specs.Listing.{IsListing, Listing}
 use Rattle.dh_tables.specs.Questions.{Asking, IsAsking}
-use Rattle.dh_tables.specs.Tables.{Adding, IsAdding, own_rowid}
+use Rattle.dh_tables.specs.Tables.{Adding, IsAdding, IsInsertOf, own_rowid}
 
 -- the key is the rowid, and its own column holds NULL
 abbrev pub ending_columns : Row → Row
@@ -53,10 +53,9 @@ ending_adding = record {
   source = own_rowid ending_row;
 }
 
-inserts : (s : Schema) → HasSince Second s → (x : Ending)
-    → IsInsertText ending_adding.text s 16 ending ending_adding.terms ending_adding.width (ending_row x) (ending_adding.source x)
+inserts : (s : Schema) → HasSince Second s → IsInsertOf ending_row ending_adding s
 unfolding understood everything
-inserts = of_second (λ s. (x : Ending) → IsInsertText ending_adding.text s 16 ending ending_adding.terms ending_adding.width (ending_row x) (ending_adding.source x))
+inserts = of_second (IsInsertOf ending_row ending_adding)
     (λ x. record { command = refl; plain = (refl, refl); listed = refl; is_uncounted = refl; value = refl })
 
 stays : (x : Ending) → is_ending_row (ending_row x) ≡ true → cast_row ending (ending_adding.source x) ≡ ending_adding.source x

@@ -22,7 +22,7 @@ use Rattle.dh_catalog.specs.Versions.{HasSince, of_both}
 use Rattle.dh_catalog.specs.LeaseTable.{lease}
 use Rattle.dh_sql.specs.CellTests.{Cell}
 use Rattle.dh_sql.specs.Shape.{Shape}
-use Rattle.dh_sql.specs.Texts.{IsInsertText, IsSelectText}
+use Rattle.dh_sql.specs.Texts.{IsSelectText}
 use Rattle.dh_sql.proofs.Casting.{cast_int, pass_each, row_stays}
 use Rattle.dh_tables.specs.declared.lease.LeaseNumbered.{LeaseNumbered}
 use Rattle.dh_tables.specs.declared.lease.LeasesOfProperty.{LeasesOfProperty}
@@ -32,7 +32,7 @@ use Rattle.dh_tables.specs.Cells.{read_as, rowid_column, same_day, same_number, 
 use Rattle.dh_tables.specs.Commands.{insert_text, select_text, select_where, terms_from}
 use Rattle.dh_tables.specs.Listing.{IsListing, Listing}
 use Rattle.dh_tables.specs.Questions.{Asking, IsAsking}
-use Rattle.dh_tables.specs.Tables.{Adding, IsAdding, own_rowid}
+use Rattle.dh_tables.specs.Tables.{Adding, IsAdding, IsInsertOf, own_rowid}
 
 -- the key is the rowid, and its own column holds NULL
 abbrev pub lease_columns : Row → Row
@@ -62,9 +62,9 @@ lease_adding = record {
   source = own_rowid lease_row;
 }
 
-inserts : (s : Schema) → HasSince First s → (x : Lease) → IsInsertText lease_adding.text s 9 lease lease_adding.terms lease_adding.width (lease_row x) (lease_adding.source x)
+inserts : (s : Schema) → HasSince First s → IsInsertOf lease_row lease_adding s
 unfolding understood everything
-inserts = of_both (λ s. (x : Lease) → IsInsertText lease_adding.text s 9 lease lease_adding.terms lease_adding.width (lease_row x) (lease_adding.source x))
+inserts = of_both (IsInsertOf lease_row lease_adding)
     (λ x. record { command = refl; plain = (refl, refl); listed = refl; is_uncounted = refl; value = refl })
     (λ x. record { command = refl; plain = (refl, refl); listed = refl; is_uncounted = refl; value = refl })
 

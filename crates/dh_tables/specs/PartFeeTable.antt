@@ -20,7 +20,7 @@ use Rattle.dh_catalog.specs.Versions.{HasSince, of_second}
 use Rattle.dh_catalog.specs.PartFeeTable.{part_fee}
 use Rattle.dh_sql.specs.CellTests.{Cell}
 use Rattle.dh_sql.specs.Shape.{Shape}
-use Rattle.dh_sql.specs.Texts.{IsInsertText, IsSelectText}
+use Rattle.dh_sql.specs.Texts.{IsSelectText}
 use Rattle.dh_sql.proofs.Casting.{cast_null, pass_each, row_stays}
 use Rattle.dh_tables.specs.declared.part_fee.FeeOfPart.{FeeOfPart}
 use Rattle.dh_tables.specs.declared.part_fee.FeesOfMonth.{FeesOfMonth}
@@ -28,7 +28,7 @@ use Rattle.dh_tables.specs.Cells.{is_number, is_text as text_is, number_from, pa
 use Rattle.dh_tables.specs.Commands.{insert_text, select_text, select_where, terms_from}
 use Rattle.dh_tables.specs.Listing.{IsListing, Listing}
 use Rattle.dh_tables.specs.Questions.{Asking, IsAsking}
-use Rattle.dh_tables.specs.Tables.{Adding, IsAdding, without_rowid}
+use Rattle.dh_tables.specs.Tables.{Adding, IsAdding, IsInsertOf, without_rowid}
 
 abbrev pub part_fee_columns : Row → Row
 part_fee_columns row = column row 1 ∷ column row 2 ∷ column row 3 ∷ column row 4 ∷ []
@@ -55,10 +55,9 @@ part_fee_adding = record {
   source = without_rowid part_fee_row;
 }
 
-inserts : (s : Schema) → HasSince Second s → (x : PartFee) → IsInsertText part_fee_adding.text s 15 part_fee part_fee_adding.terms 5
-    (part_fee_row x) (part_fee_adding.source x)
+inserts : (s : Schema) → HasSince Second s → IsInsertOf part_fee_row part_fee_adding s
 unfolding understood everything
-inserts = of_second (λ s. (x : PartFee) → IsInsertText part_fee_adding.text s 15 part_fee part_fee_adding.terms part_fee_adding.width (part_fee_row x) (part_fee_adding.source x))
+inserts = of_second (IsInsertOf part_fee_row part_fee_adding)
     (λ x. record { command = refl; plain = (refl, refl); listed = refl; is_uncounted = refl; value = refl })
 
 pub part_fee_is_adding : IsAdding Second part_fee_shape part_fee_row is_part_fee_row part_fee_adding

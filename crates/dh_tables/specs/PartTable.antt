@@ -21,7 +21,7 @@ use Rattle.dh_catalog.specs.Versions.{HasSince, of_both}
 use Rattle.dh_catalog.specs.PartTable.{part}
 use Rattle.dh_sql.specs.CellTests.{Cell}
 use Rattle.dh_sql.specs.Shape.{Shape}
-use Rattle.dh_sql.specs.Texts.{IsInsertText, IsSelectText}
+use Rattle.dh_sql.specs.Texts.{IsSelectText}
 use Rattle.dh_sql.proofs.Casting.{cast_null, pass_each, row_stays}
 use Rattle.dh_tables.specs.declared.part.PartOf.{PartOf}
 use Rattle.dh_tables.specs.declared.part.PartsOfMonth.{PartsOfMonth}
@@ -29,7 +29,7 @@ use Rattle.dh_tables.specs.Cells.{is_number, is_text as text_is, number_from, pa
 use Rattle.dh_tables.specs.Commands.{insert_text, select_text, select_where, terms_from}
 use Rattle.dh_tables.specs.Listing.{IsListing, Listing}
 use Rattle.dh_tables.specs.Questions.{Asking, IsAsking}
-use Rattle.dh_tables.specs.Tables.{Adding, IsAdding, without_rowid}
+use Rattle.dh_tables.specs.Tables.{Adding, IsAdding, IsInsertOf, without_rowid}
 
 abbrev pub part_columns : Row → Row
 part_columns row = column row 1 ∷ column row 2 ∷ column row 3 ∷ column row 4 ∷ column row 5 ∷ []
@@ -57,9 +57,9 @@ part_adding = record {
   source = without_rowid part_row;
 }
 
-inserts : (s : Schema) → HasSince First s → (x : Part) → IsInsertText part_adding.text s 13 part part_adding.terms part_adding.width (part_row x) (part_adding.source x)
+inserts : (s : Schema) → HasSince First s → IsInsertOf part_row part_adding s
 unfolding understood everything
-inserts = of_both (λ s. (x : Part) → IsInsertText part_adding.text s 13 part part_adding.terms part_adding.width (part_row x) (part_adding.source x))
+inserts = of_both (IsInsertOf part_row part_adding)
     (λ x. record { command = refl; plain = (refl, refl); listed = refl; is_uncounted = refl; value = refl })
     (λ x. record { command = refl; plain = (refl, refl); listed = refl; is_uncounted = refl; value = refl })
 

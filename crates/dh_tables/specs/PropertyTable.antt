@@ -21,16 +21,17 @@ use Rattle.dh_catalog.specs.Versions.{HasSince, of_both}
 use Rattle.dh_catalog.specs.PropertyTable.{property}
 use Rattle.dh_sql.specs.CellTests.{Cell}
 use Rattle.dh_sql.specs.Shape.{Shape}
-use Rattle.dh_sql.specs.Texts.{IsInsertText, IsSelectText}
+use Rattle.dh_sql.specs.Texts.{IsSelectText}
 use Rattle.dh_sql.proofs.Casting.{cast_null, pass_each, row_stays}
 use Rattle.dh_tables.specs.declared.property.PropertyNumbered.{PropertyNumbered}
 use Rattle.dh_tables.specs.declared.property.PropertiesManaged.{PropertiesManaged}
+use Rattle.dh_tables.specs.declared.property.PropertiesOfBranch.{PropertiesOfBranch}
 use Rattle.dh_tables.specs.declared.property.PropertiesOfOwner.{PropertiesOfOwner}
 use Rattle.dh_tables.specs.Cells.{is_text as text_is, number_from, optional_text_that, pass_one, read_as, same_optional, same_text, text_that}
 use Rattle.dh_tables.specs.Commands.{insert_text, select_text, select_where, terms_from}
 use Rattle.dh_tables.specs.Listing.{IsListing, Listing}
 use Rattle.dh_tables.specs.Questions.{Asking, IsAsking}
-use Rattle.dh_tables.specs.Tables.{Adding, IsAdding, without_rowid}
+use Rattle.dh_tables.specs.Tables.{Adding, IsAdding, IsInsertOf, without_rowid}
 
 abbrev pub property_columns : Row → Row
 property_columns row =
@@ -63,10 +64,9 @@ property_adding = record {
   source = without_rowid property_row;
 }
 
-inserts : (s : Schema) → HasSince First s → (x : Property)
-    → IsInsertText property_adding.text s 4 property property_adding.terms property_adding.width (property_row x) (property_adding.source x)
+inserts : (s : Schema) → HasSince First s → IsInsertOf property_row property_adding s
 unfolding understood everything
-inserts = of_both (λ s. (x : Property) → IsInsertText property_adding.text s 4 property property_adding.terms property_adding.width (property_row x) (property_adding.source x))
+inserts = of_both (IsInsertOf property_row property_adding)
     (λ x. record { command = refl; plain = (refl, refl); listed = refl; is_uncounted = refl; value = refl })
     (λ x. record { command = refl; plain = (refl, refl); listed = refl; is_uncounted = refl; value = refl })
 
@@ -187,4 +187,31 @@ properties_of_owner_is = record {
   passes = λ q r known good.
       let cells = (pass_each property_cells true (property_columns r) good).1 in
       pass_one (same_text (column r 8) q.owner (text_is is_id (column r 8) cells.1.1.1.1.1.1.1.0));
+}
+
+-- ---- the properties of a branch
+
+abbrev pub properties_of_branch : Asking
+properties_of_branch = record {
+  text = select_where (codes "property") property_names (codes "branch_no" ∷ []);
+  tests = op2 (Compare Eq Binary) (col 1 10) (col 0 0) ∷ [];
+  project = property_project;
+  names = property_names;
+}
+
+properties_of_branch_selects : (s : Schema) → HasSince First s
+    → IsSelectText properties_of_branch.text s 7 properties_of_branch.tests property_project [] property_names
+unfolding understood everything
+properties_of_branch_selects = of_both (λ s. IsSelectText properties_of_branch.text s 7 properties_of_branch.tests property_project [] property_names)
+    (record { command = refl; unlisted = refl; plain = (refl, refl); stored = λ db. refl })
+    (record { command = refl; unlisted = refl; plain = (refl, refl); stored = λ db. refl })
+
+pub properties_of_branch_is : IsAsking First property_shape properties_of_branch
+    (λ (q : PropertiesOfBranch). Unit {0}) (λ q. Text q.branch ∷ []) (λ q p. is_same_text p.branch q.branch)
+properties_of_branch_is = record {
+  selects = properties_of_branch_selects;
+  shows_columns = λ q r. refl;
+  passes = λ q r known good.
+      let cells = (pass_each property_cells true (property_columns r) good).1 in
+      pass_one (same_text (column r 10) q.branch (text_is is_id (column r 10) cells.1.1.1.1.1.1.1.1.1.0));
 }

@@ -1,5 +1,5 @@
 -- A question about the rows of one table, answered by a fixed text.
-use Rattle.std.specs.Prelude.{◌≡◌, ℕ, Bool, true, List, [], Option, Some, None}
+use Rattle.std.specs.Prelude.{◌≡◌, ⊤, ℕ, Bool, true, List, [], ◌∷◌, Option, Some, None}
 use Rattle.std.specs.declared.cmp.Ordering.{Ordering}
 use Rattle.std.specs.FinMap.{FinMap, empty, insert}
 use Rattle.sqlite_value.specs.Order.{Row}
@@ -29,6 +29,16 @@ pub record IsAsking {K X Q : Type 0} (since : Version) (it : Shape K X) (asking 
 abbrev pub only_record : {K X : Type 0} {R : K → K → Ordering} → Shape K X → Option X → FinMap R X
 only_record it None = empty
 only_record it (Some x) = insert empty (it.key x) x
+
+-- a shown row is a record that is asked for
+abbrev pub IsAskedRow : {K X : Type 0} → Shape K X → (X → Bool) → Row → Type 0
+IsAskedRow it asks row = (it.is_row row ≡ true) × (asks (it.row_in row) ≡ true)
+
+-- one row at most, which is a record
+abbrev pub AreOneAtMost : (Row → Bool) → List Row → Type 0
+AreOneAtMost is_row [] = ⊤
+AreOneAtMost is_row (row ∷ []) = is_row row ≡ true
+AreOneAtMost is_row (row ∷ more ∷ rows) = ⊥
 
 -- exactly the record of this key is asked for
 pub record AsksFor {K X : Type 0} (it : Shape K X) (asks : X → Bool) (key : K) : Type 0 where

@@ -30,7 +30,7 @@ use Rattle.dh_catalog.specs.Versions.{HasSince, of_both}
 use Rattle.dh_catalog.specs.ReceiptTable.{receipt}
 use Rattle.dh_sql.specs.CellTests.{Cell}
 use Rattle.dh_sql.specs.Shape.{Shape}
-use Rattle.dh_sql.specs.Texts.{IsInsertText, IsSelectText}
+use Rattle.dh_sql.specs.Texts.{IsSelectText}
 use Rattle.dh_sql.proofs.Casting.{cast_int, pass_each, row_stays}
 use Rattle.dh_sql.proofs.Comparing.{texts_same}
 use Rattle.dh_tables.specs.declared.receipt.DepositsOfLease.{DepositsOfLease}
@@ -41,7 +41,7 @@ use Rattle.dh_tables.specs.Cells.{is_number, is_text as text_is, number_from, pa
 use Rattle.dh_tables.specs.Commands.{insert_text, select_text, select_where, terms_from}
 use Rattle.dh_tables.specs.Listing.{IsListing, Listing}
 use Rattle.dh_tables.specs.Questions.{Asking, IsAsking}
-use Rattle.dh_tables.specs.Tables.{Adding, IsAdding, own_rowid}
+use Rattle.dh_tables.specs.Tables.{Adding, IsAdding, IsInsertOf, own_rowid}
 
 -- the key is the rowid, and its own column holds NULL
 abbrev pub receipt_columns : Row → Row
@@ -71,10 +71,9 @@ receipt_adding = record {
   source = own_rowid receipt_row;
 }
 
-inserts : (s : Schema) → HasSince First s → (x : Receipt)
-    → IsInsertText receipt_adding.text s 11 receipt receipt_adding.terms receipt_adding.width (receipt_row x) (receipt_adding.source x)
+inserts : (s : Schema) → HasSince First s → IsInsertOf receipt_row receipt_adding s
 unfolding understood everything
-inserts = of_both (λ s. (x : Receipt) → IsInsertText receipt_adding.text s 11 receipt receipt_adding.terms receipt_adding.width (receipt_row x) (receipt_adding.source x))
+inserts = of_both (IsInsertOf receipt_row receipt_adding)
     (λ x. record { command = refl; plain = (refl, refl); listed = refl; is_uncounted = refl; value = refl })
     (λ x. record { command = refl; plain = (refl, refl); listed = refl; is_uncounted = refl; value = refl })
 

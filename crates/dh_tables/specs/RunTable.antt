@@ -22,7 +22,7 @@ use Rattle.dh_catalog.specs.Versions.{HasSince, of_both}
 use Rattle.dh_catalog.specs.RunTable.{run}
 use Rattle.dh_sql.specs.CellTests.{Cell}
 use Rattle.dh_sql.specs.Shape.{Shape}
-use Rattle.dh_sql.specs.Texts.{IsInsertText, IsSelectText}
+use Rattle.dh_sql.specs.Texts.{IsSelectText}
 use Rattle.dh_sql.proofs.Casting.{cast_int, pass_each, row_stays}
 use Rattle.dh_tables.specs.declared.run.RunOf.{RunOf}
 use Rattle.dh_tables.specs.declared.run.RunKeyed.{RunKeyed}
@@ -30,7 +30,7 @@ use Rattle.dh_tables.specs.Cells.{is_number, is_text as text_is, number_from, pa
 use Rattle.dh_tables.specs.Commands.{insert_text, select_text, select_where, terms_from}
 use Rattle.dh_tables.specs.Listing.{IsListing, Listing}
 use Rattle.dh_tables.specs.Questions.{Asking, IsAsking}
-use Rattle.dh_tables.specs.Tables.{Adding, IsAdding, own_rowid}
+use Rattle.dh_tables.specs.Tables.{Adding, IsAdding, IsInsertOf, own_rowid}
 
 -- the key is the rowid, and its own column holds NULL
 abbrev pub run_columns : Row → Row
@@ -58,9 +58,9 @@ run_adding = record {
   source = own_rowid run_row;
 }
 
-inserts : (s : Schema) → HasSince First s → (x : Run) → IsInsertText run_adding.text s 12 run run_adding.terms run_adding.width (run_row x) (run_adding.source x)
+inserts : (s : Schema) → HasSince First s → IsInsertOf run_row run_adding s
 unfolding understood everything
-inserts = of_both (λ s. (x : Run) → IsInsertText run_adding.text s 12 run run_adding.terms run_adding.width (run_row x) (run_adding.source x))
+inserts = of_both (IsInsertOf run_row run_adding)
     (λ x. record { command = refl; plain = (refl, refl); listed = refl; is_uncounted = refl; value = refl })
     (λ x. record { command = refl; plain = (refl, refl); listed = refl; is_uncounted = refl; value = refl })
 

@@ -19,14 +19,14 @@ use Rattle.dh_catalog.specs.Versions.{HasSince, of_both}
 use Rattle.dh_catalog.specs.StaffTable.{staff}
 use Rattle.dh_sql.specs.CellTests.{Cell}
 use Rattle.dh_sql.specs.Shape.{Shape}
-use Rattle.dh_sql.specs.Texts.{IsInsertText, IsSelectText}
+use Rattle.dh_sql.specs.Texts.{IsSelectText}
 use Rattle.dh_sql.proofs.Casting.{cast_null, pass_each, row_stays}
 use Rattle.dh_tables.specs.declared.staff.MemberNumbered.{MemberNumbered}
 use Rattle.dh_tables.specs.Cells.{is_text as text_is, pass_one, read_as, same_text, text_that}
 use Rattle.dh_tables.specs.Commands.{insert_text, select_text, select_where, terms_from}
 use Rattle.dh_tables.specs.Listing.{IsListing, Listing}
 use Rattle.dh_tables.specs.Questions.{Asking, IsAsking}
-use Rattle.dh_tables.specs.Tables.{Adding, IsAdding, without_rowid}
+use Rattle.dh_tables.specs.Tables.{Adding, IsAdding, IsInsertOf, without_rowid}
 
 abbrev pub staff_columns : Row → Row
 staff_columns row = column row 1 ∷ column row 2 ∷ column row 3 ∷ column row 4 ∷ []
@@ -53,9 +53,9 @@ staff_adding = record {
   source = without_rowid staff_row;
 }
 
-inserts : (s : Schema) → HasSince First s → (x : Staff) → IsInsertText staff_adding.text s 2 staff staff_adding.terms staff_adding.width (staff_row x) (staff_adding.source x)
+inserts : (s : Schema) → HasSince First s → IsInsertOf staff_row staff_adding s
 unfolding understood everything
-inserts = of_both (λ s. (x : Staff) → IsInsertText staff_adding.text s 2 staff staff_adding.terms staff_adding.width (staff_row x) (staff_adding.source x))
+inserts = of_both (IsInsertOf staff_row staff_adding)
     (λ x. record { command = refl; plain = (refl, refl); listed = refl; is_uncounted = refl; value = refl })
     (λ x. record { command = refl; plain = (refl, refl); listed = refl; is_uncounted = refl; value = refl })
 

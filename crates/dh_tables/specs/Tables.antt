@@ -45,12 +45,16 @@ without_rowid row x = Null ∷ row x
 abbrev pub own_rowid : {X : Type 0} → (X → Row) → X → Row
 own_rowid row x = take 1 (row x) ++ Null ∷ drop 1 (row x)
 
+-- under this schema the text adds the row of each record
+abbrev pub IsInsertOf : {X : Type 0} → (X → Row) → Adding X → Schema → Type 0
+IsInsertOf {X} row adding s =
+    (x : X) → IsInsertText adding.text s adding.place adding.table adding.terms adding.width (row x) (adding.source x)
+
 -- the text adds the row of a record, which is read back as the record
 pub record IsAdding {K X : Type 0} (since : Version) (it : Shape K X) (row : X → Row) (is_row : Row → Bool) (adding : Adding X) : Type 0 where
   pub tree_is : adding.table.tree ≡ it.tree
   pub listed : slice_get our_schema.tables adding.place ≡ Some adding.table
-  pub inserts : (s : Schema) → HasSince since s → (x : X)
-      → IsInsertText adding.text s adding.place adding.table adding.terms adding.width (row x) (adding.source x)
+  pub inserts : (s : Schema) → HasSince since s → IsInsertOf row adding s
   pub stays : (x : X) → is_row (row x) ≡ true → cast_row adding.table (adding.source x) ≡ adding.source x
   pub columns : (x : X) (rows : List Row) → it.columns (with_rowid Chosen rows (adding.source x)) ≡ row x
   pub keyed : (x : X) (rows : List Row) → is_int (rowid (with_rowid Chosen rows (adding.source x))) ≡ true

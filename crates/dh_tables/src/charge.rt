@@ -2,7 +2,7 @@
 
 use crate::{Listed, Look, Tabled};
 use dh_books::Books;
-use dh_types::{Charge, ChargeIndex, EntryMonth, LeaseNo, Version};
+use dh_types::{Charge, ChargeIndex, LeaseNo, Version};
 use sqlite::types::ValueRef;
 use std::alloc::{AllocError, Global};
 
@@ -155,42 +155,4 @@ impl Look for ChargesOfLease {
     }
 
     ghost is_asking = { charges_of_lease_is };
-}
-
-/// The charges of this month.
-#[derive(Drop)]
-pub struct ChargesOfMonth {
-    pub month: EntryMonth,
-}
-
-impl Look for ChargesOfMonth {
-    ghost use Rattle.std.specs.Prelude.{◌∷◌, [], nat_eq, pos};
-    ghost use Rattle.sqlite_value.specs.declared.value.Value.TheVariants.{Int};
-    ghost use Rattle.dh_tables.specs.ChargeTable.{charges_of_month, charges_of_month_is};
-
-    type Record = Charge;
-
-    ghost asks = { λ q c. nat_eq c.month q.month };
-
-    ghost asking = { charges_of_month };
-
-    ghost given = { λ q. Int (pos q.month) ∷ [] };
-
-    fn text() -> &'static str {
-        of_charge!("SELECT ", " FROM charge WHERE month = ?1")
-    }
-
-    fn day_bytes(&self, alloc: Global) -> Result<Vec<u8>, AllocError> {
-        Ok(Vec::new(alloc))
-    }
-
-    fn params<'a>(
-        &'a self,
-        alloc: Global,
-        _day: &'a [u8],
-    ) -> Result<Vec<ValueRef<'a>>, AllocError> {
-        [ValueRef::Int(i64::from(self.month.number()))].to_vec(alloc)
-    }
-
-    ghost is_asking = { charges_of_month_is };
 }

@@ -12,8 +12,8 @@ use dh_books::Books;
 use sqlite::{Alter, Connection, Error};
 use std::alloc::Global;
 
-/// Puts the rows that are asked for beside those that the books have; false where a row is no record.
-/// It changes no table.
+/// Puts the rows that are asked for beside those that the books have; false where a row is no record, which comes only from a
+/// store that is not clean. It changes no table.
 pub fn fetch_more<L: Look, S: Alter>(
     alloc: Global,
     conn: &mut Connection<S>,
@@ -25,6 +25,7 @@ pub fn fetch_more<L: Look, S: Alter>(
     ensures fetched { HasCleanDisk (state S.Store conn.new)
         → IfOk result (λ done. done ≡ true
         → HasFetchedMore L.Record.shape L.Record.order L.Record.shelf (L.asks question.now) (state S.Store conn.old) books.old books.new) }
+    ensures read { HasCleanDisk (state S.Store conn.new) → IfOk result (λ done. done ≡ true) }
     ensures same { HasCleanDisk (state S.Store conn.new) → OnOk result (IsUnchanged (state S.Store conn.old) (state S.Store conn.new)) }
     ensures undone { HasCleanDisk (state S.Store conn.new) → OnErr result (IsUndone (state S.Store conn.old) (state S.Store conn.new)) }
     ensures crash { CommitsNothing (state S.Store conn.old) (state S.Store conn.new) }

@@ -6,8 +6,8 @@ ghost use Rattle.sqlite.specs.State.{HasCleanDisk, IsUnchanged};
 ghost use Rattle.sqlite.specs.Held.{state};
 ghost use Rattle.dh_model.specs.Whole.{rows_where};
 ghost use Rattle.dh_sql.specs.Shape.{IsKept, rows_in, rows_of};
-ghost use Rattle.dh_tables.specs.Questions.{AsksFor, only_record};
-ghost use Rattle.dh_tables.specs.Calls.{CommitsNothing, HasTables, IsFound, IsUndone, asked_in};
+ghost use Rattle.dh_tables.specs.Questions.{AreOneAtMost, AsksFor, only_record};
+ghost use Rattle.dh_tables.specs.Calls.{CommitsNothing, HasFailed, HasTables, IsCorrupt, IsFound, IsUndone, asked_in};
 
 use crate::{Look, Tabled, rows_asked};
 use sqlite::{Alter, Connection, Error, ErrorCode, Row};
@@ -15,7 +15,8 @@ use std::alloc::Global;
 
 // The record that the rows are, of which there is at most one.
 pub(crate) fn only<R: Tabled>(alloc: Global, rows: &[Row]) -> Result<Option<R>, Error>
-    ensures { IfOk result (λ found. rows_of R.shape {R = R.order} rows.now ≡ only_record R.shape found) }
+    ensures read { IfOk result (λ found. rows_of R.shape {R = R.order} rows.now ≡ only_record R.shape found) }
+    ensures corrupt { IsCorrupt result → AreOneAtMost R.shape.is_row rows.now → ⊥ }
 {
     match rows {
         [] => Ok(None),
@@ -28,7 +29,8 @@ pub(crate) fn only<R: Tabled>(alloc: Global, rows: &[Row]) -> Result<Option<R>, 
 }
 
 /// The record that is asked for, where it is one at most; None where there is none. It changes no table.
-/// Where more are asked for, or a row is no record, it answers that the database is corrupt.
+/// Where more are asked for, or a row is no record, it answers that the database is corrupt. Of a question for one key, over a clean
+/// disk, it answers so only where the disk has failed.
 pub fn find<L: Look, S: Alter>(
     alloc: Global,
     conn: &mut Connection<S>,
@@ -40,6 +42,8 @@ pub fn find<L: Look, S: Alter>(
         → IfOk result (λ found. asked_in L.Record.shape L.Record.order (L.asks question.now) (state S.Store conn.old) ≡ only_record L.Record.shape found) }
     ensures found { HasCleanDisk (state S.Store conn.new)
         → IfOk result (IsFound L.Record.shape L.Record.order (L.asks question.now) (state S.Store conn.old)) }
+    ensures corrupt { HasCleanDisk (state S.Store conn.new) → (key : L.Record.Key) → AsksFor L.Record.shape (L.asks question.now) key
+        → IsCorrupt result → HasFailed (state S.Store conn.old) (state S.Store conn.new) }
     ensures same { HasCleanDisk (state S.Store conn.new) → OnOk result (IsUnchanged (state S.Store conn.old) (state S.Store conn.new)) }
     ensures undone { HasCleanDisk (state S.Store conn.new) → OnErr result (IsUndone (state S.Store conn.old) (state S.Store conn.new)) }
     ensures crash { CommitsNothing (state S.Store conn.old) (state S.Store conn.new) }

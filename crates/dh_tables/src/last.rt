@@ -6,7 +6,7 @@ ghost use Rattle.sqlite.specs.State.{HasCleanDisk, IsUnchanged};
 ghost use Rattle.sqlite.specs.Held.{state};
 ghost use Rattle.dh_laws.specs.Looks.{IsLast};
 ghost use Rattle.dh_sql.specs.Shape.{IsGreatest, IsKept, rows_in};
-ghost use Rattle.dh_tables.specs.Calls.{CommitsNothing, HasOurTables, IsUndone};
+ghost use Rattle.dh_tables.specs.Calls.{CommitsNothing, HasFailed, HasOurTables, IsCorrupt, IsUndone};
 ghost use Rattle.dh_tables.specs.ReceiptTable.{receipt_shape};
 
 use crate::finding::only;
@@ -22,6 +22,7 @@ fn last_row<S: Alter>(conn: &mut Connection<S>) -> Result<Vec<Row>, Error>
         → IfOk result (λ rows. IsGreatest receipt_shape ((state S.Store conn.old).now.trees receipt_shape.tree) rows.items) }
     ensures same { HasCleanDisk (state S.Store conn.new) → OnOk result (IsUnchanged (state S.Store conn.old) (state S.Store conn.new)) }
     ensures undone { HasCleanDisk (state S.Store conn.new) → OnErr result (IsUndone (state S.Store conn.old) (state S.Store conn.new)) }
+    ensures corrupt { HasCleanDisk (state S.Store conn.new) → IsCorrupt result → HasFailed (state S.Store conn.old) (state S.Store conn.new) }
     ensures crash { CommitsNothing (state S.Store conn.old) (state S.Store conn.new) }
 {
     conn.query_all(
@@ -31,7 +32,7 @@ fn last_row<S: Alter>(conn: &mut Connection<S>) -> Result<Vec<Row>, Error>
 }
 
 /// The receipt of the greatest number; None where there is none. It changes no table.
-/// Where the row is no receipt, it answers that the database is corrupt.
+/// Where the row is no receipt, it answers that the database is corrupt; over a clean disk only where the disk has failed.
 pub fn last_receipt<S: Alter>(
     alloc: Global,
     conn: &mut Connection<S>,
@@ -41,6 +42,7 @@ pub fn last_receipt<S: Alter>(
     ensures last { HasCleanDisk (state S.Store conn.new) → IfOk result (IsLast (rows_in receipt_shape (state S.Store conn.old).now.trees)) }
     ensures same { HasCleanDisk (state S.Store conn.new) → OnOk result (IsUnchanged (state S.Store conn.old) (state S.Store conn.new)) }
     ensures undone { HasCleanDisk (state S.Store conn.new) → OnErr result (IsUndone (state S.Store conn.old) (state S.Store conn.new)) }
+    ensures corrupt { HasCleanDisk (state S.Store conn.new) → IsCorrupt result → HasFailed (state S.Store conn.old) (state S.Store conn.new) }
     ensures crash { CommitsNothing (state S.Store conn.old) (state S.Store conn.new) }
 {
     let rows = last_row(conn)?;

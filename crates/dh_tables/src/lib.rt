@@ -36,7 +36,7 @@ mod viewing_changes;
 pub use amend::{Amend, update};
 pub use branch::BranchNumbered;
 pub use branch_fee::FeeOfBranch;
-pub use charge::{ChargeOf, ChargesOfLease, ChargesOfMonth};
+pub use charge::{ChargeOf, ChargesOfLease};
 pub use client::ClientNumbered;
 pub use ending::EndingOf;
 pub use fetching::fetch_more;
@@ -52,7 +52,7 @@ pub use meta::{find_meta, insert_meta, meta_rows_shown, set_next_month, set_vers
 pub use owner::OwnerNumbered;
 pub use part::{PartOf, PartsOfMonth};
 pub use part_fee::{FeeOfPart, FeesOfMonth};
-pub use property::{PropertiesManaged, PropertiesOfOwner, PropertyNumbered};
+pub use property::{PropertiesManaged, PropertiesOfBranch, PropertiesOfOwner, PropertyNumbered};
 pub use receipt::{DepositsOfLease, ReceiptKeyed, ReceiptNumbered, ReceiptsOfLease};
 pub use registration::RegistrationAt;
 pub use rowids::are_numbered;

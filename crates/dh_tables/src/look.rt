@@ -1,7 +1,7 @@
 //! Looking at some rows of a table.
 
 ghost use Rattle.std.specs.Prelude.{◌≡◌, ℕ, Bool, List, [], IfOk, OnOk, OnErr};
-ghost use Rattle.std.specs.List.{IsDistinct};
+ghost use Rattle.std.specs.List.{AllByRecursion, IsDistinct};
 ghost use Rattle.std.specs.Ordering.{eq_by_cmp};
 ghost use Rattle.sqlite_value.specs.Order.{Row as SqlRow};
 ghost use Rattle.sqlite.specs.Values.{bound};
@@ -9,8 +9,8 @@ ghost use Rattle.sqlite.specs.State.{HasCleanDisk, IsUnchanged};
 ghost use Rattle.sqlite.specs.Held.{state};
 ghost use Rattle.dh_model.specs.Whole.{rows_where};
 ghost use Rattle.dh_sql.specs.Shape.{IsKept, rows_in, rows_of, shown_keys};
-ghost use Rattle.dh_tables.specs.Questions.{Asking, IsAsking};
-ghost use Rattle.dh_tables.specs.Calls.{AreAsked, CommitsNothing, HasTables, IsUndone};
+ghost use Rattle.dh_tables.specs.Questions.{Asking, IsAskedRow, IsAsking};
+ghost use Rattle.dh_tables.specs.Calls.{AreAsked, CommitsNothing, HasFailed, HasTables, IsCorrupt, IsUndone};
 
 use crate::Tabled;
 use sqlite::types::ValueRef;
@@ -53,7 +53,8 @@ pub trait Look {
     ghost is_asking: { IsAsking Self.Record.since Self.Record.shape asking can_ask given asks };
 }
 
-/// The rows that are asked for, in some order, none twice. It changes nothing.
+/// The rows that are asked for, in some order, none twice. It changes nothing. Over a clean disk it answers that the database is
+/// corrupt only where the disk has failed.
 pub fn rows_asked<L: Look, S: Alter>(
     alloc: Global,
     conn: &mut Connection<S>,
@@ -63,10 +64,13 @@ pub fn rows_asked<L: Look, S: Alter>(
     requires kept { HasCleanDisk (state S.Store conn.old) → IsKept L.Record.shape L.Record.order (state S.Store conn.old).now.trees }
     ensures rows { HasCleanDisk (state S.Store conn.new)
         → IfOk result (λ rows. AreAsked L.Record.shape L.Record.order (L.asks question.now) (state S.Store conn.old) rows.items) }
+    ensures records { HasCleanDisk (state S.Store conn.new)
+        → IfOk result (λ rows. AllByRecursion (IsAskedRow L.Record.shape (L.asks question.now)) rows.items) }
     ensures distinct { HasCleanDisk (state S.Store conn.new)
         → IfOk result (λ rows. IsDistinct (eq_by_cmp L.Record.order) (shown_keys L.Record.shape rows.items)) }
     ensures same { HasCleanDisk (state S.Store conn.new) → OnOk result (IsUnchanged (state S.Store conn.old) (state S.Store conn.new)) }
     ensures undone { HasCleanDisk (state S.Store conn.new) → OnErr result (IsUndone (state S.Store conn.old) (state S.Store conn.new)) }
+    ensures corrupt { HasCleanDisk (state S.Store conn.new) → IsCorrupt result → HasFailed (state S.Store conn.old) (state S.Store conn.new) }
     ensures crash { CommitsNothing (state S.Store conn.old) (state S.Store conn.new) }
 {
     let day = question.day_bytes(alloc)?;

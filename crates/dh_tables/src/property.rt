@@ -195,3 +195,42 @@ impl Look for PropertiesOfOwner {
 
     ghost is_asking = { properties_of_owner_is };
 }
+
+/// The properties of this branch.
+#[derive(Drop)]
+pub struct PropertiesOfBranch {
+    pub branch: Id,
+}
+
+impl Look for PropertiesOfBranch {
+    ghost use Rattle.std.specs.Prelude.{◌∷◌, []};
+    ghost use Rattle.sqlite_value.specs.declared.value.Value.TheVariants.{Text};
+    ghost use Rattle.dh_model.specs.Checks.{is_same_text};
+    ghost use Rattle.dh_tables.specs.PropertyTable.{properties_of_branch, properties_of_branch_is};
+
+    type Record = Property;
+
+    ghost asks = { λ q p. is_same_text p.branch q.branch };
+
+    ghost asking = { properties_of_branch };
+
+    ghost given = { λ q. Text q.branch ∷ [] };
+
+    fn text() -> &'static str {
+        of_property!("SELECT ", " FROM property WHERE branch_no = ?1")
+    }
+
+    fn day_bytes(&self, alloc: Global) -> Result<Vec<u8>, AllocError> {
+        Ok(Vec::new(alloc))
+    }
+
+    fn params<'a>(
+        &'a self,
+        alloc: Global,
+        _day: &'a [u8],
+    ) -> Result<Vec<ValueRef<'a>>, AllocError> {
+        [ValueRef::Text(self.branch.as_str().as_bytes())].to_vec(alloc)
+    }
+
+    ghost is_asking = { properties_of_branch_is };
+}

@@ -15,7 +15,7 @@ ghost use Rattle.dh_store.specs.Reading.{OnlyReads};
 use dh_books::Books;
 use dh_schema::StoreFault;
 use dh_tables::{Listed, Look, fetch_more, gather_all};
-use sqlite::{Alter, Connection, Error, ErrorCode};
+use sqlite::{Alter, Connection};
 use std::alloc::Global;
 
 /// Puts the rows that are asked for beside those that the books have. Rows that are no record come only from a store that
@@ -35,7 +35,7 @@ pub fn look<L: Look, S: Alter>(
 {
     match fetch_more(alloc, conn, question, books) {
         Ok(true) => Ok(()),
-        Ok(false) => Err(Error::SqliteFailure(ErrorCode::DatabaseCorrupt).into()),
+        Ok(false) => Err(StoreFault::unclean(conn)),
         Err(error) => Err(error.into()),
     }
 }
@@ -55,7 +55,7 @@ pub fn look_at_all<R: Listed, S: Alter>(
 {
     match gather_all::<R, S>(alloc, conn, books) {
         Ok(true) => Ok(()),
-        Ok(false) => Err(Error::SqliteFailure(ErrorCode::DatabaseCorrupt).into()),
+        Ok(false) => Err(StoreFault::unclean(conn)),
         Err(error) => Err(error.into()),
     }
 }

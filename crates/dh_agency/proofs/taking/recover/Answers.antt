@@ -4,6 +4,8 @@ use Rattle.dh_schema.proofs.Crashing.{ready_leaves}
 use Rattle.dh_agency.specs.Seat.{Seat}
 use Rattle.dh_agency.specs.Agency.{IsClean, LeavesItsTables, shown_by}
 use Rattle.dh_agency.specs.Taken.{TakesForward}
+use Rattle.dh_types.specs.declared.version.Version.TheVariants.{Second}
+use Rattle.dh_agency.proofs.Turned.{turned}
 use Rattle.dh_agency.proofs.taking.recover.Goals as goal
 
 pub returns-in-Ok-clause-left : goal.returns-in-Ok-clause-left
@@ -17,4 +19,9 @@ pub returns-in-Ok-clause-made : goal.returns-in-Ok-clause-made
 returns-in-Ok-clause-made g c =
     let did = c.recover_in.ensures in
     subst (λ (a : Seat g.row.S.Denot). TakesForward (state g.S.Store c.args.conn) (shown_by g.S.Store a)) (sym c.over.ensures)
-    (record { was_clean = did.was_clean; crash = did.crash; untouched = did.untouched; unchanged = did.unchanged })
+    (turned Second (state g.S.Store c.args.conn) (state g.S.Store c.recover_in.new.conn) did.was_clean did.crash did.not_taken)
+
+pub returns-in-Err-clause-crash : goal.returns-in-Err-clause-crash
+returns-in-Err-clause-crash g c =
+    let did = c.recover_in.ensures in
+    turned Second (state g.S.Store c.args.conn) (state g.S.Store c.recover_in.new.conn) did.was_clean did.crash did.not_taken

@@ -22,6 +22,9 @@ pub returns-in_err-check-clause-resting : goal.returns-in_err-check-clause-resti
 returns-in_err-check-clause-resting g c clean still sound =
     on_err c.from_residual.result (rests_torn (state g.S.Store c.args.conn.now) (state g.S.Store c.check.new.conn) sound (c.check.ensures.same clean still))
 
+pub returns-in_err-check-clause-not_taken : goal.returns-in_err-check-clause-not_taken
+returns-in_err-check-clause-not_taken g c clean wrong = record { crash = c.check.ensures.crash clean; same = c.check.ensures.same clean }
+
 pub returns-in_err-finish-clause-crash : goal.returns-in_err-finish-clause-crash
 returns-in_err-finish-clause-crash g c clean sound =
     let mid = state g.S.Store c.check.new.conn in
@@ -64,3 +67,13 @@ pub returns-clause-taken : goal.returns-clause-taken
 returns-clause-taken g c clean =
     let early : HasCleanDisk (state g.S.Store c.check.new.conn) = omega (arith, c.finish.ensures.was_clean, clean) in
     c.in_ok-check.ensures.taken early
+
+pub returns-in_err-finish-clause-not_taken : goal.returns-in_err-finish-clause-not_taken
+returns-in_err-finish-clause-not_taken g c clean wrong =
+    let early : HasCleanDisk (state g.S.Store c.check.new.conn) = omega (arith, c.finish.ensures.was_clean, clean) in
+    absurd (wrong (c.in_ok-check.ensures.taken early))
+
+pub returns-clause-not_taken : goal.returns-clause-not_taken
+returns-clause-not_taken g c clean wrong =
+    let early : HasCleanDisk (state g.S.Store c.check.new.conn) = omega (arith, c.finish.ensures.was_clean, clean) in
+    absurd (wrong (c.in_ok-check.ensures.taken early))

@@ -6,6 +6,7 @@ use Rattle.dh_model.specs.Books.{State}
 use Rattle.dh_laws.proofs.AskedRows.{answered_by_its_rows}
 use Rattle.dh_schema.specs.Store.{tables}
 use Rattle.dh_schema.proofs.Keyed.{books_are_keyed}
+use Rattle.dh_store.proofs.AnsweredFrom.{answered_alike}
 use Rattle.dh_store.proofs.AskedBooks.{if_ok, on_ok_all}
 use Rattle.dh_store.proofs.answers.answer_now.Goals as goal
 
@@ -15,7 +16,8 @@ returns-clause-answer g c clean free =
     let question = c.args.question.now in
     let answered = answered_by_its_rows (tables old).books (tables old).open_run None question (books_are_keyed old.now.trees)
     (λ off. ap (option_map (λ (at : OpenRun). at.month)) (sym (free off))) in
-    if_ok c.answer_on.result (λ a is. is ∙ ap (λ (s : State). report s question) (c.in_ok-gather.ensures.taken clean) ∙ answered) c.answer_on.ensures.answer
+    let gathered = ap (λ (s : State). report s question) (c.in_ok-gather.ensures.taken clean) in
+    if_ok c.answer_on.result (λ a is. is ∙ gathered ∙ answered_alike (tables old).books None question ∙ answered) c.answer_on.ensures.answer
 
 pub returns-clause-reads : goal.returns-clause-reads
 returns-clause-reads g c =

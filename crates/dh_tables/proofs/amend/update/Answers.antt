@@ -19,7 +19,8 @@ returns-clause-amended g c clean =
     let was = c.requires.writing early in
     let ran = c.in_ok-execute.ensures.runs clean was.inside in
     let law = g.met.A.Amend.is_amending in
-    let it = g.A.Record.Tabled.shape in
+    let T = g.A.Record.Tabled in
+    let it = T.shape in
     let how = g.A.Amend.amending in
     let q = c.args.change.now in
     let given = g.A.Amend.given q in
@@ -30,9 +31,9 @@ returns-clause-amended g c clean =
     let x = is_there.0 in
     let there = is_there.1 in
     let becomes : Row → Row = λ r. drop 1 (shows how.project given r) in
-    let key = keyed_rows (total g.A.Record.Tabled.is_kind) (ties g.A.Record.Tabled.is_kind) it old.now.trees (g.A.Amend.key q) x there in
+    let key = keyed_rows (total T.is_kind) (ties T.is_kind) it old.now.trees (g.A.Amend.key q) x there in
     let done =
-    amends (total g.A.Record.Tabled.is_kind) (ties g.A.Record.Tabled.is_kind) it how.text old.now.schema (quiet old.now.schema (is_ours g.A.Record.Tabled.since old.now.schema was.has))
+    amends (total T.is_kind) (ties T.is_kind) it how.text old.now.schema (quiet old.now.schema (is_ours T.since old.now.schema was.has))
     how.place how.table how.tests how.project (law.means old.now.schema was.has) law.tree_is old new given
     c.in_ok-execute.field-0 (g.A.Amend.key q) x (g.A.Amend.amended q x) refl (c.requires.kept early) (c.requires.apart early) (law.finds q)
     (law.keeps_rowid q)

@@ -5,6 +5,7 @@ use Rattle.sqlite.specs.Held.{state}
 use Rattle.dh_sql.proofs.LastRow.{greatest_shown}
 use Rattle.dh_sql.proofs.Selecting.{commits_none, plain_same, plain_undone}
 use Rattle.dh_tables.specs.ReceiptTable.{receipt_names, receipt_project, receipt_shape}
+use Rattle.dh_tables.proofs.Corrupt.{failed_err}
 use Rattle.dh_tables.proofs.LastReceipt.{last_is, last_text, numbered}
 use Rattle.dh_tables.proofs.Undone.{undone_from}
 use Rattle.dh_tables.proofs.last.last_row.Goals as goal
@@ -39,3 +40,12 @@ returns-clause-crash g c =
     let old = state g.S.Store c.args.conn.now in
     commits_none last_text [] old (state g.S.Store c.query_all.new.self) (λ clean. (last_is old.now.schema (c.requires.reading clean)).plain)
     c.query_all.ensures.survives
+
+pub returns-clause-corrupt : goal.returns-clause-corrupt
+returns-clause-corrupt g c clean =
+    let old = state g.S.Store c.args.conn.now in
+    let early : HasCleanDisk old = omega (arith, c.query_all.ensures.survives.clean, clean) in
+    let means = last_is old.now.schema (c.requires.reading early) in
+    failed_err last_text old.now.schema [] _ receipt_names means.command means.plain c.query_all.result old
+    (state g.S.Store c.query_all.new.self) refl
+    (c.query_all.ensures.err clean)

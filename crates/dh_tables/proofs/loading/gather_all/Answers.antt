@@ -30,5 +30,6 @@ returns-clause-gathered g c clean is =
     ∙ ap (λ (rs : List Row). T.shelf.with old (put_rows T.shape rs (T.shelf.held old))) c.deref.ensures.value in
     let as_many : length (values (T.shelf.held c.gather.new.books)) ≡ length rows =
     omega (arith, c.held_count.ensures, c.len.ensures, c.if-held_count-len.false) in
-    gathered T.shape is_row laws.has_shape.is_row_is (state g.S.Store c.args.conn.now).now.trees rows (c.in_ok-rows.ensures.rows clean) (total T.is_kind) (ties T.is_kind)
-    T.shelf old c.gather.new.books (c.requires.none (omega (arith, c.rows_listed.ensures.crash.clean, clean))) put good as_many
+    gathered T.shape is_row laws.has_shape.is_row_is (state g.S.Store c.args.conn.now).now.trees rows (c.in_ok-rows.ensures.rows clean)
+    (total T.is_kind) (ties T.is_kind) T.shelf old c.gather.new.books (c.requires.none (omega (arith, c.rows_listed.ensures.crash.clean, clean)))
+    put good as_many

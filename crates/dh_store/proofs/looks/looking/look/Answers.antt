@@ -46,3 +46,7 @@ returns-in-Ok-true-clause-brought g c =
             taken_more (total T.is_kind) (ties T.is_kind) T.shape T.shelf asks trees t b books after (held early) same.0 same.1 fetched test had,
           );
     }
+
+-- rows that are asked for are records
+pub unclean-requires : goal.unclean-requires
+unclean-requires g c clean = let read = c.in-Ok-false.ensures.read clean in cc
