@@ -16,7 +16,6 @@ KNOWN = {
     'dh_fields/src/reading.rt': 1,  # passes on that memory ran out
     'dh_office/src/files.rt': 1,  # a pattern
     'dh_requests/src/head.rt': 1,  # a pattern: an error of httparse
-    'dh_runs/src/closing.rt': 1,  # parts that come to more than a run can have
     'dh_schema/src/fault.rt': 1,  # a pattern
     'dh_tables/src/finding.rt': 2,  # two rows of a key, or a row that is no record: clause `corrupt`
     'dh_tables/src/loading.rt': 2,  # a key or a rowid that is there twice
