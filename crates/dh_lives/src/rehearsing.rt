@@ -125,11 +125,7 @@ fn keep(accounts: &mut Vec<Lived>, lived: Lived) -> Result<(), AllocError>
 }
 
 // Plays the lives on the files.
-fn live_each(
-    alloc: Global,
-    mut files: Files<Stopping>,
-    lives: &[Life],
-) -> Result<Rehearsed, Cause>
+fn live_each(alloc: Global, mut files: Files<Stopping>, lives: &[Life]) -> Result<Rehearsed, Cause>
     ensures accounts { IfOk result (λ it. AreAccountsOf lives.now it.lives.items) }
     ensures cause { IfErr result IsFirstCause }
 {
@@ -155,11 +151,7 @@ fn live_anew(alloc: Global, first: EntryMonth, lives: &[Life]) -> Result<Rehears
 }
 
 // Plays the lives on a copy of the files.
-fn live_on_copy(
-    alloc: Global,
-    files: &Files<Stopping>,
-    lives: &[Life],
-) -> Result<Rehearsed, Cause>
+fn live_on_copy(alloc: Global, files: &Files<Stopping>, lives: &[Life]) -> Result<Rehearsed, Cause>
     ensures accounts { IfOk result (λ it. AreAccountsOf lives.now it.lives.items) }
     ensures cause { IfErr result IsFirstCause }
 {

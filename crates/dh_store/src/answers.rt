@@ -33,7 +33,8 @@ use dh_books::Books;
 use dh_schema::StoreFault;
 use dh_tables::{
     BranchNumbered, ChargeOf, ChargesOfLease, ClientNumbered, FeesOfMonth, LeaseNumbered,
-    LeasesOfProperty, OwnerNumbered, PartsOfMonth, PropertiesOfBranch, PropertiesOfOwner, ReceiptsOfLease, RunOf,
+    LeasesOfProperty, OwnerNumbered, PartsOfMonth, PropertiesOfBranch, PropertiesOfOwner,
+    ReceiptsOfLease, RunOf,
 };
 use dh_types::{
     Answer, Branch, ChargeIndex, Ending, EntryMonth, Id, Lease, LeaseNo, OwnerMonth, Property,
@@ -302,7 +303,15 @@ fn put_charge<S: Alter>(
 {
     let number = lease.terms.number;
     match index_in(lease, month) {
-        Some(index) => look(alloc, conn, &ChargeOf { lease: number, index }, books),
+        Some(index) => look(
+            alloc,
+            conn,
+            &ChargeOf {
+                lease: number,
+                index,
+            },
+            books,
+        ),
         None => Ok(()),
     }
 }
