@@ -1,12 +1,13 @@
 #!/usr/bin/env python3
-"""Lines for bench/owners.sh, and what Python's own sqlite3 takes for the same statements and early ends.
+"""Lines for bench/reports.sh, and what Python's own sqlite3 takes for the same reports and early ends.
 
-owners.py lines LEASES MONTHS            lines that give so many leases of ten branches with a fee each and of so many owners that each has a
-                                         hundred, and the rent runs of so many months; then, behind `time NAME`, statements of owners for the
-                                         last of them, and ends of leases where one month was charged. Past a year a property has one lease
-                                         after the other
-owners.py python LEASES MONTHS [FILE]    makes the same tables, in memory or in FILE, and prints the microseconds of a statement and of an end:
-                                         by the same looks at rows, a commit an end
+reports.py lines LEASES MONTHS           lines that give so many leases of ten branches with a fee each and of so many owners that each has a
+                                         hundred, and the rent runs of so many months. Past a year a property has one lease after the other
+reports.py owner LEASES MONTHS TIMES     so many times a statement of each owner, a hundred at most, for the last of these months
+reports.py arrears LEASES MONTHS TIMES   so many times what each branch is owed
+reports.py end LEASES MONTHS TIMES       the early end of so many leases
+reports.py python LEASES MONTHS FILE     makes the same tables in FILE, and prints the microseconds of a statement, of what a branch is owed
+                                         and, where one month was charged, of an end: by the same looks at rows, a commit an end
 """
 
 import sys
@@ -20,6 +21,7 @@ OF_ONE = 100
 TERM = 12
 TIMED_OWNERS = 100
 TIMED_ENDS = 500
+TIMED_ARREARS = 3
 
 
 def owners(leases):
@@ -30,9 +32,9 @@ def asked_owners(leases):
     return [n % owners(leases) for n in range(TIMED_OWNERS)]
 
 
-def ended_leases(leases):
-    stride = max(1, leases // TIMED_ENDS)
-    return [n * stride + 1 for n in range(min(TIMED_ENDS, leases))]
+def ended_leases(leases, times=TIMED_ENDS):
+    stride = max(1, leases // times)
+    return [n * stride + 1 for n in range(min(times, leases))]
 
 
 def terms(months):
@@ -58,13 +60,20 @@ def put_lines(leases, months):
         print(f"lease,{n + 1},C{n % homes},P{n % homes},{start_of(n, homes)},{TERM},Cash")
     for k in range(months):
         print(f"run,R-{k},{month(k)}")
-    print("time owner")
-    for n in asked_owners(leases):
-        print(f"show,owner,O{n},{month(months - 1)}")
-    if months > 1:
-        return
-    print("time end")
-    for number in ended_leases(leases):
+
+
+def put_asked(what, leases, months, times):
+    for _ in range(times):
+        if what == "owner":
+            for n in asked_owners(leases):
+                print(f"show,owner,O{n},{month(months - 1)}")
+        else:
+            for n in range(BRANCHES):
+                print(f"show,arrears,B{n}")
+
+
+def put_ends(leases, times):
+    for number in ended_leases(leases, times):
         print(f"end,{number},3")
 
 
@@ -100,6 +109,25 @@ def statement(conn, owner, month):
     lines = [f"{lease:>8} {number:8} {money(amount)} {money(of)}" for lease, number, amount, of in rows]
     lines.append(f"{'total':8} {'':8} {money(amounts)} {money(fee)}")
     lines.append(f"{'payable':8} {'':8} {money(amounts - fee)}")
+    return "\n".join([f"shown {len(lines)}", *lines])
+
+
+def arrears(conn, branch):
+    """The report of what a branch is owed, by the looks at rows that the program takes."""
+    (next_month,) = conn.execute("SELECT next_month FROM meta").fetchone()
+    if conn.execute("SELECT 1 FROM run WHERE month = ? AND closed = 0", (next_month - 1,)).fetchone():
+        return "refused 10"
+    lines = []
+    total = 0
+    found = conn.execute("SELECT lease_no, client_no FROM property JOIN lease USING (property_no) WHERE branch_no = ?", (branch,))
+    for lease, client in sorted(found):
+        (charged,) = conn.execute("SELECT coalesce(sum(amount), 0) FROM charge WHERE lease_no = ?", (lease,)).fetchone()
+        (paid,) = conn.execute("SELECT coalesce(sum(amount), 0) FROM receipt WHERE lease_no = ? AND kind = 'rent'", (lease,)).fetchone()
+        (name,) = conn.execute("SELECT name FROM client WHERE client_no = ?", (client,)).fetchone()
+        if charged > paid:
+            total += charged - paid
+            lines.append(f"{lease:>8} {client:8} {money(charged - paid)} {name}")
+    lines.append(f"{'total':17} {money(total)}")
     return "\n".join([f"shown {len(lines)}", *lines])
 
 
@@ -164,11 +192,12 @@ def fill_all(conn, leases, months):
     conn.execute("COMMIT")
 
 
-def time_both(leases, months, path):
+def time_all(leases, months, path):
     conn = made_tables(path)
     fill_all(conn, leases, months)
     last = FIRST_MONTH + months - 1
     timed("owner", [lambda n=n: statement(conn, f"O{n}", last) for n in asked_owners(leases)])
+    timed("arrears", [lambda n=n: arrears(conn, f"B{n}") for _ in range(TIMED_ARREARS) for n in range(BRANCHES)])
     if months == 1:
         timed("end", [lambda number=number: end(conn, number, 3) for number in ended_leases(leases)])
     conn.close()
@@ -177,7 +206,11 @@ def time_both(leases, months, path):
 match sys.argv[1:]:
     case ["lines", leases, months]:
         put_lines(int(leases), int(months))
-    case ["python", leases, months, *path]:
-        time_both(int(leases), int(months), path[0] if path else ":memory:")
+    case [("owner" | "arrears") as what, leases, months, times]:
+        put_asked(what, int(leases), int(months), int(times))
+    case ["end", leases, months, times]:
+        put_ends(int(leases), int(times))
+    case ["python", leases, months, path]:
+        time_all(int(leases), int(months), path)
     case _:
         sys.exit(__doc__)
