@@ -1,5 +1,5 @@
 -- The charges of other months have no say in an owner's statement, and the properties of other branches none in what a branch is owed.
-use Rattle.std.proofs.Common.{◌≡◌, ◌∙◌, refl, sym, ap, Bool, true, false, cond, if◌then◌else◌, ◌&&◌, nat_eq, pos, int_lt, map, List, [], ◌∷◌, Option, Some, None}
+use Rattle.std.proofs.Common.{◌≡◌, ◌∙◌, refl, sym, ap, Bool, true, false, cond, if◌then◌else◌, ◌&&◌, ℕ, nat_eq, pos, int_lt, map, List, [], ◌∷◌, Option, Some, None}
 use Rattle.std.specs.List.{cons_option, filter, filter_map, list_any}
 use Rattle.std.specs.FinMap.{contains_key, get, values}
 use Rattle.dh_types.specs.declared.lease.Lease.{Lease}
@@ -94,7 +94,7 @@ module _ (books : Books) (branch : List ℕ) where
   owing leases = map (debt whole) (filter (λ lease. int_lt (pos 0) (balance whole lease.terms.number)) leases)
 
   arrears_alike : arrears its branch ≡ arrears whole branch
-  arrears_alike = ap (λ leases. if contains_key whole.branches branch then BranchArrears (owing leases) (owed (owing leases))
+  arrears_alike = ap (λ leases. if contains_key whole.branches branch then BranchArrears (owing leases) (owed whole (owing leases))
       else NoReport (refusal.Unknown ASKED_ABOUT)) leases_alike
 
 -- the rows that an answer is made of answer as those that the question is about
