@@ -19,7 +19,7 @@ ERRORS = {
     'dh_requests/src/head.rt': 1,  # a pattern: an error of httparse
     'dh_schema/src/fault.rt': 1,  # a pattern
     'dh_tables/src/finding.rt': 2,  # two rows of a key, or a row that is no record: clause `corrupt`
-    'dh_tables/src/loading.rt': 2,  # a key or a rowid that is there twice: clause `corrupt`
+    'dh_tables/src/loading.rt': 2,  # a key or a rowid that is there twice, or a rowid that is no whole number: clause `corrupt`
 }
 FAULTS = {
     'dh_fields/src/reading.rt': 1,  # a pattern

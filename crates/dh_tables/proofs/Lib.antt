@@ -2,6 +2,7 @@ pub mod Quiet
 pub mod Undone
 pub mod Corrupt
 pub mod Numbers
+pub mod Keys
 pub mod Whole
 pub mod OneRecord
 pub mod LastReceipt

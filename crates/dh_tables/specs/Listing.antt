@@ -35,21 +35,35 @@ pub record IsListing (since : Version) (tree : ℕ) (columns : Row → Row) (lis
 abbrev pub rowid_alone : Row → Row
 rowid_alone r = rowid r ∷ []
 
+-- each rowid is a whole number
+abbrev pub AreWhole : List Row → Type 0
+AreWhole rows = AllByRecursion (λ row. is_int (rowid row) ≡ true) rows
+
 -- each row has a whole number as its rowid, and none has that of another
 pub record AreNumbered (rows : List Row) : Type 0 where
-  pub whole : AllByRecursion (λ row. is_int (rowid row) ≡ true) rows
+  pub whole : AreWhole rows
   pub once : IsDistinct (eq_by_cmp int_cmp) (map (λ row. id_in (rowid row)) rows)
 
 -- rowids are whole numbers, and each is of one row
 pub record HasRowids (rows : List Row) : Type 0 where
-  pub whole : AllByRecursion (λ r. is_int (rowid r) ≡ true) rows
+  pub whole : AreWhole rows
   pub apart : AreApart rows
+
+module _ {K X : Type 0} (it : Shape K X) (R : K → K → Ordering) (trees : Trees) where
+  -- no row has the key of another
+  abbrev pub HasUniqueKeys : Type 0
+  HasUniqueKeys = IsDistinct (eq_by_cmp R) (map (λ r. it.key (stored_in it r)) (trees it.tree))
+
+  -- what a table must have to be loaded: each rowid is a whole number, and no row has the rowid or the key of another
+  pub record HasUniqueRows : Type 0 where
+    pub rowids : AreNumbered (trees it.tree)
+    pub keys : HasUniqueKeys
 
 module _ {K X : Type 0} (it : Shape K X) (R : K → K → Ordering) (shelf : Shelf K X R) (trees : Trees) (old new : machine.State) where
   -- each row is a record, each key is there once, and the books have the records
   pub record IsGathered : Type 0 where
     pub values : AllByRecursion (IsStored it) (trees it.tree)
-    pub keys : IsDistinct (eq_by_cmp R) (map (λ r. it.key (stored_in it r)) (trees it.tree))
+    pub keys : HasUniqueKeys it R trees
     pub books : new ≡ shelf.with old (rows_in it trees)
 
   -- the table is in order, and the books have its records

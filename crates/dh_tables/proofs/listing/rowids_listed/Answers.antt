@@ -4,6 +4,7 @@ use Rattle.sqlite.specs.State.{CommitsShowing, FailsToQuery, HasCleanDisk, Shown
 use Rattle.sqlite.specs.Held.{state}
 use Rattle.dh_sql.proofs.WholeTable.{shows_all}
 use Rattle.dh_sql.proofs.Selecting.{commits_none, same_ok, undone_err}
+use Rattle.dh_tables.proofs.Corrupt.{failed_err}
 use Rattle.dh_tables.proofs.Undone.{undone_from}
 use Rattle.dh_tables.specs.Listing.{rowid_alone}
 use Rattle.dh_tables.proofs.listing.rowids_listed.Goals as goal
@@ -43,6 +44,17 @@ returns-clause-undone g c clean =
     undone_from c.query_all.result old new
     (undone_err how.rowid_text old.now.schema g.R.Tabled.shape.tree [] (col 1 0 ∷ []) [] (how.rowid_name ∷ []) []
     (law.selects_rowid old.now.schema (c.requires.reading early)) c.query_all.result old new refl told)
+
+pub returns-clause-corrupt : goal.returns-clause-corrupt
+returns-clause-corrupt g c clean =
+    let old = state g.S.Store c.args.conn.now in
+    let new = state g.S.Store c.query_all.new.self in
+    let early : HasCleanDisk old = omega (arith, c.query_all.ensures.survives.clean, clean) in
+    let how = g.R.Listed.listing in
+    let means = g.met.R.Listed.is_listing.selects_rowid old.now.schema (c.requires.reading early) in
+    let told = subst (λ (t : List ℕ). IfErr c.query_all.result (FailsToQuery t [] old new)) c.rowid_text.ensures (c.query_all.ensures.err clean) in
+    failed_err how.rowid_text old.now.schema [] (record { lets = []; body = _ }) (how.rowid_name ∷ [])
+    means.command means.plain c.query_all.result old new refl told
 
 pub returns-clause-crash : goal.returns-clause-crash
 returns-clause-crash g c =

@@ -1,10 +1,10 @@
-use Rattle.std.proofs.Common.{◌≡◌, ◌∙◌, ap, arith, length, List, subst, true}
+use Rattle.std.proofs.Common.{◌≡◌, ◌∙◌, ap, arith, inr, length, List, subst, true}
 use Rattle.std.specs.FinMap.{values}
 use Rattle.std.specs.List.{AllByRecursion}
 use Rattle.sqlite_value.specs.Order.{Row}
 use Rattle.sqlite.specs.Held.{state}
 use Rattle.dh_sql.specs.Gathered.{put_rows}
-use Rattle.dh_tables.proofs.Whole.{gathered, no_record}
+use Rattle.dh_tables.proofs.Whole.{as_many_held, gathered, no_record}
 use Rattle.dh_tables.proofs.OfKind.{ties, total}
 use Rattle.dh_tables.proofs.loading.gather_all.Goals as goal
 
@@ -33,3 +33,15 @@ returns-clause-gathered g c clean is =
     gathered T.shape is_row laws.has_shape.is_row_is (state g.S.Store c.args.conn.now).now.trees rows (c.in_ok-rows.ensures.rows clean)
     (total T.is_kind) (ties T.is_kind) T.shelf old c.gather.new.books (c.requires.none (omega (arith, c.rows_listed.ensures.crash.clean, clean)))
     put good as_many
+
+pub returns-then-held_count-len-clause-corrupt : goal.returns-then-held_count-len-clause-corrupt
+returns-then-held_count-len-clause-corrupt g c clean is =
+    let T = g.R.Tabled in
+    let old = c.args.books.now in
+    let put = c.in_ok-gather.ensures.gathered c.if-not-branch.false
+    ∙ ap (λ (rs : List Row). T.shelf.with old (put_rows T.shape rs (T.shelf.held old))) c.deref.ensures.value in
+    let none = c.requires.none (omega (arith, c.rows_listed.ensures.crash.clean, clean)) in
+    inr (λ once.
+    let as_many = as_many_held T.shape g.R.Record.is_row g.met.R.Tabled.has_shape.is_row_is (state g.S.Store c.args.conn.now).now.trees
+    c.in_ok-rows.rows.items (c.in_ok-rows.ensures.rows clean) (total T.is_kind) (ties T.is_kind) T.shelf old c.gather.new.books none put once in
+    absurd (omega (arith, as_many, c.held_count.ensures, c.len.ensures, c.if-held_count-len.true)))
