@@ -2,7 +2,7 @@
 use Rattle.std.proofs.Common.{◌≡◌, ◌∙◌, refl, sym, ap, subst, inl, inr, ℕ, Bool, true, false, nat_eq, List, Option, Some, None}
 use Rattle.std.proofs.Common.{nat_cmp}
 use Rattle.std.specs.List.{list_any}
-use Rattle.std.specs.FinMap.{FinMap, empty, get, get-empty, same_map, values}
+use Rattle.std.specs.FinMap.{FinMap, get, values}
 use Rattle.std.proofs.lemmas.Bool.{cases_Bool, false_from_ne_true}
 use Rattle.dh_types.specs.declared.lease.LeaseTerms.{LeaseTerms}
 use Rattle.dh_types.specs.declared.lease.Lease.{Lease}
@@ -12,23 +12,11 @@ use Rattle.dh_model.specs.Books.{Endings}
 use Rattle.dh_model.specs.Whole.{rows_where}
 use Rattle.dh_model.proofs.Among.{Among, in_filter, of_filter, of_passes, some_passes}
 use Rattle.dh_model.proofs.KeyOrders.{nat_ties, nat_total}
-use Rattle.dh_model.proofs.MapRows.{inside, kept_if, of_row}
+use Rattle.dh_model.proofs.MapRows.{inside, of_row}
 use Rattle.dh_laws.specs.InOrder.{StandUnder}
 use Rattle.dh_laws.specs.Looks.{is_beside, is_some_beside}
-use Rattle.dh_laws.proofs.MapMerges.{get-rows_where, own_row}
+use Rattle.dh_laws.proofs.MapMerges.{own_row}
 use Rattle.dh_laws.proofs.RowsNarrowed.{values_where}
-
--- of no rows any test asks for none
-pub none_asked : (test other : Ending → Bool) (endings : Endings) → endings ≡ empty → rows_where test endings ≡ rows_where other endings
-none_asked test other endings none = none_kept test endings none ∙ sym (none_kept other endings none)
-  where
-    left_out : (asks : Ending → Bool) (found : Option Ending) → found ≡ None → kept_if asks found ≡ None
-    left_out asks found is = ap (kept_if asks) is
-
-    none_kept : (asks : Ending → Bool) (m : Endings) → m ≡ empty → rows_where asks m ≡ empty
-    none_kept asks m is = same_map nat_total nat_ties (rows_where asks m) empty (λ q.
-        get-rows_where nat_total nat_ties asks m q ∙ left_out asks (get m q) (ap (λ (n : Endings). get n q) is ∙ get-empty nat_cmp q)
-        ∙ sym (get-empty nat_cmp q))
 
 module _ (terms : LeaseTerms) (leases : FinMap nat_cmp Lease) (keyed : StandUnder (λ (it : Lease). it.terms.number) leases) where
   abbrev near : List Lease

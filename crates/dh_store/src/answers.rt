@@ -23,6 +23,7 @@ ghost use Rattle.dh_laws.specs.AskedAbout.{account_of, asked_about, charged_by, 
 ghost use Rattle.dh_schema.specs.Faults.{IsFirstFault};
 ghost use Rattle.dh_schema.specs.Store.{IsReady, Leaves, StaysReady, tables};
 ghost use Rattle.dh_store.specs.AnsweredFrom.{answered_from, charged_in, let_by};
+ghost use Rattle.dh_store.specs.Months.{AreMonthsOf};
 ghost use Rattle.dh_store.specs.Reading.{OnlyReads};
 
 use crate::looks::{
@@ -30,6 +31,7 @@ use crate::looks::{
 };
 use dh_answers::{answer, is_put_off};
 use dh_books::Books;
+use dh_rows::Meta;
 use dh_schema::StoreFault;
 use dh_tables::{
     BranchNumbered, ChargeOf, ChargesOfLease, ClientNumbered, FeesOfMonth, LeaseNumbered,
@@ -38,18 +40,20 @@ use dh_tables::{
 };
 use dh_types::{
     Answer, Branch, ChargeIndex, Ending, EntryMonth, Id, Lease, LeaseNo, OwnerMonth, Property,
-    Question, Refusal,
+    Question, Refusal, Version,
 };
 use sqlite::{Alter, Connection};
 use std::alloc::{AllocError, Global};
 
-// The properties, the leases on them, and the endings of these.
+// The properties, the leases on them, and the endings of these. The version is that of the tables.
 fn gather_lettings<S: Alter>(
     alloc: Global,
     conn: &mut Connection<S>,
+    version: Version,
     books: &mut Books,
 ) -> Result<(), StoreFault>
     requires ready { HasCleanDisk (state S.Store conn.old) → IsReady (state S.Store conn.old) }
+    requires version { HasCleanDisk (state S.Store conn.old) → version ≡ (tables (state S.Store conn.old)).books.version }
     requires none { books.old ≡ start FIRST_MONTH }
     ensures taken { HasCleanDisk (state S.Store conn.new)
         → OnOk result (books.new ≡ record { books = let_or_vacant (tables (state S.Store conn.old)).books; open_run = None }) }
@@ -57,18 +61,20 @@ fn gather_lettings<S: Alter>(
 {
     look_at_all::<Property, S>(alloc, conn, books)?;
     look_at_all::<Lease, S>(alloc, conn, books)?;
-    look_at_later::<Ending, S>(alloc, conn, books)?;
+    look_at_later::<Ending, S>(alloc, conn, version, books)?;
     Ok(())
 }
 
-// These, and the client.
+// These, and the client. The version is that of the tables.
 fn gather_matching<S: Alter>(
     alloc: Global,
     conn: &mut Connection<S>,
+    version: Version,
     client: Id,
     books: &mut Books,
 ) -> Result<(), StoreFault>
     requires ready { HasCleanDisk (state S.Store conn.old) → IsReady (state S.Store conn.old) }
+    requires version { HasCleanDisk (state S.Store conn.old) → version ≡ (tables (state S.Store conn.old)).books.version }
     requires none { books.old ≡ start FIRST_MONTH }
     ensures taken { HasCleanDisk (state S.Store conn.new)
         → OnOk result (books.new ≡ record {
@@ -79,7 +85,7 @@ fn gather_matching<S: Alter>(
         }) }
     ensures reads { OnlyReads (state S.Store conn.old) (state S.Store conn.new) result }
 {
-    gather_lettings(alloc, conn, books)?;
+    gather_lettings(alloc, conn, version, books)?;
     look(alloc, conn, &ClientNumbered { number: client }, books)?;
     Ok(())
 }
@@ -362,14 +368,16 @@ fn gather_charged<S: Alter>(
     Ok(())
 }
 
-// These, the run of the month, and its fees.
+// These, the run of the month, and its fees. The version is that of the tables.
 fn gather_owner<S: Alter>(
     alloc: Global,
     conn: &mut Connection<S>,
+    version: Version,
     it: OwnerMonth,
     books: &mut Books,
 ) -> Result<(), StoreFault>
     requires ready { HasCleanDisk (state S.Store conn.old) → IsReady (state S.Store conn.old) }
+    requires version { HasCleanDisk (state S.Store conn.old) → version ≡ (tables (state S.Store conn.old)).books.version }
     requires none { books.old ≡ start FIRST_MONTH }
     ensures taken { HasCleanDisk (state S.Store conn.new)
         → OnOk result (books.new ≡ record { books = answered_from (tables (state S.Store conn.old)).books (asked.Owner it); open_run = None }) }
@@ -378,18 +386,20 @@ fn gather_owner<S: Alter>(
     let month = it.month;
     gather_charged(alloc, conn, it, books)?;
     look(alloc, conn, &RunOf { month }, books)?;
-    look_later(alloc, conn, &FeesOfMonth { month }, books)?;
+    look_later(alloc, conn, version, &FeesOfMonth { month }, books)?;
     Ok(())
 }
 
-// The rows that the question is about; of an owner's statement not the charges of other months.
+// The rows that the question is about; of an owner's statement not the charges of other months. The version is that of the tables.
 fn gather<S: Alter>(
     alloc: Global,
     conn: &mut Connection<S>,
+    version: Version,
     question: &Question,
     books: &mut Books,
 ) -> Result<(), StoreFault>
     requires ready { HasCleanDisk (state S.Store conn.old) → IsReady (state S.Store conn.old) }
+    requires version { HasCleanDisk (state S.Store conn.old) → version ≡ (tables (state S.Store conn.old)).books.version }
     requires none { books.old ≡ start FIRST_MONTH }
     ensures taken { HasCleanDisk (state S.Store conn.new)
         → OnOk result (books.new ≡ record { books = answered_from (tables (state S.Store conn.old)).books question.now; open_run = None }) }
@@ -397,12 +407,12 @@ fn gather<S: Alter>(
 {
     match *question {
         Question::Branches => look_at_all::<Branch, S>(alloc, conn, books),
-        Question::Vacant(_) => gather_lettings(alloc, conn, books),
-        Question::Matching(asked) => gather_matching(alloc, conn, asked.client, books),
+        Question::Vacant(_) => gather_lettings(alloc, conn, version, books),
+        Question::Matching(asked) => gather_matching(alloc, conn, version, asked.client, books),
         Question::Statement(lease) => gather_account(alloc, conn, lease, books),
         Question::Arrears(branch) => gather_arrears(alloc, conn, branch, books),
         Question::Run(month) => gather_run(alloc, conn, month, books),
-        Question::Owner(it) => gather_owner(alloc, conn, it, books),
+        Question::Owner(it) => gather_owner(alloc, conn, version, it, books),
     }
 }
 
@@ -417,42 +427,45 @@ fn answer_on(alloc: Global, books: Books, question: &Question) -> Result<Answer,
     }
 }
 
-// The answer to a question that no open run puts off.
+// The answer to a question that no open run puts off. The version is that of the tables.
 fn answer_now<S: Alter>(
     alloc: Global,
     conn: &mut Connection<S>,
+    version: Version,
     question: &Question,
 ) -> Result<Answer, StoreFault>
     requires ready { HasCleanDisk (state S.Store conn.old) → IsReady (state S.Store conn.old) }
+    requires version { HasCleanDisk (state S.Store conn.old) → version ≡ (tables (state S.Store conn.old)).books.version }
     ensures answer { HasCleanDisk (state S.Store conn.new) → (is_put_off question.now ≡ true → (tables (state S.Store conn.old)).open_run ≡ None)
         → IfOk result (λ a. report_of a ≡ report (tables (state S.Store conn.old)) question.now) }
     ensures reads { OnlyReads (state S.Store conn.old) (state S.Store conn.new) result }
 {
     let mut books = no_rows(alloc);
-    gather(alloc, conn, question, &mut books)?;
+    gather(alloc, conn, version, question, &mut books)?;
     answer_on(alloc, books, question)
 }
 
-// The answer to a question that an open run puts off.
+// The answer to a question that an open run puts off. The months are those of the tables.
 fn answer_put_off<S: Alter>(
     alloc: Global,
     conn: &mut Connection<S>,
+    months: Meta,
     question: &Question,
 ) -> Result<Answer, StoreFault>
     requires ready { HasCleanDisk (state S.Store conn.old) → IsReady (state S.Store conn.old) }
+    requires months { HasCleanDisk (state S.Store conn.old) → AreMonthsOf months (tables (state S.Store conn.old)).books }
     requires off { is_put_off question.now ≡ true }
     ensures answer { HasCleanDisk (state S.Store conn.new) → IfOk result (λ a. report_of a ≡ report (tables (state S.Store conn.old)) question.now) }
     ensures reads { OnlyReads (state S.Store conn.old) (state S.Store conn.new) result }
 {
-    let months = months_now(alloc, conn)?;
     let found = find_open_run(alloc, conn, months)?;
     match found {
         Some(run) => Ok(Answer::Refused(Refusal::RunOpen(run.month.month()))),
-        None => answer_now(alloc, conn, question),
+        None => answer_now(alloc, conn, months.version(), question),
     }
 }
 
-// The answer to any question.
+// The answer to any question. The version and the months are read once.
 fn answer_question<S: Alter>(
     alloc: Global,
     conn: &mut Connection<S>,
@@ -462,10 +475,11 @@ fn answer_question<S: Alter>(
     ensures answer { HasCleanDisk (state S.Store conn.new) → IfOk result (λ a. report_of a ≡ report (tables (state S.Store conn.old)) question.now) }
     ensures reads { OnlyReads (state S.Store conn.old) (state S.Store conn.new) result }
 {
+    let months = months_now(alloc, conn)?;
     if is_put_off(question) {
-        answer_put_off(alloc, conn, question)
+        answer_put_off(alloc, conn, months, question)
     } else {
-        answer_now(alloc, conn, question)
+        answer_now(alloc, conn, months.version(), question)
     }
 }
 

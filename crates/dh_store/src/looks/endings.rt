@@ -1,51 +1,25 @@
 //! Looks at endings, of which a file of the first version has no table.
 
-ghost use Rattle.std.specs.Prelude.{◌≡◌, ◌||◌, Bool, nat_eq, IfErr, IfOk, OnOk};
+ghost use Rattle.std.specs.Prelude.{◌≡◌, nat_eq, IfErr, IfOk, OnOk};
 ghost use Rattle.std.specs.List.{list_any};
 ghost use Rattle.std.specs.FinMap as fin;
 ghost use Rattle.sqlite.specs.State.{HasCleanDisk};
 ghost use Rattle.sqlite.specs.Held.{state};
-ghost use Rattle.dh_types.specs.declared.lease.Ending.{Ending as ending_row};
 ghost use Rattle.dh_model.specs.Whole.{rows_where};
 ghost use Rattle.dh_schema.specs.Faults.{IsFirstFault};
 ghost use Rattle.dh_schema.specs.Store.{IsReady, tables};
 ghost use Rattle.dh_store.specs.Reading.{OnlyReads};
 
-use crate::looks::{look, months_now};
+use crate::looks::look_later;
 use dh_books::Books;
 use dh_schema::StoreFault;
 use dh_tables::EndingOf;
-use dh_types::{Lease, LeaseNo, Version};
+use dh_types::{Lease, Version};
 use sqlite::{Alter, Connection};
 use std::alloc::{AllocError, Global};
 
-// Puts the ending of the lease beside those that the books have. The version is that of the tables.
-fn look_at_ending<S: Alter>(
-    alloc: Global,
-    conn: &mut Connection<S>,
-    version: Version,
-    lease: LeaseNo,
-    books: &mut Books,
-) -> Result<(), StoreFault>
-    requires ready { HasCleanDisk (state S.Store conn.old) → IsReady (state S.Store conn.old) }
-    requires version { HasCleanDisk (state S.Store conn.old) → version ≡ (tables (state S.Store conn.old)).books.version }
-    ensures put { HasCleanDisk (state S.Store conn.new) → OnOk result ((test : ending_row → Bool)
-        → books.old.books.endings ≡ rows_where test (tables (state S.Store conn.old)).books.endings
-        → books.new ≡ record books.old {
-          books = record books.old.books {
-            endings = rows_where (λ ending. test ending || nat_eq ending.lease lease) (tables (state S.Store conn.old)).books.endings;
-          };
-        }) }
-    ensures reads { OnlyReads (state S.Store conn.old) (state S.Store conn.new) result }
-{
-    match version {
-        Version::First => Ok(()),
-        Version::Second => look(alloc, conn, &EndingOf { lease }, books),
-    }
-}
-
-// So for each of these leases.
-fn look_at_each_ending<S: Alter>(
+/// Puts the endings of these leases into books that have none. The version is that of the tables.
+pub(crate) fn look_at_endings_of<S: Alter>(
     alloc: Global,
     conn: &mut Connection<S>,
     version: Version,
@@ -65,31 +39,9 @@ fn look_at_each_ending<S: Alter>(
 {
     for lease in leases {
         let number = lease.terms.number;
-        look_at_ending(alloc, conn, version, number, books)?;
+        look_later(alloc, conn, version, &EndingOf { lease: number }, books)?;
     }
     Ok(())
-}
-
-/// Puts the endings of these leases into books that have none.
-pub(crate) fn look_at_endings_of<S: Alter>(
-    alloc: Global,
-    conn: &mut Connection<S>,
-    leases: &[Lease],
-    books: &mut Books,
-) -> Result<(), StoreFault>
-    requires ready { HasCleanDisk (state S.Store conn.old) → IsReady (state S.Store conn.old) }
-    ensures taken { HasCleanDisk (state S.Store conn.new) → OnOk result (books.old.books.endings ≡ fin.empty
-        → books.new ≡ record books.old {
-          books = record books.old.books {
-            endings = rows_where (λ ending. list_any (λ lease. nat_eq ending.lease lease.terms.number) leases.now)
-                (tables (state S.Store conn.old)).books.endings;
-          };
-        }) }
-    ensures reads { OnlyReads (state S.Store conn.old) (state S.Store conn.new) result }
-{
-    let months = months_now(alloc, conn)?;
-    let version = months.version();
-    look_at_each_ending(alloc, conn, version, leases, books)
 }
 
 // The leases that the books have.

@@ -8,7 +8,7 @@ ghost use Rattle.dh_types.specs.declared.command.Command.TheVariants as command;
 ghost use Rattle.dh_model.specs.Books.{State};
 ghost use Rattle.dh_model.specs.Checks.{is_same_text};
 ghost use Rattle.dh_model.specs.Whole.{rows_where};
-ghost use Rattle.dh_schema.specs.Store.{IsReady};
+ghost use Rattle.dh_schema.specs.Store.{IsReady, tables};
 ghost use Rattle.dh_store.specs.Looked.{AreBoth};
 ghost use Rattle.dh_store.specs.Reading.{OnlyReads};
 ghost use Rattle.dh_store.specs.Gathered.{Gathers, with_endings, with_leases, with_registration};
@@ -20,7 +20,7 @@ use dh_tables::{
     ClientNumbered, DepositsOfLease, EndingOf, LeaseNumbered, LeasesOfClientFrom, LeasesOfProperty,
     PropertyNumbered, ReceiptKeyed, RegistrationAt, RunKeyed,
 };
-use dh_types::{Ending, LeaseTerms, ReceiptOrder, RunOrder};
+use dh_types::{Ending, LeaseTerms, ReceiptOrder, RunOrder, Version};
 use sqlite::{Alter, Connection};
 use std::alloc::Global;
 
@@ -84,31 +84,35 @@ fn leases<S: Alter>(
     look(alloc, conn, &from, books)
 }
 
-// These leases, and the endings of those that were ended early.
+// These leases, and the endings of those that were ended early. The version is that of the tables.
 fn leases_with_endings<S: Alter>(
     alloc: Global,
     conn: &mut Connection<S>,
+    version: Version,
     terms: &LeaseTerms,
     books: &mut Books,
 ) -> Result<(), StoreFault>
-    requires { HasCleanDisk (state S.Store conn.old) → IsReady (state S.Store conn.old) }
+    requires ready { HasCleanDisk (state S.Store conn.old) → IsReady (state S.Store conn.old) }
+    requires version { HasCleanDisk (state S.Store conn.old) → version ≡ (tables (state S.Store conn.old)).books.version }
     ensures gathered { (t b : State) → AreBoth t b (state S.Store conn.old) books.old → b.books.leases ≡ fin.empty → b.books.endings ≡ fin.empty
         → OnOk result (AreBoth t (with_endings terms.now t (with_leases terms.now t b)) (state S.Store conn.new) books.new) }
     ensures reads { OnlyReads (state S.Store conn.old) (state S.Store conn.new) result }
 {
     leases(alloc, conn, terms, books)?;
     let beside = held_leases(alloc, books)?;
-    look_at_endings_of(alloc, conn, &beside, books)
+    look_at_endings_of(alloc, conn, version, &beside, books)
 }
 
-/// The leases beside it with their endings, the property, the client and its registration.
+/// The leases beside it with their endings, the property, the client and its registration. The version is that of the tables.
 pub(crate) fn at_lease<S: Alter>(
     alloc: Global,
     conn: &mut Connection<S>,
+    version: Version,
     terms: &LeaseTerms,
     books: &mut Books,
 ) -> Result<(), StoreFault>
-    requires { HasCleanDisk (state S.Store conn.old) → IsReady (state S.Store conn.old) }
+    requires ready { HasCleanDisk (state S.Store conn.old) → IsReady (state S.Store conn.old) }
+    requires version { HasCleanDisk (state S.Store conn.old) → version ≡ (tables (state S.Store conn.old)).books.version }
     ensures gathered { Gathers (command.Lease terms.now) result (state S.Store conn.old) books.old (state S.Store conn.new) books.new }
     ensures reads { OnlyReads (state S.Store conn.old) (state S.Store conn.new) result }
 {
@@ -129,7 +133,7 @@ pub(crate) fn at_lease<S: Alter>(
         books,
     )?;
     registration(alloc, conn, terms, books)?;
-    leases_with_endings(alloc, conn, terms, books)
+    leases_with_endings(alloc, conn, version, terms, books)
 }
 
 /// What has the key, the lease, and the deposit on it.
@@ -178,18 +182,20 @@ pub(crate) fn at_run<S: Alter>(
     look(alloc, conn, &ReceiptKeyed { key: order.key }, books)
 }
 
-/// The lease, and its ending.
+/// The lease, and its ending. The version is that of the tables.
 pub(crate) fn at_end<S: Alter>(
     alloc: Global,
     conn: &mut Connection<S>,
+    version: Version,
     ending: &Ending,
     books: &mut Books,
 ) -> Result<(), StoreFault>
-    requires { HasCleanDisk (state S.Store conn.old) → IsReady (state S.Store conn.old) }
+    requires ready { HasCleanDisk (state S.Store conn.old) → IsReady (state S.Store conn.old) }
+    requires version { HasCleanDisk (state S.Store conn.old) → version ≡ (tables (state S.Store conn.old)).books.version }
     ensures gathered { Gathers (command.End ending.now) result (state S.Store conn.old) books.old (state S.Store conn.new) books.new }
     ensures reads { OnlyReads (state S.Store conn.old) (state S.Store conn.new) result }
 {
     let lease = ending.lease;
     look(alloc, conn, &LeaseNumbered { number: lease }, books)?;
-    look_later(alloc, conn, &EndingOf { lease }, books)
+    look_later(alloc, conn, version, &EndingOf { lease }, books)
 }

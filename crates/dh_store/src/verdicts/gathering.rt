@@ -22,7 +22,7 @@ use dh_model::OpenRun;
 use dh_rows::Meta;
 use dh_schema::StoreFault;
 use dh_tables::last_receipt;
-use dh_types::Command;
+use dh_types::{Command, Version};
 use dh_verdicts::Facts;
 use sqlite::{Alter, Connection};
 use std::alloc::Global;
@@ -76,20 +76,22 @@ fn count_for<S: Alter>(
     }
 }
 
-// The rows that the command looks at.
+// The rows that the command looks at. The version is that of the tables.
 fn gather_rows<S: Alter>(
     alloc: Global,
     conn: &mut Connection<S>,
+    version: Version,
     command: &Command,
     books: &mut Books,
 ) -> Result<(), StoreFault>
-    requires { HasCleanDisk (state S.Store conn.old) → IsReady (state S.Store conn.old) }
+    requires ready { HasCleanDisk (state S.Store conn.old) → IsReady (state S.Store conn.old) }
+    requires version { HasCleanDisk (state S.Store conn.old) → version ≡ (tables (state S.Store conn.old)).books.version }
     ensures gathered { Gathers command.now result (state S.Store conn.old) books.old (state S.Store conn.new) books.new }
     ensures reads { OnlyReads (state S.Store conn.old) (state S.Store conn.new) result }
 {
     match command {
         Command::Branch(branch) => at_branch(alloc, conn, branch, books),
-        Command::Fee(fee) => at_fee(alloc, conn, fee, books),
+        Command::Fee(fee) => at_fee(alloc, conn, version, fee, books),
         Command::Staff(member) => at_staff(alloc, conn, member, books),
         Command::Owner(owner) => at_owner(alloc, conn, owner, books),
         Command::Property(property) => at_property(alloc, conn, property, books),
@@ -100,15 +102,15 @@ fn gather_rows<S: Alter>(
         Command::Viewing(viewing) => at_viewing(alloc, conn, viewing, books),
         Command::Comment(comment) => at_comment(alloc, conn, comment, books),
         Command::Inspection(inspection) => at_inspection(alloc, conn, inspection, books),
-        Command::Lease(terms) => at_lease(alloc, conn, terms, books),
-        Command::End(ending) => at_end(alloc, conn, ending, books),
+        Command::Lease(terms) => at_lease(alloc, conn, version, terms, books),
+        Command::End(ending) => at_end(alloc, conn, version, ending, books),
         Command::Receipt(order) => at_receipt(alloc, conn, order, books),
         Command::Run(order) | Command::Open(order) => at_run(alloc, conn, order, books),
         Command::Post(_) => Ok(()),
     }
 }
 
-// The rows, the open run and the count, into facts that have the months alone.
+// The rows, the open run and the count, into facts that have the version and the months alone.
 fn gather_into<S: Alter>(
     alloc: Global,
     conn: &mut Connection<S>,
@@ -118,11 +120,13 @@ fn gather_into<S: Alter>(
 ) -> Result<(), StoreFault>
     requires ready { HasCleanDisk (state S.Store conn.old) → IsReady (state S.Store conn.old) }
     requires run { HasCleanDisk (state S.Store conn.old) → month_open run ≡ month_open (tables (state S.Store conn.old)).open_run }
-    ensures cut { HasCleanDisk (state S.Store conn.new) → facts.old.books ≡ bare (tables (state S.Store conn.old))
+    requires bare { HasCleanDisk (state S.Store conn.old) → facts.old.books ≡ bare (tables (state S.Store conn.old)) }
+    ensures cut { HasCleanDisk (state S.Store conn.new)
         → OnOk result (IsCutOf (facts_of facts.new) (tables (state S.Store conn.old)).books (tables (state S.Store conn.old)).open_run command.now) }
     ensures reads { OnlyReads (state S.Store conn.old) (state S.Store conn.new) result }
 {
-    gather_rows(alloc, conn, command, &mut facts.books)?;
+    let version = facts.books.version();
+    gather_rows(alloc, conn, version, command, &mut facts.books)?;
     facts.books.set_open_run(run);
     facts.receipts = count_for(alloc, conn, command)?;
     Ok(())

@@ -1,9 +1,10 @@
 //! What commands about branches, staff, owners and clients look at.
 
+ghost use Rattle.std.specs.Prelude.{◌≡◌};
 ghost use Rattle.sqlite.specs.State.{HasCleanDisk};
 ghost use Rattle.sqlite.specs.Held.{state};
 ghost use Rattle.dh_types.specs.declared.command.Command.TheVariants as command;
-ghost use Rattle.dh_schema.specs.Store.{IsReady};
+ghost use Rattle.dh_schema.specs.Store.{IsReady, tables};
 ghost use Rattle.dh_store.specs.Reading.{OnlyReads};
 ghost use Rattle.dh_store.specs.Gathered.{Gathers};
 
@@ -13,7 +14,7 @@ use dh_schema::StoreFault;
 use dh_tables::{
     BranchNumbered, ClientNumbered, FeeOfBranch, MemberNumbered, OwnerNumbered, RegistrationAt,
 };
-use dh_types::{Branch, BranchFee, Client, Owner, Registration, Staff};
+use dh_types::{Branch, BranchFee, Client, Owner, Registration, Staff, Version};
 use sqlite::{Alter, Connection};
 use std::alloc::Global;
 
@@ -38,20 +39,22 @@ pub(crate) fn at_branch<S: Alter>(
     )
 }
 
-/// The branch of this number, and its fee.
+/// The branch of this number, and its fee. The version is that of the tables.
 pub(crate) fn at_fee<S: Alter>(
     alloc: Global,
     conn: &mut Connection<S>,
+    version: Version,
     fee: &BranchFee,
     books: &mut Books,
 ) -> Result<(), StoreFault>
-    requires { HasCleanDisk (state S.Store conn.old) → IsReady (state S.Store conn.old) }
+    requires ready { HasCleanDisk (state S.Store conn.old) → IsReady (state S.Store conn.old) }
+    requires version { HasCleanDisk (state S.Store conn.old) → version ≡ (tables (state S.Store conn.old)).books.version }
     ensures gathered { Gathers (command.Fee fee.now) result (state S.Store conn.old) books.old (state S.Store conn.new) books.new }
     ensures reads { OnlyReads (state S.Store conn.old) (state S.Store conn.new) result }
 {
     let branch = fee.branch;
     look(alloc, conn, &BranchNumbered { number: branch }, books)?;
-    look_later(alloc, conn, &FeeOfBranch { branch }, books)
+    look_later(alloc, conn, version, &FeeOfBranch { branch }, books)
 }
 
 /// The member of staff of this number, and the branch.

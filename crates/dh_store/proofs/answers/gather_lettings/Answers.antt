@@ -3,7 +3,13 @@ use Rattle.sqlite.specs.State.{HasCleanDisk}
 use Rattle.sqlite.specs.Held.{state}
 use Rattle.dh_model.specs.Kinds.{Leases, Properties}
 use Rattle.dh_store.proofs.AskedBooks.{put_whole}
+use Rattle.dh_store.proofs.MonthsStay.{version_stays}
+use Rattle.dh_store.proofs.ReadsInTurn.{reads_then}
 use Rattle.dh_store.proofs.answers.gather_lettings.Goals as goal
+
+pub look_at_later-requires-clause-version : goal.look_at_later-requires-clause-version
+look_at_later-requires-clause-version g c =
+    version_stays c.requires.version (reads_then c.in_ok-look_at_all.ensures.reads c.in_ok-look_at_all-2.ensures.reads)
 
 pub returns-clause-taken : goal.returns-clause-taken
 returns-clause-taken g c clean =

@@ -6,8 +6,13 @@ use Rattle.dh_model.specs.Kinds.{Runs}
 use Rattle.dh_schema.specs.Store.{tables}
 use Rattle.dh_store.specs.Reading.{OnlyReads}
 use Rattle.dh_store.proofs.AskedBooks.{put_first}
+use Rattle.dh_store.proofs.MonthsStay.{version_stays}
 use Rattle.dh_store.proofs.ReadsInTurn.{reads_then}
 use Rattle.dh_store.proofs.answers.gather_owner.Goals as goal
+
+pub look_later-requires-clause-version : goal.look_later-requires-clause-version
+look_later-requires-clause-version g c =
+    version_stays c.requires.version (reads_then c.in_ok-gather_charged.ensures.reads c.in_ok-look.ensures.reads)
 
 pub returns-clause-taken : goal.returns-clause-taken
 returns-clause-taken g c clean =

@@ -1,6 +1,12 @@
 use Rattle.std.proofs.Common.{refl}
+use Rattle.dh_store.proofs.MonthsStay.{version_stays}
 use Rattle.dh_store.proofs.ReadsInTurn.{reads_then}
 use Rattle.dh_store.proofs.verdicts.accounts.at_lease.Goals as goal
+
+pub leases_with_endings-requires-clause-version : goal.leases_with_endings-requires-clause-version
+leases_with_endings-requires-clause-version g c =
+    let rows = reads_then c.in_ok-look.ensures.reads c.in_ok-look-2.ensures.reads in
+    version_stays c.requires.version (reads_then rows c.in_ok-registration.ensures.reads)
 
 pub returns-clause-gathered : goal.returns-clause-gathered
 returns-clause-gathered g c t at =

@@ -11,6 +11,7 @@ use Rattle.dh_laws.specs.InOrder.{StandUnder}
 use Rattle.dh_schema.proofs.Keyed.{keyed}
 use Rattle.dh_store.specs.Gathered.{with_leases}
 use Rattle.dh_store.proofs.EndingsBeside.{endings_beside}
+use Rattle.dh_store.proofs.MonthsStay.{version_stays}
 use Rattle.dh_store.proofs.ReadsInTurn.{reads_then}
 use Rattle.dh_store.proofs.Shown.{on_ok}
 use Rattle.dh_store.proofs.verdicts.accounts.leases_with_endings.Goals as goal
@@ -18,6 +19,9 @@ use Rattle.dh_store.proofs.verdicts.accounts.leases_with_endings.Goals as goal
 under : {X E : Type 0} (C A B : Type 0) (r : Result X E) → (C → OnOk r A) → (C → OnOk r B) → OnOk r (C → A × B)
 under C A B (Ok x) f g = λ c. (f c, g c)
 under C A B (Err e) f g = tt
+
+pub look_at_endings_of-requires-clause-version : goal.look_at_endings_of-requires-clause-version
+look_at_endings_of-requires-clause-version g c = version_stays c.requires.version c.in_ok-leases.ensures.reads
 
 pub returns-clause-gathered : goal.returns-clause-gathered
 returns-clause-gathered g c t b at leases_none none =

@@ -1,6 +1,10 @@
 use Rattle.std.proofs.Common.{refl}
+use Rattle.dh_store.proofs.MonthsStay.{version_stays}
 use Rattle.dh_store.proofs.ReadsInTurn.{reads_then}
 use Rattle.dh_store.proofs.verdicts.people.at_fee.Goals as goal
+
+pub look_later-requires-clause-version : goal.look_later-requires-clause-version
+look_later-requires-clause-version g c = version_stays c.requires.version c.in_ok-look.ensures.reads
 
 pub returns-clause-gathered : goal.returns-clause-gathered
 returns-clause-gathered g c t at = c.look_later.ensures.brought.first t _ (c.in_ok-look.ensures.brought.first t _ at refl) refl

@@ -6,7 +6,7 @@ use Rattle.dh_types.specs.declared.lease.Lease.{Lease}
 use Rattle.dh_model.specs.Whole.{rows_where}
 use Rattle.dh_schema.specs.Store.{tables}
 use Rattle.dh_store.proofs.AskedBooks.{Along}
-use Rattle.dh_store.proofs.looks.endings.look_at_each_ending.Given as goal
+use Rattle.dh_store.proofs.looks.endings.look_at_endings_of.Given as goal
 
 -- the endings of the leases so far
 abbrev pub invariant-loop-lease : goal.invariant-loop-lease
