@@ -1,5 +1,6 @@
 -- The charges of other months have no say in an owner's statement, and the properties of other branches none in what a branch is owed.
-use Rattle.std.proofs.Common.{◌≡◌, ◌∙◌, refl, sym, ap, Bool, true, false, cond, if◌then◌else◌, ◌&&◌, ℕ, nat_eq, pos, int_lt, map, List, [], ◌∷◌, Option, Some, None}
+use Rattle.std.proofs.Common.{◌≡◌, ◌∙◌, refl, sym, ap, Bool, true, false, cond, if◌then◌else◌, ◌&&◌, ℕ, nat_eq, pos, int_lt, map, List, [], ◌∷◌}
+use Rattle.std.proofs.Common.{Option, Some, None}
 use Rattle.std.specs.List.{cons_option, filter, filter_map, list_any}
 use Rattle.std.specs.FinMap.{contains_key, get, values}
 use Rattle.dh_types.specs.declared.lease.Lease.{Lease}

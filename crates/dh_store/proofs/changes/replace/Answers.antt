@@ -26,4 +26,5 @@ pub returns-clause-puts : goal.returns-clause-puts
 returns-clause-puts g c =
     let call = c.update.ensures in
     replace_puts _ g.A.Record.Tabled.is_kind c.args.change.now (g.A.Amend.key c.args.amendment.now) (g.A.Amend.amended c.args.amendment.now) c.requires.is
-    (state g.S.Store c.args.tx.now.conn.now) (state g.S.Store c.update.new.tx.conn.now) c.update.result c.requires.writing c.requires.place c.requires.fits call.shown call.amended call.undone call.crash
+    (state g.S.Store c.args.tx.now.conn.now) (state g.S.Store c.update.new.tx.conn.now) c.update.result
+    c.requires.writing c.requires.place c.requires.fits call.shown call.amended call.undone call.crash
