@@ -9,7 +9,7 @@ use std::alloc::AllocError;
 pub enum Problem {
     /// Refusal 16 or 17: they are of another version, or a rule of the audit is broken. Of a migration also refusal 10: a run stands open.
     Refused(Refusal),
-    /// Fault 21 or 22, which nothing but its reason makes.
+    /// Fault 21 or 22: memory ran out or the store failed.
     Fault(StoreFault),
 }
 
