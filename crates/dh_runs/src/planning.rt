@@ -11,6 +11,7 @@ ghost use Rattle.dh_model.specs.Whole.{batches_shown};
 ghost use Rattle.dh_leases.specs.Plans.{HaveTheLeases, IsPlanOf, IsPlanned};
 ghost use Rattle.dh_schema.specs.Faults.{IsFirstFault};
 ghost use Rattle.dh_schema.specs.Store.{IsReady, Leaves, StaysReady, tables};
+ghost use Rattle.dh_store.specs.Months.{AreMonthsOf};
 ghost use Rattle.dh_store.specs.Reading.{OnlyReads};
 ghost use Rattle.dh_runs.specs.Batches.{CanBePosted, HasRoom};
 ghost use Rattle.dh_runs.specs.Planning.{with_branches, with_lettings};
@@ -18,10 +19,11 @@ ghost use Rattle.dh_runs.specs.Planning.{with_branches, with_lettings};
 use dh_books::Books;
 use dh_leases::{Plan, batches_for, plan_of};
 use dh_model::OpenRun;
+use dh_rows::Meta;
 use dh_schema::StoreFault;
 use dh_store::{find_open_run, look, look_at_all, look_at_later, months_now, no_rows, no_rows_of};
 use dh_tables::PartsOfMonth;
-use dh_types::{Branch, BranchFee, Ending, EntryMonth, Lease, Property};
+use dh_types::{Branch, BranchFee, Ending, EntryMonth, Lease, Property, Version};
 use sqlite::{Alter, Connection};
 use std::alloc::Global;
 
@@ -57,14 +59,18 @@ fn done_in<S: Alter>(
     Ok(batches_done(&books))
 }
 
-// How far the open run is.
-fn run_now<S: Alter>(alloc: Global, conn: &mut Connection<S>) -> Result<Option<OpenRun>, StoreFault>
-    requires { HasCleanDisk (state S.Store conn.old) → IsReady (state S.Store conn.old) }
+// How far the open run is. The months are those of the tables.
+fn run_now<S: Alter>(
+    alloc: Global,
+    conn: &mut Connection<S>,
+    months: Meta,
+) -> Result<Option<OpenRun>, StoreFault>
+    requires ready { HasCleanDisk (state S.Store conn.old) → IsReady (state S.Store conn.old) }
+    requires months { HasCleanDisk (state S.Store conn.old) → AreMonthsOf months (tables (state S.Store conn.old)).books }
     ensures told { HasCleanDisk (state S.Store conn.new) → IfOk result (λ run. run ≡ (tables (state S.Store conn.old)).open_run) }
     ensures room { IfOk result (λ run. IfSome run (λ it. HasRoom it.done)) }
     ensures reads { OnlyReads (state S.Store conn.old) (state S.Store conn.new) result }
 {
-    let months = months_now(alloc, conn)?;
     let Some(run) = find_open_run(alloc, conn, months)? else {
         return Ok(None);
     };
@@ -75,29 +81,33 @@ fn run_now<S: Alter>(alloc: Global, conn: &mut Connection<S>) -> Result<Option<O
     }))
 }
 
-// Puts the branches with their fees into books that have none.
+// Puts the branches with their fees into books that have none. The version is that of the tables.
 fn look_at_branches<S: Alter>(
     alloc: Global,
     conn: &mut Connection<S>,
+    version: Version,
     books: &mut Books,
 ) -> Result<(), StoreFault>
     requires ready { HasCleanDisk (state S.Store conn.old) → IsReady (state S.Store conn.old) }
+    requires version { HasCleanDisk (state S.Store conn.old) → version ≡ (tables (state S.Store conn.old)).books.version }
     requires branches { HasCleanDisk (state S.Store conn.old) → books.old.books.branches ≡ fin.empty }
     requires fees { HasCleanDisk (state S.Store conn.old) → books.old.books.branch_fees ≡ fin.empty }
     ensures taken { HasCleanDisk (state S.Store conn.new) → OnOk result (books.new ≡ with_branches (tables (state S.Store conn.old)).books books.old) }
     ensures reads { OnlyReads (state S.Store conn.old) (state S.Store conn.new) result }
 {
     look_at_all::<Branch, S>(alloc, conn, books)?;
-    look_at_later::<BranchFee, S>(alloc, conn, books)
+    look_at_later::<BranchFee, S>(alloc, conn, version, books)
 }
 
-// Puts the properties, the leases and the endings into books that have none.
+// Puts the properties, the leases and the endings into books that have none. The version is that of the tables.
 fn look_at_lettings<S: Alter>(
     alloc: Global,
     conn: &mut Connection<S>,
+    version: Version,
     books: &mut Books,
 ) -> Result<(), StoreFault>
     requires ready { HasCleanDisk (state S.Store conn.old) → IsReady (state S.Store conn.old) }
+    requires version { HasCleanDisk (state S.Store conn.old) → version ≡ (tables (state S.Store conn.old)).books.version }
     requires properties { HasCleanDisk (state S.Store conn.old) → books.old.books.properties ≡ fin.empty }
     requires leases { HasCleanDisk (state S.Store conn.old) → books.old.books.leases ≡ fin.empty }
     requires endings { HasCleanDisk (state S.Store conn.old) → books.old.books.endings ≡ fin.empty }
@@ -106,44 +116,50 @@ fn look_at_lettings<S: Alter>(
 {
     look_at_all::<Property, S>(alloc, conn, books)?;
     look_at_all::<Lease, S>(alloc, conn, books)?;
-    look_at_later::<Ending, S>(alloc, conn, books)
+    look_at_later::<Ending, S>(alloc, conn, version, books)
 }
 
-// Books of the version of the tables, with their branches and fees, their properties, leases and endings.
-fn books_of_leases<S: Alter>(alloc: Global, conn: &mut Connection<S>) -> Result<Books, StoreFault>
-    requires { HasCleanDisk (state S.Store conn.old) → IsReady (state S.Store conn.old) }
+// Books of the version, which is that of the tables, with their branches and fees, their properties, leases and endings.
+fn books_of_leases<S: Alter>(
+    alloc: Global,
+    conn: &mut Connection<S>,
+    version: Version,
+) -> Result<Books, StoreFault>
+    requires ready { HasCleanDisk (state S.Store conn.old) → IsReady (state S.Store conn.old) }
+    requires version { HasCleanDisk (state S.Store conn.old) → version ≡ (tables (state S.Store conn.old)).books.version }
     ensures taken { HasCleanDisk (state S.Store conn.new) → IfOk result (λ books. HaveTheLeases books.books (tables (state S.Store conn.old)).books) }
     ensures reads { OnlyReads (state S.Store conn.old) (state S.Store conn.new) result }
 {
-    let months = months_now(alloc, conn)?;
-    let mut books = no_rows_of(alloc, months.version());
-    look_at_branches(alloc, conn, &mut books)?;
-    look_at_lettings(alloc, conn, &mut books)?;
+    let mut books = no_rows_of(alloc, version);
+    look_at_branches(alloc, conn, version, &mut books)?;
+    look_at_lettings(alloc, conn, version, &mut books)?;
     Ok(books)
 }
 
-// The batches that the run lacks, which is the open one.
+// The batches that the run lacks, which is the open one. The version is that of the tables.
 fn plan_open<S: Alter>(
     alloc: Global,
     conn: &mut Connection<S>,
+    version: Version,
     run: OpenRun,
 ) -> Result<Plan, StoreFault>
     requires ready { HasCleanDisk (state S.Store conn.old) → IsReady (state S.Store conn.old) }
+    requires version { HasCleanDisk (state S.Store conn.old) → version ≡ (tables (state S.Store conn.old)).books.version }
     requires run { HasCleanDisk (state S.Store conn.old) → (tables (state S.Store conn.old)).open_run ≡ Some run }
     requires room { HasRoom run.done }
     ensures told { HasCleanDisk (state S.Store conn.new) → IfOk result (λ plan. IsPlanOf plan (tables (state S.Store conn.old))) }
     ensures postable { IfOk result CanBePosted }
     ensures reads { OnlyReads (state S.Store conn.old) (state S.Store conn.new) result }
 {
-    let books = books_of_leases(alloc, conn)?;
+    let books = books_of_leases(alloc, conn, version)?;
     match plan_of(alloc, &books, run) {
         Ok(plan) => Ok(plan),
         Err(error) => Err(error.into()),
     }
 }
 
-/// The batches that the open run lacks, or `None` where no run is open. It reads the branches with their fees, the properties, the leases, the
-/// endings and what the run has so far, once, and changes nothing, at a fault too.
+/// The batches that the open run lacks, or `None` where no run is open. It reads the version and the months, the branches with their fees, the
+/// properties, the leases, the endings and what the run has so far, each once, and changes nothing, at a fault too.
 pub fn plan_run<S: Alter>(
     alloc: Global,
     conn: &mut Connection<S>,
@@ -158,8 +174,9 @@ pub fn plan_run<S: Alter>(
     ensures crash { HasCleanDisk (state S.Store conn.new) → Leaves (state S.Store conn.new) (λ t. t ≡ tables (state S.Store conn.old)) }
     ensures was_clean { doubt (state S.Store conn.old).is_clean ≤ doubt (state S.Store conn.new).is_clean }
 {
-    match run_now(alloc, conn)? {
-        Some(run) => Ok(Some(plan_open(alloc, conn, run)?)),
+    let months = months_now(alloc, conn)?;
+    match run_now(alloc, conn, months)? {
+        Some(run) => Ok(Some(plan_open(alloc, conn, months.version(), run)?)),
         None => Ok(None),
     }
 }
