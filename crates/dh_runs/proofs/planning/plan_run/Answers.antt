@@ -10,13 +10,22 @@ run_now-requires-clause-months g c clean =
     months_stay c.in_ok-months.months (state g.S.Store c.args.conn.now) (state g.S.Store c.months_now.new.conn) (c.in_ok-months.ensures.found clean)
     (c.in_ok-months.ensures.reads.done clean)
 
-pub plan_open-requires-clause-version-in-Some : goal.plan_open-requires-clause-version-in-Some
-plan_open-requires-clause-version-in-Some g c =
+pub plan_open-requires-clause-version : goal.plan_open-requires-clause-version
+plan_open-requires-clause-version g c =
     let old = state g.S.Store c.args.conn.now in
     let one = state g.S.Store c.months_now.new.conn in
     version_stays (λ clean. c.version.ensures
     ∙ (months_stay c.in_ok-months.months old one (c.in_ok-months.ensures.found clean) (c.in_ok-months.ensures.reads.done clean)).2)
-    c.in_ok-run_now.ensures.reads
+    c.in_ok-run.ensures.reads
+
+pub returns-in_err-run-clause-crash : goal.returns-in_err-run-clause-crash
+returns-in_err-run-clause-crash g c clean =
+    let old = state g.S.Store c.args.conn.now in
+    let one = state g.S.Store c.months_now.new.conn in
+    let new = state g.S.Store c.run_now.new.conn in
+    let crash = survives_both old one new c.months_now.ensures.reads.crash c.run_now.ensures.reads.crash in
+    let early : HasCleanDisk old = omega (arith, crash.clean, clean) in
+    unchanged_leaves old new (g.met.S.Store.settled c.args.conn.now.store) (c.requires early) clean crash
 
 pub returns-in_err-plan_open-in-Some-clause-crash : goal.returns-in_err-plan_open-in-Some-clause-crash
 returns-in_err-plan_open-in-Some-clause-crash g c clean =
