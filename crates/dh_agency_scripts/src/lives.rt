@@ -12,7 +12,11 @@ use crate::comparing::compare;
 use crate::rows::all_rows;
 use crate::scripts::{compare_tables, parted, table_of};
 use dh_agency::{Agency, NotOpened, Problem, attach, migrate, recover, recover_1};
-use dh_catalog::texts::{FIRST, FIRST_TO_SECOND};
+use dh_catalog::texts::{
+    CHARGE_MONTH, DROP_LEASE_CLIENT, DROP_LEASE_PROPERTY, DROP_PROPERTY_STAFF, DROP_RECEIPT_LEASE,
+    DROP_VIEWING_PROPERTY, FIRST_TO_SECOND, LEASE_CLIENT, LEASE_PROPERTY, PROPERTY_STAFF,
+    RECEIPT_LEASE, VIEWING_PROPERTY,
+};
 use dh_fields::Request;
 use dh_histories::crashing::{next_life, recovery_and_crash, step_and_crash};
 use dh_scripts::{Block, Tally, request, script};
@@ -87,19 +91,26 @@ fn runs_each<S: Alter>(conn: &mut Connection<S>, statements: &[&str]) -> bool {
     true
 }
 
-// What takes the tables away that came with the second version.
-static LATER_GO: [&str; 3] = [
+// The texts that make the tables of the first version of those of the second. The indexes for look-ups are taken away, and then the later
+// tables; those of the first version are made anew behind its tables.
+static SECOND_TO_FIRST: [&str; 16] = [
+    DROP_VIEWING_PROPERTY,
+    DROP_RECEIPT_LEASE,
+    DROP_LEASE_CLIENT,
+    DROP_LEASE_PROPERTY,
+    "DROP INDEX property_branch",
+    "DROP INDEX property_owner",
+    DROP_PROPERTY_STAFF,
     "DROP TABLE ending",
     "DROP TABLE part_fee",
     "DROP TABLE branch_fee",
+    PROPERTY_STAFF,
+    LEASE_PROPERTY,
+    LEASE_CLIENT,
+    CHARGE_MONTH,
+    RECEIPT_LEASE,
+    VIEWING_PROPERTY,
 ];
-
-// The tables of the first version, of those of the second. Their indexes for look-ups are made anew.
-fn makes_earlier<S: Alter>(conn: &mut Connection<S>) -> bool {
-    runs_each(conn, &FIRST_TO_SECOND[..6])
-        && runs_each(conn, &LATER_GO)
-        && runs_each(conn, &FIRST[14..])
-}
 
 // What statements of another program come to.
 fn done_or_not<S: Alter>(alloc: Global, is_done: bool, conn: Connection<S>) -> Lived<S> {
@@ -120,7 +131,7 @@ pub fn told_anew<S: Alter>(alloc: Global, mut conn: Connection<S>, line: &str) -
             done_or_not(alloc, is_done, conn)
         }
         ("earlier tables", None) => {
-            let is_done = makes_earlier(&mut conn);
+            let is_done = runs_each(&mut conn, &SECOND_TO_FIRST);
             done_or_not(alloc, is_done, conn)
         }
         ("recover", None) => given_up(alloc, recover(alloc, conn), "recovered"),
