@@ -29,8 +29,7 @@ numbers m n = (equal_numbers m n, number_itself m n)
 equal_flags : (a b : Bool) → is_same_flag a b ≡ true → a ≡ b
 equal_flags true true h = refl
 equal_flags false false h = refl
-equal_flags true false h = cc
-equal_flags false true h = cc
+equal_flags a b h = cc
 
 flag_itself : (a : Bool) → is_same_flag a a ≡ true
 flag_itself true = refl
@@ -55,9 +54,8 @@ module _ {T : Type 0} (is_same : T → T → Bool) (apart : TellsApart is_same) 
 
 equal_property_types : (a b : PropertyType) → is_same_property_type a b ≡ true → a ≡ b
 equal_property_types property_type.House property_type.House h = refl
-equal_property_types property_type.House property_type.Flat h = cc
-equal_property_types property_type.Flat property_type.House h = cc
 equal_property_types property_type.Flat property_type.Flat h = refl
+equal_property_types a b h = cc
 
 property_type_itself : (a : PropertyType) → is_same_property_type a a ≡ true
 property_type_itself property_type.House = refl
@@ -68,14 +66,9 @@ property_types a b = (equal_property_types a b, λ e. rw (← e) (property_type_
 
 equal_positions : (a b : Position) → is_same_position a b ≡ true → a ≡ b
 equal_positions position.Manager position.Manager h = refl
-equal_positions position.Manager position.Supervisor h = cc
-equal_positions position.Manager position.Assistant h = cc
-equal_positions position.Supervisor position.Manager h = cc
 equal_positions position.Supervisor position.Supervisor h = refl
-equal_positions position.Supervisor position.Assistant h = cc
-equal_positions position.Assistant position.Manager h = cc
-equal_positions position.Assistant position.Supervisor h = cc
 equal_positions position.Assistant position.Assistant h = refl
+equal_positions a b h = cc
 
 position_itself : (a : Position) → is_same_position a a ≡ true
 position_itself position.Manager = refl
@@ -87,21 +80,10 @@ positions a b = (equal_positions a b, λ e. rw (← e) (position_itself a))
 
 equal_payment_methods : (a b : PaymentMethod) → is_same_payment_method a b ≡ true → a ≡ b
 equal_payment_methods payment_method.Cash payment_method.Cash h = refl
-equal_payment_methods payment_method.Cash payment_method.Cheque h = cc
-equal_payment_methods payment_method.Cash payment_method.Card h = cc
-equal_payment_methods payment_method.Cash payment_method.Transfer h = cc
-equal_payment_methods payment_method.Cheque payment_method.Cash h = cc
 equal_payment_methods payment_method.Cheque payment_method.Cheque h = refl
-equal_payment_methods payment_method.Cheque payment_method.Card h = cc
-equal_payment_methods payment_method.Cheque payment_method.Transfer h = cc
-equal_payment_methods payment_method.Card payment_method.Cash h = cc
-equal_payment_methods payment_method.Card payment_method.Cheque h = cc
 equal_payment_methods payment_method.Card payment_method.Card h = refl
-equal_payment_methods payment_method.Card payment_method.Transfer h = cc
-equal_payment_methods payment_method.Transfer payment_method.Cash h = cc
-equal_payment_methods payment_method.Transfer payment_method.Cheque h = cc
-equal_payment_methods payment_method.Transfer payment_method.Card h = cc
 equal_payment_methods payment_method.Transfer payment_method.Transfer h = refl
+equal_payment_methods a b h = cc
 
 payment_method_itself : (a : PaymentMethod) → is_same_payment_method a a ≡ true
 payment_method_itself payment_method.Cash = refl
@@ -114,9 +96,8 @@ payment_methods a b = (equal_payment_methods a b, λ e. rw (← e) (payment_meth
 
 equal_receipt_kinds : (a b : ReceiptKind) → is_same_receipt_kind a b ≡ true → a ≡ b
 equal_receipt_kinds receipt_kind.Rent receipt_kind.Rent h = refl
-equal_receipt_kinds receipt_kind.Rent receipt_kind.Deposit h = cc
-equal_receipt_kinds receipt_kind.Deposit receipt_kind.Rent h = cc
 equal_receipt_kinds receipt_kind.Deposit receipt_kind.Deposit h = refl
+equal_receipt_kinds a b h = cc
 
 receipt_kind_itself : (a : ReceiptKind) → is_same_receipt_kind a a ≡ true
 receipt_kind_itself receipt_kind.Rent = refl

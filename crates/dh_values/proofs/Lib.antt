@@ -1,5 +1,4 @@
 pub mod Ascii
-pub mod Powers
 pub mod KindTexts
 pub mod NumberTexts
 pub mod MoneyTexts

@@ -1,14 +1,16 @@
 -- Reading what a number prints as.
 use Rattle.std.proofs.Common.{◌≡◌, ◌∙◌, sym, ap, refl, ℕ, zero, suc, ◌^◌, ◌<◌, ◌≤◌, Bool, true, false, not}
-use Rattle.std.proofs.Common.{◌&&◌, ◌||◌, nat_le, nat_eq, if◌then◌else◌, Option, Some, None}
+use Rattle.std.proofs.Common.{◌&&◌, ◌||◌, nat_le, nat_eq, if◌then◌else◌, Option, Some, None, Result, Ok, Err, subst}
 use Rattle.std.proofs.Common.{List, length, slice_index, arith, rules}
 use Rattle.std.specs.List.{list_all}
 use Rattle.std.specs.Char.{is_ascii_digit}
 use Rattle.std.specs.Fmt.{decimal}
+use Rattle.std.specs.Str.Parse.{ParsesUnsigned}
 use Rattle.std.proofs.lemmas.Bool.Decides.{nat_tests}
 use Rattle.std.proofs.lemmas.Fmt.{decimal_digit, decimal_is_IsNumeral_wide, decimal_nonempty, first_decimal, decimal-digits_value}
-use Rattle.std.proofs.lemmas.Str.Parse.{IsNumeralModel, numerals_by_fold}
+use Rattle.std.proofs.lemmas.Str.Parse.{IsNumeralModel, numerals_by_fold, parse_digits}
 use Rattle.dh_values.proofs.Ascii.{and_left, and_right}
+use Rattle.dh_values.specs.Laws.{HaveOneText}
 use Rattle.dh_values.specs.Numbers.{number_after, number, is_numeral, numeral_of, within}
 
 pub own : IsNumeralModel (λ ds. list_all is_ascii_digit ds ≡ true) (number_after 0)
@@ -47,7 +49,7 @@ pub within_kept : (low high n : ℕ) → low ≤ n → n ≤ high → within low
 within_kept low high n p q = grind (arith, nat_tests)
 
 -- a number that is printed and read is itself
-pub read_back : (low high n : ℕ) → high < 10 ^ 8 → low ≤ n → n ≤ high → within low high (numeral_of (decimal n)) ≡ Some n
+read_back : (low high n : ℕ) → high < 10 ^ 8 → low ≤ n → n ≤ high → within low high (numeral_of (decimal n)) ≡ Some n
 read_back low high n top p q = ap (within low high) (numeral_of_decimal n (omega arith)) ∙ within_kept low high n p q
 
 -- what a test lets through
@@ -83,7 +85,41 @@ numeral_printed n text small h =
     rw (← c.1) (decimal-digits_value own text digits long (alone (length text) (slice_index text 0) leading) (omega (arith, c.1)))
 
 -- a text that is read is what its number prints as
-pub printed_back : (low high n : ℕ) (text : List ℕ) → high < 10 ^ 8 → within low high (numeral_of text) ≡ Some n → decimal n ≡ text
+printed_back : (low high n : ℕ) (text : List ℕ) → high < 10 ^ 8 → within low high (numeral_of text) ≡ Some n → decimal n ≡ text
 printed_back low high n text top h =
     let w = within_is low high (numeral_of text) n h in
     numeral_printed n text (omega (arith, w.2)) w.0
+
+-- numbers of 8 digits at most have one text
+pub numbers : (IsValue : ℕ → Type 0) (low high : ℕ) → high < 10 ^ 8 → ((n : ℕ) → IsValue n → (low ≤ n) × (n ≤ high))
+    → HaveOneText IsValue decimal (λ text. within low high (numeral_of text))
+numbers IsValue low high top range = record {
+  read_back = λ n h. read_back low high n top (range n h).0 (range n h).1;
+  printed_back = λ n text h. printed_back low high n text top h;
+  apart = λ m n p q e. decimals_apart m n (omega (arith, (range m p).1)) (omega (arith, (range n q).1)) e;
+}
+
+outside : (low high n : ℕ) → high < n → (nat_le low n && nat_le n high) ≡ false
+outside low high n h = grind (arith, nat_tests)
+
+no_less : (l n m : ℕ) → 0 < l → ¬ ((0 < l) × (n < m)) → m ≤ n
+no_less l n m some h = let large : ¬ (n < m) = λ p. h (some, p) in omega (arith, large)
+
+module _ {E : Type 0} (text : List ℕ) (numeral : is_numeral text ≡ true) (r : Result ℕ E) (parses : ParsesUnsigned 32 10 text r) where
+  digits : list_all is_ascii_digit text ≡ true
+  digits = and_right (nat_le 1 (length text) && (nat_eq (length text) 1 || not (nat_eq (slice_index text 0) 48))) _ numeral
+
+  -- a numeral that has more than 32 bits lies above each bound of 32 bits
+  pub unparsed : (low high : ℕ) (e : E) → r ≡ Err e → high < 2 ^ 32 → within low high (numeral_of text) ≡ None
+  unparsed low high e is top =
+      let begun = nat_eq (length text) 1 || not (nat_eq (slice_index text 0) 48) in
+      let front : (nat_le 1 (length text) && begun) ≡ true = and_left _ (list_all is_ascii_digit text) numeral in
+      let some = nonempty (length text) (and_left _ begun front) in
+      let long = parse_digits own {E = E} 32 text (Err e) (subst (λ q. ParsesUnsigned 32 10 text q) is parses) digits in
+      let large : 2 ^ 32 ≤ number text = no_less (length text) (number text) (2 ^ 32) some long in
+      rw (numeral, outside low high (number text) (omega (arith, large, top))) refl
+
+  pub parsed : (n : ℕ) → r ≡ Ok n → numeral_of text ≡ Some n
+  parsed n is =
+      let whole = parse_digits own {E = E} 32 text (Ok n) (subst (λ q. ParsesUnsigned 32 10 text q) is parses) digits in
+      rw (numeral, whole.1) refl

@@ -16,6 +16,12 @@ PrintApart {A} IsValue text_of = (x y : A) → IsValue x → IsValue y → text_
 abbrev pub ArePrintedBack : {A : Type 0} → (A → List ℕ) → (List ℕ → Option A) → Type 0
 ArePrintedBack {A} text_of read = (x : A) (text : List ℕ) → read text ≡ Some x → text_of x ≡ text
 
+-- each value has one text, and a text that is read is of one value
+pub record HaveOneText {A : Type 0} (IsValue : A → Type 0) (text_of : A → List ℕ) (read : List ℕ → Option A) : Type 0 where
+  pub read_back : AreReadBack IsValue text_of read
+  pub printed_back : ArePrintedBack text_of read
+  pub apart : PrintApart IsValue text_of
+
 -- each of a kind is a value
 abbrev pub IsAny : {A : Type 0} → A → Type 0
 IsAny _ = Unit {0}

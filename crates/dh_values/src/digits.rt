@@ -37,18 +37,14 @@ fn is_numeral(bytes: &[u8]) -> bool
 /// The number from `low` to `high` that the text spells without a leading zero, but in 0 itself. It takes no
 /// memory. `BadText` where the text spells no such number.
 pub(crate) fn read_within(low: u32, high: u32, text: &str) -> Result<u32, BadText>
-    requires { high < 10 ^ 8 }
     ensures { MatchResult result (λ n. within low high (numeral_of text.now) ≡ Some n) (λ _. within low high (numeral_of text.now) ≡ None) }
 {
-    let bytes = text.as_bytes();
-    if !is_numeral(bytes) {
+    if !is_numeral(text.as_bytes()) {
         return Err(BadText);
     }
-    // A longer one is too large, since its first digit is no zero.
-    if bytes.len() > 8 {
+    let Ok(n) = text.parse::<u32>() else {
         return Err(BadText);
-    }
-    let n = number(bytes);
+    };
     if n < low || n > high {
         return Err(BadText);
     }

@@ -5,42 +5,32 @@ ghost use Rattle.dh_values.specs.Counts.{IsBatchCount, IsFee, IsLeaseMonths, IsL
 ghost use Rattle.dh_values.specs.Counts.{batch_count_of, fee_of, lease_months_of, lease_no_of, rooms_of};
 ghost use Rattle.dh_values.specs.Kinds.{payment_method_of, payment_method_text, position_of, position_text, property_type_of, property_type_text};
 ghost use Rattle.dh_values.specs.Kinds.{receipt_kind_of, receipt_kind_text};
-ghost use Rattle.dh_values.specs.Laws.{ArePrintedBack, AreReadBack, IsAny, MoneyIsReadAgain, BalancesPrintApart, PenceAreReadBack, PrintApart};
+ghost use Rattle.dh_values.specs.Laws.{AreReadBack, HaveOneText, IsAny, MoneyIsReadAgain, BalancesPrintApart, PenceAreReadBack, PrintApart};
 ghost use Rattle.dh_values.specs.Money.{IsAmount, IsPence, IsRent, amount_of, pence_text, rent_of};
 
 /// The numbers of leases are read as they are printed, and printed as they are read.
 pub fn lease_nos()
-    ensures read_back { AreReadBack IsLeaseNo decimal lease_no_of }
-    ensures printed_back { ArePrintedBack decimal lease_no_of }
-    ensures apart { PrintApart IsLeaseNo decimal }
+    ensures { HaveOneText IsLeaseNo decimal lease_no_of }
 {}
 
 /// Numbers of rooms are read as they are printed, and printed as they are read.
 pub fn rooms()
-    ensures read_back { AreReadBack IsRooms decimal rooms_of }
-    ensures printed_back { ArePrintedBack decimal rooms_of }
-    ensures apart { PrintApart IsRooms decimal }
+    ensures { HaveOneText IsRooms decimal rooms_of }
 {}
 
 /// Numbers of months are read as they are printed, and printed as they are read.
 pub fn lease_months()
-    ensures read_back { AreReadBack IsLeaseMonths decimal lease_months_of }
-    ensures printed_back { ArePrintedBack decimal lease_months_of }
-    ensures apart { PrintApart IsLeaseMonths decimal }
+    ensures { HaveOneText IsLeaseMonths decimal lease_months_of }
 {}
 
 /// Numbers of batches are read as they are printed, and printed as they are read.
 pub fn batch_counts()
-    ensures read_back { AreReadBack IsBatchCount decimal batch_count_of }
-    ensures printed_back { ArePrintedBack decimal batch_count_of }
-    ensures apart { PrintApart IsBatchCount decimal }
+    ensures { HaveOneText IsBatchCount decimal batch_count_of }
 {}
 
 /// Fees are read as they are printed, and printed as they are read.
 pub fn fees()
-    ensures read_back { AreReadBack IsFee decimal fee_of }
-    ensures printed_back { ArePrintedBack decimal fee_of }
-    ensures apart { PrintApart IsFee decimal }
+    ensures { HaveOneText IsFee decimal fee_of }
 {}
 
 /// Numbers of receipts that print as one are one.
@@ -75,28 +65,20 @@ pub fn amounts()
 
 /// The types of properties are read as they are printed, and printed as they are read.
 pub fn property_types()
-    ensures read_back { AreReadBack IsAny property_type_text property_type_of }
-    ensures printed_back { ArePrintedBack property_type_text property_type_of }
-    ensures apart { PrintApart IsAny property_type_text }
+    ensures { HaveOneText IsAny property_type_text property_type_of }
 {}
 
 /// The positions of staff are read as they are printed, and printed as they are read.
 pub fn positions()
-    ensures read_back { AreReadBack IsAny position_text position_of }
-    ensures printed_back { ArePrintedBack position_text position_of }
-    ensures apart { PrintApart IsAny position_text }
+    ensures { HaveOneText IsAny position_text position_of }
 {}
 
 /// The methods of payment are read as they are printed, and printed as they are read.
 pub fn payment_methods()
-    ensures read_back { AreReadBack IsAny payment_method_text payment_method_of }
-    ensures printed_back { ArePrintedBack payment_method_text payment_method_of }
-    ensures apart { PrintApart IsAny payment_method_text }
+    ensures { HaveOneText IsAny payment_method_text payment_method_of }
 {}
 
 /// The kinds of receipts are read as they are printed, and printed as they are read.
 pub fn receipt_kinds()
-    ensures read_back { AreReadBack IsAny receipt_kind_text receipt_kind_of }
-    ensures printed_back { ArePrintedBack receipt_kind_text receipt_kind_of }
-    ensures apart { PrintApart IsAny receipt_kind_text }
+    ensures { HaveOneText IsAny receipt_kind_text receipt_kind_of }
 {}

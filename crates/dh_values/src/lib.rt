@@ -2,7 +2,6 @@
 //! Read `Bounded` first, the form of the numbers, and `limits`; then `Pence` for money, and `Id` for codes.
 #![tactic(auto)]
 
-mod amount;
 mod balance;
 mod bounded;
 pub mod digits;
@@ -17,23 +16,21 @@ mod pence;
 mod position;
 mod property_type;
 mod receipt_kind;
-mod rent;
 mod short;
 mod text;
 
-pub use amount::Amount;
 pub use balance::Balance;
-pub use bounded::{Bounded, Bounds, Spelled};
+pub use bounded::Bounded;
 pub use id::Id;
 pub use key::Key;
+pub use money::{Amount, Money, Rent};
 pub use numbers::{BatchCount, ChargeIndex, Fee, LeaseMonths, LeaseNo, ReceiptNo, Rooms};
 pub use payment_method::PaymentMethod;
 pub use pence::Pence;
 pub use position::Position;
 pub use property_type::PropertyType;
 pub use receipt_kind::ReceiptKind;
-pub use rent::Rent;
-pub use text::{Comment, Text60};
+pub use text::{Comment, Text, Text60};
 
 /// A text that is not in the grammar of a value.
 #[derive(Clone, Copy, Debug, PartialEq, Eq)]

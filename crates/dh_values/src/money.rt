@@ -1,11 +1,38 @@
-//! Reading money.
+//! Money that a line spells: rents and what receipts take.
 
-ghost use Rattle.std.specs.Prelude.{◌≡◌, None, Some, MatchResult};
-ghost use Rattle.dh_values.specs.Money.{has_pence, is_pounds, pence_of};
+ghost use Rattle.std.specs.Prelude.{◌≡◌, ◌≤◌, ◌↔◌, IsSome, IfSome, MatchResult, None, Some, pos, ◌≤ℤ◌};
+ghost use Rattle.dh_values.specs.Money.{has_pence, is_pounds, pence_of, pence_text};
 ghost use Rattle.dh_values.specs.Numbers.{within};
 
-use crate::BadText;
 use crate::digits::{are_digits, number};
+use crate::limits::{MOST_AMOUNT, MOST_RENT};
+use crate::{BadText, Pence};
+use std::fmt;
+use std::marker::Model;
+
+/// Money in pence, 1 to `MOST`.
+#[derive(Clone, Copy, Debug, PartialEq, Eq, PartialOrd, Ord)]
+pub struct Money<const MOST: u32> {
+    pence: u32,
+}
+
+/// A monthly rent in pence, 1 to 999,999.
+pub type Rent = Money<MOST_RENT>;
+
+/// What a receipt takes, in pence, 1 to 99,999,999.
+pub type Amount = Money<MOST_AMOUNT>;
+
+impl<const MOST: u32> Model for Money<MOST> {
+    ghost use Rattle.std.specs.Prelude.{ℕ, ◌≤◌};
+
+    ghost Value = { ℕ };
+
+    ghost view = { λ s. s.pence };
+
+    ghost invariant = { λ s. (1 ≤ s.pence) × (s.pence ≤ MOST) };
+
+    ghost inverse = { λ p. record { pence = p } };
+}
 
 fn is_pounds(bytes: &[u8]) -> bool
     ensures { result ≡ is_pounds bytes.now }
@@ -42,14 +69,55 @@ pub(crate) fn read_pence(text: &str) -> Result<u64, BadText>
     Ok(100 * pounds + rest)
 }
 
-/// The pence from `low` to `high` that the text spells. It takes no memory. `BadText` where the
-/// text spells no such amount.
-pub(crate) fn read_pence_within(low: u32, high: u32, text: &str) -> Result<u32, BadText>
-    ensures { MatchResult result (λ p. within low high (pence_of text.now) ≡ Some p) (λ _. within low high (pence_of text.now) ≡ None) }
-{
-    let pence = read_pence(text)?;
-    if pence < low as u64 || pence > high as u64 {
-        return Err(BadText);
+impl<const MOST: u32> Money<MOST> {
+    /// What the text spells as money, 1 to `MOST` pence. It takes no memory.
+    /// `BadText` where the text is no money, as `Pence` reads it, or not in the range.
+    pub fn read(text: &str) -> Result<Self, BadText>
+        ensures { MatchResult result (λ p. within 1 MOST (pence_of text.now) ≡ Some p) (λ _. within 1 MOST (pence_of text.now) ≡ None) }
+    {
+        let pence = read_pence(text)?;
+        if pence < 1 || pence > MOST as u64 {
+            return Err(BadText);
+        }
+        Ok(Money {
+            pence: pence as u32,
+        })
     }
-    Ok(pence as u32)
+
+    /// So many pence, 1 to `MOST`. `None` for any other number.
+    pub fn try_of_pence(pence: i64) -> Option<Self>
+        ensures value { IfSome result (λ p. pos p ≡ pence) }
+        ensures exact { IsSome result ↔ ((pos 1 ≤ℤ pence) × (pence ≤ℤ pos MOST)) }
+    {
+        if pence < 1 || pence > MOST as i64 {
+            return None;
+        }
+        Some(Money {
+            pence: pence as u32,
+        })
+    }
+
+    /// So many pence.
+    pub fn of_pence(pence: u32) -> Self
+        requires { (1 ≤ pence) × (pence ≤ MOST) }
+        ensures { result ≡ pence }
+    {
+        Money { pence }
+    }
+
+    /// How many pence.
+    pub fn pence(self) -> u32
+        ensures value { result ≡ self.entry }
+        ensures range { (1 ≤ self.entry) × (self.entry ≤ MOST) }
+    {
+        self.pence
+    }
+}
+
+impl<const MOST: u32> fmt::Display for Money<MOST> {
+    ghost output = { λ p. Some (pence_text p) };
+
+    fn fmt<W: fmt::Write>(&self, f: &mut fmt::Formatter<W>) -> fmt::Result {
+        fmt::Display::fmt(&Pence::of_pence(self.pence as u64), f)
+    }
 }

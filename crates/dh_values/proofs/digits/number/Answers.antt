@@ -1,6 +1,9 @@
-use Rattle.std.proofs.Common.{◌^◌, ◌<◌, arith, rules}
-use Rattle.dh_values.proofs.Powers.{power_small}
+use Rattle.std.proofs.Common.{ℕ, zero, ◌^◌, ◌<◌, ◌≤◌, arith, rules}
+use Rattle.std.proofs.Math.Nat.{pow-le-pow_right}
 use Rattle.dh_values.proofs.digits.number.Goals as goal
+
+power_small : (k i : ℕ) → i ≤ k → 10 ^ i ≤ 10 ^ k
+power_small k i h = let ten : zero < 10 = omega arith in pow-le-pow_right ten h
 
 pub overflow_mul-n : goal.overflow_mul-n
 overflow_mul-n c =

@@ -1,12 +1,6 @@
 use Rattle.std.proofs.Common.{arith}
-use Rattle.dh_values.proofs.NumberTexts.{read_back, printed_back, decimals_apart}
+use Rattle.dh_values.proofs.NumberTexts.{numbers}
 use Rattle.dh_values.proofs.laws.fees.Goals as goal
 
-pub returns-clause-read_back : goal.returns-clause-read_back
-returns-clause-read_back c n h = read_back 0 10000 n (omega arith) (omega arith) h
-
-pub returns-clause-printed_back : goal.returns-clause-printed_back
-returns-clause-printed_back c n text h = printed_back 0 10000 n text (omega arith) h
-
-pub returns-clause-apart : goal.returns-clause-apart
-returns-clause-apart c m n p q e = decimals_apart m n (omega (arith, p)) (omega (arith, q)) e
+pub returns : goal.returns
+returns c = numbers _ 0 10000 (omega arith) (λ n h. (omega arith, h))
