@@ -8,13 +8,6 @@ use Rattle.std.specs.FinMap.{IsAntisymmetric}
 use Rattle.std.proofs.lemmas.Bool.{false≢true}
 
 module _ {X : Type 0} where
-  -- what was found, then this value, and then the rest
-  pub in_front : (found : Option X) (here : Bool) (v : X) (rest : Option X)
-      → option_or (option_or found (cond here (Some v) None)) rest ≡ option_or found (cond here (Some v) rest)
-  in_front None true v rest = refl
-  in_front None false v rest = refl
-  in_front (Some w) here v rest = refl
-
   pub nothing_after : (found : Option X) → option_or found None ≡ found
   nothing_after None = refl
   nothing_after (Some w) = refl

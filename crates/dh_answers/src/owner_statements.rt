@@ -72,40 +72,29 @@ fn owner_lines(
         .collect(alloc)
 }
 
-// What was charged in all.
-fn total_of(lines: &[OwnerLine]) -> u128
-    ensures value { result ≡ sum_by (λ line. line.amount) lines.now }
-    ensures range { result < 2 ^ 127 }
+// What was charged in all, and what the branches take of it.
+fn sums_of(lines: &[OwnerLine]) -> (u128, u128)
+    ensures total { result.0 ≡ sum_by (λ line. line.amount) lines.now }
+    ensures fees { result.1 ≡ sum_by (λ line. line.fee) lines.now }
+    ensures range { (result.0 < 2 ^ 127) × (result.1 < 2 ^ 127) }
 {
-    // No more than this many, so that their sum fits.
+    // No more than this many, so that the sums fit.
     let _count = lines.len();
     let mut total = 0u128;
-    for line in lines {
-        total += u128::from(line.amount.pence());
-    }
-    total
-}
-
-// What the branches take in all.
-fn fees_of(lines: &[OwnerLine]) -> u128
-    ensures value { result ≡ sum_by (λ line. line.fee) lines.now }
-    ensures range { result < 2 ^ 127 }
-{
-    // No more than this many, so that their sum fits.
-    let _count = lines.len();
     let mut fees = 0u128;
     for line in lines {
+        total += u128::from(line.amount.pence());
         fees += u128::from(line.fee.pence());
     }
-    fees
+    (total, fees)
 }
 
 // The lines with both sums, and what is left.
 fn owner_charges(lines: Vec<OwnerLine>) -> Answer
     ensures { report_of result ≡ owner_charges lines.items }
 {
-    let total = total_of(&lines) as i128;
-    let fees = fees_of(&lines) as i128;
+    let (total, fees) = sums_of(&lines);
+    let (total, fees) = (total as i128, fees as i128);
     Answer::Owner(OwnerStatement {
         lines,
         total: Balance::of_pence(total),

@@ -6,7 +6,6 @@ use Rattle.std.specs.List.{filter}
 use Rattle.std.specs.Option.{option_eq}
 use Rattle.std.specs.Cmp.{IsTotalOrder}
 use Rattle.std.specs.FinMap.{IsAntisymmetric}
-use Rattle.std.specs.Ordering.{nat_cmp}
 use Rattle.std.proofs.lemmas.Bool.{and_from, and_parts, false_from_ne_true, false≢true}
 use Rattle.std.proofs.Math.Seq.{take-length}
 use Rattle.std.proofs.lemmas.List.{length-take-le, map-append, take_more}
@@ -14,10 +13,8 @@ use Rattle.std.proofs.lemmas.List.Elements.{filter-append}
 use Rattle.std.proofs.lemmas.List.Sums.{fold-append, sum_by_push}
 use Rattle.dh_types.specs.declared.lease.Charge.{Charge}
 use Rattle.dh_types.proofs.SameValues.{numbers, texts}
-use Rattle.dh_model.specs.Books.{pair_cmp, text_cmp}
 use Rattle.dh_model.specs.Runs.{at_least, greatest_lease, total_of}
 use Rattle.dh_model.proofs.MapRows.{inside, key_itself, same_key}
-use Rattle.dh_model.proofs.KeyOrders.{nat_ties, nat_total, pair_ties, pair_total, text_ties, text_total}
 use Rattle.dh_audit.specs.declared.closed_dues.Due.{Due}
 use Rattle.dh_audit.specs.declared.closed_sums.Sum.{Sum}
 use Rattle.dh_audit.specs.ClosedMonths.{is_at_branch, is_in, sum_of, with_charge}
@@ -128,13 +125,6 @@ nowhere false = refl
 -- a due of no branch stands under none
 pub no_branch : (due : Due) → due.branch ≡ None → (key : ℕ × List ℕ) → is_under key due ≡ false
 no_branch due is key = ap (λ o. nat_eq due.charge.month key.0 && is_at_branch key.1 o) is ∙ nowhere (nat_eq due.charge.month key.0)
-
--- the orders of the two keys
-pub keys_total : IsTotalOrder (pair_cmp nat_cmp text_cmp)
-keys_total = pair_total nat_total text_total
-
-pub keys_ties : IsAntisymmetric (pair_cmp nat_cmp text_cmp)
-keys_ties = pair_ties nat_ties text_ties
 
 option_told : (a b : Option ℕ) → (option_eq nat_eq a b ≡ true) ↔ (a ≡ b)
 option_told None None = (λ _. refl, λ _. refl)

@@ -1,7 +1,7 @@
 -- What fee rows take of charges, one charge after the other, and what a part's row sums up.
 use Rattle.std.proofs.Common.{◌≡◌, ◌↔◌, ◌∙◌, refl, sym, ap, subst, ℕ, ◌+◌, ◌*◌, ◌^◌, ◌<◌, ◌≤◌, Bool, true, false, cond}
 use Rattle.std.proofs.Common.{◌&&◌, nat_eq, List, [], ◌∷◌, ◌++◌, length}
-use Rattle.std.proofs.Common.{append_assoc, append-nil, Option, Some, None, arith, unwrap_or}
+use Rattle.std.proofs.Common.{append_assoc, Option, Some, None, arith, unwrap_or}
 use Rattle.std.specs.Prelude.{IsSomeAnd}
 use Rattle.std.specs.List.{filter, sum_by}
 use Rattle.std.specs.FinMap as fin
@@ -21,7 +21,8 @@ use Rattle.dh_model.proofs.MapRows.{key_itself, same_key}
 use Rattle.dh_audit.specs.declared.fees.Taken.{Taken}
 use Rattle.dh_audit.specs.Fees.{HasItsRow, HasMore, IsItsRow, branch_at, branch_in, branch_of, fee_by, fees_at, is_charged_under, key_cmp}
 use Rattle.dh_audit.specs.Fees.{pence_at, pence_in, row_fee, so_far, taken_at, taken_of, with_charge}
-use Rattle.dh_audit.proofs.ClosedSums.{Key, keys_ties, keys_total}
+use Rattle.dh_audit.proofs.ClosedSums.{Key}
+use Rattle.dh_model.proofs.KeyOrders.{nat_text_ties, nat_text_total}
 
 -- ---- what is taken of a charge
 
@@ -61,7 +62,7 @@ module _ (books : Books) (charge : Charge) where
 
       same_test : (key : Key) (b : Bool) → is_own key ≡ b → matches key ≡ b
       same_test key true e =
-          let same : own ≡ key = same_key keys_total keys_ties own key e in
+          let same : own ≡ key = same_key nat_text_total nat_text_ties own key e in
           and_from (nat_eq charge.month key.0) (is_property_of key.1 (Some property))
           ((numbers charge.month key.0).1 (ap (λ (k : Key). k.0) same)) ((texts property.branch key.1).1 (ap (λ (k : Key). k.1) same))
       same_test key false e = false_from_ne_true (matches key) (λ h.
@@ -69,7 +70,7 @@ module _ (books : Books) (charge : Charge) where
           let month : charge.month ≡ key.0 = (numbers charge.month key.0).0 parts.0 in
           let branch : property.branch ≡ key.1 = (texts property.branch key.1).0 parts.1 in
           let same : own ≡ key = λ i. (month i, branch i) in
-          let here : is_own key ≡ true = ap is_own (sym same) ∙ key_itself keys_total keys_ties own in
+          let here : is_own key ≡ true = ap is_own (sym same) ∙ key_itself nat_text_total nat_text_ties own in
           false≢true (sym e ∙ here))
 
       at_property : (key : Key) → taken_at books key charge ≡ cond (is_own key) (fee_by (fin.get books.part_fees key) charge) 0
@@ -159,7 +160,7 @@ module _ (books : Books) (count : ℕ) (charge : Charge) (rest left : List Charg
 
       small_by : (key : Key) (b : Bool) → is_at (key_cmp own) key ≡ b → cond b (fee_at_key key) 0 ≤ 999999
       small_by key true e =
-          let same : own ≡ key = same_key keys_total keys_ties own key e in
+          let same : own ≡ key = same_key nat_text_total nat_text_ties own key e in
           subst (λ k. fee_at_key k ≤ 999999) same small
       small_by key false e = omega arith
 
@@ -167,7 +168,7 @@ module _ (books : Books) (count : ℕ) (charge : Charge) (rest left : List Charg
         next_by : (key : Key) (b : Bool) → is_at (key_cmp own) key ≡ b → cond b (with_charge (so_far books old own) charge) (so_far books old key)
             ≡ taking books key (fees_at books was.done key + cond b (fee_at_key key) 0)
         next_by key true e =
-            let same : own ≡ key = same_key keys_total keys_ties own key e in
+            let same : own ≡ key = same_key nat_text_total nat_text_ties own key e in
             ap (λ taken. with_charge taken charge) (was.taken own) ∙ ap (λ k. taking books k (fees_at books was.done k + fee_at_key k)) same
         next_by key false e =
             was.taken key ∙ ap (taking books key) (let same : fees_at books was.done key ≡ fees_at books was.done key + 0 = omega arith in same)
@@ -183,10 +184,6 @@ module _ (books : Books) (count : ℕ) (charge : Charge) (rest left : List Charg
         }
 
 module _ (books : Books) (count : ℕ) (fees : BTreeMap Key Taken) where
-  -- once none is left, it is what is taken of all
-  pub all_taken : IsDone books count fees [] → (key : Key) → so_far books fees key ≡ taken_of books (fin.values books.charges) key
-  all_taken was key = was.taken key ∙ ap (λ charges. taken_of books charges key) (sym (append-nil was.done) ∙ was.whole)
-
   -- each fee row has room for one charge more
   pub room : count < 2 ^ 64 → (rest : List Charge) → IsDone books count fees rest → (key : Key) → (so_far books fees key).pence + 999999 < 2 ^ 128
   room fits rest was key =

@@ -1,5 +1,5 @@
 -- Stays in the order of their properties and starts: where none overlaps the next, no two overlap.
-use Rattle.std.proofs.Common.{◌≡◌, ◌↔◌, ◌∙◌, refl, sym, subst, inl, inr, ℕ, suc, ◌+◌, ◌<◌, ◌≤◌, Bool, true, false, ◌||◌, not, nat_le, List, [], ◌∷◌, map}
+use Rattle.std.proofs.Common.{◌≡◌, ◌↔◌, ◌∙◌, refl, sym, subst, inl, inr, ℕ, suc, ◌+◌, ◌<◌, ◌≤◌, Bool, true, false, ◌||◌, not, nat_le, List, [], ◌∷◌, map, leb-true, leb-false}
 use Rattle.std.proofs.Common.{length, slice_index_or, arith}
 use Rattle.std.specs.declared.cmp.Ordering.{Ordering}
 use Rattle.std.specs.declared.cmp.Ordering.TheVariants.{Less, Equal, Greater}
@@ -19,10 +19,10 @@ use Rattle.dh_model.specs.Leases.{overlap, running}
 use Rattle.dh_model.proofs.Among.{Among, is_among, of_map}
 use Rattle.dh_model.proofs.KeyOrders.{nat_total, pair_total, text_ties, text_total}
 use Rattle.dh_model.proofs.LeaseLemmas.{overlap_is_by_ends}
-use Rattle.dh_model.proofs.Rising.{Rises}
+use Rattle.dh_model.proofs.Rising.{Rises, rises_among}
 use Rattle.dh_audit.specs.declared.stays.Stay.{Stay}
 use Rattle.dh_audit.specs.Stays.{IsSound, makes_way, stay_key, stay_on}
-use Rattle.dh_audit.proofs.Pairs.{false_from_not, pairs_from_rises, rises_from_pairs, rises_like, rises_mapped, rises_unmapped}
+use Rattle.dh_audit.proofs.Pairs.{false_from_not, pairs_from_rises, rises_from_pairs, rises_mapped, rises_unmapped}
 use Rattle.dh_audit.proofs.Permuted.{pairs_permuted}
 use Rattle.dh_audit.proofs.Rows.{element}
 
@@ -37,12 +37,6 @@ clear_back stay other clear same p q = clear (sym same) q p
 abbrev MakesWay : Stay → Stay → Type 0
 MakesWay stay next = stay.property ≡ next.property → stay.end ≤ next.start
 
-at_most : (m n : ℕ) → nat_le m n ≡ true → m ≤ n
-at_most m n h = grind (arith, nat_tests)
-
-more_than : (m n : ℕ) → nat_le m n ≡ false → n < m
-more_than m n h = grind (arith, nat_tests)
-
 not_same : (b : Bool) → not b ≡ true → b ≡ true → ⊥
 not_same true h e = false≢true h
 not_same false h e = false≢true e
@@ -50,7 +44,7 @@ not_same false h e = false≢true e
 made_way : (stay next : Stay) → makes_way stay next ≡ true → MakesWay stay next
 made_way stay next h same = elim (or_cases (not (is_same_text stay.property next.property)) (nat_le stay.end next.start) h) [
   | inl other ↦ absurd (not_same (is_same_text stay.property next.property) other ((texts stay.property next.property).1 same))
-  | inr ends ↦ at_most stay.end next.start ends
+  | inr ends ↦ leb-true stay.end next.start ends
 ]
 
 both_false : (a b : Bool) → (a || b) ≡ false → (a ≡ false) × (b ≡ false)
@@ -71,7 +65,7 @@ no_way stay next h =
     let parts = both_false (not (is_same_text stay.property next.property)) (nat_le stay.end next.start) h in
     record {
       property = (texts stay.property next.property).0 (not_false (is_same_text stay.property next.property) parts.0);
-      early = more_than stay.end next.start parts.1;
+      early = leb-false stay.end next.start parts.1;
     }
 
 -- the one stands no later than the other
@@ -166,7 +160,7 @@ module _ (stays : List Stay) (sound : All IsSound stays) (sorted : IsSortedByKey
 
   clear_tell : (b : Bool) → IsAllAdjacentAnswer (λ stay next free. free ≡ makes_way stay next) stays b → (b ≡ true) ↔ AllPairs Clear stays
   clear_tell true h = (
-    λ _. pairs_from_rises Clear stays (rises_like MakesWay Clear stays (λ x y _ _. clear_of_way x y)
+    λ _. pairs_from_rises Clear stays (rises_among MakesWay Clear stays (λ x y _ _. clear_of_way x y)
         (all_make_way stays (rises_from_pairs InOrder stays in_order)
         (follow stays (λ k d within. made_way (slice_index_or stays k d) (slice_index_or stays (k + 1) d) (sym (h k d within)))))),
     λ _. refl,
@@ -214,11 +208,11 @@ module _ (endings : Endings) where
       let sound_on = sound_at leases (All-permutation IsSound stays on back sound) in
       let tell = clear_tell stays sound sorted b answer in (
         λ yes. pairs_from_rises (Apart endings) leases
-            (rises_like ClearOn (Apart endings) leases (λ l k p q. apart_if_clear l k (sound_on l p) (sound_on k q))
+            (rises_among ClearOn (Apart endings) leases (λ l k p q. apart_if_clear l k (sound_on l p) (sound_on k q))
             (rises_unmapped Clear (stay_on endings) leases
             (rises_from_pairs Clear on (pairs_permuted Clear clear_back stays on back (tell.0 yes))))),
         λ apart. tell.1 (pairs_permuted Clear clear_back on stays moved (pairs_from_rises Clear on
             (rises_mapped Clear (stay_on endings) leases
-            (rises_like (Apart endings) ClearOn leases (λ l k p q. clear_if_apart l k (sound_on l p) (sound_on k q))
+            (rises_among (Apart endings) ClearOn leases (λ l k p q. clear_if_apart l k (sound_on l p) (sound_on k q))
             (rises_from_pairs (Apart endings) leases apart))))),
       )

@@ -1,11 +1,11 @@
 -- How many batches the part rows of an open month show.
 use Rattle.std.proofs.Common.{◌≡◌, ◌∙◌, refl, sym, ap, subst, inl, inr, ℕ, suc, ◌+◌, ◌-◌, ◌*◌, ◌/◌, ◌<◌, ◌≤◌, Bool, true, false, cond, nat_eq, nat_lt, List, []}
-use Rattle.std.proofs.Common.{◌∷◌, ◌++◌, map, max, length, get_or, take, Ordering, Less, Equal, Greater, is_lt, ◌==◌, le-div_iff_mul-le, le-ltb, lt-ltb}
+use Rattle.std.proofs.Common.{◌∷◌, ◌++◌, map, max, length, get_or, take, Less, Equal, Greater, is_lt, ◌==◌, le-ltb, lt-ltb}
 use Rattle.std.proofs.Common.{ltb-true, Option, Some, is_eq, arith}
 use Rattle.std.specs.List.{IsAmong, count_by, filter, sum_by}
-use Rattle.std.specs.Ordering.{nat_cmp, ord_max, ordering_reverse}
-use Rattle.std.specs.Cmp.{Equal-is, IsTotalOrder}
-use Rattle.std.specs.FinMap.{entries, entries_sorted, is_sorted, keys, values}
+use Rattle.std.specs.Ordering.{nat_cmp, ord_max}
+use Rattle.std.specs.Cmp.{Equal-is}
+use Rattle.std.specs.FinMap.{keys, values}
 use Rattle.std.specs.Option.{unwrap_or}
 use Rattle.std.specs.BTreeMap.{is_at}
 use Rattle.std.proofs.Math.Seq.{split_at, take-suc}
@@ -23,12 +23,13 @@ use Rattle.dh_model.specs.BatchLaws.{AreNumbered}
 use Rattle.dh_model.specs.Rules.{ArePosted, parts_in}
 use Rattle.dh_model.specs.Runs.{batch_of, batches, batches_before, batches_for, batches_of_branch, begun_branches, dues_of_branch, part_of, place_among}
 use Rattle.dh_model.specs.Runs.{posted_of_branch, posted_parts}
-use Rattle.dh_model.proofs.Among.{Among, among, in_append, in_filter, in_map, is_among, of_filter, of_map}
-use Rattle.dh_model.proofs.BatchLemmas.{batch_begins, places_numbered}
-use Rattle.dh_model.proofs.BranchDues.{holds, keys_rise}
+use Rattle.dh_model.proofs.Among.{Among, among, in_append, in_filter, in_map, is_among, of_filter, of_map, of_right}
+use Rattle.dh_model.proofs.BatchLemmas.{batch_begins, places_numbered, no_more_batches}
+use Rattle.dh_model.proofs.BranchDues.{branches_rise}
 use Rattle.dh_model.proofs.BranchSums.{holder}
 use Rattle.dh_model.proofs.KeyOrders.{text_ties, text_total}
 use Rattle.dh_model.proofs.Rising.{IsBefore, Numbered, Rises, no_more_than}
+use Rattle.dh_leases.proofs.PostedLemmas.{lesser_are}
 
 counted : {X : Type 0} (test : X → Bool) (x : X) (xs : List X) → test x ≡ true → count_by test (x ∷ xs) ≡ 1 + count_by test xs
 counted test x xs e = sum_by-cons (λ y. cond (test y) 1 0) x xs ∙ ap (λ b. cond b 1 0 + count_by test xs) e
@@ -46,16 +47,6 @@ module _ {X : Type 0} (number : X → ℕ) (test : X → Bool) (most : ℕ) (pas
   ]
 
 module _ (size : ℕ) (pos : 1 ≤ size) where
-  -- what fits into so many batches takes no more
-  no_more_batches : (count q : ℕ) → 1 ≤ q → count ≤ q * size → batches_for size count ≤ q
-  no_more_batches count q one h = elim (cases_lt q ((count + (size - 1)) / size)) [
-    | inl more ↦
-        let enough = le-div_iff_mul-le pos in
-        let reached : (q + 1) * size ≤ count + (size - 1) = enough.0 (omega (arith, more)) in
-        absurd (omega (arith, reached, h, pos))
-    | inr fits ↦ omega (arith, fits, one)
-  ]
-
   -- and what does not fit into one fewer takes as many
   as_many_batches : (count q : ℕ) → 1 ≤ q → (q - 1) * size < count → q ≤ batches_for size count
   as_many_batches count q one h =
@@ -145,7 +136,7 @@ module _ (size : ℕ) (books : Books) (month : ℕ) where
 
     last_shows : 1 ≤ done → done ≤ batches size books month → ShowsAll
     last_shows some few =
-        let rise = keys_rise text_cmp (entries books.branches) (holds (is_sorted text_cmp (entries books.branches)) (entries_sorted books.branches)) in
+        let rise = branches_rise books in
         let held = holder (batches_of_branch size books month) text_cmp nat_list_cmp_total (keys books.branches) (done - 1) rise (omega (arith, some, few)) in
         let branch = held.key in
         let from = held.from in
@@ -190,33 +181,6 @@ module _ (size : ℕ) (books : Books) (month : ℕ) where
         | inr other ↦ omega (arith, within, other)
       ]
 
--- the keys before one that stands between these are those before it in the list
-is_less : (r : Ordering) → is_lt r ≡ true → r ≡ Less
-is_less Less e = refl
-is_less Equal e = cc
-is_less Greater e = cc
-
-module _ {X : Type 0} (p : X → Bool) where
-  none_kept : (xs : List X) → ((x : X) → Among xs x → p x ≡ false) → filter p xs ≡ []
-  none_kept [] none = refl
-  none_kept (x ∷ xs) none = ap (λ b. cond b (x ∷ filter p xs) (filter p xs)) (none x (inl refl)) ∙ none_kept xs (λ y a. none y (inr a))
-
-among_middle : {X : Type 0} (done rest : List X) (x : X) → Among (done ++ x ∷ rest) x
-among_middle [] rest x = inl refl
-among_middle (y ∷ done) rest x = inr (among_middle done rest x)
-
-module _ {K : Type 0} (R : K → K → Ordering) (o : IsTotalOrder R) where
-  not_back : (x y : K) → IsBefore R x y → is_lt (R y x) ≡ false
-  not_back x y h = ap is_lt (o.antisymm y x ∙ ap ordering_reverse (is_less (R x y) h))
-
-  pub before_is : (done rest : List K) (k : K) → Rises (IsBefore R) (done ++ k ∷ rest) → filter (λ other. is_lt (R other k)) (done ++ k ∷ rest) ≡ done
-  before_is [] rest k r =
-      ap (λ b. cond b (k ∷ filter (λ other. is_lt (R other k)) rest) (filter (λ other. is_lt (R other k)) rest)) (ap is_lt (tied_itself o k))
-      ∙ none_kept (λ other. is_lt (R other k)) rest (λ y a. not_back k y (r.0 y a))
-  before_is (x ∷ done) rest k r =
-      let kept = filter (λ other. is_lt (R other k)) (done ++ k ∷ rest) in
-      ap (λ b. cond b (x ∷ kept) kept) (r.0 k (among_middle done rest k)) ∙ ap (λ ks. x ∷ ks) (before_is done rest k r.1)
-
 -- the sums over the branches, one by one
 module _ (size : ℕ) (books : Books) (month : ℕ) where
   abbrev pub part_of_all : List ℕ → Part
@@ -234,8 +198,8 @@ module _ (size : ℕ) (books : Books) (month : ℕ) where
       let branch = get_or branches i d in
       let next : i + 1 ≡ suc i = omega arith in
       let split = split_at branches i d within in
-      let rise = keys_rise text_cmp (entries books.branches) (holds (is_sorted text_cmp (entries books.branches)) (entries_sorted books.branches)) in
-      let before = before_is text_cmp text_total (take i branches) _ branch (subst (Rises (IsBefore text_cmp)) split rise) in
+      let rise = branches_rise books in
+      let before = lesser_are text_cmp text_total (take i branches) _ branch (subst (Rises (IsBefore text_cmp)) split rise) in
       record {
         own = refl;
         taken = ap (λ n. take n branches) next ∙ take-suc branches i d within;
@@ -289,7 +253,7 @@ small_kept b all most old new puts here others = subst (λ o. unwrap_or o 0 ≤ 
 
 -- the row that a loop over all rows comes to
 pub among_rest : {X : Type 0} (xs done rest later : List X) (x : X) → xs ≡ done ++ rest → rest ≡ x ∷ later → Among xs x
-among_rest xs done rest later x all front = subst (λ ys. Among ys x) (sym (all ∙ ap (λ ys. done ++ ys) front)) (among_middle done later x)
+among_rest xs done rest later x all front = subst (λ ys. Among ys x) (sym (all ∙ ap (λ ys. done ++ ys) front)) (of_right done (x ∷ later) x (inl refl))
 
 module _ (size : ℕ) (books : Books) (month : ℕ) (part : Part) where
   -- what was found before its branch

@@ -19,7 +19,7 @@ use Rattle.dh_model.specs.Books.{pair_cmp, text_cmp}
 use Rattle.dh_model.specs.Checks.{is_same_text}
 use Rattle.dh_model.proofs.Among.{Among, in_filter, in_map, is_among, of_filter, of_map}
 use Rattle.dh_model.proofs.KeyOrders.{nat_ties, nat_total, pair_ties, pair_total, text_ties, text_total}
-use Rattle.dh_model.proofs.Rising.{Rises}
+use Rattle.dh_model.proofs.Rising.{Rises, rises_among}
 
 pub among_at : {X : Type 0} (xs : List X) (i : ℕ) (d : X) → i < length xs → Among xs (slice_index_or xs i d)
 among_at [] i d h = absurd (omega (arith, h))
@@ -42,11 +42,6 @@ module _ {X : Type 0} (R : X → X → Type 0) where
 
   pub pairs_from_rises : (xs : List X) → Rises R xs → AllPairs R xs
   pairs_from_rises xs r = λ i j d before within. pair_at xs r i j d before within
-
--- what follows of each two
-pub rises_like : {X : Type 0} (R Q : X → X → Type 0) (xs : List X) → ((x y : X) → Among xs x → Among xs y → R x y → Q x y) → Rises R xs → Rises Q xs
-rises_like R Q [] f r = tt
-rises_like R Q (x ∷ xs) f r = (λ y a. f x y (inl refl) (inr a) (r.0 y a), rises_like R Q xs (λ y z a b. f y z (inr a) (inr b)) r.1)
 
 module _ {X Y : Type 0} (R : Y → Y → Type 0) (f : X → Y) where
   pub rises_mapped : (xs : List X) → Rises (λ x y. R (f x) (f y)) xs → Rises R (map f xs)
@@ -128,10 +123,10 @@ pub starts_tell : (leases : List Lease) (starts : List (List ℕ × ℕ)) (b : B
 starts_tell leases starts b are tells =
     let total = pair_total text_total nat_total in
     let ties = pair_ties text_ties nat_ties in (
-      λ yes. pairs_from_rises StartApart leases (rises_like (λ l k. start_of l ≢ start_of k) StartApart leases (λ l k _ _. start_apart l k)
+      λ yes. pairs_from_rises StartApart leases (rises_among (λ l k. start_of l ≢ start_of k) StartApart leases (λ l k _ _. start_apart l k)
           (rises_unmapped (λ a b. a ≢ b) start_of leases (subst (Rises (λ a b. a ≢ b)) are (differ total ties starts (tells.0 yes))))),
       λ apart. tells.1 (of_differ total ties starts (subst (Rises (λ a b. a ≢ b)) (sym are)
-          (rises_mapped (λ a b. a ≢ b) start_of leases (rises_like StartApart (λ l k. start_of l ≢ start_of k) leases (λ l k _ _. of_start_apart l k)
+          (rises_mapped (λ a b. a ≢ b) start_of leases (rises_among StartApart (λ l k. start_of l ≢ start_of k) leases (λ l k _ _. of_start_apart l k)
           (rises_from_pairs StartApart leases apart))))),
     )
 
@@ -154,14 +149,14 @@ pub deposits_tell : (receipts : List Receipt) (leases : List ℕ) (b : Bool)
     → (b ≡ true) ↔ AllPairs (λ receipt other. receipt.payment.kind ≡ Deposit → other.payment.kind ≡ Deposit
     → receipt.payment.lease ≢ other.payment.lease) receipts
 deposits_tell receipts leases b are tells = (
-  λ yes. pairs_from_rises DepositsApart receipts (rises_like (BothPass LeaseApart is_deposit) DepositsApart receipts
+  λ yes. pairs_from_rises DepositsApart receipts (rises_among (BothPass LeaseApart is_deposit) DepositsApart receipts
       (λ r s _ _ apart k l. apart ((receipt_kinds r.payment.kind Deposit).1 k) ((receipt_kinds s.payment.kind Deposit).1 l))
       (rises_unfiltered LeaseApart is_deposit receipts
       (rises_unmapped (λ a b. a ≢ b) lease_of (filter is_deposit receipts)
       (subst (Rises (λ a b. a ≢ b)) are (differ nat_total nat_ties leases (tells.0 yes)))))),
   λ apart. tells.1 (of_differ nat_total nat_ties leases
       (subst (Rises (λ a b. a ≢ b)) (sym are) (rises_mapped (λ a b. a ≢ b) lease_of (filter is_deposit receipts)
-      (rises_filtered LeaseApart is_deposit receipts (rises_like DepositsApart (BothPass LeaseApart is_deposit) receipts
+      (rises_filtered LeaseApart is_deposit receipts (rises_among DepositsApart (BothPass LeaseApart is_deposit) receipts
       (λ r s _ _ apart k l. apart ((receipt_kinds r.payment.kind Deposit).0 k) ((receipt_kinds s.payment.kind Deposit).0 l))
       (rises_from_pairs DepositsApart receipts apart)))))),
 )
@@ -174,8 +169,8 @@ pub keys_tell : (keys all : List (List ℕ)) (b : Bool) → keys ≡ all → Tel
     ↔ AllPairs (λ key other. is_same_text key other ≡ false) all
 keys_tell keys all b are tells = (
   λ yes. pairs_from_rises KeysApart all
-      (rises_like (λ a b. a ≢ b) KeysApart all (λ a b _ _ differs. false_from_not (is_same_text a b) (λ same. differs ((texts a b).0 same)))
+      (rises_among (λ a b. a ≢ b) KeysApart all (λ a b _ _ differs. false_from_not (is_same_text a b) (λ same. differs ((texts a b).0 same)))
       (subst (Rises (λ a b. a ≢ b)) are (differ text_total text_ties keys (tells.0 yes)))),
   λ apart. tells.1 (of_differ text_total text_ties keys (subst (Rises (λ a b. a ≢ b)) (sym are)
-      (rises_like KeysApart (λ a b. a ≢ b) all (λ a b _ _ apart same. false≢true (sym apart ∙ (texts a b).1 same)) (rises_from_pairs KeysApart all apart)))),
+      (rises_among KeysApart (λ a b. a ≢ b) all (λ a b _ _ apart same. false≢true (sym apart ∙ (texts a b).1 same)) (rises_from_pairs KeysApart all apart)))),
 )

@@ -8,6 +8,8 @@ use Rattle.std.specs.List.{AllWithin, FoldsTo, HoldsAt, IsAmong}
 use Rattle.std.specs.Option.{MatchOption}
 use Rattle.std.proofs.lemmas.Bool.{false≢true}
 use Rattle.std.proofs.lemmas.Iterator.{YieldsList, cases_from_all}
+use Rattle.std.proofs.lemmas.Iterator.Consumers.{YieldsList-from_rest}
+use Rattle.std.specs.Map.Iter.{TakesFirst}
 use denote.Param.Members.{Mut}
 use Rattle.std.specs.Prelude.{Option}
 
@@ -38,6 +40,15 @@ module _ {S A B F : Type 0} {steps : S → Option A → S → Type 0} {v : A →
       (cases_from_all u f r P (λ x. P x → ⊥) ran yields
       (λ x q called. let t = tells x true q called in (t.0, t.1.0 refl))
       (λ x q called p. false≢true ((tells x false q called).1.1 p)))
+
+module _ {A X F : Type 0} {shows : A → X} {g : Mut F (A × Unit {0}) Bool} {s xs : List X} {P : X → Type 0} {u : List X} {f : F} {r : Bool} where
+  -- and a test of all rows of a map
+  pub each_row : (ys : List A) × (o : Option A) × (j : F) × YieldsThen (TakesFirst shows) s ys o u × FoldsTo (λ p x q. Called g p (x, tt) true q) f ys j
+      × MatchOption o (r ≡ true) (λ x. (r ≡ false) × ((h : F) × Called g j (x, tt) false h))
+      → s ≡ xs
+      → ((x : A) (b : Bool) (q : F) → Called g f (x, tt) b q → (q ≡ f) × ((b ≡ true) ↔ P (shows x)))
+      → (r ≡ true) ↔ ((x : X) → IsAmong xs x → P x)
+  each_row ran is tells = each_from_all P u f r ran (YieldsList-from_rest xs is) tells
 
 -- the first of what is left, put at the end of what was made
 pub one_pushed : {X Y : Type 0} (f : X → Y) (x : X) (xs ys : List X) (made next all : List Y) (y : Y) → xs ≡ x ∷ ys → next ≡ made ++ y ∷ [] → y ≡ f x → made

@@ -1,7 +1,6 @@
 -- Lists that have the same elements.
 use Rattle.std.proofs.Common.{◌≡◌, ◌↔◌, sym, ap, subst, ℕ, Bool, true, List, Option, Some, None}
 use Rattle.std.specs.declared.cmp.Ordering.{Ordering}
-use Rattle.std.specs.declared.cmp.Ordering.TheVariants.{Less, Equal, Greater}
 use Rattle.std.specs.BTreeSet.{BTreeSet, IsFromIterResult, IsSubset}
 use Rattle.std.specs.Cmp.{IsTotalOrder}
 use Rattle.std.specs.FinMap.{IsAntisymmetric, nat_cmp-IsAntisymmetric}
@@ -13,7 +12,7 @@ use Rattle.dh_types.specs.declared.lease.Charge.{Charge}
 use Rattle.dh_types.specs.declared.run.Part.{Part}
 use Rattle.dh_model.specs.Books.{text_cmp}
 use Rattle.dh_model.specs.Rules.{HaveTheSame}
-use Rattle.dh_model.proofs.KeyOrders.{text_ties}
+use Rattle.dh_model.proofs.KeyOrders.{text_ties, both_tied}
 
 of_contains : {X : Type 0} (xs : List X) (x : X) → Contains xs x → IsAmong xs x
 of_contains xs x h = (h.0, (h.1, sym h.2))
@@ -40,11 +39,6 @@ module _ {K : Type 0} {R : K → K → Ordering} (o : IsTotalOrder R) (xs ys : L
 pub as_lists : {X : Type 0} {xs ys us vs : List X} (b : Bool) → xs ≡ us → ys ≡ vs → (b ≡ true) ↔ HaveTheSame xs ys → (b ≡ true) ↔ HaveTheSame us vs
 as_lists {ys = ys} {us = us} b of_xs of_ys tells =
     subst (λ vs. (b ≡ true) ↔ HaveTheSame us vs) of_ys (subst (λ us. (b ≡ true) ↔ HaveTheSame us ys) of_xs tells)
-
-both_tied : (r q : Ordering) → ordering_then r q ≡ Equal → (r ≡ Equal) × (q ≡ Equal)
-both_tied Less q e = cc
-both_tied Equal q e = (λ i. Equal, e)
-both_tied Greater q e = cc
 
 -- an order by five fields, in which only equal fields tie
 module _ {A B C D E : Type 0} (P : A → A → Ordering) (Q : B → B → Ordering) (R : C → C → Ordering) (S : D → D → Ordering) (T : E → E → Ordering) where

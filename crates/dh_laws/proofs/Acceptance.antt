@@ -1,6 +1,6 @@
 -- What holds of the books where rows are those of an accepted command.
-use Rattle.std.proofs.Common.{◌≡◌, ◌+◌, ◌<◌, ◌≤◌, true, false, nat_eq, ◌&&◌, Option, Some, None, IfSome}
-use Rattle.std.specs.FinMap.{get, len, values}
+use Rattle.std.proofs.Common.{◌≡◌, refl, sym, ap, ◌+◌, ◌<◌, ◌≤◌, true, false, nat_eq, ◌&&◌, Option, Some, None, IfSome}
+use Rattle.std.specs.FinMap.{get, insert, len, values}
 use Rattle.dh_values.specs.declared.receipt_kind.ReceiptKind.TheVariants.{Deposit}
 use Rattle.dh_days.specs.Days.{month_of_day}
 use Rattle.dh_types.specs.declared.branch.Branch.{Branch}
@@ -21,6 +21,9 @@ use Rattle.dh_model.specs.declared.rows.Change.TheVariants as change
 use Rattle.dh_model.specs.Books.{Books}
 use Rattle.dh_model.specs.Leases.{length_of, overlap, running}
 use Rattle.dh_model.specs.Rules.{IsThere}
+use Rattle.dh_model.specs.Kinds.{record_of, records_of, with_records}
+use Rattle.dh_model.specs.Edits.{Edit, Update, edit_of, edited, updated}
+use Rattle.dh_model.specs.Machine.{changed}
 use Rattle.dh_model.specs.Checks.{is_same_text, works_at}
 use Rattle.dh_model.proofs.Among.{Among}
 use Rattle.dh_laws.proofs.VerdictChecks.{CanManage, IsFirstDeposit, IsNewKey}
@@ -124,3 +127,29 @@ module _ (books : Books) (run : Option OpenRun) where
   Accepted (change.Receipt it) = AddsReceipt it
   Accepted (change.Open it) = OpensRun it
   Accepted change.Post = (at : OpenRun) × (run ≡ Some at)
+
+  -- the row that an edit is of is there
+  abbrev IsFound : Edit → Type 0
+  IsFound (Update kind key into) = (row : record_of kind) × (get (records_of kind books) key ≡ Some row)
+  IsFound _ = Unit {0}
+
+  abbrev found : (rows : Change) → Accepted rows → IsFound (edit_of rows)
+  found (change.Assign it) a = (a.row, a.is)
+  found (change.Rent it) a = a
+  found (change.Comment it) a = a
+  found rows a = tt
+
+  abbrev with_edit : (edit : Edit) → IsFound edit → Books
+  with_edit (Update kind key into) row = with_records kind (insert (records_of kind books) key (into row.0)) books
+  with_edit edit row = edited edit books
+
+  with_edit_is : (edit : Edit) (row : IsFound edit) → with_edit edit row ≡ edited edit books
+  with_edit_is (Update kind key into) row = ap (updated kind key into books) (sym row.1)
+  with_edit_is edit row = refl
+
+  -- the books that an accepted change makes, with the row that it found
+  abbrev pub turned : (rows : Change) → Accepted rows → Books
+  turned rows a = with_edit (edit_of rows) (found rows a)
+
+  pub turned_is : (rows : Change) (a : Accepted rows) → turned rows a ≡ changed rows books
+  turned_is rows a = with_edit_is (edit_of rows) (found rows a)

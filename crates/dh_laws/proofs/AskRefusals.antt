@@ -52,6 +52,7 @@ use Rattle.dh_model.specs.Verdicts.{assigned, branch_verdict, commented, judged,
 use Rattle.dh_model.specs.Verdicts.{property_checks, receipt_checks, receipt_verdict, registration_checks, rent_changed, rows_unless, run_verdict, signed}
 use Rattle.dh_model.specs.Verdicts.{end_verdict, ended, ending_checks, ending_rows, fee_rows, fee_verdict}
 use Rattle.dh_model.specs.Verdicts.{unless_open, unless_paid, unless_posted, unless_receipt, unless_run, unless_there, verdict_on}
+use Rattle.dh_model.proofs.MachineLemmas.{frozen_verdict, half_runs_not_shown}
 use Rattle.dh_laws.specs.Asking.{OpenRunsRefuseFrozen, OpenRunsRefusePutOff}
 
 module _ (month : ℕ) where
@@ -318,16 +319,6 @@ module _ (month : ℕ) where
     refused_for None (command.Post count) e = cc
     refused_for (Some at) (command.Post count) e = cc
 
-    frozen_refused : (at : OpenRun) (told : Command) → is_frozen told ≡ true → verdict_on books (Some at) told ≡ verdict.Refused (refusal.RunOpen at.month)
-    frozen_refused at (command.Branch it) frozen = refl
-    frozen_refused at (command.Fee it) frozen = refl
-    frozen_refused at (command.Lease it) frozen = refl
-    frozen_refused at (command.End it) frozen = refl
-    frozen_refused at (command.Receipt it) frozen = refl
-    frozen_refused at (command.Run it) frozen = refl
-    frozen_refused at (command.Open it) frozen = refl
-    frozen_refused at _ frozen = cc
-
     -- ---- reports
 
     abbrev Answers : Report → Type 0
@@ -372,23 +363,15 @@ module _ (month : ℕ) where
         put_off_for run (owner_report books it (get books.owners it.owner) (get books.runs it.month))
         (owner_answers it (get books.owners it.owner) (get books.runs it.month)) e
 
-    put_off_refused : (at : OpenRun) (question : Question) → is_put_off question ≡ true
-        → report (record { books = books; open_run = Some at }) question ≡ NoReport (refusal.RunOpen at.month)
-    put_off_refused at (asked.Statement lease) off = refl
-    put_off_refused at (asked.Arrears branch) off = refl
-    put_off_refused at (asked.Run asked_month) off = refl
-    put_off_refused at (asked.Owner it) off = refl
-    put_off_refused at _ off = cc
-
 pub open_runs_refuse_frozen : OpenRunsRefuseFrozen
 open_runs_refuse_frozen books run told month = (
   refused_for month books run told,
-  λ h. ap (λ r. verdict_on books r told) h.1 ∙ frozen_refused month books h.0 told h.3 ∙ ap (λ m. verdict.Refused (refusal.RunOpen m)) h.2,
+  λ h. ap (λ r. verdict_on books r told) h.1 ∙ frozen_verdict books h.0 told h.3 ∙ ap (λ m. verdict.Refused (refusal.RunOpen m)) h.2,
 )
 
 pub open_runs_refuse_put_off : OpenRunsRefusePutOff
 open_runs_refuse_put_off s question month = (
   not_answered month s.books s.open_run question,
-  λ h. ap (λ r. report (record { books = s.books; open_run = r }) question) h.1 ∙ put_off_refused month s.books h.0 question h.3
+  λ h. ap (λ r. report (record { books = s.books; open_run = r }) question) h.1 ∙ half_runs_not_shown s.books h.0 question h.3
       ∙ ap (λ m. NoReport (refusal.RunOpen m)) h.2,
 )

@@ -6,27 +6,24 @@ use Rattle.std.specs.Option.{IsSome}
 use Rattle.dh_types.specs.declared.command.Command.{Command}
 use Rattle.dh_types.specs.declared.command.Command.TheVariants as command
 use Rattle.dh_types.specs.declared.command.RunOrder.{RunOrder}
-use Rattle.dh_types.specs.declared.fee.BranchFee.{BranchFee}
-use Rattle.dh_types.specs.declared.lease.Ending.{Ending}
 use Rattle.dh_types.specs.declared.run.RunSum.{RunSum}
 use Rattle.dh_types.specs.declared.reply.Reply.{Reply}
 use Rattle.dh_types.specs.declared.reply.Reply.TheVariants as reply
 use Rattle.dh_types.specs.declared.reply.Refusal.{Refusal}
-use Rattle.dh_types.specs.declared.reply.Refusal.TheVariants as refusal
 use Rattle.dh_model.specs.declared.open_run.OpenRun.{OpenRun}
 use Rattle.dh_model.specs.declared.rows.Change.{Change}
 use Rattle.dh_model.specs.declared.rows.Change.TheVariants as change
 use Rattle.dh_model.specs.declared.rows.Verdict.TheVariants as verdict
 use Rattle.dh_model.specs.Books.{Books, State}
-use Rattle.dh_model.specs.Machine.{accepted, carried_out, changed, posted, posted_sum, settled, step}
+use Rattle.dh_model.specs.Machine.{accepted, carried_out, changed, posted, posted_sum, settled}
 use Rattle.dh_model.specs.MachineLaws.{is_post}
 use Rattle.dh_model.specs.Runs.{batch_size, batches, ran}
-use Rattle.dh_model.specs.Verdicts.{ending_rows, fee_rows, opened_run, run_verdict, verdict_on}
+use Rattle.dh_model.specs.Verdicts.{opened_run, run_verdict, verdict_on}
 use Rattle.dh_model.specs.Whole.{whole}
 use Rattle.dh_laws.specs.InOrder.{IsEntered, IsInOrder, run_after}
 use Rattle.dh_laws.proofs.KeepOrder.{changes_keep_order}
-use Rattle.dh_laws.proofs.VerdictCases.{rows_are, rows_of, run_case}
-use Rattle.dh_laws.specs.Events.{Cut, Happens, IsFurtherBy, IsMovedBy, IsMovedOn, IsOfMonth, Mended, RunIfDone, RunIfUndone, Said, Torn, state_of}
+use Rattle.dh_laws.proofs.VerdictCases.{run_case, run_stays}
+use Rattle.dh_laws.specs.Events.{Cut, Happens, IsFurtherBy, IsMovedBy, IsMovedOn, IsOfMonth, RunIfDone, RunIfUndone, Said, Torn, state_of}
 use Rattle.dh_laws.specs.StateTables.{IsStateInOrder, as_tables}
 use Rattle.dh_laws.specs.Telling.{IsTold, begun, is_opening}
 use Rattle.dh_laws.specs.Batches.{IsPostedInPart, is_plain}
@@ -34,7 +31,7 @@ use Rattle.dh_laws.proofs.TellingCuts.{told_done}
 use Rattle.dh_laws.proofs.TellingMeanwhile.{judged_whole, rows_told}
 use Rattle.dh_laws.proofs.MovingBatches.{batches_of_whole}
 use Rattle.dh_laws.proofs.TellingRuns.{none_in_order, opened_whole, opening_judged, opening_told}
-use Rattle.dh_laws.proofs.TellingWhole.{own_state, shows_none, stepped_told, whole_itself}
+use Rattle.dh_laws.proofs.TellingWhole.{shows_none, stepped_told, whole_itself}
 
 -- ---- any command
 
@@ -52,9 +49,6 @@ same_cut told s t is =
 pub said_cut : (told : Command) (reply : Reply) (s t : State) → IsStateInOrder t → Happens batch_size (Said told reply) (as_tables s) (as_tables t)
     → Happens batch_size (Cut told) (as_tables s) (as_tables t)
 said_cut told reply s t order said = inr (told_done batch_size s t told reply (said, order)).0
-
-pub part_cut : (most : ℕ) (s t : State) → IsPostedInPart most s t → Happens batch_size (Cut (command.Post most)) (as_tables s) (as_tables t)
-part_cut most s t h = inl h
 
 -- ---- recoveries
 
@@ -86,41 +80,6 @@ posted_ends books count run left sum h = by (nat_le (batches batch_size books ru
         let other : going books count run ≡ (left, reply.Posted sum) = sym (ap (λ (b : Bool). if b then ended books run else going books count run) e) ∙ h in
         let replies : (going books count run).1 ≡ reply.Posted sum = ap (λ (m : State × Reply). m.1) other in
         absurd (cc)
-
--- a `post` that closed the run, or found none, left it mended
-post_ended : (books : Books) (run : Option OpenRun) (count : ℕ) (left : State) (sum : RunSum)
-    → step batch_size (record { books = books; open_run = run }) (command.Post count) ≡ (left, reply.Posted sum)
-    → left ≡ record { books = books; open_run = None }
-post_ended books None count left sum h = let replies = ap (λ (m : State × Reply). m.1) h in absurd (cc)
-post_ended books (Some run) count left sum h = ap (λ (m : State × Reply). m.0) (sym h ∙ posted_ends books count run left sum h)
-
-none_found : (books : Books) (run : Option OpenRun) (count : ℕ) (left : State)
-    → step batch_size (record { books = books; open_run = run }) (command.Post count) ≡ (left, reply.Refused refusal.NoRun)
-    → left ≡ record { books = books; open_run = None }
-none_found books None count left h = ap (λ (m : State × Reply). m.0) (sym h)
-none_found books (Some run) count left h = by (nat_le (batches batch_size books run.month) (run.done + count)) refl
-  where
-    by : (b : Bool) → nat_le (batches batch_size books run.month) (run.done + count) ≡ b → left ≡ record { books = books; open_run = None }
-    by true e = let replies : (ended books run).1 ≡ reply.Refused refusal.NoRun =
-        ap (λ (m : State × Reply). m.1) (sym (ap (λ (b : Bool). if b then ended books run else going books count run) e) ∙ h) in absurd (cc)
-    by false e = let replies : (going books count run).1 ≡ reply.Refused refusal.NoRun =
-        ap (λ (m : State × Reply). m.1) (sym (ap (λ (b : Bool). if b then ended books run else going books count run) e) ∙ h) in absurd (cc)
-
-is_mended : (s t : State) → IsStateInOrder t → state_of batch_size (as_tables t) ≡ record { books = whole batch_size s.books; open_run = None }
-    → Happens batch_size Mended (as_tables s) (as_tables t)
-is_mended s t order left =
-    let none : t.open_run ≡ None = ap (λ (it : State). it.open_run) left in
-    let own = own_state batch_size t (shows_none batch_size t none order) in
-    ap (λ (it : State). as_tables it) (sym own ∙ left)
-
-pub posted_mended : (most : ℕ) (sum : RunSum) (s t : State) → IsStateInOrder t
-    → Happens batch_size (Said (command.Post most) (reply.Posted sum)) (as_tables s) (as_tables t) → Happens batch_size Mended (as_tables s) (as_tables t)
-posted_mended most sum s t order said = is_mended s t order (post_ended (whole batch_size s.books) s.open_run most (state_of batch_size (as_tables t)) sum said)
-
-pub none_mended : (most : ℕ) (s t : State) → IsStateInOrder t
-    → Happens batch_size (Said (command.Post most) (reply.Refused refusal.NoRun)) (as_tables s) (as_tables t)
-    → Happens batch_size Mended (as_tables s) (as_tables t)
-none_mended most s t order said = is_mended s t order (none_found (whole batch_size s.books) s.open_run most (state_of batch_size (as_tables t)) said)
 
 -- ---- openings, and runs
 
@@ -200,34 +159,10 @@ module _ (s : State) (order : RunOrder) (none : s.open_run ≡ None) (in_order :
 
 plain_carried : (s : State) (told : Command) (rows : Change) → is_plain rows ≡ true
     → carried_out batch_size s told rows ≡ (record s { books = changed rows s.books }, accepted rows)
-plain_carried s told (change.Open row) plain = absurd (false≢true plain)
-plain_carried s told change.Post plain = absurd (false≢true plain)
-plain_carried s (command.Run order) rows plain = by rows plain
-  where
-    by : (rows : Change) → is_plain rows ≡ true → carried_out batch_size s (command.Run order) rows ≡ (record s { books = changed rows s.books }, accepted rows)
-    by (change.Open row) plain = absurd (false≢true plain)
-    by _ plain = refl
-plain_carried s (command.Open order) rows plain = by rows plain
-  where
-    by : (rows : Change) → is_plain rows ≡ true → carried_out batch_size s (command.Open order) rows ≡ (
-      record s { books = changed rows s.books },
-      accepted rows,
-    )
-    by (change.Open row) plain = absurd (false≢true plain)
-    by _ plain = refl
-plain_carried s (command.Post count) rows plain = by rows plain
-  where
-    by : (rows : Change) → is_plain rows ≡ true → carried_out batch_size s (command.Post count) rows ≡ (
-      record s { books = changed rows s.books },
-      accepted rows,
-    )
-    by change.Post plain = absurd (false≢true plain)
-    by _ plain = refl
+plain_carried s (command.Run order) (change.Open row) plain = absurd (false≢true plain)
+plain_carried s (command.Open order) (change.Open row) plain = absurd (false≢true plain)
+plain_carried s (command.Post count) change.Post plain = absurd (false≢true plain)
 plain_carried s _ rows plain = refl
-
-run_stays : (run : Option OpenRun) (rows : Change) → is_plain rows ≡ true → run_after run rows ≡ run
-run_stays run (change.Open row) plain = absurd (false≢true plain)
-run_stays run _ plain = refl
 
 not_opening : (books : Books) (run : Option OpenRun) (told : Command) (rows : Change) → verdict_on books run told ≡ verdict.Change rows → is_plain rows ≡ true
     → is_opening told ≡ false
@@ -293,37 +228,3 @@ pub order_accepted : (books : Books) (run : Option OpenRun) (order : RunOrder) (
     → (run ≡ None) × (run_verdict books order ≡ verdict.Change (change.Open (opened_run books order)))
 order_accepted books (Some at) order rows h = absurd (cc)
 order_accepted books None order rows h = (refl, h ∙ ap (λ it. verdict.Change it) (run_case books None rows order h).0)
-
--- runs and their parts
-abbrev pub is_of_run : Command → Bool
-is_of_run (command.Run order) = true
-is_of_run (command.Open order) = true
-is_of_run (command.Post count) = true
-is_of_run _ = false
-
-plain_fee : (it : BranchFee) (found : Option BranchFee) → is_plain (fee_rows it found) ≡ true
-plain_fee it None = refl
-plain_fee it (Some was) = refl
-
-plain_ending : (it : Ending) (found : Option Ending) → is_plain (ending_rows it found) ≡ true
-plain_ending it None = refl
-plain_ending it (Some was) = refl
-
-plain_of : (books : Books) (told : Command) → is_of_run told ≡ false → is_plain (rows_of books told) ≡ true
-plain_of books (command.Fee it) other = plain_fee it (get books.branch_fees it.branch)
-plain_of books (command.End it) other = plain_ending it (get books.endings it.lease)
-plain_of books (command.Run order) other = cc
-plain_of books (command.Open order) other = cc
-plain_of books (command.Post count) other = cc
-plain_of books _ other = refl
-
-pub plain_rows : (books : Books) (run : Option OpenRun) (told : Command) (rows : Change) → is_of_run told ≡ false
-    → verdict_on books run told ≡ verdict.Change rows → is_plain rows ≡ true
-plain_rows books run told rows other h = ap is_plain (rows_are books run rows told h) ∙ plain_of books told other
-
-pub other_than : (told : Command) → ((order : RunOrder) → told ≡ command.Run order → ⊥) → ((order : RunOrder) → told ≡ command.Open order → ⊥)
-    → is_post told ≡ false → is_of_run told ≡ false
-other_than (command.Run order) run opens post = absurd (run order refl)
-other_than (command.Open order) run opens post = absurd (opens order refl)
-other_than (command.Post count) run opens post = absurd (false≢true (sym post))
-other_than _ run opens post = refl

@@ -17,7 +17,7 @@ use Rattle.dh_model.proofs.Among.{Among, among}
 use Rattle.dh_laws.specs.InOrder.{AreKeyed, StandUnder}
 use Rattle.dh_laws.specs.Keeping.{EmptyBooksAreInOrder}
 
-none_left : {X : Type 0} (xs : List X) → length xs ≡ 0 → xs ≡ []
+pub none_left : {X : Type 0} (xs : List X) → length xs ≡ 0 → xs ≡ []
 none_left [] h = refl
 none_left (x ∷ xs) h = absurd (omega arith)
 

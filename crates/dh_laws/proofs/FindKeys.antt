@@ -8,8 +8,8 @@ use Rattle.dh_types.proofs.SameValues.{texts}
 use Rattle.dh_model.specs.Books.{Books}
 use Rattle.dh_model.specs.Checks.{is_same_text, receipt_of_key, run_of_key}
 use Rattle.dh_model.specs.Rules.{KeysInOrder}
-use Rattle.dh_model.proofs.Among.{Among, among, is_among, of_map}
-use Rattle.dh_model.proofs.Pairs.{among_left, among_right, pairs_rise}
+use Rattle.dh_model.proofs.Among.{Among, among, is_among, of_map, of_left, of_right}
+use Rattle.dh_model.proofs.Pairs.{pairs_rise}
 use Rattle.dh_model.proofs.Rising.{Rises}
 use Rattle.dh_laws.specs.Repeating.{IsReceiptOf, IsRunOf, KeysAreFound, KeysAreOfOne}
 use Rattle.dh_laws.proofs.MonthShown.{found, missed}
@@ -20,7 +20,7 @@ Apart key other = is_same_text key other ≡ false
 module _ {X : Type 0} (P : X → X → Type 0) where
   rises_left : (xs ys : List X) → Rises P (xs ++ ys) → Rises P xs
   rises_left [] ys r = tt
-  rises_left (x ∷ xs) ys r = (λ y a. r.0 y (among_left xs ys y a), rises_left xs ys r.1)
+  rises_left (x ∷ xs) ys r = (λ y a. r.0 y (of_left xs ys y a), rises_left xs ys r.1)
 
   rises_right : (xs ys : List X) → Rises P (xs ++ ys) → Rises P ys
   rises_right [] ys r = r
@@ -28,7 +28,7 @@ module _ {X : Type 0} (P : X → X → Type 0) where
 
   rises_across : (xs ys : List X) (x y : X) → Rises P (xs ++ ys) → Among xs x → Among ys y → P x y
   rises_across [] ys x y r a b = absurd a
-  rises_across (z ∷ xs) ys x y r (inl e) b = subst (λ w. P w y) (sym e) (r.0 y (among_right xs ys y b))
+  rises_across (z ∷ xs) ys x y r (inl e) b = subst (λ w. P w y) (sym e) (r.0 y (of_right xs ys y b))
   rises_across (z ∷ xs) ys x y r (inr a) b = rises_across xs ys x y r.1 a b
 
 -- keys that differ are not one key

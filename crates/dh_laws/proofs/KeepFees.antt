@@ -8,10 +8,6 @@ use Rattle.dh_types.specs.declared.lease.Charge.{Charge}
 use Rattle.dh_types.specs.declared.property.Property.{Property}
 use Rattle.dh_types.specs.declared.run.Run.{Run}
 use Rattle.dh_types.specs.declared.run.Part.{Part}
-use Rattle.dh_types.specs.declared.command.Assignment.{Assignment}
-use Rattle.dh_types.specs.declared.command.RentChange.{RentChange}
-use Rattle.dh_types.specs.declared.command.ViewingComment.{ViewingComment}
-use Rattle.dh_types.specs.declared.viewing.Viewing.{Viewing}
 use Rattle.dh_types.specs.declared.fee.BranchFee.{BranchFee}
 use Rattle.dh_types.specs.declared.version.Version.{Version}
 use Rattle.dh_types.specs.declared.version.Version.TheVariants.{First, Second}
@@ -20,14 +16,14 @@ use Rattle.dh_model.specs.declared.rows.Change.{Change}
 use Rattle.dh_model.specs.declared.rows.Change.TheVariants as change
 use Rattle.dh_model.specs.Books.{Books, text_cmp}
 use Rattle.dh_model.specs.Kinds.{Kind}
-use Rattle.dh_model.specs.Machine.{at_rent, changed, managed, with_comment}
+use Rattle.dh_model.specs.Machine.{changed}
 use Rattle.dh_model.specs.Runs.{fee_at, is_property_of, part_fee_of}
 use Rattle.dh_model.specs.Rules.{Each, HasFees, HasItsFee, NamesWhatIsThere, RunsInOrder, charges_in, charges_of_part, is_charged_at}
 use Rattle.dh_model.specs.Whole.{IsOpenAt, open_row}
 use Rattle.dh_model.proofs.Among.{Among, among, in_filter, is_among}
 use Rattle.dh_model.proofs.KeyOrders.{nat_ties, nat_total}
 use Rattle.dh_model.proofs.MapRows.{get_other, got_after, of_row, there}
-use Rattle.dh_laws.proofs.Acceptance.{Accepted}
+use Rattle.dh_laws.proofs.Acceptance.{Accepted, turned, turned_is}
 use Rattle.dh_laws.proofs.MonthShown.{all_closed}
 use Rattle.dh_laws.proofs.MonthDues.{StandAsBefore, kept_alike, new_property, same_property, stands}
 
@@ -160,25 +156,9 @@ module _ (size : ℕ) (books : Books) (run : Option OpenRun) (names : NamesWhatI
     ];
   }
 
-  assigned_alike : (it : Assignment) (row : Property) → get books.properties it.property ≡ Some row
-      → SameFees books (managed books it (get books.properties it.property))
-  assigned_alike it row is =
-      let new : Property = record row { staff = it.staff } in
-      subst (λ found. SameFees books (managed books it found)) (sym is)
-      (properties_alike (insert books.properties it.property new) (same_property books it.property new row is refl))
-
-  rent_alike : (it : RentChange) (row : Property) → get books.properties it.property ≡ Some row
-      → SameFees books (at_rent books it (get books.properties it.property))
-  rent_alike it row is =
-      let new : Property = record row { rent = it.rent } in
-      subst (λ found. SameFees books (at_rent books it found)) (sym is)
-      (properties_alike (insert books.properties it.property new) (same_property books it.property new row is refl))
-
-  comment_alike : (it : ViewingComment) (row : Viewing) → get books.viewings (it.client, it.property) ≡ Some row
-      → SameFees books (with_comment books it (get books.viewings (it.client, it.property)))
-  comment_alike it row is =
-      let c : Books = record books { viewings = insert books.viewings (it.client, it.property) (record row { comment = Some it.comment }) } in
-      subst (λ found. SameFees books (with_comment books it found)) (sym is) (untouched c refl refl refl refl refl refl refl refl)
+  replaced_alike : (key : List ℕ) (new row : Property) → get books.properties key ≡ Some row → new.branch ≡ row.branch
+      → SameFees books (record books { properties = insert books.properties key new })
+  replaced_alike key new row is stays = properties_alike (insert books.properties key new) (same_property books key new row is stays)
 
   -- a branch gets another fee where no run is open
   fees_alike : (fees : FinMap text_cmp BranchFee) → run ≡ None → SameFees books (record books { branch_fees = fees })
@@ -195,16 +175,16 @@ module _ (size : ℕ) (books : Books) (run : Option OpenRun) (names : NamesWhatI
         cc);
   }
 
-  same_fees : (rows : Change) → Accepted books run rows → SameFees books (changed rows books)
+  same_fees : (rows : Change) (a : Accepted books run rows) → SameFees books (turned books run rows a)
   same_fees (change.NewFee it) a = fees_alike (insert books.branch_fees it.branch it) a.0.closed
   same_fees (change.Fee it) a = fees_alike (insert books.branch_fees it.branch it) a.0.closed
   same_fees (change.Property it) a = properties_alike (insert books.properties it.number it) (new_property books it.number it names a.new)
-  same_fees (change.Assign it) a = assigned_alike it a.row a.is
-  same_fees (change.Rent it) a = rent_alike it a.0 a.1
-  same_fees (change.Comment it) a = comment_alike it a.0 a.1
+  same_fees (change.Assign it) a = replaced_alike it.property (record a.row { staff = it.staff }) a.row a.is refl
+  same_fees (change.Rent it) a = replaced_alike it.property (record a.0 { rent = it.rent }) a.0 a.1 refl
   same_fees (change.Lease it) a = lease_alike it a.new
   same_fees (change.Open it) a = open_alike it a.month
-  same_fees other a = untouched (changed other books) refl refl refl refl refl refl refl refl
+  same_fees other a = untouched (turned books run other a) refl refl refl refl refl refl refl refl
 
   pub keeps_fees : (rows : Change) → Accepted books run rows → HasFees books books.version → HasFees (changed rows books) (changed rows books).version
-  keeps_fees rows accepted = fees_stay books (changed rows books) (same_fees rows accepted)
+  keeps_fees rows a has =
+      subst (λ c. HasFees c c.version) (turned_is books run rows a) (fees_stay books (turned books run rows a) (same_fees rows a) has)

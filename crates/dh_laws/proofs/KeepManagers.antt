@@ -8,10 +8,8 @@ use Rattle.std.proofs.lemmas.Cmp.{tied_itself}
 use Rattle.std.proofs.lemmas.List.Sums.{sum_by-cons}
 use Rattle.dh_types.specs.declared.staff.Staff.{Staff}
 use Rattle.dh_types.specs.declared.property.Property.{Property}
-use Rattle.dh_types.specs.declared.viewing.Viewing.{Viewing}
 use Rattle.dh_types.specs.declared.command.Assignment.{Assignment}
 use Rattle.dh_types.specs.declared.command.RentChange.{RentChange}
-use Rattle.dh_types.specs.declared.command.ViewingComment.{ViewingComment}
 use Rattle.dh_types.specs.Records.{is_same_optional}
 use Rattle.dh_types.proofs.SameValues.{optional, texts}
 use Rattle.dh_model.specs.declared.open_run.OpenRun.{OpenRun}
@@ -20,13 +18,13 @@ use Rattle.dh_model.specs.declared.rows.Change.TheVariants as change
 use Rattle.dh_model.specs.Books.{Books, text_cmp}
 use Rattle.dh_model.specs.Kinds.{Kind}
 use Rattle.dh_model.specs.Checks.{is_same_text, managed_besides}
-use Rattle.dh_model.specs.Machine.{at_rent, changed, managed, with_comment}
+use Rattle.dh_model.specs.Machine.{changed}
 use Rattle.dh_model.specs.Rules.{IsThere, ManagesAtMostHundred, NamesWhatIsThere, managed_by}
 use Rattle.dh_model.proofs.Among.{Among, is_among}
 use Rattle.dh_model.proofs.KeyOrders.{text_total, text_ties}
 use Rattle.dh_model.proofs.Rising.{IsBefore, Rises, rises_by}
 use Rattle.dh_laws.specs.InOrder.{AreKeyed}
-use Rattle.dh_laws.proofs.Acceptance.{Accepted, AddsProperty, AddsStaff, Assigns}
+use Rattle.dh_laws.proofs.Acceptance.{Accepted, AddsProperty, AddsStaff, Assigns, turned, turned_is}
 use Rattle.dh_laws.proofs.MapMerges.{insert_keyed, rows_rise}
 use Rattle.dh_model.proofs.MapRows.{each_put, sum_new, sum_old, there}
 use Rattle.dh_laws.proofs.VerdictChecks.{CanManage}
@@ -183,28 +181,23 @@ module _ (books : Books) (run : Option OpenRun) (keyed : AreKeyed books) (names 
   managers_property : (it : Property) → AddsProperty books run it → ManagesAtMostHundred (record books { properties = insert books.properties it.number it })
   managers_property it h member a = managed_after books keyed it.number it refl member.number it.branch h.staff (rules member a)
 
-  managers_assigned : (it : Assignment) → Assigns books run it → ManagesAtMostHundred (managed books it (get books.properties it.property))
-  managers_assigned it h =
+  managers_assigned : (it : Assignment) (h : Assigns books run it) → ManagesAtMostHundred (turned books run (change.Assign it) h)
+  managers_assigned it h member a =
       let own = keyed Kind.Properties it.property h.row h.is in
       let staff = subst (λ k. IfSome it.staff (CanManage books h.row.branch k)) own h.staff in
-      subst (λ found. ManagesAtMostHundred (managed books it found)) (sym h.is)
-      (λ member a. managed_after books keyed it.property (record h.row { staff = it.staff }) own member.number h.row.branch staff (rules member a))
+      managed_after books keyed it.property (record h.row { staff = it.staff }) own member.number h.row.branch staff (rules member a)
 
-  managers_at_rent : (it : RentChange) (row : Property) → get books.properties it.property ≡ Some row
-      → ManagesAtMostHundred (at_rent books it (get books.properties it.property))
-  managers_at_rent it row is =
-      let own = keyed Kind.Properties it.property row is in
-      subst (λ found. ManagesAtMostHundred (at_rent books it found)) (sym is)
-      (λ member a. managed_the_same books keyed it.property (record row { rent = it.rent }) own member.number row is refl (rules member a))
+  managers_at_rent : (it : RentChange) (h : Accepted books run (change.Rent it)) → ManagesAtMostHundred (turned books run (change.Rent it) h)
+  managers_at_rent it h member a =
+      managed_the_same books keyed it.property (record h.0 { rent = it.rent }) (keyed Kind.Properties it.property h.0 h.1) member.number h.0 h.1 refl
+      (rules member a)
 
-  managers_comment : (it : ViewingComment) (row : Viewing) → get books.viewings (it.client, it.property) ≡ Some row
-      → ManagesAtMostHundred (with_comment books it (get books.viewings (it.client, it.property)))
-  managers_comment it row is = subst (λ found. ManagesAtMostHundred (with_comment books it found)) (sym is) rules
+  few_managed : (rows : Change) (a : Accepted books run rows) → ManagesAtMostHundred (turned books run rows a)
+  few_managed (change.Staff it) h = managers_staff it h
+  few_managed (change.Property it) h = managers_property it h
+  few_managed (change.Assign it) h = managers_assigned it h
+  few_managed (change.Rent it) h = managers_at_rent it h
+  few_managed rows h = rules
 
   pub keeps_managers : (rows : Change) → Accepted books run rows → ManagesAtMostHundred (changed rows books)
-  keeps_managers (change.Staff it) h = managers_staff it h
-  keeps_managers (change.Property it) h = managers_property it h
-  keeps_managers (change.Assign it) h = managers_assigned it h
-  keeps_managers (change.Rent it) h = managers_at_rent it h.0 h.1
-  keeps_managers (change.Comment it) h = managers_comment it h.0 h.1
-  keeps_managers _ h = rules
+  keeps_managers rows h = subst ManagesAtMostHundred (turned_is books run rows h) (few_managed rows h)

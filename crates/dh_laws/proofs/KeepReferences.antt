@@ -5,19 +5,16 @@ use Rattle.dh_types.specs.declared.property.Property.{Property}
 use Rattle.dh_types.specs.declared.viewing.Viewing.{Viewing}
 use Rattle.dh_types.specs.declared.lease.Lease.{Lease}
 use Rattle.dh_types.specs.declared.lease.Ending.{Ending}
-use Rattle.dh_types.specs.declared.command.Assignment.{Assignment}
-use Rattle.dh_types.specs.declared.command.RentChange.{RentChange}
-use Rattle.dh_types.specs.declared.command.ViewingComment.{ViewingComment}
 use Rattle.dh_model.specs.declared.open_run.OpenRun.{OpenRun}
 use Rattle.dh_model.specs.declared.rows.Change.{Change}
 use Rattle.dh_model.specs.declared.rows.Change.TheVariants as change
 use Rattle.dh_model.specs.Books.{Books}
 use Rattle.dh_model.specs.Checks.{is_registered}
 use Rattle.dh_model.specs.Kinds.{Kind, records_of}
-use Rattle.dh_model.specs.Machine.{at_rent, changed, managed, with_comment}
+use Rattle.dh_model.specs.Machine.{changed}
 use Rattle.dh_model.specs.Rules.{Each, IsThere, NamesWhatIsThere, PropertyRefers, Refers, ViewingRefers}
 use Rattle.dh_model.proofs.KeyOrders.{nat_total, nat_ties, text_total, text_ties, texts_total, texts_tie}
-use Rattle.dh_laws.proofs.Acceptance.{Accepted, AddsLease, Assigns, EndsLease}
+use Rattle.dh_laws.proofs.Acceptance.{Accepted, AddsLease, EndsLease, turned, turned_is}
 use Rattle.dh_laws.proofs.KeepGrowth.{Grows, if_some, names_put, stay_with_property, stay_with_registration, still_refers}
 use Rattle.dh_model.proofs.MapRows.{each_got, inside, there}
 
@@ -74,52 +71,41 @@ module _ (books : Books) (run : Option OpenRun) (names : NamesWhatIsThere books)
         property = subst (IsThere books.properties) (sym property) old.property;
       })
 
-  names_assigned : (it : Assignment) → Assigns books run it → NamesWhatIsThere (managed books it (get books.properties it.property))
-  names_assigned it h =
-      subst (λ found. NamesWhatIsThere (managed books it found)) (sym h.is)
-      (names_replaced it.property h.row (record h.row { staff = it.staff }) h.is refl refl (if_some it.staff (λ m c. c.there) h.staff))
-
-  names_at_rent : (it : RentChange) (row : Property) → get books.properties it.property ≡ Some row
-      → NamesWhatIsThere (at_rent books it (get books.properties it.property))
-  names_at_rent it row is =
-      let old = each_got text_total text_ties books.properties (PropertyRefers books) (names Kind.Properties) it.property row is in
-      subst (λ found. NamesWhatIsThere (at_rent books it found)) (sym is)
-      (names_replaced it.property row (record row { rent = it.rent }) is refl refl old.staff)
-
-  names_comment : (it : ViewingComment) (row : Viewing) → get books.viewings (it.client, it.property) ≡ Some row
-      → NamesWhatIsThere (with_comment books it (get books.viewings (it.client, it.property)))
-  names_comment it row is =
-      subst (λ found. NamesWhatIsThere (with_comment books it found)) (sym is)
-      (names_commented (it.client, it.property) row (record row { comment = Some it.comment }) is refl refl)
-
   ended_is_there : (it : Ending) → EndsLease books run it → IsThere books.leases it.lease
   ended_is_there it ends = (there nat_total nat_ties books.leases it.lease).1 (ends.lease, ends.is)
 
-  pub keeps_references : (rows : Change) → Accepted books run rows → NamesWhatIsThere (changed rows books)
-  keeps_references (change.Branch it) h = names_put books Kind.Branches it.number it names (λ c p r. r) tt
-  keeps_references (change.NewFee it) h = names_put books Kind.BranchFees it.branch it names (λ c p r. r) h.0.branch
-  keeps_references (change.Fee it) h = names_put books Kind.BranchFees it.branch it names (λ c p r. r) h.0.branch
-  keeps_references (change.Staff it) h = names_put books Kind.Staff it.number it names (λ c p r. r) h.branch
-  keeps_references (change.Owner it) h = names_put books Kind.Owners it.number it names (λ c p r. r) tt
-  keeps_references (change.Property it) h =
+  names_after : (rows : Change) (a : Accepted books run rows) → NamesWhatIsThere (turned books run rows a)
+  names_after (change.Branch it) h = names_put books Kind.Branches it.number it names (λ c p r. r) tt
+  names_after (change.NewFee it) h = names_put books Kind.BranchFees it.branch it names (λ c p r. r) h.0.branch
+  names_after (change.Fee it) h = names_put books Kind.BranchFees it.branch it names (λ c p r. r) h.0.branch
+  names_after (change.Staff it) h = names_put books Kind.Staff it.number it names (λ c p r. r) h.branch
+  names_after (change.Owner it) h = names_put books Kind.Owners it.number it names (λ c p r. r) tt
+  names_after (change.Property it) h =
       names_put books Kind.Properties it.number it names
       (stay_with_property books it.number it (λ row is. never_there (get books.properties it.number) row (row.branch ≡ it.branch) h.new is))
       (record { owner = h.owner; staff = if_some it.staff (λ m c. c.there) h.staff; branch = h.branch })
-  keeps_references (change.Assign it) h = names_assigned it h
-  keeps_references (change.Rent it) h = names_at_rent it h.0 h.1
-  keeps_references (change.Client it) h = names_put books Kind.Clients it.number it names (λ c p r. r) tt
-  keeps_references (change.Register it) h =
+  names_after (change.Assign it) h =
+      names_replaced it.property h.row (record h.row { staff = it.staff }) h.is refl refl (if_some it.staff (λ m c. c.there) h.staff)
+  names_after (change.Rent it) h =
+      names_replaced it.property h.0 (record h.0 { rent = it.rent }) h.1 refl refl
+      (each_got text_total text_ties books.properties (PropertyRefers books) (names Kind.Properties) it.property h.0 h.1).staff
+  names_after (change.Client it) h = names_put books Kind.Clients it.number it names (λ c p r. r) tt
+  names_after (change.Register it) h =
       names_put books Kind.Registrations (it.client, it.branch) it names (stay_with_registration books (it.client, it.branch) it)
       (record { client = h.client; branch = h.branch; staff = h.staff })
-  keeps_references (change.Viewing it) h =
+  names_after (change.Viewing it) h =
       names_put books Kind.Viewings (it.client, it.property) it names (λ c p r. r) (record { client = h.client; property = h.property })
-  keeps_references (change.Comment it) h = names_comment it h.0 h.1
-  keeps_references (change.Inspection it) h =
+  names_after (change.Comment it) h =
+      names_commented (it.client, it.property) h.0 (record h.0 { comment = Some it.comment }) h.1 refl refl
+  names_after (change.Inspection it) h =
       names_put books Kind.Inspections (it.property, it.day) it names (λ c p r. r) (record { property = h.property; staff = h.staff })
-  keeps_references (change.Lease it) h = names_put books Kind.Leases it.terms.number it names (λ c p r. r) (refers_to_property it h)
-  keeps_references (change.NewEnding it) h = names_put books Kind.Endings it.lease it names (λ c p r. r) (ended_is_there it h.0)
-  keeps_references (change.Ending it) h = names_put books Kind.Endings it.lease it names (λ c p r. r) (ended_is_there it h.0)
-  keeps_references (change.Receipt it) h = names_put books Kind.Receipts it.number it names (λ c p r. r) h.lease
-  keeps_references (change.Open it) h =
+  names_after (change.Lease it) h = names_put books Kind.Leases it.terms.number it names (λ c p r. r) (refers_to_property it h)
+  names_after (change.NewEnding it) h = names_put books Kind.Endings it.lease it names (λ c p r. r) (ended_is_there it h.0)
+  names_after (change.Ending it) h = names_put books Kind.Endings it.lease it names (λ c p r. r) (ended_is_there it h.0)
+  names_after (change.Receipt it) h = names_put books Kind.Receipts it.number it names (λ c p r. r) h.lease
+  names_after (change.Open it) h =
       names_next (record books { runs = insert books.runs it.month it }) (it.month + 1) (names_put books Kind.Runs it.month it names (λ c p r. r) tt)
-  keeps_references change.Post h = names
+  names_after change.Post h = names
+
+  pub keeps_references : (rows : Change) → Accepted books run rows → NamesWhatIsThere (changed rows books)
+  keeps_references rows h = subst NamesWhatIsThere (turned_is books run rows h) (names_after rows h)

@@ -1,22 +1,18 @@
 -- Whose staff manages and registers, after every change.
-use Rattle.std.proofs.Common.{◌≡◌, ◌∙◌, sym, ap, subst, inl, inr, ℕ, true, List, Option, Some, None, IfSome}
+use Rattle.std.proofs.Common.{◌≡◌, ◌∙◌, ap, subst, inl, inr, ℕ, true, List, Option, Some, None, IfSome}
 use Rattle.std.specs.FinMap.{get, insert}
 use Rattle.dh_types.specs.declared.staff.Staff.{Staff}
 use Rattle.dh_types.specs.declared.property.Property.{Property}
 use Rattle.dh_types.specs.declared.client.Registration.{Registration}
-use Rattle.dh_types.specs.declared.viewing.Viewing.{Viewing}
-use Rattle.dh_types.specs.declared.command.Assignment.{Assignment}
-use Rattle.dh_types.specs.declared.command.RentChange.{RentChange}
-use Rattle.dh_types.specs.declared.command.ViewingComment.{ViewingComment}
 use Rattle.dh_model.specs.declared.open_run.OpenRun.{OpenRun}
 use Rattle.dh_model.specs.declared.rows.Change.{Change}
 use Rattle.dh_model.specs.declared.rows.Change.TheVariants as change
 use Rattle.dh_model.specs.Books.{Books}
 use Rattle.dh_model.specs.Checks.{works_at}
-use Rattle.dh_model.specs.Machine.{at_rent, changed, managed, with_comment}
+use Rattle.dh_model.specs.Machine.{changed}
 use Rattle.dh_model.specs.Rules.{StaffOfTheBranch}
 use Rattle.dh_model.proofs.KeyOrders.{text_total, text_ties, texts_total, texts_tie}
-use Rattle.dh_laws.proofs.Acceptance.{Accepted, AddsStaff, Assigns, Registers}
+use Rattle.dh_laws.proofs.Acceptance.{Accepted, AddsStaff, Registers, turned, turned_is}
 use Rattle.dh_laws.proofs.KeepGrowth.{if_some}
 use Rattle.dh_model.proofs.MapRows.{cases_key, each_got, each_put, get_other}
 
@@ -59,28 +55,15 @@ module _ (books : Books) (run : Option OpenRun) (rules : StaffOfTheBranch books)
     ) it (λ r. works_at r.branch (get books.staff r.staff) ≡ true) rules.registrars h.of_branch;
   }
 
-  assigned_staff : (it : Assignment) → Assigns books run it → StaffOfTheBranch (managed books it (get books.properties it.property))
-  assigned_staff it h =
-      subst (λ found. StaffOfTheBranch (managed books it found)) (sym h.is)
-      (property_put it.property (record h.row { staff = it.staff }) (if_some it.staff (λ m c. c.of_branch) h.staff))
-
-  staff_at_rent : (it : RentChange) (row : Property) → get books.properties it.property ≡ Some row
-      → StaffOfTheBranch (at_rent books it (get books.properties it.property))
-  staff_at_rent it row is =
-      subst (λ found. StaffOfTheBranch (at_rent books it found)) (sym is)
-      (property_put it.property (record row { rent = it.rent })
-      (each_got text_total text_ties books.properties (IsStaffed books) rules.managers it.property row is))
-
-  staff_commented : (it : ViewingComment) (row : Viewing) → get books.viewings (it.client, it.property) ≡ Some row
-      → StaffOfTheBranch (with_comment books it (get books.viewings (it.client, it.property)))
-  staff_commented it row is =
-      subst (λ found. StaffOfTheBranch (with_comment books it found)) (sym is) (record { managers = rules.managers; registrars = rules.registrars })
+  staffed : (rows : Change) (a : Accepted books run rows) → StaffOfTheBranch (turned books run rows a)
+  staffed (change.Staff it) h = staff_added it h
+  staffed (change.Property it) h = property_put it.number it (if_some it.staff (λ m c. c.of_branch) h.staff)
+  staffed (change.Assign it) h = property_put it.property (record h.row { staff = it.staff }) (if_some it.staff (λ m c. c.of_branch) h.staff)
+  staffed (change.Rent it) h =
+      property_put it.property (record h.0 { rent = it.rent })
+      (each_got text_total text_ties books.properties (IsStaffed books) rules.managers it.property h.0 h.1)
+  staffed (change.Register it) h = registration_added it h
+  staffed rows h = record { managers = rules.managers; registrars = rules.registrars }
 
   pub keeps_branches : (rows : Change) → Accepted books run rows → StaffOfTheBranch (changed rows books)
-  keeps_branches (change.Staff it) h = staff_added it h
-  keeps_branches (change.Property it) h = property_put it.number it (if_some it.staff (λ m c. c.of_branch) h.staff)
-  keeps_branches (change.Assign it) h = assigned_staff it h
-  keeps_branches (change.Rent it) h = staff_at_rent it h.0 h.1
-  keeps_branches (change.Register it) h = registration_added it h
-  keeps_branches (change.Comment it) h = staff_commented it h.0 h.1
-  keeps_branches _ h = record { managers = rules.managers; registrars = rules.registrars }
+  keeps_branches rows h = subst StaffOfTheBranch (turned_is books run rows h) (staffed rows h)

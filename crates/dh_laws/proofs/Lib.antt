@@ -11,7 +11,6 @@ pub mod MonthSums
 pub mod OweBalances
 pub mod OweCharges
 pub mod OweDues
-pub mod OweMoves
 pub mod OweSums
 pub mod PassChanges
 pub mod PassEach
@@ -70,6 +69,7 @@ pub mod TellingCuts
 pub mod Standing
 pub mod Versions
 pub mod Carrying
+mod StepCases
 pub mod RowsNarrowed
 pub mod LooksFit
 pub mod LooksJudged

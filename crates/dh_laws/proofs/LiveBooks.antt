@@ -10,8 +10,7 @@ use Rattle.dh_model.specs.Leases.{dues}
 use Rattle.dh_model.specs.Machine.{step}
 use Rattle.dh_model.specs.Rules.{IsLawful, IsThere}
 use Rattle.dh_model.specs.Whole.{whole}
-use Rattle.dh_model.proofs.Among.{among}
-use Rattle.dh_model.proofs.DueLemmas.{is_due}
+use Rattle.dh_model.proofs.DueLemmas.{month_of_due}
 use Rattle.dh_laws.specs.InOrder.{AreKeyed, IsEntered}
 use Rattle.dh_laws.proofs.KeepOrder.{changes_keep_order}
 use Rattle.dh_laws.proofs.MonthSteps.{steps_keep}
@@ -50,9 +49,6 @@ module _ (size : ℕ) (pos : 1 ≤ size) where
 pub mended_books_are_lawful : (size : ℕ) → MendedBooksAreLawful size
 mended_books_are_lawful size start after events pos in_order entered f =
     kept size pos start after events entered (whole_is_lawful size start.books start.run pos in_order) f
-
-month_of_due : (books : Books) (month : ℕ) (charge : Charge) → IsAmong (dues books month) charge → charge.month ≡ month
-month_of_due books month charge a = (is_due books.endings (values books.leases) month charge (among (dues books month) charge a)).month_is
 
 module _ (size : ℕ) (pos : 1 ≤ size) (books : Books) (keyed : AreKeyed books) (lawful : IsLawful books size) (month : ℕ) (charge : Charge) where
   is_of_run : IsAmong (values books.charges) charge → charge.month ≡ month → IsThere books.runs month × IsAmong (dues books month) charge

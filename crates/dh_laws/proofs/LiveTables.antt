@@ -1,5 +1,5 @@
 -- Tables that show no open run.
-use Rattle.std.proofs.Common.{◌≡◌, ◌∙◌, refl, sym, ap, subst, ℕ, not, List, [], ◌∷◌, map, length, None, arith}
+use Rattle.std.proofs.Common.{◌≡◌, ◌∙◌, sym, ap, subst, ℕ, not, List, [], map, None}
 use Rattle.std.specs.Ordering.{nat_cmp}
 use Rattle.std.specs.List.{find}
 use Rattle.std.specs.FinMap.{FinMap, empty, entries, len-empty, len-entries}
@@ -8,6 +8,7 @@ use Rattle.dh_model.specs.Books.{Books}
 use Rattle.dh_model.specs.Whole.{IsOpenAt, completed, whole}
 use Rattle.dh_laws.specs.Events.{IsShown, Tables}
 use Rattle.dh_laws.specs.Lives.{EmptyTablesAreShown}
+use Rattle.dh_laws.proofs.EmptyBooks.{none_left}
 
 module _ (size : ℕ) where
   whole_itself : (t : Tables) → t.run ≡ None → IsShown size t → whole size t.books ≡ t.books
@@ -18,12 +19,8 @@ module _ (size : ℕ) where
   pub mended_whole : (t : Tables) (books : Books) → t ≡ record { books = books; run = None } → IsShown size t → whole size t.books ≡ books
   mended_whole t books is shown = whole_itself t (ap (λ (u : Tables). u.run) is) shown ∙ ap (λ (u : Tables). u.books) is
 
-no_rows : {X : Type 0} (xs : List X) → length xs ≡ 0 → xs ≡ []
-no_rows [] h = refl
-no_rows (x ∷ xs) h = absurd (omega (arith, h))
-
 pub empty_tables_are_shown : (size : ℕ) → EmptyTablesAreShown size
 empty_tables_are_shown size month =
     let runs : FinMap nat_cmp Run = empty in
-    let none : entries runs ≡ [] = no_rows (entries runs) (sym (len-entries runs) ∙ len-empty nat_cmp Run) in
+    let none : entries runs ≡ [] = none_left (entries runs) (sym (len-entries runs) ∙ len-empty nat_cmp Run) in
     ap (λ (rows : List (ℕ × Run)). find (λ (run : Run). not run.is_closed) (map (λ (row : ℕ × Run). row.1) rows)) none

@@ -1,5 +1,5 @@
 -- The rows of an accepted command fit in the books.
-use Rattle.std.proofs.Common.{◌≡◌, ◌≤◌, ◌+◌, refl, ℕ, Option, Some, None, arith}
+use Rattle.std.proofs.Common.{◌≡◌, ◌≤◌, ◌+◌, ℕ, Option, None, arith}
 use Rattle.std.specs.FinMap.{get, len}
 use Rattle.dh_types.specs.declared.lease.Receipt.{Receipt}
 use Rattle.dh_model.specs.declared.open_run.OpenRun.{OpenRun}
@@ -15,15 +15,12 @@ use Rattle.dh_laws.specs.InOrder.{AreKeyed}
 use Rattle.dh_laws.specs.Looks.{AcceptedChangesFit, FitsIn}
 use Rattle.dh_laws.proofs.Acceptance.{Accepted}
 use Rattle.dh_laws.proofs.VerdictCases.{accepted}
-
-absent : {X : Type 0} (found : Option X) → ((x : X) → found ≡ Some x → ⊥) → found ≡ None
-absent None never = refl
-absent (Some x) never = absurd (never x refl)
+use Rattle.dh_laws.proofs.OweDues.{none_if}
 
 module _ (books : Books) (keyed : AreKeyed books) where
   -- the next number is of no receipt
-  next_number_is_new : KeysInOrder books → (number : ℕ) → number ≡ len books.receipts + 1 → get books.receipts number ≡ None
-  next_number_is_new keys number next = absent (get books.receipts number) (λ old is.
+  pub next_number_is_new : KeysInOrder books → (number : ℕ) → number ≡ len books.receipts + 1 → get books.receipts number ≡ None
+  next_number_is_new keys number next = none_if (get books.receipts number) (λ old is.
       let own = keyed Kind.Receipts number old is in
       let bounds = each_got nat_total nat_ties books.receipts (λ (r : Receipt). (1 ≤ r.number) × (r.number ≤ len books.receipts)) keys.numbers number old is in
       let within = bounds.1 in
@@ -31,7 +28,7 @@ module _ (books : Books) (keyed : AreKeyed books) where
 
   -- the next month has no run
   next_month_is_new : RunsInOrder books → (month : ℕ) → month ≡ books.next → get books.runs month ≡ None
-  next_month_is_new runs month next = absent (get books.runs month) (λ row is.
+  next_month_is_new runs month next = none_if (get books.runs month) (λ row is.
       let within = (runs.run month).0 ((there nat_total nat_ties books.runs month).1 (row, is)) in
       omega (arith, within.1, next))
 

@@ -15,11 +15,12 @@ use Rattle.dh_model.specs.Rules.{KeysInOrder, RunsInOrder}
 use Rattle.dh_model.specs.Whole.{IsOpenAt, open_row}
 use Rattle.dh_model.proofs.Among.{Among}
 use Rattle.dh_model.proofs.KeyOrders.{nat_ties, nat_total}
-use Rattle.dh_model.proofs.MapRows.{below_at, each_got, entry_found, is_less, of_row, sorted, there}
+use Rattle.dh_model.proofs.MapRows.{below_at, each_got, is_less, of_row, sorted, there}
 use Rattle.dh_laws.specs.InOrder.{AreKeyed}
 use Rattle.dh_laws.specs.Looks.{IsLast, LastNumberIsCount, OpenMonthIsLast, OpenRunIsLast, last_open, month_open, number_of, unless_closed}
 use Rattle.dh_laws.proofs.MapMerges.{own_row}
 use Rattle.dh_laws.proofs.MonthShown.{all_closed, shown_row}
+use Rattle.dh_model.proofs.BranchDues.{entry_found}
 
 -- ---- receipts are numbered without a gap
 
@@ -43,7 +44,7 @@ module _ (books : Books) (keyed : AreKeyed books) (rule : KeysInOrder books) whe
       (each_got nat_total nat_ties books.receipts (λ r. (1 ≤ r.number) × (r.number ≤ len books.receipts)) rule.numbers number it is)
 
   got : (e : ℕ × Receipt) → Among (entries books.receipts) e → get books.receipts e.0 ≡ Some e.1
-  got e a = get-entries books.receipts e.0 ∙ entry_found nat_total nat_ties (entries books.receipts) e (sorted nat_total nat_ties books.receipts) a
+  got e a = get-entries books.receipts e.0 ∙ entry_found nat_cmp nat_total (entries books.receipts) e (sorted nat_total nat_ties books.receipts) a
 
   -- where no number is greater, there are no more
   no_more : (last : ℕ) → ((number : ℕ) (it : Receipt) → get books.receipts number ≡ Some it → number ≤ last) → len books.receipts ≤ last

@@ -15,15 +15,12 @@ use Rattle.dh_model.specs.Whole.{rows_where}
 use Rattle.dh_model.proofs.Among.{Among, in_filter, in_map}
 use Rattle.dh_model.proofs.Rising.{IsBefore, Rises}
 use Rattle.dh_laws.specs.InOrder.{StandUnder}
-use Rattle.dh_model.proofs.MapRows.{below_at, entry_found, got_after, inside, is_less, key_itself, kept_if, keys_differ, row_of, same_key, sorted}
+use Rattle.dh_model.proofs.MapRows.{below_at, got_after, inside, is_less, key_itself, kept_if, keys_differ, row_of, same_key, sorted}
+use Rattle.dh_model.proofs.BranchDues.{entry_found}
 
 none_found : {K X : Type 0} (R : K → K → Ordering) (q : K) (es : List (K × X)) → ((e : K × X) → Among es e → eq_by_cmp R q e.0 ≡ false) → find R q es ≡ None
 none_found R q [] apart = refl
 none_found R q (e ∷ es) apart = ap (λ b. cond b (Some e.1) (find R q es)) (apart e (inl refl)) ∙ none_found R q es (λ f a. apart f (inr a))
-
-or_none : {X : Type 0} (found : Option X) → option_or found None ≡ found
-or_none None = refl
-or_none (Some x) = refl
 
 module _ {K X : Type 0} {R : K → K → Ordering} (o : IsTotalOrder R) (anti : IsAntisymmetric R) where
   module _ (key : X → K) where
@@ -134,7 +131,7 @@ module _ {K X : Type 0} {R : K → K → Ordering} (o : IsTotalOrder R) (anti : 
     -- the rows rise by their keys
     pub rows_rise : (m : FinMap R X) → StandUnder key m → Rises (λ x y. IsBefore R (key x) (key y)) (values m)
     rows_rise m keyed = rise_by_key (entries m) (sorted o anti m) (λ e a. keyed e.0 e.1 (get-entries m e.0
-        ∙ entry_found o anti (entries m) e (sorted o anti m) a))
+        ∙ entry_found R o (entries m) e (sorted o anti m) a))
 
   -- ---- by a test
 
@@ -179,9 +176,6 @@ module _ {K X : Type 0} {R : K → K → Ordering} (o : IsTotalOrder R) (anti : 
 
     pub get_kept : (m : FinMap R X) (q : K) (x : X) → get m q ≡ Some x → test x ≡ true → get (rows_where test m) q ≡ Some x
     get_kept m q x h t = get-rows_where m q ∙ ap (kept_if test) h ∙ ap (λ b. cond b (Some x) None) t
-
-    pub get_left_out : (m : FinMap R X) (q : K) (x : X) → get m q ≡ Some x → test x ≡ false → get (rows_where test m) q ≡ None
-    get_left_out m q x h t = get-rows_where m q ∙ ap (kept_if test) h ∙ ap (λ b. cond b (Some x) None) t
 
     pub rows_where_keyed : (key : X → K) (m : FinMap R X) → StandUnder key m → StandUnder key (rows_where test m)
     rows_where_keyed key m keyed q x h = keyed q x (got_rows_where m q x h).0

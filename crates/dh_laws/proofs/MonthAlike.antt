@@ -17,9 +17,6 @@ module _ {X : Type 0} where
   pub have_trans : (xs ys zs : List X) → HaveTheSame xs ys → HaveTheSame ys zs → HaveTheSame xs zs
   have_trans xs ys zs p q x = (λ h. (q x).0 ((p x).0 h), λ h. (p x).1 ((q x).1 h))
 
-  pub have_turned : (xs ys : List X) → HaveTheSame xs ys → HaveTheSame ys xs
-  have_turned xs ys p x = ((p x).1, (p x).0)
-
   -- lists that are equal to others in the place of these
   pub have_instead : (xs ys us vs : List X) → us ≡ xs → vs ≡ ys → HaveTheSame xs ys → HaveTheSame us vs
   have_instead xs ys us vs p q h = subst (λ l. HaveTheSame l vs) (sym p) (subst (λ l. HaveTheSame xs l) (sym q) h)

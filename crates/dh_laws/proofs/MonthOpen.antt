@@ -14,10 +14,9 @@ use Rattle.dh_model.specs.Books.{Books}
 use Rattle.dh_model.specs.Runs.{batch_of, batches_before, begun_branches, dues_of_branch, part_of, posted_charges, posted_of_branch, posted_parts}
 use Rattle.dh_model.specs.Rules.{ArePosted, IsThere, MonthIsClosed, MonthIsOpen, MonthsInOrder, RunsInOrder, charges_in, parts_in}
 use Rattle.dh_model.specs.Whole.{open_row}
-use Rattle.dh_model.proofs.Among.{Among, among, in_filter, in_flat_map, in_map, is_among}
+use Rattle.dh_model.proofs.Among.{Among, among, in_filter, in_flat_map, in_map, is_among, of_left}
 use Rattle.dh_model.proofs.KeyOrders.{nat_total, nat_ties}
 use Rattle.dh_laws.specs.InOrder.{StandUnder}
-use Rattle.dh_model.proofs.Pairs.{among_left}
 use Rattle.dh_model.proofs.MapRows.{each_insert, got_after, new_is_there, of_row, row_of, there, there_after, values_new}
 use Rattle.dh_laws.proofs.MonthAlike.{closed_alike, have_same}
 use Rattle.dh_laws.proofs.MonthDues.{branch_after_lease, dues_after_lease}
@@ -152,7 +151,7 @@ module _ (size : ℕ) (b : Books) (row : Run) (keyed : StandUnder (λ (it : Run)
       let p = values_new nat_total nat_ties b.runs row.month row fresh in
       ap (find (λ run. not run.is_closed)) p.is
       ∙ found_after (λ run. not run.is_closed) p.before p.after row
-      (λ run a. ap not (all_closed b in_order.shown run (subst (λ xs. Among xs run) (sym p.was) (among_left p.before p.after run a)))) (ap not open_is)
+      (λ run a. ap not (all_closed b in_order.shown run (subst (λ xs. Among xs run) (sym p.was) (of_left p.before p.after run a)))) (ap not open_is)
 
   pub open_keeps : RunInMonths size (record b { runs = insert b.runs row.month row; next = row.month + 1 }) (Some (record { month = row.month; done = 0 }))
   open_keeps = record { runs = runs_after; months = months_after; shown = (row, shown_after, refl, none_done) }

@@ -1,13 +1,9 @@
 -- Over whole books each step of the machine leaves them lawful.
-use Rattle.std.proofs.Common.{◌≡◌, ◌∙◌, refl, sym, ap, subst, ℕ, ◌+◌, ◌≤◌, Bool, true, false, nat_le, if◌then◌else◌, Option, Some, None}
-use Rattle.std.specs.FinMap.{get, values}
+use Rattle.std.proofs.Common.{◌≡◌, refl, sym, subst, ℕ, ◌≤◌, true, false, Option, Some, None}
+use Rattle.std.specs.FinMap.{values}
 use Rattle.dh_types.specs.declared.command.Command.{Command}
 use Rattle.dh_types.specs.declared.command.Command.TheVariants as command
 use Rattle.dh_types.specs.declared.command.RunOrder.{RunOrder}
-use Rattle.dh_types.specs.declared.fee.BranchFee.{BranchFee}
-use Rattle.dh_types.specs.declared.lease.Ending.{Ending}
-use Rattle.dh_types.specs.declared.reply.Reply.{Reply}
-use Rattle.dh_types.specs.declared.reply.Reply.TheVariants as reply
 use Rattle.dh_model.specs.declared.open_run.OpenRun.{OpenRun}
 use Rattle.dh_model.specs.declared.rows.Change.{Change}
 use Rattle.dh_model.specs.declared.rows.Change.TheVariants as change
@@ -16,42 +12,19 @@ use Rattle.dh_model.specs.declared.rows.Verdict.TheVariants as verdict
 use Rattle.dh_model.specs.Books.{Books, State}
 use Rattle.dh_model.specs.Rules.{IsLawful}
 use Rattle.dh_model.specs.MachineLaws.{is_post}
-use Rattle.dh_model.specs.Runs.{batches, ran}
-use Rattle.dh_model.specs.Verdicts.{ending_rows, fee_rows, opened_run, verdict_on}
-use Rattle.dh_model.specs.Machine.{carried_out, changed, posted_sum, resumed, settled}
+use Rattle.dh_model.specs.Runs.{ran}
+use Rattle.dh_model.specs.Verdicts.{opened_run, verdict_on}
+use Rattle.dh_model.specs.Machine.{carried_out, changed, settled}
 use Rattle.dh_model.specs.Whole.{IsOpenAt, open_row}
 use Rattle.dh_model.proofs.Among.{is_among}
-use Rattle.dh_laws.specs.InOrder.{AreKeyed, IsEntered, IsInOrder, run_after}
+use Rattle.dh_model.proofs.MachineLemmas.{resumed_books}
+use Rattle.dh_laws.specs.Batches.{is_plain}
+use Rattle.dh_laws.specs.InOrder.{AreKeyed, IsEntered, IsInOrder}
 use Rattle.dh_laws.specs.Keeping.{ChangesKeepOrder, StepsKeepTheLaw, WholeIsLawful}
 use Rattle.dh_laws.specs.Posting.{RunIsOpeningMadeWhole}
 use Rattle.dh_laws.proofs.MonthShown.{none_open}
 use Rattle.dh_laws.proofs.MonthWhole.{lawful_closed}
-use Rattle.dh_laws.proofs.VerdictCases.{post_case, rows_are, rows_of, run_case}
-
--- a fee and an early end begin no run
-fee_opens_none : (it : BranchFee) (found : Option BranchFee) → run_after None (fee_rows it found) ≡ None
-fee_opens_none it None = refl
-fee_opens_none it (Some was) = refl
-
-end_opens_none : (it : Ending) (found : Option Ending) → run_after None (ending_rows it found) ≡ None
-end_opens_none it None = refl
-end_opens_none it (Some was) = refl
-
-either_books : (b : Bool) (x y : State × Reply) (books : Books) → x.0.books ≡ books → y.0.books ≡ books → (if b then x else y).0.books ≡ books
-either_books true x y books p q = p
-either_books false x y books p q = q
-
--- batches leave the books, which are those with the run made
-resumed_books : (size : ℕ) (books : Books) (count : ℕ) (run : Option OpenRun) → (resumed size books count run).0.books ≡ books
-resumed_books size books count None = refl
-resumed_books size books count (Some run) =
-    let all = batches size books run.month in
-    either_books (nat_le all (run.done + count))
-    (record { books = books; open_run = None }, reply.Posted (posted_sum run.month (get books.runs run.month))) (
-      record { books = books; open_run = Some (record { month = run.month; done = run.done + count }) },
-      reply.Part (record { month = run.month; done = run.done + count; of = all }),
-    )
-    books refl refl
+use Rattle.dh_laws.proofs.VerdictCases.{plain_rows, post_case, run_case, run_stays}
 
 module _ (size : ℕ) (changes : ChangesKeepOrder size) (wholes : WholeIsLawful size) (runs : RunIsOpeningMadeWhole size) (s : State) (pos : 1 ≤ size)
     (keyed : AreKeyed s.books) (lawful : IsLawful s.books size) where
@@ -62,12 +35,12 @@ module _ (size : ℕ) (changes : ChangesKeepOrder size) (wholes : WholeIsLawful 
   in_order = record { keyed = keyed; rules = lawful.rules; shown = none_open s.books (λ run a. lawful.closed run (is_among (values s.books.runs) run a)) }
 
   -- rows that open no run
-  kept : (told : Command) (rows given : Change) → IsEntered told → verdict_on s.books None told ≡ verdict.Change rows → rows ≡ given
-      → run_after None given ≡ None → Law (changed rows s.books)
-  kept told rows given entered h same none =
+  kept : (told : Command) (rows : Change) → IsEntered told → verdict_on s.books None told ≡ verdict.Change rows → is_plain rows ≡ true
+      → Law (changed rows s.books)
+  kept told rows entered h plain =
       let after = changes s.books None told rows pos in_order entered h in
       let shown : open_row (changed rows s.books) ≡ None =
-      subst (λ run. IsOpenAt size (changed rows s.books) run) (ap (run_after None) same ∙ none) after.shown in
+      subst (λ run. IsOpenAt size (changed rows s.books) run) (run_stays None rows plain) after.shown in
       (after.keyed, lawful_closed size (changed rows s.books) pos after.keyed after.rules shown)
 
   -- what is accepted, other than batches, is so where no run is open
@@ -102,15 +75,7 @@ module _ (size : ℕ) (changes : ChangesKeepOrder size) (wholes : WholeIsLawful 
   carried (command.Post count) rows e h =
       subst (λ r. Law (carried_out size s (command.Post count) r).0.books) (sym (post_case s.books s.open_run rows count h).0)
       (subst Law (sym (resumed_books size s.books count s.open_run)) (keyed, lawful))
-  carried (command.Fee it) rows e h =
-      let told = command.Fee it in
-      kept told rows (rows_of s.books told) e (with_no_run s.open_run told rows refl h) (rows_are s.books s.open_run rows told h)
-      (fee_opens_none it (get s.books.branch_fees it.branch))
-  carried (command.End it) rows e h =
-      let told = command.End it in
-      kept told rows (rows_of s.books told) e (with_no_run s.open_run told rows refl h) (rows_are s.books s.open_run rows told h)
-      (end_opens_none it (get s.books.endings it.lease))
-  carried told rows e h = kept told rows (rows_of s.books told) e (with_no_run s.open_run told rows refl h) (rows_are s.books s.open_run rows told h) refl
+  carried told rows e h = kept told rows e (with_no_run s.open_run told rows refl h) (plain_rows s.books s.open_run told rows refl h)
 
   settled_kept : (told : Command) (v : Verdict) → IsEntered told → verdict_on s.books s.open_run told ≡ v → Law (settled size s told v).0.books
   settled_kept told (verdict.Change rows) e h = carried told rows e h

@@ -3,7 +3,7 @@ use Rattle.std.proofs.Common.{◌≡◌, ◌≢◌, ◌∙◌, refl, sym, ap, su
 use Rattle.std.proofs.Common.{is_lt, arith}
 use Rattle.std.specs.List.{filter, flat_map, range_with_len, sum_by}
 use Rattle.std.specs.Cmp.{IsTotalOrder}
-use Rattle.std.specs.FinMap.{FinMap, entries, entries_sorted, get, get-entries, is_sorted, keys, values}
+use Rattle.std.specs.FinMap.{FinMap, entries, get, get-entries, keys, values}
 use Rattle.std.proofs.lemmas.Bool.{false_from_ne_true}
 use Rattle.std.proofs.lemmas.Cmp.{tied_itself}
 use Rattle.std.proofs.lemmas.List.Sums.{sum_by-append, sum_by-cons}
@@ -18,7 +18,7 @@ use Rattle.dh_model.specs.Kinds.{Kind}
 use Rattle.dh_model.specs.Rules.{HaveTheSame, IsThere, NamesWhatIsThere}
 use Rattle.dh_model.proofs.Among.{Among, among, in_filter, in_flat_map, is_among, of_filter, of_flat_map, of_map, of_range}
 use Rattle.dh_model.proofs.BatchLemmas.{last_batch_posts_all}
-use Rattle.dh_model.proofs.BranchDues.{holds, keys_rise}
+use Rattle.dh_model.proofs.BranchDues.{branches_rise}
 use Rattle.dh_model.proofs.DueLemmas.{falls_in, is_due}
 use Rattle.dh_model.proofs.KeyOrders.{text_total, text_ties}
 use Rattle.dh_model.proofs.Rising.{IsBefore, Rises}
@@ -161,9 +161,6 @@ module _ (books : Books) (names : NamesWhatIsThere books) where
       abbrev is_at : List ℕ → Lease → Bool
       is_at branch lease = is_property_of branch (get books.properties lease.terms.property)
 
-      branches_rise : Rises (IsBefore text_cmp) (keys books.branches)
-      branches_rise = keys_rise text_cmp (entries books.branches) (holds (is_sorted text_cmp (entries books.branches)) (entries_sorted books.branches))
-
       branch_by_branch : (leases : List Lease) → ((lease : Lease) → Among leases lease → IsAt lease)
           → sum_by (λ branch. sum_by of_lease (filter (is_at branch) leases)) (keys books.branches) ≡ sum_by of_lease leases
       branch_by_branch [] at = sum_none (λ branch. 0) (keys books.branches) (λ branch a. refl)
@@ -176,7 +173,7 @@ module _ (books : Books) (names : NamesWhatIsThere books) where
           let both = sum_both (λ branch. cond (is_at branch lease) (of_lease lease) 0) (λ branch. sum_by of_lease (filter (is_at branch) leases))
           (keys books.branches) in
           let own = sum_one text_cmp text_total (λ branch. is_at branch lease) (of_lease lease) its.branch its.is its.one
-          (keys books.branches) branches_rise its.of in
+          (keys books.branches) (branches_rise books) its.of in
           let all = sum_by-cons of_lease lease leases in
           omega (arith, rest, split, both, own, all)
 

@@ -3,8 +3,6 @@ use Rattle.std.proofs.Common.{◌≡◌, ◌∙◌, refl, sym, ap, ℕ, not, nat
 use Rattle.std.specs.FinMap.{FinMap, get, insert}
 use Rattle.dh_types.specs.declared.property.Property.{Property}
 use Rattle.dh_types.specs.declared.viewing.Viewing.{Viewing}
-use Rattle.dh_types.specs.declared.command.Assignment.{Assignment}
-use Rattle.dh_types.specs.declared.command.RentChange.{RentChange}
 use Rattle.dh_types.specs.declared.command.ViewingComment.{ViewingComment}
 use Rattle.dh_types.specs.declared.lease.Charge.{Charge}
 use Rattle.dh_types.specs.declared.run.Part.{Part}
@@ -15,7 +13,9 @@ use Rattle.dh_model.specs.declared.rows.Change.{Change}
 use Rattle.dh_model.specs.declared.rows.Change.TheVariants as change
 use Rattle.dh_model.specs.Books.{Books, text_cmp, with_rows}
 use Rattle.dh_model.specs.Runs.{batches, charge_key, closed_run, part_fee_key, part_key, posted_charges, posted_fees, posted_parts}
-use Rattle.dh_model.specs.Machine.{at_rent, changed, managed, with_comment}
+use Rattle.dh_model.specs.Kinds.{Kind, Properties, Viewings, key_of, record_of, records_of, with_records}
+use Rattle.dh_model.specs.Edits.{Update, edited, updated}
+use Rattle.dh_model.specs.Machine.{changed}
 use Rattle.dh_model.specs.Rules.{NamesWhatIsThere, Rule}
 use Rattle.dh_model.specs.Whole.{completed, open_row, rows_where, whole}
 use Rattle.dh_laws.specs.Passing.{FreeChangesPassTheRun}
@@ -76,53 +76,34 @@ module _ (size : ℕ) (b : Books) where
   viewings_stay (Some row) = refl
 
   -- a row in the place of an old one, in books that have the same ones
-  module _ (w : Books) where
-    managed_there : (it : Assignment) (row : Property) → w.properties ≡ b.properties → get b.properties it.property ≡ Some row
-        → managed w it (get w.properties it.property) ≡ record w { properties = insert b.properties it.property (record row { staff = it.staff }) }
-    managed_there it row same is =
-        ap (managed w it) (ap (λ rows. get rows it.property) same ∙ is)
-        ∙ ap (λ rows. record w { properties = insert rows it.property (record row { staff = it.staff }) }) same
+  module _ (kind : Kind) (key : key_of kind) (into : record_of kind → record_of kind) (row : record_of kind)
+      (same : records_of kind (whole size b) ≡ records_of kind b) (is : get (records_of kind b) key ≡ Some row) where
+    abbrev put : Books → Books
+    put w = with_records kind (insert (records_of kind b) key (into row)) w
 
-    rent_there : (it : RentChange) (row : Property) → w.properties ≡ b.properties → get b.properties it.property ≡ Some row
-        → at_rent w it (get w.properties it.property) ≡ record w { properties = insert b.properties it.property (record row { rent = it.rent }) }
-    rent_there it row same is =
-        ap (at_rent w it) (ap (λ rows. get rows it.property) same ∙ is)
-        ∙ ap (λ rows. record w { properties = insert rows it.property (record row { rent = it.rent }) }) same
+    put_in_whole : edited (Update kind key into) (whole size b) ≡ put (whole size b)
+    put_in_whole =
+        ap (updated kind key into (whole size b)) (ap (λ rows. get rows key) same ∙ is)
+        ∙ ap (λ rows. with_records kind (insert rows key (into row)) (whole size b)) same
 
-    comment_there : (it : ViewingComment) (row : Viewing) → w.viewings ≡ b.viewings → get b.viewings (it.client, it.property) ≡ Some row
-        → with_comment w it (get w.viewings (it.client, it.property)) ≡ record w {
-          viewings = insert b.viewings (
-            it.client,
-            it.property,
-          ) (record row { comment = Some it.comment });
-        }
-    comment_there it row same is =
-        ap (with_comment w it) (ap (λ rows. get rows (it.client, it.property)) same ∙ is)
-        ∙ ap (λ rows. record w { viewings = insert rows (it.client, it.property) (record row { comment = Some it.comment }) }) same
+    update_passes : whole size (put b) ≡ put (whole size b) → whole size (edited (Update kind key into) b) ≡ edited (Update kind key into) (whole size b)
+    update_passes passes = ap (λ found. whole size (updated kind key into b found)) is ∙ passes ∙ sym put_in_whole
 
   abbrev Pass : Change → Type 0
   Pass rows = whole size (changed rows b) ≡ changed rows (whole size b)
 
-  assigned_passes : (it : Assignment) (row : Property) → get b.properties it.property ≡ Some row → Pass (change.Assign it)
-  assigned_passes it row is =
-      let new : Property = record row { staff = it.staff } in
-      ap (λ found. whole size (managed b it found)) is
-      ∙ properties_pass (insert b.properties it.property new) (same_property b it.property new row is refl)
-      ∙ sym (managed_there (whole size b) it row (properties_stay (open_row b)) is)
-
-  rent_passes : (it : RentChange) (row : Property) → get b.properties it.property ≡ Some row → Pass (change.Rent it)
-  rent_passes it row is =
-      let new : Property = record row { rent = it.rent } in
-      ap (λ found. whole size (at_rent b it found)) is
-      ∙ properties_pass (insert b.properties it.property new) (same_property b it.property new row is refl)
-      ∙ sym (rent_there (whole size b) it row (properties_stay (open_row b)) is)
+  property_passes : (key : List ℕ) (into : Property → Property) (row : Property) → get b.properties key ≡ Some row → (into row).branch ≡ row.branch
+      → whole size (edited (Update Properties key into) b) ≡ edited (Update Properties key into) (whole size b)
+  property_passes key into row is stays =
+      update_passes Properties key into row (properties_stay (open_row b)) is
+      (properties_pass (insert b.properties key (into row)) (same_property b key (into row) row is stays))
 
   comment_passes : (it : ViewingComment) (row : Viewing) → get b.viewings (it.client, it.property) ≡ Some row → Pass (change.Comment it)
   comment_passes it row is =
-      let viewings = insert b.viewings (it.client, it.property) (record row { comment = Some it.comment }) in
-      ap (λ found. whole size (with_comment b it found)) is
-      ∙ on_whole (λ w. record w { viewings = viewings }) (λ row. refl) (open_row b)
-      ∙ sym (comment_there (whole size b) it row (viewings_stay (open_row b)) is)
+      let into = λ (row : Viewing). let new : Viewing = record row { comment = Some it.comment } in new in
+      let key : List ℕ × List ℕ = (it.client, it.property) in
+      update_passes Viewings key into row (viewings_stay (open_row b)) is
+      (on_whole (λ w. record w { viewings = insert b.viewings key (into row) }) (λ row. refl) (open_row b))
 
   added_passes : (it : Property) → NamesWhatIsThere b → get b.properties it.number ≡ None → Pass (change.Property it)
   added_passes it names new =
@@ -139,8 +120,8 @@ module _ (size : ℕ) (b : Books) where
     changes_pass (change.NewFee it) a = never a.0.closed
     changes_pass (change.Fee it) a = never a.0.closed
     changes_pass (change.Property it) a = added_passes it names a.new
-    changes_pass (change.Assign it) a = assigned_passes it a.row a.is
-    changes_pass (change.Rent it) a = rent_passes it a.0 a.1
+    changes_pass (change.Assign it) a = property_passes it.property (λ row. record row { staff = it.staff }) a.row a.is refl
+    changes_pass (change.Rent it) a = property_passes it.property (λ row. record row { rent = it.rent }) a.0 a.1 refl
     changes_pass (change.Comment it) a = comment_passes it a.0 a.1
     changes_pass (change.Lease it) a = never a.closed
     changes_pass (change.NewEnding it) a = never a.0.closed

@@ -3,7 +3,7 @@ use Rattle.std.proofs.Common.{◌≡◌, ◌⊎◌, ◌∙◌, refl, sym, ap, su
 use Rattle.std.proofs.Common.{length, Option, Some, None, Ordering, Less, Equal, Greater, is_lt, div-mul-le_self, le-add_right, arith}
 use Rattle.std.specs.Ordering.{ordering_reverse}
 use Rattle.std.specs.List.{count_by}
-use Rattle.std.specs.FinMap.{entries, entries_sorted, get, is_sorted, keys, values}
+use Rattle.std.specs.FinMap.{get, keys, values}
 use Rattle.std.proofs.lemmas.Bool.{cases_lt}
 use Rattle.std.proofs.lemmas.Bool.Decides.{nat_tests}
 use Rattle.std.proofs.lemmas.Nat.{div-mul-add, le-div}
@@ -18,7 +18,7 @@ use Rattle.dh_model.specs.Rules.{ArePosted, MeetsRules, charges_in, parts_in}
 use Rattle.dh_model.specs.Whole.{with_posted}
 use Rattle.dh_model.proofs.Among.{Among, among, is_among}
 use Rattle.dh_model.proofs.BatchLemmas.{batch_begins, each_due_has_its_batch, places_numbered}
-use Rattle.dh_model.proofs.BranchDues.{holds, keys_rise, one_branch_of_due}
+use Rattle.dh_model.proofs.BranchDues.{one_branch_of_due, branches_rise}
 use Rattle.dh_model.proofs.BranchSums.{Holds, holder}
 use Rattle.dh_model.proofs.KeyOrders.{nat_text_ties, nat_text_total, nats_tie, nats_total, text_ties, text_total}
 use Rattle.dh_model.proofs.MapRows.{of_row, row_of}
@@ -223,7 +223,7 @@ next_batch_adds_the_next size books month done pos order more =
     let keyed = order.keyed in
     let rules = order.rules in
     let posted = order.shown.3 in
-    let rise = keys_rise text_cmp (entries books.branches) (holds (is_sorted text_cmp (entries books.branches)) (entries_sorted books.branches)) in
+    let rise = branches_rise books in
     let held = holder (batches_of_branch size books month) text_cmp text_total (keys books.branches) done rise more in
     let now = values (with_posted size books month (done + 1)).charges in (
       held.key,

@@ -4,7 +4,7 @@ use Rattle.std.proofs.Common.{Ordering, Less, Equal, Greater, is_lt, le-add_righ
 use Rattle.std.specs.Ordering.{ordering_reverse}
 use Rattle.std.specs.List.{filter, flat_map, sum_by}
 use Rattle.std.specs.Cmp.{IsTotalOrder}
-use Rattle.std.specs.FinMap.{entries, entries_sorted, is_sorted, keys, len, values}
+use Rattle.std.specs.FinMap.{keys, len, values}
 use Rattle.std.proofs.lemmas.Bool.{cases_lt}
 use Rattle.std.proofs.lemmas.Cmp.{tied_itself}
 use Rattle.std.proofs.lemmas.List.Sums.{length-filter}
@@ -15,16 +15,15 @@ use Rattle.dh_model.specs.Kinds.{Kind}
 use Rattle.dh_model.specs.Runs.{batch_of, batches_before, batches_of_branch, charge_key, dues_of_branch, place_among, posted_charges}
 use Rattle.dh_model.specs.Rules.{ArePosted, MeetsRules, charges_in}
 use Rattle.dh_model.specs.Whole.{with_posted}
-use Rattle.dh_model.proofs.Among.{Among, among, in_filter, is_among, of_filter, of_flat_map}
+use Rattle.dh_model.proofs.Among.{Among, among, in_filter, is_among, of_filter, of_flat_map, of_left, of_right}
 use Rattle.dh_model.proofs.KeyOrders.{nats_tie, nats_total, text_ties, text_total}
 use Rattle.dh_model.proofs.Rising.{IsBefore, Rises, rises_by}
 use Rattle.dh_model.proofs.BatchLemmas.{each_due_has_its_batch, no_batch_is_too_large}
-use Rattle.dh_model.proofs.BranchDues.{holds, keys_rise}
+use Rattle.dh_model.proofs.BranchDues.{branches_rise}
 use Rattle.dh_model.proofs.BranchSums.{own_is_among_all, sum_before}
 use Rattle.dh_laws.specs.InOrder.{AreKeyed}
 use Rattle.dh_laws.specs.Posting.{NextBatchIsSmall}
 use Rattle.dh_model.proofs.MapRows.{is_less}
-use Rattle.dh_model.proofs.Pairs.{among_left, among_right}
 use Rattle.dh_laws.proofs.PostMonth.{in_rows, value_of_replaced}
 use Rattle.dh_laws.proofs.PostDues.{is_posted, of_posted}
 use Rattle.dh_laws.proofs.PostCharged.{charge_month, charges_fit}
@@ -96,7 +95,7 @@ module _ (size : ℕ) (books : Books) (month : ℕ) where
         (λ x y before same. let itself : IsBefore text_cmp x x = subst (λ k. IsBefore text_cmp x k) (sym same) before in
         let never = ap is_lt (tied_itself text_total x) in cc)
         (keys books.branches)
-        (keys_rise text_cmp (entries books.branches) (holds (is_sorted text_cmp (entries books.branches)) (entries_sorted books.branches)))
+        (branches_rise books)
 
     -- a batch has no more charges than the size
     pub batch_is_small : (number : ℕ) → length (flat_map (batch_at number) (keys books.branches)) ≤ size
@@ -119,16 +118,16 @@ module _ (size : ℕ) (books : Books) (month : ℕ) where
                       let before = of_posted size books month done charge (record { branch = p.branch; of = p.of; due = p.due; early = less }) in
                       let here = among (charges_in books month) charge
                       ((posted.charges charge).1 (is_among (posted_charges size books month done) charge before)) in
-                      among_right new (values books.charges) charge (in_rows charge_key charge_month nats_total nats_tie books.charges month charge here).0
+                      of_right new (values books.charges) charge (in_rows charge_key charge_month nats_total nats_tie books.charges month charge here).0
                   | inr later ↦
                       let last = p.early in
                       let same : batch_of size books month p.branch charge ≡ done = omega (arith, later, last) in
-                      among_left new (values books.charges) charge
+                      of_left new (values books.charges) charge
                       (of_flat_map (batch_at done) (keys books.branches) p.branch charge p.of
                       (of_filter (λ c. nat_eq (batch_of size books month p.branch c) done) (dues_of_branch books month p.branch) charge
                       ((numbers (batch_of size books month p.branch charge) done).1 same) p.due))
                 ]
-            | inr old ↦ among_right new (values books.charges) charge old.0
+            | inr old ↦ of_right new (values books.charges) charge old.0
           ]
 
       pub few_more : len (with_posted size books month (done + 1)).charges ≤ len books.charges + size

@@ -4,6 +4,7 @@ use Rattle.std.specs.FinMap.{get, insert, len, values}
 use Rattle.std.proofs.lemmas.List.{append_assoc}
 use Rattle.dh_types.specs.declared.lease.Receipt.{Receipt}
 use Rattle.dh_types.specs.declared.run.Run.{Run}
+use Rattle.dh_types.specs.declared.command.Command.{Command}
 use Rattle.dh_types.specs.declared.command.Command.TheVariants as command
 use Rattle.dh_types.specs.declared.command.ReceiptOrder.{ReceiptOrder}
 use Rattle.dh_types.specs.declared.reply.Reply.{Reply}
@@ -23,15 +24,15 @@ use Rattle.dh_model.specs.Machine.{settled, step}
 use Rattle.dh_model.specs.Whole.{completed, whole}
 use Rattle.dh_model.proofs.Among.{is_among}
 use Rattle.dh_model.proofs.KeyOrders.{nat_ties, nat_total}
-use Rattle.dh_laws.specs.InOrder.{AreKeyed}
+use Rattle.dh_laws.specs.InOrder.{AreKeyed, IsEntered, IsInOrder}
 use Rattle.dh_laws.proofs.KeepOrder.{changes_keep_order}
 use Rattle.dh_model.proofs.MapRows.{get_new}
 use Rattle.dh_laws.proofs.MonthShown.{none_open}
 use Rattle.dh_laws.proofs.MonthSteps.{steps_keep}
 use Rattle.dh_laws.proofs.MonthWhole.{whole_is_lawful}
 use Rattle.dh_laws.proofs.PostOpening.{run_is_opening_made_whole}
-use Rattle.dh_laws.specs.Events.{Event, Follow, Happens, Mended, Said, Tables, state_of}
-use Rattle.dh_laws.specs.Lives.{AcknowledgedReceiptsStay}
+use Rattle.dh_laws.specs.Events.{Event, Follow, Mended, Said, Tables, state_of}
+use Rattle.dh_laws.specs.Lives.{AcknowledgedReceiptsStay, AreEntered}
 use Rattle.dh_laws.proofs.ReceiptEvents.{AreWhole, StepsKeep, entered_both, said_keeps, through}
 use Rattle.dh_laws.proofs.ReceiptSteps.{Has, step_has}
 
@@ -99,37 +100,40 @@ module _ (size : ℕ) where
   pub kept_whole : AreWhole size IsKept
   kept_whole books kept = ap (completed size books) (none_open books (λ run a. kept.lawful.closed run (is_among (values books.runs) run a)))
 
-  module _ (number : ℕ) (receipt : Receipt) where
-    record HasFor (books : Books) : Type 0 where
-      kept : IsKept books
-      has : Has number receipt books
+  module _ {Row : Type 0} (Holds : Row → Books → Type 0)
+      (step_holds : (row : Row) (s : State) → IsKept s.books → (told : Command) → Holds row s.books → Holds row (step size s told).0.books) where
+    pub record HasFor (row : Row) (books : Books) : Type 0 where
+      pub kept : IsKept books
+      pub has : Holds row books
 
-    has_steps : 1 ≤ size → StepsKeep size HasFor
-    has_steps pos s told entered h =
-        record { kept = kept_steps pos s told entered h.kept; has = step_has number receipt size s h.kept.keyed (h.kept.lawful.rules Keys) told h.has }
+    has_steps : (row : Row) → 1 ≤ size → StepsKeep size (HasFor row)
+    has_steps row pos s told entered h = record { kept = kept_steps pos s told entered h.kept; has = step_holds row s h.kept told h.has }
 
-    has_whole : AreWhole size HasFor
-    has_whole books h = kept_whole books h.kept
-
-    -- and the whole books are those of a recovery that came to its end
-    has_mended : (last after : Tables) → Happens size Mended last after → HasFor (whole size last.books) → Has number receipt after.books
-    has_mended last after is h = subst (λ (t : Tables). Has number receipt t.books) (sym is) h.has
+    -- what was put in where this was answered is there for good
+    pub stays : (told : Command) (answer : Reply) → IsEntered told
+        → ((s : State) → (step size s told).1 ≡ answer → (row : Row) × Holds row (step size s told).0.books)
+        → (start after said : Tables) (before later : List (Event × Tables)) → 1 ≤ size → IsInOrder size start.books start.run → AreEntered (before ++ later)
+        → Follow size start (before ++ (Said told answer, said) ∷ later ++ (Mended, after) ∷ []) → (row : Row) × HasFor row after.books
+    stays told answer entered_is puts start after said before later pos in_order entered follow =
+        let both = entered_both before later entered in
+        let law = whole_is_lawful size start.books start.run pos in_order in
+        let answered : List (Event × Tables) = (Said told answer, said) ∷ later in
+        let end : List (Event × Tables) = (Mended, after) ∷ [] in
+        let joined = subst (Follow size start) (append_assoc before answered end) follow in
+        let first = through size IsKept (kept_steps pos) kept_whole before (answered ++ end) start both.0 joined (record { keyed = law.0; lawful = law.1 }) in
+        let is = first.2.1 in
+        let new = puts (state_of size first.0) (ap (λ (r : State × Reply). r.1) is) in
+        let has : HasFor new.0 (whole size said.books) = record {
+          kept = said_keeps size IsKept (kept_steps pos) kept_whole told answer first.0 said entered_is is first.1;
+          has = subst (Holds new.0) (ap (λ (r : State × Reply). r.0.books) is) new.1;
+        } in
+        let second = through size (HasFor new.0) (has_steps new.0 pos) (λ books h. kept_whole books h.kept) later end said both.1 first.2.2 has in
+        (new.0, subst (λ (t : Tables). HasFor new.0 t.books) (sym second.2.1) second.1)
 
 pub acknowledged_receipts_stay : (size : ℕ) → AcknowledgedReceiptsStay size
 acknowledged_receipts_stay size start after said before later order number pos in_order entered follow =
     let row : Receipt = record { number = number; key = order.key; payment = order.payment } in
-    let both = entered_both before later entered in
-    let law = whole_is_lawful size start.books start.run pos in_order in
-    let paid : List (Event × Tables) = (Said (command.Receipt order) (reply.Receipt number), said) ∷ later in
-    let end : List (Event × Tables) = (Mended, after) ∷ [] in
-    let joined = subst (Follow size start) (append_assoc before paid end) follow in
-    let first = through size (IsKept size) (kept_steps size pos) (kept_whole size) before (paid
-    ++ end) start both.0 joined (record { keyed = law.0; lawful = law.1 }) in
-    let is = first.2.1 in
-    let new = told size (state_of size first.0) order number (ap (λ (r : State × Reply). r.1) is) in
-    let has : HasFor size number row (whole size said.books) = record {
-      kept = said_keeps size (IsKept size) (kept_steps size pos) (kept_whole size) (command.Receipt order) (reply.Receipt number) first.0 said tt is first.1;
-      has = subst (Has number row) (ap (λ (r : State × Reply). r.0.books) is) new;
-    } in
-    let second = through size (HasFor size number row) (has_steps size number row pos) (has_whole size number row) later end said both.1 first.2.2 has in
-    has_mended size number row second.0 after second.2.1 second.1
+    let kept = stays size (λ (it : Unit {0}) books. Has number row books)
+    (λ it s kept told h. step_has number row size s kept.keyed (kept.lawful.rules Keys) told h) (command.Receipt order) (reply.Receipt number) tt
+    (λ s answered. (tt, told size s order number answered)) start after said before later pos in_order entered follow in
+    kept.1.has

@@ -1,6 +1,6 @@
 -- Leases, receipts and keys stay in order after every change.
 use Rattle.std.proofs.Common.{◌≡◌, ◌≢◌, ◌∙◌, refl, sym, ap, subst, inl, inr, ℕ, ◌+◌, ◌*◌, ◌≤◌, ◌<◌, false, ◌&&◌, cond, nat_eq, List, [], ◌∷◌, ◌++◌, map, Option}
-use Rattle.std.proofs.Common.{Some, None, IfSome, AllPairs, is_some, arith}
+use Rattle.std.proofs.Common.{None, IfSome, AllPairs, is_some, arith}
 use Rattle.std.specs.FinMap.{get, insert, len, len-insert, values}
 use Rattle.std.proofs.lemmas.Bool.{false_from_ne_true, and_parts, and_from}
 use Rattle.dh_values.specs.declared.receipt_kind.ReceiptKind.TheVariants.{Deposit}
@@ -18,7 +18,7 @@ use Rattle.dh_model.specs.Books.{Books}
 use Rattle.dh_model.specs.Kinds.{Kind}
 use Rattle.dh_model.specs.Checks.{is_same_text}
 use Rattle.dh_model.specs.Leases.{overlap, running, months_in}
-use Rattle.dh_model.specs.Machine.{at_rent, changed, managed, with_comment}
+use Rattle.dh_model.specs.Machine.{changed}
 use Rattle.dh_model.specs.Rules.{DepositsInOrder, Each, EachTwo, EndingsInOrder, KeysInOrder, LeasesInTime, LeasesNeverOverlap, NamesWhatIsThere}
 use Rattle.dh_model.specs.Rules.{OneStartADay, RunsInOrder}
 use Rattle.dh_model.proofs.Among.{Among, in_append, in_map, is_among}
@@ -26,12 +26,13 @@ use Rattle.dh_model.proofs.KeyOrders.{nat_total, nat_ties}
 use Rattle.dh_model.proofs.LeaseLemmas.{overlap_goes_both_ways}
 use Rattle.dh_model.proofs.Rising.{Rises}
 use Rattle.dh_laws.specs.InOrder.{AreKeyed}
-use Rattle.dh_laws.proofs.Acceptance.{Accepted, AddsLease, AddsReceipt, EndsLease, OpensRun}
+use Rattle.dh_laws.proofs.Acceptance.{Accepted, AddsLease, AddsReceipt, EndsLease, OpensRun, turned, turned_is}
 use Rattle.dh_model.proofs.MapRows.{each_insert, each_two_insert, get_other, of_row, there, values_new}
 use Rattle.dh_model.proofs.Pairs.{pairs_rise, rises_put, rising_pairs}
 use Rattle.dh_laws.proofs.EarlyEnds.{endings_after_end, overlaps_after_end}
 use Rattle.dh_laws.proofs.VerdictCases.{IsLimited}
 use Rattle.dh_laws.proofs.VerdictChecks.{IsNewKey}
+use Rattle.dh_laws.proofs.OweDues.{none_if}
 
 -- the rules of leases, endings, deposits and keys
 pub record AreSettled (books : Books) : Type 0 where
@@ -41,10 +42,6 @@ pub record AreSettled (books : Books) : Type 0 where
   pub deposits : DepositsInOrder books
   pub keys : KeysInOrder books
   pub endings : EndingsInOrder books
-
-absent : {X : Type 0} (found : Option X) → ((x : X) → found ≡ Some x → ⊥) → found ≡ None
-absent None never = refl
-absent (Some x) never = absurd (never x refl)
 
 -- ---- what has the same leases, receipts and runs
 
@@ -142,7 +139,7 @@ module _ (b : Books) (keyed : AreKeyed b) (settled : AreSettled b) where
 
   module _ (run : Option OpenRun) (it : Receipt) (adds : AddsReceipt b run it) where
     fresh_receipt : get b.receipts it.number ≡ None
-    fresh_receipt = absent (get b.receipts it.number) (λ old is.
+    fresh_receipt = none_if (get b.receipts it.number) (λ old is.
         let own = keyed Kind.Receipts it.number old is in
         let keys = settled.keys in
         let within = (keys.numbers old (is_among (values b.receipts) old (of_row nat_total nat_ties b.receipts it.number old is))).1 in
@@ -204,7 +201,7 @@ module _ (b : Books) (keyed : AreKeyed b) (settled : AreSettled b) where
   pub settled_with_run : (run : Option OpenRun) (it : Run) → OpensRun b run it → RunsInOrder b
       → AreSettled (record b { runs = insert b.runs it.month it; next = it.month + 1 })
   settled_with_run run it opens runs =
-      let fresh : get b.runs it.month ≡ None = absent (get b.runs it.month) (λ old is. let within = (runs.run it.month).0 (ap is_some is) in
+      let fresh : get b.runs it.month ≡ None = none_if (get b.runs it.month) (λ old is. let within = (runs.run it.month).0 (ap is_some is) in
       let next = opens.month in omega (arith, within.1, next)) in
       let p = values_new nat_total nat_ties b.runs it.month it fresh in
       let deposits = settled.deposits in
@@ -304,15 +301,13 @@ module _ (b : Books) (run : Option OpenRun) (keyed : AreKeyed b) (settled : AreS
   as_before c leases endings receipts same_runs first = settled_alike b c
       (record { leases = leases; endings = endings; receipts = receipts; runs = same_runs; first = first }) settled
 
+  turned_settled : (rows : Change) (a : Accepted b run rows) → IsLimited rows → AreSettled (turned b run rows a)
+  turned_settled (change.Lease it) a l = settled_with_lease b keyed settled run it a l runs names (unended it.terms.number a.new)
+  turned_settled (change.NewEnding it) a l = settled_with_ending b keyed settled run it a.0 l
+  turned_settled (change.Ending it) a l = settled_with_ending b keyed settled run it a.0 l
+  turned_settled (change.Receipt it) a l = settled_with_receipt b keyed settled run it a
+  turned_settled (change.Open it) a l = settled_with_run b keyed settled run it a runs
+  turned_settled rows a l = as_before (turned b run rows a) refl refl refl refl refl
+
   pub keeps_settled : (rows : Change) → Accepted b run rows → IsLimited rows → AreSettled (changed rows b)
-  keeps_settled (change.Assign it) a l = subst (λ found. AreSettled (managed b it found)) (sym a.is)
-      (as_before (managed b it (Some a.row)) refl refl refl refl refl)
-  keeps_settled (change.Rent it) a l = subst (λ found. AreSettled (at_rent b it found)) (sym a.1) (as_before (at_rent b it (Some a.0)) refl refl refl refl refl)
-  keeps_settled (change.Comment it) a l =
-      subst (λ found. AreSettled (with_comment b it found)) (sym a.1) (as_before (with_comment b it (Some a.0)) refl refl refl refl refl)
-  keeps_settled (change.Lease it) a l = settled_with_lease b keyed settled run it a l runs names (unended it.terms.number a.new)
-  keeps_settled (change.NewEnding it) a l = settled_with_ending b keyed settled run it a.0 l
-  keeps_settled (change.Ending it) a l = settled_with_ending b keyed settled run it a.0 l
-  keeps_settled (change.Receipt it) a l = settled_with_receipt b keyed settled run it a
-  keeps_settled (change.Open it) a l = settled_with_run b keyed settled run it a runs
-  keeps_settled rows a l = as_before (changed rows b) refl refl refl refl refl
+  keeps_settled rows a l = subst AreSettled (turned_is b run rows a) (turned_settled rows a l)

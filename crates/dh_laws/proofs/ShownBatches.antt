@@ -1,7 +1,7 @@
 -- The part rows of an open month stand for the batches that are done.
 use Rattle.std.proofs.Common.{◌≡◌, refl, sym, ap, subst, ℕ, ◌≤◌, nat_eq, nat_lt, List, [], ◌∷◌, map, is_lt, arith}
 use Rattle.std.specs.List.{sum_by}
-use Rattle.std.specs.FinMap.{entries, entries_sorted, is_sorted, keys, values}
+use Rattle.std.specs.FinMap.{keys, values}
 use Rattle.std.proofs.lemmas.Cmp.{tied_itself}
 use Rattle.std.proofs.lemmas.List.Sums.{sum_by-cons}
 use Rattle.dh_types.specs.declared.run.Part.{Part}
@@ -12,7 +12,7 @@ use Rattle.dh_model.specs.Rules.{ArePosted, parts_in}
 use Rattle.dh_model.specs.Whole.{batches_shown}
 use Rattle.dh_model.proofs.Among.{among, is_among}
 use Rattle.dh_model.proofs.BatchLemmas.{batches_posted}
-use Rattle.dh_model.proofs.BranchDues.{holds, keys_rise}
+use Rattle.dh_model.proofs.BranchDues.{branches_rise}
 use Rattle.dh_model.proofs.BranchSums.{sums_follow, taken_in_all}
 use Rattle.dh_model.proofs.KeyOrders.{nat_text_ties, nat_text_total, text_total}
 use Rattle.dh_model.proofs.Rising.{IsBefore, Rises, filter_rises, map_rises}
@@ -35,9 +35,6 @@ module _ (size : ℕ) (books : Books) (month done : ℕ) (pos : 1 ≤ size) wher
   abbrev part_at : List ℕ → Part
   part_at branch = part_of month branch (posted_of_branch size books month done branch)
 
-  branches_rise : Rises (IsBefore text_cmp) (keys books.branches)
-  branches_rise = keys_rise text_cmp (entries books.branches) (holds (is_sorted text_cmp (entries books.branches)) (entries_sorted books.branches))
-
   not_twice : (a b : List ℕ) → IsBefore text_cmp a b → part_at a ≡ part_at b → ⊥
   not_twice a b before same =
       let itself : IsBefore text_cmp a a = subst (λ k. IsBefore text_cmp a k) (sym (ap (λ (part : Part). part.branch) same)) before in
@@ -48,7 +45,7 @@ module _ (size : ℕ) (books : Books) (month done : ℕ) (pos : 1 ≤ size) wher
   posted_differ : Rises Differ (posted_parts size books month done)
   posted_differ =
       map_rises (IsBefore text_cmp) Differ part_at not_twice (begun_branches size books month done)
-      (filter_rises (IsBefore text_cmp) (λ branch. nat_lt (batches_before size books month branch) done) (keys books.branches) branches_rise)
+      (filter_rises (IsBefore text_cmp) (λ branch. nat_lt (batches_before size books month branch) done) (keys books.branches) (branches_rise books))
 
   module _ (keyed : AreKeyed books) (posted : ArePosted books size month done) where
     rows_are_posted : batches_shown size books month ≡ sum_by batches_of (posted_parts size books month done)
@@ -71,5 +68,5 @@ module _ (size : ℕ) (books : Books) (month done : ℕ) (pos : 1 ≤ size) wher
         let mapped = sum_of_map batches_of part_at (begun_branches size books month done) in
         let all = taken_in_all own (batches_before size books month) (λ branch. batches_of (part_at branch)) done
         (batches_posted size books month pos (keyed Kind.Leases) done) 0 (keys books.branches)
-        (sums_follow own text_cmp text_total (keys books.branches) branches_rise) (omega (arith, few)) in
+        (sums_follow own text_cmp text_total (keys books.branches) (branches_rise books)) (omega (arith, few)) in
         omega (arith, rows, mapped, all)

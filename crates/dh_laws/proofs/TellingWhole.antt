@@ -5,7 +5,6 @@ use Rattle.dh_types.specs.declared.command.Command.{Command}
 use Rattle.dh_types.specs.declared.command.Command.TheVariants as command
 use Rattle.dh_types.specs.declared.reply.Reply.{Reply}
 use Rattle.dh_types.specs.declared.reply.Reply.TheVariants as reply
-use Rattle.dh_types.specs.declared.reply.Refusal.{Refusal}
 use Rattle.dh_model.specs.declared.rows.Change.{Change}
 use Rattle.dh_model.specs.declared.rows.Change.TheVariants as change
 use Rattle.dh_model.specs.declared.rows.Verdict.{Verdict}
@@ -37,16 +36,6 @@ module _ (size : ℕ) where
   -- the machine stands where such tables are
   pub own_state : (s : State) → open_row s.books ≡ None → state_of size (as_tables s) ≡ s
   own_state s none = ap (λ (b : Books). record { books = b; open_run = s.open_run }) (whole_itself s.books none)
-
-  -- what was done before changes nothing
-  pub already_told : (s : State) (told : Command) (kept : Reply) → verdict_on (whole size s.books) s.open_run told ≡ verdict.Already kept
-      → IsInOrder size s.books s.open_run → IsTold size told kept s s
-  already_told s told kept h in_order = (ap (settled size (state_of size (as_tables s)) told) h, in_order)
-
-  -- what is refused changes nothing
-  pub refused_told : (s : State) (told : Command) (why : Refusal) → verdict_on (whole size s.books) s.open_run told ≡ verdict.Refused why
-      → IsInOrder size s.books s.open_run → IsTold size told (reply.Refused why) s s
-  refused_told s told why h in_order = (ap (settled size (state_of size (as_tables s)) told) h, in_order)
 
   -- only an opening leaves a run open
   carried_closed : (s : State) (told : Command) (rows : Change) → s.open_run ≡ None → is_opening told ≡ false → (carried_out size s told rows).0.open_run ≡ None

@@ -1,6 +1,7 @@
 -- Each accepted command's rows, and what its checks found.
-use Rattle.std.proofs.Common.{◌≡◌, refl, sym, subst, ℕ, ◌+◌, ◌≤◌, Bool, true, false, nat_eq, nat_lt, ◌&&◌, if◌then◌else◌, [], ◌∷◌, ◌++◌, Option, Some, None}
+use Rattle.std.proofs.Common.{◌≡◌, ◌∙◌, refl, sym, ap, subst, ℕ, ◌+◌, ◌≤◌, Bool, true, false, nat_eq, nat_lt, ◌&&◌, if◌then◌else◌, [], ◌∷◌, ◌++◌, Option, Some, None}
 use Rattle.std.proofs.Common.{IfSome, ltb-true, leb-true, nat_le}
+use Rattle.std.proofs.lemmas.Bool.{false≢true}
 use Rattle.std.specs.FinMap.{contains_key, get, len, values}
 use Rattle.dh_values.specs.declared.limits.TheConstants.{MOST_NUMBER}
 use Rattle.dh_types.specs.declared.branch.Branch.{Branch}
@@ -35,6 +36,7 @@ use Rattle.dh_model.specs.declared.rows.Change.{Change}
 use Rattle.dh_model.specs.declared.rows.Change.TheVariants as change
 use Rattle.dh_model.specs.declared.rows.Verdict.TheVariants as verdict
 use Rattle.dh_model.specs.Books.{Books}
+use Rattle.dh_model.specs.MachineLaws.{is_post}
 use Rattle.dh_model.specs.Leases.{length_of, overlap, running}
 use Rattle.dh_model.specs.Runs.{fee_at}
 use Rattle.dh_model.specs.Checks.{deposit_checks, first_failing, first_that_day, free_of_others, has_room, in_time, is_same_text, names, of_branch}
@@ -44,7 +46,8 @@ use Rattle.dh_model.specs.Verdicts.{property_checks, receipt_checks, receipt_ver
 use Rattle.dh_model.specs.Verdicts.{end_verdict, ended, ending_checks, ending_rows, fee_rows, fee_verdict, unless_run, verdict_on}
 use Rattle.dh_laws.proofs.VerdictChecks.{CanManage, all_pass, can_manage, deposit_of, first_passes, holds_of, new_key, none_of_leases, passed, property_of}
 use Rattle.dh_laws.proofs.VerdictChecks.{starts_in_time, was_closed, was_new, was_no_receipt, was_no_run, was_unpaid, was_unposted}
-use Rattle.dh_laws.specs.InOrder.{IsEntered}
+use Rattle.dh_laws.specs.Batches.{is_plain}
+use Rattle.dh_laws.specs.InOrder.{IsEntered, run_after}
 use Rattle.dh_laws.proofs.Acceptance.{Accepted, AddsLease, Assigns, EndsLease, SetsFee}
 
 same_given : (rows given : Change) → verdict.Change given ≡ verdict.Change rows → rows ≡ given
@@ -423,3 +426,44 @@ entered_limited books _ entered = tt
 pub limited : (books : Books) (run : Option OpenRun) (rows : Change) (told : Command) → IsEntered told → verdict_on books run told ≡ verdict.Change rows
     → IsLimited rows
 limited books run rows told entered h = subst IsLimited (sym (rows_are books run rows told h)) (entered_limited books told entered)
+
+-- ---- rows of no run
+
+-- runs and their parts
+abbrev pub is_of_run : Command → Bool
+is_of_run (command.Run order) = true
+is_of_run (command.Open order) = true
+is_of_run (command.Post count) = true
+is_of_run _ = false
+
+plain_fee : (it : BranchFee) (found : Option BranchFee) → is_plain (fee_rows it found) ≡ true
+plain_fee it None = refl
+plain_fee it (Some was) = refl
+
+plain_ending : (it : Ending) (found : Option Ending) → is_plain (ending_rows it found) ≡ true
+plain_ending it None = refl
+plain_ending it (Some was) = refl
+
+plain_of : (books : Books) (told : Command) → is_of_run told ≡ false → is_plain (rows_of books told) ≡ true
+plain_of books (command.Fee it) other = plain_fee it (get books.branch_fees it.branch)
+plain_of books (command.End it) other = plain_ending it (get books.endings it.lease)
+plain_of books (command.Run order) other = cc
+plain_of books (command.Open order) other = cc
+plain_of books (command.Post count) other = cc
+plain_of books _ other = refl
+
+pub plain_rows : (books : Books) (run : Option OpenRun) (told : Command) (rows : Change) → is_of_run told ≡ false
+    → verdict_on books run told ≡ verdict.Change rows → is_plain rows ≡ true
+plain_rows books run told rows other h = ap is_plain (rows_are books run rows told h) ∙ plain_of books told other
+
+pub other_than : (told : Command) → ((order : RunOrder) → told ≡ command.Run order → ⊥) → ((order : RunOrder) → told ≡ command.Open order → ⊥)
+    → is_post told ≡ false → is_of_run told ≡ false
+other_than (command.Run order) run opens post = absurd (run order refl)
+other_than (command.Open order) run opens post = absurd (opens order refl)
+other_than (command.Post count) run opens post = absurd (false≢true (sym post))
+other_than _ run opens post = refl
+
+-- which leave the open run
+pub run_stays : (run : Option OpenRun) (rows : Change) → is_plain rows ≡ true → run_after run rows ≡ run
+run_stays run (change.Open row) plain = absurd (false≢true plain)
+run_stays run _ plain = refl

@@ -66,10 +66,6 @@ pub holds_of : (b : Bool) (why : Refusal) → unless b why ≡ None → b ≡ tr
 holds_of true why h = refl
 holds_of false why h = cc
 
-pub given_all : (member : Option (List ℕ)) (check : List ℕ → Check) → where_given member check ≡ None → IfSome member (λ m. check m ≡ None)
-given_all None check h = tt
-given_all (Some member) check h = h
-
 -- the manager is there, of the branch, and has room for the property
 pub record CanManage (books : Books) (branch property member : List ℕ) : Type 0 where
   pub there : IsThere books.staff member

@@ -1,6 +1,5 @@
 -- The next batch of an open run, and its end.
 use Rattle.dh_types.specs.declared.command.Command.TheVariants as command
-use Rattle.dh_types.specs.declared.reply.Progress.{Progress}
 use Rattle.std.specs.Prelude.{Bool, true, false, ◌≡◌, ℕ, ◌+◌, nat_lt, if◌then◌else◌, Option, Some, None}
 use Rattle.std.specs.FinMap.{get}
 use Rattle.dh_types.specs.declared.run.RunSum.{RunSum}
@@ -13,11 +12,6 @@ use Rattle.dh_model.specs.Runs.{batch_size, batches}
 use Rattle.dh_model.specs.Whole.{whole, with_posted}
 use Rattle.dh_laws.specs.Events.{IsUndone}
 use Rattle.dh_laws.specs.StateTables.{as_tables}
-
--- how far the open run is
-abbrev pub standing_of : Books → Option OpenRun → Option Progress
-standing_of books None = None
-standing_of books (Some run) = Some (record { month = run.month; done = run.done; of = batches batch_size books run.month })
 
 -- with one batch more
 abbrev pub with_batch : Books → OpenRun → State

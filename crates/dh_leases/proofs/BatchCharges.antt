@@ -8,11 +8,10 @@ use Rattle.dh_model.specs.Books.{Books, pair_cmp, with_rows}
 use Rattle.dh_model.specs.Kinds.{Kind}
 use Rattle.dh_model.specs.Runs.{batch_of, charge_key, dues_of_branch, posted_charges, posted_of_branch}
 use Rattle.dh_model.specs.Rules.{MeetsRules}
-use Rattle.dh_model.proofs.Among.{Among, in_append, in_filter, of_filter}
+use Rattle.dh_model.proofs.Among.{Among, in_append, in_filter, of_filter, of_right}
 use Rattle.dh_model.proofs.BranchDues.{dues_of_branch_rise, lease_of, one_branch_of_due}
 use Rattle.dh_model.proofs.KeyOrders.{nats_tie, nats_total}
 use Rattle.dh_model.proofs.MapRows.{get_other}
-use Rattle.dh_model.proofs.Pairs.{among_right}
 use Rattle.dh_model.proofs.Rising.{Lesser, Rises, filter_rises}
 use Rattle.dh_laws.specs.InOrder.{AreKeyed}
 use Rattle.dh_laws.proofs.PostCharged.{charge_month, charges_fit}
@@ -57,7 +56,7 @@ module _ (size : ℕ) (books : Books) (month number : ℕ) (pos : 1 ≤ size) (k
   of_batch : (x : Charge) → Among own x → Among (dues_of_branch books month key) x × (batch_of size books month key x ≡ number)
   of_batch x a =
       let dues = dues_of_branch books month key in
-      let there = subst (λ cs. Among cs x) (sym in_two) (among_right (posted_of_branch size books month number key) own x a) in
+      let there = subst (λ cs. Among cs x) (sym in_two) (of_right (posted_of_branch size books month number key) own x a) in
       let kept = in_filter (λ charge. nat_lt (batch_of size books month key charge) (number + 1)) dues x there in
       let early = ltb-true (batch_of size books month key x) (number + 1) kept.1 in (
         kept.0,

@@ -6,9 +6,9 @@ use Rattle.std.proofs.lemmas.Bool.{cases_lt}
 use Rattle.dh_types.specs.declared.run.Part.{Part}
 use Rattle.dh_model.specs.Books.{Books, with_rows}
 use Rattle.dh_model.specs.Kinds.{Kind}
-use Rattle.dh_model.specs.Runs.{batch_of, batches_before, batches_of_branch, begun_branches, dues_of_branch, part_key, part_of, posted_of_branch, posted_parts}
+use Rattle.dh_model.specs.Runs.{batch_of, batches_before, batches_of_branch, dues_of_branch, part_key, part_of, posted_of_branch, posted_parts}
 use Rattle.dh_model.specs.Rules.{MeetsRules}
-use Rattle.dh_model.proofs.Among.{Among, of_filter, of_map}
+use Rattle.dh_model.proofs.Among.{Among}
 use Rattle.dh_model.proofs.KeyOrders.{nat_text_ties, nat_text_total, text_ties, text_total}
 use Rattle.dh_model.proofs.MapRows.{cases_key}
 use Rattle.dh_laws.specs.InOrder.{AreKeyed}
@@ -18,13 +18,7 @@ use Rattle.dh_laws.proofs.PostMonth.{of_new, replaced}
 use Rattle.dh_leases.proofs.BatchBranch.{IsHeld, branch_of_due, one_branch, own_dues, own_number, posted_with}
 use Rattle.dh_leases.proofs.MonthRows.{led, was_free}
 use Rattle.dh_leases.proofs.Places.{filter_alike}
-
--- a branch that has begun has its part row
-pub of_begun : (size : ℕ) (books : Books) (month n : ℕ) (branch : List ℕ) → Among (keys books.branches) branch → batches_before size books month branch < n
-    → Among (posted_parts size books month n) (part_of month branch (posted_of_branch size books month n branch))
-of_begun size books month n branch a early =
-    of_map (λ b. part_of month b (posted_of_branch size books month n b)) (begun_branches size books month n) branch
-    (of_filter (λ b. nat_lt (batches_before size books month b) n) (keys books.branches) branch (lt-ltb (batches_before size books month branch) n early) a)
+use Rattle.dh_model.proofs.RunLemmas.{of_begun}
 
 -- a number is below the next of n as it is below n, where it is not n
 next_below : (a n : ℕ) → (a ≡ n → ⊥) → nat_lt a n ≡ nat_lt a (n + 1)

@@ -1,14 +1,14 @@
 -- The rows that are left of a run are those of its batches, one after the other.
 use Rattle.std.proofs.Common.{◌≡◌, ap, subst, inl, inr, ℕ, ◌+◌, ◌-◌, ◌≤◌, max, List, [], ◌∷◌, length, arith}
 use Rattle.std.specs.List.{flat_map, sum_by}
-use Rattle.std.specs.FinMap.{entries, entries_sorted, is_sorted, keys}
+use Rattle.std.specs.FinMap.{keys}
 use Rattle.std.proofs.lemmas.List.{length-append}
 use Rattle.std.proofs.lemmas.List.FromFn.{length-map-range_with_len}
 use Rattle.std.proofs.lemmas.List.Sums.{sum_by-cons}
 use Rattle.dh_model.specs.Books.{Books, text_cmp}
 use Rattle.dh_model.specs.Runs.{batches, batches_before, batches_of_branch, dues_of_branch}
 use Rattle.dh_model.proofs.Among.{Among}
-use Rattle.dh_model.proofs.BranchDues.{holds, keys_rise}
+use Rattle.dh_model.proofs.BranchDues.{branches_rise}
 use Rattle.dh_model.proofs.BranchSums.{Follows, sums_follow}
 use Rattle.dh_model.proofs.KeyOrders.{text_total}
 use Rattle.dh_leases.specs.Rows.{Rows, all_rows_left, branch_run, rows_at, rows_left}
@@ -76,7 +76,7 @@ module _ (size : ℕ) (books : Books) (month done : ℕ) where
   pub all_counted : done ≤ batches size books month → AreTheRest (all_rows_left size books month done)
   all_counted few =
       let branches = keys books.branches in
-      let rise = keys_rise text_cmp (entries books.branches) (holds (is_sorted text_cmp (entries books.branches)) (entries_sorted books.branches)) in
+      let rise = branches_rise books in
       let all = counted_from 0 branches (λ b h. h) (sums_follow own text_cmp text_total branches rise) in
       let count = all.count in
       let first : max done 0 ≡ done = omega arith in

@@ -1,7 +1,7 @@
 -- One batch after the other, cut from a branch's dues.
-use Rattle.std.proofs.Common.{◌≡◌, ◌∙◌, sym, ap, ℕ, ◌+◌, ◌-◌, ◌*◌, ◌≤◌, List, [], ◌∷◌, ◌++◌, length, map, take, arith}
+use Rattle.std.proofs.Common.{◌≡◌, ◌∙◌, sym, ap, ℕ, ◌+◌, ◌-◌, ◌*◌, ◌≤◌, List, [], ◌∷◌, ◌++◌, map, take, arith}
 use Rattle.std.specs.List.{range_with_len}
-use Rattle.std.proofs.lemmas.List.{append_assoc, length-append, length-take, take-append-drop, take-take}
+use Rattle.std.proofs.lemmas.List.{append_assoc, take-append-drop, take-take}
 use Rattle.std.proofs.lemmas.List.FromFn.{map-range_with_len_more}
 use Rattle.dh_types.specs.declared.lease.Charge.{Charge}
 use Rattle.dh_leases.specs.declared.planning.BranchRun.{BranchRun}
@@ -15,14 +15,6 @@ module _ (size : ℕ) (dues : List Charge) (number : ℕ) where
       let fewer : number * size ≤ (number + 1) * size = omega arith in
       ap (λ cs. cs ++ charges_at size dues number) (sym (take-take (number * size) ((number + 1) * size) dues fewer))
       ∙ take-append-drop (number * size) so_far
-
-  -- which are no more than the dues
-  pub few_cut : length (take (number * size) dues) + length (charges_at size dues number) ≤ length dues
-  few_cut =
-      let both = length-append (take (number * size) dues) (charges_at size dues number) in
-      let all = ap length cut_once in
-      let some = length-take ((number + 1) * size) dues in
-      omega (arith, both, all, some)
 
   -- the rows of one batch more
   pub rows_more : (run : BranchRun) (done : ℕ) (old : List Rows) → done ≤ number

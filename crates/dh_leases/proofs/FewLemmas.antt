@@ -1,19 +1,18 @@
 -- No lease has dues at two branches, so what is posted is no more than there are leases.
-use Rattle.std.proofs.Common.{◌≡◌, ◌∙◌, refl, sym, ap, subst, inl, inr, ℕ, ◌+◌, ◌≤◌, Bool, true, false, cond, List, [], ◌∷◌, length, Option, Some, None, is_lt}
+use Rattle.std.proofs.Common.{◌≡◌, ◌∙◌, refl, sym, ap, subst, inl, inr, ℕ, ◌+◌, ◌≤◌, Bool, true, false, cond, List, [], ◌∷◌, length, Option, is_lt}
 use Rattle.std.proofs.Common.{nat_lt, arith}
 use Rattle.std.specs.List.{count_by, filter, sum_by}
-use Rattle.std.specs.FinMap.{entries, entries_sorted, get, is_sorted, keys, values}
+use Rattle.std.specs.FinMap.{get, keys, values}
 use Rattle.std.proofs.lemmas.Bool.{cases_Bool, false≢true}
 use Rattle.std.proofs.lemmas.Cmp.{nat_list_cmp_total, tied_itself}
 use Rattle.std.proofs.lemmas.List.Concat.{length-flat_map}
 use Rattle.std.proofs.lemmas.List.Sums.{sum_by-cons, sum_by-le-sum_by}
 use Rattle.dh_types.specs.declared.property.Property.{Property}
 use Rattle.dh_types.specs.declared.lease.Lease.{Lease}
-use Rattle.dh_types.proofs.SameValues.{texts}
 use Rattle.dh_model.specs.Books.{Books, text_cmp}
 use Rattle.dh_model.specs.Runs.{batch_of, dues_of_branch, is_property_of, leases_of_branch, posted_charges, posted_of_branch}
 use Rattle.dh_model.proofs.Among.{Among}
-use Rattle.dh_model.proofs.BranchDues.{holds, keys_rise}
+use Rattle.dh_model.proofs.BranchDues.{branches_rise, same_branch}
 use Rattle.dh_model.proofs.Rising.{IsBefore, Rises}
 use Rattle.dh_leases.proofs.PartLemmas.{no_more_dues, no_more_kept}
 
@@ -76,13 +75,9 @@ module _ {X Y : Type 0} (test : Y → X → Bool) (Before : Y → Y → Type 0) 
       let rest = shares bs r xs in
       omega (arith, more, one, rest)
 
-one_branch : (a b : List ℕ) (property : Option Property) → is_property_of a property ≡ true → is_property_of b property ≡ true → a ≡ b
-one_branch a b None p q = cc
-one_branch a b (Some property) p q = sym ((texts property.branch a).0 p) ∙ (texts property.branch b).0 q
-
 branches_apart : (a b : List ℕ) (property : Option Property) → IsBefore text_cmp a b → is_property_of a property ≡ true → is_property_of b property ≡ true → ⊥
 branches_apart a b property before p q =
-    let itself : is_lt (text_cmp a a) ≡ true = subst (λ k. is_lt (text_cmp a k) ≡ true) (sym (one_branch a b property p q)) before in
+    let itself : is_lt (text_cmp a a) ≡ true = subst (λ k. is_lt (text_cmp a k) ≡ true) (sym (same_branch a b property p q)) before in
     false≢true (sym (ap is_lt (tied_itself nat_list_cmp_total a)) ∙ itself)
 
 module _ (size : ℕ) (books : Books) (month done : ℕ) where
@@ -94,7 +89,7 @@ module _ (size : ℕ) (books : Books) (month done : ℕ) where
 
   pub few_posted : length (posted_charges size books month done) ≤ length (values books.leases)
   few_posted =
-      let rise = keys_rise text_cmp (entries books.branches) (holds (is_sorted text_cmp (entries books.branches)) (entries_sorted books.branches)) in
+      let rise = branches_rise books in
       let all = length-flat_map (posted_of_branch size books month done) (keys books.branches) in
       let few = sum_by-le-sum_by (λ branch. length (posted_of_branch size books month done branch)) (λ branch. length (leases_of_branch books branch))
       (keys books.branches) few_of_branch in

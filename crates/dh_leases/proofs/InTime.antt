@@ -1,5 +1,5 @@
 -- The charges of a plan fall due in time: a due falls in its month, which is the run's.
-use Rattle.std.proofs.Common.{◌≡◌, sym, subst, ℕ, ◌+◌, ◌-◌, ◌*◌, ◌<◌, ◌≤◌, Bool, All, List, [], ◌∷◌, length, map, nat_eq, slice_index_or, take}
+use Rattle.std.proofs.Common.{◌≡◌, sym, subst, ℕ, ◌+◌, ◌-◌, ◌*◌, ◌≤◌, Bool, All, List, [], ◌∷◌, length, map, nat_eq, slice_index_or, take}
 use Rattle.std.proofs.Common.{arith, eqb-true}
 use Rattle.std.specs.List.{flat_map, range_with_len}
 use Rattle.std.specs.FinMap.{keys}
@@ -12,7 +12,6 @@ use Rattle.dh_types.specs.declared.lease.Lease.{Lease}
 use Rattle.dh_model.specs.Books.{Books, Endings}
 use Rattle.dh_model.specs.Leases.{due, dues_among, dues_of, length_of}
 use Rattle.dh_model.specs.Runs.{batch_size, batches_before, batches_for, dues_of_branch, leases_of_branch}
-use Rattle.dh_leases.specs.declared.planning.BatchRows.{BatchRows}
 use Rattle.dh_leases.specs.declared.planning.Plan.{Plan}
 use Rattle.dh_leases.specs.Plans.{FallsInTime}
 use Rattle.dh_leases.specs.Rows.{Rows, all_rows_left, branch_run, rows_at, rows_left, rows_of}
@@ -70,8 +69,3 @@ in_time books plan known rows =
     let each = rows_in_time plan.month known books plan.done in
     let all = all_of_each AreInTime (rows_left batch_size books plan.month plan.done) (keys books.branches) each in
     all_mapped AreInTime rows_of plan.batches.items (subst (All AreInTime) (sym rows) all)
-
--- what holds of all batches holds of the one at a place
-pub in_time_at : (plan : Plan) → All FallsInTime plan.batches.items → (n : ℕ) (rows : BatchRows) → n < length plan.batches.items
-    → rows ≡ slice_index_or plan.batches.items n rows → FallsInTime rows
-in_time_at plan all n rows below is = subst FallsInTime (sym is) (all n rows below)

@@ -1,8 +1,8 @@
 -- Overlap by the starts and the ends.
-use Rattle.std.proofs.Common.{◌≡◌, ℕ, ◌<◌, ◌≤◌, Bool, true, ◌&&◌, nat_eq, nat_lt, arith}
+use Rattle.std.proofs.Common.{◌≡◌, ℕ, ◌<◌, ◌≤◌, Bool, true, ◌&&◌, nat_eq, nat_lt, arith, lt-ltb, ltb-true}
 use Rattle.std.specs.Cmp.Lexicographic.{pointwise}
 use Rattle.std.proofs.lemmas.Bool.{and_from, and_parts}
-use Rattle.std.proofs.lemmas.Bool.Decides.{nat_tests, same_from_decides}
+use Rattle.std.proofs.lemmas.Bool.Decides.{same_from_decides}
 use Rattle.dh_days.specs.Days.{IsDay, plus_months}
 use Rattle.dh_days.proofs.DayMonths.{more_months_later, no_month_later}
 use Rattle.dh_types.specs.declared.lease.LeaseTerms.{LeaseTerms}
@@ -17,12 +17,6 @@ starts_before start months is some =
     let more = more_months_later start 0 months (omega arith) in
     omega (arith, first, more)
 
-below : (m n : ℕ) → nat_lt m n ≡ true → m < n
-below m n h = grind (arith, nat_tests)
-
-of_below : (m n : ℕ) → m < n → nat_lt m n ≡ true
-of_below m n h = grind (arith, nat_tests)
-
 -- of one property, the one starts before the other's end, and the other before the one's
 abbrev pub by_ends : LeaseTerms → LeaseTerms → Bool
 by_ends lease other = (pointwise nat_eq lease.property other.property && nat_lt lease.start (end_of other)) && nat_lt other.start (end_of lease)
@@ -34,14 +28,14 @@ tested : (lease other : LeaseTerms) → by_ends lease other ≡ true → ByEnds 
 tested lease other h =
     let parts = and_parts (pointwise nat_eq lease.property other.property && nat_lt lease.start (end_of other)) (nat_lt other.start (end_of lease)) h in
     let first = and_parts (pointwise nat_eq lease.property other.property) (nat_lt lease.start (end_of other)) parts.0 in
-    ((texts lease.property other.property).0 first.0, below lease.start (end_of other) first.1, below other.start (end_of lease) parts.1)
+    ((texts lease.property other.property).0 first.0, ltb-true lease.start (end_of other) first.1, ltb-true other.start (end_of lease) parts.1)
 
 of_tested : (lease other : LeaseTerms) → ByEnds lease other → by_ends lease other ≡ true
 of_tested lease other h =
     and_from (pointwise nat_eq lease.property other.property && nat_lt lease.start (end_of other)) (nat_lt other.start (end_of lease))
     (and_from (pointwise nat_eq lease.property other.property) (nat_lt lease.start (end_of other)) ((texts lease.property other.property).1 h.0)
-    (of_below lease.start (end_of other) h.1))
-    (of_below other.start (end_of lease) h.2)
+    (lt-ltb lease.start (end_of other) h.1))
+    (lt-ltb other.start (end_of lease) h.2)
 
 pub overlap_by_ends : (lease other : LeaseTerms) → IsDay lease.start → IsDay other.start → lease.start < end_of lease → other.start < end_of other
     → overlap lease other ≡ by_ends lease other

@@ -2,7 +2,7 @@
 use Rattle.std.proofs.Common.{◌≡◌, ◌∙◌, refl, sym, ap, subst, inl, inr, ℕ, zero, suc, ◌+◌, ◌<◌, ◌≤◌, Bool, cond, List, [], ◌∷◌, ◌++◌, map, length}
 use Rattle.std.proofs.Common.{arith}
 use Rattle.std.specs.List.{filter, range_with_len}
-use Rattle.dh_model.proofs.Among.{Among}
+use Rattle.dh_model.proofs.Among.{Among, of_right}
 use Rattle.dh_model.proofs.Rising.{Rises}
 
 -- P holds of each element and its number, from j on
@@ -33,10 +33,6 @@ filter_alike p q (x ∷ xs) same =
     ∙ ap (λ ks. cond (q x) (x ∷ ks) ks) (filter_alike p q xs (λ y a. same y (inr a)))
 
 module _ {X : Type 0} (Before : X → X → Type 0) where
-  in_behind : (xs ys : List X) (y : X) → Among ys y → Among (xs ++ ys) y
-  in_behind [] ys y a = a
-  in_behind (x ∷ xs) ys y a = inr (in_behind xs ys y a)
-
   -- where two lists rise, one after the other, so does the second
   pub second_rises : (xs ys : List X) → Rises Before (xs ++ ys) → Rises Before ys
   second_rises [] ys r = r
@@ -45,5 +41,5 @@ module _ {X : Type 0} (Before : X → X → Type 0) where
   -- and each of the first is before each of the second
   pub first_before : (xs ys : List X) (x y : X) → Rises Before (xs ++ ys) → Among xs x → Among ys y → Before x y
   first_before [] ys x y r a b = absurd a
-  first_before (z ∷ xs) ys x y r (inl e) b = subst (λ w. Before w y) (sym e) (r.0 y (in_behind xs ys y b))
+  first_before (z ∷ xs) ys x y r (inl e) b = subst (λ w. Before w y) (sym e) (r.0 y (of_right xs ys y b))
   first_before (z ∷ xs) ys x y r (inr a) b = first_before xs ys x y r.1 a b

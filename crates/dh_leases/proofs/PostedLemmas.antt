@@ -1,10 +1,9 @@
 -- What is posted after so many batches: the first of each branch's dues.
 use Rattle.std.proofs.Common.{◌≡◌, ◌∙◌, refl, sym, ap, subst, inl, inr, ℕ, suc, ◌+◌, ◌-◌, ◌*◌, ◌/◌, ◌<◌, ◌≤◌, Bool, true, false, cond, nat_lt, List, [], ◌∷◌}
-use Rattle.std.proofs.Common.{◌++◌, length, map, take, append-nil, Ordering, Less, Equal, Greater, is_lt, le-div_iff_mul-le, le-ltb, lt-ltb, arith}
+use Rattle.std.proofs.Common.{◌++◌, length, map, take, append-nil, Ordering, is_lt, le-div_iff_mul-le, le-ltb, lt-ltb, arith}
 use Rattle.std.specs.List.{filter, flat_map, sum_by}
-use Rattle.std.specs.Ordering.{ordering_reverse}
 use Rattle.std.specs.Cmp.{IsTotalOrder}
-use Rattle.std.specs.FinMap.{entries, entries_sorted, is_sorted, keys}
+use Rattle.std.specs.FinMap.{keys}
 use Rattle.std.proofs.lemmas.Bool.{cases_lt}
 use Rattle.std.proofs.lemmas.Cmp.{nat_list_cmp_total, tied_itself}
 use Rattle.std.proofs.lemmas.Grind.{flat_map-append}
@@ -20,33 +19,21 @@ use Rattle.dh_model.specs.Runs.{posted_of_branch}
 use Rattle.dh_model.specs.BatchLaws.{AreNumbered}
 use Rattle.dh_model.proofs.Among.{Among}
 use Rattle.dh_model.proofs.BatchLemmas.{places_numbered}
-use Rattle.dh_model.proofs.BranchDues.{holds, keys_rise}
+use Rattle.dh_model.proofs.BranchDues.{branches_rise}
 use Rattle.dh_model.proofs.Rising.{IsBefore, Numbered, Rises}
-
-is_less : (r : Ordering) → is_lt r ≡ true → r ≡ Less
-is_less Less e = refl
-is_less Equal e = cc
-is_less Greater e = cc
+use Rattle.dh_model.proofs.BranchSums.{not_back}
+use Rattle.dh_laws.proofs.MonthDues.{none_kept}
 
 in_the_middle : {X : Type 0} (xs ys : List X) (x : X) → Among (xs ++ x ∷ ys) x
 in_the_middle [] ys x = inl refl
 in_the_middle (y ∷ xs) ys x = inr (in_the_middle xs ys x)
 
 module _ {K : Type 0} (R : K → K → Ordering) (o : IsTotalOrder R) where
-  not_back : (x y : K) → IsBefore R x y → is_lt (R y x) ≡ false
-  not_back x y h = ap is_lt (o.antisymm y x ∙ ap ordering_reverse (is_less (R x y) h))
-
-  none_lesser : (k : K) (ks : List K) → ((y : K) → Among ks y → IsBefore R k y) → filter (λ other. is_lt (R other k)) ks ≡ []
-  none_lesser k [] above = refl
-  none_lesser k (y ∷ ks) above =
-      ap (λ b. cond b (y ∷ filter (λ other. is_lt (R other k)) ks) (filter (λ other. is_lt (R other k)) ks)) (not_back k y (above y (inl refl)))
-      ∙ none_lesser k ks (λ z a. above z (inr a))
-
   -- of keys that rise the lesser ones stand before
-  lesser_are : (xs ys : List K) (k : K) → Rises (IsBefore R) (xs ++ k ∷ ys) → filter (λ other. is_lt (R other k)) (xs ++ k ∷ ys) ≡ xs
+  pub lesser_are : (xs ys : List K) (k : K) → Rises (IsBefore R) (xs ++ k ∷ ys) → filter (λ other. is_lt (R other k)) (xs ++ k ∷ ys) ≡ xs
   lesser_are [] ys k r =
       ap (λ b. cond b (k ∷ filter (λ other. is_lt (R other k)) ys) (filter (λ other. is_lt (R other k)) ys)) (ap is_lt (tied_itself o k))
-      ∙ none_lesser k ys r.0
+      ∙ none_kept (λ other. is_lt (R other k)) ys (λ y a. not_back R o k y (r.0 y a))
   lesser_are (x ∷ xs) ys k r =
       ap (λ b. cond b (x ∷ filter (λ other. is_lt (R other k)) (xs ++ k ∷ ys)) (filter (λ other. is_lt (R other k)) (xs ++ k ∷ ys)))
       (r.0 k (in_the_middle xs ys k))
@@ -101,9 +88,6 @@ abbrev pub left_after : ℕ → Books → ℕ → ℕ → List (List ℕ) → �
 left_after size books month done branches = done - sum_by (batches_of_branch size books month) branches
 
 module _ (size : ℕ) (books : Books) (month done : ℕ) (pos : 1 ≤ size) (are : AreNumbered books) where
-  rise : Rises (IsBefore text_cmp) (keys books.branches)
-  rise = keys_rise text_cmp (entries books.branches) (holds (is_sorted text_cmp (entries books.branches)) (entries_sorted books.branches))
-
   pub first_posted : (branch : List ℕ)
       → posted_of_branch size books month done branch ≡ take ((done - batches_before size books month branch) * size) (dues_of_branch books month branch)
   first_posted branch =
@@ -119,7 +103,7 @@ module _ (size : ℕ) (books : Books) (month done : ℕ) (pos : 1 ≤ size) (are
     before_are : batches_before size books month branch ≡ sum_by (batches_of_branch size books month) xs
     before_are =
         ap (λ ks. sum_by (batches_of_branch size books month) (filter (λ other. is_lt (text_cmp other branch)) ks)) all
-        ∙ ap (sum_by (batches_of_branch size books month)) (lesser_are text_cmp nat_list_cmp_total xs ys branch (subst (Rises (IsBefore text_cmp)) all rise))
+        ∙ ap (sum_by (batches_of_branch size books month)) (lesser_are text_cmp nat_list_cmp_total xs ys branch (subst (Rises (IsBefore text_cmp)) all (branches_rise books)))
 
     pub left_before : left ≡ done - batches_before size books month branch
     left_before = is ∙ ap (λ n. done - n) (sym before_are)

@@ -96,12 +96,12 @@ module _ {X : Type 0} where
     | inr r ↦ inr r
   ]
 
-  of_left : (xs ys : List X) (v : X) → Among xs v → Among (xs ++ ys) v
+  pub of_left : (xs ys : List X) (v : X) → Among xs v → Among (xs ++ ys) v
   of_left [] ys v h = absurd h
   of_left (x ∷ xs) ys v (inl e) = inl e
   of_left (x ∷ xs) ys v (inr h) = inr (of_left xs ys v h)
 
-  of_right : (xs ys : List X) (v : X) → Among ys v → Among (xs ++ ys) v
+  pub of_right : (xs ys : List X) (v : X) → Among ys v → Among (xs ++ ys) v
   of_right [] ys v h = h
   of_right (x ∷ xs) ys v h = inr (of_right xs ys v h)
 

@@ -47,7 +47,7 @@ module _ (size : ℕ) (pos : 1 ≤ size) where
   some_batch count = omega arith
 
   -- what fits into so many batches takes no more
-  no_more_batches : (count q : ℕ) → 1 ≤ q → count ≤ q * size → batches_for size count ≤ q
+  pub no_more_batches : (count q : ℕ) → 1 ≤ q → count ≤ q * size → batches_for size count ≤ q
   no_more_batches count q one h = elim (cases_lt q (batches_for size count)) [
     | inl more ↦ let begins = batch_begins count q one more in absurd (omega (arith, begins, h))
     | inr fits ↦ fits

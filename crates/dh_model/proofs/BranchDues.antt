@@ -4,7 +4,7 @@ use Rattle.std.proofs.Common.{Ordering, Less, Equal, Greater, is_lt, is_eq, nat_
 use Rattle.std.specs.List.{filter, flat_map, range_with_len}
 use Rattle.std.specs.Ordering.{eq_by_cmp, ordering_reverse}
 use Rattle.std.specs.Cmp.{IsTotalOrder}
-use Rattle.std.specs.FinMap.{entries, entries_sorted, find, get, get-entries, is_sorted, values}
+use Rattle.std.specs.FinMap.{entries, entries_sorted, find, get, get-entries, is_sorted, keys, values}
 use Rattle.std.specs.FinMap.Entries.{below_all}
 use Rattle.std.proofs.lemmas.Cmp.{nat_cmp_total, ranked, tied_itself}
 use Rattle.std.proofs.lemmas.Bool.{and_parts}
@@ -13,7 +13,7 @@ use Rattle.dh_types.specs.declared.property.Property.{Property}
 use Rattle.dh_types.specs.declared.lease.Lease.{Lease}
 use Rattle.dh_types.specs.declared.lease.Charge.{Charge}
 use Rattle.dh_types.proofs.SameValues.{numbers, texts}
-use Rattle.dh_model.specs.Books.{Books, Endings}
+use Rattle.dh_model.specs.Books.{Books, Endings, text_cmp}
 use Rattle.dh_model.specs.Leases.{due, dues_among, dues_of, length_of}
 use Rattle.dh_model.specs.Runs.{dues_of_branch, is_property_of, leases_of_branch}
 use Rattle.dh_model.specs.BatchLaws.{AreNumbered}
@@ -56,7 +56,7 @@ module _ {K X : Type 0} (R : K → K → Ordering) where
         ap (λ b. cond b (Some f.1) (find R e.0 es)) differ ∙ found
 
     -- each entry is found
-    entry_found : (es : List (K × X)) (e : K × X) → is_sorted R es ≡ true → Among es e → find R e.0 es ≡ Some e.1
+    pub entry_found : (es : List (K × X)) (e : K × X) → is_sorted R es ≡ true → Among es e → find R e.0 es ≡ Some e.1
     entry_found [] e h a = absurd a
     entry_found (f ∷ es) e h (inl s) = found_here f e.0 es (ap (λ (g : K × X). g.0) s) ∙ ap (λ (g : K × X). Some g.1) (sym s)
     entry_found (f ∷ es) e h (inr a) =
@@ -73,6 +73,9 @@ is_before : (r : Ordering) (m n : ℕ) → r ≡ nat_cmp m n → is_lt r ≡ tru
 is_before Less m n e h = ranked m n Less e
 is_before Equal m n e h = absurd (let no : false ≡ true = h in cc)
 is_before Greater m n e h = absurd (let no : false ≡ true = h in cc)
+
+pub branches_rise : (books : Books) → Rises (IsBefore text_cmp) (keys books.branches)
+branches_rise books = keys_rise text_cmp (entries books.branches) (holds (is_sorted text_cmp (entries books.branches)) (entries_sorted books.branches))
 
 -- leases in the order of their numbers
 rise_by_number : (es : List (ℕ × Lease)) → is_sorted nat_cmp es ≡ true → ((e : ℕ × Lease) → Among es e → e.1.terms.number ≡ e.0)

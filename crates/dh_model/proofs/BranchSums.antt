@@ -1,6 +1,6 @@
 -- Sums over keys in their order.
-use Rattle.std.proofs.Common.{◌≡◌, ◌∙◌, refl, sym, ap, inl, inr, ℕ, ◌+◌, ◌-◌, ◌<◌, ◌≤◌, min, Bool, true, false, cond, nat_lt, List, [], ◌∷◌, Ordering, Less}
-use Rattle.std.proofs.Common.{Equal, Greater, is_lt, le-ltb, lt-ltb, arith}
+use Rattle.std.proofs.Common.{◌≡◌, ◌∙◌, refl, sym, ap, inl, inr, ℕ, ◌+◌, ◌-◌, ◌<◌, ◌≤◌, min, Bool, true, false, cond, nat_lt, List, [], ◌∷◌, Ordering}
+use Rattle.std.proofs.Common.{is_lt, le-ltb, lt-ltb, arith}
 use Rattle.std.specs.List.{filter, sum_by}
 use Rattle.std.specs.Ordering.{ordering_reverse}
 use Rattle.std.specs.Cmp.{IsTotalOrder}
@@ -9,11 +9,11 @@ use Rattle.std.proofs.lemmas.Bool.{cases_Bool, cases_lt}
 use Rattle.std.proofs.lemmas.List.Sums.{sum_by-cons}
 use Rattle.dh_model.proofs.Among.{Among}
 use Rattle.dh_model.proofs.Rising.{IsBefore, Rises}
+use Rattle.dh_model.proofs.MapRows.{is_less}
 
-is_less : (r : Ordering) → is_lt r ≡ true → r ≡ Less
-is_less Less e = refl
-is_less Equal e = cc
-is_less Greater e = cc
+module _ {K : Type 0} (R : K → K → Ordering) (o : IsTotalOrder R) where
+  pub not_back : (x y : K) → IsBefore R x y → is_lt (R y x) ≡ false
+  not_back x y h = ap is_lt (o.antisymm y x ∙ ap ordering_reverse (is_less (R x y) h))
 
 module _ {K : Type 0} (f : K → ℕ) where
   sum_if : (b : Bool) (x : K) (xs : List K) → sum_by f (cond b (x ∷ xs) xs) ≡ cond b (f x) 0 + sum_by f xs
@@ -61,9 +61,6 @@ module _ {K : Type 0} (f : K → ℕ) where
     not_before_itself : (k : K) → is_lt (R k k) ≡ false
     not_before_itself k = ap is_lt (tied_itself o k)
 
-    not_back : (x y : K) → IsBefore R x y → is_lt (R y x) ≡ false
-    not_back x y h = ap is_lt (o.antisymm y x ∙ ap ordering_reverse (is_less (R x y) h))
-
     -- with a key's own these are among all
     pub own_is_among_all : (ks : List K) (k : K) → Among ks k → sum_before ks k + f k ≤ sum_by f ks
     own_is_among_all [] k h = absurd h
@@ -91,7 +88,7 @@ module _ {K : Type 0} (f : K → ℕ) where
     held_by_first : (k : K) (ks : List K) (j : ℕ) → Rises (IsBefore R) (k ∷ ks) → j < f k → Holds (k ∷ ks) j
     held_by_first k ks j r h =
         let out = sum_left_out (λ other. is_lt (R other k)) k ks (not_before_itself k) in
-        let none = sum_of_none (λ other. is_lt (R other k)) ks (λ y g. not_back k y (r.0 y g)) in
+        let none = sum_of_none (λ other. is_lt (R other k)) ks (λ y g. not_back R o k y (r.0 y g)) in
         record { key = k; of = inl refl; from = omega (arith, out, none); until = omega (arith, h, out, none) }
 
     held_later : (k : K) (ks : List K) (j : ℕ) → Rises (IsBefore R) (k ∷ ks) → f k ≤ j → Holds ks (j - f k) → Holds (k ∷ ks) j
@@ -110,7 +107,7 @@ module _ {K : Type 0} (f : K → ℕ) where
     follows_from a [] r = tt
     follows_from a (k ∷ ks) r =
         let out = sum_left_out (λ other. is_lt (R other k)) k ks (not_before_itself k) in
-        let none = sum_of_none (λ other. is_lt (R other k)) ks (λ y h. not_back k y (r.0 y h)) in (
+        let none = sum_of_none (λ other. is_lt (R other k)) ks (λ y h. not_back R o k y (r.0 y h)) in (
           omega (arith, out, none),
           follows_alike (λ x. (a + f k) + sum_before ks x) (λ x. a + sum_before (k ∷ ks) x) (a + f k) ks
               (λ x h. let kept = sum_kept (λ other. is_lt (R other x)) k ks (r.0 x h) in omega (arith, kept))

@@ -54,7 +54,7 @@ dues_are_those_of_leases books month charge =
           (of_due books.endings leases month charge (record { lease = h.0; k = h.1; of = among leases h.0 h.2; within = h.3; is = h.4; month_is = h.5 })),
     )
 
-month_of_due : (books : Books) (month : ℕ) (charge : Charge) → IsAmong (dues books month) charge → charge.month ≡ month
+pub month_of_due : (books : Books) (month : ℕ) (charge : Charge) → IsAmong (dues books month) charge → charge.month ≡ month
 month_of_due books month charge h = (is_due books.endings (values books.leases) month charge (among (dues books month) charge h)).month_is
 
 pub months_share_no_due : MonthsShareNoDue

@@ -20,7 +20,7 @@ nat_total = nat_cmp_total
 pub nat_ties : IsAntisymmetric nat_cmp
 nat_ties = nat_cmp-IsAntisymmetric
 
-both_tied : (r q : Ordering) → ordering_then r q ≡ Equal → (r ≡ Equal) × (q ≡ Equal)
+pub both_tied : (r q : Ordering) → ordering_then r q ≡ Equal → (r ≡ Equal) × (q ≡ Equal)
 both_tied Less q e = cc
 both_tied Equal q e = (λ i. Equal, e)
 both_tied Greater q e = cc
@@ -39,12 +39,6 @@ texts_total = pair_total text_total text_total
 
 pub texts_tie : IsAntisymmetric (pair_cmp text_cmp text_cmp)
 texts_tie = pair_ties text_ties text_ties
-
-pub text_nat_total : IsTotalOrder (pair_cmp text_cmp nat_cmp)
-text_nat_total = pair_total text_total nat_total
-
-pub text_nat_ties : IsAntisymmetric (pair_cmp text_cmp nat_cmp)
-text_nat_ties = pair_ties text_ties nat_ties
 
 pub nats_total : IsTotalOrder (pair_cmp nat_cmp nat_cmp)
 nats_total = pair_total nat_total nat_total

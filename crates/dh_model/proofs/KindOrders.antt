@@ -1,44 +1,21 @@
 -- The order of the keys of each kind is total, and only equal keys tie.
 use Rattle.std.specs.Cmp.{IsTotalOrder}
 use Rattle.std.specs.FinMap.{IsAntisymmetric}
-use Rattle.dh_model.specs.Kinds.{Kind, order_of}
-use Rattle.dh_model.specs.Kinds.{Branches, Staff, Owners, Properties, Clients, Registrations, Viewings, Inspections, Leases, Charges, Receipts, Runs}
-use Rattle.dh_model.specs.Kinds.{Parts, BranchFees, PartFees, Endings}
-use Rattle.dh_model.proofs.KeyOrders.{nat_text_ties, nat_text_total, nat_ties, nat_total, nats_tie, nats_total}
-use Rattle.dh_model.proofs.KeyOrders.{text_nat_ties, text_nat_total, text_ties, text_total, texts_tie, texts_total}
+use Rattle.dh_model.specs.Kinds.{Code, KeyForm, Kind, Number, Pair, entry, order_by, order_of}
+use Rattle.dh_model.proofs.KeyOrders.{nat_ties, nat_total, pair_ties, pair_total, text_ties, text_total}
+
+total_by : (form : KeyForm) → IsTotalOrder (order_by form)
+total_by Code = text_total
+total_by Number = nat_total
+total_by (Pair one two) = pair_total (total_by one) (total_by two)
+
+ties_by : (form : KeyForm) → IsAntisymmetric (order_by form)
+ties_by Code = text_ties
+ties_by Number = nat_ties
+ties_by (Pair one two) = pair_ties (ties_by one) (ties_by two)
 
 pub total_of : (kind : Kind) → IsTotalOrder (order_of kind)
-total_of Branches = text_total
-total_of Staff = text_total
-total_of Owners = text_total
-total_of Properties = text_total
-total_of Clients = text_total
-total_of Registrations = texts_total
-total_of Viewings = texts_total
-total_of Inspections = text_nat_total
-total_of Leases = nat_total
-total_of Charges = nats_total
-total_of Receipts = nat_total
-total_of Runs = nat_total
-total_of Parts = nat_text_total
-total_of BranchFees = text_total
-total_of PartFees = nat_text_total
-total_of Endings = nat_total
+total_of kind = total_by (entry kind).form
 
 pub ties_of : (kind : Kind) → IsAntisymmetric (order_of kind)
-ties_of Branches = text_ties
-ties_of Staff = text_ties
-ties_of Owners = text_ties
-ties_of Properties = text_ties
-ties_of Clients = text_ties
-ties_of Registrations = texts_tie
-ties_of Viewings = texts_tie
-ties_of Inspections = text_nat_ties
-ties_of Leases = nat_ties
-ties_of Charges = nats_tie
-ties_of Receipts = nat_ties
-ties_of Runs = nat_ties
-ties_of Parts = nat_text_ties
-ties_of BranchFees = text_ties
-ties_of PartFees = nat_text_ties
-ties_of Endings = nat_ties
+ties_of kind = ties_by (entry kind).form

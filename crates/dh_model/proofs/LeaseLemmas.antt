@@ -1,9 +1,9 @@
 -- When leases overlap.
-use Rattle.std.proofs.Common.{◌≡◌, sym, subst, inl, inr, ℕ, ◌+◌, ◌-◌, ◌<◌, ◌≤◌, true, false, nat_le, nat_lt, nat_eq, arith}
+use Rattle.std.proofs.Common.{◌≡◌, sym, subst, inl, inr, ℕ, ◌+◌, ◌-◌, ◌<◌, ◌≤◌, true, false, nat_le, nat_lt, nat_eq, arith, le-leb, leb-true, lt-ltb, ltb-true}
 use Rattle.std.specs.List.{list_any, range_with_len}
 use Rattle.std.specs.Cmp.Lexicographic.{pointwise}
 use Rattle.std.proofs.lemmas.Bool.{and_from, and_parts, cases_lt, false_from_ne_true}
-use Rattle.std.proofs.lemmas.Bool.Decides.{nat_tests, same_from_decides}
+use Rattle.std.proofs.lemmas.Bool.Decides.{same_from_decides}
 use Rattle.dh_days.specs.Days.{IsDay, days_in, month_of_day, number_in_month, plus_months}
 use Rattle.dh_days.proofs.DayMonths.{more_months_later}
 use Rattle.dh_types.specs.declared.lease.LeaseTerms.{LeaseTerms}
@@ -12,25 +12,13 @@ use Rattle.dh_model.specs.Leases.{Covers, covers, days_of, end_of, is_day, overl
 use Rattle.dh_model.specs.Laws.{OverlapGoesBothWays, OverlapIsByEnds, OverlapIsCommonDay}
 use Rattle.dh_model.proofs.Among.{Among, in_filter, in_range, of_filter, of_passes, of_range, some_passes}
 
-at_most : (m n : ℕ) → nat_le m n ≡ true → m ≤ n
-at_most m n h = grind (arith, nat_tests)
-
-of_at_most : (m n : ℕ) → m ≤ n → nat_le m n ≡ true
-of_at_most m n h = grind (arith, nat_tests)
-
-below : (m n : ℕ) → nat_lt m n ≡ true → m < n
-below m n h = grind (arith, nat_tests)
-
-of_below : (m n : ℕ) → m < n → nat_lt m n ≡ true
-of_below m n h = grind (arith, nat_tests)
-
-covered : (lease : LeaseTerms) (day : ℕ) → covers lease day ≡ true → Covers lease day
+pub covered : (lease : LeaseTerms) (day : ℕ) → covers lease day ≡ true → Covers lease day
 covered lease day h =
     let parts = and_parts (nat_le lease.start day) (nat_lt day (end_of lease)) h in
-    (at_most lease.start day parts.0, below day (end_of lease) parts.1)
+    (leb-true lease.start day parts.0, ltb-true day (end_of lease) parts.1)
 
-of_covered : (lease : LeaseTerms) (day : ℕ) → Covers lease day → covers lease day ≡ true
-of_covered lease day h = and_from (nat_le lease.start day) (nat_lt day (end_of lease)) (of_at_most lease.start day h.0) (of_below day (end_of lease) h.1)
+pub of_covered : (lease : LeaseTerms) (day : ℕ) → Covers lease day → covers lease day ≡ true
+of_covered lease day h = and_from (nat_le lease.start day) (nat_lt day (end_of lease)) (le-leb lease.start day h.0) (lt-ltb day (end_of lease) h.1)
 
 -- from a on as many as reach the end lie before it
 before_end : (a end day : ℕ) → a ≤ day → day < a + (end - a) → day < end
@@ -112,10 +100,10 @@ overlap_goes_both_ways lease other =
 
 -- a place between two days is one of the calendar where its month has it
 between : (start end day : ℕ) → IsDay start → IsDay end → start ≤ day → day < end → is_day day ≡ true → IsDay day
-between start end day s e from until is = ((omega (arith, s.0.0), omega (arith, e.0.1)), at_most (number_in_month day) (days_in (month_of_day day)) is)
+between start end day s e from until is = ((omega (arith, s.0.0), omega (arith, e.0.1)), leb-true (number_in_month day) (days_in (month_of_day day)) is)
 
 of_is_day : (day : ℕ) → IsDay day → is_day day ≡ true
-of_is_day day h = of_at_most (number_in_month day) (days_in (month_of_day day)) h.1
+of_is_day day h = le-leb (number_in_month day) (days_in (month_of_day day)) h.1
 
 pub overlap_is_common_day : OverlapIsCommonDay
 overlap_is_common_day lease other s e = (

@@ -1,5 +1,5 @@
 -- Which properties are vacant, and which suit a client, and in which order they are listed.
-use Rattle.std.proofs.Common.{◌≡◌, ◌∙◌, refl, sym, ap, inl, inr, ℕ, Bool, true, false, cond, not, nat_le, nat_lt, ◌&&◌, List, [], ◌∷◌, map, Some, Ordering}
+use Rattle.std.proofs.Common.{◌≡◌, ◌∙◌, refl, sym, ap, inl, inr, ℕ, Bool, true, false, cond, not, nat_le, ◌&&◌, List, [], ◌∷◌, map, Some, Ordering}
 use Rattle.std.proofs.Common.{Less, Equal, Greater, is_lt, nat_cmp, arith}
 use Rattle.std.specs.List.{filter, list_any}
 use Rattle.std.specs.Ordering.{eq_by_cmp, ordering_then}
@@ -11,31 +11,24 @@ use Rattle.std.proofs.lemmas.Bool.Decides.{nat_tests}
 use Rattle.std.proofs.lemmas.Cmp.{ranked}
 use Rattle.dh_types.specs.declared.property.Property.{Property}
 use Rattle.dh_types.specs.declared.client.Client.{Client}
-use Rattle.dh_types.specs.declared.lease.LeaseTerms.{LeaseTerms}
 use Rattle.dh_types.specs.declared.lease.Lease.{Lease}
 use Rattle.dh_types.specs.Records.{is_same_property_type}
 use Rattle.dh_types.proofs.SameValues.{property_types, texts}
 use Rattle.dh_model.specs.Books.{Books, pair_cmp, text_cmp}
-use Rattle.dh_model.specs.Leases.{Covers, covers, end_of, running}
+use Rattle.dh_model.specs.Leases.{Covers, covers, running}
 use Rattle.dh_model.specs.Checks.{is_same_text}
 use Rattle.dh_model.specs.Answers.{is_vacant, matches, matching, vacant}
 use Rattle.dh_model.specs.ListLaws.{IsCheaper, IsNotLet, MatchingRiseByRent, MatchingSuitTheClient, PropertiesAreNumbered, Suits, VacantAreNotLet}
 use Rattle.dh_model.specs.ListLaws.{VacantRiseByNumber}
 use Rattle.dh_model.proofs.Among.{Among, among, in_filter, in_map, is_among, of_filter, of_passes, some_passes}
 use Rattle.dh_model.proofs.KeyOrders.{nat_text_ties, nat_text_total, nat_ties, text_ties, text_total}
-use Rattle.dh_model.proofs.MapRows.{below_at, cases_key, entry_found, found_entry, inside, is_less, key_itself, keys_differ, of_row, row_of, sorted}
+use Rattle.dh_model.proofs.MapRows.{below_at, cases_key, found_entry, inside, is_less, key_itself, keys_differ, of_row, row_of, sorted}
 use Rattle.dh_model.proofs.Pairs.{rising_pairs}
 use Rattle.dh_model.proofs.Rising.{IsBefore, Rises, filter_rises, rises_by}
+use Rattle.dh_model.proofs.BranchDues.{entry_found}
+use Rattle.dh_model.proofs.LeaseLemmas.{covered, of_covered}
 
 -- ---- vacant properties
-
-covered : (lease : LeaseTerms) (day : ℕ) → covers lease day ≡ true → Covers lease day
-covered lease day h =
-    let parts = and_parts (nat_le lease.start day) (nat_lt day (end_of lease)) h in
-    (grind (arith, nat_tests, parts.0), grind (arith, nat_tests, parts.1))
-
-of_covered : (lease : LeaseTerms) (day : ℕ) → Covers lease day → covers lease day ≡ true
-of_covered lease day h = and_from (nat_le lease.start day) (nat_lt day (end_of lease)) (grind (arith, nat_tests, h.0)) (grind (arith, nat_tests, h.1))
 
 not_true : (b : Bool) → not b ≡ true → b ≡ true → ⊥
 not_true true e h = cc
@@ -96,7 +89,7 @@ module _ {K X : Type 0} {R : K → K → Ordering} (o : IsTotalOrder R) (anti : 
   -- rows under their keys stand in the order of these
   rows_rise : (m : FinMap R X) → ((k : K) (x : X) → get m k ≡ Some x → key x ≡ k) → Rises Before (values m)
   rows_rise m are =
-      entries_rise (entries m) (sorted o anti m) (λ e a. are e.0 e.1 (get-entries m e.0 ∙ entry_found o anti (entries m) e (sorted o anti m) a))
+      entries_rise (entries m) (sorted o anti m) (λ e a. are e.0 e.1 (get-entries m e.0 ∙ entry_found R o (entries m) e (sorted o anti m) a))
 
   -- ---- a map of rows by their keys
 
@@ -136,9 +129,6 @@ module _ {K X : Type 0} {R : K → K → Ordering} (o : IsTotalOrder R) (anti : 
 
   by_key_rises : (xs : List X) → Rises Before (values (by_key xs))
   by_key_rises xs = rows_rise (by_key xs) (λ k x h. (in_by_key xs k x h).1)
-
-number_of : Property → List ℕ
-number_of property = property.number
 
 pub vacant_rise_by_number : VacantRiseByNumber
 vacant_rise_by_number books day are =

@@ -1,5 +1,5 @@
 -- What the machine does with whole commands.
-use Rattle.std.proofs.Common.{◌≡◌, ◌∙◌, refl, sym, ap, ℕ, ◌+◌, ◌≤◌, Bool, true, false, nat_le, if◌then◌else◌, Option, Some, None, arith}
+use Rattle.std.proofs.Common.{◌≡◌, ◌∙◌, refl, sym, ap, ℕ, ◌+◌, ◌≤◌, Bool, true, false, nat_le, if◌then◌else◌, Option, Some, None, arith, le-leb}
 use Rattle.std.proofs.lemmas.Bool.Decides.{nat_tests}
 use Rattle.dh_types.specs.declared.command.Command.{Command}
 use Rattle.dh_types.specs.declared.command.Command.TheVariants as command
@@ -7,6 +7,7 @@ use Rattle.dh_types.specs.declared.question.Question.TheVariants as asked
 use Rattle.dh_types.specs.declared.reply.Reply.{Reply}
 use Rattle.dh_types.specs.declared.reply.Reply.TheVariants as reply
 use Rattle.dh_types.specs.declared.reply.Refusal.{Refusal}
+use Rattle.dh_types.specs.declared.reply.Refusal.TheVariants as refusal
 use Rattle.std.specs.FinMap.{get}
 use Rattle.dh_model.specs.declared.open_run.OpenRun.{OpenRun}
 use Rattle.dh_model.specs.declared.rows.Change.{Change}
@@ -20,15 +21,19 @@ use Rattle.dh_model.specs.Runs.{batches, ran}
 use Rattle.dh_model.specs.Verdicts.{verdict_on}
 use Rattle.dh_model.specs.Machine.{accepted, carried_out, posted, posted_sum, resumed, settled, step}
 
+pub frozen_verdict : (books : Books) (run : OpenRun) (told : Command) → is_frozen told ≡ true
+    → verdict_on books (Some run) told ≡ verdict.Refused (refusal.RunOpen run.month)
+frozen_verdict books run (command.Branch it) h = refl
+frozen_verdict books run (command.Fee it) h = refl
+frozen_verdict books run (command.Lease it) h = refl
+frozen_verdict books run (command.End it) h = refl
+frozen_verdict books run (command.Receipt it) h = refl
+frozen_verdict books run (command.Run it) h = refl
+frozen_verdict books run (command.Open it) h = refl
+frozen_verdict books run _ h = cc
+
 pub frozen_refused : (size : ℕ) → FrozenAreRefused size
-frozen_refused size books run (command.Branch it) h = refl
-frozen_refused size books run (command.Fee it) h = refl
-frozen_refused size books run (command.Lease it) h = refl
-frozen_refused size books run (command.End it) h = refl
-frozen_refused size books run (command.Receipt it) h = refl
-frozen_refused size books run (command.Run it) h = refl
-frozen_refused size books run (command.Open it) h = refl
-frozen_refused size books run _ h = cc
+frozen_refused size books run told h = ap (settled size (record { books = books; open_run = Some run }) told) (frozen_verdict books run told h)
 
 pub half_runs_not_shown : HalfRunsAreNotShown
 half_runs_not_shown books run (asked.Statement lease) h = refl
@@ -52,17 +57,26 @@ never false x y why p q h = q h
 module _ (size : ℕ) where
   carried_keeps : (s : State) (told : Command) (rows : Change) → is_frozen told ≡ false → is_post told ≡ false
       → (carried_out size s told rows).0.open_run ≡ s.open_run
-  carried_keeps s (command.Staff it) rows h g = refl
-  carried_keeps s (command.Owner it) rows h g = refl
-  carried_keeps s (command.Property it) rows h g = refl
-  carried_keeps s (command.Assign it) rows h g = refl
-  carried_keeps s (command.Rent it) rows h g = refl
-  carried_keeps s (command.Client it) rows h g = refl
-  carried_keeps s (command.Register it) rows h g = refl
-  carried_keeps s (command.Viewing it) rows h g = refl
-  carried_keeps s (command.Comment it) rows h g = refl
-  carried_keeps s (command.Inspection it) rows h g = refl
-  carried_keeps s _ rows h g = cc
+  carried_keeps s (command.Run order) rows h g = cc
+  carried_keeps s (command.Open order) rows h g = cc
+  carried_keeps s (command.Post count) rows h g = cc
+  carried_keeps s _ rows h g = refl
+
+  either_books : (b : Bool) (x y : State × Reply) (books : Books) → x.0.books ≡ books → y.0.books ≡ books → (either b x y).0.books ≡ books
+  either_books true x y books p q = p
+  either_books false x y books p q = q
+
+  -- batches leave the books, which are those with the run made
+  pub resumed_books : (books : Books) (count : ℕ) (run : Option OpenRun) → (resumed size books count run).0.books ≡ books
+  resumed_books books count None = refl
+  resumed_books books count (Some run) =
+      let all = batches size books run.month in
+      either_books (nat_le all (run.done + count))
+      (record { books = books; open_run = None }, reply.Posted (posted_sum run.month (get books.runs run.month))) (
+        record { books = books; open_run = Some (record { month = run.month; done = run.done + count }) },
+        reply.Part (record { month = run.month; done = run.done + count; of = all }),
+      )
+      books refl refl
 
   settled_keeps : (s : State) (told : Command) (v : Verdict) → is_frozen told ≡ false → is_post told ≡ false → (settled size s told v).0.open_run ≡ s.open_run
   settled_keeps s told (verdict.Change rows) h g = carried_keeps s told rows h g
@@ -103,9 +117,6 @@ module _ (size : ℕ) where
   pub refusals_keep : RefusalsChangeNothing size
   refusals_keep s told why h = settled_refuses s told (verdict_on s.books s.open_run told) why h
 
-  reached : (m n : ℕ) → m ≤ n → nat_le m n ≡ true
-  reached m n h = grind (arith, nat_tests)
-
   not_reached : (m n : ℕ) → n + 1 ≤ m → nat_le m n ≡ false
   not_reached m n h = grind (arith, nat_tests)
 
@@ -114,7 +125,7 @@ module _ (size : ℕ) where
         record { books = books; open_run = None },
         reply.Posted (posted_sum month (get books.runs month)),
       )
-  all_posted books month count h = rw (reached (batches size books month) (0 + count) (omega (arith, h))) refl
+  all_posted books month count h = rw (le-leb (batches size books month) (0 + count) (omega (arith, h))) refl
 
   pub run_is_opening : RunIsOpeningAndBatches size
   run_is_opening books order count told h =

@@ -12,7 +12,7 @@ use Rattle.std.proofs.lemmas.Bool.{and_parts, false_from_ne_true}
 use Rattle.std.proofs.lemmas.List.Sums.{sum_by-append, sum_by-cons}
 use Rattle.dh_model.specs.Rules.{Each, EachTwo, IsThere}
 use Rattle.dh_model.proofs.Among.{Among, among, in_map, is_among}
-use Rattle.dh_model.proofs.BranchDues.{holds}
+use Rattle.dh_model.proofs.BranchDues.{holds, entry_found}
 use Rattle.dh_model.proofs.Rising.{Rises}
 use Rattle.dh_model.proofs.Pairs.{rises_put, pairs_rise, rising_pairs}
 
@@ -105,17 +105,6 @@ module _ {K X : Type 0} where
     found_entry [] q x h = cc
     found_entry (e ∷ es) q x h = found_by (eq_by_cmp R q e.0) e es q x refl (found_entry es q x) h
 
-    -- and each entry is found
-    pub entry_found : (es : List (K × X)) (e : K × X) → is_sorted R es ≡ true → Among es e → find R e.0 es ≡ Some e.1
-    entry_found [] e h a = absurd a
-    entry_found (f ∷ es) e h (inl s) =
-        let ties : eq_by_cmp R e.0 f.0 ≡ true = rw s (key_itself o anti f.0) in
-        ap (λ b. cond b (Some f.1) (find R e.0 es)) ties ∙ ap (λ (g : K × X). Some g.1) (sym s)
-    entry_found (f ∷ es) e h (inr a) =
-        let parts = and_parts (below_all R f.0 es) (is_sorted R es) h in
-        let differ : eq_by_cmp R e.0 f.0 ≡ false = ap is_eq (turned_back o anti e.0 f.0 (below_at f.0 es e parts.0 a)) in
-        ap (λ b. cond b (Some f.1) (find R e.0 es)) differ ∙ entry_found es e parts.1 a
-
     pub sorted : (m : FinMap R X) → is_sorted R (entries m) ≡ true
     sorted m = holds (is_sorted R (entries m)) (entries_sorted m)
 
@@ -124,7 +113,7 @@ module _ {K X : Type 0} where
     pub row_of : (m : FinMap R X) (x : X) → Among (values m) x → (k : K) × (get m k ≡ Some x)
     row_of m x a =
         let of = in_map (λ e. e.1) (entries m) x a in
-        (of.0.0, get-entries m of.0.0 ∙ entry_found (entries m) of.0 (sorted m) of.1 ∙ ap (λ y. Some y) (sym of.2))
+        (of.0.0, get-entries m of.0.0 ∙ entry_found R o (entries m) of.0 (sorted m) of.1 ∙ ap (λ y. Some y) (sym of.2))
 
     value_of : (es : List (K × X)) (q : K) (x : X) → Among es (q, x) → Among (rows_of es) x
     value_of [] q x a = absurd a
@@ -143,15 +132,6 @@ module _ {K X : Type 0} where
 
     pub got_each : (m : FinMap R X) (P : X → Type 0) → ((k : K) (x : X) → get m k ≡ Some x → P x) → Each m P
     got_each m P got x a = let r = (among_values m x).0 a in got r.0 x r.1
-
-    -- what is among the rows after an insertion is the new one, or stood under another key
-    pub among_insert : (m : FinMap R X) (k : K) (v x : X) → Among (values (insert m k v)) x → (x ≡ v) ⊎ ((q : K) × (q ≢ k) × (get m q ≡ Some x))
-    among_insert m k v x a =
-        let r = row_of (insert m k v) x a in
-        elim (got_after m k v r.0 x r.1) [
-          | inl new ↦ inl new.1
-          | inr old ↦ inr (r.0, old.0, old.1)
-        ]
 
     -- what holds of each row and of the new one holds of each row after it
     pub each_insert : (m : FinMap R X) (k : K) (v : X) (P : X → Type 0) → P v → ((q : K) (x : X) → q ≢ k → get m q ≡ Some x → P x) → Each (insert m k v) P

@@ -1,7 +1,7 @@
 -- What holds of any two elements of a list, the first before the second.
 use Rattle.std.proofs.Common.{sym, subst, inl, inr, refl, ℕ, zero, suc, ◌<◌, List, [], ◌∷◌, ◌++◌, length, slice_index_or, arith}
 use Rattle.std.specs.List.{AllPairs}
-use Rattle.dh_model.proofs.Among.{Among, in_append, is_among}
+use Rattle.dh_model.proofs.Among.{Among, in_append, is_among, of_left, of_right}
 use Rattle.dh_model.proofs.Rising.{Rises}
 
 module _ {X : Type 0} where
@@ -9,15 +9,6 @@ module _ {X : Type 0} where
   at_index [] i d h = absurd (omega (arith, h))
   at_index (x ∷ xs) zero d h = inl refl
   at_index (x ∷ xs) (suc i) d h = inr (at_index xs i d (omega (arith, h)))
-
-  pub among_left : (xs ys : List X) (v : X) → Among xs v → Among (xs ++ ys) v
-  among_left [] ys v h = absurd h
-  among_left (x ∷ xs) ys v (inl e) = inl e
-  among_left (x ∷ xs) ys v (inr h) = inr (among_left xs ys v h)
-
-  pub among_right : (xs ys : List X) (v : X) → Among ys v → Among (xs ++ ys) v
-  among_right [] ys v h = h
-  among_right (x ∷ xs) ys v h = inr (among_right xs ys v h)
 
   module _ (P : X → X → Type 0) where
     pub pairs_rise : (xs : List X) → AllPairs P xs → Rises P xs
@@ -36,9 +27,9 @@ module _ {X : Type 0} where
 
     before_put : (x v : X) (xs ys : List X) (y : X) → ((y : X) → Among (xs ++ ys) y → P x y) → P x v → Among (xs ++ v ∷ ys) y → P x y
     before_put x v xs ys y rest own a = elim (in_append xs (v ∷ ys) y a) [
-      | inl l ↦ rest y (among_left xs ys y l)
+      | inl l ↦ rest y (of_left xs ys y l)
       | inr (inl e) ↦ subst (P x) (sym e) own
-      | inr (inr r) ↦ rest y (among_right xs ys y r)
+      | inr (inr r) ↦ rest y (of_right xs ys y r)
     ]
 
     -- one more element, where it is on both sides of each

@@ -1,6 +1,6 @@
 -- An open run stands at one number of batches.
 use Rattle.std.proofs.Common.{◌≡◌, ◌∙◌, sym, ap, subst, inl, inr, ℕ, ◌+◌, ◌-◌, ◌*◌, ◌/◌, ◌<◌, ◌≤◌, nat_lt, List, length, lt-ltb, ltb-true, arith}
-use Rattle.std.specs.FinMap.{entries, entries_sorted, is_sorted, keys}
+use Rattle.std.specs.FinMap.{keys}
 use Rattle.std.proofs.lemmas.Nat.{div-mul-add}
 use Rattle.std.proofs.lemmas.Cmp.{nat_list_cmp_total}
 use Rattle.std.proofs.lemmas.Bool.{cases_lt}
@@ -14,7 +14,7 @@ use Rattle.dh_model.specs.Rules.{ArePosted}
 use Rattle.dh_model.proofs.Among.{Among, among, in_filter, in_flat_map, in_map, is_among, of_filter, of_flat_map, of_map}
 use Rattle.dh_model.proofs.Rising.{numbered_at}
 use Rattle.dh_model.proofs.BranchSums.{holder}
-use Rattle.dh_model.proofs.BranchDues.{holds, keys_rise, one_branch_of_due}
+use Rattle.dh_model.proofs.BranchDues.{one_branch_of_due, branches_rise}
 use Rattle.dh_model.proofs.BatchLemmas.{batch_begins, places_numbered}
 
 -- a branch that has begun after n batches has its first batch among them
@@ -28,7 +28,7 @@ begun size books month n branch part same a =
     subst (λ b. batches_before size books month b < n) one early
 
 -- and it has a part row
-of_begun : (size : ℕ) (books : Books) (month n : ℕ) (branch : List ℕ) → Among (keys books.branches) branch → batches_before size books month branch < n
+pub of_begun : (size : ℕ) (books : Books) (month n : ℕ) (branch : List ℕ) → Among (keys books.branches) branch → batches_before size books month branch < n
     → Among (posted_parts size books month n) (part_of month branch (posted_of_branch size books month n branch))
 of_begun size books month n branch a early =
     of_map (λ b. part_of month b (posted_of_branch size books month n b)) (begun_branches size books month n) branch
@@ -101,8 +101,7 @@ module _ (size : ℕ) (books : Books) (month j k : ℕ) (same : SaysTheSame size
     -- and there is no next one
     none_differs : j < batches size books month → ⊥
     none_differs few =
-        let rise = keys_rise text_cmp (entries books.branches) (holds (is_sorted text_cmp (entries books.branches)) (entries_sorted books.branches)) in
-        let held = holder (batches_of_branch size books month) text_cmp nat_list_cmp_total (keys books.branches) j rise few in
+        let held = holder (batches_of_branch size books month) text_cmp nat_list_cmp_total (keys books.branches) j (branches_rise books) few in
         elim (cases_lt (batches_before size books month held.key) j) [
           | inl later ↦ later_differs held.key held.of later held.until
           | inr first ↦ first_differs held.key held.of (let from = held.from in omega (arith, from, first))

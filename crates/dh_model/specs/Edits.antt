@@ -8,7 +8,8 @@ use Rattle.dh_types.specs.declared.version.Version.{Version}
 use Rattle.dh_types.specs.declared.version.Version.TheVariants.{First}
 use Rattle.dh_model.specs.Books.{Books}
 use Rattle.dh_model.specs.Kinds.{Kind, came_with, key_in, key_of, record_of, records_of, with_records}
-use Rattle.dh_model.specs.Kinds.{Branches, Staff, Owners, Properties, Clients, Registrations, Viewings, Inspections, Leases, Receipts, Runs, BranchFees, Endings}
+use Rattle.dh_model.specs.Kinds.{Branches, BranchFees, Clients, Endings, Inspections, Leases, Owners, Properties, Receipts, Registrations, Runs}
+use Rattle.dh_model.specs.Kinds.{Staff, Viewings}
 
 pub data Edit : Type 0 where
   -- a row is added, whose key is new

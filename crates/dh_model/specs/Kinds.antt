@@ -42,24 +42,38 @@ pub data Kind : Type 0 where
   PartFees : Kind
   Endings : Kind
 
+-- a key is a code, a number, or two of these
+pub data KeyForm : Type 0 where
+  Code : KeyForm
+  Number : KeyForm
+  Pair : KeyForm → KeyForm → KeyForm
+
+abbrev pub key_type : KeyForm → Type 0
+key_type Code = List ℕ
+key_type Number = ℕ
+key_type (Pair one two) = key_type one × key_type two
+
+abbrev pub order_by : (form : KeyForm) → key_type form → key_type form → Ordering
+order_by Code = text_cmp
+order_by Number = nat_cmp
+order_by (Pair one two) = pair_cmp (order_by one) (order_by two)
+
 -- What there is to a kind of record.
 pub record Entry : Type 1 where
-  -- its keys, and their order
-  pub Key : Type 0
-  pub order : Key → Key → Ordering
+  -- the form of its keys
+  pub form : KeyForm
   -- its records, and the key of each
   pub Row : Type 0
-  pub key : Row → Key
+  pub key : Row → key_type form
   -- the version that it came with
   pub since : Version
   -- where the books have its records, and the books with others
-  pub held : Books → FinMap order Row
-  pub with : Books → FinMap order Row → Books
+  pub held : Books → FinMap (order_by form) Row
+  pub with : Books → FinMap (order_by form) Row → Books
 
 abbrev pub entry : Kind → Entry
 entry Branches = record {
-  Key = List ℕ;
-  order = text_cmp;
+  form = Code;
   Row = Branch;
   key = λ it. it.number;
   since = First;
@@ -67,8 +81,7 @@ entry Branches = record {
   with = λ books rows. record books { branches = rows };
 }
 entry Staff = record {
-  Key = List ℕ;
-  order = text_cmp;
+  form = Code;
   Row = staff.Staff;
   key = λ it. it.number;
   since = First;
@@ -76,8 +89,7 @@ entry Staff = record {
   with = λ books rows. record books { staff = rows };
 }
 entry Owners = record {
-  Key = List ℕ;
-  order = text_cmp;
+  form = Code;
   Row = Owner;
   key = λ it. it.number;
   since = First;
@@ -85,8 +97,7 @@ entry Owners = record {
   with = λ books rows. record books { owners = rows };
 }
 entry Properties = record {
-  Key = List ℕ;
-  order = text_cmp;
+  form = Code;
   Row = Property;
   key = λ it. it.number;
   since = First;
@@ -94,8 +105,7 @@ entry Properties = record {
   with = λ books rows. record books { properties = rows };
 }
 entry Clients = record {
-  Key = List ℕ;
-  order = text_cmp;
+  form = Code;
   Row = Client;
   key = λ it. it.number;
   since = First;
@@ -103,8 +113,7 @@ entry Clients = record {
   with = λ books rows. record books { clients = rows };
 }
 entry Registrations = record {
-  Key = List ℕ × List ℕ;
-  order = pair_cmp text_cmp text_cmp;
+  form = Pair Code Code;
   Row = Registration;
   key = λ it. (it.client, it.branch);
   since = First;
@@ -112,8 +121,7 @@ entry Registrations = record {
   with = λ books rows. record books { registrations = rows };
 }
 entry Viewings = record {
-  Key = List ℕ × List ℕ;
-  order = pair_cmp text_cmp text_cmp;
+  form = Pair Code Code;
   Row = Viewing;
   key = λ it. (it.client, it.property);
   since = First;
@@ -121,8 +129,7 @@ entry Viewings = record {
   with = λ books rows. record books { viewings = rows };
 }
 entry Inspections = record {
-  Key = List ℕ × ℕ;
-  order = pair_cmp text_cmp nat_cmp;
+  form = Pair Code Number;
   Row = Inspection;
   key = λ it. (it.property, it.day);
   since = First;
@@ -130,8 +137,7 @@ entry Inspections = record {
   with = λ books rows. record books { inspections = rows };
 }
 entry Leases = record {
-  Key = ℕ;
-  order = nat_cmp;
+  form = Number;
   Row = Lease;
   key = λ it. it.terms.number;
   since = First;
@@ -139,8 +145,7 @@ entry Leases = record {
   with = λ books rows. record books { leases = rows };
 }
 entry Charges = record {
-  Key = ℕ × ℕ;
-  order = pair_cmp nat_cmp nat_cmp;
+  form = Pair Number Number;
   Row = Charge;
   key = λ it. charge_key it;
   since = First;
@@ -148,8 +153,7 @@ entry Charges = record {
   with = λ books rows. record books { charges = rows };
 }
 entry Receipts = record {
-  Key = ℕ;
-  order = nat_cmp;
+  form = Number;
   Row = Receipt;
   key = λ it. it.number;
   since = First;
@@ -157,8 +161,7 @@ entry Receipts = record {
   with = λ books rows. record books { receipts = rows };
 }
 entry Runs = record {
-  Key = ℕ;
-  order = nat_cmp;
+  form = Number;
   Row = Run;
   key = λ it. it.month;
   since = First;
@@ -166,8 +169,7 @@ entry Runs = record {
   with = λ books rows. record books { runs = rows };
 }
 entry Parts = record {
-  Key = ℕ × List ℕ;
-  order = pair_cmp nat_cmp text_cmp;
+  form = Pair Number Code;
   Row = Part;
   key = λ it. part_key it;
   since = First;
@@ -175,8 +177,7 @@ entry Parts = record {
   with = λ books rows. record books { parts = rows };
 }
 entry BranchFees = record {
-  Key = List ℕ;
-  order = text_cmp;
+  form = Code;
   Row = BranchFee;
   key = λ it. it.branch;
   since = Second;
@@ -184,8 +185,7 @@ entry BranchFees = record {
   with = λ books rows. record books { branch_fees = rows };
 }
 entry PartFees = record {
-  Key = ℕ × List ℕ;
-  order = pair_cmp nat_cmp text_cmp;
+  form = Pair Number Code;
   Row = PartFee;
   key = λ it. part_fee_key it;
   since = Second;
@@ -193,8 +193,7 @@ entry PartFees = record {
   with = λ books rows. record books { part_fees = rows };
 }
 entry Endings = record {
-  Key = ℕ;
-  order = nat_cmp;
+  form = Number;
   Row = Ending;
   key = λ it. it.lease;
   since = Second;
@@ -216,14 +215,14 @@ abbrev pub HasKind : Version → Kind → Type 0
 HasKind version kind = IsSince (came_with kind) version
 
 abbrev pub key_of : Kind → Type 0
-key_of kind = (entry kind).Key
+key_of kind = key_type (entry kind).form
 
 abbrev pub record_of : Kind → Type 0
 record_of kind = (entry kind).Row
 
 -- the order of the keys
 abbrev pub order_of : (kind : Kind) → key_of kind → key_of kind → Ordering
-order_of kind = (entry kind).order
+order_of kind = order_by (entry kind).form
 
 -- the key of a record
 abbrev pub key_in : (kind : Kind) → record_of kind → key_of kind

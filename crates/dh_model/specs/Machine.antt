@@ -1,13 +1,8 @@
 -- The machine: what each command does to the books and the open run, and what it is answered.
 use Rattle.std.specs.Prelude.{ℕ, ◌+◌, nat_le, if◌then◌else◌, Option, Some, None}
 use Rattle.std.specs.FinMap.{get}
-use Rattle.dh_types.specs.declared.property.Property.{Property}
-use Rattle.dh_types.specs.declared.viewing.Viewing.{Viewing}
 use Rattle.dh_types.specs.declared.command.Command.{Command}
 use Rattle.dh_types.specs.declared.command.Command.TheVariants as command
-use Rattle.dh_types.specs.declared.command.Assignment.{Assignment}
-use Rattle.dh_types.specs.declared.command.RentChange.{RentChange}
-use Rattle.dh_types.specs.declared.command.ViewingComment.{ViewingComment}
 use Rattle.dh_types.specs.declared.run.Run.{Run}
 use Rattle.dh_types.specs.declared.run.RunSum.{RunSum}
 use Rattle.dh_types.specs.declared.reply.Reply.{Reply}
@@ -19,19 +14,9 @@ use Rattle.dh_model.specs.declared.rows.Change.TheVariants as change
 use Rattle.dh_model.specs.declared.rows.Verdict.{Verdict}
 use Rattle.dh_model.specs.declared.rows.Verdict.TheVariants as verdict
 use Rattle.dh_model.specs.Books.{Books, State}
-use Rattle.dh_model.specs.Kinds.{Properties, Viewings}
-use Rattle.dh_model.specs.Edits.{edit_of, edited, updated}
+use Rattle.dh_model.specs.Edits.{edit_of, edited}
 use Rattle.dh_model.specs.Runs.{batches, ran, sum_of}
 use Rattle.dh_model.specs.Verdicts.{verdict_on}
-
-abbrev pub managed : Books → Assignment → Option Property → Books
-managed books it found = updated Properties it.property (λ row. record row { staff = it.staff }) books found
-
-abbrev pub at_rent : Books → RentChange → Option Property → Books
-at_rent books it found = updated Properties it.property (λ row. record row { rent = it.rent }) books found
-
-abbrev pub with_comment : Books → ViewingComment → Option Viewing → Books
-with_comment books it found = updated Viewings (it.client, it.property) (λ row. record row { comment = Some it.comment }) books found
 
 -- the books with the rows of the change
 abbrev pub changed : Change → Books → Books

@@ -7,7 +7,7 @@ use Rattle.dh_types.specs.declared.run.Run.{Run}
 use Rattle.dh_model.specs.declared.open_run.OpenRun.{OpenRun}
 use Rattle.dh_model.specs.Books.{Books, with_rows}
 use Rattle.dh_model.specs.Runs.{batches, batches_for, charge_key, closed_run, part_fee_key, part_key, posted_charges, posted_fees, posted_parts}
-use Rattle.dh_model.specs.Rules.{ArePosted, MeetsRules, parts_in}
+use Rattle.dh_model.specs.Rules.{ArePosted, parts_in}
 
 -- the rows of which the test holds
 abbrev pub rows_where : {K X : Type 0} {R : K → K → Ordering} → (X → Bool) → FinMap R X → FinMap R X
@@ -49,7 +49,3 @@ module _ (size : ℕ) where
   -- the books as they are once the open run is done
   abbrev pub whole : Books → Books
   whole books = completed books (open_row books)
-
-  -- the rules hold
-  abbrev pub IsSound : Books → Type 0
-  IsSound books = MeetsRules books size

@@ -1,5 +1,5 @@
 -- Where the open run stands after batches, or at its end.
-use Rattle.std.proofs.Common.{◌≡◌, ◌∙◌, refl, sym, ap, subst, inl, inr, ℕ, ◌+◌, ◌-◌, ◌≤◌, min, Bool, true, false, nat_le, if◌then◌else◌, Option, Some, None}
+use Rattle.std.proofs.Common.{◌≡◌, ◌∙◌, refl, sym, ap, subst, inl, inr, ℕ, ◌+◌, ◌-◌, ◌≤◌, min, Bool, true, false, nat_le, if◌then◌else◌, Option, Some, None, leb-true}
 use Rattle.std.proofs.Common.{arith}
 use Rattle.std.proofs.lemmas.Bool.Decides.{nat_tests}
 use Rattle.dh_types.specs.declared.command.Command.{Command}
@@ -15,9 +15,6 @@ use Rattle.dh_laws.proofs.MovingBatches.{at_the_end, batches_of_whole, with_batc
 use Rattle.dh_rules.specs.declared.moving.Reach.{Reach}
 use Rattle.dh_rules.specs.declared.moving.Reach.TheVariants as reach
 use Rattle.dh_rules.specs.Reaches.{batches_left, moved_run, reach_within, undone_run}
-
-at_most : (m n : ℕ) → nat_le m n ≡ true → m ≤ n
-at_most m n h = grind (arith, nat_tests)
 
 more_than : (m n : ℕ) → nat_le m n ≡ false → n + 1 ≤ m
 more_than m n h = grind (arith, nat_tests)
@@ -35,14 +32,14 @@ is_capped : (done count all : ℕ) → done ≤ all → IsCapped done count all 
 is_capped done count all within = by (nat_le all (done + count)) refl
   where
     by : (b : Bool) → nat_le all (done + count) ≡ b → IsCapped done count all (if b then all else done + count)
-    by true e = let reached = at_most all (done + count) e in record { least = within; most = omega arith; more = reached }
+    by true e = let reached = leb-true all (done + count) e in record { least = within; most = omega arith; more = reached }
     by false e = let short = more_than all (done + count) e in record { least = omega arith; most = omega (arith, short); more = omega arith }
 
 capped_is : (done count all : ℕ) → done ≤ all → done + min count (all - done) ≡ capped done count all
 capped_is done count all within = by (nat_le all (done + count)) refl
   where
     by : (b : Bool) → nat_le all (done + count) ≡ b → done + min count (all - done) ≡ (if b then all else done + count)
-    by true e = let reached = at_most all (done + count) e in omega (arith, within, reached)
+    by true e = let reached = leb-true all (done + count) e in omega (arith, within, reached)
     by false e = let short = more_than all (done + count) e in omega (arith, within, short)
 
 module _ (size : ℕ) where
@@ -115,7 +112,7 @@ moved_within books most reach.End run within = by (nat_le (batches_left books ru
   where
     by : (b : Bool) → nat_le (batches_left books run) most ≡ b
         → IsMovedBy batch_size books most run (moved_run books (if b then reach.End else reach.Batches most) run)
-    by true e = ended_by books most run (at_most (batches_left books run) most e)
+    by true e = ended_by books most run (leb-true (batches_left books run) most e)
     by false e = advanced_by books most most run (omega arith) within
 
 -- a run that is moved on is further, or closed

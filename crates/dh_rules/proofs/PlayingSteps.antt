@@ -95,9 +95,6 @@ module _ (all : List Happening) (start : State) where
       → IsStateInOrder now
       × ((more : List Reply) (after : State) → IsPlayed rest more now after → IsPlayed all (replies ++ more) start after)
 
-  pub so_far_none : (replies : List Reply) → replies ≡ [] → SoFar all replies start
-  so_far_none replies none in_order = (in_order, λ more after p. subst (λ rs. IsPlayed all (rs ++ more) start after) (sym none) p)
-
   pub so_far_more : (i : ℕ) (one : Happening) (reply : Option Reply) (replies later : List Reply) (now next : State) → i < length all → one ≡ get_or all i one
       → SoFar (drop i all) replies now
       → (IsStateInOrder now → IsStep one reply now next × IsStateInOrder next)

@@ -1,8 +1,8 @@
 //! What changes in place: the next month, the open run, and one field of a row.
 
 ghost use Rattle.std.specs.Prelude.{◌≡◌, Some};
-ghost use Rattle.std.specs.FinMap as fin;
-ghost use Rattle.dh_model.specs.Machine.{at_rent, managed, with_comment};
+ghost use Rattle.dh_model.specs.declared.rows.Change.TheVariants as change;
+ghost use Rattle.dh_model.specs.Machine.{changed};
 
 use super::Books;
 use dh_model::OpenRun;
@@ -31,7 +31,7 @@ fn put_comment(viewing: &mut Viewing, comment: Comment)
 impl Books {
     /// The property gets this manager, or none. Nothing changes where it is not there.
     pub fn assign(&mut self, it: Assignment)
-        ensures { self.new ≡ record self.old { books = managed self.old.books it (fin.get self.old.books.properties it.property) } }
+        ensures { self.new ≡ record self.old { books = changed (change.Assign it) self.old.books } }
     {
         let Some(property) = self.properties.get_mut(&it.property) else {
             return;
@@ -41,7 +41,7 @@ impl Books {
 
     /// The property gets this rent. Nothing changes where it is not there.
     pub fn set_rent(&mut self, it: RentChange)
-        ensures { self.new ≡ record self.old { books = at_rent self.old.books it (fin.get self.old.books.properties it.property) } }
+        ensures { self.new ≡ record self.old { books = changed (change.Rent it) self.old.books } }
     {
         let Some(property) = self.properties.get_mut(&it.property) else {
             return;
@@ -51,7 +51,7 @@ impl Books {
 
     /// The viewing gets this comment. Nothing changes where it is not there.
     pub fn set_comment(&mut self, it: ViewingComment)
-        ensures { self.new ≡ record self.old { books = with_comment self.old.books it (fin.get self.old.books.viewings (it.client, it.property)) } }
+        ensures { self.new ≡ record self.old { books = changed (change.Comment it) self.old.books } }
     {
         let key = (it.client, it.property);
         let Some(viewing) = self.viewings.get_mut(&key) else {

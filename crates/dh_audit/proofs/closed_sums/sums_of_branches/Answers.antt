@@ -2,10 +2,11 @@ use Rattle.std.proofs.Common.{rules, ◌≡◌, ◌∙◌, sym, ap, subst, take,
 use Rattle.std.specs.Ordering.{nat_cmp}
 use Rattle.dh_model.specs.Books.{pair_cmp, text_cmp}
 use Rattle.dh_audit.specs.ClosedMonths.{charges_of_branch, sum_at, sum_of, with_charge}
-use Rattle.dh_audit.proofs.ClosedSums.{at_key, branch_tells, count_fits, is_under, keys_ties, keys_total, no_branch, put_one, still_small, sum_kept}
+use Rattle.dh_audit.proofs.ClosedSums.{at_key, branch_tells, count_fits, is_under, no_branch, put_one, still_small, sum_kept}
 use Rattle.dh_audit.proofs.ClosedSums.{sum_step, taken, taken_all}
 use Rattle.dh_audit.proofs.closed_sums.sums_of_branches.Goals.{in-Some+in_ok-add, in_default}
 use Rattle.dh_audit.proofs.closed_sums.sums_of_branches.Goals as goal
+use Rattle.dh_model.proofs.KeyOrders.{nat_text_ties, nat_text_total}
 
 pub add-requires-clause-few : goal.add-requires-clause-few
 add-requires-clause-few c =
@@ -33,9 +34,9 @@ loop-due-preserved c =
           let is : (key : ℕ × List ℕ) → new key ≡ cond (is_eq (pair_cmp nat_cmp text_cmp one key)) (with_charge (old one) due.charge) (old key) =
           λ key. ap (λ m. sum_at (pair_cmp nat_cmp text_cmp) m key) w.sums-is ∙ w.in_ok-add.ensures.value key in
           record {
-            value = λ key. put_one keys_total keys_ties is_under one (take i dues) due old new
+            value = λ key. put_one nat_text_total nat_text_ties is_under one (take i dues) due old new
                 (branch_tells due branch w.in-Some.is) c.loop-due.invariant.value is key ∙ ap (sum_kept (is_under key)) (sym next);
-            small = still_small keys_total keys_ties is_under one (take i dues) due old new
+            small = still_small nat_text_total nat_text_ties is_under one (take i dues) due old new
                 (branch_tells due branch w.in-Some.is) c.loop-due.invariant.value is w.in_ok-add.ensures.bound c.loop-due.invariant.small;
           }
       | in_default w ↦ record {

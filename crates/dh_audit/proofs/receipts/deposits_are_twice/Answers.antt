@@ -1,12 +1,6 @@
 use Rattle.std.proofs.Common.{rules, tests}
-use Rattle.std.specs.FinMap as fin
-use Rattle.std.proofs.lemmas.Iterator.Consumers.{YieldsList-from_rest}
-use Rattle.dh_audit.proofs.Rows.{each_from_all}
-use Rattle.dh_audit.specs.Receipts.{IsTwiceTheRent}
+use Rattle.dh_audit.proofs.Rows.{each_row}
 use Rattle.dh_audit.proofs.receipts.deposits_are_twice.Goals as goal
 
 pub returns : goal.returns
-returns c =
-    let books = c.args.books.now.books in
-    each_from_all (IsTwiceTheRent books) _ _ c.all.result c.all.ensures.ran
-    (YieldsList-from_rest (fin.values books.receipts) c.receipts.ensures) (λ x b q k. search (rules, tests))
+returns c = each_row c.all.ensures.ran c.receipts.ensures (λ x b q k. search (rules, tests))

@@ -1,13 +1,6 @@
 use Rattle.std.proofs.Common.{rules, tests}
-use Rattle.std.specs.FinMap as fin
-use Rattle.std.proofs.lemmas.Iterator.Consumers.{YieldsList-from_rest}
-use Rattle.dh_model.specs.Kinds.{Kind}
-use Rattle.dh_model.specs.Rules.{Refers}
-use Rattle.dh_audit.proofs.Rows.{each_from_all}
+use Rattle.dh_audit.proofs.Rows.{each_row}
 use Rattle.dh_audit.proofs.references.viewings_refer.Goals as goal
 
 pub returns : goal.returns
-returns c =
-    let books = c.args.books.now.books in
-    each_from_all (Refers books Kind.Viewings) _ _ c.all.result c.all.ensures.ran
-    (YieldsList-from_rest (fin.values books.viewings) c.viewings.ensures) (λ x b q k. search (rules, tests))
+returns c = each_row c.all.ensures.ran c.viewings.ensures (λ x b q k. search (rules, tests))

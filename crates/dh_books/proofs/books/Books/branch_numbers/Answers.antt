@@ -1,11 +1,9 @@
-use Rattle.std.proofs.Common.{◌∙◌, ap, sym, map}
-use Rattle.std.specs.FinMap as fin
-use Rattle.dh_model.specs.Books.{State}
-use Rattle.dh_model.proofs.KeyOrders.{text_total}
-use Rattle.dh_model.proofs.MapLemmas.{entries-made}
+use Rattle.std.proofs.Common.{◌∙◌, refl, ap, map}
+use Rattle.dh_model.specs.Kinds.{Kind}
+use Rattle.dh_books.proofs.OfKind.{entries_are}
 use Rattle.dh_books.proofs.books.Books.branch_numbers.Goals as goal
 
 pub returns : goal.returns
 returns c =
-    c.keys.ensures.rest ∙ sym (ap (map (λ e. e.0)) (entries-made text_total c.self.inside.branches.entries c.keys.ensures.ordered))
-    ∙ ap (λ (s : State). fin.keys s.books.branches) c.self.view_is
+    c.keys.ensures.rest ∙ ap (map (λ e. e.0)) (entries_are Kind.Branches c.self.inside c.self.view_is c.self.inside.branches.entries refl
+    c.keys.ensures.ordered)

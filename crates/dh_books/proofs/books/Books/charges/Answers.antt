@@ -1,11 +1,7 @@
-use Rattle.std.proofs.Common.{◌∙◌, ap, sym, map}
-use Rattle.std.specs.FinMap as fin
-use Rattle.dh_model.specs.Books.{State}
-use Rattle.dh_model.proofs.KeyOrders.{nat_total, pair_total}
-use Rattle.dh_model.proofs.MapLemmas.{entries-made}
+use Rattle.std.proofs.Common.{refl}
+use Rattle.dh_model.specs.Kinds.{Kind}
+use Rattle.dh_books.proofs.OfKind.{listed}
 use Rattle.dh_books.proofs.books.Books.charges.Goals as goal
 
 pub returns : goal.returns
-returns c =
-    c.values.ensures.rest ∙ sym (ap (map (λ e. e.1)) (entries-made (pair_total nat_total nat_total) c.self.inside.charges.entries c.values.ensures.ordered))
-    ∙ ap (λ (s : State). fin.values s.books.charges) c.self.view_is
+returns c = listed Kind.Charges c.self.inside c.self.view_is c.self.inside.charges.entries refl c.values.ensures.ordered c.values.ensures.rest

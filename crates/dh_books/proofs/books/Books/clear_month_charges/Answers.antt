@@ -1,26 +1,12 @@
-use Rattle.std.proofs.Common.{◌∙◌, ap, sym, ℕ, not, nat_eq, rules}
-use Rattle.std.specs.List.{filter}
-use Rattle.std.specs.FinMap as fin
+use Rattle.std.proofs.Common.{refl, not, nat_eq, rules}
 use Rattle.std.proofs.lemmas.Map.Made.{filter_same_pairs}
-use Rattle.dh_types.specs.declared.lease.Charge.{Charge}
-use Rattle.dh_model.specs.Books.{State}
-use Rattle.dh_model.specs.Whole.{rows_where}
-use Rattle.dh_model.proofs.MapLemmas.{entries-made}
-use Rattle.dh_model.proofs.KeyOrders.{nat_total, pair_total}
-use Rattle.dh_books.specs.Seen.{state_of}
+use Rattle.dh_model.specs.Kinds.{Kind, key_of, record_of}
+use Rattle.dh_books.proofs.OfKind.{kept_where}
 use Rattle.dh_books.proofs.books.Books.clear_month_charges.Goals as goal
 
 pub returns : goal.returns
 returns c =
-    let b = c.self.inside in
-    let kept = filter_same_pairs _ (λ (e : (ℕ × ℕ) × Charge). not (nat_eq e.1.month c.args.month)) _
-    (λ k v t w f h. search rules) _ _ c.retain.ensures.filtered in
-    let all = entries-made (pair_total nat_total nat_total) b.charges.entries c.retain.ensures.was_ordered in
-    let made = ap fin.from_entries (kept ∙ ap (filter (λ (e : (ℕ × ℕ) × Charge). not (nat_eq e.1.month c.args.month))) (sym all)) in
-    ap (λ m. let s : State = record (state_of b) { books = record (state_of b).books { charges = m } } in s) made
-    ∙ ap (λ (s : State). let t : State = record s {
-      books = record s.books {
-        charges = rows_where
-            (λ charge. not (nat_eq charge.month c.args.month)) s.books.charges;
-      };
-    } in t) c.self.view_is
+    kept_where Kind.Charges c.self.inside c.self.view_is c.self.inside.charges.entries refl
+    (λ row. not (nat_eq row.month c.args.month)) c.retain.ensures.was_ordered
+    (filter_same_pairs _ (λ (e : key_of Kind.Charges × record_of Kind.Charges). not (nat_eq e.1.month c.args.month)) _ (λ k v t w f h. search rules) _ _
+    c.retain.ensures.filtered)

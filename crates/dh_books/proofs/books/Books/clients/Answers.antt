@@ -1,11 +1,7 @@
-use Rattle.std.proofs.Common.{◌∙◌, ap, sym, map}
-use Rattle.std.specs.FinMap as fin
-use Rattle.dh_model.specs.Books.{State}
-use Rattle.dh_model.proofs.KeyOrders.{text_total}
-use Rattle.dh_model.proofs.MapLemmas.{entries-made}
+use Rattle.std.proofs.Common.{refl}
+use Rattle.dh_model.specs.Kinds.{Kind}
+use Rattle.dh_books.proofs.OfKind.{listed}
 use Rattle.dh_books.proofs.books.Books.clients.Goals as goal
 
 pub returns : goal.returns
-returns c =
-    c.values.ensures.rest ∙ sym (ap (map (λ e. e.1)) (entries-made text_total c.self.inside.clients.entries c.values.ensures.ordered))
-    ∙ ap (λ (s : State). fin.values s.books.clients) c.self.view_is
+returns c = listed Kind.Clients c.self.inside c.self.view_is c.self.inside.clients.entries refl c.values.ensures.ordered c.values.ensures.rest

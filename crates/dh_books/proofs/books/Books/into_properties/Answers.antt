@@ -1,11 +1,9 @@
-use Rattle.std.proofs.Common.{◌∙◌, ap, sym}
-use Rattle.std.specs.FinMap as fin
-use Rattle.dh_model.specs.Books.{State}
-use Rattle.dh_model.proofs.KeyOrders.{text_total}
-use Rattle.dh_model.proofs.MapLemmas.{entries-made}
+use Rattle.std.proofs.Common.{◌∙◌, refl}
+use Rattle.dh_model.specs.Kinds.{Kind}
+use Rattle.dh_books.proofs.OfKind.{entries_are}
 use Rattle.dh_books.proofs.books.Books.into_properties.Goals as goal
 
 pub returns : goal.returns
 returns c =
-    c.into_iter.ensures.into_iter_gives.0 ∙ sym (entries-made text_total c.self.inside.properties.entries c.into_iter.ensures.into_iter_gives.5)
-    ∙ ap (λ (s : State). fin.entries s.books.properties) c.self.view_is
+    c.into_iter.ensures.into_iter_gives.0 ∙ entries_are Kind.Properties c.self.inside c.self.view_is c.self.inside.properties.entries refl
+    c.into_iter.ensures.into_iter_gives.5

@@ -1,17 +1,15 @@
-use Rattle.std.proofs.Common.{◌∙◌, ap, sym, map, subst, length, ◌≤◌}
+use Rattle.std.proofs.Common.{refl, subst, length, ◌≤◌}
 use Rattle.std.specs.FinMap as fin
 use Rattle.dh_model.specs.Books.{State}
 use Rattle.dh_model.specs.BatchLaws.{AreNumbered}
-use Rattle.dh_model.proofs.KeyOrders.{nat_total}
-use Rattle.dh_model.proofs.MapLemmas.{entries-made}
+use Rattle.dh_model.specs.Kinds.{Kind}
 use Rattle.dh_books.specs.Seen.{state_of}
 use Rattle.dh_books.proofs.Numbers.{few_leases}
+use Rattle.dh_books.proofs.OfKind.{listed}
 use Rattle.dh_books.proofs.books.Books.leases.Goals as goal
 
 pub returns-clause-rows : goal.returns-clause-rows
-returns-clause-rows c =
-    c.values.ensures.rest ∙ sym (ap (map (λ e. e.1)) (entries-made nat_total c.self.inside.leases.entries c.values.ensures.ordered))
-    ∙ ap (λ (s : State). fin.values s.books.leases) c.self.view_is
+returns-clause-rows c = listed Kind.Leases c.self.inside c.self.view_is c.self.inside.leases.entries refl c.values.ensures.ordered c.values.ensures.rest
 
 pub returns-clause-numbered : goal.returns-clause-numbered
 returns-clause-numbered c = subst (λ (s : State). AreNumbered s.books) c.self.view_is c.self.invariant.numbered

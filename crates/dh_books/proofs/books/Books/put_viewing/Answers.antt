@@ -1,19 +1,9 @@
-use Rattle.std.proofs.Common.{◌∙◌, ap}
-use Rattle.std.specs.FinMap as fin
-use Rattle.dh_model.specs.Books.{State}
-use Rattle.dh_model.proofs.KeyOrders.{pair_ties, pair_total, text_ties, text_total}
-use Rattle.dh_model.proofs.MapLemmas.{one-given}
-use Rattle.dh_books.specs.Seen.{state_of}
+use Rattle.std.proofs.Common.{refl}
+use Rattle.dh_model.specs.Kinds.{Kind}
+use Rattle.dh_books.proofs.OfKind.{put}
 use Rattle.dh_books.proofs.books.Books.put_viewing.Goals as goal
 
 pub returns-clause-ok : goal.returns-clause-ok
 returns-clause-ok c =
-    let r = c.args.row in
-    let b = c.self.inside in
-    let made = one-given (pair_total text_total text_total) (pair_ties text_ties text_ties) b.viewings.entries c.insert.new.self.entries (
-      r.client,
-      r.property,
-    ) r c.in_ok-_before.ensures.updates.0 in
-    ap (λ m. let s : State = record (state_of b) { books = record (state_of b).books { viewings = m } } in s) made
-    ∙ ap (λ (s : State). let t : State = record s { books = record s.books { viewings = fin.insert s.books.viewings (r.client, r.property) r } } in
-    t) c.self.view_is
+    put Kind.Viewings c.self.inside c.self.view_is c.self.inside.viewings.entries refl
+    (c.args.row.client, c.args.row.property) c.args.row c.insert.new.self.entries c.in_ok-_before.ensures.updates.0

@@ -1,11 +1,7 @@
-use Rattle.std.proofs.Common.{◌∙◌, sym, ap}
-use Rattle.std.specs.FinMap as fin
-use Rattle.dh_model.specs.Books.{State}
-use Rattle.dh_model.proofs.KeyOrders.{nat_total}
-use Rattle.dh_model.proofs.MapLemmas.{get-made}
+use Rattle.std.proofs.Common.{refl}
+use Rattle.dh_model.specs.Kinds.{Kind}
+use Rattle.dh_books.proofs.OfKind.{got}
 use Rattle.dh_books.proofs.books.Books.receipt.Goals as goal
 
 pub returns : goal.returns
-returns c =
-    c.get.ensures.value ∙ sym (get-made nat_total c.self.inside.receipts.entries c.args.key.now)
-    ∙ ap (λ (s : State). fin.get s.books.receipts c.args.key.now) c.self.view_is
+returns c = got Kind.Receipts c.self.inside c.self.view_is c.self.inside.receipts.entries refl c.args.key.now c.get.ensures.value

@@ -1,11 +1,8 @@
-use Rattle.std.proofs.Common.{◌∙◌, ap, sym, map}
-use Rattle.std.specs.FinMap as fin
-use Rattle.dh_model.specs.Books.{State}
-use Rattle.dh_model.proofs.MapLemmas.{entries-made}
-use Rattle.dh_model.proofs.KeyOrders.{nat_total}
+use Rattle.std.proofs.Common.{◌∙◌, refl, ap, map}
+use Rattle.dh_model.specs.Kinds.{Kind}
+use Rattle.dh_books.proofs.OfKind.{entries_are}
 use Rattle.dh_books.proofs.books.Books.run_months.Goals as goal
 
 pub returns : goal.returns
 returns c =
-    c.keys.ensures.rest ∙ sym (ap (map (λ e. e.0)) (entries-made nat_total c.self.inside.runs.entries c.keys.ensures.ordered))
-    ∙ ap (λ (s : State). fin.keys s.books.runs) c.self.view_is
+    c.keys.ensures.rest ∙ ap (map (λ e. e.0)) (entries_are Kind.Runs c.self.inside c.self.view_is c.self.inside.runs.entries refl c.keys.ensures.ordered)

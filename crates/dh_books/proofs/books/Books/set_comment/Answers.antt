@@ -1,51 +1,23 @@
-use Rattle.std.proofs.Common.{◌∙◌, ap, sym, rules}
-use Rattle.std.specs.FinMap as fin
+use Rattle.std.proofs.Common.{◌∙◌, refl, sym, ap, rules, Some}
+use Rattle.std.specs.FinMap.{from_entries}
 use Rattle.std.specs.Option.{option_copied_mut}
-use Rattle.dh_types.specs.declared.viewing.Viewing.{Viewing}
-use Rattle.dh_model.specs.Books.{State}
-use Rattle.dh_model.specs.Machine.{with_comment}
-use Rattle.dh_model.proofs.KeyOrders.{pair_ties, pair_total, text_ties, text_total}
-use Rattle.dh_model.proofs.MapLemmas.{get-made, one-given}
-use Rattle.dh_books.proofs.Places.{with_viewings}
+use Rattle.dh_model.specs.Kinds.{Kind}
+use Rattle.dh_books.specs.Seen.{state_of}
+use Rattle.dh_books.proofs.OfKind.{none_there, put_for, with_rows}
 use Rattle.dh_books.proofs.books.Books.set_comment.Goals as goal
 
 pub returns-in_default : goal.returns-in_default
 returns-in_default c =
-    let b = c.self.inside in
-    let s = c.args.self.now in
-    let found = ap option_copied_mut (sym c.in_default.is) ∙ c.get_mut.ensures.value
-    ∙ sym (get-made (pair_total text_total text_total) b.viewings.entries (c.args.it.client, c.args.it.property))
-    ∙ ap (λ (s : State). fin.get s.books.viewings (c.args.it.client, c.args.it.property)) c.self.view_is in
-    ap (λ m. with_viewings b (fin.from_entries m.entries)) c.get_mut.follows.holds-at-none
-    ∙ c.self.view_is
-    ∙ ap (λ o. let t : State = record s { books = with_comment s.books c.args.it o } in t) found
+    ap (λ m. with_rows Kind.Viewings c.self.inside c.self.view_is c.self.inside.viewings.entries refl
+    (from_entries m.entries) (state_of c.self.inside)) c.get_mut.follows.holds-at-none
+    ∙ none_there Kind.Viewings c.self.inside c.self.view_is c.self.inside.viewings.entries refl
+    (c.args.it.client, c.args.it.property) (λ row. record row { comment = Some c.args.it.comment })
+    (ap option_copied_mut (sym c.in_default.is) ∙ c.get_mut.ensures.value)
 
 pub returns : goal.returns
 returns c =
-    let b = c.self.inside in
-    let s = c.args.self.now in
     let row = c.put_comment.new.viewing in
-    let found = ap option_copied_mut (sym c.in-Some.is) ∙ c.get_mut.ensures.value in
     let writes = (c.get_mut.follows.holds row).3 (search rules) in
-    let made = one-given (pair_total text_total text_total) (pair_ties text_ties text_ties) b.viewings.entries (c.get_mut.follows.lender row).entries
-    (c.args.it.client, c.args.it.property) row writes.0 in
-    let there = found ∙ sym (get-made (pair_total text_total text_total) b.viewings.entries (c.args.it.client, c.args.it.property))
-    ∙ ap (λ (s : State). fin.get s.books.viewings (c.args.it.client, c.args.it.property)) c.self.view_is in
-    ap (with_viewings b) made
-    ∙ ap (λ (s : State). let t : State = record s {
-      books = record s.books {
-        viewings = fin.insert s.books.viewings (
-          c.args.it.client,
-          c.args.it.property,
-        ) row;
-      };
-    } in t) c.self.view_is
-    ∙ ap (λ (r : Viewing). let t : State = record s {
-      books = record s.books {
-        viewings = fin.insert s.books.viewings (
-          c.args.it.client,
-          c.args.it.property,
-        ) r;
-      };
-    } in t) c.put_comment.ensures
-    ∙ ap (λ o. let t : State = record s { books = with_comment s.books c.args.it o } in t) there
+    put_for Kind.Viewings c.self.inside c.self.view_is c.self.inside.viewings.entries refl
+    (c.args.it.client, c.args.it.property) row (c.get_mut.follows.lender row).entries writes.0
+    (λ row. record row { comment = Some c.args.it.comment }) (ap option_copied_mut (sym c.in-Some.is) ∙ c.get_mut.ensures.value) c.put_comment.ensures

@@ -1,9 +1,0 @@
-use Rattle.std.proofs.Common.{◌≡◌, ◌*◌, ◌≤◌, take}
-use Rattle.std.specs.List.{sum_by}
-use Rattle.dh_answers.proofs.owner_statements.fees_of.Given as goal
-
-abbrev pub invariant-loop-line : goal.invariant-loop-line
-invariant-loop-line l = record {
-  value : l.fees ≡ sum_by (λ line. line.fee) (take l.line-index l.lines);
-  range : l.fees ≤ 9223372036854775807 * l.line-index;
-}
