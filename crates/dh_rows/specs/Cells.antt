@@ -2,6 +2,7 @@
 use Rattle.std.specs.Prelude.{◌≡◌, refl, ℕ, ℤ, pos, zero, suc, Bool, true, false, ◌&&◌, nat_eq, nat_le, Option, Some, None, is_some, unwrap_or, List, []}
 use Rattle.std.proofs.Common.{ap}
 use Rattle.std.specs.Str.{IsUtf8}
+use Rattle.sqlite.specs.Values.{or_null}
 use Rattle.sqlite_value.specs.declared.value.Value.{Value}
 use Rattle.sqlite_value.specs.declared.value.Value.TheVariants.{Null, Int, Text}
 use Rattle.dh_values.specs.Texts.{is_id, is_key, is_text}
@@ -139,8 +140,7 @@ is_optional test Null = true
 is_optional test v = test v
 
 abbrev pub optional_text : Option (List ℕ) → Value
-optional_text None = Null
-optional_text (Some bytes) = Text bytes
+optional_text text = or_null Text text
 
 abbrev pub optional_text_in : Value → Option (List ℕ)
 optional_text_in (Text bytes) = Some bytes

@@ -1,4 +1,5 @@
 pub mod Cells
+pub mod Utf8
 pub mod Months
 pub mod MetaRows
 pub mod BranchRows

@@ -1,12 +1,18 @@
 //! Fees of branches as rows.
 
 use crate::Record;
-use crate::cells::{bounded_at, id_at};
-use crate::params::id_param;
+use crate::cell::{read_row, write_row};
 use dh_types::{BranchFee, Id};
 use sqlite::Row;
 use sqlite::types::ValueRef;
 use std::alloc::{AllocError, Global};
+
+// Its columns, in their order.
+macro_rules! columns {
+    ($way:ident $given:tt) => {
+        $way!($given BranchFee { branch, fee })
+    };
+}
 
 impl Record for BranchFee {
     ghost use Rattle.std.specs.Prelude.{◌≡◌};
@@ -32,28 +38,11 @@ impl Record for BranchFee {
         Ok(Vec::new(alloc))
     }
 
-    fn to_row<'a>(
-        &'a self,
-        alloc: Global,
-        _day: &'a [u8],
-    ) -> Result<Vec<ValueRef<'a>>, AllocError> {
-        [
-            id_param(&self.branch),
-            ValueRef::Int(i64::from(self.fee.number())),
-        ]
-        .to_vec(alloc)
+    fn to_row<'a>(&'a self, alloc: Global, day: &'a [u8]) -> Result<Vec<ValueRef<'a>>, AllocError> {
+        columns!(write_row(self, alloc, day))
     }
 
-    fn from_row(_alloc: Global, columns: &Row) -> Result<Option<BranchFee>, AllocError> {
-        if columns.column_count() != 2 {
-            return Ok(None);
-        }
-        let Some(branch) = id_at(columns, 0) else {
-            return Ok(None);
-        };
-        let Some(fee) = bounded_at(columns, 1) else {
-            return Ok(None);
-        };
-        Ok(Some(BranchFee { branch, fee }))
+    fn from_row(alloc: Global, columns: &Row) -> Result<Option<BranchFee>, AllocError> {
+        columns!(read_row(alloc, columns))
     }
 }

@@ -1,12 +1,18 @@
 //! Charges as rows.
 
 use crate::Record;
-use crate::cells::{bounded_at, due_day_at, month_at, rent_at};
-use crate::params::due_day_param;
+use crate::cell::{read_row, write_row};
 use dh_types::{Charge, ChargeIndex, LeaseNo};
 use sqlite::Row;
 use sqlite::types::ValueRef;
 use std::alloc::{AllocError, Global};
+
+// Its columns, in their order.
+macro_rules! columns {
+    ($way:ident $given:tt) => {
+        $way!($given Charge { lease, index, month, day, amount })
+    };
+}
 
 impl Record for Charge {
     ghost use Rattle.std.specs.Prelude.{◌≡◌, ◌≤◌};
@@ -41,41 +47,10 @@ impl Record for Charge {
     }
 
     fn to_row<'a>(&'a self, alloc: Global, day: &'a [u8]) -> Result<Vec<ValueRef<'a>>, AllocError> {
-        [
-            ValueRef::Int(i64::from(self.lease.number())),
-            ValueRef::Int(i64::from(self.index.number())),
-            ValueRef::Int(i64::from(self.month.number())),
-            due_day_param(self.day, day),
-            ValueRef::Int(i64::from(self.amount.pence())),
-        ]
-        .to_vec(alloc)
+        columns!(write_row(self, alloc, day))
     }
 
-    fn from_row(_alloc: Global, columns: &Row) -> Result<Option<Charge>, AllocError> {
-        if columns.column_count() != 5 {
-            return Ok(None);
-        }
-        let Some(lease) = bounded_at(columns, 0) else {
-            return Ok(None);
-        };
-        let Some(index) = bounded_at(columns, 1) else {
-            return Ok(None);
-        };
-        let Some(month) = month_at(columns, 2) else {
-            return Ok(None);
-        };
-        let Some(day) = due_day_at(columns, 3) else {
-            return Ok(None);
-        };
-        let Some(amount) = rent_at(columns, 4) else {
-            return Ok(None);
-        };
-        Ok(Some(Charge {
-            lease,
-            index,
-            month,
-            day,
-            amount,
-        }))
+    fn from_row(alloc: Global, columns: &Row) -> Result<Option<Charge>, AllocError> {
+        columns!(read_row(alloc, columns))
     }
 }

@@ -1,12 +1,18 @@
 //! Clients as rows.
 
 use crate::Record;
-use crate::cells::{id_at, property_type_at, rent_at, text_at};
-use crate::params::{id_param, property_type_param, text_param};
+use crate::cell::{read_row, write_row};
 use dh_types::{Client, Id};
 use sqlite::Row;
 use sqlite::types::ValueRef;
 use std::alloc::{AllocError, Global};
+
+// Its columns, in their order.
+macro_rules! columns {
+    ($way:ident $given:tt) => {
+        $way!($given Client { number, name, telephone, preferred_type, greatest_rent })
+    };
+}
 
 impl Record for Client {
     ghost use Rattle.std.specs.Prelude.{◌≡◌};
@@ -32,46 +38,11 @@ impl Record for Client {
         Ok(Vec::new(alloc))
     }
 
-    fn to_row<'a>(
-        &'a self,
-        alloc: Global,
-        _day: &'a [u8],
-    ) -> Result<Vec<ValueRef<'a>>, AllocError> {
-        [
-            id_param(&self.number),
-            text_param(&self.name),
-            text_param(&self.telephone),
-            property_type_param(self.preferred_type),
-            ValueRef::Int(i64::from(self.greatest_rent.pence())),
-        ]
-        .to_vec(alloc)
+    fn to_row<'a>(&'a self, alloc: Global, day: &'a [u8]) -> Result<Vec<ValueRef<'a>>, AllocError> {
+        columns!(write_row(self, alloc, day))
     }
 
     fn from_row(alloc: Global, columns: &Row) -> Result<Option<Client>, AllocError> {
-        if columns.column_count() != 5 {
-            return Ok(None);
-        }
-        let Some(number) = id_at(columns, 0) else {
-            return Ok(None);
-        };
-        let Some(preferred_type) = property_type_at(columns, 3) else {
-            return Ok(None);
-        };
-        let Some(greatest_rent) = rent_at(columns, 4) else {
-            return Ok(None);
-        };
-        let Some(name) = text_at(alloc, columns, 1)? else {
-            return Ok(None);
-        };
-        let Some(telephone) = text_at(alloc, columns, 2)? else {
-            return Ok(None);
-        };
-        Ok(Some(Client {
-            number,
-            name,
-            telephone,
-            preferred_type,
-            greatest_rent,
-        }))
+        columns!(read_row(alloc, columns))
     }
 }

@@ -1,11 +1,18 @@
 //! Early endings of leases as rows.
 
 use crate::Record;
-use crate::cells::bounded_at;
+use crate::cell::{read_row, write_row};
 use dh_types::{Ending, LeaseNo};
 use sqlite::Row;
 use sqlite::types::ValueRef;
 use std::alloc::{AllocError, Global};
+
+// Its columns, in their order.
+macro_rules! columns {
+    ($way:ident $given:tt) => {
+        $way!($given Ending { lease, months })
+    };
+}
 
 impl Record for Ending {
     ghost use Rattle.std.specs.Prelude.{◌≡◌};
@@ -31,28 +38,11 @@ impl Record for Ending {
         Ok(Vec::new(alloc))
     }
 
-    fn to_row<'a>(
-        &'a self,
-        alloc: Global,
-        _day: &'a [u8],
-    ) -> Result<Vec<ValueRef<'a>>, AllocError> {
-        [
-            ValueRef::Int(i64::from(self.lease.number())),
-            ValueRef::Int(i64::from(self.months.number())),
-        ]
-        .to_vec(alloc)
+    fn to_row<'a>(&'a self, alloc: Global, day: &'a [u8]) -> Result<Vec<ValueRef<'a>>, AllocError> {
+        columns!(write_row(self, alloc, day))
     }
 
-    fn from_row(_alloc: Global, columns: &Row) -> Result<Option<Ending>, AllocError> {
-        if columns.column_count() != 2 {
-            return Ok(None);
-        }
-        let Some(lease) = bounded_at(columns, 0) else {
-            return Ok(None);
-        };
-        let Some(months) = bounded_at(columns, 1) else {
-            return Ok(None);
-        };
-        Ok(Some(Ending { lease, months }))
+    fn from_row(alloc: Global, columns: &Row) -> Result<Option<Ending>, AllocError> {
+        columns!(read_row(alloc, columns))
     }
 }

@@ -1,12 +1,18 @@
 //! Inspections as rows.
 
 use crate::Record;
-use crate::cells::{comment_at, day_at, id_at};
-use crate::params::{comment_param, day_param, id_param};
+use crate::cell::{read_row, write_row};
 use dh_types::{EntryDay, Id, Inspection};
 use sqlite::Row;
 use sqlite::types::ValueRef;
 use std::alloc::{AllocError, Global};
+
+// Its columns, in their order.
+macro_rules! columns {
+    ($way:ident $given:tt) => {
+        $way!($given Inspection { property, day, staff, comment })
+    };
+}
 
 impl Record for Inspection {
     ghost use Rattle.std.specs.Prelude.{◌≡◌};
@@ -37,36 +43,10 @@ impl Record for Inspection {
     }
 
     fn to_row<'a>(&'a self, alloc: Global, day: &'a [u8]) -> Result<Vec<ValueRef<'a>>, AllocError> {
-        [
-            id_param(&self.property),
-            day_param(self.day, day),
-            id_param(&self.staff),
-            comment_param(&self.comment),
-        ]
-        .to_vec(alloc)
+        columns!(write_row(self, alloc, day))
     }
 
     fn from_row(alloc: Global, columns: &Row) -> Result<Option<Inspection>, AllocError> {
-        if columns.column_count() != 4 {
-            return Ok(None);
-        }
-        let Some(property) = id_at(columns, 0) else {
-            return Ok(None);
-        };
-        let Some(day) = day_at(columns, 1) else {
-            return Ok(None);
-        };
-        let Some(staff) = id_at(columns, 2) else {
-            return Ok(None);
-        };
-        let Some(comment) = comment_at(alloc, columns, 3)? else {
-            return Ok(None);
-        };
-        Ok(Some(Inspection {
-            property,
-            day,
-            staff,
-            comment,
-        }))
+        columns!(read_row(alloc, columns))
     }
 }

@@ -3,7 +3,7 @@
 
 mod branch;
 mod branch_fee;
-mod cells;
+mod cell;
 mod charge;
 mod client;
 mod ending;
@@ -12,8 +12,8 @@ pub mod laws;
 mod lease;
 pub mod limits;
 mod meta;
+mod number;
 mod owner;
-mod params;
 mod part;
 mod part_fee;
 mod property;
@@ -23,7 +23,8 @@ mod registration;
 mod run;
 mod staff;
 mod viewing;
+mod word;
 
 pub use meta::Meta;
-pub use params::version_number;
+pub use number::version_number;
 pub use record::Record;

@@ -1,12 +1,18 @@
 //! Owners as rows.
 
 use crate::Record;
-use crate::cells::{id_at, text_at};
-use crate::params::{id_param, text_param};
+use crate::cell::{read_row, write_row};
 use dh_types::{Id, Owner};
 use sqlite::Row;
 use sqlite::types::ValueRef;
 use std::alloc::{AllocError, Global};
+
+// Its columns, in their order.
+macro_rules! columns {
+    ($way:ident $given:tt) => {
+        $way!($given Owner { number, name, address, telephone })
+    };
+}
 
 impl Record for Owner {
     ghost use Rattle.std.specs.Prelude.{◌≡◌};
@@ -32,41 +38,11 @@ impl Record for Owner {
         Ok(Vec::new(alloc))
     }
 
-    fn to_row<'a>(
-        &'a self,
-        alloc: Global,
-        _day: &'a [u8],
-    ) -> Result<Vec<ValueRef<'a>>, AllocError> {
-        [
-            id_param(&self.number),
-            text_param(&self.name),
-            text_param(&self.address),
-            text_param(&self.telephone),
-        ]
-        .to_vec(alloc)
+    fn to_row<'a>(&'a self, alloc: Global, day: &'a [u8]) -> Result<Vec<ValueRef<'a>>, AllocError> {
+        columns!(write_row(self, alloc, day))
     }
 
     fn from_row(alloc: Global, columns: &Row) -> Result<Option<Owner>, AllocError> {
-        if columns.column_count() != 4 {
-            return Ok(None);
-        }
-        let Some(number) = id_at(columns, 0) else {
-            return Ok(None);
-        };
-        let Some(name) = text_at(alloc, columns, 1)? else {
-            return Ok(None);
-        };
-        let Some(address) = text_at(alloc, columns, 2)? else {
-            return Ok(None);
-        };
-        let Some(telephone) = text_at(alloc, columns, 3)? else {
-            return Ok(None);
-        };
-        Ok(Some(Owner {
-            number,
-            name,
-            address,
-            telephone,
-        }))
+        columns!(read_row(alloc, columns))
     }
 }

@@ -1,13 +1,18 @@
 //! Parts of runs as rows.
 
 use crate::Record;
-use crate::cells::{id_at, month_at, number_at, pence_at, through_at};
-use crate::limits::MOST_COUNT;
-use crate::params::{id_param, through_param};
+use crate::cell::{read_row, write_row};
 use dh_types::{EntryMonth, Id, Part};
 use sqlite::Row;
 use sqlite::types::ValueRef;
 use std::alloc::{AllocError, Global};
+
+// Its columns, in their order.
+macro_rules! columns {
+    ($way:ident $given:tt) => {
+        $way!($given Part { month, branch, through, count, total })
+    };
+}
 
 impl Record for Part {
     ghost use Rattle.std.specs.Prelude.{◌≡◌};
@@ -33,46 +38,11 @@ impl Record for Part {
         Ok(Vec::new(alloc))
     }
 
-    fn to_row<'a>(
-        &'a self,
-        alloc: Global,
-        _day: &'a [u8],
-    ) -> Result<Vec<ValueRef<'a>>, AllocError> {
-        [
-            ValueRef::Int(i64::from(self.month.number())),
-            id_param(&self.branch),
-            through_param(self.through),
-            ValueRef::Int(i64::from(self.count)),
-            ValueRef::Int(self.total.pence() as i64),
-        ]
-        .to_vec(alloc)
+    fn to_row<'a>(&'a self, alloc: Global, day: &'a [u8]) -> Result<Vec<ValueRef<'a>>, AllocError> {
+        columns!(write_row(self, alloc, day))
     }
 
-    fn from_row(_alloc: Global, columns: &Row) -> Result<Option<Part>, AllocError> {
-        if columns.column_count() != 5 {
-            return Ok(None);
-        }
-        let Some(month) = month_at(columns, 0) else {
-            return Ok(None);
-        };
-        let Some(branch) = id_at(columns, 1) else {
-            return Ok(None);
-        };
-        let Some(through) = through_at(columns, 2) else {
-            return Ok(None);
-        };
-        let Some(count) = number_at(columns, 3, 0, MOST_COUNT) else {
-            return Ok(None);
-        };
-        let Some(total) = pence_at(columns, 4) else {
-            return Ok(None);
-        };
-        Ok(Some(Part {
-            month,
-            branch,
-            through,
-            count,
-            total,
-        }))
+    fn from_row(alloc: Global, columns: &Row) -> Result<Option<Part>, AllocError> {
+        columns!(read_row(alloc, columns))
     }
 }

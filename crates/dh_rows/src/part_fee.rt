@@ -1,12 +1,18 @@
 //! Fees of parts of runs as rows.
 
 use crate::Record;
-use crate::cells::{bounded_at, id_at, month_at, pence_at};
-use crate::params::id_param;
+use crate::cell::{read_row, write_row};
 use dh_types::{EntryMonth, Id, PartFee};
 use sqlite::Row;
 use sqlite::types::ValueRef;
 use std::alloc::{AllocError, Global};
+
+// Its columns, in their order.
+macro_rules! columns {
+    ($way:ident $given:tt) => {
+        $way!($given PartFee { month, branch, fee, total })
+    };
+}
 
 impl Record for PartFee {
     ghost use Rattle.std.specs.Prelude.{◌≡◌};
@@ -32,41 +38,11 @@ impl Record for PartFee {
         Ok(Vec::new(alloc))
     }
 
-    fn to_row<'a>(
-        &'a self,
-        alloc: Global,
-        _day: &'a [u8],
-    ) -> Result<Vec<ValueRef<'a>>, AllocError> {
-        [
-            ValueRef::Int(i64::from(self.month.number())),
-            id_param(&self.branch),
-            ValueRef::Int(i64::from(self.fee.number())),
-            ValueRef::Int(self.total.pence() as i64),
-        ]
-        .to_vec(alloc)
+    fn to_row<'a>(&'a self, alloc: Global, day: &'a [u8]) -> Result<Vec<ValueRef<'a>>, AllocError> {
+        columns!(write_row(self, alloc, day))
     }
 
-    fn from_row(_alloc: Global, columns: &Row) -> Result<Option<PartFee>, AllocError> {
-        if columns.column_count() != 4 {
-            return Ok(None);
-        }
-        let Some(month) = month_at(columns, 0) else {
-            return Ok(None);
-        };
-        let Some(branch) = id_at(columns, 1) else {
-            return Ok(None);
-        };
-        let Some(fee) = bounded_at(columns, 2) else {
-            return Ok(None);
-        };
-        let Some(total) = pence_at(columns, 3) else {
-            return Ok(None);
-        };
-        Ok(Some(PartFee {
-            month,
-            branch,
-            fee,
-            total,
-        }))
+    fn from_row(alloc: Global, columns: &Row) -> Result<Option<PartFee>, AllocError> {
+        columns!(read_row(alloc, columns))
     }
 }

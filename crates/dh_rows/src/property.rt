@@ -1,48 +1,17 @@
 //! Properties as rows.
 
-ghost use Rattle.std.specs.Prelude.{◌≡◌, ◌↔◌, true, length, IfOk, IfSome, IsSome};
-ghost use Rattle.sqlite_value.specs.Order.{column};
-ghost use Rattle.sqlite_value.specs.declared.value.Value.TheVariants.{Text};
-ghost use Rattle.dh_rows.specs.Cells.{is_text_cell};
-
 use crate::Record;
-use crate::cells::{bounded_at, id_at, optional_id_at, property_type_at, rent_at, text_at};
-use crate::params::{id_param, optional_id_param, property_type_param, text_param};
-use dh_types::{Id, Property, Text60};
+use crate::cell::{read_row, write_row};
+use dh_types::{Id, Property};
 use sqlite::Row;
 use sqlite::types::ValueRef;
 use std::alloc::{AllocError, Global};
 
-/// Where a property stands.
-#[derive(Drop)]
-struct Place {
-    street: Text60,
-    city: Text60,
-    postcode: Text60,
-}
-
-// The street, the city and the postcode in the columns behind the number, where each is a short text.
-fn place_in(alloc: Global, columns: &Row) -> Result<Option<Place>, AllocError>
-    requires { length columns.now ≡ 10 }
-    ensures read { IfOk result (λ found. IfSome found (λ p. (column columns.now 1 ≡ Text p.street) × (column columns.now 2 ≡ Text p.city)
-        × (column columns.now 3 ≡ Text p.postcode))) }
-    ensures exact { IfOk result (λ found. IsSome found ↔ ((is_text_cell 60 (column columns.now 1) ≡ true) × (is_text_cell 60 (column columns.now 2) ≡ true)
-        × (is_text_cell 60 (column columns.now 3) ≡ true))) }
-{
-    let Some(street) = text_at(alloc, columns, 1)? else {
-        return Ok(None);
+// Its columns, in their order.
+macro_rules! columns {
+    ($way:ident $given:tt) => {
+        $way!($given Property { number, street, city, postcode, property_type, rooms, rent, owner, staff, branch })
     };
-    let Some(city) = text_at(alloc, columns, 2)? else {
-        return Ok(None);
-    };
-    let Some(postcode) = text_at(alloc, columns, 3)? else {
-        return Ok(None);
-    };
-    Ok(Some(Place {
-        street,
-        city,
-        postcode,
-    }))
 }
 
 impl Record for Property {
@@ -69,65 +38,11 @@ impl Record for Property {
         Ok(Vec::new(alloc))
     }
 
-    fn to_row<'a>(
-        &'a self,
-        alloc: Global,
-        _day: &'a [u8],
-    ) -> Result<Vec<ValueRef<'a>>, AllocError> {
-        [
-            id_param(&self.number),
-            text_param(&self.street),
-            text_param(&self.city),
-            text_param(&self.postcode),
-            property_type_param(self.property_type),
-            ValueRef::Int(i64::from(self.rooms.number())),
-            ValueRef::Int(i64::from(self.rent.pence())),
-            id_param(&self.owner),
-            optional_id_param(&self.staff),
-            id_param(&self.branch),
-        ]
-        .to_vec(alloc)
+    fn to_row<'a>(&'a self, alloc: Global, day: &'a [u8]) -> Result<Vec<ValueRef<'a>>, AllocError> {
+        columns!(write_row(self, alloc, day))
     }
 
     fn from_row(alloc: Global, columns: &Row) -> Result<Option<Property>, AllocError> {
-        if columns.column_count() != 10 {
-            return Ok(None);
-        }
-        let Some(number) = id_at(columns, 0) else {
-            return Ok(None);
-        };
-        let Some(property_type) = property_type_at(columns, 4) else {
-            return Ok(None);
-        };
-        let Some(rooms) = bounded_at(columns, 5) else {
-            return Ok(None);
-        };
-        let Some(rent) = rent_at(columns, 6) else {
-            return Ok(None);
-        };
-        let Some(owner) = id_at(columns, 7) else {
-            return Ok(None);
-        };
-        let Some(staff) = optional_id_at(columns, 8) else {
-            return Ok(None);
-        };
-        let Some(branch) = id_at(columns, 9) else {
-            return Ok(None);
-        };
-        let Some(place) = place_in(alloc, columns)? else {
-            return Ok(None);
-        };
-        Ok(Some(Property {
-            number,
-            street: place.street,
-            city: place.city,
-            postcode: place.postcode,
-            property_type,
-            rooms,
-            rent,
-            owner,
-            staff,
-            branch,
-        }))
+        columns!(read_row(alloc, columns))
     }
 }

@@ -1,12 +1,21 @@
 //! Receipts as rows.
 
 use crate::Record;
-use crate::cells::{amount_at, bounded_at, day_at, key_at, receipt_kind_at};
-use crate::params::{day_param, key_param, receipt_kind_param};
+use crate::cell::{read_row, write_row};
 use dh_types::{Payment, Receipt, ReceiptNo};
 use sqlite::Row;
 use sqlite::types::ValueRef;
 use std::alloc::{AllocError, Global};
+
+// Its columns, in their order.
+macro_rules! columns {
+    ($way:ident $given:tt) => {
+        $way!(
+            $given [number, key, lease, kind, amount, day]
+            Receipt { number, key, payment: Payment { lease, kind, amount, day } }
+        )
+    };
+}
 
 impl Record for Receipt {
     ghost use Rattle.std.specs.Prelude.{◌≡◌};
@@ -37,48 +46,10 @@ impl Record for Receipt {
     }
 
     fn to_row<'a>(&'a self, alloc: Global, day: &'a [u8]) -> Result<Vec<ValueRef<'a>>, AllocError> {
-        [
-            ValueRef::Int(i64::from(self.number.number())),
-            key_param(&self.key),
-            ValueRef::Int(i64::from(self.payment.lease.number())),
-            receipt_kind_param(self.payment.kind),
-            ValueRef::Int(i64::from(self.payment.amount.pence())),
-            day_param(self.payment.day, day),
-        ]
-        .to_vec(alloc)
+        columns!(write_row(self, alloc, day))
     }
 
-    fn from_row(_alloc: Global, columns: &Row) -> Result<Option<Receipt>, AllocError> {
-        if columns.column_count() != 6 {
-            return Ok(None);
-        }
-        let Some(number) = bounded_at(columns, 0) else {
-            return Ok(None);
-        };
-        let Some(key) = key_at(columns, 1) else {
-            return Ok(None);
-        };
-        let Some(lease) = bounded_at(columns, 2) else {
-            return Ok(None);
-        };
-        let Some(kind) = receipt_kind_at(columns, 3) else {
-            return Ok(None);
-        };
-        let Some(amount) = amount_at(columns, 4) else {
-            return Ok(None);
-        };
-        let Some(day) = day_at(columns, 5) else {
-            return Ok(None);
-        };
-        Ok(Some(Receipt {
-            number,
-            key,
-            payment: Payment {
-                lease,
-                kind,
-                amount,
-                day,
-            },
-        }))
+    fn from_row(alloc: Global, columns: &Row) -> Result<Option<Receipt>, AllocError> {
+        columns!(read_row(alloc, columns))
     }
 }

@@ -1,12 +1,18 @@
 //! Registrations as rows.
 
 use crate::Record;
-use crate::cells::{day_at, id_at};
-use crate::params::{day_param, id_param};
+use crate::cell::{read_row, write_row};
 use dh_types::{Id, Registration};
 use sqlite::Row;
 use sqlite::types::ValueRef;
 use std::alloc::{AllocError, Global};
+
+// Its columns, in their order.
+macro_rules! columns {
+    ($way:ident $given:tt) => {
+        $way!($given Registration { client, branch, staff, day })
+    };
+}
 
 impl Record for Registration {
     ghost use Rattle.std.specs.Prelude.{◌≡◌};
@@ -37,36 +43,10 @@ impl Record for Registration {
     }
 
     fn to_row<'a>(&'a self, alloc: Global, day: &'a [u8]) -> Result<Vec<ValueRef<'a>>, AllocError> {
-        [
-            id_param(&self.client),
-            id_param(&self.branch),
-            id_param(&self.staff),
-            day_param(self.day, day),
-        ]
-        .to_vec(alloc)
+        columns!(write_row(self, alloc, day))
     }
 
-    fn from_row(_alloc: Global, columns: &Row) -> Result<Option<Registration>, AllocError> {
-        if columns.column_count() != 4 {
-            return Ok(None);
-        }
-        let Some(client) = id_at(columns, 0) else {
-            return Ok(None);
-        };
-        let Some(branch) = id_at(columns, 1) else {
-            return Ok(None);
-        };
-        let Some(staff) = id_at(columns, 2) else {
-            return Ok(None);
-        };
-        let Some(day) = day_at(columns, 3) else {
-            return Ok(None);
-        };
-        Ok(Some(Registration {
-            client,
-            branch,
-            staff,
-            day,
-        }))
+    fn from_row(alloc: Global, columns: &Row) -> Result<Option<Registration>, AllocError> {
+        columns!(read_row(alloc, columns))
     }
 }

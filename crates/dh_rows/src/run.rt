@@ -1,13 +1,18 @@
 //! Runs as rows.
 
 use crate::Record;
-use crate::cells::{flag_at, key_at, month_at, number_at, pence_at};
-use crate::limits::MOST_COUNT;
-use crate::params::{flag_param, key_param};
+use crate::cell::{read_row, write_row};
 use dh_types::{EntryMonth, Run};
 use sqlite::Row;
 use sqlite::types::ValueRef;
 use std::alloc::{AllocError, Global};
+
+// Its columns, in their order.
+macro_rules! columns {
+    ($way:ident $given:tt) => {
+        $way!($given Run { month, key, count, total, is_closed })
+    };
+}
 
 impl Record for Run {
     ghost use Rattle.std.specs.Prelude.{◌≡◌};
@@ -33,46 +38,11 @@ impl Record for Run {
         Ok(Vec::new(alloc))
     }
 
-    fn to_row<'a>(
-        &'a self,
-        alloc: Global,
-        _day: &'a [u8],
-    ) -> Result<Vec<ValueRef<'a>>, AllocError> {
-        [
-            ValueRef::Int(i64::from(self.month.number())),
-            key_param(&self.key),
-            ValueRef::Int(i64::from(self.count)),
-            ValueRef::Int(self.total.pence() as i64),
-            flag_param(self.is_closed),
-        ]
-        .to_vec(alloc)
+    fn to_row<'a>(&'a self, alloc: Global, day: &'a [u8]) -> Result<Vec<ValueRef<'a>>, AllocError> {
+        columns!(write_row(self, alloc, day))
     }
 
-    fn from_row(_alloc: Global, columns: &Row) -> Result<Option<Run>, AllocError> {
-        if columns.column_count() != 5 {
-            return Ok(None);
-        }
-        let Some(month) = month_at(columns, 0) else {
-            return Ok(None);
-        };
-        let Some(key) = key_at(columns, 1) else {
-            return Ok(None);
-        };
-        let Some(count) = number_at(columns, 2, 0, MOST_COUNT) else {
-            return Ok(None);
-        };
-        let Some(total) = pence_at(columns, 3) else {
-            return Ok(None);
-        };
-        let Some(is_closed) = flag_at(columns, 4) else {
-            return Ok(None);
-        };
-        Ok(Some(Run {
-            month,
-            key,
-            count,
-            total,
-            is_closed,
-        }))
+    fn from_row(alloc: Global, columns: &Row) -> Result<Option<Run>, AllocError> {
+        columns!(read_row(alloc, columns))
     }
 }

@@ -1,12 +1,18 @@
 //! Members of staff as rows.
 
 use crate::Record;
-use crate::cells::{id_at, position_at, text_at};
-use crate::params::{id_param, position_param, text_param};
+use crate::cell::{read_row, write_row};
 use dh_types::{Id, Staff};
 use sqlite::Row;
 use sqlite::types::ValueRef;
 use std::alloc::{AllocError, Global};
+
+// Its columns, in their order.
+macro_rules! columns {
+    ($way:ident $given:tt) => {
+        $way!($given Staff { number, name, position, branch })
+    };
+}
 
 impl Record for Staff {
     ghost use Rattle.std.specs.Prelude.{◌≡◌};
@@ -32,41 +38,11 @@ impl Record for Staff {
         Ok(Vec::new(alloc))
     }
 
-    fn to_row<'a>(
-        &'a self,
-        alloc: Global,
-        _day: &'a [u8],
-    ) -> Result<Vec<ValueRef<'a>>, AllocError> {
-        [
-            id_param(&self.number),
-            text_param(&self.name),
-            position_param(self.position),
-            id_param(&self.branch),
-        ]
-        .to_vec(alloc)
+    fn to_row<'a>(&'a self, alloc: Global, day: &'a [u8]) -> Result<Vec<ValueRef<'a>>, AllocError> {
+        columns!(write_row(self, alloc, day))
     }
 
     fn from_row(alloc: Global, columns: &Row) -> Result<Option<Staff>, AllocError> {
-        if columns.column_count() != 4 {
-            return Ok(None);
-        }
-        let Some(number) = id_at(columns, 0) else {
-            return Ok(None);
-        };
-        let Some(position) = position_at(columns, 2) else {
-            return Ok(None);
-        };
-        let Some(branch) = id_at(columns, 3) else {
-            return Ok(None);
-        };
-        let Some(name) = text_at(alloc, columns, 1)? else {
-            return Ok(None);
-        };
-        Ok(Some(Staff {
-            number,
-            name,
-            position,
-            branch,
-        }))
+        columns!(read_row(alloc, columns))
     }
 }

@@ -1,12 +1,18 @@
 //! Viewings as rows.
 
 use crate::Record;
-use crate::cells::{day_at, id_at, optional_comment_at};
-use crate::params::{day_param, id_param, optional_comment_param};
+use crate::cell::{read_row, write_row};
 use dh_types::{Id, Viewing};
 use sqlite::Row;
 use sqlite::types::ValueRef;
 use std::alloc::{AllocError, Global};
+
+// Its columns, in their order.
+macro_rules! columns {
+    ($way:ident $given:tt) => {
+        $way!($given Viewing { client, property, day, comment })
+    };
+}
 
 impl Record for Viewing {
     ghost use Rattle.std.specs.Prelude.{◌≡◌};
@@ -37,36 +43,10 @@ impl Record for Viewing {
     }
 
     fn to_row<'a>(&'a self, alloc: Global, day: &'a [u8]) -> Result<Vec<ValueRef<'a>>, AllocError> {
-        [
-            id_param(&self.client),
-            id_param(&self.property),
-            day_param(self.day, day),
-            optional_comment_param(&self.comment),
-        ]
-        .to_vec(alloc)
+        columns!(write_row(self, alloc, day))
     }
 
     fn from_row(alloc: Global, columns: &Row) -> Result<Option<Viewing>, AllocError> {
-        if columns.column_count() != 4 {
-            return Ok(None);
-        }
-        let Some(client) = id_at(columns, 0) else {
-            return Ok(None);
-        };
-        let Some(property) = id_at(columns, 1) else {
-            return Ok(None);
-        };
-        let Some(day) = day_at(columns, 2) else {
-            return Ok(None);
-        };
-        let Some(comment) = optional_comment_at(alloc, columns, 3)? else {
-            return Ok(None);
-        };
-        Ok(Some(Viewing {
-            client,
-            property,
-            day,
-            comment,
-        }))
+        columns!(read_row(alloc, columns))
     }
 }

@@ -4,11 +4,11 @@ use Rattle.dh_rows.proofs.receipt.ReceiptRecord.from_row.Goals as goal
 
 pub returns-clause-read : goal.returns-clause-read
 returns-clause-read c =
-    let number = c.in-Some.ensures.read in
-    let key = c.in-Some-key_at.ensures.read in
-    let lease = c.in-Some-bounded_at.ensures.read in
-    let kind = c.in-Some-receipt_kind_at.ensures.read in
-    let amount = c.in-Some-amount_at.ensures.read in
-    let day = c.in-Some-day_at.ensures.read in
+    let number = rw c.in-Some.is at c.in_ok-number.ensures.read in
+    let key = rw c.in-Some-2.is at c.in_ok-key.ensures.read in
+    let lease = rw c.in-Some-3.is at c.in_ok-lease.ensures.read in
+    let kind = rw c.in-Some-4.is at c.in_ok-kind.ensures.read in
+    let amount = rw c.in-Some-5.is at c.in_ok-amount.ensures.read in
+    let day = rw c.in-Some-6.is at c.in_ok-day.ensures.read in
     (λ i. sym number i ∷ sym key i ∷ sym lease i ∷ sym kind i ∷ sym amount i ∷ sym day i ∷ [])
     ∙ six_columns c.args.columns.now (sym c.column_count.ensures ∙ c.if-column_count-ne6.false)

@@ -1,10 +1,10 @@
 use Rattle.dh_days.specs.Days.{day_of}
-use Rattle.dh_rows.proofs.Utf8.{days_are_utf8, no_read_value}
+use Rattle.dh_rows.specs.Utf8.{days_are_utf8, read_is_text}
 use Rattle.dh_rows.proofs.DayTexts.{day_of_column}
-use Rattle.dh_rows.proofs.cells.day_at.Goals as goal
+use Rattle.dh_rows.proofs.word.EntryDayCell.read_cell.Goals as goal
 
 pub returns-in-None-clause-exact : goal.returns-in-None-clause-exact
-returns-in-None-clause-exact c = no_read_value day_of (days_are_utf8 26399) _ c.in-None.ensures.none
+returns-in-None-clause-exact c = ((λ e. absurd (cc)), λ h. absurd (c.in-None.ensures.none (read_is_text day_of (days_are_utf8 26399) _ h)))
 
 pub returns-in-Some-clause-read : goal.returns-in-Some-clause-read
 returns-in-Some-clause-read c = rw c.ok.ensures.value (day_of_column 26399 _ c.in-Some.text.now c.read.result c.in-Some.ensures.read c.read.ensures)

@@ -1,4 +1,4 @@
--- What is not text is no value: each text that is a value is UTF-8.
+-- Each text that is a value is UTF-8.
 use Rattle.std.proofs.Common.{◌≡◌, sym, subst, refl, ℕ, zero, suc, ◌+◌, ◌/◌, ◌%◌, ◌<◌, Bool, true, false, if◌then◌else◌, Option, Some, None, is_some}
 use Rattle.std.proofs.Common.{List, ◌∷◌, codes}
 use Rattle.std.proofs.Common.{bytes_eq, arith}
@@ -17,30 +17,24 @@ use Rattle.dh_days.specs.Days.{IsDay, day_text, day_until}
 use Rattle.dh_days.proofs.ReadDays.{read_day_known, read_day_printed}
 use Rattle.dh_rows.specs.Cells.{IsTextCell, is_read_cell, is_text_that}
 
-module _ (test : List ℕ → Bool) (are_text : (bytes : List ℕ) → test bytes ≡ true → IsUtf8 bytes) where
-  fails : (v : Value) → ¬ IsTextCell v → is_text_that test v ≡ true → false ≡ true
-  unfolding is_text_that
-  fails (Text bytes) bad h = absurd (bad (are_text bytes h))
-  fails Null bad h = h
-  fails (Int n) bad h = h
-  fails (Real x) bad h = h
-  fails (Blob b) bad h = h
+-- a text that passes a test of UTF-8 alone
+pub passing_is_text : (test : List ℕ → Bool) → ((bytes : List ℕ) → test bytes ≡ true → IsUtf8 bytes) → (v : Value) → is_text_that test v ≡ true → IsTextCell v
+unfolding is_text_that
+passing_is_text test are_text (Text bytes) h = are_text bytes h
+passing_is_text test are_text Null h = absurd (cc)
+passing_is_text test are_text (Int n) h = absurd (cc)
+passing_is_text test are_text (Real x) h = absurd (cc)
+passing_is_text test are_text (Blob b) h = absurd (cc)
 
-  -- what a reader owes where the column is no text
-  pub no_value : (v : Value) → ¬ IsTextCell v → (false ≡ true → is_text_that test v ≡ true) × (is_text_that test v ≡ true → false ≡ true)
-  no_value v bad = ((λ e. absurd (cc)), fails v bad)
-
-module _ {T : Type 0} (read : List ℕ → Option T) (are_text : (bytes : List ℕ) → is_some (read bytes) ≡ true → IsUtf8 bytes) where
-  is_unread : (v : Value) → ¬ IsTextCell v → is_read_cell read v ≡ true → false ≡ true
-  unfolding is_read_cell
-  is_unread (Text bytes) bad h = absurd (bad (are_text bytes h))
-  is_unread Null bad h = h
-  is_unread (Int n) bad h = h
-  is_unread (Real x) bad h = h
-  is_unread (Blob b) bad h = h
-
-  pub no_read_value : (v : Value) → ¬ IsTextCell v → (false ≡ true → is_read_cell read v ≡ true) × (is_read_cell read v ≡ true → false ≡ true)
-  no_read_value v bad = ((λ e. absurd (cc)), is_unread v bad)
+-- a text that is read as a value, where UTF-8 alone is
+pub read_is_text : {T : Type 0} (read : List ℕ → Option T) → ((bytes : List ℕ) → is_some (read bytes) ≡ true → IsUtf8 bytes) → (v : Value)
+    → is_read_cell read v ≡ true → IsTextCell v
+unfolding is_read_cell
+read_is_text read are_text (Text bytes) h = are_text bytes h
+read_is_text read are_text Null h = absurd (cc)
+read_is_text read are_text (Int n) h = absurd (cc)
+read_is_text read are_text (Real x) h = absurd (cc)
+read_is_text read are_text (Blob b) h = absurd (cc)
 
 pub texts_are_utf8 : (most : ℕ) (bytes : List ℕ) → is_text most bytes ≡ true → IsUtf8 bytes
 texts_are_utf8 most bytes h = IsUtf8-from_is_utf8 bytes (and_left _ _ (and_left _ _ (and_left _ _ h)))
