@@ -9,12 +9,4 @@ use Rattle.dh_catalog.specs.Meanings.{MakesTable}
 
 pub branch_is : MakesTable BRANCH.now meta_schema branch_schema
 unfolding understood everything
-branch_is = record {
-  table = record branch { tree = 0 };
-  command = refl;
-  whole = refl;
-  defines = refl;
-  plain = (refl, refl);
-  grows = refl;
-  uncounted = refl;
-}
+branch_is = record { table = record branch { tree = 0 }; command = refl; whole = refl; defines = refl; plain = (refl, refl); grows = refl; uncounted = refl }

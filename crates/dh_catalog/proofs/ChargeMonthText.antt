@@ -25,12 +25,4 @@ charge_month_is = record {
 
 pub charge_month_goes : DropsIndex DROP_CHARGE_MONTH.now charge_month_schema lease_client_schema
 unfolding understood everything
-charge_month_goes = record {
-  at = 15;
-  index = charge_month 29;
-  command = refl;
-  whole = refl;
-  plain = (refl, refl);
-  listed = refl;
-  leaves = refl;
-}
+charge_month_goes = record { at = 15; index = charge_month 29; command = refl; whole = refl; plain = (refl, refl); listed = refl; leaves = refl }

@@ -9,12 +9,4 @@ use Rattle.dh_catalog.specs.Meanings.{MakesTable}
 
 pub client_is : MakesTable CLIENT.now property_schema client_schema
 unfolding understood everything
-client_is = record {
-  table = record client { tree = 0 };
-  command = refl;
-  whole = refl;
-  defines = refl;
-  plain = (refl, refl);
-  grows = refl;
-  uncounted = refl;
-}
+client_is = record { table = record client { tree = 0 }; command = refl; whole = refl; defines = refl; plain = (refl, refl); grows = refl; uncounted = refl }

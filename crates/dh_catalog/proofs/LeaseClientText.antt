@@ -40,12 +40,4 @@ later_lease_client_is = record {
 
 pub lease_client_goes : DropsIndex DROP_LEASE_CLIENT.now lease_client_schema lease_property_schema
 unfolding understood everything
-lease_client_goes = record {
-  at = 14;
-  index = lease_client 28;
-  command = refl;
-  whole = refl;
-  plain = (refl, refl);
-  listed = refl;
-  leaves = refl;
-}
+lease_client_goes = record { at = 14; index = lease_client 28; command = refl; whole = refl; plain = (refl, refl); listed = refl; leaves = refl }

@@ -40,12 +40,4 @@ later_lease_property_is = record {
 
 pub lease_property_goes : DropsIndex DROP_LEASE_PROPERTY.now lease_property_schema property_staff_schema
 unfolding understood everything
-lease_property_goes = record {
-  at = 13;
-  index = lease_property 27;
-  command = refl;
-  whole = refl;
-  plain = (refl, refl);
-  listed = refl;
-  leaves = refl;
-}
+lease_property_goes = record { at = 13; index = lease_property 27; command = refl; whole = refl; plain = (refl, refl); listed = refl; leaves = refl }

@@ -9,12 +9,4 @@ use Rattle.dh_catalog.specs.Meanings.{MakesTable}
 
 pub owner_is : MakesTable OWNER.now staff_schema owner_schema
 unfolding understood everything
-owner_is = record {
-  table = record owner { tree = 0 };
-  command = refl;
-  whole = refl;
-  defines = refl;
-  plain = (refl, refl);
-  grows = refl;
-  uncounted = refl;
-}
+owner_is = record { table = record owner { tree = 0 }; command = refl; whole = refl; defines = refl; plain = (refl, refl); grows = refl; uncounted = refl }

@@ -9,12 +9,4 @@ use Rattle.dh_catalog.specs.Meanings.{MakesTable}
 
 pub part_is : MakesTable PART.now run_schema part_schema
 unfolding understood everything
-part_is = record {
-  table = record part { tree = 0 };
-  command = refl;
-  whole = refl;
-  defines = refl;
-  plain = (refl, refl);
-  grows = refl;
-  uncounted = refl;
-}
+part_is = record { table = record part { tree = 0 }; command = refl; whole = refl; defines = refl; plain = (refl, refl); grows = refl; uncounted = refl }

@@ -40,12 +40,4 @@ later_property_staff_is = record {
 
 pub property_staff_goes : DropsIndex DROP_PROPERTY_STAFF.now property_staff_schema part_schema
 unfolding understood everything
-property_staff_goes = record {
-  at = 12;
-  index = property_staff 26;
-  command = refl;
-  whole = refl;
-  plain = (refl, refl);
-  listed = refl;
-  leaves = refl;
-}
+property_staff_goes = record { at = 12; index = property_staff 26; command = refl; whole = refl; plain = (refl, refl); listed = refl; leaves = refl }

@@ -40,12 +40,4 @@ later_receipt_lease_is = record {
 
 pub receipt_lease_goes : DropsIndex DROP_RECEIPT_LEASE.now receipt_lease_schema charge_month_schema
 unfolding understood everything
-receipt_lease_goes = record {
-  at = 16;
-  index = receipt_lease 30;
-  command = refl;
-  whole = refl;
-  plain = (refl, refl);
-  listed = refl;
-  leaves = refl;
-}
+receipt_lease_goes = record { at = 16; index = receipt_lease 30; command = refl; whole = refl; plain = (refl, refl); listed = refl; leaves = refl }

@@ -9,12 +9,4 @@ use Rattle.dh_catalog.specs.Meanings.{MakesTable}
 
 pub staff_is : MakesTable STAFF.now branch_schema staff_schema
 unfolding understood everything
-staff_is = record {
-  table = record staff { tree = 0 };
-  command = refl;
-  whole = refl;
-  defines = refl;
-  plain = (refl, refl);
-  grows = refl;
-  uncounted = refl;
-}
+staff_is = record { table = record staff { tree = 0 }; command = refl; whole = refl; defines = refl; plain = (refl, refl); grows = refl; uncounted = refl }

@@ -40,12 +40,4 @@ later_viewing_property_is = record {
 
 pub viewing_property_goes : DropsIndex DROP_VIEWING_PROPERTY.now first_schema receipt_lease_schema
 unfolding understood everything
-viewing_property_goes = record {
-  at = 17;
-  index = viewing_property 31;
-  command = refl;
-  whole = refl;
-  plain = (refl, refl);
-  listed = refl;
-  leaves = refl;
-}
+viewing_property_goes = record { at = 17; index = viewing_property 31; command = refl; whole = refl; plain = (refl, refl); listed = refl; leaves = refl }

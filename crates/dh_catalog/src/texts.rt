@@ -179,75 +179,49 @@ pub const DROP_LEASE_PROPERTY: &str = "DROP INDEX lease_property";
 /// The text that takes away the index of [`PROPERTY_STAFF`].
 pub const DROP_PROPERTY_STAFF: &str = "DROP INDEX property_staff";
 
-/// The texts that make the tables and indexes of the first version, in the order in which they are run.
-pub static FIRST: [&str; 20] = [
-    META,
-    BRANCH,
-    STAFF,
-    OWNER,
-    PROPERTY,
-    CLIENT,
-    REGISTRATION,
-    VIEWING,
-    INSPECTION,
-    LEASE,
-    CHARGE,
-    RECEIPT,
-    RUN,
-    PART,
-    PROPERTY_STAFF,
-    LEASE_PROPERTY,
-    LEASE_CLIENT,
-    CHARGE_MONTH,
-    RECEIPT_LEASE,
-    VIEWING_PROPERTY,
-];
+// A list of the tables that both versions have, and of what this macro puts behind them.
+macro_rules! with_first_tables {
+    ($list:ident) => {
+        $list!(
+            META, BRANCH, STAFF, OWNER, PROPERTY, CLIENT, REGISTRATION, VIEWING, INSPECTION, LEASE,
+            CHARGE, RECEIPT, RUN, PART
+        )
+    };
+}
 
-/// The texts that make those of the second: the indexes for look-ups come behind all tables.
-pub static SECOND: [&str; 24] = [
-    META,
-    BRANCH,
-    STAFF,
-    OWNER,
-    PROPERTY,
-    CLIENT,
-    REGISTRATION,
-    VIEWING,
-    INSPECTION,
-    LEASE,
-    CHARGE,
-    RECEIPT,
-    RUN,
-    PART,
-    BRANCH_FEE,
-    PART_FEE,
-    ENDING,
-    PROPERTY_STAFF,
-    PROPERTY_OWNER,
-    PROPERTY_BRANCH,
-    LEASE_PROPERTY,
-    LEASE_CLIENT,
-    RECEIPT_LEASE,
-    VIEWING_PROPERTY,
-];
+// Behind these texts, the indexes of the first version.
+macro_rules! first_list {
+    ($($text:ident),*) => {
+        [
+            $($text,)* PROPERTY_STAFF, LEASE_PROPERTY, LEASE_CLIENT, CHARGE_MONTH, RECEIPT_LEASE,
+            VIEWING_PROPERTY,
+        ]
+    };
+}
+
+// Behind these texts, the tables that came with the second version, and its indexes for look-ups behind all tables.
+macro_rules! second_list {
+    ($($text:ident),*) => {
+        [
+            $($text,)* BRANCH_FEE, PART_FEE, ENDING, PROPERTY_STAFF, PROPERTY_OWNER, PROPERTY_BRANCH,
+            LEASE_PROPERTY, LEASE_CLIENT, RECEIPT_LEASE, VIEWING_PROPERTY,
+        ]
+    };
+}
+
+/// The texts that make the tables and indexes of the first version, in the order in which they are run.
+pub static FIRST: [&str; 20] = with_first_tables!(first_list);
+
+/// The texts that make those of the second.
+pub static SECOND: [&str; 24] = with_first_tables!(second_list);
 
 /// The texts that make those of the second of those of the first. The indexes for look-ups are taken away, and made anew behind the later
 /// tables.
-pub static FIRST_TO_SECOND: [&str; 16] = [
+pub static FIRST_TO_SECOND: [&str; 16] = second_list!(
     DROP_VIEWING_PROPERTY,
     DROP_RECEIPT_LEASE,
     DROP_CHARGE_MONTH,
     DROP_LEASE_CLIENT,
     DROP_LEASE_PROPERTY,
-    DROP_PROPERTY_STAFF,
-    BRANCH_FEE,
-    PART_FEE,
-    ENDING,
-    PROPERTY_STAFF,
-    PROPERTY_OWNER,
-    PROPERTY_BRANCH,
-    LEASE_PROPERTY,
-    LEASE_CLIENT,
-    RECEIPT_LEASE,
-    VIEWING_PROPERTY,
-];
+    DROP_PROPERTY_STAFF
+);

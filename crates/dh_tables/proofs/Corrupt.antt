@@ -1,5 +1,6 @@
 -- Why a query answers that the database is corrupt, and what the rows are that it shows.
-use Rattle.std.proofs.Common.{◌≡◌, ◌∙◌, inl, inr, refl, ap, subst, sym, ℕ, Bool, true, false, cond, is_eq, List, [], ◌∷◌, map, IsPermutation}
+use Rattle.std.proofs.Common.{◌≡◌, ◌∙◌, inl, inr, refl, ap, subst, sym, ℕ, Bool, true, false, cond, is_eq}
+use Rattle.std.proofs.Common.{List, [], ◌∷◌, map, IsPermutation}
 use Rattle.std.proofs.Common.{Result, Ok, Err, IfErr, IfOk}
 use Rattle.std.specs.declared.cmp.Ordering.{Ordering}
 use Rattle.std.specs.Cmp.{IsTotalOrder}

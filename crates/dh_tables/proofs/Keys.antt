@@ -1,5 +1,6 @@
 -- Rows of which each has a key of its own make a map of as many records.
-use Rattle.std.proofs.Common.{◌≡◌, ◌∙◌, ◌+◌, sym, ap, subst, Bool, true, false, cond, List, [], ◌∷◌, map, length, Option, Some, is_some, true≢false, arith}
+use Rattle.std.proofs.Common.{◌≡◌, ◌∙◌, ◌+◌, sym, ap, subst, Bool, true, false, cond}
+use Rattle.std.proofs.Common.{List, [], ◌∷◌, map, length, Option, Some, is_some, true≢false, arith}
 use Rattle.std.proofs.Common.{IsPermutation}
 use Rattle.std.specs.declared.cmp.Ordering.{Ordering}
 use Rattle.std.specs.Ordering.{eq_by_cmp}

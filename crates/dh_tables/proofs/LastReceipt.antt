@@ -1,5 +1,6 @@
 -- The row of the greatest number, as the last receipt.
-use Rattle.std.proofs.Common.{◌≡◌, ◌∙◌, ◌≤◌, pos, inl, inr, refl, sym, ap, subst, ℕ, List, [], ◌∷◌, codes, map, cond, Bool, true, false}
+use Rattle.std.proofs.Common.{◌≡◌, ◌∙◌, ◌≤◌, pos, inl, inr, refl, sym, ap, subst}
+use Rattle.std.proofs.Common.{ℕ, List, [], ◌∷◌, ◌++◌, codes, map, cond, Bool, true, false}
 use Rattle.std.proofs.Common.{Option, Some, None, Result, Ok, Err, IfOk, is_eq, nat_cmp, arith}
 use Rattle.std.specs.List.{IsDistinct}
 use Rattle.std.specs.Ordering.{eq_by_cmp}
@@ -27,15 +28,16 @@ use Rattle.dh_sql.specs.Texts.{IsLastText}
 use Rattle.dh_sql.proofs.Casting.{pass_each}
 use Rattle.dh_sql.proofs.Lists.{has_all, has_among, none_with}
 use Rattle.dh_tables.specs.Cells.{is_number}
+use Rattle.dh_tables.specs.Listing.{list_text}
 use Rattle.dh_tables.specs.Questions.{only_record}
-use Rattle.dh_tables.specs.ReceiptTable.{receipt_cells, receipt_columns, receipt_names, receipt_project, receipt_shape}
+use Rattle.dh_tables.specs.ReceiptTable.{receipt_cells, receipt_columns, receipt_named, receipt_shape}
 
 abbrev pub last_text : List ℕ
-last_text = codes "SELECT receipt_no, req_key, lease_no, kind, amount, day FROM receipt ORDER BY receipt_no DESC LIMIT 1"
+last_text = list_text receipt_named ++ codes " ORDER BY receipt_no DESC LIMIT 1"
 
-pub last_is : (s : Schema) → HasSince First s → IsLastText last_text s 20 receipt_project (col 1 0) receipt_names
+pub last_is : (s : Schema) → HasSince First s → IsLastText last_text s 20 receipt_named.shown (col 1 0) receipt_named.names
 unfolding understood everything
-last_is = of_both (λ s. IsLastText last_text s 20 receipt_project (col 1 0) receipt_names)
+last_is = of_both (λ s. IsLastText last_text s 20 receipt_named.shown (col 1 0) receipt_named.names)
     (record { command = refl; unlisted = refl; plain = (refl, refl); stored = λ db. refl })
     (record { command = refl; unlisted = refl; plain = (refl, refl); stored = λ db. refl })
 

@@ -21,9 +21,10 @@ use Rattle.dh_sql.proofs.Casting.{cast_int, cast_null}
 use Rattle.dh_sql.proofs.Inserting.{inserts}
 use Rattle.dh_sql.proofs.WholeTable.{shows_all}
 use Rattle.dh_sql.proofs.Staying.{others_stay}
+use Rattle.dh_tables.specs.Listing.{list_text}
 use Rattle.dh_tables.specs.Tables.{own_rowid}
 use Rattle.dh_tables.specs.MetaTable.{AreFound, AreMonths, SetsMonths, meta_columns, meta_rows}
-use Rattle.dh_tables.proofs.MetaTexts.{meta_inserts, meta_inserts_is, meta_names, meta_project, meta_shown, meta_shown_is, meta_terms}
+use Rattle.dh_tables.proofs.MetaTexts.{meta_inserts, meta_inserts_is, meta_named, meta_shown_is}
 use Rattle.dh_tables.proofs.Quiet.{quiet}
 
 -- as it is stored: the id is the rowid, and its own column holds NULL
@@ -36,7 +37,7 @@ cast_stored m = rw (cast_int (pos 1), cast_null, cast_int (pos (version_number m
 pub adds_meta : (old new : State) (m : Months) (count : ℕ) → HasSince First old.now.schema → old.now.trees 0 ≡ [] → is_meta_row (meta_row m) ≡ true
     → Executes meta_inserts (meta_row m) old new (Ok count) → SetsMonths m old new
 adds_meta old new m count has empty good h =
-    let it = inserts meta_inserts old.now.schema 0 meta meta_terms 5 (meta_row m) (stored m) (quiet old.now.schema has)
+    let it = inserts meta_inserts old.now.schema 0 meta meta_named.put 5 (meta_row m) (stored m) (quiet old.now.schema has)
     (meta_inserts_is old.now.schema has m) old new count refl h in
     let row = ap (with_rowid Chosen (old.now.trees 0)) (cast_stored m) in
     let rows = it.1.rows ∙ ap (λ (r : Row). put_row r (old.now.trees 0)) row ∙ ap (put_row (stored m)) empty in
@@ -50,9 +51,10 @@ adds_meta old new m count has empty good h =
 -- ---- the rows that are shown
 
 pub all_shown : (r : Result (Vec Row Global) Error) (old new : State) → HasSince First old.now.schema
-    → IfOk r (λ rows. Shown meta_shown [] old new rows.items) → IfOk r (λ rows. IsPermutation (meta_rows old.now.trees) rows.items)
+    → IfOk r (λ rows. Shown (list_text meta_named) [] old new rows.items) → IfOk r (λ rows. IsPermutation (meta_rows old.now.trees) rows.items)
 all_shown r old new has =
-    shows_all meta_shown old.now.schema 0 meta_project meta_names (meta_shown_is old.now.schema has) meta_columns (λ row. refl) old new refl r
+    shows_all (list_text meta_named) old.now.schema 0 meta_named.shown meta_named.names (meta_shown_is old.now.schema has) meta_columns (λ row. refl)
+    old new refl r
 
 -- rows in another order have the same months
 moved_months : (m : Months) (rows shown : List Row) → IsPermutation rows shown → AreMonths m rows → AreMonths m shown

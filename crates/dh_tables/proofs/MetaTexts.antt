@@ -13,33 +13,28 @@ use Rattle.sqlite_schema.specs.declared.schema.Schema.{Schema}
 use Rattle.dh_types.specs.declared.version.Version.TheVariants.{First}
 use Rattle.dh_catalog.specs.Versions.{HasSince, of_both}
 use Rattle.dh_catalog.specs.MetaTable.{meta}
-use Rattle.dh_sql.specs.Texts.{IsInsertText, IsSelectText, IsUpdateText}
+use Rattle.dh_sql.specs.Texts.{IsInsertText, IsUpdateText}
+use Rattle.dh_tables.specs.Commands.{Named, insert_text, rowid_first}
+use Rattle.dh_tables.specs.Listing.{ListsRows}
 use Rattle.dh_tables.specs.Tables.{own_rowid}
 
+-- its columns by their names
+abbrev pub meta_named : Named
+meta_named = rowid_first (codes "meta") (codes "id") (codes "version" ∷ codes "first_month" ∷ codes "next_month" ∷ [])
+
 abbrev pub meta_inserts : List ℕ
-meta_inserts = codes "INSERT INTO meta (id, version, first_month, next_month) VALUES (?1, ?2, ?3, ?4)"
+meta_inserts = insert_text meta_named.table meta_named.names
 
-abbrev pub meta_terms : List Term
-meta_terms = col 0 0 ∷ lit Null ∷ col 0 1 ∷ col 0 2 ∷ col 0 3 ∷ []
-
-pub meta_inserts_is : (s : Schema) → HasSince First s → (m : Months) → IsInsertText meta_inserts s 0 meta meta_terms 5 (meta_row m) (own_rowid meta_row m)
+pub meta_inserts_is : (s : Schema) → HasSince First s → (m : Months)
+    → IsInsertText meta_inserts s 0 meta meta_named.put 5 (meta_row m) (own_rowid meta_row m)
 unfolding understood everything
-meta_inserts_is = of_both (λ s. (m : Months) → IsInsertText meta_inserts s 0 meta meta_terms 5 (meta_row m) (own_rowid meta_row m))
+meta_inserts_is = of_both (λ s. (m : Months) → IsInsertText meta_inserts s 0 meta meta_named.put 5 (meta_row m) (own_rowid meta_row m))
     (λ m. record { command = refl; plain = (refl, refl); listed = refl; is_uncounted = refl; value = refl })
     (λ m. record { command = refl; plain = (refl, refl); listed = refl; is_uncounted = refl; value = refl })
 
-abbrev pub meta_shown : List ℕ
-meta_shown = codes "SELECT id, version, first_month, next_month FROM meta"
-
-abbrev pub meta_project : List Term
-meta_project = col 1 0 ∷ col 1 2 ∷ col 1 3 ∷ col 1 4 ∷ []
-
-abbrev pub meta_names : List (List ℕ)
-meta_names = codes "id" ∷ codes "version" ∷ codes "first_month" ∷ codes "next_month" ∷ []
-
-pub meta_shown_is : (s : Schema) → HasSince First s → IsSelectText meta_shown s 0 [] meta_project [] meta_names
+pub meta_shown_is : (s : Schema) → HasSince First s → ListsRows 0 meta_named s
 unfolding understood everything
-meta_shown_is = of_both (λ s. IsSelectText meta_shown s 0 [] meta_project [] meta_names)
+meta_shown_is = of_both (ListsRows 0 meta_named)
     (record { command = refl; unlisted = refl; plain = (refl, refl); stored = λ db. refl })
     (record { command = refl; unlisted = refl; plain = (refl, refl); stored = λ db. refl })
 

@@ -1,5 +1,6 @@
 -- What an UPDATE of the next month leaves, or of the version.
-use Rattle.std.proofs.Common.{◌≡◌, ◌≤◌, ◌∙◌, ap, arith, subst, sym, inl, inr, refl, true, ℕ, zero, suc, pos, negsuc, List, [], ◌∷◌, map, drop, Ok, Some}
+use Rattle.std.proofs.Common.{◌≡◌, ◌≤◌, ◌∙◌, ap, arith, subst, sym, inl, inr, refl, true, ℕ, zero, suc, pos, negsuc}
+use Rattle.std.proofs.Common.{List, [], ◌∷◌, map, drop, Ok, Some}
 use Rattle.std.specs.List.{AllByRecursion, IsDistinct}
 use Rattle.std.specs.FinMap.{find, get, get-from_entries, insert}
 use Rattle.std.specs.Ordering.{eq_by_cmp, nat_cmp}
@@ -105,7 +106,8 @@ meta_finds params r good =
     let one = ap number_in (exact_number 1 (column r 0) cells.0) in
     (λ _. refl, λ _. pass_one (rw one at (same_number (column r 0) 1 (is_number 1 1 (column r 0) cells.0))))
 
-meta_turns : (next : ℕ) (m : Months) → FIRST_MONTH ≤ next → next ≤ LAST_NEXT_MONTH → (r : Row) → IsStored meta_shape r → is_int (rowid r) ≡ true
+meta_turns : (next : ℕ) (m : Months) → FIRST_MONTH ≤ next → next ≤ LAST_NEXT_MONTH
+    → (r : Row) → IsStored meta_shape r → is_int (rowid r) ≡ true
     → stored_in meta_shape r ≡ m → IsTurnedInto meta_shape meta r (drop 1 (shows meta_becomes (given next) r)) (record m { next = next })
 meta_turns next m from to r good own is =
     let c = (pass_each meta_cells true (meta_columns r) good).1 in

@@ -61,7 +61,8 @@ module _ {K X : Type 0} (it : Shape K X) (is_row : Row → Bool) (same : (r : Ro
     as_many_held once = count_is (shelf.held new) ∙ ap len all_in_books ∙ one_a_row o it trees rows perm once
 
     -- the books have as many records as there are rows
-    pub gathered : AllByRecursion (λ row. is_row row ≡ true) rows → length (values (shelf.held new)) ≡ length rows → IsGathered it R shelf trees old new
+    pub gathered : AllByRecursion (λ row. is_row row ≡ true) rows → length (values (shelf.held new)) ≡ length rows
+        → IsGathered it R shelf trees old new
     gathered good as_many =
         let size : len (put_rows it rows (empty {R = R})) ≡ length rows = sym (ap len all_in_books) ∙ sym (count_is (shelf.held new)) ∙ as_many in
         let good_here = all_weaker (λ row. is_row row ≡ true) (λ row. it.is_row row ≡ true) (λ row h. same row ∙ h) rows good in

@@ -1,5 +1,5 @@
 -- What a call on our tables needs, and what it leaves.
-use Rattle.std.specs.Prelude.{◌≡◌, ◌⊎◌, ◌||◌, Bool, true, IsTrue, List, Option, Some, None, Result, Err}
+use Rattle.std.specs.Prelude.{◌≡◌, ◌⊎◌, ◌||◌, ℕ, Bool, true, IsTrue, List, Option, Some, None, Result, Err}
 use Rattle.std.specs.declared.cmp.Ordering.{Ordering}
 use Rattle.std.specs.FinMap.{FinMap, get, insert}
 use Rattle.sqlite_value.specs.Order.{Row}
@@ -7,6 +7,10 @@ use Rattle.sqlite_trees.specs.declared.error.StoreError.TheVariants.{Corrupt}
 use Rattle.sqlite.specs.declared.error.Error.{Error}
 use Rattle.sqlite.specs.declared.error.Error.TheVariants.{SqliteFailure}
 use Rattle.sqlite.specs.declared.error.ErrorCode.TheVariants.{DatabaseCorrupt}
+use Rattle.sqlite_schema.specs.declared.program.Program.{Program}
+use Rattle.sqlite.specs.Command.TheVariants.{Select}
+use Rattle.sqlite.specs.Listing.{understood}
+use Rattle.sqlite.proofs.Callers.{IsPlain, command_of}
 use Rattle.sqlite.specs.State.{HasCause, IsRolledBack, IsUnchanged, Shows, State, Survives}
 use Rattle.dh_model.specs.Books as machine
 use Rattle.dh_model.specs.Whole.{rows_where}
@@ -24,6 +28,13 @@ HasOurTables s = IsOurs s.now.schema
 -- they have those of this version
 abbrev pub HasTables : Version → State → Type 0
 HasTables since s = HasSince since s.now.schema
+
+-- the text is a SELECT, which changes nothing
+pub record IsQuery (text : List ℕ) (s : State) : Type 0 where
+  pub program : Program
+  pub names : List (List ℕ)
+  pub command : command_of (understood s.now.schema text) ≡ Select program names
+  pub plain : IsPlain (understood s.now.schema text)
 
 -- within a transaction, over such tables
 pub record IsWritingSince (since : Version) (s : State) : Type 0 where
@@ -72,7 +83,8 @@ module _ {K X : Type 0} (it : Shape K X) (R : K → K → Ordering) where
   -- the record that has the key has become another
   abbrev pub Amends : K → (X → X) → State → State → Type 0
   Amends key amended old new =
-      (x : X) × (get (rows_in it {R = R} old.now.trees) key ≡ Some x) × Becomes it R old.now.schema (insert (rows_in it old.now.trees) key (amended x)) old new
+      (x : X) × (get (rows_in it {R = R} old.now.trees) key ≡ Some x)
+      × Becomes it R old.now.schema (insert (rows_in it old.now.trees) key (amended x)) old new
 
   -- the records that are asked for
   abbrev pub asked_in : (X → Bool) → State → FinMap R X

@@ -113,7 +113,8 @@ known None h = cc
 some_is : (m n : ℕ) → Some m ≡ Some n → m ≡ n
 some_is m n h = cc
 
-same_day_text : (day : ℕ) → IsEntryDay day → (t : List ℕ) (n : ℕ) → day_of t ≡ Some n → equal Binary (Text t) (Text (day_text day)) ≡ nat_eq n day
+same_day_text : (day : ℕ) → IsEntryDay day → (t : List ℕ) (n : ℕ) → day_of t ≡ Some n
+    → equal Binary (Text t) (Text (day_text day)) ≡ nat_eq n day
 same_day_text day is_day t n read =
     let printed : day_text n ≡ t = read_day_printed LAST_MONTH_OF_ENTRY_DAYS n t read in
     texts_same t (day_text day) ∙ alike _ _
@@ -159,7 +160,8 @@ pub tells_number : (found asked : ℕ) {b : Bool} → b ≡ nat_eq found asked �
 tells_number found asked is = (λ h. (numbers found asked).0 (sym is ∙ h), λ e. is ∙ (numbers found asked).1 e)
 
 -- and so of two
-pub tells_both : {A B : Type 0} {f x : A} {g y : B} {a b c : Bool} → (a ≡ true → f ≡ x) × (f ≡ x → a ≡ true) → (b ≡ true → g ≡ y) × (g ≡ y → b ≡ true)
+pub tells_both : {A B : Type 0} {f x : A} {g y : B} {a b c : Bool} → (a ≡ true → f ≡ x) × (f ≡ x → a ≡ true)
+    → (b ≡ true → g ≡ y) × (g ≡ y → b ≡ true)
     → c ≡ (a && b) → (c ≡ true → ◌≡◌ {A = A × B} (f, g) (x, y)) × (◌≡◌ {A = A × B} (f, g) (x, y) → c ≡ true)
 tells_both {A = A} {B = B} {a = a} {b = b} one two is = (
   λ h.

@@ -1,6 +1,7 @@
 -- The texts of SQL that add a row to a table, ask for rows and change one, of its name and its columns.
 use Rattle.std.specs.Prelude.{ℕ, ◌+◌, ◌/◌, ◌%◌, nat_lt, if◌then◌else◌, List, [], ◌∷◌, ◌++◌, length, codes}
-use Rattle.sqlite_sql.specs.Term.{Term, col}
+use Rattle.sqlite_value.specs.declared.value.Value.TheVariants.{Null}
+use Rattle.sqlite_sql.specs.Term.{Term, lit, col}
 
 -- texts with this between them
 abbrev pub joined : List ℕ → List (List ℕ) → List ℕ
@@ -42,3 +43,26 @@ update_text table keys columns =
 abbrev pub terms_from : ℕ → ℕ → List (List ℕ) → List Term
 terms_from row n [] = []
 terms_from row n (column ∷ columns) = col row n ∷ terms_from row (n + 1) columns
+
+-- The columns of a table by their names: what a new row is put together of, what is shown of a stored one, and how the rowid is called.
+pub record Named : Type 0 where
+  pub table : List ℕ
+  pub names : List (List ℕ)
+  pub put : List Term
+  pub shown : List Term
+  pub rowid_name : List ℕ
+
+-- the rowid is no column
+abbrev pub rowid_apart : List ℕ → List (List ℕ) → Named
+rowid_apart table names =
+    record { table = table; names = names; put = lit Null ∷ terms_from 0 0 names; shown = terms_from 1 1 names; rowid_name = codes "rowid" }
+
+-- it is the first column, whose own place holds NULL
+abbrev pub rowid_first : List ℕ → List ℕ → List (List ℕ) → Named
+rowid_first table first names = record {
+  table = table;
+  names = first ∷ names;
+  put = col 0 0 ∷ lit Null ∷ terms_from 0 1 names;
+  shown = col 1 0 ∷ terms_from 1 2 names;
+  rowid_name = first;
+}

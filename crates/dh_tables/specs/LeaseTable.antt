@@ -1,12 +1,7 @@
 -- The table lease, whose key is its rowid.
-use Rattle.std.specs.Prelude.{◌≡◌, refl, ℕ, List, [], ◌∷◌, codes, drop, true, pos, nat_eq, ◌&&◌, length, ◌+◌}
-use Rattle.sqlite_value.specs.declared.value.Value.TheVariants.{Int, Null, Text}
-use Rattle.sqlite_value.specs.declared.keys.Collation.TheVariants.{Binary}
+use Rattle.std.specs.Prelude.{refl, ℕ, List, [], ◌∷◌, codes, drop, true, pos, nat_eq, ◌&&◌}
+use Rattle.sqlite_value.specs.declared.value.Value.TheVariants.{Int, Text}
 use Rattle.sqlite_value.specs.Order.{Row, column}
-use Rattle.sqlite_sql.specs.declared.ops.BinaryOp.TheVariants.{Compare}
-use Rattle.sqlite_sql.specs.declared.ops.CompareOp.TheVariants.{Eq}
-use Rattle.sqlite_sql.specs.Term.{Term, lit, col, op2}
-use Rattle.sqlite_rules.specs.Cast.{cast_row}
 use Rattle.sqlite_tied.specs.Compute.{everything}
 use Rattle.sqlite.specs.Listing.{understood}
 use Rattle.dh_values.specs.Texts.{is_id}
@@ -16,23 +11,21 @@ use Rattle.dh_days.specs.Days.{IsEntryDay, day_of, day_text}
 use Rattle.dh_types.specs.declared.lease.Lease.{Lease}
 use Rattle.dh_model.specs.Checks.{is_same_text}
 use Rattle.dh_rows.specs.LeaseRows.{lease_in, lease_row, is_lease_row}
-use Rattle.sqlite_schema.specs.declared.schema.Schema.{Schema}
 use Rattle.dh_types.specs.declared.version.Version.TheVariants.{First}
-use Rattle.dh_catalog.specs.Versions.{HasSince, of_both}
+use Rattle.dh_catalog.specs.Versions.{of_both}
 use Rattle.dh_catalog.specs.LeaseTable.{lease}
 use Rattle.dh_sql.specs.CellTests.{Cell}
 use Rattle.dh_sql.specs.Shape.{Shape}
-use Rattle.dh_sql.specs.Texts.{IsSelectText}
 use Rattle.dh_sql.proofs.Casting.{cast_int, pass_each, row_stays}
 use Rattle.dh_tables.specs.declared.lease.LeaseNumbered.{LeaseNumbered}
 use Rattle.dh_tables.specs.declared.lease.LeasesOfProperty.{LeasesOfProperty}
 use Rattle.dh_tables.specs.declared.lease.LeasesOfClientFrom.{LeasesOfClientFrom}
 use Rattle.dh_tables.specs.Cells.{is_number, is_text as text_is, number_from, pass_both, pass_one}
 use Rattle.dh_tables.specs.Cells.{read_as, rowid_column, same_day, same_number, same_text, text_that}
-use Rattle.dh_tables.specs.Commands.{insert_text, select_text, select_where, terms_from}
-use Rattle.dh_tables.specs.Listing.{IsListing, Listing}
-use Rattle.dh_tables.specs.Questions.{Asking, IsAsking}
-use Rattle.dh_tables.specs.Tables.{Adding, IsAdding, IsInsertOf, own_rowid}
+use Rattle.dh_tables.specs.Commands.{Named, rowid_first}
+use Rattle.dh_tables.specs.Listing.{IsListing, ListsRowids, ListsRows}
+use Rattle.dh_tables.specs.Questions.{Asking, IsAsking, IsQuestion, IsSelected, Question, asking_by}
+use Rattle.dh_tables.specs.Tables.{Adding, IsAdding, IsInsertOf, adding_to, own_rowid}
 
 -- the key is the rowid, and its own column holds NULL
 abbrev pub lease_columns : Row → Row
@@ -46,92 +39,61 @@ lease_cells =
 abbrev pub lease_shape : Shape ℕ Lease
 lease_shape = record { tree = 17; columns = lease_columns; is_row = is_lease_row; row_in = lease_in; key = λ l. l.terms.number }
 
--- the columns
-abbrev pub lease_names : List (List ℕ)
-lease_names = codes "lease_no" ∷ codes "client_no" ∷ codes "property_no" ∷ codes "start_day" ∷ codes "months" ∷ codes "method" ∷ codes "rent" ∷ []
+-- its columns by their names
+abbrev pub lease_named : Named
+lease_named = rowid_first (codes "lease") (codes "lease_no")
+    (codes "client_no" ∷ codes "property_no" ∷ codes "start_day" ∷ codes "months" ∷ codes "method" ∷ codes "rent" ∷ [])
 
 -- ---- adding a row
 
 abbrev pub lease_adding : Adding Lease
-lease_adding = record {
-  text = insert_text (codes "lease") lease_names;
-  place = 9;
-  table = lease;
-  terms = col 0 0 ∷ lit Null ∷ terms_from 0 1 (drop 1 lease_names);
-  width = length lease_names + 1;
-  source = own_rowid lease_row;
-}
-
-inserts : (s : Schema) → HasSince First s → IsInsertOf lease_row lease_adding s
-unfolding understood everything
-inserts = of_both (IsInsertOf lease_row lease_adding)
-    (λ x. record { command = refl; plain = (refl, refl); listed = refl; is_uncounted = refl; value = refl })
-    (λ x. record { command = refl; plain = (refl, refl); listed = refl; is_uncounted = refl; value = refl })
-
-stays : (x : Lease) → is_lease_row (lease_row x) ≡ true → cast_row lease (lease_adding.source x) ≡ lease_adding.source x
-stays x good =
-    let cells = (pass_each lease_cells true (lease_row x) good).1 in
-    row_stays (rowid_column ∷ drop 1 lease_cells) lease (Int (pos x.terms.number)) (drop 1 (lease_adding.source x))
-    refl (cast_int (pos x.terms.number)) (refl, cells.1)
+lease_adding = adding_to lease_named 9 lease (own_rowid lease_row)
 
 pub lease_is_adding : IsAdding First lease_shape lease_row is_lease_row lease_adding
+unfolding understood everything
 lease_is_adding = record {
   tree_is = refl;
   listed = refl;
-  inserts = inserts;
-  stays = stays;
+  inserts = of_both (IsInsertOf lease_row lease_adding)
+      (λ x. record { command = refl; plain = (refl, refl); listed = refl; is_uncounted = refl; value = refl })
+      (λ x. record { command = refl; plain = (refl, refl); listed = refl; is_uncounted = refl; value = refl });
+  stays = λ x good.
+      let cells = (pass_each lease_cells true (lease_row x) good).1 in
+      row_stays (rowid_column ∷ drop 1 lease_cells) lease (Int (pos x.terms.number)) (drop 1 (lease_adding.source x))
+      refl (cast_int (pos x.terms.number)) (refl, cells.1);
   columns = λ x rows. refl;
   keyed = λ x rows. refl;
 }
 
--- ---- what the texts show
-
-abbrev lease_project : List Term
-lease_project = col 1 0 ∷ terms_from 1 2 (drop 1 lease_names)
-
 -- ---- the whole table
 
-abbrev pub lease_listing : Listing
-lease_listing = record {
-  text = select_text (codes "lease") lease_names;
-  project = lease_project;
-  names = lease_names;
-  rowid_text = select_text (codes "lease") (codes "rowid" ∷ []);
-  rowid_name = codes "lease_no";
-}
-
-pub lease_is_listing : IsListing First 17 lease_columns lease_listing
+pub lease_is_listing : IsListing First 17 lease_columns lease_named
 unfolding understood everything
 lease_is_listing = record {
-  selects = of_both (λ s. IsSelectText lease_listing.text s 17 [] lease_listing.project [] lease_listing.names)
+  selects = of_both (ListsRows 17 lease_named)
       (record { command = refl; unlisted = refl; plain = (refl, refl); stored = λ db. refl })
       (record { command = refl; unlisted = refl; plain = (refl, refl); stored = λ db. refl });
   shows_columns = λ r. refl;
-  selects_rowid = of_both (λ s. IsSelectText lease_listing.rowid_text s 17 [] (col 1 0 ∷ []) [] (lease_listing.rowid_name ∷ []))
+  selects_rowid = of_both (ListsRowids 17 lease_named)
       (record { command = refl; unlisted = refl; plain = (refl, refl); stored = λ db. refl })
       (record { command = refl; unlisted = refl; plain = (refl, refl); stored = λ db. refl });
 }
 
 -- ---- the lease with a number
 
-abbrev pub lease_numbered : Asking
+abbrev pub lease_numbered : Question LeaseNumbered Lease
 lease_numbered = record {
-  text = select_where (codes "lease") lease_names (codes "lease_no" ∷ []);
-  tests = op2 (Compare Eq Binary) (col 1 0) (col 0 0) ∷ [];
-  project = lease_project;
-  names = lease_names;
+  asking = asking_by lease_named (codes "lease_no" ∷ []) (0 ∷ []);
+  given = λ q. Int (pos q.number) ∷ [];
+  asks = λ q l. nat_eq l.terms.number q.number;
 }
 
-lease_numbered_selects : (s : Schema) → HasSince First s → IsSelectText lease_numbered.text s 17 lease_numbered.tests lease_project [] lease_names
+pub lease_numbered_is : IsQuestion First lease_shape lease_numbered
 unfolding understood everything
-lease_numbered_selects = of_both (λ s. IsSelectText lease_numbered.text s 17 lease_numbered.tests lease_project [] lease_names)
-    (record { command = refl; unlisted = refl; plain = (refl, refl); stored = λ db. refl })
-    (record { command = refl; unlisted = refl; plain = (refl, refl); stored = λ db. refl })
-
-pub lease_numbered_is : IsAsking First lease_shape lease_numbered
-    (λ (q : LeaseNumbered). Unit {0}) (λ q. Int (pos q.number) ∷ []) (λ q l. nat_eq l.terms.number q.number)
 lease_numbered_is = record {
-  selects = lease_numbered_selects;
+  selects = of_both (IsSelected 17 lease_numbered.asking)
+      (record { command = refl; unlisted = refl; plain = (refl, refl); stored = λ db. refl })
+      (record { command = refl; unlisted = refl; plain = (refl, refl); stored = λ db. refl });
   shows_columns = λ q r. refl;
   passes = λ q r known good.
       let cells = (pass_each lease_cells true (lease_columns r) good).1 in
@@ -140,24 +102,19 @@ lease_numbered_is = record {
 
 -- ---- the leases of a property
 
-abbrev pub leases_of_property : Asking
+abbrev pub leases_of_property : Question LeasesOfProperty Lease
 leases_of_property = record {
-  text = select_where (codes "lease") lease_names (codes "property_no" ∷ []);
-  tests = op2 (Compare Eq Binary) (col 1 3) (col 0 0) ∷ [];
-  project = lease_project;
-  names = lease_names;
+  asking = asking_by lease_named (codes "property_no" ∷ []) (3 ∷ []);
+  given = λ q. Text q.property ∷ [];
+  asks = λ q l. is_same_text l.terms.property q.property;
 }
 
-leases_of_property_selects : (s : Schema) → HasSince First s → IsSelectText leases_of_property.text s 17 leases_of_property.tests lease_project [] lease_names
+pub leases_of_property_is : IsQuestion First lease_shape leases_of_property
 unfolding understood everything
-leases_of_property_selects = of_both (λ s. IsSelectText leases_of_property.text s 17 leases_of_property.tests lease_project [] lease_names)
-    (record { command = refl; unlisted = refl; plain = (refl, refl); stored = λ db. refl })
-    (record { command = refl; unlisted = refl; plain = (refl, refl); stored = λ db. refl })
-
-pub leases_of_property_is : IsAsking First lease_shape leases_of_property
-    (λ (q : LeasesOfProperty). Unit {0}) (λ q. Text q.property ∷ []) (λ q l. is_same_text l.terms.property q.property)
 leases_of_property_is = record {
-  selects = leases_of_property_selects;
+  selects = of_both (IsSelected 17 leases_of_property.asking)
+      (record { command = refl; unlisted = refl; plain = (refl, refl); stored = λ db. refl })
+      (record { command = refl; unlisted = refl; plain = (refl, refl); stored = λ db. refl });
   shows_columns = λ q r. refl;
   passes = λ q r known good.
       let cells = (pass_each lease_cells true (lease_columns r) good).1 in
@@ -167,25 +124,16 @@ leases_of_property_is = record {
 -- ---- the leases of a client that begin on a day
 
 abbrev pub leases_of_client_from : Asking
-leases_of_client_from = record {
-  text = select_where (codes "lease") lease_names (codes "client_no" ∷ codes "start_day" ∷ []);
-  tests = op2 (Compare Eq Binary) (col 1 2) (col 0 0) ∷ op2 (Compare Eq Binary) (col 1 4) (col 0 1) ∷ [];
-  project = lease_project;
-  names = lease_names;
-}
-
-leases_of_client_from_selects : (s : Schema) → HasSince First s
-    → IsSelectText leases_of_client_from.text s 17 leases_of_client_from.tests lease_project [] lease_names
-unfolding understood everything
-leases_of_client_from_selects = of_both (λ s. IsSelectText leases_of_client_from.text s 17 leases_of_client_from.tests lease_project [] lease_names)
-    (record { command = refl; unlisted = refl; plain = (refl, refl); stored = λ db. refl })
-    (record { command = refl; unlisted = refl; plain = (refl, refl); stored = λ db. refl })
+leases_of_client_from = asking_by lease_named (codes "client_no" ∷ codes "start_day" ∷ []) (2 ∷ 4 ∷ [])
 
 pub leases_of_client_from_is : IsAsking First lease_shape leases_of_client_from
     (λ (q : LeasesOfClientFrom). IsEntryDay q.start) (λ q. Text q.client ∷ Text (day_text q.start) ∷ [])
     (λ q l. is_same_text l.terms.client q.client && nat_eq l.terms.start q.start)
+unfolding understood everything
 leases_of_client_from_is = record {
-  selects = leases_of_client_from_selects;
+  selects = of_both (IsSelected 17 leases_of_client_from)
+      (record { command = refl; unlisted = refl; plain = (refl, refl); stored = λ db. refl })
+      (record { command = refl; unlisted = refl; plain = (refl, refl); stored = λ db. refl });
   shows_columns = λ q r. refl;
   passes = λ q r known good.
       let cells = (pass_each lease_cells true (lease_columns r) good).1 in

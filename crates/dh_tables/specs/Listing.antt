@@ -1,10 +1,10 @@
 -- Reading a whole table, of which no more is known than its schema.
-use Rattle.std.specs.Prelude.{◌≡◌, ℕ, true, List, [], ◌∷◌, map}
+use Rattle.std.specs.Prelude.{◌≡◌, ℕ, true, List, [], ◌∷◌, codes, map}
 use Rattle.std.specs.declared.cmp.Ordering.{Ordering}
 use Rattle.std.specs.Ordering.{eq_by_cmp, int_cmp}
 use Rattle.std.specs.List.{AllByRecursion, IsDistinct}
 use Rattle.sqlite_value.specs.Order.{Row}
-use Rattle.sqlite_sql.specs.Term.{Term, col}
+use Rattle.sqlite_sql.specs.Term.{col}
 use Rattle.sqlite_trees.specs.Tree.{Trees, rowid}
 use Rattle.sqlite_trees.specs.View.{is_int}
 use Rattle.sqlite_rules.specs.Edit.{id_in}
@@ -15,21 +15,28 @@ use Rattle.dh_catalog.specs.Versions.{HasSince}
 use Rattle.dh_sql.specs.Queries.{shows}
 use Rattle.dh_sql.specs.Shape.{AreApart, IsKept, IsStored, Shape, rows_in, stored_in}
 use Rattle.dh_sql.specs.Texts.{IsSelectText}
+use Rattle.dh_tables.specs.Commands.{Named, select_text}
 use Rattle.dh_tables.specs.Tables.{Shelf}
 
--- SELECT project FROM table, and SELECT rowid FROM table
-pub record Listing : Type 0 where
-  pub text : List ℕ
-  pub project : List Term
-  pub names : List (List ℕ)
-  pub rowid_text : List ℕ
-  pub rowid_name : List ℕ
+-- SELECT columns FROM table, and SELECT rowid FROM table
+abbrev pub list_text : Named → List ℕ
+list_text named = select_text named.table named.names
+
+abbrev pub rowid_text : Named → List ℕ
+rowid_text named = select_text named.table (codes "rowid" ∷ [])
+
+-- under this schema the one shows rows, and the other rowids
+abbrev pub ListsRows : ℕ → Named → Schema → Type 0
+ListsRows tree named s = IsSelectText (list_text named) s tree [] named.shown [] named.names
+
+abbrev pub ListsRowids : ℕ → Named → Schema → Type 0
+ListsRowids tree named s = IsSelectText (rowid_text named) s tree [] (col 1 0 ∷ []) [] (named.rowid_name ∷ [])
 
 -- the texts show the columns of each row, and the rowid of each
-pub record IsListing (since : Version) (tree : ℕ) (columns : Row → Row) (listing : Listing) : Type 0 where
-  pub selects : (s : Schema) → HasSince since s → IsSelectText listing.text s tree [] listing.project [] listing.names
-  pub shows_columns : (r : Row) → shows listing.project [] r ≡ columns r
-  pub selects_rowid : (s : Schema) → HasSince since s → IsSelectText listing.rowid_text s tree [] (col 1 0 ∷ []) [] (listing.rowid_name ∷ [])
+pub record IsListing (since : Version) (tree : ℕ) (columns : Row → Row) (named : Named) : Type 0 where
+  pub selects : (s : Schema) → HasSince since s → ListsRows tree named s
+  pub shows_columns : (r : Row) → shows named.shown [] r ≡ columns r
+  pub selects_rowid : (s : Schema) → HasSince since s → ListsRowids tree named s
 
 -- the row of a rowid alone
 abbrev pub rowid_alone : Row → Row

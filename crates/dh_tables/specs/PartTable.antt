@@ -1,11 +1,7 @@
 -- The table part.
-use Rattle.std.specs.Prelude.{refl, ℕ, List, [], ◌∷◌, codes, true, pos, nat_eq, ◌&&◌, length, ◌+◌}
+use Rattle.std.specs.Prelude.{refl, ℕ, List, [], ◌∷◌, codes, true, pos, nat_eq, ◌&&◌}
 use Rattle.sqlite_value.specs.declared.value.Value.TheVariants.{Int, Null, Text}
-use Rattle.sqlite_value.specs.declared.keys.Collation.TheVariants.{Binary}
 use Rattle.sqlite_value.specs.Order.{Row, column}
-use Rattle.sqlite_sql.specs.declared.ops.BinaryOp.TheVariants.{Compare}
-use Rattle.sqlite_sql.specs.declared.ops.CompareOp.TheVariants.{Eq}
-use Rattle.sqlite_sql.specs.Term.{Term, lit, col, op2}
 use Rattle.sqlite_tied.specs.Compute.{everything}
 use Rattle.sqlite.specs.Listing.{understood}
 use Rattle.dh_values.specs.Texts.{is_id}
@@ -15,21 +11,19 @@ use Rattle.dh_types.specs.declared.run.Part.{Part}
 use Rattle.dh_model.specs.Checks.{is_same_text}
 use Rattle.dh_rows.specs.declared.limits.TheConstants.{MOST_COUNT}
 use Rattle.dh_rows.specs.PartRows.{part_in, part_row, is_part_row}
-use Rattle.sqlite_schema.specs.declared.schema.Schema.{Schema}
 use Rattle.dh_types.specs.declared.version.Version.TheVariants.{First}
-use Rattle.dh_catalog.specs.Versions.{HasSince, of_both}
+use Rattle.dh_catalog.specs.Versions.{of_both}
 use Rattle.dh_catalog.specs.PartTable.{part}
 use Rattle.dh_sql.specs.CellTests.{Cell}
 use Rattle.dh_sql.specs.Shape.{Shape}
-use Rattle.dh_sql.specs.Texts.{IsSelectText}
 use Rattle.dh_sql.proofs.Casting.{cast_null, pass_each, row_stays}
 use Rattle.dh_tables.specs.declared.part.PartOf.{PartOf}
 use Rattle.dh_tables.specs.declared.part.PartsOfMonth.{PartsOfMonth}
 use Rattle.dh_tables.specs.Cells.{is_number, is_text as text_is, number_from, pass_both, pass_one, same_number, same_text, text_that}
-use Rattle.dh_tables.specs.Commands.{insert_text, select_text, select_where, terms_from}
-use Rattle.dh_tables.specs.Listing.{IsListing, Listing}
-use Rattle.dh_tables.specs.Questions.{Asking, IsAsking}
-use Rattle.dh_tables.specs.Tables.{Adding, IsAdding, IsInsertOf, without_rowid}
+use Rattle.dh_tables.specs.Commands.{Named, rowid_apart}
+use Rattle.dh_tables.specs.Listing.{IsListing, ListsRowids, ListsRows}
+use Rattle.dh_tables.specs.Questions.{IsQuestion, IsSelected, Question, asking_by}
+use Rattle.dh_tables.specs.Tables.{Adding, IsAdding, IsInsertOf, adding_to, without_rowid}
 
 abbrev pub part_columns : Row → Row
 part_columns row = column row 1 ∷ column row 2 ∷ column row 3 ∷ column row 4 ∷ column row 5 ∷ []
@@ -41,86 +35,57 @@ part_cells =
 abbrev pub part_shape : Shape (ℕ × List ℕ) Part
 part_shape = record { tree = 24; columns = part_columns; is_row = is_part_row; row_in = part_in; key = λ p. (p.month, p.branch) }
 
--- the columns
-abbrev pub part_names : List (List ℕ)
-part_names = codes "month" ∷ codes "branch_no" ∷ codes "through_lease" ∷ codes "due_count" ∷ codes "due_total" ∷ []
+-- its columns by their names
+abbrev pub part_named : Named
+part_named = rowid_apart (codes "part") (codes "month" ∷ codes "branch_no" ∷ codes "through_lease" ∷ codes "due_count" ∷ codes "due_total" ∷ [])
 
 -- ---- adding a row
 
 abbrev pub part_adding : Adding Part
-part_adding = record {
-  text = insert_text (codes "part") part_names;
-  place = 13;
-  table = part;
-  terms = lit Null ∷ terms_from 0 0 part_names;
-  width = length part_names + 1;
-  source = without_rowid part_row;
-}
-
-inserts : (s : Schema) → HasSince First s → IsInsertOf part_row part_adding s
-unfolding understood everything
-inserts = of_both (IsInsertOf part_row part_adding)
-    (λ x. record { command = refl; plain = (refl, refl); listed = refl; is_uncounted = refl; value = refl })
-    (λ x. record { command = refl; plain = (refl, refl); listed = refl; is_uncounted = refl; value = refl })
+part_adding = adding_to part_named 13 part (without_rowid part_row)
 
 pub part_is_adding : IsAdding First part_shape part_row is_part_row part_adding
+unfolding understood everything
 part_is_adding = record {
   tree_is = refl;
   listed = refl;
-  inserts = inserts;
+  inserts = of_both (IsInsertOf part_row part_adding)
+      (λ x. record { command = refl; plain = (refl, refl); listed = refl; is_uncounted = refl; value = refl })
+      (λ x. record { command = refl; plain = (refl, refl); listed = refl; is_uncounted = refl; value = refl });
   stays = λ x good. row_stays part_cells part Null (part_row x) refl cast_null (pass_each part_cells true (part_row x) good).1;
   columns = λ x rows. refl;
   keyed = λ x rows. refl;
 }
 
--- ---- what the texts show
-
-abbrev part_project : List Term
-part_project = terms_from 1 1 part_names
-
 -- ---- the whole table
 
-abbrev pub part_listing : Listing
-part_listing = record {
-  text = select_text (codes "part") part_names;
-  project = part_project;
-  names = part_names;
-  rowid_text = select_text (codes "part") (codes "rowid" ∷ []);
-  rowid_name = codes "rowid";
-}
-
-pub part_is_listing : IsListing First 24 part_columns part_listing
+pub part_is_listing : IsListing First 24 part_columns part_named
 unfolding understood everything
 part_is_listing = record {
-  selects = of_both (λ s. IsSelectText part_listing.text s 24 [] part_listing.project [] part_listing.names)
+  selects = of_both (ListsRows 24 part_named)
       (record { command = refl; unlisted = refl; plain = (refl, refl); stored = λ db. refl })
       (record { command = refl; unlisted = refl; plain = (refl, refl); stored = λ db. refl });
   shows_columns = λ r. refl;
-  selects_rowid = of_both (λ s. IsSelectText part_listing.rowid_text s 24 [] (col 1 0 ∷ []) [] (part_listing.rowid_name ∷ []))
+  selects_rowid = of_both (ListsRowids 24 part_named)
       (record { command = refl; unlisted = refl; plain = (refl, refl); stored = λ db. refl })
       (record { command = refl; unlisted = refl; plain = (refl, refl); stored = λ db. refl });
 }
 
 -- ---- the part of a run at a branch
 
-abbrev pub part_of : Asking
+abbrev pub part_of : Question PartOf Part
 part_of = record {
-  text = select_where (codes "part") part_names (codes "month" ∷ codes "branch_no" ∷ []);
-  tests = op2 (Compare Eq Binary) (col 1 1) (col 0 0) ∷ op2 (Compare Eq Binary) (col 1 2) (col 0 1) ∷ [];
-  project = part_project;
-  names = part_names;
+  asking = asking_by part_named (codes "month" ∷ codes "branch_no" ∷ []) (1 ∷ 2 ∷ []);
+  given = λ q. Int (pos q.month) ∷ Text q.branch ∷ [];
+  asks = λ q p. nat_eq p.month q.month && is_same_text p.branch q.branch;
 }
 
-part_of_selects : (s : Schema) → HasSince First s → IsSelectText part_of.text s 24 part_of.tests part_project [] part_names
+pub part_of_is : IsQuestion First part_shape part_of
 unfolding understood everything
-part_of_selects = of_both (λ s. IsSelectText part_of.text s 24 part_of.tests part_project [] part_names)
-    (record { command = refl; unlisted = refl; plain = (refl, refl); stored = λ db. refl })
-    (record { command = refl; unlisted = refl; plain = (refl, refl); stored = λ db. refl })
-
-pub part_of_is : IsAsking First part_shape part_of
-    (λ (q : PartOf). Unit {0}) (λ q. Int (pos q.month) ∷ Text q.branch ∷ []) (λ q p. nat_eq p.month q.month && is_same_text p.branch q.branch)
 part_of_is = record {
-  selects = part_of_selects;
+  selects = of_both (IsSelected 24 part_of.asking)
+      (record { command = refl; unlisted = refl; plain = (refl, refl); stored = λ db. refl })
+      (record { command = refl; unlisted = refl; plain = (refl, refl); stored = λ db. refl });
   shows_columns = λ q r. refl;
   passes = λ q r known good.
       let cells = (pass_each part_cells true (part_columns r) good).1 in
@@ -130,23 +95,19 @@ part_of_is = record {
 
 -- ---- the parts of the run of a month
 
-abbrev pub parts_of_month : Asking
+abbrev pub parts_of_month : Question PartsOfMonth Part
 parts_of_month = record {
-  text = select_where (codes "part") part_names (codes "month" ∷ []);
-  tests = op2 (Compare Eq Binary) (col 1 1) (col 0 0) ∷ [];
-  project = part_project;
-  names = part_names;
+  asking = asking_by part_named (codes "month" ∷ []) (1 ∷ []);
+  given = λ q. Int (pos q.month) ∷ [];
+  asks = λ q p. nat_eq p.month q.month;
 }
 
-parts_of_month_selects : (s : Schema) → HasSince First s → IsSelectText parts_of_month.text s 24 parts_of_month.tests part_project [] part_names
+pub parts_of_month_is : IsQuestion First part_shape parts_of_month
 unfolding understood everything
-parts_of_month_selects = of_both (λ s. IsSelectText parts_of_month.text s 24 parts_of_month.tests part_project [] part_names)
-    (record { command = refl; unlisted = refl; plain = (refl, refl); stored = λ db. refl })
-    (record { command = refl; unlisted = refl; plain = (refl, refl); stored = λ db. refl })
-
-pub parts_of_month_is : IsAsking First part_shape parts_of_month (λ (q : PartsOfMonth). Unit {0}) (λ q. Int (pos q.month) ∷ []) (λ q p. nat_eq p.month q.month)
 parts_of_month_is = record {
-  selects = parts_of_month_selects;
+  selects = of_both (IsSelected 24 parts_of_month.asking)
+      (record { command = refl; unlisted = refl; plain = (refl, refl); stored = λ db. refl })
+      (record { command = refl; unlisted = refl; plain = (refl, refl); stored = λ db. refl });
   shows_columns = λ q r. refl;
   passes = λ q r known good.
       let cells = (pass_each part_cells true (part_columns r) good).1 in

@@ -1,11 +1,7 @@
 -- The table property.
-use Rattle.std.specs.Prelude.{refl, ℕ, List, [], ◌∷◌, codes, true, Some, length, ◌+◌}
+use Rattle.std.specs.Prelude.{refl, ℕ, List, [], ◌∷◌, codes, true, Some}
 use Rattle.sqlite_value.specs.declared.value.Value.TheVariants.{Null, Text}
-use Rattle.sqlite_value.specs.declared.keys.Collation.TheVariants.{Binary}
 use Rattle.sqlite_value.specs.Order.{Row, column}
-use Rattle.sqlite_sql.specs.declared.ops.BinaryOp.TheVariants.{Compare}
-use Rattle.sqlite_sql.specs.declared.ops.CompareOp.TheVariants.{Eq}
-use Rattle.sqlite_sql.specs.Term.{Term, lit, col, op2}
 use Rattle.sqlite_tied.specs.Compute.{everything}
 use Rattle.sqlite.specs.Listing.{understood}
 use Rattle.dh_values.specs.Texts.{is_id, is_text}
@@ -15,23 +11,21 @@ use Rattle.dh_types.specs.declared.property.Property.{Property}
 use Rattle.dh_types.specs.Records.{is_same_optional}
 use Rattle.dh_model.specs.Checks.{is_same_text}
 use Rattle.dh_rows.specs.PropertyRows.{property_in, property_row, is_property_row}
-use Rattle.sqlite_schema.specs.declared.schema.Schema.{Schema}
 use Rattle.dh_types.specs.declared.version.Version.TheVariants.{First}
-use Rattle.dh_catalog.specs.Versions.{HasSince, of_both}
+use Rattle.dh_catalog.specs.Versions.{of_both}
 use Rattle.dh_catalog.specs.PropertyTable.{property}
 use Rattle.dh_sql.specs.CellTests.{Cell}
 use Rattle.dh_sql.specs.Shape.{Shape}
-use Rattle.dh_sql.specs.Texts.{IsSelectText}
 use Rattle.dh_sql.proofs.Casting.{cast_null, pass_each, row_stays}
 use Rattle.dh_tables.specs.declared.property.PropertyNumbered.{PropertyNumbered}
 use Rattle.dh_tables.specs.declared.property.PropertiesManaged.{PropertiesManaged}
 use Rattle.dh_tables.specs.declared.property.PropertiesOfBranch.{PropertiesOfBranch}
 use Rattle.dh_tables.specs.declared.property.PropertiesOfOwner.{PropertiesOfOwner}
 use Rattle.dh_tables.specs.Cells.{is_text as text_is, number_from, optional_text_that, pass_one, read_as, same_optional, same_text, text_that}
-use Rattle.dh_tables.specs.Commands.{insert_text, select_text, select_where, terms_from}
-use Rattle.dh_tables.specs.Listing.{IsListing, Listing}
-use Rattle.dh_tables.specs.Questions.{Asking, IsAsking}
-use Rattle.dh_tables.specs.Tables.{Adding, IsAdding, IsInsertOf, without_rowid}
+use Rattle.dh_tables.specs.Commands.{Named, rowid_apart}
+use Rattle.dh_tables.specs.Listing.{IsListing, ListsRowids, ListsRows}
+use Rattle.dh_tables.specs.Questions.{IsQuestion, IsSelected, Question, asking_by}
+use Rattle.dh_tables.specs.Tables.{Adding, IsAdding, IsInsertOf, adding_to, without_rowid}
 
 abbrev pub property_columns : Row → Row
 property_columns row =
@@ -46,89 +40,59 @@ property_cells =
 abbrev pub property_shape : Shape (List ℕ) Property
 property_shape = record { tree = 7; columns = property_columns; is_row = is_property_row; row_in = property_in; key = λ p. p.number }
 
--- the columns
-abbrev pub property_names : List (List ℕ)
-property_names =
-    codes "property_no" ∷ codes "street" ∷ codes "city" ∷ codes "postcode" ∷ codes "type" ∷ codes "rooms" ∷ codes "rent" ∷ codes "owner_no"
-    ∷ codes "staff_no" ∷ codes "branch_no" ∷ []
+-- its columns by their names
+abbrev pub property_named : Named
+property_named = rowid_apart (codes "property")
+    (codes "property_no" ∷ codes "street" ∷ codes "city" ∷ codes "postcode" ∷ codes "type" ∷ codes "rooms" ∷ codes "rent" ∷ codes "owner_no"
+    ∷ codes "staff_no" ∷ codes "branch_no" ∷ [])
 
 -- ---- adding a row
 
 abbrev pub property_adding : Adding Property
-property_adding = record {
-  text = insert_text (codes "property") property_names;
-  place = 4;
-  table = property;
-  terms = lit Null ∷ terms_from 0 0 property_names;
-  width = length property_names + 1;
-  source = without_rowid property_row;
-}
-
-inserts : (s : Schema) → HasSince First s → IsInsertOf property_row property_adding s
-unfolding understood everything
-inserts = of_both (IsInsertOf property_row property_adding)
-    (λ x. record { command = refl; plain = (refl, refl); listed = refl; is_uncounted = refl; value = refl })
-    (λ x. record { command = refl; plain = (refl, refl); listed = refl; is_uncounted = refl; value = refl })
+property_adding = adding_to property_named 4 property (without_rowid property_row)
 
 pub property_is_adding : IsAdding First property_shape property_row is_property_row property_adding
+unfolding understood everything
 property_is_adding = record {
   tree_is = refl;
   listed = refl;
-  inserts = inserts;
+  inserts = of_both (IsInsertOf property_row property_adding)
+      (λ x. record { command = refl; plain = (refl, refl); listed = refl; is_uncounted = refl; value = refl })
+      (λ x. record { command = refl; plain = (refl, refl); listed = refl; is_uncounted = refl; value = refl });
   stays = λ x good. row_stays property_cells property Null (property_row x) refl cast_null (pass_each property_cells true (property_row x) good).1;
   columns = λ x rows. refl;
   keyed = λ x rows. refl;
 }
 
--- ---- what the texts show
-
-abbrev property_project : List Term
-property_project = terms_from 1 1 property_names
-
 -- ---- the whole table
 
-abbrev pub property_listing : Listing
-property_listing = record {
-  text = select_text (codes "property") property_names;
-  project = property_project;
-  names = property_names;
-  rowid_text = select_text (codes "property") (codes "rowid" ∷ []);
-  rowid_name = codes "rowid";
-}
-
-pub property_is_listing : IsListing First 7 property_columns property_listing
+pub property_is_listing : IsListing First 7 property_columns property_named
 unfolding understood everything
 property_is_listing = record {
-  selects = of_both (λ s. IsSelectText property_listing.text s 7 [] property_listing.project [] property_listing.names)
+  selects = of_both (ListsRows 7 property_named)
       (record { command = refl; unlisted = refl; plain = (refl, refl); stored = λ db. refl })
       (record { command = refl; unlisted = refl; plain = (refl, refl); stored = λ db. refl });
   shows_columns = λ r. refl;
-  selects_rowid = of_both (λ s. IsSelectText property_listing.rowid_text s 7 [] (col 1 0 ∷ []) [] (property_listing.rowid_name ∷ []))
+  selects_rowid = of_both (ListsRowids 7 property_named)
       (record { command = refl; unlisted = refl; plain = (refl, refl); stored = λ db. refl })
       (record { command = refl; unlisted = refl; plain = (refl, refl); stored = λ db. refl });
 }
 
 -- ---- the property with a number
 
-abbrev pub property_numbered : Asking
+abbrev pub property_numbered : Question PropertyNumbered Property
 property_numbered = record {
-  text = select_where (codes "property") property_names (codes "property_no" ∷ []);
-  tests = op2 (Compare Eq Binary) (col 1 1) (col 0 0) ∷ [];
-  project = property_project;
-  names = property_names;
+  asking = asking_by property_named (codes "property_no" ∷ []) (1 ∷ []);
+  given = λ q. Text q.number ∷ [];
+  asks = λ q p. is_same_text p.number q.number;
 }
 
-property_numbered_selects : (s : Schema) → HasSince First s
-    → IsSelectText property_numbered.text s 7 property_numbered.tests property_project [] property_names
+pub property_numbered_is : IsQuestion First property_shape property_numbered
 unfolding understood everything
-property_numbered_selects = of_both (λ s. IsSelectText property_numbered.text s 7 property_numbered.tests property_project [] property_names)
-    (record { command = refl; unlisted = refl; plain = (refl, refl); stored = λ db. refl })
-    (record { command = refl; unlisted = refl; plain = (refl, refl); stored = λ db. refl })
-
-pub property_numbered_is : IsAsking First property_shape property_numbered
-    (λ (q : PropertyNumbered). Unit {0}) (λ q. Text q.number ∷ []) (λ q p. is_same_text p.number q.number)
 property_numbered_is = record {
-  selects = property_numbered_selects;
+  selects = of_both (IsSelected 7 property_numbered.asking)
+      (record { command = refl; unlisted = refl; plain = (refl, refl); stored = λ db. refl })
+      (record { command = refl; unlisted = refl; plain = (refl, refl); stored = λ db. refl });
   shows_columns = λ q r. refl;
   passes = λ q r known good.
       let cells = (pass_each property_cells true (property_columns r) good).1 in
@@ -137,25 +101,19 @@ property_numbered_is = record {
 
 -- ---- the properties that a member of staff manages
 
-abbrev pub properties_managed : Asking
+abbrev pub properties_managed : Question PropertiesManaged Property
 properties_managed = record {
-  text = select_where (codes "property") property_names (codes "staff_no" ∷ []);
-  tests = op2 (Compare Eq Binary) (col 1 9) (col 0 0) ∷ [];
-  project = property_project;
-  names = property_names;
+  asking = asking_by property_named (codes "staff_no" ∷ []) (9 ∷ []);
+  given = λ q. Text q.staff ∷ [];
+  asks = λ q p. is_same_optional is_same_text p.staff (Some q.staff);
 }
 
-properties_managed_selects : (s : Schema) → HasSince First s
-    → IsSelectText properties_managed.text s 7 properties_managed.tests property_project [] property_names
+pub properties_managed_is : IsQuestion First property_shape properties_managed
 unfolding understood everything
-properties_managed_selects = of_both (λ s. IsSelectText properties_managed.text s 7 properties_managed.tests property_project [] property_names)
-    (record { command = refl; unlisted = refl; plain = (refl, refl); stored = λ db. refl })
-    (record { command = refl; unlisted = refl; plain = (refl, refl); stored = λ db. refl })
-
-pub properties_managed_is : IsAsking First property_shape properties_managed
-    (λ (q : PropertiesManaged). Unit {0}) (λ q. Text q.staff ∷ []) (λ q p. is_same_optional is_same_text p.staff (Some q.staff))
 properties_managed_is = record {
-  selects = properties_managed_selects;
+  selects = of_both (IsSelected 7 properties_managed.asking)
+      (record { command = refl; unlisted = refl; plain = (refl, refl); stored = λ db. refl })
+      (record { command = refl; unlisted = refl; plain = (refl, refl); stored = λ db. refl });
   shows_columns = λ q r. refl;
   passes = λ q r known good.
       let cells = (pass_each property_cells true (property_columns r) good).1 in
@@ -164,25 +122,19 @@ properties_managed_is = record {
 
 -- ---- the properties of an owner
 
-abbrev pub properties_of_owner : Asking
+abbrev pub properties_of_owner : Question PropertiesOfOwner Property
 properties_of_owner = record {
-  text = select_where (codes "property") property_names (codes "owner_no" ∷ []);
-  tests = op2 (Compare Eq Binary) (col 1 8) (col 0 0) ∷ [];
-  project = property_project;
-  names = property_names;
+  asking = asking_by property_named (codes "owner_no" ∷ []) (8 ∷ []);
+  given = λ q. Text q.owner ∷ [];
+  asks = λ q p. is_same_text p.owner q.owner;
 }
 
-properties_of_owner_selects : (s : Schema) → HasSince First s
-    → IsSelectText properties_of_owner.text s 7 properties_of_owner.tests property_project [] property_names
+pub properties_of_owner_is : IsQuestion First property_shape properties_of_owner
 unfolding understood everything
-properties_of_owner_selects = of_both (λ s. IsSelectText properties_of_owner.text s 7 properties_of_owner.tests property_project [] property_names)
-    (record { command = refl; unlisted = refl; plain = (refl, refl); stored = λ db. refl })
-    (record { command = refl; unlisted = refl; plain = (refl, refl); stored = λ db. refl })
-
-pub properties_of_owner_is : IsAsking First property_shape properties_of_owner
-    (λ (q : PropertiesOfOwner). Unit {0}) (λ q. Text q.owner ∷ []) (λ q p. is_same_text p.owner q.owner)
 properties_of_owner_is = record {
-  selects = properties_of_owner_selects;
+  selects = of_both (IsSelected 7 properties_of_owner.asking)
+      (record { command = refl; unlisted = refl; plain = (refl, refl); stored = λ db. refl })
+      (record { command = refl; unlisted = refl; plain = (refl, refl); stored = λ db. refl });
   shows_columns = λ q r. refl;
   passes = λ q r known good.
       let cells = (pass_each property_cells true (property_columns r) good).1 in
@@ -191,25 +143,19 @@ properties_of_owner_is = record {
 
 -- ---- the properties of a branch
 
-abbrev pub properties_of_branch : Asking
+abbrev pub properties_of_branch : Question PropertiesOfBranch Property
 properties_of_branch = record {
-  text = select_where (codes "property") property_names (codes "branch_no" ∷ []);
-  tests = op2 (Compare Eq Binary) (col 1 10) (col 0 0) ∷ [];
-  project = property_project;
-  names = property_names;
+  asking = asking_by property_named (codes "branch_no" ∷ []) (10 ∷ []);
+  given = λ q. Text q.branch ∷ [];
+  asks = λ q p. is_same_text p.branch q.branch;
 }
 
-properties_of_branch_selects : (s : Schema) → HasSince First s
-    → IsSelectText properties_of_branch.text s 7 properties_of_branch.tests property_project [] property_names
+pub properties_of_branch_is : IsQuestion First property_shape properties_of_branch
 unfolding understood everything
-properties_of_branch_selects = of_both (λ s. IsSelectText properties_of_branch.text s 7 properties_of_branch.tests property_project [] property_names)
-    (record { command = refl; unlisted = refl; plain = (refl, refl); stored = λ db. refl })
-    (record { command = refl; unlisted = refl; plain = (refl, refl); stored = λ db. refl })
-
-pub properties_of_branch_is : IsAsking First property_shape properties_of_branch
-    (λ (q : PropertiesOfBranch). Unit {0}) (λ q. Text q.branch ∷ []) (λ q p. is_same_text p.branch q.branch)
 properties_of_branch_is = record {
-  selects = properties_of_branch_selects;
+  selects = of_both (IsSelected 7 properties_of_branch.asking)
+      (record { command = refl; unlisted = refl; plain = (refl, refl); stored = λ db. refl })
+      (record { command = refl; unlisted = refl; plain = (refl, refl); stored = λ db. refl });
   shows_columns = λ q r. refl;
   passes = λ q r known good.
       let cells = (pass_each property_cells true (property_columns r) good).1 in

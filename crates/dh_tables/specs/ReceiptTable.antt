@@ -2,16 +2,15 @@
 use Rattle.std.proofs.Common.{◌∙◌, inl, inr, subst, sym, true≢false}
 use Rattle.std.proofs.lemmas.Bool.{cases_Bool}
 use Rattle.std.proofs.lemmas.Slice.Eq.{bytes_eq-Decides}
-use Rattle.std.specs.Prelude.{◌++◌, ◌&&◌, bytes_eq, is_some, unwrap_or, ◌≡◌, refl, ℕ, List, [], ◌∷◌, codes, drop, true, pos, nat_eq, length, ◌+◌}
+use Rattle.std.specs.Prelude.{◌++◌, ◌&&◌, bytes_eq, is_some, unwrap_or, ◌≡◌, refl, ℕ, List, [], ◌∷◌, codes, drop, true, pos, nat_eq}
 use Rattle.sqlite_value.specs.declared.value.Value.{Value}
 use Rattle.sqlite_value.specs.declared.value.Value.TheVariants.{Blob, Int, Null, Real, Text}
 use Rattle.sqlite_value.specs.declared.keys.Collation.TheVariants.{Binary}
 use Rattle.sqlite_value.specs.Order.{Row, column}
 use Rattle.sqlite_sql.specs.declared.ops.BinaryOp.TheVariants.{Compare}
 use Rattle.sqlite_sql.specs.declared.ops.CompareOp.TheVariants.{Eq}
-use Rattle.sqlite_sql.specs.Term.{Term, lit, col, op2}
+use Rattle.sqlite_sql.specs.Term.{lit, col, op2}
 use Rattle.sqlite_schema.specs.Rules.{equal}
-use Rattle.sqlite_rules.specs.Cast.{cast_row}
 use Rattle.sqlite_tied.specs.Compute.{everything}
 use Rattle.sqlite.specs.Listing.{understood}
 use Rattle.dh_values.specs.Texts.{is_key}
@@ -24,13 +23,11 @@ use Rattle.dh_types.specs.Records.{is_same_receipt_kind}
 use Rattle.dh_model.specs.Checks.{is_same_text}
 use Rattle.dh_rows.specs.ReceiptRows.{receipt_in, receipt_row, is_receipt_row}
 use Rattle.dh_rows.specs.Cells.{is_read_cell, read_in}
-use Rattle.sqlite_schema.specs.declared.schema.Schema.{Schema}
 use Rattle.dh_types.specs.declared.version.Version.TheVariants.{First}
-use Rattle.dh_catalog.specs.Versions.{HasSince, of_both}
+use Rattle.dh_catalog.specs.Versions.{of_both}
 use Rattle.dh_catalog.specs.ReceiptTable.{receipt}
 use Rattle.dh_sql.specs.CellTests.{Cell}
 use Rattle.dh_sql.specs.Shape.{Shape}
-use Rattle.dh_sql.specs.Texts.{IsSelectText}
 use Rattle.dh_sql.proofs.Casting.{cast_int, pass_each, row_stays}
 use Rattle.dh_sql.proofs.Comparing.{texts_same}
 use Rattle.dh_tables.specs.declared.receipt.DepositsOfLease.{DepositsOfLease}
@@ -38,10 +35,10 @@ use Rattle.dh_tables.specs.declared.receipt.ReceiptKeyed.{ReceiptKeyed}
 use Rattle.dh_tables.specs.declared.receipt.ReceiptNumbered.{ReceiptNumbered}
 use Rattle.dh_tables.specs.declared.receipt.ReceiptsOfLease.{ReceiptsOfLease}
 use Rattle.dh_tables.specs.Cells.{is_number, is_text as text_is, number_from, pass_both, pass_one, read_as, rowid_column, same_number, same_text, text_that}
-use Rattle.dh_tables.specs.Commands.{insert_text, select_text, select_where, terms_from}
-use Rattle.dh_tables.specs.Listing.{IsListing, Listing}
-use Rattle.dh_tables.specs.Questions.{Asking, IsAsking}
-use Rattle.dh_tables.specs.Tables.{Adding, IsAdding, IsInsertOf, own_rowid}
+use Rattle.dh_tables.specs.Commands.{Named, rowid_first}
+use Rattle.dh_tables.specs.Listing.{IsListing, ListsRowids, ListsRows}
+use Rattle.dh_tables.specs.Questions.{IsQuestion, IsSelected, Question, asking_by}
+use Rattle.dh_tables.specs.Tables.{Adding, IsAdding, IsInsertOf, adding_to, own_rowid}
 
 -- the key is the rowid, and its own column holds NULL
 abbrev pub receipt_columns : Row → Row
@@ -55,92 +52,61 @@ receipt_cells =
 abbrev pub receipt_shape : Shape ℕ Receipt
 receipt_shape = record { tree = 20; columns = receipt_columns; is_row = is_receipt_row; row_in = receipt_in; key = λ r. r.number }
 
--- the columns
-abbrev pub receipt_names : List (List ℕ)
-receipt_names = codes "receipt_no" ∷ codes "req_key" ∷ codes "lease_no" ∷ codes "kind" ∷ codes "amount" ∷ codes "day" ∷ []
+-- its columns by their names
+abbrev pub receipt_named : Named
+receipt_named = rowid_first (codes "receipt") (codes "receipt_no")
+    (codes "req_key" ∷ codes "lease_no" ∷ codes "kind" ∷ codes "amount" ∷ codes "day" ∷ [])
 
 -- ---- adding a row
 
 abbrev pub receipt_adding : Adding Receipt
-receipt_adding = record {
-  text = insert_text (codes "receipt") receipt_names;
-  place = 11;
-  table = receipt;
-  terms = col 0 0 ∷ lit Null ∷ terms_from 0 1 (drop 1 receipt_names);
-  width = length receipt_names + 1;
-  source = own_rowid receipt_row;
-}
-
-inserts : (s : Schema) → HasSince First s → IsInsertOf receipt_row receipt_adding s
-unfolding understood everything
-inserts = of_both (IsInsertOf receipt_row receipt_adding)
-    (λ x. record { command = refl; plain = (refl, refl); listed = refl; is_uncounted = refl; value = refl })
-    (λ x. record { command = refl; plain = (refl, refl); listed = refl; is_uncounted = refl; value = refl })
-
-stays : (x : Receipt) → is_receipt_row (receipt_row x) ≡ true → cast_row receipt (receipt_adding.source x) ≡ receipt_adding.source x
-stays x good =
-    let cells = (pass_each receipt_cells true (receipt_row x) good).1 in
-    row_stays (rowid_column ∷ drop 1 receipt_cells) receipt (Int (pos x.number)) (drop 1 (receipt_adding.source x))
-    refl (cast_int (pos x.number)) (refl, cells.1)
+receipt_adding = adding_to receipt_named 11 receipt (own_rowid receipt_row)
 
 pub receipt_is_adding : IsAdding First receipt_shape receipt_row is_receipt_row receipt_adding
+unfolding understood everything
 receipt_is_adding = record {
   tree_is = refl;
   listed = refl;
-  inserts = inserts;
-  stays = stays;
+  inserts = of_both (IsInsertOf receipt_row receipt_adding)
+      (λ x. record { command = refl; plain = (refl, refl); listed = refl; is_uncounted = refl; value = refl })
+      (λ x. record { command = refl; plain = (refl, refl); listed = refl; is_uncounted = refl; value = refl });
+  stays = λ x good.
+      let cells = (pass_each receipt_cells true (receipt_row x) good).1 in
+      row_stays (rowid_column ∷ drop 1 receipt_cells) receipt (Int (pos x.number)) (drop 1 (receipt_adding.source x))
+      refl (cast_int (pos x.number)) (refl, cells.1);
   columns = λ x rows. refl;
   keyed = λ x rows. refl;
 }
 
--- ---- what the texts show
-
-abbrev pub receipt_project : List Term
-receipt_project = col 1 0 ∷ terms_from 1 2 (drop 1 receipt_names)
-
 -- ---- the whole table
 
-abbrev pub receipt_listing : Listing
-receipt_listing = record {
-  text = select_text (codes "receipt") receipt_names;
-  project = receipt_project;
-  names = receipt_names;
-  rowid_text = select_text (codes "receipt") (codes "rowid" ∷ []);
-  rowid_name = codes "receipt_no";
-}
-
-pub receipt_is_listing : IsListing First 20 receipt_columns receipt_listing
+pub receipt_is_listing : IsListing First 20 receipt_columns receipt_named
 unfolding understood everything
 receipt_is_listing = record {
-  selects = of_both (λ s. IsSelectText receipt_listing.text s 20 [] receipt_listing.project [] receipt_listing.names)
+  selects = of_both (ListsRows 20 receipt_named)
       (record { command = refl; unlisted = refl; plain = (refl, refl); stored = λ db. refl })
       (record { command = refl; unlisted = refl; plain = (refl, refl); stored = λ db. refl });
   shows_columns = λ r. refl;
-  selects_rowid = of_both (λ s. IsSelectText receipt_listing.rowid_text s 20 [] (col 1 0 ∷ []) [] (receipt_listing.rowid_name ∷ []))
+  selects_rowid = of_both (ListsRowids 20 receipt_named)
       (record { command = refl; unlisted = refl; plain = (refl, refl); stored = λ db. refl })
       (record { command = refl; unlisted = refl; plain = (refl, refl); stored = λ db. refl });
 }
 
 -- ---- the receipt with a number
 
-abbrev pub receipt_numbered : Asking
+abbrev pub receipt_numbered : Question ReceiptNumbered Receipt
 receipt_numbered = record {
-  text = select_where (codes "receipt") receipt_names (codes "receipt_no" ∷ []);
-  tests = op2 (Compare Eq Binary) (col 1 0) (col 0 0) ∷ [];
-  project = receipt_project;
-  names = receipt_names;
+  asking = asking_by receipt_named (codes "receipt_no" ∷ []) (0 ∷ []);
+  given = λ q. Int (pos q.number) ∷ [];
+  asks = λ q r. nat_eq r.number q.number;
 }
 
-receipt_numbered_selects : (s : Schema) → HasSince First s → IsSelectText receipt_numbered.text s 20 receipt_numbered.tests receipt_project [] receipt_names
+pub receipt_numbered_is : IsQuestion First receipt_shape receipt_numbered
 unfolding understood everything
-receipt_numbered_selects = of_both (λ s. IsSelectText receipt_numbered.text s 20 receipt_numbered.tests receipt_project [] receipt_names)
-    (record { command = refl; unlisted = refl; plain = (refl, refl); stored = λ db. refl })
-    (record { command = refl; unlisted = refl; plain = (refl, refl); stored = λ db. refl })
-
-pub receipt_numbered_is : IsAsking First receipt_shape receipt_numbered
-    (λ (q : ReceiptNumbered). Unit {0}) (λ q. Int (pos q.number) ∷ []) (λ q r. nat_eq r.number q.number)
 receipt_numbered_is = record {
-  selects = receipt_numbered_selects;
+  selects = of_both (IsSelected 20 receipt_numbered.asking)
+      (record { command = refl; unlisted = refl; plain = (refl, refl); stored = λ db. refl })
+      (record { command = refl; unlisted = refl; plain = (refl, refl); stored = λ db. refl });
   shows_columns = λ q r. refl;
   passes = λ q r known good.
       let cells = (pass_each receipt_cells true (receipt_columns r) good).1 in
@@ -149,23 +115,19 @@ receipt_numbered_is = record {
 
 -- ---- the receipt with a request key
 
-abbrev pub receipt_keyed : Asking
+abbrev pub receipt_keyed : Question ReceiptKeyed Receipt
 receipt_keyed = record {
-  text = select_where (codes "receipt") receipt_names (codes "req_key" ∷ []);
-  tests = op2 (Compare Eq Binary) (col 1 2) (col 0 0) ∷ [];
-  project = receipt_project;
-  names = receipt_names;
+  asking = asking_by receipt_named (codes "req_key" ∷ []) (2 ∷ []);
+  given = λ q. Text q.key ∷ [];
+  asks = λ q r. is_same_text r.key q.key;
 }
 
-receipt_keyed_selects : (s : Schema) → HasSince First s → IsSelectText receipt_keyed.text s 20 receipt_keyed.tests receipt_project [] receipt_names
+pub receipt_keyed_is : IsQuestion First receipt_shape receipt_keyed
 unfolding understood everything
-receipt_keyed_selects = of_both (λ s. IsSelectText receipt_keyed.text s 20 receipt_keyed.tests receipt_project [] receipt_names)
-    (record { command = refl; unlisted = refl; plain = (refl, refl); stored = λ db. refl })
-    (record { command = refl; unlisted = refl; plain = (refl, refl); stored = λ db. refl })
-
-pub receipt_keyed_is : IsAsking First receipt_shape receipt_keyed (λ (q : ReceiptKeyed). Unit {0}) (λ q. Text q.key ∷ []) (λ q r. is_same_text r.key q.key)
 receipt_keyed_is = record {
-  selects = receipt_keyed_selects;
+  selects = of_both (IsSelected 20 receipt_keyed.asking)
+      (record { command = refl; unlisted = refl; plain = (refl, refl); stored = λ db. refl })
+      (record { command = refl; unlisted = refl; plain = (refl, refl); stored = λ db. refl });
   shows_columns = λ q r. refl;
   passes = λ q r known good.
       let cells = (pass_each receipt_cells true (receipt_columns r) good).1 in
@@ -174,24 +136,19 @@ receipt_keyed_is = record {
 
 -- ---- the receipts of a lease
 
-abbrev pub receipts_of_lease : Asking
+abbrev pub receipts_of_lease : Question ReceiptsOfLease Receipt
 receipts_of_lease = record {
-  text = select_where (codes "receipt") receipt_names (codes "lease_no" ∷ []);
-  tests = op2 (Compare Eq Binary) (col 1 3) (col 0 0) ∷ [];
-  project = receipt_project;
-  names = receipt_names;
+  asking = asking_by receipt_named (codes "lease_no" ∷ []) (3 ∷ []);
+  given = λ q. Int (pos q.lease) ∷ [];
+  asks = λ q r. nat_eq r.payment.lease q.lease;
 }
 
-receipts_of_lease_selects : (s : Schema) → HasSince First s → IsSelectText receipts_of_lease.text s 20 receipts_of_lease.tests receipt_project [] receipt_names
+pub receipts_of_lease_is : IsQuestion First receipt_shape receipts_of_lease
 unfolding understood everything
-receipts_of_lease_selects = of_both (λ s. IsSelectText receipts_of_lease.text s 20 receipts_of_lease.tests receipt_project [] receipt_names)
-    (record { command = refl; unlisted = refl; plain = (refl, refl); stored = λ db. refl })
-    (record { command = refl; unlisted = refl; plain = (refl, refl); stored = λ db. refl })
-
-pub receipts_of_lease_is : IsAsking First receipt_shape receipts_of_lease
-    (λ (q : ReceiptsOfLease). Unit {0}) (λ q. Int (pos q.lease) ∷ []) (λ q r. nat_eq r.payment.lease q.lease)
 receipts_of_lease_is = record {
-  selects = receipts_of_lease_selects;
+  selects = of_both (IsSelected 20 receipts_of_lease.asking)
+      (record { command = refl; unlisted = refl; plain = (refl, refl); stored = λ db. refl })
+      (record { command = refl; unlisted = refl; plain = (refl, refl); stored = λ db. refl });
   shows_columns = λ q r. refl;
   passes = λ q r known good.
       let cells = (pass_each receipt_cells true (receipt_columns r) good).1 in
@@ -200,19 +157,17 @@ receipts_of_lease_is = record {
 
 -- ---- the deposits of a lease
 
-abbrev pub deposits_of_lease : Asking
+abbrev pub deposits_of_lease : Question DepositsOfLease Receipt
 deposits_of_lease = record {
-  text = select_where (codes "receipt") receipt_names (codes "lease_no" ∷ []) ++ codes " AND kind = 'deposit'";
-  tests = op2 (Compare Eq Binary) (col 1 3) (col 0 0) ∷ op2 (Compare Eq Binary) (col 1 4) (lit (Text (codes "deposit"))) ∷ [];
-  project = receipt_project;
-  names = receipt_names;
+  asking = record {
+    text = receipts_of_lease.asking.text ++ codes " AND kind = 'deposit'";
+    tests = receipts_of_lease.asking.tests ++ op2 (Compare Eq Binary) (col 1 4) (lit (Text (codes "deposit"))) ∷ [];
+    project = receipt_named.shown;
+    names = receipt_named.names;
+  };
+  given = λ q. Int (pos q.lease) ∷ [];
+  asks = λ q r. nat_eq r.payment.lease q.lease && is_same_receipt_kind r.payment.kind Deposit;
 }
-
-deposits_of_lease_selects : (s : Schema) → HasSince First s → IsSelectText deposits_of_lease.text s 20 deposits_of_lease.tests receipt_project [] receipt_names
-unfolding understood everything
-deposits_of_lease_selects = of_both (λ s. IsSelectText deposits_of_lease.text s 20 deposits_of_lease.tests receipt_project [] receipt_names)
-    (record { command = refl; unlisted = refl; plain = (refl, refl); stored = λ db. refl })
-    (record { command = refl; unlisted = refl; plain = (refl, refl); stored = λ db. refl })
 
 -- the name of a kind is that of the deposit where the kind is
 named_deposit : (t : List ℕ) → is_some (receipt_kind_of t) ≡ true
@@ -240,10 +195,12 @@ same_deposit (Int n) good = cc
 same_deposit (Real x) good = cc
 same_deposit (Blob b) good = cc
 
-pub deposits_of_lease_is : IsAsking First receipt_shape deposits_of_lease (λ (q : DepositsOfLease). Unit {0}) (λ q. Int (pos q.lease) ∷ [])
-    (λ q r. nat_eq r.payment.lease q.lease && is_same_receipt_kind r.payment.kind Deposit)
+pub deposits_of_lease_is : IsQuestion First receipt_shape deposits_of_lease
+unfolding understood everything
 deposits_of_lease_is = record {
-  selects = deposits_of_lease_selects;
+  selects = of_both (IsSelected 20 deposits_of_lease.asking)
+      (record { command = refl; unlisted = refl; plain = (refl, refl); stored = λ db. refl })
+      (record { command = refl; unlisted = refl; plain = (refl, refl); stored = λ db. refl });
   shows_columns = λ q r. refl;
   passes = λ q r known good.
       let cells = (pass_each receipt_cells true (receipt_columns r) good).1 in

@@ -1,11 +1,7 @@
 -- The table registration.
-use Rattle.std.specs.Prelude.{refl, ℕ, List, [], ◌∷◌, codes, true, ◌&&◌, length, ◌+◌}
+use Rattle.std.specs.Prelude.{refl, ℕ, List, [], ◌∷◌, codes, true, ◌&&◌}
 use Rattle.sqlite_value.specs.declared.value.Value.TheVariants.{Null, Text}
-use Rattle.sqlite_value.specs.declared.keys.Collation.TheVariants.{Binary}
 use Rattle.sqlite_value.specs.Order.{Row, column}
-use Rattle.sqlite_sql.specs.declared.ops.BinaryOp.TheVariants.{Compare}
-use Rattle.sqlite_sql.specs.declared.ops.CompareOp.TheVariants.{Eq}
-use Rattle.sqlite_sql.specs.Term.{Term, lit, col, op2}
 use Rattle.sqlite_tied.specs.Compute.{everything}
 use Rattle.sqlite.specs.Listing.{understood}
 use Rattle.dh_values.specs.Texts.{is_id}
@@ -13,20 +9,18 @@ use Rattle.dh_days.specs.Days.{day_of}
 use Rattle.dh_types.specs.declared.client.Registration.{Registration}
 use Rattle.dh_model.specs.Checks.{is_same_text}
 use Rattle.dh_rows.specs.RegistrationRows.{registration_in, registration_row, is_registration_row}
-use Rattle.sqlite_schema.specs.declared.schema.Schema.{Schema}
 use Rattle.dh_types.specs.declared.version.Version.TheVariants.{First}
-use Rattle.dh_catalog.specs.Versions.{HasSince, of_both}
+use Rattle.dh_catalog.specs.Versions.{of_both}
 use Rattle.dh_catalog.specs.RegistrationTable.{registration}
 use Rattle.dh_sql.specs.CellTests.{Cell}
 use Rattle.dh_sql.specs.Shape.{Shape}
-use Rattle.dh_sql.specs.Texts.{IsSelectText}
 use Rattle.dh_sql.proofs.Casting.{cast_null, pass_each, row_stays}
 use Rattle.dh_tables.specs.declared.registration.RegistrationAt.{RegistrationAt}
 use Rattle.dh_tables.specs.Cells.{is_text as text_is, pass_both, read_as, same_text, text_that}
-use Rattle.dh_tables.specs.Commands.{insert_text, select_text, select_where, terms_from}
-use Rattle.dh_tables.specs.Listing.{IsListing, Listing}
-use Rattle.dh_tables.specs.Questions.{Asking, IsAsking}
-use Rattle.dh_tables.specs.Tables.{Adding, IsAdding, IsInsertOf, without_rowid}
+use Rattle.dh_tables.specs.Commands.{Named, rowid_apart}
+use Rattle.dh_tables.specs.Listing.{IsListing, ListsRowids, ListsRows}
+use Rattle.dh_tables.specs.Questions.{IsQuestion, IsSelected, Question, asking_by}
+use Rattle.dh_tables.specs.Tables.{Adding, IsAdding, IsInsertOf, adding_to, without_rowid}
 
 abbrev pub registration_columns : Row → Row
 registration_columns row = column row 1 ∷ column row 2 ∷ column row 3 ∷ column row 4 ∷ []
@@ -43,89 +37,58 @@ registration_shape = record {
   key = λ r. (r.client, r.branch);
 }
 
--- the columns
-abbrev pub registration_names : List (List ℕ)
-registration_names = codes "client_no" ∷ codes "branch_no" ∷ codes "staff_no" ∷ codes "day" ∷ []
+-- its columns by their names
+abbrev pub registration_named : Named
+registration_named = rowid_apart (codes "registration") (codes "client_no" ∷ codes "branch_no" ∷ codes "staff_no" ∷ codes "day" ∷ [])
 
 -- ---- adding a row
 
 abbrev pub registration_adding : Adding Registration
-registration_adding = record {
-  text = insert_text (codes "registration") registration_names;
-  place = 6;
-  table = registration;
-  terms = lit Null ∷ terms_from 0 0 registration_names;
-  width = length registration_names + 1;
-  source = without_rowid registration_row;
-}
-
-inserts : (s : Schema) → HasSince First s → IsInsertOf registration_row registration_adding s
-unfolding understood everything
-inserts = of_both (IsInsertOf registration_row registration_adding)
-    (λ x. record { command = refl; plain = (refl, refl); listed = refl; is_uncounted = refl; value = refl })
-    (λ x. record { command = refl; plain = (refl, refl); listed = refl; is_uncounted = refl; value = refl })
+registration_adding = adding_to registration_named 6 registration (without_rowid registration_row)
 
 pub registration_is_adding : IsAdding First registration_shape registration_row is_registration_row registration_adding
+unfolding understood everything
 registration_is_adding = record {
   tree_is = refl;
   listed = refl;
-  inserts = inserts;
+  inserts = of_both (IsInsertOf registration_row registration_adding)
+      (λ x. record { command = refl; plain = (refl, refl); listed = refl; is_uncounted = refl; value = refl })
+      (λ x. record { command = refl; plain = (refl, refl); listed = refl; is_uncounted = refl; value = refl });
   stays = λ x good.
       row_stays registration_cells registration Null (registration_row x) refl cast_null (pass_each registration_cells true (registration_row x) good).1;
   columns = λ x rows. refl;
   keyed = λ x rows. refl;
 }
 
--- ---- what the texts show
-
-abbrev registration_project : List Term
-registration_project = terms_from 1 1 registration_names
-
 -- ---- the whole table
 
-abbrev pub registration_listing : Listing
-registration_listing = record {
-  text = select_text (codes "registration") registration_names;
-  project = registration_project;
-  names = registration_names;
-  rowid_text = select_text (codes "registration") (codes "rowid" ∷ []);
-  rowid_name = codes "rowid";
-}
-
-pub registration_is_listing : IsListing First 11 registration_columns registration_listing
+pub registration_is_listing : IsListing First 11 registration_columns registration_named
 unfolding understood everything
 registration_is_listing = record {
-  selects = of_both (λ s. IsSelectText registration_listing.text s 11 [] registration_listing.project [] registration_listing.names)
+  selects = of_both (ListsRows 11 registration_named)
       (record { command = refl; unlisted = refl; plain = (refl, refl); stored = λ db. refl })
       (record { command = refl; unlisted = refl; plain = (refl, refl); stored = λ db. refl });
   shows_columns = λ r. refl;
-  selects_rowid = of_both (λ s. IsSelectText registration_listing.rowid_text s 11 [] (col 1 0 ∷ []) [] (registration_listing.rowid_name ∷ []))
+  selects_rowid = of_both (ListsRowids 11 registration_named)
       (record { command = refl; unlisted = refl; plain = (refl, refl); stored = λ db. refl })
       (record { command = refl; unlisted = refl; plain = (refl, refl); stored = λ db. refl });
 }
 
 -- ---- the registration of a client at a branch
 
-abbrev pub registration_at : Asking
+abbrev pub registration_at : Question RegistrationAt Registration
 registration_at = record {
-  text = select_where (codes "registration") registration_names (codes "client_no" ∷ codes "branch_no" ∷ []);
-  tests = op2 (Compare Eq Binary) (col 1 1) (col 0 0) ∷ op2 (Compare Eq Binary) (col 1 2) (col 0 1) ∷ [];
-  project = registration_project;
-  names = registration_names;
+  asking = asking_by registration_named (codes "client_no" ∷ codes "branch_no" ∷ []) (1 ∷ 2 ∷ []);
+  given = λ q. Text q.client ∷ Text q.branch ∷ [];
+  asks = λ q r. is_same_text r.client q.client && is_same_text r.branch q.branch;
 }
 
-registration_at_selects : (s : Schema) → HasSince First s
-    → IsSelectText registration_at.text s 11 registration_at.tests registration_project [] registration_names
+pub registration_at_is : IsQuestion First registration_shape registration_at
 unfolding understood everything
-registration_at_selects = of_both (λ s. IsSelectText registration_at.text s 11 registration_at.tests registration_project [] registration_names)
-    (record { command = refl; unlisted = refl; plain = (refl, refl); stored = λ db. refl })
-    (record { command = refl; unlisted = refl; plain = (refl, refl); stored = λ db. refl })
-
-pub registration_at_is : IsAsking First registration_shape registration_at
-    (λ (q : RegistrationAt). Unit {0}) (λ q. Text q.client ∷ Text q.branch ∷ [])
-    (λ q r. is_same_text r.client q.client && is_same_text r.branch q.branch)
 registration_at_is = record {
-  selects = registration_at_selects;
+  selects = of_both (IsSelected 11 registration_at.asking)
+      (record { command = refl; unlisted = refl; plain = (refl, refl); stored = λ db. refl })
+      (record { command = refl; unlisted = refl; plain = (refl, refl); stored = λ db. refl });
   shows_columns = λ q r. refl;
   passes = λ q r known good.
       let cells = (pass_each registration_cells true (registration_columns r) good).1 in

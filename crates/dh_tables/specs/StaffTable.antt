@@ -1,11 +1,7 @@
 -- The table staff.
-use Rattle.std.specs.Prelude.{refl, ℕ, List, [], ◌∷◌, codes, true, length, ◌+◌}
+use Rattle.std.specs.Prelude.{refl, ℕ, List, [], ◌∷◌, codes, true}
 use Rattle.sqlite_value.specs.declared.value.Value.TheVariants.{Null, Text}
-use Rattle.sqlite_value.specs.declared.keys.Collation.TheVariants.{Binary}
 use Rattle.sqlite_value.specs.Order.{Row, column}
-use Rattle.sqlite_sql.specs.declared.ops.BinaryOp.TheVariants.{Compare}
-use Rattle.sqlite_sql.specs.declared.ops.CompareOp.TheVariants.{Eq}
-use Rattle.sqlite_sql.specs.Term.{Term, lit, col, op2}
 use Rattle.sqlite_tied.specs.Compute.{everything}
 use Rattle.sqlite.specs.Listing.{understood}
 use Rattle.dh_values.specs.Texts.{is_id, is_text}
@@ -13,20 +9,18 @@ use Rattle.dh_values.specs.Kinds.{position_of}
 use Rattle.dh_types.specs.declared.staff.Staff.{Staff}
 use Rattle.dh_model.specs.Checks.{is_same_text}
 use Rattle.dh_rows.specs.StaffRows.{staff_in, staff_row, is_staff_row}
-use Rattle.sqlite_schema.specs.declared.schema.Schema.{Schema}
 use Rattle.dh_types.specs.declared.version.Version.TheVariants.{First}
-use Rattle.dh_catalog.specs.Versions.{HasSince, of_both}
+use Rattle.dh_catalog.specs.Versions.{of_both}
 use Rattle.dh_catalog.specs.StaffTable.{staff}
 use Rattle.dh_sql.specs.CellTests.{Cell}
 use Rattle.dh_sql.specs.Shape.{Shape}
-use Rattle.dh_sql.specs.Texts.{IsSelectText}
 use Rattle.dh_sql.proofs.Casting.{cast_null, pass_each, row_stays}
 use Rattle.dh_tables.specs.declared.staff.MemberNumbered.{MemberNumbered}
 use Rattle.dh_tables.specs.Cells.{is_text as text_is, pass_one, read_as, same_text, text_that}
-use Rattle.dh_tables.specs.Commands.{insert_text, select_text, select_where, terms_from}
-use Rattle.dh_tables.specs.Listing.{IsListing, Listing}
-use Rattle.dh_tables.specs.Questions.{Asking, IsAsking}
-use Rattle.dh_tables.specs.Tables.{Adding, IsAdding, IsInsertOf, without_rowid}
+use Rattle.dh_tables.specs.Commands.{Named, rowid_apart}
+use Rattle.dh_tables.specs.Listing.{IsListing, ListsRowids, ListsRows}
+use Rattle.dh_tables.specs.Questions.{IsQuestion, IsSelected, Question, asking_by}
+use Rattle.dh_tables.specs.Tables.{Adding, IsAdding, IsInsertOf, adding_to, without_rowid}
 
 abbrev pub staff_columns : Row → Row
 staff_columns row = column row 1 ∷ column row 2 ∷ column row 3 ∷ column row 4 ∷ []
@@ -37,86 +31,57 @@ staff_cells = text_that is_id ∷ text_that (is_text 60) ∷ read_as position_of
 abbrev pub staff_shape : Shape (List ℕ) Staff
 staff_shape = record { tree = 3; columns = staff_columns; is_row = is_staff_row; row_in = staff_in; key = λ s. s.number }
 
--- the columns
-abbrev pub staff_names : List (List ℕ)
-staff_names = codes "staff_no" ∷ codes "name" ∷ codes "position" ∷ codes "branch_no" ∷ []
+-- its columns by their names
+abbrev pub staff_named : Named
+staff_named = rowid_apart (codes "staff") (codes "staff_no" ∷ codes "name" ∷ codes "position" ∷ codes "branch_no" ∷ [])
 
 -- ---- adding a row
 
 abbrev pub staff_adding : Adding Staff
-staff_adding = record {
-  text = insert_text (codes "staff") staff_names;
-  place = 2;
-  table = staff;
-  terms = lit Null ∷ terms_from 0 0 staff_names;
-  width = length staff_names + 1;
-  source = without_rowid staff_row;
-}
-
-inserts : (s : Schema) → HasSince First s → IsInsertOf staff_row staff_adding s
-unfolding understood everything
-inserts = of_both (IsInsertOf staff_row staff_adding)
-    (λ x. record { command = refl; plain = (refl, refl); listed = refl; is_uncounted = refl; value = refl })
-    (λ x. record { command = refl; plain = (refl, refl); listed = refl; is_uncounted = refl; value = refl })
+staff_adding = adding_to staff_named 2 staff (without_rowid staff_row)
 
 pub staff_is_adding : IsAdding First staff_shape staff_row is_staff_row staff_adding
+unfolding understood everything
 staff_is_adding = record {
   tree_is = refl;
   listed = refl;
-  inserts = inserts;
+  inserts = of_both (IsInsertOf staff_row staff_adding)
+      (λ x. record { command = refl; plain = (refl, refl); listed = refl; is_uncounted = refl; value = refl })
+      (λ x. record { command = refl; plain = (refl, refl); listed = refl; is_uncounted = refl; value = refl });
   stays = λ x good. row_stays staff_cells staff Null (staff_row x) refl cast_null (pass_each staff_cells true (staff_row x) good).1;
   columns = λ x rows. refl;
   keyed = λ x rows. refl;
 }
 
--- ---- what the texts show
-
-abbrev staff_project : List Term
-staff_project = terms_from 1 1 staff_names
-
 -- ---- the whole table
 
-abbrev pub staff_listing : Listing
-staff_listing = record {
-  text = select_text (codes "staff") staff_names;
-  project = staff_project;
-  names = staff_names;
-  rowid_text = select_text (codes "staff") (codes "rowid" ∷ []);
-  rowid_name = codes "rowid";
-}
-
-pub staff_is_listing : IsListing First 3 staff_columns staff_listing
+pub staff_is_listing : IsListing First 3 staff_columns staff_named
 unfolding understood everything
 staff_is_listing = record {
-  selects = of_both (λ s. IsSelectText staff_listing.text s 3 [] staff_listing.project [] staff_listing.names)
+  selects = of_both (ListsRows 3 staff_named)
       (record { command = refl; unlisted = refl; plain = (refl, refl); stored = λ db. refl })
       (record { command = refl; unlisted = refl; plain = (refl, refl); stored = λ db. refl });
   shows_columns = λ r. refl;
-  selects_rowid = of_both (λ s. IsSelectText staff_listing.rowid_text s 3 [] (col 1 0 ∷ []) [] (staff_listing.rowid_name ∷ []))
+  selects_rowid = of_both (ListsRowids 3 staff_named)
       (record { command = refl; unlisted = refl; plain = (refl, refl); stored = λ db. refl })
       (record { command = refl; unlisted = refl; plain = (refl, refl); stored = λ db. refl });
 }
 
 -- ---- the member of staff with a number
 
-abbrev pub member_numbered : Asking
+abbrev pub member_numbered : Question MemberNumbered Staff
 member_numbered = record {
-  text = select_where (codes "staff") staff_names (codes "staff_no" ∷ []);
-  tests = op2 (Compare Eq Binary) (col 1 1) (col 0 0) ∷ [];
-  project = staff_project;
-  names = staff_names;
+  asking = asking_by staff_named (codes "staff_no" ∷ []) (1 ∷ []);
+  given = λ q. Text q.number ∷ [];
+  asks = λ q s. is_same_text s.number q.number;
 }
 
-member_numbered_selects : (s : Schema) → HasSince First s → IsSelectText member_numbered.text s 3 member_numbered.tests staff_project [] staff_names
+pub member_numbered_is : IsQuestion First staff_shape member_numbered
 unfolding understood everything
-member_numbered_selects = of_both (λ s. IsSelectText member_numbered.text s 3 member_numbered.tests staff_project [] staff_names)
-    (record { command = refl; unlisted = refl; plain = (refl, refl); stored = λ db. refl })
-    (record { command = refl; unlisted = refl; plain = (refl, refl); stored = λ db. refl })
-
-pub member_numbered_is : IsAsking First staff_shape member_numbered
-    (λ (q : MemberNumbered). Unit {0}) (λ q. Text q.number ∷ []) (λ q s. is_same_text s.number q.number)
 member_numbered_is = record {
-  selects = member_numbered_selects;
+  selects = of_both (IsSelected 3 member_numbered.asking)
+      (record { command = refl; unlisted = refl; plain = (refl, refl); stored = λ db. refl })
+      (record { command = refl; unlisted = refl; plain = (refl, refl); stored = λ db. refl });
   shows_columns = λ q r. refl;
   passes = λ q r known good.
       let cells = (pass_each staff_cells true (staff_columns r) good).1 in

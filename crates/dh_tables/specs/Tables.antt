@@ -1,5 +1,5 @@
 -- What a kind of record has to have for a table of its own.
-use Rattle.std.specs.Prelude.{◌≡◌, ℕ, Bool, true, List, ◌∷◌, ◌++◌, take, drop, Some, slice_get}
+use Rattle.std.specs.Prelude.{◌≡◌, ℕ, Bool, true, List, ◌∷◌, ◌++◌, ◌+◌, length, take, drop, Some, slice_get}
 use Rattle.std.specs.declared.cmp.Ordering.{Ordering}
 use Rattle.std.specs.FinMap.{FinMap}
 use Rattle.sqlite_value.specs.declared.value.Value.TheVariants.{Null}
@@ -18,6 +18,7 @@ use Rattle.dh_types.specs.declared.version.Version.{Version}
 use Rattle.dh_catalog.specs.Versions.{HasSince}
 use Rattle.dh_sql.specs.Shape.{Shape}
 use Rattle.dh_sql.specs.Texts.{IsInsertText}
+use Rattle.dh_tables.specs.Commands.{Named, insert_text}
 
 -- where the books have the records of one kind, and the books with others
 pub record Shelf (K X : Type 0) (R : K → K → Ordering) : Type 0 where
@@ -44,6 +45,17 @@ without_rowid row x = Null ∷ row x
 -- the row of one whose key is: its own column holds NULL
 abbrev pub own_rowid : {X : Type 0} → (X → Row) → X → Row
 own_rowid row x = take 1 (row x) ++ Null ∷ drop 1 (row x)
+
+-- the text for a table of these columns
+abbrev pub adding_to : {X : Type 0} → Named → ℕ → Table → (X → Row) → Adding X
+adding_to columns place table source = record {
+  text = insert_text columns.table columns.names;
+  place = place;
+  table = table;
+  terms = columns.put;
+  width = length columns.names + 1;
+  source = source;
+}
 
 -- under this schema the text adds the row of each record
 abbrev pub IsInsertOf : {X : Type 0} → (X → Row) → Adding X → Schema → Type 0

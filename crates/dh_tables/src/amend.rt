@@ -2,7 +2,6 @@
 
 ghost use Rattle.std.specs.Prelude.{◌≡◌, true, IfOk, OnOk, OnErr, Some};
 ghost use Rattle.std.specs.FinMap as fin;
-ghost use Rattle.sqlite_value.specs.Order.{Row as SqlRow};
 ghost use Rattle.sqlite.specs.Values.{bound};
 ghost use Rattle.sqlite.specs.State.{HasCleanDisk, Shows};
 ghost use Rattle.sqlite.specs.Held.{state};
@@ -27,9 +26,7 @@ pub trait Amend {
     ghost amended: { Self → Self.Record → Self.Record };
 
     /// The text, and its parameters.
-    ghost amending: { Amending };
-
-    ghost given: { Self → SqlRow };
+    ghost amending: { Amending Self };
 
     /// What the type of the change tells of its values.
     ghost can_amend: { Self → Type 0 } = { λ _. Unit {0} };
@@ -40,10 +37,10 @@ pub trait Amend {
 
     /// The parameters.
     fn params(&self, alloc: Global) -> Result<Vec<ValueRef<'_>>, AllocError>
-        ensures values { IfOk result (λ values. bound values.items ≡ given self.now) }
+        ensures values { IfOk result (λ values. bound values.items ≡ amending.given self.now) }
         ensures known { IfOk result (λ _. can_amend self.now) };
 
-    ghost is_amending: { IsAmending Self.Record.since Self.Record.shape amending can_amend given key amended };
+    ghost is_amending: { IsAmending Self.Record.since Self.Record.shape amending can_amend key amended };
 }
 
 /// Changes the record that has the key, which is there. An error has changed nothing or ended the

@@ -1,6 +1,6 @@
 //! Branches in their table.
 
-use crate::{Listed, Look, Tabled};
+use crate::{Listed, PlainLook, Tabled};
 use dh_books::Books;
 use dh_types::{Branch, Id, Version};
 use sqlite::types::ValueRef;
@@ -56,9 +56,9 @@ impl Tabled for Branch {
 }
 
 impl Listed for Branch {
-    ghost use Rattle.dh_tables.specs.BranchTable.{branch_listing, branch_is_listing};
+    ghost use Rattle.dh_tables.specs.BranchTable.{branch_named, branch_is_listing};
 
-    ghost listing = { branch_listing };
+    ghost named = { branch_named };
 
     fn list_text() -> &'static str {
         of_branch!("SELECT ", " FROM branch")
@@ -81,35 +81,20 @@ pub struct BranchNumbered {
     pub number: Id,
 }
 
-impl Look for BranchNumbered {
-    ghost use Rattle.std.specs.Prelude.{◌∷◌, []};
-    ghost use Rattle.sqlite_value.specs.declared.value.Value.TheVariants.{Text};
-    ghost use Rattle.dh_model.specs.Checks.{is_same_text};
+impl PlainLook for BranchNumbered {
     ghost use Rattle.dh_tables.specs.BranchTable.{branch_numbered, branch_is_numbered};
 
     type Record = Branch;
 
-    ghost asks = { λ q b. is_same_text b.number q.number };
+    ghost question = { branch_numbered };
 
-    ghost asking = { branch_numbered };
-
-    ghost given = { λ q. Text q.number ∷ [] };
-
-    fn text() -> &'static str {
+    fn asked_text() -> &'static str {
         of_branch!("SELECT ", " FROM branch WHERE branch_no = ?1")
     }
 
-    fn day_bytes(&self, alloc: Global) -> Result<Vec<u8>, AllocError> {
-        Ok(Vec::new(alloc))
-    }
-
-    fn params<'a>(
-        &'a self,
-        alloc: Global,
-        _day: &'a [u8],
-    ) -> Result<Vec<ValueRef<'a>>, AllocError> {
+    fn values(&self, alloc: Global) -> Result<Vec<ValueRef<'_>>, AllocError> {
         [ValueRef::Text(self.number.as_str().as_bytes())].to_vec(alloc)
     }
 
-    ghost is_asking = { branch_is_numbered };
+    ghost is_question = { branch_is_numbered };
 }

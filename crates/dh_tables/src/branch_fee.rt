@@ -1,6 +1,6 @@
 //! Fees of branches in their table.
 
-use crate::{Listed, Look, Tabled};
+use crate::{Listed, PlainLook, Tabled};
 use dh_books::Books;
 use dh_types::{BranchFee, Id, Version};
 use sqlite::types::ValueRef;
@@ -56,9 +56,9 @@ impl Tabled for BranchFee {
 }
 
 impl Listed for BranchFee {
-    ghost use Rattle.dh_tables.specs.BranchFeeTable.{branch_fee_listing, branch_fee_is_listing};
+    ghost use Rattle.dh_tables.specs.BranchFeeTable.{branch_fee_named, branch_fee_is_listing};
 
-    ghost listing = { branch_fee_listing };
+    ghost named = { branch_fee_named };
 
     fn list_text() -> &'static str {
         of_branch_fee!("SELECT ", " FROM branch_fee")
@@ -81,35 +81,20 @@ pub struct FeeOfBranch {
     pub branch: Id,
 }
 
-impl Look for FeeOfBranch {
-    ghost use Rattle.std.specs.Prelude.{◌∷◌, []};
-    ghost use Rattle.sqlite_value.specs.declared.value.Value.TheVariants.{Text};
-    ghost use Rattle.dh_model.specs.Checks.{is_same_text};
+impl PlainLook for FeeOfBranch {
     ghost use Rattle.dh_tables.specs.BranchFeeTable.{fee_of_branch, fee_of_branch_is};
 
     type Record = BranchFee;
 
-    ghost asks = { λ q it. is_same_text it.branch q.branch };
+    ghost question = { fee_of_branch };
 
-    ghost asking = { fee_of_branch };
-
-    ghost given = { λ q. Text q.branch ∷ [] };
-
-    fn text() -> &'static str {
+    fn asked_text() -> &'static str {
         of_branch_fee!("SELECT ", " FROM branch_fee WHERE branch_no = ?1")
     }
 
-    fn day_bytes(&self, alloc: Global) -> Result<Vec<u8>, AllocError> {
-        Ok(Vec::new(alloc))
-    }
-
-    fn params<'a>(
-        &'a self,
-        alloc: Global,
-        _day: &'a [u8],
-    ) -> Result<Vec<ValueRef<'a>>, AllocError> {
+    fn values(&self, alloc: Global) -> Result<Vec<ValueRef<'_>>, AllocError> {
         [ValueRef::Text(self.branch.as_str().as_bytes())].to_vec(alloc)
     }
 
-    ghost is_asking = { fee_of_branch_is };
+    ghost is_question = { fee_of_branch_is };
 }

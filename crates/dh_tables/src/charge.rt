@@ -1,6 +1,6 @@
 //! Charges in their table.
 
-use crate::{Listed, Look, Tabled};
+use crate::{Listed, PlainLook, Tabled};
 use dh_books::Books;
 use dh_types::{Charge, ChargeIndex, LeaseNo, Version};
 use sqlite::types::ValueRef;
@@ -57,9 +57,9 @@ impl Tabled for Charge {
 }
 
 impl Listed for Charge {
-    ghost use Rattle.dh_tables.specs.ChargeTable.{charge_listing, charge_is_listing};
+    ghost use Rattle.dh_tables.specs.ChargeTable.{charge_named, charge_is_listing};
 
-    ghost listing = { charge_listing };
+    ghost named = { charge_named };
 
     fn list_text() -> &'static str {
         of_charge!("SELECT ", " FROM charge")
@@ -83,32 +83,18 @@ pub struct ChargeOf {
     pub index: ChargeIndex,
 }
 
-impl Look for ChargeOf {
-    ghost use Rattle.std.specs.Prelude.{◌∷◌, [], nat_eq, pos, ◌&&◌};
-    ghost use Rattle.sqlite_value.specs.declared.value.Value.TheVariants.{Int};
+impl PlainLook for ChargeOf {
     ghost use Rattle.dh_tables.specs.ChargeTable.{charge_of, charge_of_is};
 
     type Record = Charge;
 
-    ghost asks = { λ q c. nat_eq c.lease q.lease && nat_eq c.index q.index };
+    ghost question = { charge_of };
 
-    ghost asking = { charge_of };
-
-    ghost given = { λ q. Int (pos q.lease) ∷ Int (pos q.index) ∷ [] };
-
-    fn text() -> &'static str {
+    fn asked_text() -> &'static str {
         of_charge!("SELECT ", " FROM charge WHERE lease_no = ?1 AND k = ?2")
     }
 
-    fn day_bytes(&self, alloc: Global) -> Result<Vec<u8>, AllocError> {
-        Ok(Vec::new(alloc))
-    }
-
-    fn params<'a>(
-        &'a self,
-        alloc: Global,
-        _day: &'a [u8],
-    ) -> Result<Vec<ValueRef<'a>>, AllocError> {
+    fn values(&self, alloc: Global) -> Result<Vec<ValueRef<'_>>, AllocError> {
         [
             ValueRef::Int(i64::from(self.lease.number())),
             ValueRef::Int(i64::from(self.index.number())),
@@ -116,7 +102,7 @@ impl Look for ChargeOf {
         .to_vec(alloc)
     }
 
-    ghost is_asking = { charge_of_is };
+    ghost is_question = { charge_of_is };
 }
 
 /// The charges of this lease.
@@ -125,34 +111,20 @@ pub struct ChargesOfLease {
     pub lease: LeaseNo,
 }
 
-impl Look for ChargesOfLease {
-    ghost use Rattle.std.specs.Prelude.{◌∷◌, [], nat_eq, pos};
-    ghost use Rattle.sqlite_value.specs.declared.value.Value.TheVariants.{Int};
+impl PlainLook for ChargesOfLease {
     ghost use Rattle.dh_tables.specs.ChargeTable.{charges_of_lease, charges_of_lease_is};
 
     type Record = Charge;
 
-    ghost asks = { λ q c. nat_eq c.lease q.lease };
+    ghost question = { charges_of_lease };
 
-    ghost asking = { charges_of_lease };
-
-    ghost given = { λ q. Int (pos q.lease) ∷ [] };
-
-    fn text() -> &'static str {
+    fn asked_text() -> &'static str {
         of_charge!("SELECT ", " FROM charge WHERE lease_no = ?1")
     }
 
-    fn day_bytes(&self, alloc: Global) -> Result<Vec<u8>, AllocError> {
-        Ok(Vec::new(alloc))
-    }
-
-    fn params<'a>(
-        &'a self,
-        alloc: Global,
-        _day: &'a [u8],
-    ) -> Result<Vec<ValueRef<'a>>, AllocError> {
+    fn values(&self, alloc: Global) -> Result<Vec<ValueRef<'_>>, AllocError> {
         [ValueRef::Int(i64::from(self.lease.number()))].to_vec(alloc)
     }
 
-    ghost is_asking = { charges_of_lease_is };
+    ghost is_question = { charges_of_lease_is };
 }

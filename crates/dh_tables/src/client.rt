@@ -1,6 +1,6 @@
 //! Clients in their table.
 
-use crate::{Listed, Look, Tabled};
+use crate::{Listed, PlainLook, Tabled};
 use dh_books::Books;
 use dh_types::{Client, Id, Version};
 use sqlite::types::ValueRef;
@@ -56,9 +56,9 @@ impl Tabled for Client {
 }
 
 impl Listed for Client {
-    ghost use Rattle.dh_tables.specs.ClientTable.{client_listing, client_is_listing};
+    ghost use Rattle.dh_tables.specs.ClientTable.{client_named, client_is_listing};
 
-    ghost listing = { client_listing };
+    ghost named = { client_named };
 
     fn list_text() -> &'static str {
         of_client!("SELECT ", " FROM client")
@@ -81,35 +81,20 @@ pub struct ClientNumbered {
     pub number: Id,
 }
 
-impl Look for ClientNumbered {
-    ghost use Rattle.std.specs.Prelude.{◌∷◌, []};
-    ghost use Rattle.sqlite_value.specs.declared.value.Value.TheVariants.{Text};
-    ghost use Rattle.dh_model.specs.Checks.{is_same_text};
+impl PlainLook for ClientNumbered {
     ghost use Rattle.dh_tables.specs.ClientTable.{client_numbered, client_numbered_is};
 
     type Record = Client;
 
-    ghost asks = { λ q c. is_same_text c.number q.number };
+    ghost question = { client_numbered };
 
-    ghost asking = { client_numbered };
-
-    ghost given = { λ q. Text q.number ∷ [] };
-
-    fn text() -> &'static str {
+    fn asked_text() -> &'static str {
         of_client!("SELECT ", " FROM client WHERE client_no = ?1")
     }
 
-    fn day_bytes(&self, alloc: Global) -> Result<Vec<u8>, AllocError> {
-        Ok(Vec::new(alloc))
-    }
-
-    fn params<'a>(
-        &'a self,
-        alloc: Global,
-        _day: &'a [u8],
-    ) -> Result<Vec<ValueRef<'a>>, AllocError> {
+    fn values(&self, alloc: Global) -> Result<Vec<ValueRef<'_>>, AllocError> {
         [ValueRef::Text(self.number.as_str().as_bytes())].to_vec(alloc)
     }
 
-    ghost is_asking = { client_numbered_is };
+    ghost is_question = { client_numbered_is };
 }

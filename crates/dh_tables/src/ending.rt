@@ -1,6 +1,6 @@
 //! Early endings of leases in their table.
 
-use crate::{Listed, Look, Tabled};
+use crate::{Listed, PlainLook, Tabled};
 use dh_books::Books;
 use dh_types::{Ending, LeaseNo, Version};
 use sqlite::types::ValueRef;
@@ -56,9 +56,9 @@ impl Tabled for Ending {
 }
 
 impl Listed for Ending {
-    ghost use Rattle.dh_tables.specs.EndingTable.{ending_listing, ending_is_listing};
+    ghost use Rattle.dh_tables.specs.EndingTable.{ending_named, ending_is_listing};
 
-    ghost listing = { ending_listing };
+    ghost named = { ending_named };
 
     fn list_text() -> &'static str {
         of_ending!("SELECT ", " FROM ending")
@@ -81,34 +81,20 @@ pub struct EndingOf {
     pub lease: LeaseNo,
 }
 
-impl Look for EndingOf {
-    ghost use Rattle.std.specs.Prelude.{◌∷◌, [], nat_eq, pos};
-    ghost use Rattle.sqlite_value.specs.declared.value.Value.TheVariants.{Int};
+impl PlainLook for EndingOf {
     ghost use Rattle.dh_tables.specs.EndingTable.{ending_of, ending_of_is};
 
     type Record = Ending;
 
-    ghost asks = { λ q e. nat_eq e.lease q.lease };
+    ghost question = { ending_of };
 
-    ghost asking = { ending_of };
-
-    ghost given = { λ q. Int (pos q.lease) ∷ [] };
-
-    fn text() -> &'static str {
+    fn asked_text() -> &'static str {
         of_ending!("SELECT ", " FROM ending WHERE lease_no = ?1")
     }
 
-    fn day_bytes(&self, alloc: Global) -> Result<Vec<u8>, AllocError> {
-        Ok(Vec::new(alloc))
-    }
-
-    fn params<'a>(
-        &'a self,
-        alloc: Global,
-        _day: &'a [u8],
-    ) -> Result<Vec<ValueRef<'a>>, AllocError> {
+    fn values(&self, alloc: Global) -> Result<Vec<ValueRef<'_>>, AllocError> {
         [ValueRef::Int(i64::from(self.lease.number()))].to_vec(alloc)
     }
 
-    ghost is_asking = { ending_of_is };
+    ghost is_question = { ending_of_is };
 }

@@ -8,7 +8,7 @@ use std::alloc::{AllocError, Global};
 impl Amend for BranchFee {
     ghost use Rattle.std.specs.Prelude.{◌≤◌};
     ghost use Rattle.dh_values.specs.declared.limits.TheConstants.{MOST_FEE};
-    ghost use Rattle.dh_tables.specs.FeeChanges.{branch_fee_amending, branch_fee_given, branch_fee_is};
+    ghost use Rattle.dh_tables.specs.FeeChanges.{branch_fee_amending, branch_fee_is};
 
     type Record = BranchFee;
 
@@ -17,8 +17,6 @@ impl Amend for BranchFee {
     ghost amended = { λ q it. record it { fee = q.fee } };
 
     ghost amending = { branch_fee_amending };
-
-    ghost given = { branch_fee_given };
 
     ghost can_amend = { λ q. q.fee ≤ MOST_FEE };
 
@@ -38,7 +36,7 @@ impl Amend for BranchFee {
 }
 
 impl Amend for Ending {
-    ghost use Rattle.dh_tables.specs.FeeChanges.{IsLength, ending_amending, ending_given, ending_is};
+    ghost use Rattle.dh_tables.specs.FeeChanges.{IsLength, ending_amending, ending_is};
 
     type Record = Ending;
 
@@ -47,8 +45,6 @@ impl Amend for Ending {
     ghost amended = { λ q it. record it { months = q.months } };
 
     ghost amending = { ending_amending };
-
-    ghost given = { ending_given };
 
     ghost can_amend = { λ q. IsLength q.months };
 

@@ -57,9 +57,9 @@ impl Tabled for Inspection {
 }
 
 impl Listed for Inspection {
-    ghost use Rattle.dh_tables.specs.InspectionTable.{inspection_listing, inspection_is_listing};
+    ghost use Rattle.dh_tables.specs.InspectionTable.{inspection_named, inspection_is_listing};
 
-    ghost listing = { inspection_listing };
+    ghost named = { inspection_named };
 
     fn list_text() -> &'static str {
         of_inspection!("SELECT ", " FROM inspection")

@@ -10,6 +10,8 @@ ghost use Rattle.dh_tables.specs.Calls.{CommitsNothing, HasFailed, HasOurTables,
 ghost use Rattle.dh_tables.specs.ReceiptTable.{receipt_shape};
 
 use crate::finding::only;
+use crate::query::rows_shown;
+use crate::receipt::of_receipt;
 use dh_types::Receipt;
 use sqlite::{Alter, Connection, Error, Row};
 use std::alloc::Global;
@@ -25,8 +27,9 @@ fn last_row<S: Alter>(conn: &mut Connection<S>) -> Result<Vec<Row>, Error>
     ensures corrupt { HasCleanDisk (state S.Store conn.new) → IsCorrupt result → HasFailed (state S.Store conn.old) (state S.Store conn.new) }
     ensures crash { CommitsNothing (state S.Store conn.old) (state S.Store conn.new) }
 {
-    conn.query_all(
-        "SELECT receipt_no, req_key, lease_no, kind, amount, day FROM receipt ORDER BY receipt_no DESC LIMIT 1",
+    rows_shown(
+        conn,
+        of_receipt!("SELECT ", " FROM receipt ORDER BY receipt_no DESC LIMIT 1"),
         &[],
     )
 }

@@ -1,6 +1,6 @@
 //! Leases in their table.
 
-use crate::{Listed, Look, Tabled};
+use crate::{Listed, Look, PlainLook, Tabled};
 use dh_books::Books;
 use dh_types::{EntryDay, Id, Lease, LeaseNo, Version};
 use sqlite::types::ValueRef;
@@ -59,9 +59,9 @@ impl Tabled for Lease {
 }
 
 impl Listed for Lease {
-    ghost use Rattle.dh_tables.specs.LeaseTable.{lease_listing, lease_is_listing};
+    ghost use Rattle.dh_tables.specs.LeaseTable.{lease_named, lease_is_listing};
 
-    ghost listing = { lease_listing };
+    ghost named = { lease_named };
 
     fn list_text() -> &'static str {
         of_lease!("SELECT ", " FROM lease")
@@ -84,36 +84,22 @@ pub struct LeaseNumbered {
     pub number: LeaseNo,
 }
 
-impl Look for LeaseNumbered {
-    ghost use Rattle.std.specs.Prelude.{◌∷◌, [], nat_eq, pos};
-    ghost use Rattle.sqlite_value.specs.declared.value.Value.TheVariants.{Int};
+impl PlainLook for LeaseNumbered {
     ghost use Rattle.dh_tables.specs.LeaseTable.{lease_numbered, lease_numbered_is};
 
     type Record = Lease;
 
-    ghost asks = { λ q l. nat_eq l.terms.number q.number };
+    ghost question = { lease_numbered };
 
-    ghost asking = { lease_numbered };
-
-    ghost given = { λ q. Int (pos q.number) ∷ [] };
-
-    fn text() -> &'static str {
+    fn asked_text() -> &'static str {
         of_lease!("SELECT ", " FROM lease WHERE lease_no = ?1")
     }
 
-    fn day_bytes(&self, alloc: Global) -> Result<Vec<u8>, AllocError> {
-        Ok(Vec::new(alloc))
-    }
-
-    fn params<'a>(
-        &'a self,
-        alloc: Global,
-        _day: &'a [u8],
-    ) -> Result<Vec<ValueRef<'a>>, AllocError> {
+    fn values(&self, alloc: Global) -> Result<Vec<ValueRef<'_>>, AllocError> {
         [ValueRef::Int(i64::from(self.number.number()))].to_vec(alloc)
     }
 
-    ghost is_asking = { lease_numbered_is };
+    ghost is_question = { lease_numbered_is };
 }
 
 /// The leases of this property.
@@ -122,37 +108,22 @@ pub struct LeasesOfProperty {
     pub property: Id,
 }
 
-impl Look for LeasesOfProperty {
-    ghost use Rattle.std.specs.Prelude.{◌∷◌, []};
-    ghost use Rattle.sqlite_value.specs.declared.value.Value.TheVariants.{Text};
-    ghost use Rattle.dh_model.specs.Checks.{is_same_text};
+impl PlainLook for LeasesOfProperty {
     ghost use Rattle.dh_tables.specs.LeaseTable.{leases_of_property, leases_of_property_is};
 
     type Record = Lease;
 
-    ghost asks = { λ q l. is_same_text l.terms.property q.property };
+    ghost question = { leases_of_property };
 
-    ghost asking = { leases_of_property };
-
-    ghost given = { λ q. Text q.property ∷ [] };
-
-    fn text() -> &'static str {
+    fn asked_text() -> &'static str {
         of_lease!("SELECT ", " FROM lease WHERE property_no = ?1")
     }
 
-    fn day_bytes(&self, alloc: Global) -> Result<Vec<u8>, AllocError> {
-        Ok(Vec::new(alloc))
-    }
-
-    fn params<'a>(
-        &'a self,
-        alloc: Global,
-        _day: &'a [u8],
-    ) -> Result<Vec<ValueRef<'a>>, AllocError> {
+    fn values(&self, alloc: Global) -> Result<Vec<ValueRef<'_>>, AllocError> {
         [ValueRef::Text(self.property.as_str().as_bytes())].to_vec(alloc)
     }
 
-    ghost is_asking = { leases_of_property_is };
+    ghost is_question = { leases_of_property_is };
 }
 
 /// The leases of this client that begin on this day.

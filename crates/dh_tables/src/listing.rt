@@ -5,30 +5,32 @@ ghost use Rattle.std.specs.FinMap as fin;
 ghost use Rattle.sqlite.specs.State.{HasCleanDisk, IsUnchanged};
 ghost use Rattle.sqlite.specs.Held.{state};
 ghost use Rattle.dh_tables.specs.Calls.{CommitsNothing, HasFailed, HasTables, IsCorrupt, IsUndone};
-ghost use Rattle.dh_tables.specs.Listing.{IsListing, Listing, rowid_alone};
+ghost use Rattle.dh_tables.specs.Commands.{Named};
+ghost use Rattle.dh_tables.specs.Listing.{IsListing, list_text, rowid_alone, rowid_text};
 
 use crate::Tabled;
+use crate::query::rows_shown;
 use dh_books::Books;
 use sqlite::{Alter, Connection, Error, Row};
 
 /// A record whose whole table can be read.
 pub trait Listed: Tabled {
-    /// The texts that show each row and each rowid.
-    ghost listing: { Listing };
+    /// The columns by their names.
+    ghost named: { Named };
 
     /// The text that shows each row.
     fn list_text() -> &'static str
-        ensures { result.now ≡ listing.text };
+        ensures { result.now ≡ list_text named };
 
     /// The text that shows each rowid.
     fn rowid_text() -> &'static str
-        ensures { result.now ≡ listing.rowid_text };
+        ensures { result.now ≡ rowid_text named };
 
     /// How many records of this kind the books have.
     fn held_count(books: &Books) -> usize
         ensures { result ≡ length (fin.values (Self.shelf.held books.now)) };
 
-    ghost is_listing: { IsListing Self.since Self.shape.tree Self.shape.columns listing };
+    ghost is_listing: { IsListing Self.since Self.shape.tree Self.shape.columns named };
 }
 
 /// The columns of each row of the table, in some order. It changes nothing. Over a clean disk it answers that the database is
@@ -42,7 +44,7 @@ pub fn rows_listed<R: Listed, S: Alter>(conn: &mut Connection<S>) -> Result<Vec<
     ensures corrupt { HasCleanDisk (state S.Store conn.new) → IsCorrupt result → HasFailed (state S.Store conn.old) (state S.Store conn.new) }
     ensures crash { CommitsNothing (state S.Store conn.old) (state S.Store conn.new) }
 {
-    conn.query_all(R::list_text(), &[])
+    rows_shown(conn, R::list_text(), &[])
 }
 
 /// The rowid of each row of the table, as a row of its own, in some order. It changes nothing. Over a clean disk it answers that
@@ -56,5 +58,5 @@ pub fn rowids_listed<R: Listed, S: Alter>(conn: &mut Connection<S>) -> Result<Ve
     ensures corrupt { HasCleanDisk (state S.Store conn.new) → IsCorrupt result → HasFailed (state S.Store conn.old) (state S.Store conn.new) }
     ensures crash { CommitsNothing (state S.Store conn.old) (state S.Store conn.new) }
 {
-    conn.query_all(R::rowid_text(), &[])
+    rows_shown(conn, R::rowid_text(), &[])
 }

@@ -9,10 +9,11 @@ ghost use Rattle.sqlite.specs.State.{HasCleanDisk, IsUnchanged};
 ghost use Rattle.sqlite.specs.Held.{state};
 ghost use Rattle.dh_model.specs.Whole.{rows_where};
 ghost use Rattle.dh_sql.specs.Shape.{IsKept, rows_in, rows_of, shown_keys};
-ghost use Rattle.dh_tables.specs.Questions.{Asking, IsAskedRow, IsAsking};
+ghost use Rattle.dh_tables.specs.Questions.{Asking, IsAskedRow, IsAsking, IsQuestion, Question};
 ghost use Rattle.dh_tables.specs.Calls.{AreAsked, CommitsNothing, HasFailed, HasTables, IsCorrupt, IsUndone};
 
 use crate::Tabled;
+use crate::query::rows_shown;
 use sqlite::types::ValueRef;
 use sqlite::{Alter, Connection, Error, Row};
 use std::alloc::{AllocError, Global};
@@ -53,6 +54,53 @@ pub trait Look {
     ghost is_asking: { IsAsking Self.Record.since Self.Record.shape asking can_ask given asks };
 }
 
+/// A question that gives its text no day.
+pub trait PlainLook {
+    /// The records that are looked at.
+    type Record: Tabled;
+
+    /// The text, its parameters, and which records are asked for.
+    ghost question: { Question Self Self.Record };
+
+    /// The text.
+    fn asked_text() -> &'static str
+        ensures { result.now ≡ question.asking.text };
+
+    /// The parameters.
+    fn values(&self, alloc: Global) -> Result<Vec<ValueRef<'_>>, AllocError>
+        ensures { IfOk result (λ values. bound values.items ≡ question.given self.now) };
+
+    ghost is_question: { IsQuestion Self.Record.since Self.Record.shape question };
+}
+
+impl<L: PlainLook> Look for L {
+    type Record = L::Record;
+
+    ghost asks = { L.question.asks };
+
+    ghost asking = { L.question.asking };
+
+    ghost given = { L.question.given };
+
+    fn text() -> &'static str {
+        L::asked_text()
+    }
+
+    fn day_bytes(&self, alloc: Global) -> Result<Vec<u8>, AllocError> {
+        Ok(Vec::new(alloc))
+    }
+
+    fn params<'a>(
+        &'a self,
+        alloc: Global,
+        _day: &'a [u8],
+    ) -> Result<Vec<ValueRef<'a>>, AllocError> {
+        self.values(alloc)
+    }
+
+    ghost is_asking = { L.is_question };
+}
+
 /// The rows that are asked for, in some order, none twice. It changes nothing. Over a clean disk it answers that the database is
 /// corrupt only where the disk has failed.
 pub fn rows_asked<L: Look, S: Alter>(
@@ -75,5 +123,5 @@ pub fn rows_asked<L: Look, S: Alter>(
 {
     let day = question.day_bytes(alloc)?;
     let params = question.params(alloc, &day)?;
-    conn.query_all(L::text(), &params)
+    rows_shown(conn, L::text(), &params)
 }

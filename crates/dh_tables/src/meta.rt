@@ -12,6 +12,7 @@ ghost use Rattle.dh_tables.specs.Calls.{CommitsNothing, StaysInTransaction, HasO
 ghost use Rattle.dh_rows.specs.Cells.{version_number};
 ghost use Rattle.dh_tables.specs.MetaTable.{AreFound, HasItsRow, SetsMonths, SetsNext, SetsVersion, meta_rows};
 
+use crate::query::rows_shown;
 use dh_rows::{Meta, Record, version_number};
 use dh_types::{Month, Version};
 use sqlite::types::ValueRef;
@@ -63,7 +64,11 @@ pub fn meta_rows_shown<S: Alter>(conn: &mut Connection<S>) -> Result<Vec<Row>, E
     ensures undone { HasCleanDisk (state S.Store conn.new) → OnErr result (IsUndone (state S.Store conn.old) (state S.Store conn.new)) }
     ensures crash { CommitsNothing (state S.Store conn.old) (state S.Store conn.new) }
 {
-    conn.query_all("SELECT id, version, first_month, next_month FROM meta", &[])
+    rows_shown(
+        conn,
+        "SELECT id, version, first_month, next_month FROM meta",
+        &[],
+    )
 }
 
 /// The months of the file, with its version; None where the table does not have one row, of either version. It changes no table.

@@ -1,6 +1,6 @@
 //! Owners in their table.
 
-use crate::{Listed, Look, Tabled};
+use crate::{Listed, PlainLook, Tabled};
 use dh_books::Books;
 use dh_types::{Id, Owner, Version};
 use sqlite::types::ValueRef;
@@ -56,9 +56,9 @@ impl Tabled for Owner {
 }
 
 impl Listed for Owner {
-    ghost use Rattle.dh_tables.specs.OwnerTable.{owner_listing, owner_is_listing};
+    ghost use Rattle.dh_tables.specs.OwnerTable.{owner_named, owner_is_listing};
 
-    ghost listing = { owner_listing };
+    ghost named = { owner_named };
 
     fn list_text() -> &'static str {
         of_owner!("SELECT ", " FROM owner")
@@ -81,35 +81,20 @@ pub struct OwnerNumbered {
     pub number: Id,
 }
 
-impl Look for OwnerNumbered {
-    ghost use Rattle.std.specs.Prelude.{◌∷◌, []};
-    ghost use Rattle.sqlite_value.specs.declared.value.Value.TheVariants.{Text};
-    ghost use Rattle.dh_model.specs.Checks.{is_same_text};
+impl PlainLook for OwnerNumbered {
     ghost use Rattle.dh_tables.specs.OwnerTable.{owner_numbered, owner_numbered_is};
 
     type Record = Owner;
 
-    ghost asks = { λ q o. is_same_text o.number q.number };
+    ghost question = { owner_numbered };
 
-    ghost asking = { owner_numbered };
-
-    ghost given = { λ q. Text q.number ∷ [] };
-
-    fn text() -> &'static str {
+    fn asked_text() -> &'static str {
         of_owner!("SELECT ", " FROM owner WHERE owner_no = ?1")
     }
 
-    fn day_bytes(&self, alloc: Global) -> Result<Vec<u8>, AllocError> {
-        Ok(Vec::new(alloc))
-    }
-
-    fn params<'a>(
-        &'a self,
-        alloc: Global,
-        _day: &'a [u8],
-    ) -> Result<Vec<ValueRef<'a>>, AllocError> {
+    fn values(&self, alloc: Global) -> Result<Vec<ValueRef<'_>>, AllocError> {
         [ValueRef::Text(self.number.as_str().as_bytes())].to_vec(alloc)
     }
 
-    ghost is_asking = { owner_numbered_is };
+    ghost is_question = { owner_numbered_is };
 }

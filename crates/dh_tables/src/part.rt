@@ -1,6 +1,6 @@
 //! Parts of runs in their table.
 
-use crate::{Listed, Look, Tabled};
+use crate::{Listed, PlainLook, Tabled};
 use dh_books::Books;
 use dh_types::{EntryMonth, Id, Part, Version};
 use sqlite::types::ValueRef;
@@ -57,9 +57,9 @@ impl Tabled for Part {
 }
 
 impl Listed for Part {
-    ghost use Rattle.dh_tables.specs.PartTable.{part_listing, part_is_listing};
+    ghost use Rattle.dh_tables.specs.PartTable.{part_named, part_is_listing};
 
-    ghost listing = { part_listing };
+    ghost named = { part_named };
 
     fn list_text() -> &'static str {
         of_part!("SELECT ", " FROM part")
@@ -83,33 +83,18 @@ pub struct PartOf {
     pub branch: Id,
 }
 
-impl Look for PartOf {
-    ghost use Rattle.std.specs.Prelude.{◌∷◌, [], nat_eq, pos, ◌&&◌};
-    ghost use Rattle.sqlite_value.specs.declared.value.Value.TheVariants.{Int, Text};
-    ghost use Rattle.dh_model.specs.Checks.{is_same_text};
+impl PlainLook for PartOf {
     ghost use Rattle.dh_tables.specs.PartTable.{part_of, part_of_is};
 
     type Record = Part;
 
-    ghost asks = { λ q p. nat_eq p.month q.month && is_same_text p.branch q.branch };
+    ghost question = { part_of };
 
-    ghost asking = { part_of };
-
-    ghost given = { λ q. Int (pos q.month) ∷ Text q.branch ∷ [] };
-
-    fn text() -> &'static str {
+    fn asked_text() -> &'static str {
         of_part!("SELECT ", " FROM part WHERE month = ?1 AND branch_no = ?2")
     }
 
-    fn day_bytes(&self, alloc: Global) -> Result<Vec<u8>, AllocError> {
-        Ok(Vec::new(alloc))
-    }
-
-    fn params<'a>(
-        &'a self,
-        alloc: Global,
-        _day: &'a [u8],
-    ) -> Result<Vec<ValueRef<'a>>, AllocError> {
+    fn values(&self, alloc: Global) -> Result<Vec<ValueRef<'_>>, AllocError> {
         [
             ValueRef::Int(i64::from(self.month.number())),
             ValueRef::Text(self.branch.as_str().as_bytes()),
@@ -117,7 +102,7 @@ impl Look for PartOf {
         .to_vec(alloc)
     }
 
-    ghost is_asking = { part_of_is };
+    ghost is_question = { part_of_is };
 }
 
 /// The parts of the run of this month.
@@ -126,34 +111,20 @@ pub struct PartsOfMonth {
     pub month: EntryMonth,
 }
 
-impl Look for PartsOfMonth {
-    ghost use Rattle.std.specs.Prelude.{◌∷◌, [], nat_eq, pos};
-    ghost use Rattle.sqlite_value.specs.declared.value.Value.TheVariants.{Int};
+impl PlainLook for PartsOfMonth {
     ghost use Rattle.dh_tables.specs.PartTable.{parts_of_month, parts_of_month_is};
 
     type Record = Part;
 
-    ghost asks = { λ q p. nat_eq p.month q.month };
+    ghost question = { parts_of_month };
 
-    ghost asking = { parts_of_month };
-
-    ghost given = { λ q. Int (pos q.month) ∷ [] };
-
-    fn text() -> &'static str {
+    fn asked_text() -> &'static str {
         of_part!("SELECT ", " FROM part WHERE month = ?1")
     }
 
-    fn day_bytes(&self, alloc: Global) -> Result<Vec<u8>, AllocError> {
-        Ok(Vec::new(alloc))
-    }
-
-    fn params<'a>(
-        &'a self,
-        alloc: Global,
-        _day: &'a [u8],
-    ) -> Result<Vec<ValueRef<'a>>, AllocError> {
+    fn values(&self, alloc: Global) -> Result<Vec<ValueRef<'_>>, AllocError> {
         [ValueRef::Int(i64::from(self.month.number()))].to_vec(alloc)
     }
 
-    ghost is_asking = { parts_of_month_is };
+    ghost is_question = { parts_of_month_is };
 }

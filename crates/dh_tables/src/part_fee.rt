@@ -1,6 +1,6 @@
 //! Fees of parts of runs in their table.
 
-use crate::{Listed, Look, Tabled};
+use crate::{Listed, PlainLook, Tabled};
 use dh_books::Books;
 use dh_types::{EntryMonth, Id, PartFee, Version};
 use sqlite::types::ValueRef;
@@ -57,9 +57,9 @@ impl Tabled for PartFee {
 }
 
 impl Listed for PartFee {
-    ghost use Rattle.dh_tables.specs.PartFeeTable.{part_fee_listing, part_fee_is_listing};
+    ghost use Rattle.dh_tables.specs.PartFeeTable.{part_fee_named, part_fee_is_listing};
 
-    ghost listing = { part_fee_listing };
+    ghost named = { part_fee_named };
 
     fn list_text() -> &'static str {
         of_part_fee!("SELECT ", " FROM part_fee")
@@ -83,36 +83,21 @@ pub struct FeeOfPart {
     pub branch: Id,
 }
 
-impl Look for FeeOfPart {
-    ghost use Rattle.std.specs.Prelude.{◌∷◌, [], nat_eq, pos, ◌&&◌};
-    ghost use Rattle.sqlite_value.specs.declared.value.Value.TheVariants.{Int, Text};
-    ghost use Rattle.dh_model.specs.Checks.{is_same_text};
+impl PlainLook for FeeOfPart {
     ghost use Rattle.dh_tables.specs.PartFeeTable.{fee_of_part, fee_of_part_is};
 
     type Record = PartFee;
 
-    ghost asks = { λ q it. nat_eq it.month q.month && is_same_text it.branch q.branch };
+    ghost question = { fee_of_part };
 
-    ghost asking = { fee_of_part };
-
-    ghost given = { λ q. Int (pos q.month) ∷ Text q.branch ∷ [] };
-
-    fn text() -> &'static str {
+    fn asked_text() -> &'static str {
         of_part_fee!(
             "SELECT ",
             " FROM part_fee WHERE month = ?1 AND branch_no = ?2"
         )
     }
 
-    fn day_bytes(&self, alloc: Global) -> Result<Vec<u8>, AllocError> {
-        Ok(Vec::new(alloc))
-    }
-
-    fn params<'a>(
-        &'a self,
-        alloc: Global,
-        _day: &'a [u8],
-    ) -> Result<Vec<ValueRef<'a>>, AllocError> {
+    fn values(&self, alloc: Global) -> Result<Vec<ValueRef<'_>>, AllocError> {
         [
             ValueRef::Int(i64::from(self.month.number())),
             ValueRef::Text(self.branch.as_str().as_bytes()),
@@ -120,7 +105,7 @@ impl Look for FeeOfPart {
         .to_vec(alloc)
     }
 
-    ghost is_asking = { fee_of_part_is };
+    ghost is_question = { fee_of_part_is };
 }
 
 /// The fees of the parts of the run of this month.
@@ -129,34 +114,20 @@ pub struct FeesOfMonth {
     pub month: EntryMonth,
 }
 
-impl Look for FeesOfMonth {
-    ghost use Rattle.std.specs.Prelude.{◌∷◌, [], nat_eq, pos};
-    ghost use Rattle.sqlite_value.specs.declared.value.Value.TheVariants.{Int};
+impl PlainLook for FeesOfMonth {
     ghost use Rattle.dh_tables.specs.PartFeeTable.{fees_of_month, fees_of_month_is};
 
     type Record = PartFee;
 
-    ghost asks = { λ q it. nat_eq it.month q.month };
+    ghost question = { fees_of_month };
 
-    ghost asking = { fees_of_month };
-
-    ghost given = { λ q. Int (pos q.month) ∷ [] };
-
-    fn text() -> &'static str {
+    fn asked_text() -> &'static str {
         of_part_fee!("SELECT ", " FROM part_fee WHERE month = ?1")
     }
 
-    fn day_bytes(&self, alloc: Global) -> Result<Vec<u8>, AllocError> {
-        Ok(Vec::new(alloc))
-    }
-
-    fn params<'a>(
-        &'a self,
-        alloc: Global,
-        _day: &'a [u8],
-    ) -> Result<Vec<ValueRef<'a>>, AllocError> {
+    fn values(&self, alloc: Global) -> Result<Vec<ValueRef<'_>>, AllocError> {
         [ValueRef::Int(i64::from(self.month.number()))].to_vec(alloc)
     }
 
-    ghost is_asking = { fees_of_month_is };
+    ghost is_question = { fees_of_month_is };
 }

@@ -1,6 +1,6 @@
 //! Properties in their table.
 
-use crate::{Listed, Look, Tabled};
+use crate::{Listed, PlainLook, Tabled};
 use dh_books::Books;
 use dh_types::{Id, Property, Version};
 use sqlite::types::ValueRef;
@@ -59,9 +59,9 @@ impl Tabled for Property {
 }
 
 impl Listed for Property {
-    ghost use Rattle.dh_tables.specs.PropertyTable.{property_listing, property_is_listing};
+    ghost use Rattle.dh_tables.specs.PropertyTable.{property_named, property_is_listing};
 
-    ghost listing = { property_listing };
+    ghost named = { property_named };
 
     fn list_text() -> &'static str {
         of_property!("SELECT ", " FROM property")
@@ -84,37 +84,22 @@ pub struct PropertyNumbered {
     pub number: Id,
 }
 
-impl Look for PropertyNumbered {
-    ghost use Rattle.std.specs.Prelude.{◌∷◌, []};
-    ghost use Rattle.sqlite_value.specs.declared.value.Value.TheVariants.{Text};
-    ghost use Rattle.dh_model.specs.Checks.{is_same_text};
+impl PlainLook for PropertyNumbered {
     ghost use Rattle.dh_tables.specs.PropertyTable.{property_numbered, property_numbered_is};
 
     type Record = Property;
 
-    ghost asks = { λ q p. is_same_text p.number q.number };
+    ghost question = { property_numbered };
 
-    ghost asking = { property_numbered };
-
-    ghost given = { λ q. Text q.number ∷ [] };
-
-    fn text() -> &'static str {
+    fn asked_text() -> &'static str {
         of_property!("SELECT ", " FROM property WHERE property_no = ?1")
     }
 
-    fn day_bytes(&self, alloc: Global) -> Result<Vec<u8>, AllocError> {
-        Ok(Vec::new(alloc))
-    }
-
-    fn params<'a>(
-        &'a self,
-        alloc: Global,
-        _day: &'a [u8],
-    ) -> Result<Vec<ValueRef<'a>>, AllocError> {
+    fn values(&self, alloc: Global) -> Result<Vec<ValueRef<'_>>, AllocError> {
         [ValueRef::Text(self.number.as_str().as_bytes())].to_vec(alloc)
     }
 
-    ghost is_asking = { property_numbered_is };
+    ghost is_question = { property_numbered_is };
 }
 
 /// The properties that this member of staff manages.
@@ -123,38 +108,22 @@ pub struct PropertiesManaged {
     pub staff: Id,
 }
 
-impl Look for PropertiesManaged {
-    ghost use Rattle.std.specs.Prelude.{◌∷◌, [], Some};
-    ghost use Rattle.sqlite_value.specs.declared.value.Value.TheVariants.{Text};
-    ghost use Rattle.dh_types.specs.Records.{is_same_optional};
-    ghost use Rattle.dh_model.specs.Checks.{is_same_text};
+impl PlainLook for PropertiesManaged {
     ghost use Rattle.dh_tables.specs.PropertyTable.{properties_managed, properties_managed_is};
 
     type Record = Property;
 
-    ghost asks = { λ q p. is_same_optional is_same_text p.staff (Some q.staff) };
+    ghost question = { properties_managed };
 
-    ghost asking = { properties_managed };
-
-    ghost given = { λ q. Text q.staff ∷ [] };
-
-    fn text() -> &'static str {
+    fn asked_text() -> &'static str {
         of_property!("SELECT ", " FROM property WHERE staff_no = ?1")
     }
 
-    fn day_bytes(&self, alloc: Global) -> Result<Vec<u8>, AllocError> {
-        Ok(Vec::new(alloc))
-    }
-
-    fn params<'a>(
-        &'a self,
-        alloc: Global,
-        _day: &'a [u8],
-    ) -> Result<Vec<ValueRef<'a>>, AllocError> {
+    fn values(&self, alloc: Global) -> Result<Vec<ValueRef<'_>>, AllocError> {
         [ValueRef::Text(self.staff.as_str().as_bytes())].to_vec(alloc)
     }
 
-    ghost is_asking = { properties_managed_is };
+    ghost is_question = { properties_managed_is };
 }
 
 /// The properties of this owner.
@@ -163,37 +132,22 @@ pub struct PropertiesOfOwner {
     pub owner: Id,
 }
 
-impl Look for PropertiesOfOwner {
-    ghost use Rattle.std.specs.Prelude.{◌∷◌, []};
-    ghost use Rattle.sqlite_value.specs.declared.value.Value.TheVariants.{Text};
-    ghost use Rattle.dh_model.specs.Checks.{is_same_text};
+impl PlainLook for PropertiesOfOwner {
     ghost use Rattle.dh_tables.specs.PropertyTable.{properties_of_owner, properties_of_owner_is};
 
     type Record = Property;
 
-    ghost asks = { λ q p. is_same_text p.owner q.owner };
+    ghost question = { properties_of_owner };
 
-    ghost asking = { properties_of_owner };
-
-    ghost given = { λ q. Text q.owner ∷ [] };
-
-    fn text() -> &'static str {
+    fn asked_text() -> &'static str {
         of_property!("SELECT ", " FROM property WHERE owner_no = ?1")
     }
 
-    fn day_bytes(&self, alloc: Global) -> Result<Vec<u8>, AllocError> {
-        Ok(Vec::new(alloc))
-    }
-
-    fn params<'a>(
-        &'a self,
-        alloc: Global,
-        _day: &'a [u8],
-    ) -> Result<Vec<ValueRef<'a>>, AllocError> {
+    fn values(&self, alloc: Global) -> Result<Vec<ValueRef<'_>>, AllocError> {
         [ValueRef::Text(self.owner.as_str().as_bytes())].to_vec(alloc)
     }
 
-    ghost is_asking = { properties_of_owner_is };
+    ghost is_question = { properties_of_owner_is };
 }
 
 /// The properties of this branch.
@@ -202,35 +156,20 @@ pub struct PropertiesOfBranch {
     pub branch: Id,
 }
 
-impl Look for PropertiesOfBranch {
-    ghost use Rattle.std.specs.Prelude.{◌∷◌, []};
-    ghost use Rattle.sqlite_value.specs.declared.value.Value.TheVariants.{Text};
-    ghost use Rattle.dh_model.specs.Checks.{is_same_text};
+impl PlainLook for PropertiesOfBranch {
     ghost use Rattle.dh_tables.specs.PropertyTable.{properties_of_branch, properties_of_branch_is};
 
     type Record = Property;
 
-    ghost asks = { λ q p. is_same_text p.branch q.branch };
+    ghost question = { properties_of_branch };
 
-    ghost asking = { properties_of_branch };
-
-    ghost given = { λ q. Text q.branch ∷ [] };
-
-    fn text() -> &'static str {
+    fn asked_text() -> &'static str {
         of_property!("SELECT ", " FROM property WHERE branch_no = ?1")
     }
 
-    fn day_bytes(&self, alloc: Global) -> Result<Vec<u8>, AllocError> {
-        Ok(Vec::new(alloc))
-    }
-
-    fn params<'a>(
-        &'a self,
-        alloc: Global,
-        _day: &'a [u8],
-    ) -> Result<Vec<ValueRef<'a>>, AllocError> {
+    fn values(&self, alloc: Global) -> Result<Vec<ValueRef<'_>>, AllocError> {
         [ValueRef::Text(self.branch.as_str().as_bytes())].to_vec(alloc)
     }
 
-    ghost is_asking = { properties_of_branch_is };
+    ghost is_question = { properties_of_branch_is };
 }

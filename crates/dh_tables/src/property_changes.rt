@@ -25,7 +25,7 @@ fn optional_id(id: &Option<Id>) -> ValueRef<'_>
 impl Amend for Assignment {
     ghost use Rattle.std.specs.Prelude.{◌≡◌, true, IfSome};
     ghost use Rattle.dh_values.specs.Texts.{is_id};
-    ghost use Rattle.dh_tables.specs.PropertyChanges.{manager_amending, manager_given, manager_is};
+    ghost use Rattle.dh_tables.specs.PropertyChanges.{manager_amending, manager_is};
 
     type Record = Property;
 
@@ -34,8 +34,6 @@ impl Amend for Assignment {
     ghost amended = { λ q p. record p { staff = q.staff } };
 
     ghost amending = { manager_amending };
-
-    ghost given = { manager_given };
 
     ghost can_amend = { λ q. IfSome q.staff (λ id. is_id id ≡ true) };
 
@@ -56,7 +54,7 @@ impl Amend for Assignment {
 
 impl Amend for RentChange {
     ghost use Rattle.dh_values.specs.Money.{IsRent};
-    ghost use Rattle.dh_tables.specs.PropertyChanges.{rent_amending, rent_given, rent_is};
+    ghost use Rattle.dh_tables.specs.PropertyChanges.{rent_amending, rent_is};
 
     type Record = Property;
 
@@ -65,8 +63,6 @@ impl Amend for RentChange {
     ghost amended = { λ q p. record p { rent = q.rent } };
 
     ghost amending = { rent_amending };
-
-    ghost given = { rent_given };
 
     ghost can_amend = { λ q. IsRent q.rent };
 

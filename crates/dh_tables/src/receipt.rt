@@ -1,6 +1,6 @@
 //! Receipts in their table.
 
-use crate::{Listed, Look, Tabled};
+use crate::{Listed, PlainLook, Tabled};
 use dh_books::Books;
 use dh_types::{Key, LeaseNo, Receipt, ReceiptNo, Version};
 use sqlite::types::ValueRef;
@@ -16,6 +16,8 @@ macro_rules! of_receipt {
         )
     };
 }
+
+pub(crate) use of_receipt;
 
 impl Tabled for Receipt {
     ghost use Rattle.dh_types.specs.declared.version.Version.TheVariants.{First};
@@ -56,9 +58,9 @@ impl Tabled for Receipt {
 }
 
 impl Listed for Receipt {
-    ghost use Rattle.dh_tables.specs.ReceiptTable.{receipt_listing, receipt_is_listing};
+    ghost use Rattle.dh_tables.specs.ReceiptTable.{receipt_named, receipt_is_listing};
 
-    ghost listing = { receipt_listing };
+    ghost named = { receipt_named };
 
     fn list_text() -> &'static str {
         of_receipt!("SELECT ", " FROM receipt")
@@ -81,36 +83,22 @@ pub struct ReceiptNumbered {
     pub number: ReceiptNo,
 }
 
-impl Look for ReceiptNumbered {
-    ghost use Rattle.std.specs.Prelude.{◌∷◌, [], nat_eq, pos};
-    ghost use Rattle.sqlite_value.specs.declared.value.Value.TheVariants.{Int};
+impl PlainLook for ReceiptNumbered {
     ghost use Rattle.dh_tables.specs.ReceiptTable.{receipt_numbered, receipt_numbered_is};
 
     type Record = Receipt;
 
-    ghost asks = { λ q r. nat_eq r.number q.number };
+    ghost question = { receipt_numbered };
 
-    ghost asking = { receipt_numbered };
-
-    ghost given = { λ q. Int (pos q.number) ∷ [] };
-
-    fn text() -> &'static str {
+    fn asked_text() -> &'static str {
         of_receipt!("SELECT ", " FROM receipt WHERE receipt_no = ?1")
     }
 
-    fn day_bytes(&self, alloc: Global) -> Result<Vec<u8>, AllocError> {
-        Ok(Vec::new(alloc))
-    }
-
-    fn params<'a>(
-        &'a self,
-        alloc: Global,
-        _day: &'a [u8],
-    ) -> Result<Vec<ValueRef<'a>>, AllocError> {
+    fn values(&self, alloc: Global) -> Result<Vec<ValueRef<'_>>, AllocError> {
         [ValueRef::Int(i64::from(self.number.number()))].to_vec(alloc)
     }
 
-    ghost is_asking = { receipt_numbered_is };
+    ghost is_question = { receipt_numbered_is };
 }
 
 /// The receipt with this request key.
@@ -119,37 +107,22 @@ pub struct ReceiptKeyed {
     pub key: Key,
 }
 
-impl Look for ReceiptKeyed {
-    ghost use Rattle.std.specs.Prelude.{◌∷◌, []};
-    ghost use Rattle.sqlite_value.specs.declared.value.Value.TheVariants.{Text};
-    ghost use Rattle.dh_model.specs.Checks.{is_same_text};
+impl PlainLook for ReceiptKeyed {
     ghost use Rattle.dh_tables.specs.ReceiptTable.{receipt_keyed, receipt_keyed_is};
 
     type Record = Receipt;
 
-    ghost asks = { λ q r. is_same_text r.key q.key };
+    ghost question = { receipt_keyed };
 
-    ghost asking = { receipt_keyed };
-
-    ghost given = { λ q. Text q.key ∷ [] };
-
-    fn text() -> &'static str {
+    fn asked_text() -> &'static str {
         of_receipt!("SELECT ", " FROM receipt WHERE req_key = ?1")
     }
 
-    fn day_bytes(&self, alloc: Global) -> Result<Vec<u8>, AllocError> {
-        Ok(Vec::new(alloc))
-    }
-
-    fn params<'a>(
-        &'a self,
-        alloc: Global,
-        _day: &'a [u8],
-    ) -> Result<Vec<ValueRef<'a>>, AllocError> {
+    fn values(&self, alloc: Global) -> Result<Vec<ValueRef<'_>>, AllocError> {
         [ValueRef::Text(self.key.as_str().as_bytes())].to_vec(alloc)
     }
 
-    ghost is_asking = { receipt_keyed_is };
+    ghost is_question = { receipt_keyed_is };
 }
 
 /// The receipts of this lease.
@@ -158,36 +131,22 @@ pub struct ReceiptsOfLease {
     pub lease: LeaseNo,
 }
 
-impl Look for ReceiptsOfLease {
-    ghost use Rattle.std.specs.Prelude.{◌∷◌, [], nat_eq, pos};
-    ghost use Rattle.sqlite_value.specs.declared.value.Value.TheVariants.{Int};
+impl PlainLook for ReceiptsOfLease {
     ghost use Rattle.dh_tables.specs.ReceiptTable.{receipts_of_lease, receipts_of_lease_is};
 
     type Record = Receipt;
 
-    ghost asks = { λ q r. nat_eq r.payment.lease q.lease };
+    ghost question = { receipts_of_lease };
 
-    ghost asking = { receipts_of_lease };
-
-    ghost given = { λ q. Int (pos q.lease) ∷ [] };
-
-    fn text() -> &'static str {
+    fn asked_text() -> &'static str {
         of_receipt!("SELECT ", " FROM receipt WHERE lease_no = ?1")
     }
 
-    fn day_bytes(&self, alloc: Global) -> Result<Vec<u8>, AllocError> {
-        Ok(Vec::new(alloc))
-    }
-
-    fn params<'a>(
-        &'a self,
-        alloc: Global,
-        _day: &'a [u8],
-    ) -> Result<Vec<ValueRef<'a>>, AllocError> {
+    fn values(&self, alloc: Global) -> Result<Vec<ValueRef<'_>>, AllocError> {
         [ValueRef::Int(i64::from(self.lease.number()))].to_vec(alloc)
     }
 
-    ghost is_asking = { receipts_of_lease_is };
+    ghost is_question = { receipts_of_lease_is };
 }
 
 /// The deposits that were paid for this lease.
@@ -196,39 +155,23 @@ pub struct DepositsOfLease {
     pub lease: LeaseNo,
 }
 
-impl Look for DepositsOfLease {
-    ghost use Rattle.std.specs.Prelude.{◌∷◌, [], nat_eq, pos, ◌&&◌};
-    ghost use Rattle.sqlite_value.specs.declared.value.Value.TheVariants.{Int};
-    ghost use Rattle.dh_values.specs.declared.receipt_kind.ReceiptKind.TheVariants.{Deposit};
-    ghost use Rattle.dh_types.specs.Records.{is_same_receipt_kind};
+impl PlainLook for DepositsOfLease {
     ghost use Rattle.dh_tables.specs.ReceiptTable.{deposits_of_lease, deposits_of_lease_is};
 
     type Record = Receipt;
 
-    ghost asks = { λ q r. nat_eq r.payment.lease q.lease && is_same_receipt_kind r.payment.kind Deposit };
+    ghost question = { deposits_of_lease };
 
-    ghost asking = { deposits_of_lease };
-
-    ghost given = { λ q. Int (pos q.lease) ∷ [] };
-
-    fn text() -> &'static str {
+    fn asked_text() -> &'static str {
         of_receipt!(
             "SELECT ",
             " FROM receipt WHERE lease_no = ?1 AND kind = 'deposit'"
         )
     }
 
-    fn day_bytes(&self, alloc: Global) -> Result<Vec<u8>, AllocError> {
-        Ok(Vec::new(alloc))
-    }
-
-    fn params<'a>(
-        &'a self,
-        alloc: Global,
-        _day: &'a [u8],
-    ) -> Result<Vec<ValueRef<'a>>, AllocError> {
+    fn values(&self, alloc: Global) -> Result<Vec<ValueRef<'_>>, AllocError> {
         [ValueRef::Int(i64::from(self.lease.number()))].to_vec(alloc)
     }
 
-    ghost is_asking = { deposits_of_lease_is };
+    ghost is_question = { deposits_of_lease_is };
 }

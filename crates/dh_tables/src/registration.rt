@@ -1,6 +1,6 @@
 //! Registrations in their table.
 
-use crate::{Listed, Look, Tabled};
+use crate::{Listed, PlainLook, Tabled};
 use dh_books::Books;
 use dh_types::{Id, Registration, Version};
 use sqlite::types::ValueRef;
@@ -56,9 +56,9 @@ impl Tabled for Registration {
 }
 
 impl Listed for Registration {
-    ghost use Rattle.dh_tables.specs.RegistrationTable.{registration_listing, registration_is_listing};
+    ghost use Rattle.dh_tables.specs.RegistrationTable.{registration_named, registration_is_listing};
 
-    ghost listing = { registration_listing };
+    ghost named = { registration_named };
 
     fn list_text() -> &'static str {
         of_registration!("SELECT ", " FROM registration")
@@ -82,36 +82,21 @@ pub struct RegistrationAt {
     pub branch: Id,
 }
 
-impl Look for RegistrationAt {
-    ghost use Rattle.std.specs.Prelude.{◌∷◌, [], ◌&&◌};
-    ghost use Rattle.sqlite_value.specs.declared.value.Value.TheVariants.{Text};
-    ghost use Rattle.dh_model.specs.Checks.{is_same_text};
+impl PlainLook for RegistrationAt {
     ghost use Rattle.dh_tables.specs.RegistrationTable.{registration_at, registration_at_is};
 
     type Record = Registration;
 
-    ghost asks = { λ q r. is_same_text r.client q.client && is_same_text r.branch q.branch };
+    ghost question = { registration_at };
 
-    ghost asking = { registration_at };
-
-    ghost given = { λ q. Text q.client ∷ Text q.branch ∷ [] };
-
-    fn text() -> &'static str {
+    fn asked_text() -> &'static str {
         of_registration!(
             "SELECT ",
             " FROM registration WHERE client_no = ?1 AND branch_no = ?2"
         )
     }
 
-    fn day_bytes(&self, alloc: Global) -> Result<Vec<u8>, AllocError> {
-        Ok(Vec::new(alloc))
-    }
-
-    fn params<'a>(
-        &'a self,
-        alloc: Global,
-        _day: &'a [u8],
-    ) -> Result<Vec<ValueRef<'a>>, AllocError> {
+    fn values(&self, alloc: Global) -> Result<Vec<ValueRef<'_>>, AllocError> {
         [
             ValueRef::Text(self.client.as_str().as_bytes()),
             ValueRef::Text(self.branch.as_str().as_bytes()),
@@ -119,5 +104,5 @@ impl Look for RegistrationAt {
         .to_vec(alloc)
     }
 
-    ghost is_asking = { registration_at_is };
+    ghost is_question = { registration_at_is };
 }

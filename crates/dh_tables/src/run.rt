@@ -1,6 +1,6 @@
 //! Runs in their table.
 
-use crate::{Listed, Look, Tabled};
+use crate::{Listed, PlainLook, Tabled};
 use dh_books::Books;
 use dh_types::{EntryMonth, Key, Run, Version};
 use sqlite::types::ValueRef;
@@ -56,9 +56,9 @@ impl Tabled for Run {
 }
 
 impl Listed for Run {
-    ghost use Rattle.dh_tables.specs.RunTable.{run_listing, run_is_listing};
+    ghost use Rattle.dh_tables.specs.RunTable.{run_named, run_is_listing};
 
-    ghost listing = { run_listing };
+    ghost named = { run_named };
 
     fn list_text() -> &'static str {
         of_run!("SELECT ", " FROM run")
@@ -81,36 +81,22 @@ pub struct RunOf {
     pub month: EntryMonth,
 }
 
-impl Look for RunOf {
-    ghost use Rattle.std.specs.Prelude.{◌∷◌, [], nat_eq, pos};
-    ghost use Rattle.sqlite_value.specs.declared.value.Value.TheVariants.{Int};
+impl PlainLook for RunOf {
     ghost use Rattle.dh_tables.specs.RunTable.{run_of, run_of_is};
 
     type Record = Run;
 
-    ghost asks = { λ q r. nat_eq r.month q.month };
+    ghost question = { run_of };
 
-    ghost asking = { run_of };
-
-    ghost given = { λ q. Int (pos q.month) ∷ [] };
-
-    fn text() -> &'static str {
+    fn asked_text() -> &'static str {
         of_run!("SELECT ", " FROM run WHERE month = ?1")
     }
 
-    fn day_bytes(&self, alloc: Global) -> Result<Vec<u8>, AllocError> {
-        Ok(Vec::new(alloc))
-    }
-
-    fn params<'a>(
-        &'a self,
-        alloc: Global,
-        _day: &'a [u8],
-    ) -> Result<Vec<ValueRef<'a>>, AllocError> {
+    fn values(&self, alloc: Global) -> Result<Vec<ValueRef<'_>>, AllocError> {
         [ValueRef::Int(i64::from(self.month.number()))].to_vec(alloc)
     }
 
-    ghost is_asking = { run_of_is };
+    ghost is_question = { run_of_is };
 }
 
 /// The run with this request key.
@@ -119,35 +105,20 @@ pub struct RunKeyed {
     pub key: Key,
 }
 
-impl Look for RunKeyed {
-    ghost use Rattle.std.specs.Prelude.{◌∷◌, []};
-    ghost use Rattle.sqlite_value.specs.declared.value.Value.TheVariants.{Text};
-    ghost use Rattle.dh_model.specs.Checks.{is_same_text};
+impl PlainLook for RunKeyed {
     ghost use Rattle.dh_tables.specs.RunTable.{run_keyed, run_keyed_is};
 
     type Record = Run;
 
-    ghost asks = { λ q r. is_same_text r.key q.key };
+    ghost question = { run_keyed };
 
-    ghost asking = { run_keyed };
-
-    ghost given = { λ q. Text q.key ∷ [] };
-
-    fn text() -> &'static str {
+    fn asked_text() -> &'static str {
         of_run!("SELECT ", " FROM run WHERE req_key = ?1")
     }
 
-    fn day_bytes(&self, alloc: Global) -> Result<Vec<u8>, AllocError> {
-        Ok(Vec::new(alloc))
-    }
-
-    fn params<'a>(
-        &'a self,
-        alloc: Global,
-        _day: &'a [u8],
-    ) -> Result<Vec<ValueRef<'a>>, AllocError> {
+    fn values(&self, alloc: Global) -> Result<Vec<ValueRef<'_>>, AllocError> {
         [ValueRef::Text(self.key.as_str().as_bytes())].to_vec(alloc)
     }
 
-    ghost is_asking = { run_keyed_is };
+    ghost is_question = { run_keyed_is };
 }

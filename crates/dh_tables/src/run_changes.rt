@@ -33,7 +33,7 @@ fn through(lease: Option<LeaseNo>) -> ValueRef<'static>
 
 impl Amend for RunSum {
     ghost use Rattle.std.specs.Prelude.{true};
-    ghost use Rattle.dh_tables.specs.RunChanges.{AreSums, closing, closing_given, closing_is};
+    ghost use Rattle.dh_tables.specs.RunChanges.{AreSums, closing, closing_is};
 
     type Record = Run;
 
@@ -42,8 +42,6 @@ impl Amend for RunSum {
     ghost amended = { λ q r. record r { count = q.count; total = q.total; is_closed = true } };
 
     ghost amending = { closing };
-
-    ghost given = { closing_given };
 
     ghost can_amend = { λ q. AreSums q.count q.total };
 
@@ -64,7 +62,7 @@ impl Amend for RunSum {
 }
 
 impl Amend for Part {
-    ghost use Rattle.dh_tables.specs.RunChanges.{IsPart, part_amending, part_given, part_is};
+    ghost use Rattle.dh_tables.specs.RunChanges.{IsPart, part_amending, part_is};
 
     type Record = Part;
 
@@ -73,8 +71,6 @@ impl Amend for Part {
     ghost amended = { λ q p. record p { through = q.through; count = q.count; total = q.total } };
 
     ghost amending = { part_amending };
-
-    ghost given = { part_given };
 
     ghost can_amend = { IsPart };
 
@@ -97,7 +93,7 @@ impl Amend for Part {
 }
 
 impl Amend for PartFee {
-    ghost use Rattle.dh_tables.specs.RunChanges.{IsPartFee, fee_amending, fee_given, fee_is};
+    ghost use Rattle.dh_tables.specs.RunChanges.{IsPartFee, fee_amending, fee_is};
 
     type Record = PartFee;
 
@@ -106,8 +102,6 @@ impl Amend for PartFee {
     ghost amended = { λ q p. record p { fee = q.fee; total = q.total } };
 
     ghost amending = { fee_amending };
-
-    ghost given = { fee_given };
 
     ghost can_amend = { IsPartFee };
 

@@ -1,6 +1,6 @@
 //! Members of staff in their table.
 
-use crate::{Listed, Look, Tabled};
+use crate::{Listed, PlainLook, Tabled};
 use dh_books::Books;
 use dh_types::{Id, Staff, Version};
 use sqlite::types::ValueRef;
@@ -56,9 +56,9 @@ impl Tabled for Staff {
 }
 
 impl Listed for Staff {
-    ghost use Rattle.dh_tables.specs.StaffTable.{staff_listing, staff_is_listing};
+    ghost use Rattle.dh_tables.specs.StaffTable.{staff_named, staff_is_listing};
 
-    ghost listing = { staff_listing };
+    ghost named = { staff_named };
 
     fn list_text() -> &'static str {
         of_staff!("SELECT ", " FROM staff")
@@ -81,35 +81,20 @@ pub struct MemberNumbered {
     pub number: Id,
 }
 
-impl Look for MemberNumbered {
-    ghost use Rattle.std.specs.Prelude.{◌∷◌, []};
-    ghost use Rattle.sqlite_value.specs.declared.value.Value.TheVariants.{Text};
-    ghost use Rattle.dh_model.specs.Checks.{is_same_text};
+impl PlainLook for MemberNumbered {
     ghost use Rattle.dh_tables.specs.StaffTable.{member_numbered, member_numbered_is};
 
     type Record = Staff;
 
-    ghost asks = { λ q s. is_same_text s.number q.number };
+    ghost question = { member_numbered };
 
-    ghost asking = { member_numbered };
-
-    ghost given = { λ q. Text q.number ∷ [] };
-
-    fn text() -> &'static str {
+    fn asked_text() -> &'static str {
         of_staff!("SELECT ", " FROM staff WHERE staff_no = ?1")
     }
 
-    fn day_bytes(&self, alloc: Global) -> Result<Vec<u8>, AllocError> {
-        Ok(Vec::new(alloc))
-    }
-
-    fn params<'a>(
-        &'a self,
-        alloc: Global,
-        _day: &'a [u8],
-    ) -> Result<Vec<ValueRef<'a>>, AllocError> {
+    fn values(&self, alloc: Global) -> Result<Vec<ValueRef<'_>>, AllocError> {
         [ValueRef::Text(self.number.as_str().as_bytes())].to_vec(alloc)
     }
 
-    ghost is_asking = { member_numbered_is };
+    ghost is_question = { member_numbered_is };
 }

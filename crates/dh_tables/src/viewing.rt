@@ -1,6 +1,6 @@
 //! Viewings in their table.
 
-use crate::{Listed, Look, Tabled};
+use crate::{Listed, PlainLook, Tabled};
 use dh_books::Books;
 use dh_types::{Id, Version, Viewing};
 use sqlite::types::ValueRef;
@@ -56,9 +56,9 @@ impl Tabled for Viewing {
 }
 
 impl Listed for Viewing {
-    ghost use Rattle.dh_tables.specs.ViewingTable.{viewing_listing, viewing_is_listing};
+    ghost use Rattle.dh_tables.specs.ViewingTable.{viewing_named, viewing_is_listing};
 
-    ghost listing = { viewing_listing };
+    ghost named = { viewing_named };
 
     fn list_text() -> &'static str {
         of_viewing!("SELECT ", " FROM viewing")
@@ -82,36 +82,21 @@ pub struct ViewingOf {
     pub property: Id,
 }
 
-impl Look for ViewingOf {
-    ghost use Rattle.std.specs.Prelude.{◌∷◌, [], ◌&&◌};
-    ghost use Rattle.sqlite_value.specs.declared.value.Value.TheVariants.{Text};
-    ghost use Rattle.dh_model.specs.Checks.{is_same_text};
+impl PlainLook for ViewingOf {
     ghost use Rattle.dh_tables.specs.ViewingTable.{viewing_of, viewing_of_is};
 
     type Record = Viewing;
 
-    ghost asks = { λ q v. is_same_text v.client q.client && is_same_text v.property q.property };
+    ghost question = { viewing_of };
 
-    ghost asking = { viewing_of };
-
-    ghost given = { λ q. Text q.client ∷ Text q.property ∷ [] };
-
-    fn text() -> &'static str {
+    fn asked_text() -> &'static str {
         of_viewing!(
             "SELECT ",
             " FROM viewing WHERE client_no = ?1 AND property_no = ?2"
         )
     }
 
-    fn day_bytes(&self, alloc: Global) -> Result<Vec<u8>, AllocError> {
-        Ok(Vec::new(alloc))
-    }
-
-    fn params<'a>(
-        &'a self,
-        alloc: Global,
-        _day: &'a [u8],
-    ) -> Result<Vec<ValueRef<'a>>, AllocError> {
+    fn values(&self, alloc: Global) -> Result<Vec<ValueRef<'_>>, AllocError> {
         [
             ValueRef::Text(self.client.as_str().as_bytes()),
             ValueRef::Text(self.property.as_str().as_bytes()),
@@ -119,5 +104,5 @@ impl Look for ViewingOf {
         .to_vec(alloc)
     }
 
-    ghost is_asking = { viewing_of_is };
+    ghost is_question = { viewing_of_is };
 }

@@ -8,7 +8,7 @@ use std::alloc::{AllocError, Global};
 impl Amend for ViewingComment {
     ghost use Rattle.std.specs.Prelude.{◌≡◌, true, Some};
     ghost use Rattle.dh_values.specs.Texts.{is_text};
-    ghost use Rattle.dh_tables.specs.ViewingChanges.{comment_amending, comment_given, comment_is};
+    ghost use Rattle.dh_tables.specs.ViewingChanges.{comment_amending, comment_is};
 
     type Record = Viewing;
 
@@ -17,8 +17,6 @@ impl Amend for ViewingComment {
     ghost amended = { λ q v. record v { comment = Some q.comment } };
 
     ghost amending = { comment_amending };
-
-    ghost given = { comment_given };
 
     ghost can_amend = { λ q. is_text 200 q.comment ≡ true };
 
