@@ -13,8 +13,7 @@ use Rattle.dh_types.specs.declared.version.Version.TheVariants.{First, Second}
 use Rattle.dh_model.specs.Books.{Books, with_rows}
 use Rattle.dh_model.specs.Runs.{part_fee_key}
 use Rattle.dh_model.specs.Kinds.{HasKind, Kind, came_with, order_of}
-use Rattle.dh_model.specs.Kinds.{Branches, Staff, Owners, Properties, Clients, Registrations, Viewings, Inspections, Leases, Charges, Receipts, Runs}
-use Rattle.dh_model.specs.Kinds.{Parts, BranchFees, PartFees, Endings}
+use Rattle.dh_model.specs.Kinds.{BranchFees, PartFees, Endings}
 use Rattle.dh_rows.specs.Months.{Months}
 use Rattle.dh_catalog.specs.Layout.{first_schema, first_tables, our_schema}
 use Rattle.dh_catalog.specs.Versions.{schema_of}
@@ -32,8 +31,8 @@ use Rattle.dh_schema.specs.Tables.{AreInOrder, IsTableInOrder, books_in, months_
 use Rattle.dh_schema.proofs.Changing.{told}
 use Rattle.dh_schema.proofs.Crashing.{survives_both}
 use Rattle.dh_schema.proofs.Installing.{empty_apart, empty_kept, no_records, none_since}
-use Rattle.dh_schema.proofs.EachKind.{beside_meta, listed, tree_is}
-use Rattle.dh_store.specs.Putting.{TurnsBooks}
+use Rattle.dh_schema.proofs.EachKind.{beside_meta, listed, same_but, tree_is}
+use Rattle.dh_schema.specs.Putting.{TurnsBooks}
 use Rattle.dh_store.proofs.Putting.{keeps_both, keeps_commit}
 use Rattle.dh_migration.specs.Migrated.{as_second, migrated, no_fee, with_no_fees}
 
@@ -111,19 +110,7 @@ module _ (old : State) (writing : IsWriting old) (first : version_of_tables old.
       each BranchFees = bare BranchFees no_fee_of_a_branch
       each PartFees = bare PartFees no_fee_of_a_part
       each Endings = bare Endings no_ending
-      each Branches = stays Branches tt tt
-      each Staff = stays Staff tt tt
-      each Owners = stays Owners tt tt
-      each Properties = stays Properties tt tt
-      each Clients = stays Clients tt tt
-      each Registrations = stays Registrations tt tt
-      each Viewings = stays Viewings tt tt
-      each Inspections = stays Inspections tt tt
-      each Leases = stays Leases tt tt
-      each Charges = stays Charges tt tt
-      each Receipts = stays Receipts tt tt
-      each Runs = stays Runs tt tt
-      each Parts = stays Parts tt tt
+      each kind = stays kind tt tt
 
       in_order : AreInOrder new.now.trees
       in_order = record {
@@ -147,19 +134,7 @@ module _ (old : State) (writing : IsWriting old) (first : version_of_tables old.
       records_are BranchFees = none_still BranchFees refl no_fee_of_a_branch
       records_are PartFees = none_still PartFees refl no_fee_of_a_part
       records_are Endings = none_still Endings refl no_ending
-      records_are Branches = (same Branches tt tt).rows
-      records_are Staff = (same Staff tt tt).rows
-      records_are Owners = (same Owners tt tt).rows
-      records_are Properties = (same Properties tt tt).rows
-      records_are Clients = (same Clients tt tt).rows
-      records_are Registrations = (same Registrations tt tt).rows
-      records_are Viewings = (same Viewings tt tt).rows
-      records_are Inspections = (same Inspections tt tt).rows
-      records_are Leases = (same Leases tt tt).rows
-      records_are Charges = (same Charges tt tt).rows
-      records_are Receipts = (same Receipts tt tt).rows
-      records_are Runs = (same Runs tt tt).rows
-      records_are Parts = (same Parts tt tt).rows
+      records_are kind = (same kind tt tt).rows
 
       -- the months are those that they were
       months_are : set.0 ≡ months_of (meta_rows old.now.trees)
@@ -168,27 +143,9 @@ module _ (old : State) (writing : IsWriting old) (first : version_of_tables old.
       pub books_are : books_in new.now.trees ≡ as_second (books_in old.now.trees)
       books_are =
           let now = told second new.now.trees its.months_are in
-          λ i. record {
-            branches = records_are Branches i;
-            staff = records_are Staff i;
-            owners = records_are Owners i;
-            properties = records_are Properties i;
-            clients = records_are Clients i;
-            registrations = records_are Registrations i;
-            viewings = records_are Viewings i;
-            inspections = records_are Inspections i;
-            leases = records_are Leases i;
-            charges = records_are Charges i;
-            receipts = records_are Receipts i;
-            runs = records_are Runs i;
-            parts = records_are Parts i;
-            branch_fees = records_are BranchFees i;
-            part_fees = records_are PartFees i;
-            endings = records_are Endings i;
-            first = (ap (λ (m : Months). m.first) now ∙ ap (λ (m : Months). m.first) months_are) i;
-            next = (ap (λ (m : Months). m.next) now ∙ ap (λ (m : Months). m.next) months_are) i;
-            version = version_is i;
-          }
+          same_but old.now.trees (books_in old.now.trees).first (books_in old.now.trees).next Second new.now.trees records_are
+          (ap (λ (m : Months). m.first) now ∙ ap (λ (m : Months). m.first) months_are)
+          (ap (λ (m : Months). m.next) now ∙ ap (λ (m : Months). m.next) months_are) version_is
 
       pub writing_second : StaysInTransaction mid new → IsWriting new
       writing_second on = record {
@@ -228,15 +185,6 @@ module _ (old mid new : State) where
             keeps_both old mid new (kept half) (keeps_commit r mid new (on clean) (undone clean));
         crash = both;
       }
-
--- nothing is said of the books where the tables were not made
-pub not_made : (turned : Books → Books) (r : Result (Unit {0}) Error) (e : Error) (old new : State) → r ≡ Err e → (HasCleanDisk new → KeepsCommit old new)
-    → CommitsNothing old new → TurnsBooks turned r old new
-not_made turned r e old new is kept crash = record {
-  put = λ clean. subst (λ (it : Result (Unit {0}) Error). OnOk it (IsWriting new × ((tables new).books ≡ turned (tables old).books))) (sym is) tt;
-  kept = kept;
-  crash = crash;
-}
 
 -- ---- and the fee rows
 

@@ -6,12 +6,13 @@ ghost use Rattle.sqlite.specs.State.{HasCleanDisk};
 ghost use Rattle.sqlite.specs.Held.{state};
 ghost use Rattle.dh_types.specs.declared.version.Version.TheVariants.{First, Second};
 ghost use Rattle.dh_schema.specs.Store.{IsWriting, tables};
-ghost use Rattle.dh_store.specs.Putting.{TurnsBooks};
+ghost use Rattle.dh_schema.specs.Putting.{TurnsBooks};
 ghost use Rattle.dh_runs.specs.Taking.{HasVersion};
-ghost use Rattle.dh_migration.specs.Migrated.{HaveNoFees, as_second, migrated, no_fee, with_no_fees};
+ghost use Rattle.dh_migration.specs.Migrated.{HaveNoFees, as_second, migrated_state, no_fee, with_no_fees};
 
 use dh_catalog::create_later;
 use dh_runs::put_fee;
+use dh_schema::Put;
 use dh_tables::set_version;
 use dh_types::{Fee, Part, PartFee, Pence, Version};
 use sqlite::{Alter, Error, Transaction};
@@ -58,19 +59,20 @@ fn put_no_fees<S: Alter>(
     Ok(())
 }
 
-/// Makes the tables of the first version those of the second: with the tables that came with it, a fee of 0 for each of these parts,
-/// which are all that there are, and its version.
-pub(crate) fn grow<S: Alter>(
-    alloc: Global,
-    tx: &mut Transaction<'_, S>,
-    parts: &[Part],
-) -> Result<(), Error>
-    requires writing { HasCleanDisk (state S.Store tx.old.conn.now) → IsWriting (state S.Store tx.old.conn.now) }
-    requires first { HasCleanDisk (state S.Store tx.old.conn.now) → HasVersion First (state S.Store tx.old.conn.now) }
-    requires all { HasCleanDisk (state S.Store tx.old.conn.now) → parts.now ≡ values (tables (state S.Store tx.old.conn.now)).books.parts }
-    ensures same_reference { tx.new.conn.ghost_name ≡ tx.old.conn.ghost_name }
-    ensures puts { TurnsBooks migrated result (state S.Store tx.old.conn.now) (state S.Store tx.new.conn.now) }
-{
-    make_second(tx)?;
-    put_no_fees(alloc, tx, parts)
+/// What takes tables of the first version to the second, without an open run: the tables that came with it, a fee of 0 for each of these
+/// parts, which are all that there are, and its version.
+#[derive(Clone, Copy)]
+pub(crate) struct SecondVersion<'a> {
+    pub parts: &'a [Part],
+}
+
+impl Put for SecondVersion<'_> {
+    ghost after = { λ _. migrated_state };
+
+    ghost fits = { λ it t. (t.books.version ≡ First) × (it.parts.now ≡ values t.books.parts) };
+
+    fn put<S: Alter>(&self, alloc: Global, tx: &mut Transaction<'_, S>) -> Result<(), Error> {
+        make_second(tx)?;
+        put_no_fees(alloc, tx, self.parts)
+    }
 }

@@ -1,10 +1,9 @@
 -- The open run closed by its sum, as the whole of the books.
-use Rattle.std.proofs.Common.{◌≡◌, ◌∙◌, refl, sym, ap, subst, ℕ, true, Some, None, Option, Ok, arith}
+use Rattle.std.proofs.Common.{◌≡◌, ◌∙◌, sym, ap, subst, ℕ, Some, None, Option, Result, OnErr, OnOk, arith}
 use Rattle.std.specs.Ordering.{nat_cmp}
 use Rattle.std.specs.FinMap.{get, insert}
 use Rattle.sqlite.specs.State.{HasCleanDisk, State}
-use Rattle.sqlite.specs.Store.{Ghosts}
-use Rattle.sqlite.specs.Held.{Held, state}
+use Rattle.sqlite.specs.declared.error.Error.{Error}
 use Rattle.dh_types.specs.declared.run.Run.{Run}
 use Rattle.dh_types.specs.declared.run.RunSum.{RunSum}
 use Rattle.dh_model.specs.declared.open_run.OpenRun.{OpenRun}
@@ -23,16 +22,13 @@ use Rattle.dh_laws.specs.StateTables as office
 use Rattle.dh_laws.proofs.MovingBatches.{at_the_end}
 use Rattle.dh_laws.proofs.PostClosing.{closing_makes_whole}
 use Rattle.dh_laws.proofs.PostWhole.{is_open}
-use Rattle.dh_sql.specs.Shape.{AreApart, IsKept}
-use Rattle.dh_tables.specs.Calls as calls
-use Rattle.dh_tables.specs.Calls.{Amends, CommitsNothing, StaysInTransaction}
+use Rattle.dh_tables.specs.Calls.{Amends, CommitsNothing, IsUndone, StaysInTransaction}
 use Rattle.dh_tables.specs.RunTable.{run_shape}
 use Rattle.dh_model.specs.Kinds.{Runs}
 use Rattle.dh_schema.specs.Store.{IsReady, IsWriting, tables}
-use Rattle.dh_schema.specs.Tables.{IsTableInOrder}
 use Rattle.dh_schema.proofs.Keyed.{books_are_keyed, sound_tables_show_their_run}
 use Rattle.dh_runs.specs.Closing.{IsOpenMonth, IsSumOfOpen, sum_of_parts, sum_over, with_run, with_sum}
-use Rattle.dh_store.specs.Putting.{TurnsBooks}
+use Rattle.dh_schema.specs.Putting.{Puts}
 use Rattle.dh_runs.proofs.PartSums.{parts_are_charges}
 use Rattle.dh_store.proofs.Putting.{IsThere, amended}
 
@@ -99,67 +95,26 @@ sum_of_open s month sum order open_one is =
           ∙ ap (λ (m : ℕ). sum_over m (charges_in s.books m)) (sym here.shown.2),
     )
 
-module _ (s : State) (ready : IsReady s) (end : IsAtItsEnd (tables s).books (tables s).open_run) where
-  abbrev order : office.IsStateInOrder (tables s)
-  order = ready_in_order s ready
+-- closed, tables in order are in order
+pub closed_in_order : (t : office_state.State) → office.IsStateInOrder t → IsAtItsEnd t.books t.open_run → office.IsStateInOrder (closed_state t)
+closed_in_order t order end = (at_the_end batch_size t.books t.open_run (omega arith) order).order
 
-  pub closed_in_order : office.IsStateInOrder (closed_state (tables s))
-  closed_in_order = (at_the_end batch_size (tables s).books (tables s).open_run (omega arith) order).order
-
+module _ (old new : State) (sum : RunSum) (fits : HasCleanDisk old → office.IsStateInOrder (tables old)
+    × IsAtItsEnd (tables old).books (tables old).open_run × IsSumOfOpen sum (tables old).books) where
   -- the row of the run is there, and closed by its sum it makes the books whole
-  pub run_there : (sum : RunSum) (later : State) → IsSumOfOpen sum (tables s).books
-      → IsThere Runs sum.month (with_sum sum) s later (λ _. (closed_state (tables s)).books)
-  run_there sum later is =
-      let at = (is_open (tables s).books is.0 order.keyed is.1).is in (
+  pub run_there : HasCleanDisk old → IsThere Runs sum.month (with_sum sum) old new (λ _. (closed_state (tables old)).books)
+  run_there clean =
+      let order = (fits clean).0 in
+      let is = (fits clean).2 in
+      let at = (is_open (tables old).books is.0 order.keyed is.1).is in (
         is.0,
-        subst (λ (month : ℕ). get (tables s).books.runs month ≡ Some is.0) (sym (ap (λ (it : RunSum). it.month) is.2)) at,
-        closed_is_whole (tables s).books sum is (tables s).open_run end order,
+        subst (λ (month : ℕ). get (tables old).books.runs month ≡ Some is.0) (sym (ap (λ (it : RunSum). it.month) is.2)) at,
+        closed_is_whole (tables old).books sum is (tables old).open_run (fits clean).1 order,
       )
 
--- a transaction is begun, and the sum is put
-module _ {S : Type 0} (g : Ghosts S) (old begun last : Held S) (is : begun ≡ record old { in_transaction = true })
-    (ready : HasCleanDisk (state g old) → IsReady (state g old))
-    (end : HasCleanDisk (state g old) → IsAtItsEnd (tables (state g old)).books (tables (state g old)).open_run) (sum : RunSum)
-    (of : HasCleanDisk (state g old) → IsSumOfOpen sum (tables (state g old)).books) where
-  abbrev made : Books → Books
-  made books = (closed_state (tables (state g old))).books
-
-  early : HasCleanDisk (state g begun) → HasCleanDisk (state g old)
-  early clean = subst (λ (h : Held S). HasCleanDisk (state g h)) is clean
-
-  writing : HasCleanDisk (state g begun) → IsWriting (state g begun)
-  writing clean =
-      let it = ready (early clean) in
-      let begins : IsWriting (state g (record old { in_transaction = true })) =
-      record { is_open = it.is_open; inside = refl; schema = it.schema; version = it.version; in_order = it.sound.in_order } in
-      subst (λ (h : Held S). IsWriting (state g h)) (sym is) begins
-
-  there : HasCleanDisk (state g begun) → IsThere Runs sum.month (with_sum sum) (state g begun) (state g last) made
-  there clean =
-      let was = early clean in
-      subst (λ (h : Held S). IsThere Runs sum.month (with_sum sum) (state g h) (state g last) made) (sym is)
-      (run_there (state g old) (ready was) (end was) sum (state g last) (of was))
-
-  -- so the row that is closed is there
-  pub row_there : HasCleanDisk (state g begun) → calls.IsThere run_shape nat_cmp sum.month (state g begun)
-  row_there clean = let it = there clean in (it.0, it.1)
-
-  pub sum_put : (x : Unit {0}) → (HasCleanDisk (state g last) → StaysInTransaction (state g begun) (state g last))
-      → (HasCleanDisk (state g last) → Amends run_shape nat_cmp sum.month (with_sum sum) (state g begun) (state g last))
-      → CommitsNothing (state g begun) (state g last) → TurnsBooks made (Ok x) (state g begun) (state g last)
-  sum_put x on done crash = amended Runs sum.month (with_sum sum) (state g begun) (state g last) made (Ok x) (λ _. tt) writing there on done
-      (λ _. tt) crash
-
--- the table of runs is in order as the transaction begins
-module _ {S : Type 0} (g : Ghosts S) (old begun : Held S) (is : begun ≡ record old { in_transaction = true })
-    (ready : HasCleanDisk (state g old) → IsReady (state g old)) where
-  in_order : HasCleanDisk (state g begun) → IsTableInOrder Runs (state g begun).now.trees
-  in_order clean =
-      let early : HasCleanDisk (state g old) = subst (λ (h : Held S). HasCleanDisk (state g h)) is clean in
-      subst (λ (h : Held S). IsTableInOrder Runs (state g h).now.trees) (sym is) ((ready early).sound.in_order.tables Runs tt)
-
-  pub begun_kept : HasCleanDisk (state g begun) → IsKept run_shape nat_cmp (state g begun).now.trees
-  begun_kept clean = (in_order clean).kept
-
-  pub begun_apart : HasCleanDisk (state g begun) → AreApart ((state g begun).now.trees run_shape.tree)
-  begun_apart clean = (in_order clean).apart
+  -- which is what is put
+  pub sum_put : (r : Result (Unit {0}) Error) → (HasCleanDisk old → IsWriting old) → (HasCleanDisk new → OnOk r (StaysInTransaction old new))
+      → (HasCleanDisk new → OnOk r (Amends run_shape nat_cmp sum.month (with_sum sum) old new)) → (HasCleanDisk new → OnErr r (IsUndone old new))
+      → CommitsNothing old new → Puts (closed_state (tables old)).books r old new
+  sum_put r writing on done undone crash = amended Runs sum.month (with_sum sum) old new (λ _. (closed_state (tables old)).books) r (λ _. tt) writing run_there
+      on done undone crash

@@ -1,5 +1,4 @@
 pub mod ClosedRun
-pub mod Committing
 pub mod EachCharge
 pub mod Following
 pub mod NextRows

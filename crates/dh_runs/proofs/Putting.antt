@@ -1,5 +1,5 @@
 -- Rows that were put into their tables, as what becomes of the books.
-use Rattle.std.proofs.Common.{◌≡◌, ◌∙◌, refl, sym, ap, subst, inl, Bool, true, false, [], ◌∷◌, Option, Some, None, is_some, Result, Ok, Err, OnOk, arith}
+use Rattle.std.proofs.Common.{◌≡◌, ◌∙◌, refl, sym, ap, Bool, true, false, [], ◌∷◌, Option, Some, None, is_some, Result, Ok, Err, OnOk, arith}
 use Rattle.std.proofs.lemmas.Bool.{false≢true}
 use Rattle.std.specs.declared.cmp.Ordering.{Ordering}
 use Rattle.std.specs.Cmp.{IsTotalOrder}
@@ -28,7 +28,7 @@ use Rattle.dh_schema.proofs.Crashing.{survives_both}
 use Rattle.dh_schema.proofs.EachKind.{all_since}
 use Rattle.dh_schema.proofs.Keyed.{keyed}
 use Rattle.dh_store.proofs.Putting.{IsThere, Means, keeps_both}
-use Rattle.dh_store.specs.Putting.{TurnsBooks}
+use Rattle.dh_schema.specs.Putting.{Puts, TurnsBooks}
 use Rattle.dh_runs.specs.Putting.{with_charges, with_fees, with_part}
 
 -- what writes tables of the second version writes those that came with it
@@ -46,49 +46,22 @@ module _ {K X : Type 0} {R : K → K → Ordering} (o : IsTotalOrder R) (anti : 
 
 -- ---- one after the other
 
-module _ (first later : Books → Books) (a b c : State) where
-  then_put : {X E : Type 0} (r : Result X E) → (tables b).books ≡ first (tables a).books → OnOk r (IsWriting c × ((tables c).books ≡ later (tables b).books))
-      → OnOk r (IsWriting c × ((tables c).books ≡ later (first (tables a).books)))
+module _ (later : Books → Books) (books : Books) (b c : State) where
+  then_put : {X E : Type 0} (r : Result X E) → (tables b).books ≡ books → OnOk r (IsWriting c × ((tables c).books ≡ later (tables b).books))
+      → OnOk r (IsWriting c × ((tables c).books ≡ later books))
   then_put (Ok x) was done = (done.0, done.1 ∙ ap later was)
   then_put (Err e) was done = tt
 
-  -- what was put, and then this
-  pub puts_both : {x : Unit {0}} (r : Result (Unit {0}) Error) → TurnsBooks first (Ok x) a b → TurnsBooks later r b c
-      → TurnsBooks (λ books. later (first books)) r a c
-  puts_both r one two = record {
-    put = λ clean.
-        let half : HasCleanDisk b = omega (arith, two.crash.clean, clean) in
-        then_put r (one.put half).1 (two.put clean);
-    kept = λ clean.
-        let half : HasCleanDisk b = omega (arith, two.crash.clean, clean) in
-        keeps_both a b c (one.kept half) (two.kept clean);
-    crash = survives_both a b c one.crash two.crash;
-  }
-
--- where a call failed, nothing is said of the books
-pub puts_none : (turned other : Books → Books) (r : Result (Unit {0}) Error) (e f : Error) (old new : State) → r ≡ Err e → TurnsBooks turned (Err f) old new
-    → TurnsBooks other r old new
-puts_none turned other r e f old new is puts = record {
-  put = λ clean. subst (λ (it : Result (Unit {0}) Error). OnOk it (IsWriting new × ((tables new).books ≡ other (tables old).books))) (sym is) tt;
-  kept = puts.kept;
-  crash = puts.crash;
-}
-
--- and so at first
-pub nothing_put : (turned : Books → Books) (s : State) → (HasCleanDisk s → IsWriting s) → turned (tables s).books ≡ (tables s).books
-    → TurnsBooks turned (Ok tt) s s
-nothing_put turned s writing same = record {
-  put = λ clean. (writing clean, sym same);
-  kept = λ clean. record { was_open = λ still. still; committed = λ _. refl };
-  crash = record {
-    clean = omega arith;
-    shield = λ shielded. shielded;
-    counts = omega arith;
-    limit = refl;
-    closes = λ _ still. inl still;
-    crash = λ _ left may. inl may;
-  };
-}
+-- what was put, and then this
+pub puts_both : {books : Books} (later : Books → Books) {a b c : State} {x : Unit {0}} {r : Result (Unit {0}) Error} → Puts books (Ok x) a b
+    → TurnsBooks later r b c → Puts (later books) r a c
+puts_both {books = books} later {a = a} {b = b} {c = c} {r = r} one two =
+    let half : HasCleanDisk c → HasCleanDisk b = λ clean. omega (arith, two.crash.clean, clean) in
+    record {
+      put = λ clean. then_put later books b c r (one.put (half clean)).1 (two.put clean);
+      kept = λ clean. keeps_both a b c (one.kept (half clean)) (two.kept clean);
+      crash = survives_both a b c one.crash two.crash;
+    }
 
 -- ---- charges
 

@@ -6,8 +6,6 @@ use Rattle.dh_types.specs.declared.run.Part.{Part}
 use Rattle.dh_types.specs.declared.fee.PartFee.{PartFee}
 use Rattle.dh_model.specs.Books.{Books, with_rows}
 use Rattle.dh_model.specs.Runs.{charge_key, part_fee_key, part_key}
-use Rattle.dh_leases.specs.declared.planning.BatchRows.{BatchRows}
-use Rattle.dh_leases.specs.Plans.{some_row}
 
 -- the books with this charge
 abbrev pub with_charge : Charge → Books → Books
@@ -24,7 +22,3 @@ with_part part books = record books { parts = with_rows part_key (part ∷ []) b
 -- with these fee rows in the place of what their parts had
 abbrev pub with_fees : List PartFee → Books → Books
 with_fees fees books = record books { part_fees = with_rows part_fee_key fees books.part_fees }
-
--- with all of a batch
-abbrev pub with_rows_of : BatchRows → Books → Books
-with_rows_of rows books = with_fees (some_row rows.fee) (with_part rows.part (with_charges rows.charges.items books))

@@ -1,6 +1,9 @@
 -- Which tables are taken, and why others are not.
-use Rattle.std.specs.Prelude.{◌≡◌, ◌⊎◌, false, IsTrue, pos, Some, None, ⊤, ℕ}
-use Rattle.sqlite.specs.State.{State}
+use Rattle.std.specs.Prelude.{◌≡◌, ◌≤◌, ◌⊎◌, false, IsTrue, pos, Some, None, ⊤, ℕ, Result, OnOk, IfErr}
+use Rattle.sqlite.specs.Store.{Ghosts}
+use Rattle.sqlite.specs.State.{HasCleanDisk, State}
+use Rattle.sqlite.specs.Held.{Held, state}
+use Rattle.sqlite_trees.specs.View.{doubt}
 use Rattle.sqlite_trees.specs.Tree.{Trees}
 use Rattle.dh_types.specs.declared.version.Version.{Version}
 use Rattle.dh_types.specs.declared.reply.Refusal.{Refusal}
@@ -8,6 +11,7 @@ use Rattle.dh_types.specs.declared.reply.Refusal.TheVariants as refusal
 use Rattle.dh_rows.specs.Cells.{version_number}
 use Rattle.dh_model.specs.Runs.{batch_size}
 use Rattle.dh_audit.specs.Audit.{IsLeastBroken}
+use Rattle.dh_tables.specs.Calls.{HasOurTables}
 use Rattle.dh_tables.specs.MetaTable.{meta_rows}
 use Rattle.dh_schema.specs.Faults.{IsFirstFault}
 use Rattle.dh_schema.specs.Store.{tables}
@@ -15,6 +19,7 @@ use Rattle.dh_schema.specs.Tables.{HasValues, IsSound, books_in, state_in}
 use Rattle.dh_schema.specs.Version.{GivesAnother, only_version}
 use Rattle.dh_runs.specs.declared.problem.Problem.{Problem}
 use Rattle.dh_runs.specs.declared.problem.Problem.TheVariants as problem
+use Rattle.dh_runs.specs.Problems.{IsNotTaken}
 
 -- Open, between transactions, with the tables that were committed last, sound or not.
 pub record IsResting (s : State) : Type 0 where
@@ -77,12 +82,30 @@ LeavesAsTheyWere old new = (left : Trees) → new.may_leave left → left ≡ ol
 abbrev pub ReadsAsItDid : State → State → Type 0
 ReadsAsItDid old new = IsResting new × (new.now ≡ old.now)
 
--- What a crash leaves, and what it reads, is what the tables were.
-pub record StaysPut (old new : State) : Type 0 where
-  pub crash : LeavesAsTheyWere old new
-  pub same : IsTrue new.is_open → ReadsAsItDid old new
+-- What a crash leaves, and what it reads while it is open, is what the tables were.
+pub record TakesAsTheyAre (old new : State) : Type 0 where
+  pub was_clean : doubt old.is_clean ≤ doubt new.is_clean
+  pub same : HasCleanDisk new → IsTrue new.is_open → ReadsAsItDid old new
+  pub crash : HasCleanDisk new → LeavesAsTheyWere old new
 
 -- the tables are of another version
 abbrev pub IsOfVersion : Problem → Type 0
 IsOfVersion (problem.Refused (refusal.Version found)) = ⊤
 IsOfVersion _ = ⊥
+
+-- Tables of the version that is wanted are taken or not: which ones, for which problem others are not, and which problems there are.
+pub record Sorts {S X : Type 0} (g : Ghosts S) (wanted : Version) (CanBe : Trees → Type 0) (IsProblem : Trees → Problem → Type 0)
+    (IsKnown : Problem → Type 0) (old new : Held S) (result : Result X Problem) : Type 0 where
+  pub taken : HasCleanDisk (state g new) → OnOk result (CanBe (state g old).now.trees)
+  pub refused : HasCleanDisk (state g new) → IfErr result (IsProblem (state g old).now.trees)
+  pub cause : IfErr result IsKnown
+  -- those of another version are as they were
+  pub of_version : HasCleanDisk (state g new) → IfErr result (λ problem. IsOfVersion problem → ReadsAsItDid (state g old) (state g new))
+  -- tables that are not ours are not touched
+  pub others : ¬ HasOurTables (state g old) → IsNotTaken result × (new ≡ old)
+  -- nor are they refused where meta gives this version and they are those of another
+  pub another : HasCleanDisk (state g new) → HasTablesOfAnother wanted (state g old) → IsNotTaken result
+
+-- sound tables of this version are wanted
+abbrev pub Takes : {S X : Type 0} → Ghosts S → Version → Held S → Held S → Result X Problem → Type 0
+Takes g wanted old new result = Sorts g wanted (CanBeTaken wanted) (IsProblemOf wanted) IsFirstProblem old new result

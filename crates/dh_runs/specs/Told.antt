@@ -1,5 +1,10 @@
 -- What a call told, and what it leaves where it is cut.
+use Rattle.std.specs.Prelude.{◌≡◌, ◌⊎◌, ◌≤◌, IsTrue, Result, IfErr, OnErr, OnOk}
+use Rattle.sqlite_trees.specs.View.{doubt}
+use Rattle.sqlite.specs.State as sqlite
+use Rattle.sqlite.specs.State.{HasCleanDisk}
 use Rattle.dh_types.specs.declared.command.Command.{Command}
+use Rattle.dh_types.specs.declared.reply.Fault.{Fault}
 use Rattle.dh_types.specs.declared.reply.Reply.{Reply}
 use Rattle.dh_types.specs.declared.reply.Reply.TheVariants as reply
 use Rattle.dh_types.specs.declared.reply.Refusal.TheVariants as refusal
@@ -7,6 +12,8 @@ use Rattle.dh_model.specs.Books.{State}
 use Rattle.dh_model.specs.Runs.{batch_size}
 use Rattle.dh_laws.specs.Events.{Cut, Happens, Mended, Said, Torn}
 use Rattle.dh_laws.specs.StateTables.{as_tables}
+use Rattle.dh_schema.specs.Faults.{IsFirstFault}
+use Rattle.dh_schema.specs.Store.{IsReadyWith, Leaves, StaysReady, tables}
 use Rattle.dh_runs.specs.declared.running.RunState.{RunState}
 use Rattle.dh_runs.specs.declared.running.RunState.TheVariants as run
 
@@ -37,3 +44,12 @@ IsTorn before after = Happens batch_size Torn (as_tables before) (as_tables afte
 -- a recovery came to its end
 abbrev pub IsMended : State → State → Type 0
 IsMended before after = Happens batch_size Mended (as_tables before) (as_tables after)
+
+-- One step in one transaction: an answer leaves the tables that it makes, and a fault these or those before, while the store is open those
+-- before. A fault is of memory or of the store.
+pub record Steps {X : Type 0} (next : State → State) (result : Result X Fault) (old new : sqlite.State) : Type 0 where
+  pub done : HasCleanDisk new → OnOk result (IsReadyWith new (λ t. t ≡ next (tables old)))
+  pub undone : HasCleanDisk new → IsTrue new.is_open → OnErr result (StaysReady old new)
+  pub cause : IfErr result IsFirstFault
+  pub crash : HasCleanDisk new → Leaves new (λ t. (t ≡ tables old) ⊎ (t ≡ next (tables old)))
+  pub was_clean : doubt old.is_clean ≤ doubt new.is_clean

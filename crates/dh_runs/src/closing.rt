@@ -1,6 +1,6 @@
 //! The end of a run in one transaction.
 
-ghost use Rattle.std.specs.Prelude.{◌≡◌, ◌≤◌, ◌⊎◌, Some, false, IsTrue, IfOk, IfErr, IfNone, IfSome, OnOk, OnErr};
+ghost use Rattle.std.specs.Prelude.{◌≡◌, ◌≤◌, ◌⊎◌, Some, IsTrue, IfOk, IfErr, IfNone, IfSome, OnOk, OnErr};
 ghost use Rattle.std.specs.FinMap.{values};
 ghost use Rattle.sqlite.specs.State.{HasCleanDisk};
 ghost use Rattle.sqlite.specs.Held.{state};
@@ -8,18 +8,19 @@ ghost use Rattle.sqlite_trees.specs.View.{doubt};
 ghost use Rattle.dh_model.specs.Rules.{parts_in};
 ghost use Rattle.dh_model.specs.Runs.{batch_size, batches};
 ghost use Rattle.dh_laws.specs.Batches.{IsAtItsEnd, IsUnderWay, closed_state, sum_told};
+ghost use Rattle.dh_laws.specs.StateTables.{IsStateInOrder};
 ghost use Rattle.dh_schema.specs.Faults.{IsFirstFault};
-ghost use Rattle.dh_schema.specs.Store.{Commits, IsReady, IsReadyWith, Leaves, StaysReady, tables};
+ghost use Rattle.dh_schema.specs.Store.{IsReady, IsReadyWith, Leaves, StaysReady, tables};
 ghost use Rattle.dh_store.specs.Reading.{OnlyReads};
 ghost use Rattle.dh_runs.specs.Closing.{IsOpenMonth, IsSumOfOpen, IsTooMuch, sum_of_parts};
 
 use dh_books::Books;
-use dh_schema::StoreFault;
+use dh_schema::{Put, StoreFault, commit};
 use dh_store::{find_open_run, look, months_now, no_rows};
 use dh_tables::{PartsOfMonth, update};
 use dh_types::{EntryMonth, Pence, RunSum};
 use dh_values::limits::MOST_PENCE;
-use sqlite::{Alter, Connection, Error};
+use sqlite::{Alter, Connection, Error, Transaction};
 use std::alloc::Global;
 
 // What the part rows of the books come to, in a run of this month. `None` where they are more than a run can have.
@@ -66,47 +67,20 @@ fn month_sum<S: Alter>(
     }
 }
 
-// Puts the sum into the row of the open run, which is closed by it, and commits it.
-fn commit_sum<S: Alter>(alloc: Global, conn: &mut Connection<S>, sum: &RunSum) -> Result<(), Error>
-    requires autocommit { (state S.Store conn.old).in_transaction ≡ false }
-    requires ready { HasCleanDisk (state S.Store conn.old) → IsReady (state S.Store conn.old) }
-    requires end { HasCleanDisk (state S.Store conn.old) → IsAtItsEnd (tables (state S.Store conn.old)).books (tables (state S.Store conn.old)).open_run }
-    requires sum { HasCleanDisk (state S.Store conn.old) → IsSumOfOpen sum.now (tables (state S.Store conn.old)).books }
-    ensures done { HasCleanDisk (state S.Store conn.new)
-        → OnOk result (IsReadyWith (state S.Store conn.new) (λ t. t ≡ closed_state (tables (state S.Store conn.old)))) }
-    ensures undone { HasCleanDisk (state S.Store conn.new) → IsTrue (state S.Store conn.new).is_open
-        → OnErr result (StaysReady (state S.Store conn.old) (state S.Store conn.new)) }
-    ensures survives { Commits (state S.Store conn.old) (state S.Store conn.new) (λ t. t ≡ closed_state (tables (state S.Store conn.old))) }
-{
-    let mut tx = conn.transaction();
-    update(alloc, &mut tx, sum)?;
-    tx.commit()?;
-    Ok(())
+// What the open run comes to, of which no batch is left. It closes the row of the run.
+#[derive(Clone, Copy)]
+struct ClosingSum<'a> {
+    sum: &'a RunSum,
 }
 
-// Closes the open run with what it comes to.
-fn close_with<S: Alter>(
-    alloc: Global,
-    conn: &mut Connection<S>,
-    sum: &RunSum,
-) -> Result<(), StoreFault>
-    requires ready { HasCleanDisk (state S.Store conn.old) → IsReady (state S.Store conn.old) }
-    requires end { HasCleanDisk (state S.Store conn.old) → IsAtItsEnd (tables (state S.Store conn.old)).books (tables (state S.Store conn.old)).open_run }
-    requires sum { HasCleanDisk (state S.Store conn.old) → IsSumOfOpen sum.now (tables (state S.Store conn.old)).books }
-    ensures done { HasCleanDisk (state S.Store conn.new)
-        → OnOk result (IsReadyWith (state S.Store conn.new) (λ t. t ≡ closed_state (tables (state S.Store conn.old)))) }
-    ensures undone { HasCleanDisk (state S.Store conn.new) → IsTrue (state S.Store conn.new).is_open
-        → OnErr result (StaysReady (state S.Store conn.old) (state S.Store conn.new)) }
-    ensures cause { IfErr result IsFirstFault }
-    ensures crash { HasCleanDisk (state S.Store conn.new)
-        → Leaves (state S.Store conn.new) (λ t. (t ≡ tables (state S.Store conn.old)) ⊎ (t ≡ closed_state (tables (state S.Store conn.old)))) }
-    ensures was_clean { doubt (state S.Store conn.old).is_clean ≤ doubt (state S.Store conn.new).is_clean }
-{
-    if !conn.is_autocommit() {
-        return Err(StoreFault::unclean(conn));
+impl Put for ClosingSum<'_> {
+    ghost after = { λ _. closed_state };
+
+    ghost fits = { λ it t. IsStateInOrder t × IsAtItsEnd t.books t.open_run × IsSumOfOpen it.sum.now t.books };
+
+    fn put<S: Alter>(&self, alloc: Global, tx: &mut Transaction<'_, S>) -> Result<(), Error> {
+        update(alloc, tx, self.sum)
     }
-    commit_sum(alloc, conn, sum)?;
-    Ok(())
 }
 
 /// Closes the open run of this month, of which no batch is left, in one transaction: its row gets the count and the total of its
@@ -133,7 +107,7 @@ pub(crate) fn close_month<S: Alter>(
     ensures was_clean { doubt (state S.Store conn.old).is_clean ≤ doubt (state S.Store conn.new).is_clean }
 {
     let sum = month_sum(alloc, conn, month)?;
-    close_with(alloc, conn, &sum)?;
+    commit(alloc, conn, &ClosingSum { sum: &sum })?;
     Ok(sum)
 }
 

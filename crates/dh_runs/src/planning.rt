@@ -11,19 +11,22 @@ ghost use Rattle.dh_model.specs.Whole.{batches_shown};
 ghost use Rattle.dh_leases.specs.Plans.{HaveTheLeases, IsPlanOf, IsPlanned};
 ghost use Rattle.dh_schema.specs.Faults.{IsFirstFault};
 ghost use Rattle.dh_schema.specs.Store.{IsReady, Leaves, StaysReady, tables};
-ghost use Rattle.dh_store.specs.Months.{AreMonthsOf};
+ghost use Rattle.dh_store.specs.Months.{IsReadyIn, IsReadyOf};
 ghost use Rattle.dh_store.specs.Reading.{OnlyReads};
 ghost use Rattle.dh_runs.specs.Batches.{CanBePosted, HasRoom};
-ghost use Rattle.dh_runs.specs.Planning.{with_branches, with_lettings};
+ghost use Rattle.dh_runs.specs.Planning.{with_branches};
 
 use dh_books::Books;
 use dh_leases::{Plan, batches_for, plan_of};
 use dh_model::OpenRun;
 use dh_rows::Meta;
 use dh_schema::StoreFault;
-use dh_store::{find_open_run, look, look_at_all, look_at_later, months_now, no_rows, no_rows_of};
+use dh_store::{
+    find_open_run, look, look_at_all, look_at_later, look_at_lettings, months_now, no_rows,
+    no_rows_of,
+};
 use dh_tables::PartsOfMonth;
-use dh_types::{Branch, BranchFee, Ending, EntryMonth, Lease, Property, Version};
+use dh_types::{Branch, BranchFee, EntryMonth, Version};
 use sqlite::{Alter, Connection};
 use std::alloc::Global;
 
@@ -59,14 +62,13 @@ fn done_in<S: Alter>(
     Ok(batches_done(&books))
 }
 
-// How far the open run is. The months are those of the tables.
+// How far the open run is.
 fn run_now<S: Alter>(
     alloc: Global,
     conn: &mut Connection<S>,
     months: Meta,
 ) -> Result<Option<OpenRun>, StoreFault>
-    requires ready { HasCleanDisk (state S.Store conn.old) → IsReady (state S.Store conn.old) }
-    requires months { HasCleanDisk (state S.Store conn.old) → AreMonthsOf months (tables (state S.Store conn.old)).books }
+    requires { HasCleanDisk (state S.Store conn.old) → IsReadyIn months (state S.Store conn.old) }
     ensures told { HasCleanDisk (state S.Store conn.new) → IfOk result (λ run. run ≡ (tables (state S.Store conn.old)).open_run) }
     ensures room { IfOk result (λ run. IfSome run (λ it. HasRoom it.done)) }
     ensures reads { OnlyReads (state S.Store conn.old) (state S.Store conn.new) result }
@@ -81,15 +83,14 @@ fn run_now<S: Alter>(
     }))
 }
 
-// Puts the branches with their fees into books that have none. The version is that of the tables.
+// Puts the branches with their fees into books that have none.
 fn look_at_branches<S: Alter>(
     alloc: Global,
     conn: &mut Connection<S>,
     version: Version,
     books: &mut Books,
 ) -> Result<(), StoreFault>
-    requires ready { HasCleanDisk (state S.Store conn.old) → IsReady (state S.Store conn.old) }
-    requires version { HasCleanDisk (state S.Store conn.old) → version ≡ (tables (state S.Store conn.old)).books.version }
+    requires ready { HasCleanDisk (state S.Store conn.old) → IsReadyOf version (state S.Store conn.old) }
     requires branches { HasCleanDisk (state S.Store conn.old) → books.old.books.branches ≡ fin.empty }
     requires fees { HasCleanDisk (state S.Store conn.old) → books.old.books.branch_fees ≡ fin.empty }
     ensures taken { HasCleanDisk (state S.Store conn.new) → OnOk result (books.new ≡ with_branches (tables (state S.Store conn.old)).books books.old) }
@@ -99,34 +100,13 @@ fn look_at_branches<S: Alter>(
     look_at_later::<BranchFee, S>(alloc, conn, version, books)
 }
 
-// Puts the properties, the leases and the endings into books that have none. The version is that of the tables.
-fn look_at_lettings<S: Alter>(
-    alloc: Global,
-    conn: &mut Connection<S>,
-    version: Version,
-    books: &mut Books,
-) -> Result<(), StoreFault>
-    requires ready { HasCleanDisk (state S.Store conn.old) → IsReady (state S.Store conn.old) }
-    requires version { HasCleanDisk (state S.Store conn.old) → version ≡ (tables (state S.Store conn.old)).books.version }
-    requires properties { HasCleanDisk (state S.Store conn.old) → books.old.books.properties ≡ fin.empty }
-    requires leases { HasCleanDisk (state S.Store conn.old) → books.old.books.leases ≡ fin.empty }
-    requires endings { HasCleanDisk (state S.Store conn.old) → books.old.books.endings ≡ fin.empty }
-    ensures taken { HasCleanDisk (state S.Store conn.new) → OnOk result (books.new ≡ with_lettings (tables (state S.Store conn.old)).books books.old) }
-    ensures reads { OnlyReads (state S.Store conn.old) (state S.Store conn.new) result }
-{
-    look_at_all::<Property, S>(alloc, conn, books)?;
-    look_at_all::<Lease, S>(alloc, conn, books)?;
-    look_at_later::<Ending, S>(alloc, conn, version, books)
-}
-
-// Books of the version, which is that of the tables, with their branches and fees, their properties, leases and endings.
+// Books of the version, with the branches and fees, the properties, leases and endings of the tables.
 fn books_of_leases<S: Alter>(
     alloc: Global,
     conn: &mut Connection<S>,
     version: Version,
 ) -> Result<Books, StoreFault>
-    requires ready { HasCleanDisk (state S.Store conn.old) → IsReady (state S.Store conn.old) }
-    requires version { HasCleanDisk (state S.Store conn.old) → version ≡ (tables (state S.Store conn.old)).books.version }
+    requires { HasCleanDisk (state S.Store conn.old) → IsReadyOf version (state S.Store conn.old) }
     ensures taken { HasCleanDisk (state S.Store conn.new) → IfOk result (λ books. HaveTheLeases books.books (tables (state S.Store conn.old)).books) }
     ensures reads { OnlyReads (state S.Store conn.old) (state S.Store conn.new) result }
 {
@@ -136,15 +116,14 @@ fn books_of_leases<S: Alter>(
     Ok(books)
 }
 
-// The batches that the run lacks, which is the open one. The version is that of the tables.
+// The batches that the run lacks, which is the open one.
 fn plan_open<S: Alter>(
     alloc: Global,
     conn: &mut Connection<S>,
     version: Version,
     run: OpenRun,
 ) -> Result<Plan, StoreFault>
-    requires ready { HasCleanDisk (state S.Store conn.old) → IsReady (state S.Store conn.old) }
-    requires version { HasCleanDisk (state S.Store conn.old) → version ≡ (tables (state S.Store conn.old)).books.version }
+    requires ready { HasCleanDisk (state S.Store conn.old) → IsReadyOf version (state S.Store conn.old) }
     requires run { HasCleanDisk (state S.Store conn.old) → (tables (state S.Store conn.old)).open_run ≡ Some run }
     requires room { HasRoom run.done }
     ensures told { HasCleanDisk (state S.Store conn.new) → IfOk result (λ plan. IsPlanOf plan (tables (state S.Store conn.old))) }
@@ -152,10 +131,7 @@ fn plan_open<S: Alter>(
     ensures reads { OnlyReads (state S.Store conn.old) (state S.Store conn.new) result }
 {
     let books = books_of_leases(alloc, conn, version)?;
-    match plan_of(alloc, &books, run) {
-        Ok(plan) => Ok(plan),
-        Err(error) => Err(error.into()),
-    }
+    Ok(plan_of(alloc, &books, run)?)
 }
 
 /// The batches that the open run lacks, or `None` where no run is open. It reads the version and the months, the branches with their fees, the

@@ -1,21 +1,20 @@
 //! A batch in one transaction.
 
-ghost use Rattle.std.specs.Prelude.{◌≡◌, ◌≤◌, ◌⊎◌, false, IsTrue, IfOk, IfErr, OnOk, OnErr};
+ghost use Rattle.std.specs.Prelude.{◌≡◌, ◌≤◌, ◌⊎◌, IsTrue, IfOk, IfErr, OnOk, OnErr};
 ghost use Rattle.sqlite.specs.State.{HasCleanDisk};
 ghost use Rattle.sqlite.specs.Held.{state};
 ghost use Rattle.sqlite_trees.specs.View.{doubt};
 ghost use Rattle.dh_laws.specs.Batches.{IsUnderWay, next_batch};
-ghost use Rattle.dh_laws.specs.StateTables.{IsStateInOrder};
-ghost use Rattle.dh_leases.specs.Plans.{AreNew, FallsInTime, HasItsPart, IsPlanOf, with_batch_rows};
+ghost use Rattle.dh_leases.specs.Plans.{IsPlanOf};
 ghost use Rattle.dh_schema.specs.Faults.{IsFirstFault};
-ghost use Rattle.dh_schema.specs.Store.{Commits, IsReady, IsReadyWith, Leaves, StaysReady, tables};
+ghost use Rattle.dh_schema.specs.Store.{IsReady, IsReadyWith, Leaves, StaysReady, tables};
 ghost use Rattle.dh_runs.specs.Batches.{CanBePosted, batch_told};
 
 use crate::planning::plan_run;
-use crate::rows::put_rows;
-use dh_leases::{BatchRows, Plan};
-use dh_schema::StoreFault;
-use sqlite::{Alter, Connection, Error};
+use crate::rows::PostedRows;
+use dh_leases::Plan;
+use dh_schema::{StoreFault, commit};
+use sqlite::{Alter, Connection};
 use std::alloc::Global;
 
 /// What posting a batch comes to.
@@ -25,59 +24,6 @@ pub enum Batch {
     Posted { done: u128, of: u128 },
     /// No batch of the run was left.
     NoneLeft,
-}
-
-// Puts the rows of a batch into the tables and commits them.
-fn commit_rows<S: Alter>(
-    alloc: Global,
-    conn: &mut Connection<S>,
-    rows: &BatchRows,
-) -> Result<(), Error>
-    requires autocommit { (state S.Store conn.old).in_transaction ≡ false }
-    requires ready { HasCleanDisk (state S.Store conn.old) → IsReady (state S.Store conn.old) }
-    requires order { HasCleanDisk (state S.Store conn.old) → IsStateInOrder (with_batch_rows rows.now (tables (state S.Store conn.old))) }
-    requires new { HasCleanDisk (state S.Store conn.old) → AreNew rows.now.charges.items (tables (state S.Store conn.old)).books.charges }
-    requires known { HasCleanDisk (state S.Store conn.old) → HasItsPart rows.now (tables (state S.Store conn.old)) }
-    requires in_time { FallsInTime rows.now }
-    ensures done { HasCleanDisk (state S.Store conn.new)
-        → OnOk result (IsReadyWith (state S.Store conn.new) (λ t. t ≡ with_batch_rows rows.now (tables (state S.Store conn.old)))) }
-    ensures undone { HasCleanDisk (state S.Store conn.new) → IsTrue (state S.Store conn.new).is_open
-        → OnErr result (StaysReady (state S.Store conn.old) (state S.Store conn.new)) }
-    ensures survives { Commits (state S.Store conn.old) (state S.Store conn.new) (λ t. t ≡ with_batch_rows rows.now (tables (state S.Store conn.old))) }
-{
-    let mut tx = conn.transaction();
-    put_rows(alloc, &mut tx, rows)?;
-    tx.commit()?;
-    Ok(())
-}
-
-/// Puts the rows of a batch into the tables, in one transaction: charges that are new, and the part row of their branch in the place
-/// of what the branch had of the run. They must leave the books in order, and fall due in months that lines know. At a fault the tables
-/// are these or those before, and while the store is open those before.
-pub(crate) fn post_rows<S: Alter>(
-    alloc: Global,
-    conn: &mut Connection<S>,
-    rows: &BatchRows,
-) -> Result<(), StoreFault>
-    requires ready { HasCleanDisk (state S.Store conn.old) → IsReady (state S.Store conn.old) }
-    requires order { HasCleanDisk (state S.Store conn.old) → IsStateInOrder (with_batch_rows rows.now (tables (state S.Store conn.old))) }
-    requires new { HasCleanDisk (state S.Store conn.old) → AreNew rows.now.charges.items (tables (state S.Store conn.old)).books.charges }
-    requires known { HasCleanDisk (state S.Store conn.old) → HasItsPart rows.now (tables (state S.Store conn.old)) }
-    requires in_time { FallsInTime rows.now }
-    ensures done { HasCleanDisk (state S.Store conn.new)
-        → OnOk result (IsReadyWith (state S.Store conn.new) (λ t. t ≡ with_batch_rows rows.now (tables (state S.Store conn.old)))) }
-    ensures undone { HasCleanDisk (state S.Store conn.new) → IsTrue (state S.Store conn.new).is_open
-        → OnErr result (StaysReady (state S.Store conn.old) (state S.Store conn.new)) }
-    ensures cause { IfErr result IsFirstFault }
-    ensures crash { HasCleanDisk (state S.Store conn.new)
-        → Leaves (state S.Store conn.new) (λ t. (t ≡ tables (state S.Store conn.old)) ⊎ (t ≡ with_batch_rows rows.now (tables (state S.Store conn.old)))) }
-    ensures was_clean { doubt (state S.Store conn.old).is_clean ≤ doubt (state S.Store conn.new).is_clean }
-{
-    if !conn.is_autocommit() {
-        return Err(StoreFault::unclean(conn));
-    }
-    commit_rows(alloc, conn, rows)?;
-    Ok(())
 }
 
 // Posts the first batch of the plan, if it has one.
@@ -103,7 +49,7 @@ fn post_first<S: Alter>(
     let Some(rows) = plan.batches.first() else {
         return Ok(Batch::NoneLeft);
     };
-    post_rows(alloc, conn, rows)?;
+    commit(alloc, conn, &PostedRows { rows })?;
     Ok(Batch::Posted {
         done: plan.done + 1,
         of: plan.done + plan.batches.len() as u128,

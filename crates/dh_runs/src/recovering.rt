@@ -1,15 +1,13 @@
 //! Recovery: the open run is made to its end.
 
-ghost use Rattle.std.specs.Prelude.{◌≡◌, ◌≤◌, IsTrue, IfErr, OnOk, OnErr};
+ghost use Rattle.std.specs.Prelude.{◌≤◌, IsTrue, IfErr, OnOk, OnErr};
 ghost use Rattle.sqlite.specs.State.{HasCleanDisk};
 ghost use Rattle.sqlite.specs.Held.{state};
 ghost use Rattle.sqlite_trees.specs.View.{doubt};
-ghost use Rattle.dh_tables.specs.Calls.{HasOurTables};
 ghost use Rattle.dh_schema.specs.Faults.{IsFirstFault};
 ghost use Rattle.dh_schema.specs.Store.{IsReady, IsReadyWith, Leaves, tables};
-ghost use Rattle.dh_schema.specs.Tables.{IsSound};
-ghost use Rattle.dh_runs.specs.Problems.{IsNotTaken};
-ghost use Rattle.dh_runs.specs.Taking.{CanBeTaken, HasTablesOfAnother, HasVersion, IsFirstProblem, IsOfVersion, IsProblemOf, IsResting, ReadsAsItDid, StaysPut};
+ghost use Rattle.dh_runs.specs.Taken.{Halts, TakesForward};
+ghost use Rattle.dh_runs.specs.Taking.{CanBeTaken, HasVersion, IsResting, Takes, TakesAsTheyAre};
 ghost use Rattle.dh_runs.specs.Told.{IsMended, IsTorn};
 
 use crate::problem::Problem;
@@ -51,24 +49,10 @@ pub fn recover_in<S: Alter>(
     ensures mended { HasCleanDisk (state S.Store conn.new)
         → OnOk result (IsReadyWith (state S.Store conn.new) (IsMended (tables (state S.Store conn.old)))) }
     ensures version { HasCleanDisk (state S.Store conn.new) → OnOk result (HasVersion wanted (state S.Store conn.new)) }
-    ensures taken { HasCleanDisk (state S.Store conn.new) → OnOk result (CanBeTaken wanted (state S.Store conn.old).now.trees) }
-    ensures refused { HasCleanDisk (state S.Store conn.new) → IfErr result (IsProblemOf wanted (state S.Store conn.old).now.trees) }
-    ensures cause { IfErr result IsFirstProblem }
-    ensures of_version { HasCleanDisk (state S.Store conn.new)
-        → IfErr result (λ problem. IsOfVersion problem → ReadsAsItDid (state S.Store conn.old) (state S.Store conn.new)) }
-    ensures crash { HasCleanDisk (state S.Store conn.new) → IsSound (state S.Store conn.old).now.trees
-        → Leaves (state S.Store conn.new) (IsTorn (tables (state S.Store conn.old))) }
-    ensures halted { HasCleanDisk (state S.Store conn.new) → IsTrue (state S.Store conn.new).is_open
-        → HasOurTables (state S.Store conn.old) → IsSound (state S.Store conn.old).now.trees
-        → OnErr result (IsReadyWith (state S.Store conn.new) (IsTorn (tables (state S.Store conn.old)))) }
-    ensures resting { HasCleanDisk (state S.Store conn.new) → IsTrue (state S.Store conn.new).is_open → IsSound (state S.Store conn.old).now.trees
-        → OnErr result (IsResting (state S.Store conn.new) × IsSound (state S.Store conn.new).now.trees
-        × IsTorn (tables (state S.Store conn.old)) (tables (state S.Store conn.new))) }
-    ensures not_taken { HasCleanDisk (state S.Store conn.new) → ¬ CanBeTaken wanted (state S.Store conn.old).now.trees
-        → StaysPut (state S.Store conn.old) (state S.Store conn.new) }
-    ensures others { ¬ HasOurTables (state S.Store conn.old) → IsNotTaken result × (conn.new ≡ conn.old) }
-    ensures another { HasCleanDisk (state S.Store conn.new) → HasTablesOfAnother wanted (state S.Store conn.old) → IsNotTaken result }
-    ensures was_clean { doubt (state S.Store conn.old).is_clean ≤ doubt (state S.Store conn.new).is_clean }
+    ensures takes { Takes S.Store wanted conn.old conn.new result }
+    ensures forward { TakesForward (state S.Store conn.old) (state S.Store conn.new) }
+    ensures halted { OnErr result (Halts (state S.Store conn.old) (state S.Store conn.new)) }
+    ensures not_taken { ¬ CanBeTaken wanted (state S.Store conn.old).now.trees → TakesAsTheyAre (state S.Store conn.old) (state S.Store conn.new) }
 {
     // That the trees list the schema is what each connection keeps true of itself.
     let _listed = conn.schema();

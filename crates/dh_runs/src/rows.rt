@@ -7,12 +7,13 @@ ghost use Rattle.sqlite.specs.Held.{state};
 ghost use Rattle.dh_days.specs.Days.{month_of_day};
 ghost use Rattle.dh_days.specs.declared.limits.TheConstants.{LAST_ENTRY_MONTH};
 ghost use Rattle.dh_model.specs.Runs.{charge_key, part_key};
-ghost use Rattle.dh_leases.specs.Plans.{AreNew, FallsInTime, HasItsFeeRow, HasItsPart, some_row};
+ghost use Rattle.dh_leases.specs.Plans.{AreNew, FallsInTime, HasItsFeeRow, HasItsPart, some_row, with_batch_rows};
 ghost use Rattle.dh_schema.specs.Store.{IsWriting, tables};
-ghost use Rattle.dh_store.specs.Putting.{TurnsBooks};
-ghost use Rattle.dh_runs.specs.Putting.{with_charge, with_charges, with_fees, with_part, with_rows_of};
+ghost use Rattle.dh_schema.specs.Putting.{TurnsBooks};
+ghost use Rattle.dh_runs.specs.Putting.{with_charge, with_charges, with_fees, with_part};
 
 use dh_leases::BatchRows;
+use dh_schema::Put;
 use dh_tables::{insert, update};
 use dh_types::{Charge, Part, PartFee};
 use sqlite::{Alter, Error, Transaction};
@@ -110,20 +111,24 @@ fn put_some_fee<S: Alter>(
     }
 }
 
-/// Puts the charges, which are new, and the part row and the fee row, in the place of those that the branch has, if it has them.
-pub(crate) fn put_rows<S: Alter>(
-    alloc: Global,
-    tx: &mut Transaction<'_, S>,
-    rows: &BatchRows,
-) -> Result<(), Error>
-    requires writing { HasCleanDisk (state S.Store tx.old.conn.now) → IsWriting (state S.Store tx.old.conn.now) }
-    requires new { HasCleanDisk (state S.Store tx.old.conn.now) → AreNew rows.now.charges.items (tables (state S.Store tx.old.conn.now)).books.charges }
-    requires known { HasCleanDisk (state S.Store tx.old.conn.now) → HasItsPart rows.now (tables (state S.Store tx.old.conn.now)) }
-    requires in_time { FallsInTime rows.now }
-    ensures same_reference { tx.new.conn.ghost_name ≡ tx.old.conn.ghost_name }
-    ensures puts { TurnsBooks (with_rows_of rows.now) result (state S.Store tx.old.conn.now) (state S.Store tx.new.conn.now) }
-{
-    put_charges(alloc, tx, &rows.charges)?;
-    put_part(alloc, tx, &rows.part, rows.has_part)?;
-    put_some_fee(alloc, tx, &rows.fee, rows.has_part)
+/// The rows of a batch: charges that are new, and a part row and a fee row that take the place of those that the branch has, if it has
+/// them. The charges fall due in months that lines know.
+#[derive(Clone, Copy)]
+pub(crate) struct PostedRows<'a> {
+    pub rows: &'a BatchRows,
+}
+
+impl Put for PostedRows<'_> {
+    ghost after = { λ it. with_batch_rows it.rows.now };
+
+    ghost fits = { λ it t. AreNew it.rows.now.charges.items t.books.charges × HasItsPart it.rows.now t };
+
+    ghost can_put = { λ it. FallsInTime it.rows.now };
+
+    fn put<S: Alter>(&self, alloc: Global, tx: &mut Transaction<'_, S>) -> Result<(), Error> {
+        let rows = self.rows;
+        put_charges(alloc, tx, &rows.charges)?;
+        put_part(alloc, tx, &rows.part, rows.has_part)?;
+        put_some_fee(alloc, tx, &rows.fee, rows.has_part)
+    }
 }

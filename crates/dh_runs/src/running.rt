@@ -19,9 +19,9 @@ ghost use Rattle.dh_runs.specs.Told.{IsAtEnd, IsCut, IsSaid, reply_of};
 use crate::closing::close_month;
 use crate::opening::open_run;
 use crate::planning::plan_run;
-use crate::posting::post_rows;
+use crate::rows::PostedRows;
 use dh_leases::Plan;
-use dh_schema::StoreFault;
+use dh_schema::{StoreFault, commit};
 use dh_types::{Progress, RunOrder, RunSum};
 use sqlite::{Alter, Connection};
 use std::alloc::Global;
@@ -60,7 +60,7 @@ fn post_planned<S: Alter>(
     let left = plan.batches.len();
     let count = most.min(left as u128) as usize;
     for rows in &plan.batches[..count] {
-        post_rows(alloc, conn, rows)?;
+        commit(alloc, conn, &PostedRows { rows })?;
     }
     if count < left {
         return Ok(RunState::Part(Progress {
@@ -113,7 +113,8 @@ pub fn run_all<S: Alter>(
     ensures ready { HasCleanDisk (state S.Store conn.new) → OnOk result (IsReady (state S.Store conn.new)) }
     ensures said { HasCleanDisk (state S.Store conn.new)
         → IfOk result (λ sum. IsSaid (command.Run order.now) (reply.Posted sum) (tables (state S.Store conn.old)) (tables (state S.Store conn.new))) }
-    ensures crash { HasCleanDisk (state S.Store conn.new) → Leaves (state S.Store conn.new) (IsCut (command.Run order.now) (tables (state S.Store conn.old))) }
+    ensures crash { HasCleanDisk (state S.Store conn.new)
+        → Leaves (state S.Store conn.new) (IsCut (command.Run order.now) (tables (state S.Store conn.old))) }
     ensures halted { HasCleanDisk (state S.Store conn.new) → IsTrue (state S.Store conn.new).is_open
         → OnErr result (IsReadyWith (state S.Store conn.new) (IsCut (command.Run order.now) (tables (state S.Store conn.old)))) }
     ensures cause { IfErr result IsFirstFault }

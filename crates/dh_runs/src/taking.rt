@@ -1,10 +1,9 @@
 //! Whether tables are taken.
 
-ghost use Rattle.std.specs.Prelude.{◌≡◌, ◌≤◌, IsTrue, IfOk, IfErr, OnOk, OnErr};
+ghost use Rattle.std.specs.Prelude.{◌≡◌, ◌≤◌, IsTrue, IfOk, IfErr, OnOk};
 ghost use Rattle.sqlite.specs.State.{HasCleanDisk};
 ghost use Rattle.sqlite.specs.Held.{state};
 ghost use Rattle.sqlite_trees.specs.View.{doubt};
-ghost use Rattle.sqlite_trees.specs.Tree.{Trees};
 ghost use Rattle.dh_model.specs.Rules.{MeetsRules};
 ghost use Rattle.dh_model.specs.Runs.{batch_size};
 ghost use Rattle.dh_catalog.specs.Versions.{schema_of};
@@ -12,7 +11,8 @@ ghost use Rattle.dh_tables.specs.Calls.{HasOurTables};
 ghost use Rattle.dh_schema.specs.Store.{HasItsSchema, IsReady, tables};
 ghost use Rattle.dh_schema.specs.Tables.{IsSound, books_in};
 ghost use Rattle.dh_runs.specs.Problems.{IsFoundIn, IsNotTaken};
-ghost use Rattle.dh_runs.specs.Taking.{CanBeTaken, GivesVersion, HasTablesOfAnother, HasVersion, IsFirstProblem, IsOfVersion, IsProblemOf, IsResting};
+ghost use Rattle.dh_runs.specs.Taking.{GivesVersion, HasTablesOfAnother, HasVersion, IsFirstProblem, IsOfVersion, IsProblemOf, IsResting, LeavesAsTheyWere};
+ghost use Rattle.dh_runs.specs.Taking.{ReadsAsItDid, Takes, TakesAsTheyAre};
 
 use crate::problem::Problem;
 use dh_audit::audit;
@@ -43,9 +43,8 @@ fn check_version<S: Alter>(
     ensures others { ¬ HasOurTables (state S.Store conn.old) → IsNotTaken result × (conn.new ≡ conn.old) }
     ensures another { HasCleanDisk (state S.Store conn.new) → HasTablesOfAnother wanted (state S.Store conn.old) → IsNotTaken result }
     ensures same { HasCleanDisk (state S.Store conn.new) → IsTrue (state S.Store conn.new).is_open
-        → IsResting (state S.Store conn.new) × ((state S.Store conn.new).now ≡ (state S.Store conn.old).now) }
-    ensures crash { HasCleanDisk (state S.Store conn.new)
-        → (left : Trees) → (state S.Store conn.new).may_leave left → left ≡ (state S.Store conn.old).now.trees }
+        → ReadsAsItDid (state S.Store conn.old) (state S.Store conn.new) }
+    ensures crash { HasCleanDisk (state S.Store conn.new) → LeavesAsTheyWere (state S.Store conn.old) (state S.Store conn.new) }
     ensures was_clean { doubt (state S.Store conn.old).is_clean ≤ doubt (state S.Store conn.new).is_clean }
 {
     let found = version(alloc, conn)?;
@@ -84,9 +83,8 @@ fn check_rows<S: Alter>(
     ensures cause { IfErr result IsFirstProblem }
     ensures still { HasCleanDisk (state S.Store conn.new) → OnOk result (IsTrue (state S.Store conn.new).is_open) }
     ensures same { HasCleanDisk (state S.Store conn.new) → IsTrue (state S.Store conn.new).is_open
-        → IsResting (state S.Store conn.new) × ((state S.Store conn.new).now ≡ (state S.Store conn.old).now) }
-    ensures crash { HasCleanDisk (state S.Store conn.new)
-        → (left : Trees) → (state S.Store conn.new).may_leave left → left ≡ (state S.Store conn.old).now.trees }
+        → ReadsAsItDid (state S.Store conn.old) (state S.Store conn.new) }
+    ensures crash { HasCleanDisk (state S.Store conn.new) → LeavesAsTheyWere (state S.Store conn.old) (state S.Store conn.new) }
     ensures was_clean { doubt (state S.Store conn.old).is_clean ≤ doubt (state S.Store conn.new).is_clean }
 {
     let books = load_tables(alloc, conn, version)?;
@@ -104,18 +102,8 @@ pub fn checked_books<S: Alter>(
     ensures books { HasCleanDisk (state S.Store conn.new) → IfOk result (λ it. it.books ≡ (tables (state S.Store conn.old)).books) }
     ensures ready { HasCleanDisk (state S.Store conn.new) → OnOk result (IsReady (state S.Store conn.new)) }
     ensures version { HasCleanDisk (state S.Store conn.new) → OnOk result (HasVersion wanted (state S.Store conn.new)) }
-    ensures taken { HasCleanDisk (state S.Store conn.new) → OnOk result (CanBeTaken wanted (state S.Store conn.old).now.trees) }
-    ensures refused { HasCleanDisk (state S.Store conn.new) → IfErr result (IsProblemOf wanted (state S.Store conn.old).now.trees) }
-    ensures cause { IfErr result IsFirstProblem }
-    ensures still_open { HasCleanDisk (state S.Store conn.new)
-        → IfErr result (λ problem. IsOfVersion problem → IsTrue (state S.Store conn.new).is_open) }
-    ensures others { ¬ HasOurTables (state S.Store conn.old) → IsNotTaken result × (conn.new ≡ conn.old) }
-    ensures another { HasCleanDisk (state S.Store conn.new) → HasTablesOfAnother wanted (state S.Store conn.old) → IsNotTaken result }
-    ensures same { HasCleanDisk (state S.Store conn.new) → IsTrue (state S.Store conn.new).is_open
-        → IsResting (state S.Store conn.new) × ((state S.Store conn.new).now ≡ (state S.Store conn.old).now) }
-    ensures crash { HasCleanDisk (state S.Store conn.new)
-        → (left : Trees) → (state S.Store conn.new).may_leave left → left ≡ (state S.Store conn.old).now.trees }
-    ensures was_clean { doubt (state S.Store conn.old).is_clean ≤ doubt (state S.Store conn.new).is_clean }
+    ensures takes { Takes S.Store wanted conn.old conn.new result }
+    ensures kept { TakesAsTheyAre (state S.Store conn.old) (state S.Store conn.new) }
 {
     let version = check_version(alloc, conn, wanted)?;
     check_rows(alloc, conn, wanted, version)
@@ -133,18 +121,8 @@ pub fn check<S: Alter>(
     requires { HasCleanDisk (state S.Store conn.old) → IsResting (state S.Store conn.old) }
     ensures ready { HasCleanDisk (state S.Store conn.new) → OnOk result (IsReady (state S.Store conn.new)) }
     ensures version { HasCleanDisk (state S.Store conn.new) → OnOk result (HasVersion wanted (state S.Store conn.new)) }
-    ensures taken { HasCleanDisk (state S.Store conn.new) → OnOk result (CanBeTaken wanted (state S.Store conn.old).now.trees) }
-    ensures refused { HasCleanDisk (state S.Store conn.new) → IfErr result (IsProblemOf wanted (state S.Store conn.old).now.trees) }
-    ensures cause { IfErr result IsFirstProblem }
-    ensures still_open { HasCleanDisk (state S.Store conn.new)
-        → IfErr result (λ problem. IsOfVersion problem → IsTrue (state S.Store conn.new).is_open) }
-    ensures others { ¬ HasOurTables (state S.Store conn.old) → IsNotTaken result × (conn.new ≡ conn.old) }
-    ensures another { HasCleanDisk (state S.Store conn.new) → HasTablesOfAnother wanted (state S.Store conn.old) → IsNotTaken result }
-    ensures same { HasCleanDisk (state S.Store conn.new) → IsTrue (state S.Store conn.new).is_open
-        → IsResting (state S.Store conn.new) × ((state S.Store conn.new).now ≡ (state S.Store conn.old).now) }
-    ensures crash { HasCleanDisk (state S.Store conn.new)
-        → (left : Trees) → (state S.Store conn.new).may_leave left → left ≡ (state S.Store conn.old).now.trees }
-    ensures was_clean { doubt (state S.Store conn.old).is_clean ≤ doubt (state S.Store conn.new).is_clean }
+    ensures takes { Takes S.Store wanted conn.old conn.new result }
+    ensures kept { TakesAsTheyAre (state S.Store conn.old) (state S.Store conn.new) }
 {
     let _books = checked_books(alloc, conn, wanted)?;
     Ok(())

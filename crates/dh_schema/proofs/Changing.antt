@@ -1,5 +1,5 @@
 -- A change of one table, as one of the books.
-use Rattle.std.proofs.Common.{◌≡◌, ◌∙◌, inl, inr, sym, ap, subst, ℕ, nat_eq, false, List, map, Option, Some, slice_get, arith}
+use Rattle.std.proofs.Common.{◌≡◌, ◌∙◌, inl, inr, sym, ap, subst, ℕ, nat_eq, false, List, map, Some, slice_get}
 use Rattle.std.proofs.lemmas.Bool.{cases_Bool}
 use Rattle.std.specs.FinMap.{FinMap}
 use Rattle.sqlite_value.specs.Order.{Row}
@@ -8,17 +8,9 @@ use Rattle.sqlite_catalog.specs.Listing as catalog
 use Rattle.sqlite_trees.specs.Tree.{Trees}
 use Rattle.sqlite.specs.State.{State}
 use Rattle.dh_types.specs.declared.version.Version.{Version}
-use Rattle.dh_model.specs.declared.open_run.OpenRun.{OpenRun}
-use Rattle.dh_model.specs.declared.rows.Change.{Change}
-use Rattle.dh_model.specs.Books.{Books}
 use Rattle.dh_model.specs.Books as machine
-use Rattle.dh_model.specs.Machine.{changed}
-use Rattle.dh_model.specs.Rules.{MeetsRules}
 use Rattle.dh_model.specs.Runs.{batch_size}
-use Rattle.dh_model.specs.Whole.{IsOpenAt, run_shown}
-use Rattle.dh_laws.specs.InOrder.{run_after}
-use Rattle.dh_laws.specs.StateTables as office
-use Rattle.dh_laws.proofs.ShownRun.{run_shown_is_reckoned}
+use Rattle.dh_model.specs.Whole.{run_shown}
 use Rattle.dh_rows.specs.Months.{Months}
 use Rattle.dh_rows.specs.MetaRows.{months_back}
 use Rattle.dh_catalog.specs.Versions.{schema_of}
@@ -29,13 +21,10 @@ use Rattle.dh_sql.proofs.Staying.{same_beside}
 use Rattle.dh_tables.specs.MetaTable.{AreMonths, HasMonths, SetsMonths, SetsNext, meta_columns, meta_rows}
 use Rattle.dh_model.specs.Kinds.{HasKind, Kind, came_with, order_of, record_of}
 use Rattle.dh_schema.specs.Kinds.{place_of, shape_of, shelf_of, table_of}
-use Rattle.dh_model.specs.Kinds.{Branches, Staff, Owners, Properties, Clients, Registrations, Viewings, Inspections, Leases, Charges, Receipts, Runs}
-use Rattle.dh_model.specs.Kinds.{Parts, BranchFees, PartFees, Endings}
-use Rattle.dh_schema.specs.Store.{AreTables, HasItsSchema, with_change}
+use Rattle.dh_schema.specs.Store.{HasItsSchema}
 use Rattle.dh_schema.specs.Tables.{AreInOrder, IsTableInOrder, books_in, loaded_from, months_of, records_in, rows_since, version_of_tables}
 use Rattle.dh_schema.proofs.EachKind.{all_since, beside_meta, held_beside, held_in, listed, meta_listed, months_beside, one_kind}
-use Rattle.dh_schema.proofs.EachKind.{same_books, same_since, tree_is}
-use Rattle.dh_schema.proofs.Keyed.{books_are_keyed}
+use Rattle.dh_schema.proofs.EachKind.{same_books, same_but, same_since, tree_is}
 
 -- ---- the version and the months that meta gives
 
@@ -167,41 +156,10 @@ module _ (next : ℕ) (old new : State) (its : HasItsSchema old) (before : AreIn
       let first = ap (λ (rows : List Row). (months_of rows).first) set.months_are.rows_are
       ∙ sym (ap (λ (rows : List Row). (months_of rows).first) is.1.rows_are) in
       let later = ap (λ (rows : List Row). (months_of rows).next) set.months_are.rows_are in
-      λ i. record {
-        branches = records_go_on Branches i;
-        staff = records_go_on Staff i;
-        owners = records_go_on Owners i;
-        properties = records_go_on Properties i;
-        clients = records_go_on Clients i;
-        registrations = records_go_on Registrations i;
-        viewings = records_go_on Viewings i;
-        inspections = records_go_on Inspections i;
-        leases = records_go_on Leases i;
-        charges = records_go_on Charges i;
-        receipts = records_go_on Receipts i;
-        runs = records_go_on Runs i;
-        parts = records_go_on Parts i;
-        branch_fees = records_go_on BranchFees i;
-        part_fees = records_go_on PartFees i;
-        endings = records_go_on Endings i;
-        first = first i;
-        next = later i;
-        version = version_goes_on i;
-      }
+      same_but old.now.trees (books_in old.now.trees).first next (version_of_tables old.now.trees) new.now.trees records_go_on first later version_goes_on
 
 -- ---- the open run
 
 -- loaded books with the open run that they show
 abbrev pub showing : machine.State → machine.State
 showing s = record s { open_run = run_shown batch_size s.books }
-
--- tables with the books of a change that leaves books in order are sound, and show the run that is open after it
-pub sound_with_change : (rows : Change) (before : machine.State) (trees : Trees) → office.IsStateInOrder (with_change rows before) → AreInOrder trees
-    → books_in trees ≡ changed rows before.books → AreTables (λ t. t ≡ with_change rows before) trees
-sound_with_change rows before trees order in_order is =
-    let run : Option OpenRun = run_after before.open_run rows in
-    let shown : IsOpenAt batch_size (books_in trees) run = subst (λ (books : Books). IsOpenAt batch_size books run) (sym is) order.shown in
-    let reckoned = run_shown_is_reckoned batch_size (books_in trees) run (omega arith) (books_are_keyed trees) shown in (
-      record { in_order = in_order; rules = subst (λ (books : Books). MeetsRules books batch_size) (sym is) order.rules },
-      λ i. record { books = is i; open_run = reckoned i },
-    )

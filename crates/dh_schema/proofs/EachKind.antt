@@ -1,5 +1,5 @@
 -- Each kind at its place among the tables and in the books, apart from the others.
-use Rattle.std.proofs.Common.{◌≡◌, refl, ℕ, nat_eq, true, false, Some, slice_get}
+use Rattle.std.proofs.Common.{◌≡◌, ◌∙◌, ap, refl, ℕ, nat_eq, true, false, None, Some, slice_get}
 use Rattle.std.specs.declared.cmp.Ordering.{Ordering}
 use Rattle.std.specs.FinMap.{FinMap, empty}
 use Rattle.sqlite_trees.specs.Tree.{Trees}
@@ -13,7 +13,7 @@ use Rattle.dh_model.specs.Kinds.{HasKind, IsSince, Kind, order_of, record_of}
 use Rattle.dh_schema.specs.Kinds.{place_of, shape_of, shelf_of, table_of}
 use Rattle.dh_model.specs.Kinds.{Branches, Staff, Owners, Properties, Clients, Registrations, Viewings, Inspections, Leases, Charges, Receipts, Runs}
 use Rattle.dh_model.specs.Kinds.{Parts, BranchFees, PartFees, Endings}
-use Rattle.dh_schema.specs.Tables.{empty_over, loaded_from, records_in, rows_since}
+use Rattle.dh_schema.specs.Tables.{books_in, empty_over, loaded_from, records_in, rows_since, version_of_tables}
 
 -- ---- the table
 
@@ -78,6 +78,21 @@ same_books a b held first next version run = λ i. record {
 pub held_in : (kind : Kind) (trees : Trees) → (shelf_of kind).held (loaded_from trees) ≡ records_in kind trees
 held_in Branches trees = refl
 held_in kind trees = refl
+
+-- books of tables that have the same records of each kind are the same but for the months and the version
+module _ (old : Trees) (first next : ℕ) (version : Version) where
+  abbrev but : State
+  but = record { books = record (books_in old) { first = first; next = next; version = version }; open_run = None }
+
+  held_but : (kind : Kind) → records_in kind old ≡ (shelf_of kind).held but
+  held_but Branches = refl
+  held_but kind = refl
+
+  pub same_but : (new : Trees) → ((kind : Kind) → records_in kind new ≡ records_in kind old) → (books_in new).first ≡ first → (books_in new).next ≡ next
+      → version_of_tables new ≡ version → books_in new ≡ record (books_in old) { first = first; next = next; version = version }
+  same_but new records is_first is_next is_version =
+      ap (λ (s : State). s.books)
+      (same_books (loaded_from new) but (λ kind. held_in kind new ∙ records kind ∙ held_but kind) is_first is_next is_version refl)
 
 -- the rows of what the version has are all that the table has
 pub all_since : {K X : Type 0} {R : K → K → Ordering} (came version : Version) (rows : FinMap R X) → IsSince came version → rows_since came version rows ≡ rows

@@ -2,6 +2,7 @@ pub mod EachKind
 pub mod Changing
 pub mod Installing
 pub mod Crashing
+pub mod Committing
 pub mod Keyed
 pub mod OfKind
 pub mod FirstTables

@@ -2,6 +2,7 @@
 use Rattle.std.proofs.Common.{◌≡◌, ◌⊎◌, ◌∙◌, ◌++◌, inl, inr, refl, sym, ap, subst, arith, List, [], ◌∷◌, ℕ, ℤ, pos, Bool, true, false, cond, nat_eq, ◌&&◌, Some, Result, Ok, Err, OnOk, OnErr}
 use Rattle.std.proofs.lemmas.Bool.{and_parts}
 use Rattle.std.specs.List.{AllByRecursion}
+use Rattle.std.specs.FinMap.{empty}
 use Rattle.sqlite_schema.specs.declared.schema.Schema.{Schema}
 use Rattle.sqlite_trees.specs.Tree.{Trees}
 use Rattle.sqlite.specs.Effect.{Database}
@@ -13,17 +14,17 @@ use Rattle.dh_types.specs.declared.version.Version.{Version}
 use Rattle.dh_types.specs.declared.version.Version.TheVariants.{First, Second}
 use Rattle.dh_rows.specs.Cells.{version_number}
 use Rattle.sqlite_catalog.specs.Listing as catalog
-use Rattle.dh_catalog.specs.Versions.{IsOurs, schema_of}
-use Rattle.dh_sql.specs.Shape.{rows_in}
-use Rattle.dh_tables.specs.Calls.{HasOurTables, IsUndone}
+use Rattle.dh_catalog.specs.Versions.{HasSince, schema_of}
+use Rattle.dh_sql.specs.Shape.{IsStored, rows_in}
+use Rattle.dh_tables.specs.Calls.{IsUndone}
 use Rattle.dh_tables.specs.Listing.{IsLoaded}
 use Rattle.dh_tables.specs.MetaTable.{HasMonths, meta_rows}
 use Rattle.dh_schema.specs.declared.load_fault.LoadFault.{LoadFault}
 use Rattle.dh_model.specs.Kinds.{HasKind, IsSince, Kind, came_with, order_of}
-use Rattle.dh_schema.specs.Kinds.{shape_of, shelf_of}
+use Rattle.dh_schema.specs.Kinds.{IsKind, Stored, shape_of, shelf_of}
 use Rattle.dh_model.specs.Kinds.{Branches}
 use Rattle.dh_model.specs.Kinds.{BranchFees, PartFees, Endings}
-use Rattle.dh_schema.specs.Loaded.{AllAreRecords, AreLoaded, HasNone, Loads, Reads, first_kinds, kinds_of, with_records}
+use Rattle.dh_schema.specs.Loaded.{AllAreRecords, AreLoaded, HasNone, HasTablesOf, LacksEach, Loads, Reads, first_kinds, kinds_of, with_records}
 use Rattle.dh_schema.specs.Store.{Keeps}
 use Rattle.dh_schema.specs.Tables.{AreInOrder, AreRecords, HasValues, IsTableInOrder, empty_over, loaded_from, rows_since, version_of_tables}
 use Rattle.dh_schema.specs.Version.{only_version}
@@ -156,11 +157,11 @@ loaded_both ks ls trees before between after first rest = record {
 }
 
 -- what a call on the table of this kind has done
-abbrev pub ReadsKind : Kind → Result (Unit {0}) LoadFault → State → State → machine.State → machine.State → Type 0
+abbrev ReadsKind : Kind → Result (Unit {0}) LoadFault → State → State → machine.State → machine.State → Type 0
 ReadsKind kind r old new before after =
     Reads (IsLoaded (shape_of kind) (order_of kind) (shelf_of kind) old.now.trees before after) (¬ AreRecords kind old.now.trees) r old new
 
-pub one_table : (kind : Kind) {r : Result (Unit {0}) LoadFault} {old new : State} {before after : machine.State} → ReadsKind kind r old new before after
+one_table : (kind : Kind) {r : Result (Unit {0}) LoadFault} {old new : State} {before after : machine.State} → ReadsKind kind r old new before after
     → Loads (kind ∷ []) r old new before after
 one_table kind {r = r} it = record {
   reads = record {
@@ -173,20 +174,55 @@ one_table kind {r = r} it = record {
   };
 }
 
+-- the same of a type of record
+module _ (it : Stored) (is : IsKind it) where
+  pub type_has : (schema : Schema) → HasSince (came_with is.kind) schema → HasSince it.since schema
+  type_has schema = is.by_kind (λ s as_row of_row as_key. HasSince (came_with is.kind) schema → HasSince s.since schema) (λ h. h)
+
+  pub type_lacks : (books : machine.State) → (shelf_of is.kind).held books ≡ empty → it.shelf.held books ≡ empty
+  type_lacks books = is.by_kind (λ s as_row of_row as_key. (shelf_of is.kind).held books ≡ empty → s.shelf.held books ≡ empty) (λ h. h)
+
+  pub type_loads : {r : Result (Unit {0}) LoadFault} {old new : State} {before after : machine.State}
+      → Reads (IsLoaded it.shape it.order it.shelf old.now.trees before after) (¬ AllByRecursion (IsStored it.shape) (old.now.trees it.shape.tree)) r old new
+      → Loads (is.kind ∷ []) r old new before after
+  type_loads {r = r} {old = old} {new = new} {before = before} {after = after} =
+      is.by_kind
+      (λ s as_row of_row as_key. Reads (IsLoaded s.shape s.order s.shelf old.now.trees before after)
+      (¬ AllByRecursion (IsStored s.shape) (old.now.trees s.shape.tree)) r old new → Loads (is.kind ∷ []) r old new before after)
+      (one_table is.kind)
+
+-- books that lack each of some kinds and of others lack each of these, and of those when these are read
+pub lacks_first : (ks ls : List Kind) (trees : Trees) (books : machine.State) → LacksEach (ks ++ ls) trees books → LacksEach ks trees books
+lacks_first [] ls trees books all = tt
+lacks_first (kind ∷ ks) ls trees books all = (all.0, lacks_first ks ls trees (with_records (kind ∷ []) trees books) all.1)
+
+lacks_rest : (ks ls : List Kind) (trees : Trees) (books : machine.State) → LacksEach (ks ++ ls) trees books
+    → LacksEach ls trees (with_records ks trees books)
+lacks_rest [] ls trees books all = all
+lacks_rest (kind ∷ ks) ls trees books all = lacks_rest ks ls trees (with_records (kind ∷ []) trees books) all.1
+
+-- books without a record lack each
+pub lacks_all : (version : Version) (trees : Trees) (books : machine.State) → HasNone (kinds_of version) books → LacksEach (kinds_of version) trees books
+lacks_all First trees books none = none
+lacks_all Second trees books none = none
+
 module _ {ks : List Kind} {done : Unit {0}} {old mid : State} {before between : machine.State} (first : Loads ks (Ok done) old mid before between) where
   -- the store is as it was
-  pub still_has : (P : Schema → Type 0) → (HasCleanDisk old → P old.now.schema) → HasCleanDisk mid → P mid.now.schema
-  still_has P has clean =
-      subst P (sym (ap (λ (d : Database). d.schema) (first.reads.same clean).0.now_is)) (has (omega (arith, first.reads.crash.clean, clean)))
+  same_db : HasCleanDisk mid → mid.now ≡ old.now
+  same_db clean = (first.reads.same clean).0.now_is
 
-  pub still_ours : (HasCleanDisk old → HasOurTables old) → HasCleanDisk mid → HasOurTables mid
-  still_ours = still_has IsOurs
+  pub still_has : (ls : List Kind) → (HasCleanDisk old → HasTablesOf (ks ++ ls) old.now.schema) → HasCleanDisk mid → HasTablesOf ls mid.now.schema
+  still_has ls has clean =
+      subst (λ (d : Database). HasTablesOf ls d.schema) (sym (same_db clean))
+      (all_behind (λ kind. HasSince (came_with kind) old.now.schema) ks ls (has (omega (arith, first.reads.crash.clean, clean))))
 
   -- and books that lack records of other kinds still lack them
-  pub still_none : (kinds : List Kind) → (HasCleanDisk old → HasNone kinds (with_records ks old.now.trees before)) → HasCleanDisk mid
-      → HasNone kinds between
-  still_none kinds none clean =
-      subst (HasNone kinds) (sym (first.reads.done clean).books) (none (omega (arith, first.reads.crash.clean, clean)))
+  pub still_lacks : (ls : List Kind) → (HasCleanDisk old → LacksEach (ks ++ ls) old.now.trees before) → HasCleanDisk mid
+      → LacksEach ls mid.now.trees between
+  still_lacks ls none clean =
+      subst (λ (d : Database). LacksEach ls d.trees between) (sym (same_db clean))
+      (subst (LacksEach ls old.now.trees) (sym (first.reads.done clean).books)
+      (lacks_rest ks ls old.now.trees before (none (omega (arith, first.reads.crash.clean, clean)))))
 
   pub and_more : {ls : List Kind} {r : Result (Unit {0}) LoadFault} {new : State} {after : machine.State} → Loads ls r mid new between after
       → Loads (ks ++ ls) r old new before after
@@ -206,10 +242,6 @@ module _ {ks : List Kind} {done : Unit {0}} {old mid : State} {before between : 
           crash = survives_both old mid new first.reads.crash rest.reads.crash;
         };
       }
-
-  pub and_table : (kind : Kind) {r : Result (Unit {0}) LoadFault} {new : State} {after : machine.State} → ReadsKind kind r mid new between after
-      → Loads (ks ++ kind ∷ []) r old new before after
-  and_table kind it = and_more (one_table kind it)
 
 pub same_fault : {X E : Type 0} {a b : E} → ◌≡◌ {A = Result X E} (Err a) (Err b) → a ≡ b
 same_fault e = cc

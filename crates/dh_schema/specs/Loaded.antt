@@ -2,17 +2,19 @@
 use Rattle.std.specs.Prelude.{◌≡◌, ◌++◌, List, [], ◌∷◌, Result, Err, IfErr, OnErr, OnOk}
 use Rattle.std.specs.List.{AllByRecursion}
 use Rattle.std.specs.FinMap.{empty}
+use Rattle.sqlite_schema.specs.declared.schema.Schema.{Schema}
 use Rattle.sqlite_trees.specs.Tree.{Trees}
 use Rattle.sqlite.specs.State.{HasCleanDisk, IsUnchanged, State}
 use Rattle.dh_types.specs.declared.version.Version.{Version}
 use Rattle.dh_types.specs.declared.version.Version.TheVariants.{First, Second}
 use Rattle.dh_model.specs.Books as machine
+use Rattle.dh_catalog.specs.Versions.{HasSince}
 use Rattle.dh_sql.specs.Shape.{rows_in}
 use Rattle.dh_tables.specs.Calls.{CommitsNothing, IsUndone}
 use Rattle.dh_schema.specs.declared.load_fault.LoadFault.{LoadFault}
 use Rattle.dh_schema.specs.declared.load_fault.LoadFault.TheVariants.{Damaged}
 use Rattle.dh_schema.specs.LoadFaults.{IsLoadFault}
-use Rattle.dh_model.specs.Kinds.{Kind}
+use Rattle.dh_model.specs.Kinds.{Kind, came_with}
 use Rattle.dh_schema.specs.Kinds.{shape_of, shelf_of}
 use Rattle.dh_model.specs.Kinds.{Branches, Staff, Owners, Properties, Clients, Registrations, Viewings, Inspections, Leases, Charges, Receipts, Runs}
 use Rattle.dh_model.specs.Kinds.{Parts, BranchFees, PartFees, Endings}
@@ -20,21 +22,9 @@ use Rattle.dh_schema.specs.Tables.{AreRecords, IsTableInOrder}
 
 -- ---- the kinds in the order in which they are read
 
-abbrev pub people : List Kind
-people = Branches ∷ Staff ∷ Owners ∷ Clients ∷ []
-
-abbrev pub lettings : List Kind
-lettings = Properties ∷ Registrations ∷ Viewings ∷ Inspections ∷ []
-
-abbrev pub accounts : List Kind
-accounts = Leases ∷ Charges ∷ Receipts ∷ []
-
-abbrev pub rent_runs : List Kind
-rent_runs = Runs ∷ Parts ∷ []
-
 -- those of the first version
 abbrev pub first_kinds : List Kind
-first_kinds = people ++ lettings ++ accounts ++ rent_runs
+first_kinds = Branches ∷ Staff ∷ Owners ∷ Clients ∷ Properties ∷ Registrations ∷ Viewings ∷ Inspections ∷ Leases ∷ Charges ∷ Receipts ∷ Runs ∷ Parts ∷ []
 
 -- and those that came with the second
 abbrev pub later_kinds : List Kind
@@ -49,6 +39,16 @@ kinds_of Second = first_kinds ++ later_kinds
 -- the books have no record of these kinds
 abbrev pub HasNone : List Kind → machine.State → Type 0
 HasNone kinds books = AllByRecursion (λ kind. (shelf_of kind).held books ≡ empty) kinds
+
+-- the schema has the tables of these kinds
+abbrev pub HasTablesOf : List Kind → Schema → Type 0
+HasTablesOf kinds schema = AllByRecursion (λ kind. HasSince (came_with kind) schema) kinds
+
+-- the books have no record of each of these kinds when its turn comes to be read
+abbrev pub LacksEach : List Kind → Trees → machine.State → Type 0
+LacksEach [] trees books = Unit {0}
+LacksEach (kind ∷ kinds) trees books = ((shelf_of kind).held books ≡ empty)
+    × LacksEach kinds trees ((shelf_of kind).with books (rows_in (shape_of kind) trees))
 
 -- the books with the records that the tables of these kinds have
 abbrev pub with_records : List Kind → Trees → machine.State → machine.State

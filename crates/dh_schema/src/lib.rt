@@ -11,6 +11,7 @@ mod loading;
 mod making;
 mod open_run;
 mod reading;
+mod transaction;
 
 pub use fault::{StoreFault, fault_of};
 pub use file_version::FileVersion;
@@ -21,3 +22,4 @@ pub use laws::{
 pub use load_fault::LoadFault;
 pub use making::install;
 pub use reading::{load, load_1, load_tables, version};
+pub use transaction::{Put, commit};

@@ -1,6 +1,6 @@
 //! Making the tables of a file.
 
-ghost use Rattle.std.specs.Prelude.{◌≡◌, ◌≤◌, false, IsTrue, Err, IfErr, OnOk, OnErr};
+ghost use Rattle.std.specs.Prelude.{◌≡◌, ◌≤◌, IsTrue, Err, IfErr, OnOk, OnErr};
 ghost use Rattle.sqlite.specs.State.{HasCleanDisk};
 ghost use Rattle.sqlite.specs.Held.{state};
 ghost use Rattle.dh_days.specs.declared.limits.TheConstants.{LAST_ENTRY_MONTH};
@@ -14,28 +14,8 @@ use dh_catalog::create_all;
 use dh_rows::Meta;
 use dh_tables::insert_meta;
 use dh_types::{Month, Version};
-use sqlite::{Alter, Connection, Error};
+use sqlite::{Alter, Connection};
 use std::alloc::Global;
-
-// Makes the tables of the second version for empty books that begin with this month, in one transaction.
-fn make_tables<S: Alter>(alloc: Global, conn: &mut Connection<S>, first: Month) -> Result<(), Error>
-    requires range { first ≤ LAST_ENTRY_MONTH }
-    requires autocommit { (state S.Store conn.old).in_transaction ≡ false }
-    requires blank { IsBlank (state S.Store conn.old) }
-    ensures done { HasCleanDisk (state S.Store conn.new)
-        → OnOk result (IsReady (state S.Store conn.new) × (tables (state S.Store conn.new) ≡ start first)) }
-    ensures left { HasCleanDisk (state S.Store conn.new) → OnOk result (LeavesItsTables (state S.Store conn.new)) }
-    ensures undone { HasCleanDisk (state S.Store conn.new) → IsTrue (state S.Store conn.new).is_open
-        → OnErr result ((state S.Store conn.new).committed ≡ (state S.Store conn.old).committed) }
-    ensures kept { HasCleanDisk (state S.Store conn.new) → OnErr result (Keeps (state S.Store conn.old) (state S.Store conn.new)) }
-    ensures survives { Commits (state S.Store conn.old) (state S.Store conn.new) (λ t. t ≡ start first) }
-{
-    let mut tx = conn.transaction();
-    create_all(&mut tx, Version::Second)?;
-    insert_meta(alloc, &mut tx, &Meta::new(Version::Second, first, first))?;
-    tx.commit()?;
-    Ok(())
-}
 
 /// Makes the tables of the second version for empty books that begin with this month, in one transaction.
 /// A file that has an object already is refused as a fault of the store, and nothing changes. Else a fault comes where memory runs out or
@@ -60,6 +40,9 @@ pub fn install<S: Alter>(
     if !is_blank || !conn.is_autocommit() {
         return Err(StoreFault::occupied(conn));
     }
-    make_tables(alloc, conn, first)?;
+    let mut tx = conn.transaction();
+    create_all(&mut tx, Version::Second)?;
+    insert_meta(alloc, &mut tx, &Meta::new(Version::Second, first, first))?;
+    tx.commit()?;
     Ok(())
 }

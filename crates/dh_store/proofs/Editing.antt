@@ -4,10 +4,9 @@ use Rattle.std.specs.FinMap.{FinMap, get, insert}
 use Rattle.sqlite.specs.declared.error.Error.{Error}
 use Rattle.sqlite.specs.State.{HasCleanDisk, State}
 use Rattle.sqlite_trees.specs.Tree.{Trees}
-use Rattle.dh_types.specs.declared.version.Version.{Version}
 use Rattle.dh_model.specs.declared.rows.Change.{Change}
 use Rattle.dh_model.specs.Books as machine
-use Rattle.dh_model.specs.Edits.{CanEdit, Insert, Update, came_with_edit, edit_of, edited, updated}
+use Rattle.dh_model.specs.Edits.{CanEdit, Insert, Replace, Update, came_with_edit, edit_of, edited, updated}
 use Rattle.dh_model.specs.Kinds.{Branches, HasKind, IsSince, Kind, came_with, key_in, key_of, order_of, record_of, records_of, with_records}
 use Rattle.dh_model.specs.Machine.{changed}
 use Rattle.dh_laws.specs.Looks.{FitsIn}
@@ -21,7 +20,7 @@ use Rattle.dh_schema.proofs.Keyed.{keyed}
 use Rattle.dh_schema.proofs.OfKind.{is_kept}
 use Rattle.dh_schema.proofs.ReadTables.{on_ok}
 use Rattle.dh_schema.proofs.Versions.{has_since}
-use Rattle.dh_store.specs.Putting.{HasPlace, PutsRows, Replaces}
+use Rattle.dh_store.specs.Putting.{HasPlace, PutsRows, TurnsInto}
 use Rattle.dh_store.proofs.Putting.{IsThere, added, amended}
 
 -- ---- the rows of a kind in its table and in the books
@@ -99,10 +98,36 @@ module _ (it : Stored) (is : IsKind it) (rows : Change) (row : it.Row) (edits : 
 
 -- ---- a row that becomes another
 
-module _ (it : Stored) (is : IsKind it) (rows : Change) (key : it.Key) (into : it.Row → it.Row)
-    (edits : edit_of rows ≡ Update is.kind (is.as_key key) (λ row. is.as_row (into (is.of_row row)))) (old : State) where
+abbrev own_into : {it : Stored} (is : IsKind it) → (it.Row → it.Row) → record_of is.kind → record_of is.kind
+own_into is into row = is.as_row (into (is.of_row row))
+
+-- by what the change makes of it
+pub by_update : {it : Stored} {is : IsKind it} {rows : Change} {key : it.Key} {into : it.Row → it.Row}
+    → edit_of rows ≡ Update is.kind (is.as_key key) (own_into is into) → TurnsInto is rows key into
+by_update {is = is} {key = key} {into = into} edits = record {
+  came = ap came_with_edit edits;
+  there = λ books fits. subst (λ edit. CanEdit edit books) edits fits;
+  makes = λ books row found under.
+      sym (ap (updated is.kind (is.as_key key) (own_into is into) books) found) ∙ sym (ap (λ edit. edited edit books) edits);
+}
+
+-- or by a row that takes its place
+pub by_row : {it : Stored} {is : IsKind it} {rows : Change} {key : it.Key} {into : it.Row → it.Row} (row : record_of is.kind)
+    → edit_of rows ≡ Replace is.kind row → key_in is.kind row ≡ is.as_key key
+    → ((there : record_of is.kind) → key_in is.kind there ≡ key_in is.kind row → own_into is into there ≡ row) → TurnsInto is rows key into
+by_row {is = is} row edits keyed same = record {
+  came = ap came_with_edit edits;
+  there = λ books fits.
+      let found = subst (λ edit. CanEdit edit books) edits fits in
+      (found.0, ap (get (records_of is.kind books)) (sym keyed) ∙ found.1);
+  makes = λ books there found under.
+      (λ i. with_records is.kind (insert (records_of is.kind books) (sym keyed i) (same there (under ∙ sym keyed) i)) books)
+      ∙ sym (ap (λ edit. edited edit books) edits);
+}
+
+module _ (it : Stored) (is : IsKind it) (rows : Change) (key : it.Key) (into : it.Row → it.Row) (turns : TurnsInto is rows key into) (old : State) where
   update_since : HasPlace (version_of_tables old.now.trees) rows → HasKind (version_of_tables old.now.trees) is.kind
-  update_since place = subst (λ edit. IsSince (came_with_edit edit) (version_of_tables old.now.trees)) edits place
+  update_since place = subst (λ came. IsSince came (version_of_tables old.now.trees)) turns.came place
 
   its_since : HasPlace (version_of_tables old.now.trees) rows → IsSince it.since (version_of_tables old.now.trees)
   its_since place = is.by_kind (λ s as_row of_row as_key. IsSince s.since (version_of_tables old.now.trees)) (update_since place)
@@ -118,23 +143,15 @@ module _ (it : Stored) (is : IsKind it) (rows : Change) (key : it.Key) (into : i
   amend_apart writing place =
       is.by_kind (λ s as_row of_row as_key. AreApart (old.now.trees s.shape.tree)) (writing.in_order.tables is.kind (update_since place)).apart
 
-  -- the row is there
-  there_now : FitsIn rows (tables old).books
-      → (row : record_of is.kind) × (get (records_of is.kind (tables old).books) (is.as_key key) ≡ Some row)
-  there_now fits = subst (λ edit. CanEdit edit (tables old).books) edits fits
-
   pub amend_there : FitsIn rows (tables old).books → HasPlace (version_of_tables old.now.trees) rows → IsInTable it.shape it.order key old
   amend_there fits place =
       is.by_kind
       (λ s as_row of_row as_key. (k : s.Key)
       → (row : record_of is.kind) × (get (records_of is.kind (tables old).books) (as_key k) ≡ Some row) → IsInTable s.shape s.order k old)
-      (λ k found. (found.0, found_there is.kind old.now.trees (update_since place) k found.0 found.1)) key (there_now fits)
+      (λ k found. (found.0, found_there is.kind old.now.trees (update_since place) k found.0 found.1)) key (turns.there (tables old).books fits)
 
   module _ (new : State) (r : Result (Unit {0}) Error) where
-    abbrev own_into : record_of is.kind → record_of is.kind
-    own_into = λ row. is.as_row (into (is.of_row row))
-
-    turned : Amends it.shape it.order key into old new → Amends (shape_of is.kind) (order_of is.kind) (is.as_key key) own_into old new
+    turned : Amends it.shape it.order key into old new → Amends (shape_of is.kind) (order_of is.kind) (is.as_key key) (own_into is into) old new
     turned =
         is.by_kind
         (λ s as_row of_row as_key. (k : s.Key) (f : s.Row → s.Row) → Amends s.shape s.order k f old new
@@ -142,15 +159,17 @@ module _ (it : Stored) (is : IsKind it) (rows : Change) (key : it.Key) (into : i
         (λ k f h. h) key into
 
     is_there : FitsIn rows (tables old).books → HasPlace (version_of_tables old.now.trees) rows
-        → IsThere is.kind (is.as_key key) own_into old new (changed rows)
+        → IsThere is.kind (is.as_key key) (own_into is into) old new (changed rows)
     is_there fits place =
-        let found = there_now fits in
-        let since = update_since place in (
+        let found = turns.there (tables old).books fits in
+        let since = update_since place in
+        let under : key_in is.kind found.0 ≡ is.as_key key =
+        sym (key_is is.kind found.0) ∙ keyed is.kind old.now.trees (is.as_key key) found.0 (sym (ap (λ (m : FinMap (order_of is.kind) (record_of is.kind)).
+        get m (is.as_key key)) (books_have is.kind old.now.trees)) ∙ found.1) in (
           found.0,
           found_there is.kind old.now.trees since (is.as_key key) found.0 found.1,
-          put_is is.kind old.now.trees since (is.as_key key) (is.as_key key) refl (own_into found.0)
-              ∙ sym (ap (updated is.kind (is.as_key key) own_into (tables old).books) found.1)
-              ∙ sym (ap (λ edit. edited edit (tables old).books) edits),
+          put_is is.kind old.now.trees since (is.as_key key) (is.as_key key) refl (own_into is into found.0)
+              ∙ turns.makes (tables old).books found.0 found.1 under,
         )
 
     pub amend_puts : (HasCleanDisk old → IsWriting old) → (HasCleanDisk old → HasPlace (version_of_tables old.now.trees) rows)
@@ -158,74 +177,5 @@ module _ (it : Stored) (is : IsKind it) (rows : Change) (key : it.Key) (into : i
         → (HasCleanDisk new → OnOk r (StaysInTransaction old new)) → (HasCleanDisk new → OnOk r (Amends it.shape it.order key into old new))
         → (HasCleanDisk new → OnErr r (IsUndone old new)) → CommitsNothing old new → PutsRows rows r old new
     amend_puts writing place fits shown amends undone crash =
-        amended is.kind (is.as_key key) own_into old new (changed rows) r (λ clean. update_since (place clean)) writing
+        amended is.kind (is.as_key key) (own_into is into) old new (changed rows) r (λ clean. update_since (place clean)) writing
         (λ clean. is_there (fits clean) (place clean)) shown (λ clean. on_ok r turned (amends clean)) undone crash
-
--- ---- a row that takes the place of the one that has its key
-
-module _ (it : Stored) (is : IsKind it) (rows : Change) (key : it.Key) (into : it.Row → it.Row) (becomes : Replaces is rows key into) (old : State) where
-  replace_since : HasPlace (version_of_tables old.now.trees) rows → HasKind (version_of_tables old.now.trees) is.kind
-  replace_since place = subst (λ edit. IsSince (came_with_edit edit) (version_of_tables old.now.trees)) becomes.edits place
-
-  replaced_since : HasPlace (version_of_tables old.now.trees) rows → IsSince it.since (version_of_tables old.now.trees)
-  replaced_since place = is.by_kind (λ s as_row of_row as_key. IsSince s.since (version_of_tables old.now.trees)) (replace_since place)
-
-  pub replace_writing : IsWriting old → HasPlace (version_of_tables old.now.trees) rows → IsWritingSince it.since old
-  replace_writing writing place =
-      record { inside = writing.inside; has = has_since it.since (version_of_tables old.now.trees) old.now.schema writing.version (replaced_since place) }
-
-  pub replace_kept : IsWriting old → HasPlace (version_of_tables old.now.trees) rows → IsKept it.shape it.order old.now.trees
-  replace_kept writing place = is_kept it is old.now.trees writing.in_order (replaced_since place)
-
-  pub replace_apart : IsWriting old → HasPlace (version_of_tables old.now.trees) rows → AreApart (old.now.trees it.shape.tree)
-  replace_apart writing place =
-      is.by_kind (λ s as_row of_row as_key. AreApart (old.now.trees s.shape.tree)) (writing.in_order.tables is.kind (replace_since place)).apart
-
-  replaced_now : FitsIn rows (tables old).books
-      → (row : record_of is.kind) × (get (records_of is.kind (tables old).books) (is.as_key key) ≡ Some row)
-  replaced_now fits =
-      let found = subst (λ edit. CanEdit edit (tables old).books) becomes.edits fits in
-      (found.0, ap (get (records_of is.kind (tables old).books)) (sym becomes.keyed) ∙ found.1)
-
-  pub replace_there : FitsIn rows (tables old).books → HasPlace (version_of_tables old.now.trees) rows → IsInTable it.shape it.order key old
-  replace_there fits place =
-      is.by_kind
-      (λ s as_row of_row as_key. (k : s.Key)
-      → (row : record_of is.kind) × (get (records_of is.kind (tables old).books) (as_key k) ≡ Some row) → IsInTable s.shape s.order k old)
-      (λ k found. (found.0, found_there is.kind old.now.trees (replace_since place) k found.0 found.1)) key (replaced_now fits)
-
-  module _ (new : State) (r : Result (Unit {0}) Error) where
-    abbrev its_into : record_of is.kind → record_of is.kind
-    its_into = λ row. is.as_row (into (is.of_row row))
-
-    became : Amends it.shape it.order key into old new → Amends (shape_of is.kind) (order_of is.kind) (is.as_key key) its_into old new
-    became =
-        is.by_kind
-        (λ s as_row of_row as_key. (k : s.Key) (f : s.Row → s.Row) → Amends s.shape s.order k f old new
-        → Amends (shape_of is.kind) (order_of is.kind) (as_key k) (λ row. as_row (f (of_row row))) old new)
-        (λ k f h. h) key into
-
-    in_place : FitsIn rows (tables old).books → HasPlace (version_of_tables old.now.trees) rows
-        → IsThere is.kind (is.as_key key) its_into old new (changed rows)
-    in_place fits place =
-        let found = replaced_now fits in
-        let since = replace_since place in
-        let under : key_in is.kind found.0 ≡ is.as_key key =
-        sym (key_is is.kind found.0) ∙ keyed is.kind old.now.trees (is.as_key key) found.0 (sym (ap (λ (m : FinMap (order_of is.kind) (record_of is.kind)).
-        get m (is.as_key key)) (books_have is.kind old.now.trees)) ∙ found.1) in
-        let own = becomes.same found.0 (under ∙ sym becomes.keyed) in (
-          found.0,
-          found_there is.kind old.now.trees since (is.as_key key) found.0 found.1,
-          put_is is.kind old.now.trees since (is.as_key key) (key_in is.kind becomes.row) (sym becomes.keyed) (its_into found.0)
-              ∙ ap (λ (row : record_of is.kind).
-              with_records is.kind (insert (records_of is.kind (tables old).books) (key_in is.kind becomes.row) row) (tables old).books) own
-              ∙ sym (ap (λ edit. edited edit (tables old).books) becomes.edits),
-        )
-
-    pub replace_puts : (HasCleanDisk old → IsWriting old) → (HasCleanDisk old → HasPlace (version_of_tables old.now.trees) rows)
-        → (HasCleanDisk old → FitsIn rows (tables old).books)
-        → (HasCleanDisk new → OnOk r (StaysInTransaction old new)) → (HasCleanDisk new → OnOk r (Amends it.shape it.order key into old new))
-        → (HasCleanDisk new → OnErr r (IsUndone old new)) → CommitsNothing old new → PutsRows rows r old new
-    replace_puts writing place fits shown amends undone crash =
-        amended is.kind (is.as_key key) its_into old new (changed rows) r (λ clean. replace_since (place clean)) writing
-        (λ clean. in_place (fits clean) (place clean)) shown (λ clean. on_ok r became (amends clean)) undone crash

@@ -5,7 +5,6 @@ pub mod Taken
 pub mod Shown
 pub mod AskedBooks
 pub mod PutOff
-pub mod Committing
 pub mod Putting
 pub mod Editing
 pub mod EndingsBeside

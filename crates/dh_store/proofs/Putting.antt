@@ -1,39 +1,30 @@
 -- Rows that were put into their tables, as a change of the books.
-use Rattle.std.proofs.Common.{◌≡◌, ◌∙◌, ◌+◌, ℕ, List, Option, inl, inr, refl, sym, ap, subst, Some, Result, Ok, Err, OnErr, OnOk, arith}
+use Rattle.std.proofs.Common.{◌≡◌, ◌∙◌, ◌+◌, inl, inr, refl, sym, ap, subst, Some, Result, Ok, Err, OnErr, OnOk, arith}
 use Rattle.std.specs.Ordering.{nat_cmp}
 use Rattle.std.specs.FinMap.{FinMap, get, insert}
 use Rattle.sqlite.specs.declared.error.Error.{Error}
 use Rattle.sqlite.specs.State.{HasCleanDisk, KeepsCommit, State}
-use Rattle.dh_types.specs.declared.command.Assignment.{Assignment}
-use Rattle.dh_types.specs.declared.command.RentChange.{RentChange}
-use Rattle.dh_types.specs.declared.command.ViewingComment.{ViewingComment}
 use Rattle.dh_types.specs.declared.run.Run.{Run}
-use Rattle.dh_types.specs.declared.fee.BranchFee.{BranchFee}
-use Rattle.dh_types.specs.declared.lease.Ending.{Ending}
-use Rattle.dh_types.specs.declared.version.Version.TheVariants.{Second}
-use Rattle.dh_model.specs.declared.rows.Change.{Change}
 use Rattle.dh_model.specs.declared.rows.Change.TheVariants as change
 use Rattle.dh_model.specs.Books.{Books}
 use Rattle.dh_model.specs.Books as machine
-use Rattle.dh_model.specs.Machine.{at_rent, changed, managed, with_comment}
-use Rattle.dh_laws.specs.Looks.{FitsIn}
-use Rattle.dh_catalog.specs.Versions.{IsOurs, schema_of}
+use Rattle.dh_model.specs.Machine.{changed}
+use Rattle.dh_catalog.specs.Versions.{IsOurs}
 use Rattle.dh_sql.specs.Changes.{Becomes}
 use Rattle.dh_sql.specs.Shape.{rows_in}
-use Rattle.dh_tables.specs.Calls.{Adds, Amends, CommitsNothing, IsUndone, IsWritingSince, StaysInTransaction}
+use Rattle.dh_tables.specs.Calls.{Adds, Amends, CommitsNothing, IsUndone, StaysInTransaction}
 use Rattle.dh_tables.specs.MetaTable.{SetsNext}
 use Rattle.dh_tables.specs.RunTable.{run_shape}
 use Rattle.dh_tables.proofs.AmendedRecord.{becomes_there}
 use Rattle.dh_model.specs.Kinds.{HasKind, Kind, key_of, order_of, record_of}
 use Rattle.dh_schema.specs.Kinds.{shape_of, shelf_of}
-use Rattle.dh_model.specs.Kinds.{BranchFees, Endings, Properties, Runs, Viewings}
+use Rattle.dh_model.specs.Kinds.{Runs}
 use Rattle.dh_schema.specs.Store.{IsWriting, tables}
 use Rattle.dh_schema.specs.Tables.{loaded_from, records_in, version_of_tables}
 use Rattle.dh_schema.proofs.Changing.{books_after, books_with_next, in_order_after, in_order_with_next, schema_after, schema_with_next}
 use Rattle.dh_schema.proofs.Crashing.{survives_both}
-use Rattle.dh_schema.proofs.EachKind.{all_since}
-use Rattle.dh_schema.proofs.Keyed.{keyed}
-use Rattle.dh_store.specs.Putting.{PutsRows, TurnsBooks}
+use Rattle.dh_schema.specs.Putting.{Puts, TurnsBooks}
+use Rattle.dh_store.specs.Putting.{PutsRows}
 
 -- ---- what was committed
 
@@ -175,19 +166,19 @@ module _ (run : Run) (old mid new : State) where
         crash = both;
       }
 
--- nothing is put where a call failed
-pub failed : (rows : Change) (r : Result (Unit {0}) Error) (e : Error) (old new : State) → r ≡ Err e → (HasCleanDisk new → IsUndone old new)
-    → CommitsNothing old new → PutsRows rows r old new
-failed rows r e old new is undone crash = record {
-  put = λ clean. subst (λ (it : Result (Unit {0}) Error). OnOk it (IsWriting new × ((tables new).books ≡ changed rows (tables old).books))) (sym is) tt;
-  kept = λ clean. keeps_commit {X = Unit {0}} (Err e) old new tt (undone clean);
+-- where a call failed, nothing is said of the books
+pub puts_none : {books : Books} {r : Result (Unit {0}) Error} {e : Error} {old new : State} → r ≡ Err e → (HasCleanDisk new → KeepsCommit old new)
+    → CommitsNothing old new → Puts books r old new
+puts_none {books = books} {new = new} is kept crash = record {
+  put = λ clean. subst (λ (it : Result (Unit {0}) Error). OnOk it (IsWriting new × ((tables new).books ≡ books))) (sym is) tt;
+  kept = kept;
   crash = crash;
 }
 
--- and nothing where there are no rows
-pub nothing_put : (rows : Change) (s : State) → rows ≡ change.Post → (HasCleanDisk s → IsWriting s) → PutsRows rows (Ok tt) s s
-nothing_put rows s is writing = record {
-  put = λ clean. (writing clean, ap (λ (said : Change). changed said (tables s).books) (sym is));
+-- where there are no rows, they are as they were
+pub nothing_put : {books : Books} (s : State) → (HasCleanDisk s → IsWriting s) → (tables s).books ≡ books → Puts books (Ok tt) s s
+nothing_put s writing same = record {
+  put = λ clean. (writing clean, same);
   kept = λ clean. record { was_open = λ still. still; committed = λ _. refl };
   crash = record {
     clean = omega arith;

@@ -1,5 +1,5 @@
 -- What a command looks at, from what single looks bring.
-use Rattle.std.proofs.Common.{◌≡◌, ◌∙◌, refl, sym, ap, subst, if◌then◌else◌, List, ℕ, Option, Some, None, option_map, Result, Ok, Err, OnOk}
+use Rattle.std.proofs.Common.{◌≡◌, ◌∙◌, refl, sym, ap, subst, if◌then◌else◌, List, ℕ, Option, Some, None, option_map}
 use Rattle.std.specs.FinMap.{get, len}
 use Rattle.sqlite_trees.specs.Tree.{Trees}
 use Rattle.dh_types.proofs.SameValues.{texts}
@@ -28,11 +28,6 @@ use Rattle.dh_schema.specs.Tables.{IsSound, books_in, state_in}
 use Rattle.dh_schema.proofs.Keyed.{books_are_keyed, keyed}
 use Rattle.dh_store.specs.Gathered.{bare, seen}
 
--- what an answer brings, brings more
-pub on_ok : {X E A B : Type 0} (r : Result X E) → (A → B) → OnOk r A → OnOk r B
-on_ok (Ok x) f a = f a
-on_ok (Err e) f a = tt
-
 -- sound tables have as many receipts as the last one's number
 pub count_shown : (trees : Trees) (last : Option Receipt) → IsSound trees → IsLast (books_in trees).receipts last
     → len (books_in trees).receipts ≡ number_of last
@@ -45,7 +40,8 @@ pub property_found : (trees : Trees) (t b : State) (number : List ℕ) (found : 
 property_found trees t b number found at among is =
     is ∙ ap (λ m. get m number) among
     ∙ get_where text_total text_ties (λ (p : Property). is_same_text p.number number) (λ p. p.number) t.books.properties number
-    (subst (λ (s : State). StandUnder (λ (p : Property). p.number) s.books.properties) at (keyed Properties trees)) (λ p same. (texts p.number number).1 same)
+    (subst (λ (s : State). StandUnder (λ (p : Property). p.number) s.books.properties) at (keyed Properties trees))
+    (λ p same. (texts p.number number).1 same)
 
 -- the rows are gathered, the open run is set, and the receipts are counted
 pub cut_of : (told : Command) (t t1 : State) (run : Option OpenRun) (count : ℕ) (gathered books : State) → t1 ≡ t → gathered ≡ seen told t

@@ -4,7 +4,7 @@ use Rattle.std.specs.declared.cmp.Ordering.{Ordering}
 use Rattle.std.specs.FinMap.{empty}
 use Rattle.sqlite.specs.State as sqlite
 use Rattle.dh_types.specs.declared.reply.Fault.{Fault}
-use Rattle.dh_model.specs.Books.{State}
+use Rattle.dh_model.specs.Books.{Books, State}
 use Rattle.dh_model.specs.Whole.{rows_where}
 use Rattle.dh_tables.specs.Tables.{Shelf}
 use Rattle.dh_schema.specs.Store.{tables}
@@ -21,3 +21,7 @@ pub record Brings {K X : Type 0} {R : K → K → Ordering} (shelf : Shelf K X R
       → OnOk result (AreBoth t (shelf.with b (rows_where asks (shelf.held t))) new after)
   pub more : (t b : State) (test : X → Bool) → AreBoth t b old books → shelf.held b ≡ rows_where test (shelf.held t)
       → OnOk result (AreBoth t (shelf.with b (rows_where (λ x. test x || asks x) (shelf.held t))) new after)
+
+-- with the properties, the leases and the endings of other books
+abbrev pub with_lettings : Books → State → State
+with_lettings others s = record s { books = record s.books { properties = others.properties; leases = others.leases; endings = others.endings } }

@@ -2,7 +2,7 @@
 
 ghost use Rattle.std.specs.Prelude.{◌≡◌, ◌≤◌, ◌<◌, ◌+◌, ◌↔◌, ◌++◌, List, ◌∷◌, [], map, nat_eq, true, ◌&&◌, ◌||◌, Bool, IsTrue, None};
 ghost use Rattle.std.specs.Prelude.{All, IsSome, IfSome, IfOk, IfErr, OnOk, OnErr};
-ghost use Rattle.std.specs.List.{filter, list_any};
+ghost use Rattle.std.specs.List.{list_any};
 ghost use Rattle.std.specs.FinMap as fin;
 ghost use Rattle.std.specs.FinMap.{get};
 ghost use Rattle.sqlite_trees.specs.View.{doubt};
@@ -15,19 +15,21 @@ ghost use Rattle.dh_types.specs.declared.lease.Lease.{Lease as lease_row};
 ghost use Rattle.dh_types.specs.declared.question.Question.TheVariants as asked;
 ghost use Rattle.dh_types.specs.Reports.{report_of};
 ghost use Rattle.dh_model.specs.Answers.{report};
-ghost use Rattle.dh_model.specs.Books.{Books as books_model, start};
+ghost use Rattle.dh_model.specs.Books.{State, start};
 ghost use Rattle.dh_model.specs.Checks.{is_same_text};
 ghost use Rattle.dh_model.specs.MachineLaws.{is_put_off};
 ghost use Rattle.dh_model.specs.Whole.{rows_where};
-ghost use Rattle.dh_laws.specs.AskedAbout.{account_of, asked_about, charged_by, leases_at, let_or_vacant, with_accounts};
+ghost use Rattle.dh_laws.specs.AskedAbout.{account_of, asked_about, charged_by, let_or_vacant, with_accounts};
 ghost use Rattle.dh_schema.specs.Faults.{IsFirstFault};
 ghost use Rattle.dh_schema.specs.Store.{IsReady, Leaves, StaysReady, tables};
-ghost use Rattle.dh_store.specs.AnsweredFrom.{answered_from, charged_in, let_by};
-ghost use Rattle.dh_store.specs.Months.{AreMonthsOf};
+ghost use Rattle.dh_store.specs.Looked.{AreBoth};
+ghost use Rattle.dh_store.specs.AnsweredFrom.{Fills, HasNoAccounts, TakesLeases, answered_from, charged_in, let_by};
+ghost use Rattle.dh_store.specs.Months.{IsReadyIn, IsReadyOf};
 ghost use Rattle.dh_store.specs.Reading.{OnlyReads};
 
 use crate::looks::{
-    find_open_run, held_leases, look, look_at_all, look_at_later, look_later, months_now, no_rows,
+    find_open_run, held_leases, look, look_at_all, look_at_lettings, look_later, months_now,
+    no_rows,
 };
 use dh_answers::{answer, is_put_off};
 use dh_books::Books;
@@ -39,33 +41,13 @@ use dh_tables::{
     ReceiptsOfLease, RunOf,
 };
 use dh_types::{
-    Answer, Branch, ChargeIndex, Ending, EntryMonth, Id, Lease, LeaseNo, OwnerMonth, Property,
-    Question, Refusal, Version,
+    Answer, Branch, ChargeIndex, EntryMonth, Id, Lease, LeaseNo, OwnerMonth, Question, Refusal,
+    Version,
 };
 use sqlite::{Alter, Connection};
-use std::alloc::{AllocError, Global};
+use std::alloc::Global;
 
-// The properties, the leases on them, and the endings of these. The version is that of the tables.
-fn gather_lettings<S: Alter>(
-    alloc: Global,
-    conn: &mut Connection<S>,
-    version: Version,
-    books: &mut Books,
-) -> Result<(), StoreFault>
-    requires ready { HasCleanDisk (state S.Store conn.old) → IsReady (state S.Store conn.old) }
-    requires version { HasCleanDisk (state S.Store conn.old) → version ≡ (tables (state S.Store conn.old)).books.version }
-    requires none { books.old ≡ start FIRST_MONTH }
-    ensures taken { HasCleanDisk (state S.Store conn.new)
-        → OnOk result (books.new ≡ record { books = let_or_vacant (tables (state S.Store conn.old)).books; open_run = None }) }
-    ensures reads { OnlyReads (state S.Store conn.old) (state S.Store conn.new) result }
-{
-    look_at_all::<Property, S>(alloc, conn, books)?;
-    look_at_all::<Lease, S>(alloc, conn, books)?;
-    look_at_later::<Ending, S>(alloc, conn, version, books)?;
-    Ok(())
-}
-
-// These, and the client. The version is that of the tables.
+// The properties, the leases and the endings, and the client.
 fn gather_matching<S: Alter>(
     alloc: Global,
     conn: &mut Connection<S>,
@@ -73,21 +55,14 @@ fn gather_matching<S: Alter>(
     client: Id,
     books: &mut Books,
 ) -> Result<(), StoreFault>
-    requires ready { HasCleanDisk (state S.Store conn.old) → IsReady (state S.Store conn.old) }
-    requires version { HasCleanDisk (state S.Store conn.old) → version ≡ (tables (state S.Store conn.old)).books.version }
+    requires ready { HasCleanDisk (state S.Store conn.old) → IsReadyOf version (state S.Store conn.old) }
     requires none { books.old ≡ start FIRST_MONTH }
-    ensures taken { HasCleanDisk (state S.Store conn.new)
-        → OnOk result (books.new ≡ record {
-          books = record (let_or_vacant (tables (state S.Store conn.old)).books) {
-            clients = rows_where (λ it. is_same_text it.number client) (tables (state S.Store conn.old)).books.clients;
-          };
-          open_run = None;
-        }) }
+    ensures gathered { Fills (λ all. record (let_or_vacant all) { clients = rows_where (λ it. is_same_text it.number client) all.clients })
+        result (state S.Store conn.old) books.old (state S.Store conn.new) books.new }
     ensures reads { OnlyReads (state S.Store conn.old) (state S.Store conn.new) result }
 {
-    gather_lettings(alloc, conn, version, books)?;
-    look(alloc, conn, &ClientNumbered { number: client }, books)?;
-    Ok(())
+    look_at_lettings(alloc, conn, version, books)?;
+    look(alloc, conn, &ClientNumbered { number: client }, books)
 }
 
 // The lease, and what was charged and paid on it.
@@ -97,16 +72,13 @@ fn gather_account<S: Alter>(
     lease: LeaseNo,
     books: &mut Books,
 ) -> Result<(), StoreFault>
-    requires ready { HasCleanDisk (state S.Store conn.old) → IsReady (state S.Store conn.old) }
-    requires none { books.old ≡ start FIRST_MONTH }
-    ensures taken { HasCleanDisk (state S.Store conn.new)
-        → OnOk result (books.new ≡ record { books = account_of (tables (state S.Store conn.old)).books lease; open_run = None }) }
+    requires { HasCleanDisk (state S.Store conn.old) → IsReady (state S.Store conn.old) }
+    ensures gathered { Fills (λ all. account_of all lease) result (state S.Store conn.old) books.old (state S.Store conn.new) books.new }
     ensures reads { OnlyReads (state S.Store conn.old) (state S.Store conn.new) result }
 {
     look(alloc, conn, &LeaseNumbered { number: lease }, books)?;
     look(alloc, conn, &ChargesOfLease { lease }, books)?;
-    look(alloc, conn, &ReceiptsOfLease { lease }, books)?;
-    Ok(())
+    look(alloc, conn, &ReceiptsOfLease { lease }, books)
 }
 
 // The run of the month, and its parts.
@@ -116,15 +88,12 @@ fn gather_run<S: Alter>(
     month: EntryMonth,
     books: &mut Books,
 ) -> Result<(), StoreFault>
-    requires ready { HasCleanDisk (state S.Store conn.old) → IsReady (state S.Store conn.old) }
-    requires none { books.old ≡ start FIRST_MONTH }
-    ensures taken { HasCleanDisk (state S.Store conn.new)
-        → OnOk result (books.new ≡ record { books = asked_about (tables (state S.Store conn.old)).books (asked.Run month); open_run = None }) }
+    requires { HasCleanDisk (state S.Store conn.old) → IsReady (state S.Store conn.old) }
+    ensures gathered { Fills (λ all. asked_about all (asked.Run month)) result (state S.Store conn.old) books.old (state S.Store conn.new) books.new }
     ensures reads { OnlyReads (state S.Store conn.old) (state S.Store conn.new) result }
 {
     look(alloc, conn, &RunOf { month }, books)?;
-    look(alloc, conn, &PartsOfMonth { month }, books)?;
-    Ok(())
+    look(alloc, conn, &PartsOfMonth { month }, books)
 }
 
 // The leases on the properties of these numbers.
@@ -134,10 +103,9 @@ fn gather_leases<S: Alter>(
     properties: &[Id],
     books: &mut Books,
 ) -> Result<(), StoreFault>
-    requires ready { HasCleanDisk (state S.Store conn.old) → IsReady (state S.Store conn.old) }
-    requires none { HasCleanDisk (state S.Store conn.old) → books.old.books.leases ≡ fin.empty }
+    requires { HasCleanDisk (state S.Store conn.old) → IsReady (state S.Store conn.old) }
     ensures taken { HasCleanDisk (state S.Store conn.new)
-        → OnOk result (books.new ≡ record books.old {
+        → OnOk result (books.old.books.leases ≡ fin.empty → books.new ≡ record books.old {
           books = record books.old.books {
             leases = rows_where (λ lease. list_any (is_same_text lease.terms.property) properties.now) (tables (state S.Store conn.old)).books.leases;
           };
@@ -158,10 +126,10 @@ fn put_account<S: Alter>(
     lease: &Lease,
     books: &mut Books,
 ) -> Result<(), StoreFault>
-    requires ready { HasCleanDisk (state S.Store conn.old) → IsReady (state S.Store conn.old) }
-    ensures taken { HasCleanDisk (state S.Store conn.new) → OnOk result ((rows : books_model) (before : List lease_row)
-        → books.old.books ≡ with_accounts (tables (state S.Store conn.old)).books rows before
-        → books.new ≡ record books.old { books = with_accounts (tables (state S.Store conn.old)).books rows (before ++ lease.now ∷ []) }) }
+    requires { HasCleanDisk (state S.Store conn.old) → IsReady (state S.Store conn.old) }
+    ensures gathered { (t b : State) (before : List lease_row)
+        → AreBoth t (record b { books = with_accounts t.books b.books before }) (state S.Store conn.old) books.old
+        → OnOk result (AreBoth t (record b { books = with_accounts t.books b.books (before ++ lease.now ∷ []) }) (state S.Store conn.new) books.new) }
     ensures reads { OnlyReads (state S.Store conn.old) (state S.Store conn.new) result }
 {
     let number = lease.terms.number;
@@ -179,16 +147,30 @@ fn gather_accounts<S: Alter>(
     leases: &[Lease],
     books: &mut Books,
 ) -> Result<(), StoreFault>
-    requires ready { HasCleanDisk (state S.Store conn.old) → IsReady (state S.Store conn.old) }
-    requires none { HasCleanDisk (state S.Store conn.old)
-        → books.old.books ≡ record books.old.books { clients = fin.empty; charges = fin.empty; receipts = fin.empty } }
+    requires { HasCleanDisk (state S.Store conn.old) → IsReady (state S.Store conn.old) }
     ensures taken { HasCleanDisk (state S.Store conn.new)
-        → OnOk result (books.new ≡ record books.old { books = with_accounts (tables (state S.Store conn.old)).books books.old.books leases.now }) }
+        → OnOk result (HasNoAccounts books.old.books
+        → books.new ≡ record books.old { books = with_accounts (tables (state S.Store conn.old)).books books.old.books leases.now }) }
     ensures reads { OnlyReads (state S.Store conn.old) (state S.Store conn.new) result }
 {
     for lease in leases {
         put_account(alloc, conn, lease, books)?;
     }
+    Ok(())
+}
+
+// The leases on the properties that the books have, where these are all that a test picks out.
+fn gather_let<S: Alter>(
+    alloc: Global,
+    conn: &mut Connection<S>,
+    books: &mut Books,
+) -> Result<(), StoreFault>
+    requires { HasCleanDisk (state S.Store conn.old) → IsReady (state S.Store conn.old) }
+    ensures gathered { TakesLeases result (state S.Store conn.old) books.old (state S.Store conn.new) books.new }
+    ensures reads { OnlyReads (state S.Store conn.old) (state S.Store conn.new) result }
+{
+    let numbers = held_properties(alloc, books)?;
+    gather_leases(alloc, conn, &numbers, books)?;
     Ok(())
 }
 
@@ -199,17 +181,13 @@ fn gather_branch<S: Alter>(
     branch: Id,
     books: &mut Books,
 ) -> Result<(), StoreFault>
-    requires ready { HasCleanDisk (state S.Store conn.old) → IsReady (state S.Store conn.old) }
-    requires none { books.old ≡ start FIRST_MONTH }
-    ensures taken { HasCleanDisk (state S.Store conn.new)
-        → OnOk result (books.new ≡ record { books = let_by (tables (state S.Store conn.old)).books branch; open_run = None }) }
+    requires { HasCleanDisk (state S.Store conn.old) → IsReady (state S.Store conn.old) }
+    ensures gathered { Fills (λ all. let_by all branch) result (state S.Store conn.old) books.old (state S.Store conn.new) books.new }
     ensures reads { OnlyReads (state S.Store conn.old) (state S.Store conn.new) result }
 {
     look(alloc, conn, &BranchNumbered { number: branch }, books)?;
     look(alloc, conn, &PropertiesOfBranch { branch }, books)?;
-    let numbers = held_properties(alloc, books)?;
-    gather_leases(alloc, conn, &numbers, books)?;
-    Ok(())
+    gather_let(alloc, conn, books)
 }
 
 // These, and for each of the leases its client and what was charged and paid on it.
@@ -219,10 +197,8 @@ fn gather_arrears<S: Alter>(
     branch: Id,
     books: &mut Books,
 ) -> Result<(), StoreFault>
-    requires ready { HasCleanDisk (state S.Store conn.old) → IsReady (state S.Store conn.old) }
-    requires none { books.old ≡ start FIRST_MONTH }
-    ensures taken { HasCleanDisk (state S.Store conn.new)
-        → OnOk result (books.new ≡ record { books = answered_from (tables (state S.Store conn.old)).books (asked.Arrears branch); open_run = None }) }
+    requires { HasCleanDisk (state S.Store conn.old) → IsReady (state S.Store conn.old) }
+    ensures gathered { Fills (λ all. answered_from all (asked.Arrears branch)) result (state S.Store conn.old) books.old (state S.Store conn.new) books.new }
     ensures reads { OnlyReads (state S.Store conn.old) (state S.Store conn.new) result }
 {
     gather_branch(alloc, conn, branch, books)?;
@@ -236,14 +212,8 @@ fn held_properties(alloc: Global, books: &Books) -> Result<Vec<Id>, StoreFault>
     ensures numbers { IfOk result (λ numbers. numbers.items ≡ map (λ property. property.number) (fin.values books.now.books.properties)) }
     ensures cause { IfErr result IsFirstFault }
 {
-    let numbers = books
-        .properties()
-        .map(|property| property.number)
-        .collect(alloc);
-    match numbers {
-        Ok(numbers) => Ok(numbers),
-        Err(error) => Err(error.into()),
-    }
+    let numbers = books.properties().map(|property| property.number);
+    Ok(numbers.collect(alloc)?)
 }
 
 // The owner, the owner's properties, and the leases of these.
@@ -253,20 +223,14 @@ fn gather_owned<S: Alter>(
     owner: Id,
     books: &mut Books,
 ) -> Result<(), StoreFault>
-    requires ready { HasCleanDisk (state S.Store conn.old) → IsReady (state S.Store conn.old) }
-    requires none { books.old ≡ start FIRST_MONTH }
-    ensures taken { HasCleanDisk (state S.Store conn.new)
-        → OnOk result (books.new ≡ record {
-          books = record (charged_by (tables (state S.Store conn.old)).books owner) { charges = fin.empty };
-          open_run = None;
-        }) }
+    requires { HasCleanDisk (state S.Store conn.old) → IsReady (state S.Store conn.old) }
+    ensures gathered { Fills (λ all. record (charged_by all owner) { charges = fin.empty })
+        result (state S.Store conn.old) books.old (state S.Store conn.new) books.new }
     ensures reads { OnlyReads (state S.Store conn.old) (state S.Store conn.new) result }
 {
     look(alloc, conn, &OwnerNumbered { number: owner }, books)?;
     look(alloc, conn, &PropertiesOfOwner { owner }, books)?;
-    let numbers = held_properties(alloc, books)?;
-    gather_leases(alloc, conn, &numbers, books)?;
-    Ok(())
+    gather_let(alloc, conn, books)
 }
 
 // The index of the lease's charge of the month, if the lease runs as long as it was signed for. `None` where the month comes
@@ -290,34 +254,26 @@ fn index_in(lease: &Lease, month: EntryMonth) -> Option<ChargeIndex>
 fn put_charge<S: Alter>(
     alloc: Global,
     conn: &mut Connection<S>,
-    lease: &Lease,
+    it: &Lease,
     month: EntryMonth,
     books: &mut Books,
 ) -> Result<(), StoreFault>
     requires ready { HasCleanDisk (state S.Store conn.old) → IsReady (state S.Store conn.old) }
     requires there { HasCleanDisk (state S.Store conn.old)
-        → get (tables (state S.Store conn.old)).books.leases lease.now.terms.number ≡ Some lease.now }
+        → get (tables (state S.Store conn.old)).books.leases it.now.terms.number ≡ Some it.now }
     ensures put { HasCleanDisk (state S.Store conn.new) → OnOk result ((test : charge_row → Bool)
         → books.old.books.charges ≡ rows_where test (tables (state S.Store conn.old)).books.charges
         → books.new ≡ record books.old {
           books = record books.old.books {
-            charges = rows_where (λ charge. test charge || (nat_eq charge.lease lease.now.terms.number && nat_eq charge.month month))
+            charges = rows_where (λ charge. test charge || (nat_eq charge.lease it.now.terms.number && nat_eq charge.month month))
                 (tables (state S.Store conn.old)).books.charges;
           };
         }) }
     ensures reads { OnlyReads (state S.Store conn.old) (state S.Store conn.new) result }
 {
-    let number = lease.terms.number;
-    match index_in(lease, month) {
-        Some(index) => look(
-            alloc,
-            conn,
-            &ChargeOf {
-                lease: number,
-                index,
-            },
-            books,
-        ),
+    let lease = it.terms.number;
+    match index_in(it, month) {
+        Some(index) => look(alloc, conn, &ChargeOf { lease, index }, books),
         None => Ok(()),
     }
 }
@@ -358,8 +314,7 @@ fn gather_charged<S: Alter>(
 ) -> Result<(), StoreFault>
     requires ready { HasCleanDisk (state S.Store conn.old) → IsReady (state S.Store conn.old) }
     requires none { books.old ≡ start FIRST_MONTH }
-    ensures taken { HasCleanDisk (state S.Store conn.new)
-        → OnOk result (books.new ≡ record { books = charged_in (tables (state S.Store conn.old)).books it.owner it.month; open_run = None }) }
+    ensures gathered { Fills (λ all. charged_in all it.owner it.month) result (state S.Store conn.old) books.old (state S.Store conn.new) books.new }
     ensures reads { OnlyReads (state S.Store conn.old) (state S.Store conn.new) result }
 {
     gather_owned(alloc, conn, it.owner, books)?;
@@ -368,7 +323,7 @@ fn gather_charged<S: Alter>(
     Ok(())
 }
 
-// These, the run of the month, and its fees. The version is that of the tables.
+// These, the run of the month, and its fees.
 fn gather_owner<S: Alter>(
     alloc: Global,
     conn: &mut Connection<S>,
@@ -376,21 +331,18 @@ fn gather_owner<S: Alter>(
     it: OwnerMonth,
     books: &mut Books,
 ) -> Result<(), StoreFault>
-    requires ready { HasCleanDisk (state S.Store conn.old) → IsReady (state S.Store conn.old) }
-    requires version { HasCleanDisk (state S.Store conn.old) → version ≡ (tables (state S.Store conn.old)).books.version }
+    requires ready { HasCleanDisk (state S.Store conn.old) → IsReadyOf version (state S.Store conn.old) }
     requires none { books.old ≡ start FIRST_MONTH }
-    ensures taken { HasCleanDisk (state S.Store conn.new)
-        → OnOk result (books.new ≡ record { books = answered_from (tables (state S.Store conn.old)).books (asked.Owner it); open_run = None }) }
+    ensures gathered { Fills (λ all. answered_from all (asked.Owner it)) result (state S.Store conn.old) books.old (state S.Store conn.new) books.new }
     ensures reads { OnlyReads (state S.Store conn.old) (state S.Store conn.new) result }
 {
     let month = it.month;
     gather_charged(alloc, conn, it, books)?;
     look(alloc, conn, &RunOf { month }, books)?;
-    look_later(alloc, conn, version, &FeesOfMonth { month }, books)?;
-    Ok(())
+    look_later(alloc, conn, version, &FeesOfMonth { month }, books)
 }
 
-// The rows that the question is about; of an owner's statement not the charges of other months. The version is that of the tables.
+// The rows that the question is about; of an owner's statement not the charges of other months.
 fn gather<S: Alter>(
     alloc: Global,
     conn: &mut Connection<S>,
@@ -398,16 +350,20 @@ fn gather<S: Alter>(
     question: &Question,
     books: &mut Books,
 ) -> Result<(), StoreFault>
-    requires ready { HasCleanDisk (state S.Store conn.old) → IsReady (state S.Store conn.old) }
-    requires version { HasCleanDisk (state S.Store conn.old) → version ≡ (tables (state S.Store conn.old)).books.version }
+    requires ready { HasCleanDisk (state S.Store conn.old) → IsReadyOf version (state S.Store conn.old) }
     requires none { books.old ≡ start FIRST_MONTH }
-    ensures taken { HasCleanDisk (state S.Store conn.new)
-        → OnOk result (books.new ≡ record { books = answered_from (tables (state S.Store conn.old)).books question.now; open_run = None }) }
+    ensures gathered { Fills (λ all. answered_from all question.now) result (state S.Store conn.old) books.old (state S.Store conn.new) books.new }
     ensures reads { OnlyReads (state S.Store conn.old) (state S.Store conn.new) result }
 {
     match *question {
-        Question::Branches => look_at_all::<Branch, S>(alloc, conn, books),
-        Question::Vacant(_) => gather_lettings(alloc, conn, version, books),
+        Question::Branches => {
+            look_at_all::<Branch, S>(alloc, conn, books)?;
+            Ok(())
+        }
+        Question::Vacant(_) => {
+            look_at_lettings(alloc, conn, version, books)?;
+            Ok(())
+        }
         Question::Matching(asked) => gather_matching(alloc, conn, version, asked.client, books),
         Question::Statement(lease) => gather_account(alloc, conn, lease, books),
         Question::Arrears(branch) => gather_arrears(alloc, conn, branch, books),
@@ -416,44 +372,31 @@ fn gather<S: Alter>(
     }
 }
 
-// What these books answer.
-fn answer_on(alloc: Global, books: Books, question: &Question) -> Result<Answer, StoreFault>
-    ensures answer { IfOk result (λ a. report_of a ≡ report books question.now) }
-    ensures cause { IfErr result IsFirstFault }
-{
-    match answer(alloc, books, question) {
-        Ok(answer) => Ok(answer),
-        Err(error) => Err(error.into()),
-    }
-}
-
-// The answer to a question that no open run puts off. The version is that of the tables.
+// The answer to a question that no open run puts off.
 fn answer_now<S: Alter>(
     alloc: Global,
     conn: &mut Connection<S>,
     version: Version,
     question: &Question,
 ) -> Result<Answer, StoreFault>
-    requires ready { HasCleanDisk (state S.Store conn.old) → IsReady (state S.Store conn.old) }
-    requires version { HasCleanDisk (state S.Store conn.old) → version ≡ (tables (state S.Store conn.old)).books.version }
+    requires { HasCleanDisk (state S.Store conn.old) → IsReadyOf version (state S.Store conn.old) }
     ensures answer { HasCleanDisk (state S.Store conn.new) → (is_put_off question.now ≡ true → (tables (state S.Store conn.old)).open_run ≡ None)
         → IfOk result (λ a. report_of a ≡ report (tables (state S.Store conn.old)) question.now) }
     ensures reads { OnlyReads (state S.Store conn.old) (state S.Store conn.new) result }
 {
     let mut books = no_rows(alloc);
     gather(alloc, conn, version, question, &mut books)?;
-    answer_on(alloc, books, question)
+    Ok(answer(alloc, books, question)?)
 }
 
-// The answer to a question that an open run puts off. The months are those of the tables.
+// The answer to a question that an open run puts off.
 fn answer_put_off<S: Alter>(
     alloc: Global,
     conn: &mut Connection<S>,
     months: Meta,
     question: &Question,
 ) -> Result<Answer, StoreFault>
-    requires ready { HasCleanDisk (state S.Store conn.old) → IsReady (state S.Store conn.old) }
-    requires months { HasCleanDisk (state S.Store conn.old) → AreMonthsOf months (tables (state S.Store conn.old)).books }
+    requires ready { HasCleanDisk (state S.Store conn.old) → IsReadyIn months (state S.Store conn.old) }
     requires off { is_put_off question.now ≡ true }
     ensures answer { HasCleanDisk (state S.Store conn.new) → IfOk result (λ a. report_of a ≡ report (tables (state S.Store conn.old)) question.now) }
     ensures reads { OnlyReads (state S.Store conn.old) (state S.Store conn.new) result }

@@ -1,21 +1,21 @@
 //! One change in one transaction.
 
-ghost use Rattle.std.specs.Prelude.{◌≡◌, ◌⊎◌, ◌≤◌, ◌+◌, false, IsTrue, None, IfErr, OnOk, OnErr};
+ghost use Rattle.std.specs.Prelude.{◌≡◌, ◌⊎◌, ◌≤◌, ◌+◌, IsTrue, None, IfErr, OnOk, OnErr};
 ghost use Rattle.std.specs.FinMap.{get};
 ghost use Rattle.sqlite_trees.specs.View.{doubt};
 ghost use Rattle.sqlite.specs.State.{HasCleanDisk};
 ghost use Rattle.sqlite.specs.Held.{state};
 ghost use Rattle.dh_days.specs.declared.limits.TheConstants.{LAST_NEXT_MONTH};
 ghost use Rattle.dh_model.specs.declared.rows.Change.TheVariants as change;
-ghost use Rattle.dh_model.specs.Edits.{Insert, Update, edit_of};
+ghost use Rattle.dh_model.specs.Edits.{Insert, edit_of};
 ghost use Rattle.dh_laws.specs.Looks.{FitsIn};
 ghost use Rattle.dh_laws.specs.StateTables.{IsStateInOrder};
 ghost use Rattle.dh_schema.specs.Faults.{IsFirstFault};
-ghost use Rattle.dh_schema.specs.Store.{IsReady, IsWriting, LeavesItsTables, Leaves, Commits, StaysReady, tables, with_change};
-ghost use Rattle.dh_store.specs.Putting.{HasPlace, PutsRows, Replaces};
+ghost use Rattle.dh_schema.specs.Store.{IsReady, IsWriting, LeavesItsTables, Leaves, StaysReady, tables, with_change};
+ghost use Rattle.dh_store.specs.Putting.{HasPlace, PutsRows, TurnsInto};
 
 use dh_model::Change;
-use dh_schema::StoreFault;
+use dh_schema::{Put, StoreFault, commit};
 use dh_tables::{Amend, Tabled, insert, set_next_month, update};
 use dh_types::{Month, Run};
 use sqlite::{Alter, Connection, Error, Transaction};
@@ -68,25 +68,7 @@ fn amend<A: Amend, S: Alter>(
     requires writing { HasCleanDisk (state S.Store tx.old.conn.now) → IsWriting (state S.Store tx.old.conn.now) }
     requires fits { HasCleanDisk (state S.Store tx.old.conn.now) → FitsIn change.now (tables (state S.Store tx.old.conn.now)).books }
     requires place { HasCleanDisk (state S.Store tx.old.conn.now) → HasPlace (tables (state S.Store tx.old.conn.now)).books.version change.now }
-    requires is { edit_of change.now ≡ Update A.Record.is_kind.kind (A.Record.is_kind.as_key (A.key amendment.now))
-        (λ row. A.Record.is_kind.as_row (A.amended amendment.now (A.Record.is_kind.of_row row))) }
-    ensures same_reference { tx.new.conn.ghost_name ≡ tx.old.conn.ghost_name }
-    ensures puts { PutsRows change.now result (state S.Store tx.old.conn.now) (state S.Store tx.new.conn.now) }
-{
-    update(alloc, tx, amendment)
-}
-
-// Puts the row of the change in the place of the one that has its key.
-fn replace<A: Amend, S: Alter>(
-    alloc: Global,
-    tx: &mut Transaction<'_, S>,
-    amendment: &A,
-    change: &Change,
-) -> Result<(), Error>
-    requires writing { HasCleanDisk (state S.Store tx.old.conn.now) → IsWriting (state S.Store tx.old.conn.now) }
-    requires fits { HasCleanDisk (state S.Store tx.old.conn.now) → FitsIn change.now (tables (state S.Store tx.old.conn.now)).books }
-    requires place { HasCleanDisk (state S.Store tx.old.conn.now) → HasPlace (tables (state S.Store tx.old.conn.now)).books.version change.now }
-    requires is { Replaces A.Record.is_kind change.now (A.key amendment.now) (A.amended amendment.now) }
+    requires is { TurnsInto A.Record.is_kind change.now (A.key amendment.now) (A.amended amendment.now) }
     ensures same_reference { tx.new.conn.ghost_name ≡ tx.old.conn.ghost_name }
     ensures puts { PutsRows change.now result (state S.Store tx.old.conn.now) (state S.Store tx.new.conn.now) }
 {
@@ -108,7 +90,7 @@ fn put_rows<S: Alter>(
     match change {
         Change::Branch(it) => add(alloc, tx, it, change),
         Change::NewFee(it) => add(alloc, tx, it, change),
-        Change::Fee(it) => replace(alloc, tx, it, change),
+        Change::Fee(it) => amend(alloc, tx, it, change),
         Change::Staff(it) => add(alloc, tx, it, change),
         Change::Owner(it) => add(alloc, tx, it, change),
         Change::Property(it) => add(alloc, tx, it, change),
@@ -121,34 +103,27 @@ fn put_rows<S: Alter>(
         Change::Inspection(it) => add(alloc, tx, it, change),
         Change::Lease(it) => add(alloc, tx, it, change),
         Change::NewEnding(it) => add(alloc, tx, it, change),
-        Change::Ending(it) => replace(alloc, tx, it, change),
+        Change::Ending(it) => amend(alloc, tx, it, change),
         Change::Receipt(it) => add(alloc, tx, it, change),
         Change::Open(it) => put_run(alloc, tx, it),
         Change::Post => Ok(()),
     }
 }
 
-// Puts the rows of the change into their tables and commits them.
-fn commit_change<S: Alter>(
-    alloc: Global,
-    conn: &mut Connection<S>,
-    change: &Change,
-) -> Result<(), Error>
-    requires autocommit { (state S.Store conn.old).in_transaction ≡ false }
-    requires ready { HasCleanDisk (state S.Store conn.old) → IsReady (state S.Store conn.old) }
-    requires order { HasCleanDisk (state S.Store conn.old) → IsStateInOrder (with_change change.now (tables (state S.Store conn.old))) }
-    requires fits { HasCleanDisk (state S.Store conn.old) → FitsIn change.now (tables (state S.Store conn.old)).books }
-    requires place { HasCleanDisk (state S.Store conn.old) → HasPlace (tables (state S.Store conn.old)).books.version change.now }
-    ensures done { HasCleanDisk (state S.Store conn.new)
-        → OnOk result (IsReady (state S.Store conn.new) × (tables (state S.Store conn.new) ≡ with_change change.now (tables (state S.Store conn.old)))) }
-    ensures undone { HasCleanDisk (state S.Store conn.new) → IsTrue (state S.Store conn.new).is_open
-        → OnErr result (StaysReady (state S.Store conn.old) (state S.Store conn.new)) }
-    ensures survives { Commits (state S.Store conn.old) (state S.Store conn.new) (λ t. t ≡ with_change change.now (tables (state S.Store conn.old))) }
-{
-    let mut tx = conn.transaction();
-    put_rows(alloc, &mut tx, change)?;
-    tx.commit()?;
-    Ok(())
+// The rows of a change.
+#[derive(Clone, Copy)]
+struct ChangeRows<'a> {
+    change: &'a Change,
+}
+
+impl Put for ChangeRows<'_> {
+    ghost after = { λ rows. with_change rows.change.now };
+
+    ghost fits = { λ rows t. FitsIn rows.change.now t.books × HasPlace t.books.version rows.change.now };
+
+    fn put<S: Alter>(&self, alloc: Global, tx: &mut Transaction<'_, S>) -> Result<(), Error> {
+        put_rows(alloc, tx, self.change)
+    }
 }
 
 /// Puts exactly the rows of the change into the tables, in one transaction: those of an accepted command, which fit in, have
@@ -173,9 +148,5 @@ pub fn apply<S: Alter>(
         → Leaves (state S.Store conn.new) (λ t. (t ≡ tables (state S.Store conn.old)) ⊎ (t ≡ with_change change.now (tables (state S.Store conn.old)))) }
     ensures was_clean { doubt (state S.Store conn.old).is_clean ≤ doubt (state S.Store conn.new).is_clean }
 {
-    if !conn.is_autocommit() {
-        return Err(StoreFault::unclean(conn));
-    }
-    commit_change(alloc, conn, change)?;
-    Ok(())
+    commit(alloc, conn, &ChangeRows { change })
 }

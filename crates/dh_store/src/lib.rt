@@ -9,5 +9,8 @@ mod verdicts;
 
 pub use answers::look_up;
 pub use changes::apply;
-pub use looks::{find_open_run, look, look_at_all, look_at_later, months_now, no_rows, no_rows_of};
+pub use looks::{
+    find_open_run, look, look_at_all, look_at_later, look_at_lettings, months_now, no_rows,
+    no_rows_of,
+};
 pub use verdicts::ask;

@@ -6,6 +6,6 @@ mod looking;
 mod reading;
 
 pub(crate) use endings::{held_leases, look_at_endings_of};
-pub use later::{look_at_later, look_later};
+pub use later::{look_at_later, look_at_lettings, look_later};
 pub use looking::{look, look_at_all};
 pub use reading::{find_open_run, months_now, no_rows, no_rows_of};

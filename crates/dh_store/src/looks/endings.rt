@@ -7,7 +7,8 @@ ghost use Rattle.sqlite.specs.State.{HasCleanDisk};
 ghost use Rattle.sqlite.specs.Held.{state};
 ghost use Rattle.dh_model.specs.Whole.{rows_where};
 ghost use Rattle.dh_schema.specs.Faults.{IsFirstFault};
-ghost use Rattle.dh_schema.specs.Store.{IsReady, tables};
+ghost use Rattle.dh_schema.specs.Store.{tables};
+ghost use Rattle.dh_store.specs.Months.{IsReadyOf};
 ghost use Rattle.dh_store.specs.Reading.{OnlyReads};
 
 use crate::looks::look_later;
@@ -18,7 +19,7 @@ use dh_types::{Lease, Version};
 use sqlite::{Alter, Connection};
 use std::alloc::{AllocError, Global};
 
-/// Puts the endings of these leases into books that have none. The version is that of the tables.
+/// Puts the endings of these leases into books that have none.
 pub(crate) fn look_at_endings_of<S: Alter>(
     alloc: Global,
     conn: &mut Connection<S>,
@@ -26,8 +27,7 @@ pub(crate) fn look_at_endings_of<S: Alter>(
     leases: &[Lease],
     books: &mut Books,
 ) -> Result<(), StoreFault>
-    requires ready { HasCleanDisk (state S.Store conn.old) → IsReady (state S.Store conn.old) }
-    requires version { HasCleanDisk (state S.Store conn.old) → version ≡ (tables (state S.Store conn.old)).books.version }
+    requires { HasCleanDisk (state S.Store conn.old) → IsReadyOf version (state S.Store conn.old) }
     ensures taken { HasCleanDisk (state S.Store conn.new) → OnOk result (books.old.books.endings ≡ fin.empty
         → books.new ≡ record books.old {
           books = record books.old.books {
@@ -60,8 +60,5 @@ pub(crate) fn held_leases(alloc: Global, books: &Books) -> Result<Vec<Lease>, St
     ensures leases { IfOk result (λ leases. leases.items ≡ fin.values books.now.books.leases) }
     ensures cause { IfErr result IsFirstFault }
 {
-    match listed_leases(alloc, books) {
-        Ok(leases) => Ok(leases),
-        Err(error) => Err(error.into()),
-    }
+    Ok(listed_leases(alloc, books)?)
 }

@@ -9,7 +9,7 @@ ghost use Rattle.dh_model.specs.Books.{empty_books, start};
 ghost use Rattle.dh_model.specs.Whole.{open_row};
 ghost use Rattle.dh_laws.specs.Looks.{unless_closed};
 ghost use Rattle.dh_schema.specs.Store.{IsReady, tables};
-ghost use Rattle.dh_store.specs.Months.{AreMonthsOf};
+ghost use Rattle.dh_store.specs.Months.{AreMonthsOf, IsReadyIn};
 ghost use Rattle.dh_store.specs.Reading.{OnlyReads};
 
 use dh_books::Books;
@@ -54,8 +54,7 @@ fn last_run<S: Alter>(
     conn: &mut Connection<S>,
     months: Meta,
 ) -> Result<Option<Run>, StoreFault>
-    requires ready { HasCleanDisk (state S.Store conn.old) → IsReady (state S.Store conn.old) }
-    requires months { HasCleanDisk (state S.Store conn.old) → AreMonthsOf months (tables (state S.Store conn.old)).books }
+    requires { HasCleanDisk (state S.Store conn.old) → IsReadyIn months (state S.Store conn.old) }
     ensures found { HasCleanDisk (state S.Store conn.new)
         → IfOk result (λ run. run ≡ get (tables (state S.Store conn.old)).books.runs ((tables (state S.Store conn.old)).books.next - 1)) }
     ensures reads { OnlyReads (state S.Store conn.old) (state S.Store conn.new) result }
@@ -79,14 +78,13 @@ fn unless_closed(run: Option<Run>) -> Option<Run>
     }
 }
 
-/// The run that is open: that of the month before the next, where it is not closed. The months are those of the tables.
+/// The run that is open: that of the month before the next, where it is not closed.
 pub fn find_open_run<S: Alter>(
     alloc: Global,
     conn: &mut Connection<S>,
     months: Meta,
 ) -> Result<Option<Run>, StoreFault>
-    requires ready { HasCleanDisk (state S.Store conn.old) → IsReady (state S.Store conn.old) }
-    requires months { HasCleanDisk (state S.Store conn.old) → AreMonthsOf months (tables (state S.Store conn.old)).books }
+    requires { HasCleanDisk (state S.Store conn.old) → IsReadyIn months (state S.Store conn.old) }
     ensures found { HasCleanDisk (state S.Store conn.new) → IfOk result (λ run. run ≡ open_row (tables (state S.Store conn.old)).books) }
     ensures reads { OnlyReads (state S.Store conn.old) (state S.Store conn.new) result }
 {

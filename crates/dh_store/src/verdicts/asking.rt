@@ -8,21 +8,21 @@ ghost use Rattle.dh_model.specs.Verdicts.{verdict_on};
 ghost use Rattle.dh_laws.specs.Looks.{month_open};
 ghost use Rattle.dh_schema.specs.Faults.{IsFirstFault};
 ghost use Rattle.dh_schema.specs.Store.{IsReady, Leaves, StaysReady, tables};
-ghost use Rattle.dh_store.specs.Months.{AreMonthsOf};
+ghost use Rattle.dh_store.specs.Months.{IsReadyIn};
 ghost use Rattle.dh_store.specs.Reading.{OnlyReads};
 
 use crate::looks::months_now;
-use crate::verdicts::gathering::{gather, open_month};
+use crate::verdicts::gathering::{gather_into, open_month};
+use dh_books::Books;
 use dh_model::{OpenRun, Verdict};
 use dh_rows::Meta;
 use dh_schema::StoreFault;
 use dh_types::Command;
-use dh_verdicts::{decide_on, open_refusal};
+use dh_verdicts::{Facts, decide_on, open_refusal};
 use sqlite::{Alter, Connection};
 use std::alloc::Global;
 
-// The verdict on the command, from the rows that it looks at. The months are those of the tables, and the run is the one
-// that is open.
+// The verdict on the command, from the rows that it looks at. The run is the one that is open.
 fn ask_rows<S: Alter>(
     alloc: Global,
     conn: &mut Connection<S>,
@@ -30,18 +30,16 @@ fn ask_rows<S: Alter>(
     months: Meta,
     run: Option<OpenRun>,
 ) -> Result<Verdict, StoreFault>
-    requires ready { HasCleanDisk (state S.Store conn.old) → IsReady (state S.Store conn.old) }
-    requires months { HasCleanDisk (state S.Store conn.old) → AreMonthsOf months (tables (state S.Store conn.old)).books }
+    requires ready { HasCleanDisk (state S.Store conn.old) → IsReadyIn months (state S.Store conn.old) }
     requires run { HasCleanDisk (state S.Store conn.old) → month_open run ≡ month_open (tables (state S.Store conn.old)).open_run }
     ensures verdict { HasCleanDisk (state S.Store conn.new)
         → IfOk result (λ v. v ≡ verdict_on (tables (state S.Store conn.old)).books (tables (state S.Store conn.old)).open_run command.now) }
     ensures reads { OnlyReads (state S.Store conn.old) (state S.Store conn.new) result }
 {
-    let facts = gather(alloc, conn, command, months, run)?;
-    match decide_on(alloc, &facts, command) {
-        Ok(verdict) => Ok(verdict),
-        Err(error) => Err(error.into()),
-    }
+    let books = Books::new(alloc, months.version(), months.first(), months.next());
+    let mut facts = Facts { books, receipts: 0 };
+    gather_into(alloc, conn, command, run, &mut facts)?;
+    Ok(decide_on(alloc, &facts, command)?)
 }
 
 // The verdict on the command. What an open run puts off is refused before any other row is read.

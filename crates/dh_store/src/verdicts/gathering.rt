@@ -7,34 +7,34 @@ ghost use Rattle.sqlite.specs.Held.{state};
 ghost use Rattle.dh_laws.specs.Looks.{Counts, IsCutOf, month_open};
 ghost use Rattle.dh_verdicts.specs.Seen.{facts_of};
 ghost use Rattle.dh_schema.specs.Store.{IsReady, tables};
-ghost use Rattle.dh_store.specs.Months.{AreMonthsOf};
+ghost use Rattle.dh_store.specs.Months.{IsReadyIn, IsReadyOf};
 ghost use Rattle.dh_store.specs.Reading.{OnlyReads};
 ghost use Rattle.dh_store.specs.Gathered.{Gathers, bare};
 
-use crate::looks::find_open_run;
-use crate::verdicts::accounts::{at_end, at_lease, at_receipt, at_run};
-use crate::verdicts::lettings::{
-    at_assign, at_comment, at_inspection, at_property, at_rent, at_viewing,
+use crate::looks::{find_open_run, look};
+use crate::verdicts::rows::{
+    at_end, at_fee, at_inspection, at_lease, at_property, at_receipt, at_register, at_run,
+    at_staff, at_viewing, managed,
 };
-use crate::verdicts::people::{at_branch, at_client, at_fee, at_owner, at_register, at_staff};
 use dh_books::Books;
 use dh_model::OpenRun;
 use dh_rows::Meta;
 use dh_schema::StoreFault;
-use dh_tables::last_receipt;
+use dh_tables::{
+    BranchNumbered, ClientNumbered, OwnerNumbered, PropertyNumbered, ViewingOf, last_receipt,
+};
 use dh_types::{Command, Version};
 use dh_verdicts::Facts;
 use sqlite::{Alter, Connection};
 use std::alloc::Global;
 
-/// The open run, of which the month alone is known. The months are those of the tables.
+/// The open run, of which the month alone is known.
 pub(crate) fn open_month<S: Alter>(
     alloc: Global,
     conn: &mut Connection<S>,
     months: Meta,
 ) -> Result<Option<OpenRun>, StoreFault>
-    requires ready { HasCleanDisk (state S.Store conn.old) → IsReady (state S.Store conn.old) }
-    requires months { HasCleanDisk (state S.Store conn.old) → AreMonthsOf months (tables (state S.Store conn.old)).books }
+    requires { HasCleanDisk (state S.Store conn.old) → IsReadyIn months (state S.Store conn.old) }
     ensures month { HasCleanDisk (state S.Store conn.new) → IfOk result (λ run. month_open run ≡ month_open (tables (state S.Store conn.old)).open_run) }
     ensures reads { OnlyReads (state S.Store conn.old) (state S.Store conn.new) result }
 {
@@ -67,7 +67,8 @@ fn count_for<S: Alter>(
     command: &Command,
 ) -> Result<usize, StoreFault>
     requires { HasCleanDisk (state S.Store conn.old) → IsReady (state S.Store conn.old) }
-    ensures counted { HasCleanDisk (state S.Store conn.new) → IfOk result (λ count. Counts command.now (tables (state S.Store conn.old)).books.receipts count) }
+    ensures counted { HasCleanDisk (state S.Store conn.new)
+        → IfOk result (λ count. Counts command.now (tables (state S.Store conn.old)).books.receipts count) }
     ensures reads { OnlyReads (state S.Store conn.old) (state S.Store conn.new) result }
 {
     match command {
@@ -76,7 +77,7 @@ fn count_for<S: Alter>(
     }
 }
 
-// The rows that the command looks at. The version is that of the tables.
+// The rows that the command looks at.
 fn gather_rows<S: Alter>(
     alloc: Global,
     conn: &mut Connection<S>,
@@ -84,23 +85,28 @@ fn gather_rows<S: Alter>(
     command: &Command,
     books: &mut Books,
 ) -> Result<(), StoreFault>
-    requires ready { HasCleanDisk (state S.Store conn.old) → IsReady (state S.Store conn.old) }
-    requires version { HasCleanDisk (state S.Store conn.old) → version ≡ (tables (state S.Store conn.old)).books.version }
+    requires { HasCleanDisk (state S.Store conn.old) → IsReadyOf version (state S.Store conn.old) }
     ensures gathered { Gathers command.now result (state S.Store conn.old) books.old (state S.Store conn.new) books.new }
     ensures reads { OnlyReads (state S.Store conn.old) (state S.Store conn.new) result }
 {
     match command {
-        Command::Branch(branch) => at_branch(alloc, conn, branch, books),
+        Command::Branch(it) => look(alloc, conn, &BranchNumbered { number: it.number }, books),
         Command::Fee(fee) => at_fee(alloc, conn, version, fee, books),
         Command::Staff(member) => at_staff(alloc, conn, member, books),
-        Command::Owner(owner) => at_owner(alloc, conn, owner, books),
+        Command::Owner(it) => look(alloc, conn, &OwnerNumbered { number: it.number }, books),
         Command::Property(property) => at_property(alloc, conn, property, books),
-        Command::Assign(assignment) => at_assign(alloc, conn, assignment, books),
-        Command::Rent(change) => at_rent(alloc, conn, change, books),
-        Command::Client(client) => at_client(alloc, conn, client, books),
+        Command::Assign(it) => managed(alloc, conn, it.property, it.staff, books),
+        Command::Rent(it) => {
+            let number = it.property;
+            look(alloc, conn, &PropertyNumbered { number }, books)
+        }
+        Command::Client(it) => look(alloc, conn, &ClientNumbered { number: it.number }, books),
         Command::Register(registration) => at_register(alloc, conn, registration, books),
         Command::Viewing(viewing) => at_viewing(alloc, conn, viewing, books),
-        Command::Comment(comment) => at_comment(alloc, conn, comment, books),
+        Command::Comment(it) => {
+            let (client, property) = (it.client, it.property);
+            look(alloc, conn, &ViewingOf { client, property }, books)
+        }
         Command::Inspection(inspection) => at_inspection(alloc, conn, inspection, books),
         Command::Lease(terms) => at_lease(alloc, conn, version, terms, books),
         Command::End(ending) => at_end(alloc, conn, version, ending, books),
@@ -110,8 +116,8 @@ fn gather_rows<S: Alter>(
     }
 }
 
-// The rows, the open run and the count, into facts that have the version and the months alone.
-fn gather_into<S: Alter>(
+/// The rows, the open run and the count, into facts that have the version and the months alone.
+pub(crate) fn gather_into<S: Alter>(
     alloc: Global,
     conn: &mut Connection<S>,
     command: &Command,
@@ -130,27 +136,4 @@ fn gather_into<S: Alter>(
     facts.books.set_open_run(run);
     facts.receipts = count_for(alloc, conn, command)?;
     Ok(())
-}
-
-/// What the command looks at in the tables. The months are those of the tables, and the run is the one that is open.
-pub(crate) fn gather<S: Alter>(
-    alloc: Global,
-    conn: &mut Connection<S>,
-    command: &Command,
-    months: Meta,
-    run: Option<OpenRun>,
-) -> Result<Facts, StoreFault>
-    requires ready { HasCleanDisk (state S.Store conn.old) → IsReady (state S.Store conn.old) }
-    requires months { HasCleanDisk (state S.Store conn.old) → AreMonthsOf months (tables (state S.Store conn.old)).books }
-    requires run { HasCleanDisk (state S.Store conn.old) → month_open run ≡ month_open (tables (state S.Store conn.old)).open_run }
-    ensures cut { HasCleanDisk (state S.Store conn.new)
-        → IfOk result (λ facts. IsCutOf (facts_of facts) (tables (state S.Store conn.old)).books (tables (state S.Store conn.old)).open_run command.now) }
-    ensures reads { OnlyReads (state S.Store conn.old) (state S.Store conn.new) result }
-{
-    let books = Books::new(alloc, months.version(), months.first(), months.next());
-    let mut facts = Facts { books, receipts: 0 };
-    match gather_into(alloc, conn, command, run, &mut facts) {
-        Ok(()) => Ok(facts),
-        Err(fault) => Err(fault),
-    }
 }

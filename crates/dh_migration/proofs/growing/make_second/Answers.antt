@@ -2,8 +2,8 @@ use Rattle.std.proofs.Common.{inr, arith}
 use Rattle.std.proofs.lemmas.Result.{err_from_is_err_and}
 use Rattle.sqlite.specs.State.{HasCleanDisk}
 use Rattle.sqlite.specs.Held.{state}
-use Rattle.dh_migration.specs.Migrated.{as_second}
-use Rattle.dh_migration.proofs.Grown.{made_second, not_made, row_there, was_first}
+use Rattle.dh_store.proofs.Putting.{puts_none}
+use Rattle.dh_migration.proofs.Grown.{made_second, row_there, was_first}
 use Rattle.dh_migration.proofs.growing.make_second.Goals as goal
 
 pub create_later-requires : goal.create_later-requires
@@ -26,8 +26,7 @@ set_version-requires-clause-there g c clean =
 pub returns-in_err-create_later-clause-puts : goal.returns-in_err-create_later-clause-puts
 returns-in_err-create_later-clause-puts g c =
     let is = err_from_is_err_and c.from_residual.result c.from_residual.ensures.1 in
-    not_made as_second c.from_residual.result is.0 (state g.S.Store c.args.tx.now.conn.now) (state g.S.Store c.create_later.new.tx.conn.now) is.1
-    c.create_later.ensures.kept c.create_later.ensures.crash
+    puts_none is.1 c.create_later.ensures.kept c.create_later.ensures.crash
 
 pub returns-clause-puts : goal.returns-clause-puts
 returns-clause-puts g c =

@@ -8,9 +8,10 @@ use Rattle.dh_types.specs.declared.fee.PartFee.{PartFee}
 use Rattle.dh_model.specs.Books.{Books}
 use Rattle.dh_model.specs.Runs.{part_key}
 use Rattle.dh_schema.specs.Store.{tables}
-use Rattle.dh_store.specs.Putting.{TurnsBooks}
+use Rattle.dh_schema.specs.Putting.{TurnsBooks}
 use Rattle.dh_runs.specs.Putting.{with_fees}
-use Rattle.dh_runs.proofs.Putting.{nothing_put, puts_both, puts_none}
+use Rattle.dh_store.proofs.Putting.{nothing_put, puts_none}
+use Rattle.dh_runs.proofs.Putting.{puts_both}
 use Rattle.dh_migration.specs.Migrated.{no_fee, with_no_fees}
 use Rattle.dh_migration.proofs.EachFee.{all_left, is_new, none_put, not_there, one_more, tail_is}
 use Rattle.dh_migration.proofs.growing.put_no_fees.Goals as goal
@@ -22,7 +23,7 @@ loop-left-init g c =
       same_reference = refl;
       within = omega arith;
       puts = subst (λ (rest : List Part). TurnsBooks (with_no_fees rest) (Ok tt) s s) (sym (all_left parts))
-          (nothing_put (with_no_fees []) s c.requires.writing (none_put (tables s).books));
+          (nothing_put s c.requires.writing (sym (none_put (tables s).books)));
     }
 
 pub put_fee-requires-clause-writing : goal.put_fee-requires-clause-writing
@@ -53,7 +54,7 @@ loop-left-preserved g c =
     let new = state g.S.Store c.put_fee.new.tx.conn.now in
     let tail = tail_is parts left part (omega arith) c.loop-left.invariant.within c.index-parts-left.is in
     let put = subst (λ (fee : PartFee). TurnsBooks (with_fees (fee ∷ [])) (Ok tt) now new) c.no_fee.ensures c.in_ok-put_fee.ensures.puts in
-    let more = puts_both (with_no_fees rest) (with_fees (no_fee part ∷ [])) old now new (Ok tt) c.loop-left.invariant.puts put in
+    let more = puts_both (with_fees (no_fee part ∷ [])) c.loop-left.invariant.puts put in
     let next = one_more part rest ∙ ap with_no_fees (sym tail) in
     record {
       same_reference = c.put_fee.ensures.same_reference ∙ c.loop-left.invariant.same_reference;
@@ -66,15 +67,9 @@ returns-in_err-put_fee-clause-same_reference g c = c.put_fee.ensures.same_refere
 
 pub returns-in_err-put_fee-clause-puts : goal.returns-in_err-put_fee-clause-puts
 returns-in_err-put_fee-clause-puts g c =
-    let parts = c.args.parts.now in
-    let rest = with_no_fees (drop c.loop-left.left parts) in
-    let fee = c.no_fee.result in
-    let old = state g.S.Store c.args.tx.now.conn.now in
-    let now = state g.S.Store c.loop-left.tx.conn.now in
-    let new = state g.S.Store c.put_fee.new.tx.conn.now in
     let is = err_from_is_err_and c.from_residual.result c.from_residual.ensures.1 in
-    puts_none (λ books. with_fees (fee ∷ []) (rest books)) (with_no_fees parts) c.from_residual.result is.0 _ old new is.1
-    (puts_both rest (with_fees (fee ∷ [])) old now new _ c.loop-left.invariant.puts c.in_err-put_fee.ensures.puts)
+    let puts = puts_both (with_fees (c.no_fee.result ∷ [])) c.loop-left.invariant.puts c.in_err-put_fee.ensures.puts in
+    puts_none is.1 puts.kept puts.crash
 
 pub returns-clause-puts : goal.returns-clause-puts
 returns-clause-puts g c =

@@ -1,6 +1,6 @@
 use Rattle.std.proofs.Common.{◌≡◌, ◌≤◌, drop, length, Ok}
 use Rattle.sqlite.specs.Held.{state}
-use Rattle.dh_store.specs.Putting.{TurnsBooks}
+use Rattle.dh_schema.specs.Putting.{TurnsBooks}
 use Rattle.dh_migration.specs.Migrated.{with_no_fees}
 use Rattle.dh_migration.proofs.growing.put_no_fees.Given as goal
 

@@ -3,32 +3,36 @@ use Rattle.sqlite.specs.State.{HasCleanDisk}
 use Rattle.sqlite.specs.Held.{state}
 use Rattle.dh_model.specs.declared.open_run.OpenRun.{OpenRun}
 use Rattle.dh_model.specs.Books.{State}
-use Rattle.dh_laws.specs.Batches.{IsAtItsEnd}
+use Rattle.dh_laws.specs.Batches.{IsAtItsEnd, closed_state}
+use Rattle.dh_laws.specs.StateTables.{IsStateInOrder}
 use Rattle.dh_schema.specs.Store.{tables}
 use Rattle.dh_runs.specs.Closing.{IsSumOfOpen}
-use Rattle.dh_runs.proofs.ClosedRun.{ready_in_order, sum_is_told, sum_of_open}
+use Rattle.dh_runs.proofs.ClosedRun.{closed_in_order, ready_in_order, sum_is_told, sum_of_open}
 use Rattle.dh_runs.proofs.closing.close_month.Goals as goal
 
-pub close_with-requires-clause-end : goal.close_with-requires-clause-end
-close_with-requires-clause-end g c mid =
+pub commit-requires-clause-order : goal.commit-requires-clause-order
+commit-requires-clause-order g c mid =
     let old = state g.S.Store c.args.conn.now in
     let early : HasCleanDisk old = omega (arith, c.month_sum.ensures.reads.crash.clean, mid) in
-    let same = (c.in_ok-sum.ensures.reads.done mid).1 in
-    subst (λ (t : State). IsAtItsEnd t.books t.open_run) (sym same)
-    (subst (λ (run : Option OpenRun). IsAtItsEnd (tables old).books run) (sym (c.requires.end early)) refl)
+    let at_end = subst (λ (run : Option OpenRun). IsAtItsEnd (tables old).books run) (sym (c.requires.end early)) refl in
+    subst (λ (t : State). IsStateInOrder (closed_state t)) (sym (c.in_ok-sum.ensures.reads.done mid).1)
+    (closed_in_order (tables old) (ready_in_order old (c.requires.ready early)) at_end)
 
-pub close_with-requires-clause-sum : goal.close_with-requires-clause-sum
-close_with-requires-clause-sum g c mid =
+pub commit-requires-clause-room : goal.commit-requires-clause-room
+commit-requires-clause-room g c mid =
     let old = state g.S.Store c.args.conn.now in
+    let sum = c.in_ok-sum.sum in
     let early : HasCleanDisk old = omega (arith, c.month_sum.ensures.reads.crash.clean, mid) in
-    let same = (c.in_ok-sum.ensures.reads.done mid).1 in
-    subst (λ (t : State). IsSumOfOpen c.in_ok-sum.sum t.books) (sym same)
-    (sum_of_open (tables old) c.args.month c.in_ok-sum.sum (ready_in_order old (c.requires.ready early)) (c.requires.end early) (c.in_ok-sum.ensures.told mid))
+    let order = ready_in_order old (c.requires.ready early) in
+    let end = c.requires.end early in
+    let at_end = subst (λ (run : Option OpenRun). IsAtItsEnd (tables old).books run) (sym end) refl in
+    subst (λ (t : State). IsStateInOrder t × IsAtItsEnd t.books t.open_run × IsSumOfOpen sum t.books) (sym (c.in_ok-sum.ensures.reads.done mid).1)
+    (order, at_end, sum_of_open (tables old) c.args.month sum order end (c.in_ok-sum.ensures.told mid))
 
 pub returns-clause-told : goal.returns-clause-told
 returns-clause-told g c clean =
     let old = state g.S.Store c.args.conn.now in
-    let mid : HasCleanDisk (state g.S.Store c.month_sum.new.conn) = omega (arith, c.close_with.ensures.was_clean, clean) in
+    let mid : HasCleanDisk (state g.S.Store c.month_sum.new.conn) = omega (arith, c.commit.ensures.was_clean, clean) in
     let early : HasCleanDisk old = omega (arith, c.month_sum.ensures.reads.crash.clean, mid) in
     let order = ready_in_order old (c.requires.ready early) in
     let end = c.requires.end early in

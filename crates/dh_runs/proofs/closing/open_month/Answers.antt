@@ -10,8 +10,8 @@ use Rattle.dh_schema.specs.Store.{tables}
 use Rattle.dh_store.proofs.MonthsStay.{months_stay}
 use Rattle.dh_runs.proofs.closing.open_month.Goals as goal
 
-pub find_open_run-requires-clause-months : goal.find_open_run-requires-clause-months
-find_open_run-requires-clause-months g c mid =
+pub find_open_run-requires : goal.find_open_run-requires
+find_open_run-requires g c mid =
     months_stay c.in_ok-months.months (state g.S.Store c.args.conn.now) (state g.S.Store c.months_now.new.conn) (c.in_ok-months.ensures.found mid)
     (c.in_ok-months.ensures.reads.done mid)
 

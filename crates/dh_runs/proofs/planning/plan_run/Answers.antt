@@ -5,18 +5,18 @@ use Rattle.dh_schema.proofs.Crashing.{survives_both, unchanged_leaves}
 use Rattle.dh_store.proofs.MonthsStay.{months_stay, version_stays}
 use Rattle.dh_runs.proofs.planning.plan_run.Goals as goal
 
-pub run_now-requires-clause-months : goal.run_now-requires-clause-months
-run_now-requires-clause-months g c clean =
+pub run_now-requires : goal.run_now-requires
+run_now-requires g c clean =
     months_stay c.in_ok-months.months (state g.S.Store c.args.conn.now) (state g.S.Store c.months_now.new.conn) (c.in_ok-months.ensures.found clean)
     (c.in_ok-months.ensures.reads.done clean)
 
-pub plan_open-requires-clause-version : goal.plan_open-requires-clause-version
-plan_open-requires-clause-version g c =
+pub plan_open-requires-clause-ready : goal.plan_open-requires-clause-ready
+plan_open-requires-clause-ready g c =
     let old = state g.S.Store c.args.conn.now in
     let one = state g.S.Store c.months_now.new.conn in
-    version_stays (λ clean. c.version.ensures
-    ∙ (months_stay c.in_ok-months.months old one (c.in_ok-months.ensures.found clean) (c.in_ok-months.ensures.reads.done clean)).2)
-    c.in_ok-run.ensures.reads
+    version_stays (λ clean.
+    let is = months_stay c.in_ok-months.months old one (c.in_ok-months.ensures.found clean) (c.in_ok-months.ensures.reads.done clean) in
+    (is.0, c.version.ensures ∙ is.1.2)) c.in_ok-run.ensures.reads
 
 pub returns-in_err-run-clause-crash : goal.returns-in_err-run-clause-crash
 returns-in_err-run-clause-crash g c clean =

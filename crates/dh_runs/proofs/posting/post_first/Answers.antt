@@ -8,37 +8,34 @@ use Rattle.dh_runs.proofs.NextRows.{first_is, posted_told, rows_in_order, rows_k
 use Rattle.dh_runs.proofs.ClosedRun.{ready_in_order}
 use Rattle.dh_runs.proofs.posting.post_first.Goals as goal
 
-pub post_rows-requires-clause-order : goal.post_rows-requires-clause-order
-post_rows-requires-clause-order g c clean =
+pub commit-requires-clause-order : goal.commit-requires-clause-order
+commit-requires-clause-order g c clean =
     let old = state g.S.Store c.args.conn.now in
     let first = first_is _ _ _ c.deref.ensures.value c.first.ensures.value c.in-Some.is in
     rows_in_order c.args.plan.now (tables old) (ready_in_order old (c.requires.ready clean)) (c.requires.plan clean) c.in-Some.rows.now first.0 first.1
 
-pub post_rows-requires-clause-new : goal.post_rows-requires-clause-new
-post_rows-requires-clause-new g c clean =
+pub commit-requires-clause-room : goal.commit-requires-clause-room
+commit-requires-clause-room g c clean =
     let old = state g.S.Store c.args.conn.now in
-    let first = first_is _ _ _ c.deref.ensures.value c.first.ensures.value c.in-Some.is in
-    rows_new c.args.plan.now (tables old) (ready_in_order old (c.requires.ready clean)) (c.requires.plan clean) c.in-Some.rows.now first.0 first.1
+    let order = ready_in_order old (c.requires.ready clean) in
+    let first = first_is _ _ _ c.deref.ensures.value c.first.ensures.value c.in-Some.is in (
+      rows_new c.args.plan.now (tables old) order (c.requires.plan clean) c.in-Some.rows.now first.0 first.1,
+      rows_known c.args.plan.now (tables old) order (c.requires.plan clean) c.in-Some.rows.now first.0 first.1,
+    )
 
-pub post_rows-requires-clause-known : goal.post_rows-requires-clause-known
-post_rows-requires-clause-known g c clean =
+pub returns-in_err-commit-clause-crash : goal.returns-in_err-commit-clause-crash
+returns-in_err-commit-clause-crash g c clean =
     let old = state g.S.Store c.args.conn.now in
-    let first = first_is _ _ _ c.deref.ensures.value c.first.ensures.value c.in-Some.is in
-    rows_known c.args.plan.now (tables old) (ready_in_order old (c.requires.ready clean)) (c.requires.plan clean) c.in-Some.rows.now first.0 first.1
-
-pub returns-in_err-post_rows-clause-crash : goal.returns-in_err-post_rows-clause-crash
-returns-in_err-post_rows-clause-crash g c clean =
-    let old = state g.S.Store c.args.conn.now in
-    let new = state g.S.Store c.post_rows.new.conn in
-    let early : HasCleanDisk old = omega (arith, c.post_rows.ensures.was_clean, clean) in
+    let new = state g.S.Store c.commit.new.conn in
+    let early : HasCleanDisk old = omega (arith, c.commit.ensures.was_clean, clean) in
     let first = first_is _ _ _ c.deref.ensures.value c.first.ensures.value c.in-Some.is in
     let is = rows_next c.args.plan.now (tables old) (ready_in_order old (c.requires.ready early)) (c.requires.plan early) c.in-Some.rows.now first.0 first.1 in
-    subst (λ (t : machine.State). Leaves new (λ it. (it ≡ tables old) ⊎ (it ≡ t))) is (c.post_rows.ensures.crash clean)
+    subst (λ (t : machine.State). Leaves new (λ it. (it ≡ tables old) ⊎ (it ≡ t))) is (c.commit.ensures.crash clean)
 
 pub returns-clause-told : goal.returns-clause-told
 returns-clause-told g c clean =
     let old = state g.S.Store c.args.conn.now in
-    let early : HasCleanDisk old = omega (arith, c.post_rows.ensures.was_clean, clean) in
+    let early : HasCleanDisk old = omega (arith, c.commit.ensures.was_clean, clean) in
     let first = first_is _ _ _ c.deref.ensures.value c.first.ensures.value c.in-Some.is in
     let plan = c.args.plan.now in
     let same = ap length c.deref.ensures.value in
@@ -49,17 +46,17 @@ returns-clause-told g c clean =
 pub returns-clause-done : goal.returns-clause-done
 returns-clause-done g c clean =
     let old = state g.S.Store c.args.conn.now in
-    let new = state g.S.Store c.post_rows.new.conn in
-    let early : HasCleanDisk old = omega (arith, c.post_rows.ensures.was_clean, clean) in
+    let new = state g.S.Store c.commit.new.conn in
+    let early : HasCleanDisk old = omega (arith, c.commit.ensures.was_clean, clean) in
     let first = first_is _ _ _ c.deref.ensures.value c.first.ensures.value c.in-Some.is in
     let is = rows_next c.args.plan.now (tables old) (ready_in_order old (c.requires.ready early)) (c.requires.plan early) c.in-Some.rows.now first.0 first.1 in
-    subst (λ (t : machine.State). IsReadyWith new (λ it. it ≡ t)) is (c.in_ok-post_rows.ensures.done clean)
+    subst (λ (t : machine.State). IsReadyWith new (λ it. it ≡ t)) is (c.in_ok-commit.ensures.done clean)
 
 pub returns-clause-crash : goal.returns-clause-crash
 returns-clause-crash g c clean =
     let old = state g.S.Store c.args.conn.now in
-    let new = state g.S.Store c.post_rows.new.conn in
-    let early : HasCleanDisk old = omega (arith, c.post_rows.ensures.was_clean, clean) in
+    let new = state g.S.Store c.commit.new.conn in
+    let early : HasCleanDisk old = omega (arith, c.commit.ensures.was_clean, clean) in
     let first = first_is _ _ _ c.deref.ensures.value c.first.ensures.value c.in-Some.is in
     let is = rows_next c.args.plan.now (tables old) (ready_in_order old (c.requires.ready early)) (c.requires.plan early) c.in-Some.rows.now first.0 first.1 in
-    subst (λ (t : machine.State). Leaves new (λ it. (it ≡ tables old) ⊎ (it ≡ t))) is (c.post_rows.ensures.crash clean)
+    subst (λ (t : machine.State). Leaves new (λ it. (it ≡ tables old) ⊎ (it ≡ t))) is (c.commit.ensures.crash clean)

@@ -8,16 +8,17 @@ use Rattle.dh_types.specs.declared.lease.Charge.{Charge}
 use Rattle.dh_model.specs.Books.{Books}
 use Rattle.dh_model.specs.Runs.{charge_key}
 use Rattle.dh_schema.specs.Store.{tables}
-use Rattle.dh_store.specs.Putting.{TurnsBooks}
-use Rattle.dh_runs.specs.Putting.{with_charge, with_charges}
+use Rattle.dh_schema.specs.Putting.{Puts, TurnsBooks}
+use Rattle.dh_store.proofs.Putting.{puts_none, nothing_put}
+use Rattle.dh_runs.specs.Putting.{with_charge}
 use Rattle.dh_runs.proofs.EachCharge.{is_new, with_all, with_each, with_each_more}
-use Rattle.dh_runs.proofs.Putting.{nothing_put, puts_both, puts_none}
+use Rattle.dh_runs.proofs.Putting.{puts_both}
 use Rattle.dh_runs.proofs.rows.put_charges.Goals as goal
 
 pub loop-charge-init : goal.loop-charge-init
 loop-charge-init g c = record {
   same_reference = refl;
-  puts = nothing_put (with_each []) (state g.S.Store c.args.tx.now.conn.now) c.requires.writing refl;
+  puts = nothing_put (state g.S.Store c.args.tx.now.conn.now) c.requires.writing refl;
 }
 
 pub put_charge-requires-clause-fresh : goal.put_charge-requires-clause-fresh
@@ -36,18 +37,15 @@ loop-charge-preserved g c =
     let n = c.loop-charge.charge-index in
     let charge = c.charge-item.result in
     let old = state g.S.Store c.args.tx.now.conn.now in
-    let now = state g.S.Store c.loop-charge.tx.conn.now in
+    let books = (tables old).books in
     let new = state g.S.Store c.put_charge.new.tx.conn.now in
-    let more = puts_both (with_each (take n charges)) (with_charge charge) old now new (Ok tt) c.loop-charge.invariant.puts
-    c.in_ok-put_charge.ensures.puts in
+    let more = puts_both (with_charge charge) c.loop-charge.invariant.puts c.in_ok-put_charge.ensures.puts in
     let last : take (n + 1) charges ≡ take n charges ++ charge ∷ [] =
     take_more charges n charge c.loop-charge-test.true ∙ ap (λ (it : Charge). take n charges ++ it ∷ []) (sym c.charge-item.is) in
-    let next : (λ (books : Books). with_charge charge (with_each (take n charges) books)) ≡ with_each (take (n + 1) charges) = λ i books.
-    (sym (with_each_more (take n charges) charge books)
-    ∙ ap (λ (rest : List Charge). with_each rest books) (sym last)) i in
+    let next = sym (with_each_more (take n charges) charge books) ∙ ap (λ (rest : List Charge). with_each rest books) (sym last) in
     record {
       same_reference = c.put_charge.ensures.same_reference ∙ c.loop-charge.invariant.same_reference;
-      puts = subst (λ (turned : Books → Books). TurnsBooks turned (Ok tt) old new) next more;
+      puts = subst (λ (after : Books). Puts after (Ok tt) old new) next more;
     }
 
 pub returns-in_err-put_charge-clause-same_reference : goal.returns-in_err-put_charge-clause-same_reference
@@ -55,15 +53,9 @@ returns-in_err-put_charge-clause-same_reference g c = c.put_charge.ensures.same_
 
 pub returns-in_err-put_charge-clause-puts : goal.returns-in_err-put_charge-clause-puts
 returns-in_err-put_charge-clause-puts g c =
-    let charges = c.args.charges.now in
-    let first = with_each (take c.loop-charge.charge-index charges) in
-    let charge = c.charge-item.result in
-    let old = state g.S.Store c.args.tx.now.conn.now in
-    let now = state g.S.Store c.loop-charge.tx.conn.now in
-    let new = state g.S.Store c.put_charge.new.tx.conn.now in
     let is = err_from_is_err_and c.from_residual.result c.from_residual.ensures.1 in
-    puts_none (λ books. with_charge charge (first books)) (with_charges charges) c.from_residual.result is.0 _ old new is.1
-    (puts_both first (with_charge charge) old now new _ c.loop-charge.invariant.puts c.in_err-put_charge.ensures.puts)
+    let puts = puts_both (with_charge c.charge-item.result) c.loop-charge.invariant.puts c.in_err-put_charge.ensures.puts in
+    puts_none is.1 puts.kept puts.crash
 
 pub returns-clause-puts : goal.returns-clause-puts
 returns-clause-puts g c =

@@ -1,6 +1,6 @@
 use Rattle.std.proofs.Common.{◌≡◌, take, Ok}
 use Rattle.sqlite.specs.Held.{state}
-use Rattle.dh_store.specs.Putting.{TurnsBooks}
+use Rattle.dh_schema.specs.Putting.{TurnsBooks}
 use Rattle.dh_runs.proofs.EachCharge.{with_each}
 use Rattle.dh_runs.proofs.rows.put_charges.Given as goal
 

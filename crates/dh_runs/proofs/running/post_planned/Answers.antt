@@ -8,39 +8,34 @@ use Rattle.dh_runs.proofs.running.post_planned.Goals as goal
 pub loop-rows-init : goal.loop-rows-init
 loop-rows-init g c = planned_first (state g.S.Store c.args.conn.now) c.args.plan.now c.requires.ready c.requires.planned
 
-pub post_rows-requires-clause-order : goal.post_rows-requires-clause-order
-post_rows-requires-clause-order g c =
+pub commit-requires-clause-order : goal.commit-requires-clause-order
+commit-requires-clause-order g c =
     let n = c.loop-rows.rows-index in
     let rows = c.rows-item.result in
     let here = in_front c.args.plan.now.batches.items c.deref.result.now c.min-count.result n rows c.deref.ensures.value c.loop-rows-test.true c.rows-item.is in
     rows_in_order (state g.S.Store c.args.conn.now) c.args.plan.now (state g.S.Store c.loop-rows.conn) n c.loop-rows.invariant c.requires.ready rows here.1
     here.2
 
-pub post_rows-requires-clause-new : goal.post_rows-requires-clause-new
-post_rows-requires-clause-new g c =
+pub commit-requires-clause-room : goal.commit-requires-clause-room
+commit-requires-clause-room g c clean =
+    let old = state g.S.Store c.args.conn.now in
+    let now = state g.S.Store c.loop-rows.conn in
     let n = c.loop-rows.rows-index in
     let rows = c.rows-item.result in
-    let here = in_front c.args.plan.now.batches.items c.deref.result.now c.min-count.result n rows c.deref.ensures.value c.loop-rows-test.true c.rows-item.is in
-    rows_are_new (state g.S.Store c.args.conn.now) c.args.plan.now (state g.S.Store c.loop-rows.conn) n c.loop-rows.invariant c.requires.ready rows here.1
-    here.2
+    let here = in_front c.args.plan.now.batches.items c.deref.result.now c.min-count.result n rows c.deref.ensures.value c.loop-rows-test.true c.rows-item.is in (
+      rows_are_new old c.args.plan.now now n c.loop-rows.invariant c.requires.ready rows here.1 here.2 clean,
+      rows_begun old c.args.plan.now now n c.loop-rows.invariant c.requires.ready rows here.1 here.2 clean,
+    )
 
-pub post_rows-requires-clause-known : goal.post_rows-requires-clause-known
-post_rows-requires-clause-known g c =
-    let n = c.loop-rows.rows-index in
-    let rows = c.rows-item.result in
-    let here = in_front c.args.plan.now.batches.items c.deref.result.now c.min-count.result n rows c.deref.ensures.value c.loop-rows-test.true c.rows-item.is in
-    rows_begun (state g.S.Store c.args.conn.now) c.args.plan.now (state g.S.Store c.loop-rows.conn) n c.loop-rows.invariant c.requires.ready rows here.1
-    here.2
-
-pub returns-in_err-post_rows-clause-crash : goal.returns-in_err-post_rows-clause-crash
-returns-in_err-post_rows-clause-crash g c =
+pub returns-in_err-commit-clause-crash : goal.returns-in_err-commit-clause-crash
+returns-in_err-commit-clause-crash g c =
     let n = c.loop-rows.rows-index in
     let rows = c.rows-item.result in
     let here = in_front c.args.plan.now.batches.items c.deref.result.now c.min-count.result n rows c.deref.ensures.value c.loop-rows-test.true c.rows-item.is in
     let low = here.0 in
     let less : n < c.args.most = omega arith in
     rows_crash (state g.S.Store c.args.conn.now) c.args.plan.now (state g.S.Store c.loop-rows.conn) n c.loop-rows.invariant c.requires.ready rows here.1
-    here.2 c.args.most (state g.S.Store c.post_rows.new.conn) less c.post_rows.ensures.was_clean c.post_rows.ensures.crash
+    here.2 c.args.most (state g.S.Store c.commit.new.conn) less c.commit.ensures.was_clean c.commit.ensures.crash
 
 pub loop-rows-preserved : goal.loop-rows-preserved
 loop-rows-preserved g c =
@@ -48,7 +43,7 @@ loop-rows-preserved g c =
     let rows = c.rows-item.result in
     let here = in_front c.args.plan.now.batches.items c.deref.result.now c.min-count.result n rows c.deref.ensures.value c.loop-rows-test.true c.rows-item.is in
     planned_next (state g.S.Store c.args.conn.now) c.args.plan.now (state g.S.Store c.loop-rows.conn) n c.loop-rows.invariant c.requires.ready rows here.1
-    here.2 (state g.S.Store c.post_rows.new.conn) c.post_rows.ensures.was_clean c.in_ok-post_rows.ensures.done
+    here.2 (state g.S.Store c.commit.new.conn) c.commit.ensures.was_clean c.in_ok-commit.ensures.done
 
 pub close_month-requires-clause-end : goal.close_month-requires-clause-end
 close_month-requires-clause-end g c =

@@ -1,4 +1,4 @@
-use Rattle.std.proofs.Common.{◌∙◌, sym, ap, None, option_map}
+use Rattle.std.proofs.Common.{◌∙◌, refl, sym, ap, None, option_map}
 use Rattle.sqlite.specs.Held.{state}
 use Rattle.dh_model.specs.declared.open_run.OpenRun.{OpenRun}
 use Rattle.dh_model.specs.Answers.{report}
@@ -7,7 +7,6 @@ use Rattle.dh_laws.proofs.AskedRows.{answered_by_its_rows}
 use Rattle.dh_schema.specs.Store.{tables}
 use Rattle.dh_schema.proofs.Keyed.{books_are_keyed}
 use Rattle.dh_store.proofs.AnsweredFrom.{answered_alike}
-use Rattle.dh_store.proofs.AskedBooks.{if_ok, on_ok_all}
 use Rattle.dh_store.proofs.answers.answer_now.Goals as goal
 
 pub returns-clause-answer : goal.returns-clause-answer
@@ -16,15 +15,5 @@ returns-clause-answer g c clean free =
     let question = c.args.question.now in
     let answered = answered_by_its_rows (tables old).books (tables old).open_run None question (books_are_keyed old.now.trees)
     (λ off. ap (option_map (λ (at : OpenRun). at.month)) (sym (free off))) in
-    let gathered = ap (λ (s : State). report s question) (c.in_ok-gather.ensures.taken clean) in
-    if_ok c.answer_on.result (λ a is. is ∙ gathered ∙ answered_alike (tables old).books None question ∙ answered) c.answer_on.ensures.answer
-
-pub returns-clause-reads : goal.returns-clause-reads
-returns-clause-reads g c =
-    let reads = c.in_ok-gather.ensures.reads in
-    record {
-      done = λ clean. on_ok_all c.answer_on.result (reads.done clean);
-      kept = λ clean still. reads.done clean;
-      cause = c.answer_on.ensures.cause;
-      crash = reads.crash;
-    }
+    let gathered = (c.in_ok-gather.ensures.gathered (tables old) (λ _. (refl, c.no_rows-books.ensures)) clean).1 in
+    c.in_ok-answer.ensures ∙ ap (λ (s : State). report s question) gathered ∙ answered_alike (tables old).books None question ∙ answered

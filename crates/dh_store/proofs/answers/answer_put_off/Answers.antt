@@ -9,9 +9,9 @@ use Rattle.dh_store.proofs.MonthsStay.{version_stays}
 use Rattle.dh_store.proofs.PutOff.{none_there, refused_for}
 use Rattle.dh_store.proofs.answers.answer_put_off.Goals as goal
 
-pub answer_now-requires-clause-version : goal.answer_now-requires-clause-version
-answer_now-requires-clause-version g c =
-    version_stays (λ early. c.version.ensures ∙ (c.requires.months early).2) c.in_ok-found.ensures.reads
+pub answer_now-requires : goal.answer_now-requires
+answer_now-requires g c =
+    version_stays (λ early. let is = c.requires.ready early in (is.0, c.version.ensures ∙ is.1.2)) c.in_ok-found.ensures.reads
 
 pub returns-in-Some-clause-answer : goal.returns-in-Some-clause-answer
 returns-in-Some-clause-answer g c clean =

@@ -51,8 +51,8 @@ loop-lease-preserved g c =
     let charged : List Lease → State = λ leases. record start {
       books = record start.books { charges = rows_where (λ charge. list_any (asks charge) leases) (tables old).books.charges };
     } in
-    let step : HasCleanDisk new → tables mid ≡ tables old → c.loop-lease.books ≡ charged so_far → c.put_charge.new.books ≡ charged (so_far ++ it ∷ [])
-    = λ clean same held.
+    let step : HasCleanDisk new → tables mid ≡ tables old → c.loop-lease.books ≡ charged so_far
+    → c.put_charge.new.books ≡ charged (so_far ++ it ∷ []) = λ clean same held.
     let rows = ap (λ (t : State). t.books.charges) same in
     c.in_ok-put_charge.ensures.put clean (λ charge. list_any (asks charge) so_far)
     (ap (λ (t : State). t.books.charges) held ∙ (λ i. rows_where (λ charge. list_any (asks charge) so_far) (sym rows i)))

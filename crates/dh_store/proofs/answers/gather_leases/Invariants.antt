@@ -1,4 +1,5 @@
 use Rattle.std.proofs.Common.{◌≡◌, take}
+use Rattle.std.specs.FinMap.{empty}
 use Rattle.std.specs.List.{list_any}
 use Rattle.sqlite.specs.Held.{state}
 use Rattle.dh_model.specs.Checks.{is_same_text}
@@ -12,6 +13,6 @@ abbrev pub invariant-loop-property : goal.invariant-loop-property
 invariant-loop-property g l =
     let old = state g.S.Store l.fn.conn in
     let so_far = take l.property-index l.properties in
-    Along old (state g.S.Store l.conn) (l.books ≡ record l.fn.books {
+    Along old (state g.S.Store l.conn) (l.fn.books.books.leases ≡ empty → l.books ≡ record l.fn.books {
       books = record l.fn.books.books { leases = rows_where (λ lease. list_any (is_same_text lease.terms.property) so_far) (tables old).books.leases };
     })

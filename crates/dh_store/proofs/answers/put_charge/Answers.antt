@@ -21,7 +21,7 @@ returns-in-Some-clause-put g c clean =
       books = record c.args.books.now.books { charges = m };
     } in s in
     on_ok c.look.result (λ put test was. put test was
-    ∙ ap with_charges (rows_by_key batch_size (tables old).books (books_are_keyed old.now.trees) rules c.args.lease.now (c.requires.there early)
+    ∙ ap with_charges (rows_by_key batch_size (tables old).books (books_are_keyed old.now.trees) rules c.args.it.now (c.requires.there early)
     c.args.month c.in-Some.index c.in-Some.ensures.value test))
     (c.look.ensures.put clean)
 
@@ -32,5 +32,5 @@ returns-in-None-clause-put g c clean test was =
     let with_charges = λ (m : FinMap (pair_cmp nat_cmp nat_cmp) Charge). let s : State = record c.args.books.now {
       books = record c.args.books.now.books { charges = m };
     } in s in
-    ap with_charges (was ∙ rows_of_none batch_size (tables old).books (books_are_keyed old.now.trees) rules c.args.lease.now (c.requires.there clean)
+    ap with_charges (was ∙ rows_of_none batch_size (tables old).books (books_are_keyed old.now.trees) rules c.args.it.now (c.requires.there clean)
     c.args.month (λ signed. let not : false ≡ true = c.in-None.ensures.exact.1 signed in cc) test)

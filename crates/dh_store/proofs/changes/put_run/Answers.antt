@@ -1,11 +1,10 @@
-use Rattle.std.proofs.Common.{ℕ, OnOk, subst, arith}
+use Rattle.std.proofs.Common.{ℕ, Err, OnOk, subst, arith}
 use Rattle.std.proofs.lemmas.Result.{err_from_is_err_and}
 use Rattle.sqlite.specs.State.{HasCleanDisk}
 use Rattle.sqlite.specs.Held.{state}
-use Rattle.dh_model.specs.declared.rows.Change.TheVariants as change
 use Rattle.dh_tables.specs.MetaTable.{SetsNext}
 use Rattle.dh_model.specs.Kinds.{Runs}
-use Rattle.dh_store.proofs.Putting.{failed, opened, put_in}
+use Rattle.dh_store.proofs.Putting.{keeps_commit, puts_none, opened, put_in}
 use Rattle.dh_store.proofs.changes.put_run.Goals as goal
 
 pub insert-requires-clause-kept : goal.insert-requires-clause-kept
@@ -31,8 +30,9 @@ set_next_month-requires-clause-there g c clean =
 pub returns-in_err-insert-clause-puts : goal.returns-in_err-insert-clause-puts
 returns-in_err-insert-clause-puts g c =
     let is = err_from_is_err_and c.from_residual.result c.from_residual.ensures.1 in
-    failed (change.Open c.args.run.now) c.from_residual.result is.0 (state g.S.Store c.args.tx.now.conn.now) (state g.S.Store c.insert.new.tx.conn.now) is.1
-    c.in_err-insert.ensures.undone c.insert.ensures.crash
+    let old = state g.S.Store c.args.tx.now.conn.now in
+    let new = state g.S.Store c.insert.new.tx.conn.now in
+    puts_none is.1 (λ clean. keeps_commit {X = Unit {0}} (Err is.0) old new tt (c.in_err-insert.ensures.undone clean)) c.insert.ensures.crash
 
 pub returns-clause-puts : goal.returns-clause-puts
 returns-clause-puts g c =

@@ -20,17 +20,18 @@ loop-lease-init g c =
     let books = c.args.books.now in
     record {
       crash = nothing_yet old;
-      ready = λ clean. (c.requires.ready clean, refl);
+      ready = λ clean. ((c.requires clean).0, refl);
       held = λ clean none i. record books {
         books = record books.books { endings = (none ∙ sym (none_where nat_total nat_ties (tables old).books.endings)) i };
       };
     }
 
-pub look_later-requires-clause-version : goal.look_later-requires-clause-version
-look_later-requires-clause-version g c clean =
+pub look_later-requires-clause-ready : goal.look_later-requires-clause-ready
+look_later-requires-clause-ready g c clean =
     let before = c.loop-lease.invariant in
     let early : HasCleanDisk (state g.S.Store c.args.conn.now) = omega (arith, before.crash.clean, clean) in
-    c.requires.version early ∙ sym (ap (λ (t : State). t.books.version) (before.ready clean).1)
+    let stays = before.ready clean in
+    (stays.0, (c.requires early).1 ∙ sym (ap (λ (t : State). t.books.version) stays.1))
 
 pub loop-lease-preserved : goal.loop-lease-preserved
 loop-lease-preserved g c =
@@ -51,7 +52,8 @@ loop-lease-preserved g c =
     = λ clean same held none.
     (c.in_ok-look_later.ensures.brought.more (tables old) (with_endings so_far) (λ ending. list_any (asks ending) so_far)
     (λ _. (same, held none)) refl clean).1
-    ∙ ap (λ (test : Ending → Bool). let s : State = record start { books = record start.books { endings = rows_where test (tables old).books.endings } } in s)
+    ∙ ap (λ (test : Ending → Bool).
+    let s : State = record start { books = record start.books { endings = rows_where test (tables old).books.endings } } in s)
     (one_more asks so_far it) in
     along_next {Held = start.books.endings ≡ empty → c.loop-lease.books ≡ with_endings so_far} old mid new c.loop-lease.invariant
     c.look_later.ensures.reads.crash c.in_ok-look_later.ensures.reads.done

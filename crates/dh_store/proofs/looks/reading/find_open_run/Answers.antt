@@ -10,4 +10,4 @@ returns-clause-found g c clean =
     let old = state g.S.Store c.args.conn.now in
     let early : HasCleanDisk old = omega (arith, c.last_run.ensures.reads.crash.clean, clean) in
     let found = c.in_ok-run.ensures.found clean in
-    c.unless_closed.ensures ∙ ap unless_closed found ∙ last_is_open old.now.trees (c.requires.ready early).sound
+    c.unless_closed.ensures ∙ ap unless_closed found ∙ last_is_open old.now.trees (c.requires early).0.sound

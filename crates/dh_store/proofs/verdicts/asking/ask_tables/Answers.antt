@@ -9,20 +9,20 @@ use Rattle.dh_store.proofs.MonthsStay.{months_stay}
 use Rattle.dh_store.proofs.Shown.{refused_in}
 use Rattle.dh_store.proofs.verdicts.asking.ask_tables.Goals as goal
 
-pub open_month-requires-clause-months : goal.open_month-requires-clause-months
-open_month-requires-clause-months g c clean =
+pub open_month-requires : goal.open_month-requires
+open_month-requires g c clean =
     let old = state g.S.Store c.args.conn.now in
     let one = state g.S.Store c.months_now.new.conn in
     months_stay c.in_ok-months.months old one (c.in_ok-months.ensures.found clean) (c.in_ok-months.ensures.reads.done clean)
 
-pub ask_rows-requires-clause-months : goal.ask_rows-requires-clause-months
-ask_rows-requires-clause-months g c clean =
+pub ask_rows-requires-clause-ready : goal.ask_rows-requires-clause-ready
+ask_rows-requires-clause-ready g c clean =
     let old = state g.S.Store c.args.conn.now in
     let one = state g.S.Store c.months_now.new.conn in
     let two = state g.S.Store c.open_month.new.conn in
     let early : HasCleanDisk one = omega (arith, c.open_month.ensures.reads.crash.clean, clean) in
     let months = c.in_ok-months.months in
-    months_stay months one two (months_stay months old one (c.in_ok-months.ensures.found early) (c.in_ok-months.ensures.reads.done early))
+    months_stay months one two (months_stay months old one (c.in_ok-months.ensures.found early) (c.in_ok-months.ensures.reads.done early)).1
     (c.in_ok-run.ensures.reads.done clean)
 
 pub ask_rows-requires-clause-run : goal.ask_rows-requires-clause-run

@@ -6,8 +6,8 @@ use Rattle.dh_schema.specs.Store.{tables}
 use Rattle.dh_store.proofs.Shown.{cut_of}
 use Rattle.dh_store.proofs.verdicts.gathering.gather_into.Goals as goal
 
-pub gather_rows-requires-clause-version : goal.gather_rows-requires-clause-version
-gather_rows-requires-clause-version g c clean = c.version-version.ensures ∙ ap (λ (s : State). s.books.version) (c.requires.bare clean)
+pub gather_rows-requires : goal.gather_rows-requires
+gather_rows-requires g c clean = (c.requires.ready clean, c.version-version.ensures ∙ ap (λ (s : State). s.books.version) (c.requires.bare clean))
 
 pub returns-clause-cut : goal.returns-clause-cut
 returns-clause-cut g c clean =

@@ -1,0 +1,5 @@
+use Rattle.std.proofs.Common.{refl}
+use Rattle.dh_store.proofs.verdicts.rows.at_staff.Goals as goal
+
+pub returns-clause-gathered : goal.returns-clause-gathered
+returns-clause-gathered g c t at = c.look-2.ensures.brought.first t _ (c.in_ok-look.ensures.brought.first t _ at refl) refl
