@@ -1,3 +1,2 @@
 pub mod Carried
 pub mod Standing
-pub mod Turned

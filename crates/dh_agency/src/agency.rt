@@ -44,7 +44,8 @@ impl<S: Alter> Agency<S> {
     /// The agency over tables of the second version that are ready.
     pub(crate) fn over(conn: Connection<S>) -> Agency<S>
         requires { HasCleanDisk (state S.Store conn) → IsServed (state S.Store conn) }
-        ensures { result ≡ record { conn = conn; is_stopped = false } }
+        ensures made { result ≡ record { conn = conn; is_stopped = false } }
+        ensures left { IsClean S.Store result → LeavesItsTables S.Store result }
     {
         Agency {
             conn,
@@ -82,7 +83,8 @@ impl<S: Alter> Agency<S> {
         ensures said { IsClean S.Store self.new
             → IfOk result (λ it. IsSaid (command.Post most) (reply_of it) (machine S.Store self.old) (machine S.Store self.new)) }
         ensures left { IsClean S.Store self.new → OnOk result (LeavesItsTables S.Store self.new) }
-        ensures crash { IsClean S.Store self.new → self.old.is_stopped ≡ false → Leaves S.Store self.new (IsPostedInPart most (machine S.Store self.old)) }
+        ensures crash { IsClean S.Store self.new → self.old.is_stopped ≡ false
+            → Leaves S.Store self.new (IsPostedInPart most (machine S.Store self.old)) }
         ensures halted { IsClean S.Store self.new → self.old.is_stopped ≡ false → IsOpen S.Store self.new
             → OnErr result (ReadsAs S.Store self.new (IsPostedInPart most (machine S.Store self.old))) }
         ensures ends { Ends S.Store self.old self.new result }

@@ -1,20 +1,17 @@
 //! Files of the first version: the end of an open run, and the way to the second.
 
-ghost use Rattle.std.specs.Prelude.{◌≡◌, false, IsTrue, Err, IfOk, IfErr, IsErrAnd};
+ghost use Rattle.std.specs.Prelude.{◌≡◌, false, IsTrue, MatchResult, Ok, Err, IfOk, IfErr};
 ghost use Rattle.sqlite.specs.State.{HasCleanDisk};
 ghost use Rattle.sqlite.specs.Held.{state};
 ghost use Rattle.dh_types.specs.declared.version.Version.TheVariants.{First};
-ghost use Rattle.dh_tables.specs.Calls.{HasOurTables};
 ghost use Rattle.dh_schema.specs.Store as store;
 ghost use Rattle.dh_schema.specs.Store.{IsReadyWith, tables};
-ghost use Rattle.dh_schema.specs.Tables.{IsSound};
-ghost use Rattle.dh_runs.specs.Problems.{IsNotTaken};
-ghost use Rattle.dh_runs.specs.Taking.{CanBeTaken, HasTablesOfAnother, HasVersion, IsFirstProblem, IsOfVersion, IsProblemOf, IsResting, ReadsAsItDid, StaysPut};
+ghost use Rattle.dh_runs.specs.Taking.{CanBeTaken, HasVersion, IsResting, Sorts, Takes};
 ghost use Rattle.dh_migration.specs.Migrated.{migrated_state};
 ghost use Rattle.dh_migration.specs.Moved.{CanBeMigrated, IsMigrationProblem, IsNotMigrated, MovesOn, StaysAsItWas};
 ghost use Rattle.dh_agency.specs.Agency.{IsClean, LeavesItsTables, machine, shown_by};
-ghost use Rattle.dh_agency.specs.Taken.{TakesForward};
-ghost use Rattle.dh_agency.specs.Told.{IsMended, IsTorn};
+ghost use Rattle.dh_agency.specs.Taken.{Halts, TakesAsTheyAre, TakesForward};
+ghost use Rattle.dh_agency.specs.Told.{IsMended};
 
 use crate::{Agency, NotOpened};
 use dh_migration::migrate_in;
@@ -34,15 +31,11 @@ pub fn migrate<S: Alter>(
     conn: Connection<S>,
 ) -> Result<Agency<S>, NotOpened<Problem, S>>
     requires { HasCleanDisk (state S.Store conn) → IsResting (state S.Store conn) }
-    ensures migrated { IfOk result (λ a. (a.is_stopped ≡ false) × (IsClean S.Store a → machine S.Store a ≡ migrated_state (tables (state S.Store conn)))) }
-    ensures taken { IfOk result (λ a. IsClean S.Store a → CanBeMigrated (state S.Store conn).now.trees) }
+    ensures migrated { IfOk result (λ a. (a.is_stopped ≡ false)
+        × (IsClean S.Store a → machine S.Store a ≡ migrated_state (tables (state S.Store conn)))) }
     ensures left { IfOk result (λ a. IsClean S.Store a → LeavesItsTables S.Store a) }
-    ensures refused { IfErr result (λ e. HasCleanDisk (state S.Store e.conn) → IsNotMigrated (state S.Store conn).now.trees e.cause) }
-    ensures cause { IfErr result (λ e. IsMigrationProblem e.cause) }
-    ensures others { ¬ HasOurTables (state S.Store conn) → IsErrAnd result (λ e. IsNotTaken {X = Unit {0}} (Err e.cause) × (e.conn ≡ conn)) }
-    ensures another { HasTablesOfAnother First (state S.Store conn) → IfOk result (λ a. ¬ IsClean S.Store a) }
-    ensures turned_away { HasTablesOfAnother First (state S.Store conn)
-        → IfErr result (λ e. HasCleanDisk (state S.Store e.conn) → IsNotTaken {X = Unit {0}} (Err e.cause)) }
+    ensures takes { MatchResult result (λ a. Sorts S.Store First CanBeMigrated IsNotMigrated IsMigrationProblem conn a.conn (Ok a))
+        (λ e. Sorts {X = Unit {0}} S.Store First CanBeMigrated IsNotMigrated IsMigrationProblem conn e.conn (Err e.cause)) }
     ensures made { IfOk result (λ a. MovesOn (state S.Store conn) (shown_by S.Store a)) }
     ensures crash { IfErr result (λ e. MovesOn (state S.Store conn) (state S.Store e.conn)) }
     ensures stays { IfErr result (λ e. HasCleanDisk (state S.Store e.conn) → IsTrue (state S.Store e.conn).is_open
@@ -65,27 +58,14 @@ pub fn recover_1<S: Alter>(
 ) -> Result<Connection<S>, NotOpened<Problem, S>>
     requires { HasCleanDisk (state S.Store conn) → IsResting (state S.Store conn) }
     ensures mended { IfOk result (λ c. HasCleanDisk (state S.Store c) → IsReadyWith (state S.Store c) (IsMended (tables (state S.Store conn)))) }
-    ensures sound { IfOk result (λ c. HasCleanDisk (state S.Store c) → CanBeTaken First (state S.Store conn).now.trees) }
     ensures first { IfOk result (λ c. HasCleanDisk (state S.Store c) → HasVersion First (state S.Store c)) }
     ensures left { IfOk result (λ c. HasCleanDisk (state S.Store c) → store.LeavesItsTables (state S.Store c)) }
-    ensures refused { IfErr result (λ e. HasCleanDisk (state S.Store e.conn) → IsProblemOf First (state S.Store conn).now.trees e.cause) }
-    ensures cause { IfErr result (λ e. IsFirstProblem e.cause) }
-    ensures of_version { IfErr result (λ e. HasCleanDisk (state S.Store e.conn) → IsOfVersion e.cause
-        → ReadsAsItDid (state S.Store conn) (state S.Store e.conn)) }
-    ensures others { ¬ HasOurTables (state S.Store conn) → IsErrAnd result (λ e. IsNotTaken {X = Unit {0}} (Err e.cause) × (e.conn ≡ conn)) }
-    ensures another { HasTablesOfAnother First (state S.Store conn) → IfOk result (λ c. ¬ HasCleanDisk (state S.Store c)) }
-    ensures turned_away { HasTablesOfAnother First (state S.Store conn)
-        → IfErr result (λ e. HasCleanDisk (state S.Store e.conn) → IsNotTaken {X = Unit {0}} (Err e.cause)) }
+    ensures takes { MatchResult result (λ c. Takes S.Store First conn c (Ok c)) (λ e. Takes {X = Unit {0}} S.Store First conn e.conn (Err e.cause)) }
     ensures made { IfOk result (λ c. TakesForward (state S.Store conn) (state S.Store c)) }
     ensures crash { IfErr result (λ e. TakesForward (state S.Store conn) (state S.Store e.conn)) }
-    ensures not_taken { IfErr result (λ e. HasCleanDisk (state S.Store e.conn) → ¬ CanBeTaken First (state S.Store conn).now.trees
-        → StaysPut (state S.Store conn) (state S.Store e.conn)) }
-    ensures halted { IfErr result (λ e. HasCleanDisk (state S.Store e.conn) → IsTrue (state S.Store e.conn).is_open
-        → HasOurTables (state S.Store conn) → IsSound (state S.Store conn).now.trees
-        → IsReadyWith (state S.Store e.conn) (IsTorn (tables (state S.Store conn)))) }
-    ensures resting { IfErr result (λ e. HasCleanDisk (state S.Store e.conn) → IsTrue (state S.Store e.conn).is_open
-        → IsSound (state S.Store conn).now.trees
-        → IsResting (state S.Store e.conn) × IsSound (state S.Store e.conn).now.trees × IsTorn (tables (state S.Store conn)) (tables (state S.Store e.conn))) }
+    ensures not_taken { ¬ CanBeTaken First (state S.Store conn).now.trees
+        → IfErr result (λ e. TakesAsTheyAre (state S.Store conn) (state S.Store e.conn)) }
+    ensures halted { IfErr result (λ e. Halts (state S.Store conn) (state S.Store e.conn)) }
 {
     let mut conn = conn;
     match recover_in(alloc, &mut conn, Version::First) {

@@ -1,17 +1,14 @@
 //! Taking the tables of the second version that there are.
 
-ghost use Rattle.std.specs.Prelude.{◌≡◌, false, IsTrue, Err, IfOk, IfErr, IsErrAnd};
+ghost use Rattle.std.specs.Prelude.{◌≡◌, false, MatchResult, Ok, Err, IfOk, IfErr};
 ghost use Rattle.sqlite.specs.State.{HasCleanDisk};
 ghost use Rattle.sqlite.specs.Held.{state};
 ghost use Rattle.dh_types.specs.declared.version.Version.TheVariants.{Second};
-ghost use Rattle.dh_tables.specs.Calls.{HasOurTables};
-ghost use Rattle.dh_schema.specs.Store.{IsReadyWith, tables};
-ghost use Rattle.dh_schema.specs.Tables.{IsSound};
-ghost use Rattle.dh_runs.specs.Problems.{IsNotTaken};
-ghost use Rattle.dh_runs.specs.Taking.{CanBeTaken, HasTablesOfAnother, IsFirstProblem, IsOfVersion, IsProblemOf, IsResting, ReadsAsItDid, StaysPut};
+ghost use Rattle.dh_schema.specs.Store.{tables};
+ghost use Rattle.dh_runs.specs.Taking.{CanBeTaken, IsResting, Takes};
 ghost use Rattle.dh_agency.specs.Agency.{IsClean, LeavesItsTables, machine, shown_by};
-ghost use Rattle.dh_agency.specs.Taken.{TakesAsTheyAre, TakesForward};
-ghost use Rattle.dh_agency.specs.Told.{IsMended, IsTorn};
+ghost use Rattle.dh_agency.specs.Taken.{Halts, TakesAsTheyAre, TakesForward};
+ghost use Rattle.dh_agency.specs.Told.{IsMended};
 
 use crate::{Agency, NotOpened};
 use dh_runs::{Problem, check, recover_in};
@@ -30,14 +27,8 @@ pub fn attach<S: Alter>(
 ) -> Result<Agency<S>, NotOpened<Problem, S>>
     requires { HasCleanDisk (state S.Store conn) → IsResting (state S.Store conn) }
     ensures taken { IfOk result (λ a. (a.is_stopped ≡ false) × (IsClean S.Store a → machine S.Store a ≡ tables (state S.Store conn))) }
-    ensures sound { IfOk result (λ a. IsClean S.Store a → CanBeTaken Second (state S.Store conn).now.trees) }
     ensures left { IfOk result (λ a. IsClean S.Store a → LeavesItsTables S.Store a) }
-    ensures refused { IfErr result (λ e. HasCleanDisk (state S.Store e.conn) → IsProblemOf Second (state S.Store conn).now.trees e.cause) }
-    ensures cause { IfErr result (λ e. IsFirstProblem e.cause) }
-    ensures others { ¬ HasOurTables (state S.Store conn) → IsErrAnd result (λ e. IsNotTaken {X = Unit {0}} (Err e.cause) × (e.conn ≡ conn)) }
-    ensures another { HasTablesOfAnother Second (state S.Store conn) → IfOk result (λ a. ¬ IsClean S.Store a) }
-    ensures turned_away { HasTablesOfAnother Second (state S.Store conn)
-        → IfErr result (λ e. HasCleanDisk (state S.Store e.conn) → IsNotTaken {X = Unit {0}} (Err e.cause)) }
+    ensures takes { MatchResult result (λ a. Takes S.Store Second conn a.conn (Ok a)) (λ e. Takes {X = Unit {0}} S.Store Second conn e.conn (Err e.cause)) }
     ensures kept { IfOk result (λ a. TakesAsTheyAre (state S.Store conn) (shown_by S.Store a)) }
     ensures crash { IfErr result (λ e. TakesAsTheyAre (state S.Store conn) (state S.Store e.conn)) }
 {
@@ -57,26 +48,13 @@ pub fn recover<S: Alter>(
 ) -> Result<Agency<S>, NotOpened<Problem, S>>
     requires { HasCleanDisk (state S.Store conn) → IsResting (state S.Store conn) }
     ensures mended { IfOk result (λ a. (a.is_stopped ≡ false) × (IsClean S.Store a → IsMended (tables (state S.Store conn)) (machine S.Store a))) }
-    ensures sound { IfOk result (λ a. IsClean S.Store a → CanBeTaken Second (state S.Store conn).now.trees) }
     ensures left { IfOk result (λ a. IsClean S.Store a → LeavesItsTables S.Store a) }
-    ensures refused { IfErr result (λ e. HasCleanDisk (state S.Store e.conn) → IsProblemOf Second (state S.Store conn).now.trees e.cause) }
-    ensures cause { IfErr result (λ e. IsFirstProblem e.cause) }
-    ensures of_version { IfErr result (λ e. HasCleanDisk (state S.Store e.conn) → IsOfVersion e.cause
-        → ReadsAsItDid (state S.Store conn) (state S.Store e.conn)) }
-    ensures others { ¬ HasOurTables (state S.Store conn) → IsErrAnd result (λ e. IsNotTaken {X = Unit {0}} (Err e.cause) × (e.conn ≡ conn)) }
-    ensures another { HasTablesOfAnother Second (state S.Store conn) → IfOk result (λ a. ¬ IsClean S.Store a) }
-    ensures turned_away { HasTablesOfAnother Second (state S.Store conn)
-        → IfErr result (λ e. HasCleanDisk (state S.Store e.conn) → IsNotTaken {X = Unit {0}} (Err e.cause)) }
+    ensures takes { MatchResult result (λ a. Takes S.Store Second conn a.conn (Ok a)) (λ e. Takes {X = Unit {0}} S.Store Second conn e.conn (Err e.cause)) }
     ensures made { IfOk result (λ a. TakesForward (state S.Store conn) (shown_by S.Store a)) }
     ensures crash { IfErr result (λ e. TakesForward (state S.Store conn) (state S.Store e.conn)) }
-    ensures not_taken { IfErr result (λ e. HasCleanDisk (state S.Store e.conn) → ¬ CanBeTaken Second (state S.Store conn).now.trees
-        → StaysPut (state S.Store conn) (state S.Store e.conn)) }
-    ensures halted { IfErr result (λ e. HasCleanDisk (state S.Store e.conn) → IsTrue (state S.Store e.conn).is_open
-        → HasOurTables (state S.Store conn) → IsSound (state S.Store conn).now.trees
-        → IsReadyWith (state S.Store e.conn) (IsTorn (tables (state S.Store conn)))) }
-    ensures resting { IfErr result (λ e. HasCleanDisk (state S.Store e.conn) → IsTrue (state S.Store e.conn).is_open
-        → IsSound (state S.Store conn).now.trees
-        → IsResting (state S.Store e.conn) × IsSound (state S.Store e.conn).now.trees × IsTorn (tables (state S.Store conn)) (tables (state S.Store e.conn))) }
+    ensures not_taken { ¬ CanBeTaken Second (state S.Store conn).now.trees
+        → IfErr result (λ e. TakesAsTheyAre (state S.Store conn) (state S.Store e.conn)) }
+    ensures halted { IfErr result (λ e. Halts (state S.Store conn) (state S.Store e.conn)) }
 {
     let mut conn = conn;
     match recover_in(alloc, &mut conn, Version::Second) {

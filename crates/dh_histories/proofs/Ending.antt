@@ -155,8 +155,8 @@ module _ {S : Type 0} (g : Ghosts S) where
         subst AreEntered (both before later) (entered (before ++ later) (without before later said (lined first (before ++ said ∷ later) last ends)))
 
     abbrev IsFollowed : Event → Type 0
-    IsFollowed event = Follow batch_size (tables_of g first)
-        (events_of g before ++ (event, tables_of g said.found) ∷ events_of g later ++ (Mended, tables_of g last.found) ∷ [])
+    IsFollowed it = Follow batch_size (tables_of g first)
+        (events_of g before ++ (it, tables_of g said.found) ∷ events_of g later ++ (Mended, tables_of g last.found) ∷ [])
 
     followed_by : (told : Command) (answer : Reply) → said.call ≡ Stepped told answer → IsFollowed (Said told answer)
     followed_by told answer is =

@@ -1,5 +1,5 @@
 -- What is found after a call and a crash.
-use Rattle.std.proofs.Common.{◌≤◌, inr, Result, Ok, Err, IfOk, IfErr, OnErr, arith}
+use Rattle.std.proofs.Common.{◌≤◌, inr, Result, Ok, Err, IfOk, MatchResult, OnErr, arith}
 use Rattle.sqlite.specs.Store.{Ghosts}
 use Rattle.sqlite.specs.Effect.{IsDatabase}
 use Rattle.sqlite.specs.State.{HasCleanDisk}
@@ -22,13 +22,10 @@ pub on_err : {A E : Type 0} (r : Result A E) (P Q : Type 0) → (P → Q) → On
 on_err (Ok a) P Q f h = tt
 on_err (Err e) P Q f h = f h
 
-pub if_ok_both : {A E : Type 0} (r : Result A E) (P Q R : A → Type 0) → ((a : A) → P a → Q a → R a) → IfOk r P → IfOk r Q → IfOk r R
-if_ok_both (Ok a) P Q R f p q = f a p q
-if_ok_both (Err e) P Q R f p q = tt
-
-pub if_err_both : {A E : Type 0} (r : Result A E) (P Q R : E → Type 0) → ((e : E) → P e → Q e → R e) → IfErr r P → IfErr r Q → IfErr r R
-if_err_both (Ok a) P Q R f p q = tt
-if_err_both (Err e) P Q R f p q = f e p q
+pub both : {A E : Type 0} (r : Result A E) (P Q : A → Type 0) (M N : E → Type 0) → MatchResult r P M → MatchResult r Q N
+    → MatchResult r (λ a. P a × Q a) (λ e. M e × N e)
+both (Ok a) P Q M N p q = (p, q)
+both (Err e) P Q M N p q = (p, q)
 
 module _ {S : Type 0} (g : Ghosts S) (before : Held S) where
   -- the call ended so, and its files were opened anew

@@ -9,9 +9,8 @@ use Rattle.dh_laws.specs.Batches.{IsPostedInPart}
 use Rattle.dh_schema.specs.Store.{IsReadyWith, Leaves, LeavesItsTables, tables}
 use Rattle.dh_schema.specs.Tables.{IsSound}
 use Rattle.dh_runs.specs.declared.running.RunState.{RunState}
-use Rattle.dh_runs.specs.Taking.{IsResting}
-use Rattle.dh_runs.specs.Told.{IsCut, IsMended, IsSaid, IsTorn, reply_of}
-use Rattle.dh_agency.specs.Taken.{TakesAsTheyAre, TakesForward}
+use Rattle.dh_runs.specs.Told.{IsCut, IsMended, IsSaid, reply_of}
+use Rattle.dh_agency.specs.Taken.{RestsTorn, TakesAsTheyAre, TakesForward}
 
 -- A call, and how it ended. It was cut where a stop or a fault came within it.
 pub data Call : Type 0 where
@@ -48,8 +47,7 @@ module _ (old new : State) where
   -- else they are as they were.
   pub record BreaksRecovery : Type 0 where
     pub forward : TakesForward old new
-    pub halted : HasCleanDisk new → IsTrue new.is_open → IsSound old.now.trees
-        → IsResting new × IsSound new.now.trees × IsTorn (tables old) (tables new)
+    pub halted : HasCleanDisk new → IsTrue new.is_open → IsSound old.now.trees → RestsTorn old new
 
 abbrev pub IsSame : machine.State → machine.State → Type 0
 IsSame before after = after ≡ before

@@ -6,7 +6,8 @@ use Rattle.dh_types.specs.declared.reply.Reply.TheVariants as reply
 use Rattle.dh_model.specs.declared.rows.Verdict.TheVariants as verdict
 use Rattle.dh_model.specs.Verdicts.{verdict_on}
 use Rattle.dh_schema.specs.Store.{Leaves, tables}
-use Rattle.dh_laws.proofs.Carrying.{order_accepted, other_than, plain_rows, same_cut}
+use Rattle.dh_laws.proofs.Carrying.{order_accepted, same_cut}
+use Rattle.dh_laws.proofs.VerdictCases.{other_than, plain_rows}
 use Rattle.dh_runs.specs.Told.{IsCut, IsSaid}
 use Rattle.dh_runs.proofs.Carried.{on_err}
 use Rattle.dh_agency.proofs.Carried.{open_crash, open_said}

@@ -9,4 +9,4 @@ use Rattle.dh_agency.proofs.opening.create.Goals as goal
 pub returns-in-Ok-clause-made : goal.returns-in-Ok-clause-made
 returns-in-Ok-clause-made g c =
     subst (λ (a : Seat g.row.S.Denot). Commits (state g.S.Store c.args.conn) (shown_by g.S.Store a) (λ t. t ≡ start c.args.first))
-    (sym c.over.ensures) c.install.ensures.survives
+    (sym c.over.ensures.made) c.install.ensures.survives
