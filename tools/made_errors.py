@@ -16,7 +16,9 @@ ERRORS = {
     'dh_disk_cases/src/trial_disks.rt': 2,  # the faults of a disk on trial
     'dh_fields/src/reading.rt': 1,  # passes on that memory ran out
     'dh_office/src/files.rt': 1,  # a pattern
+    'dh_http/src/answers.rt': 1,  # of a text that memory ran out for
     'dh_requests/src/head.rt': 1,  # a pattern: an error of httparse
+    'dh_requests/src/routing.rt': 1,  # of routes that memory ran out for
     'dh_schema/src/fault.rt': 1,  # a pattern
     'dh_tables/src/finding.rt': 2,  # two rows of a key, or a row that is no record: clause `corrupt`
     'dh_tables/src/loading.rt': 2,  # a key or a rowid that is there twice, or a rowid that is no whole number: clause `corrupt`
@@ -24,9 +26,10 @@ ERRORS = {
 FAULTS = {
     'dh_fields/src/reading.rt': 1,  # a pattern
     'dh_fields/src/unread.rt': 1,  # of AllocError
-    'dh_http/src/answers.rt': 4,  # of AllocError, of a text that memory ran out for, and two patterns
+    'dh_http/src/answers.rt': 3,  # of an answer that memory ran out for, and two patterns
     'dh_http/src/fault.rt': 1,  # of a request that memory ran out for
-    'dh_http/src/serving.rt': 1,  # of an answer that memory ran out for
+    'dh_http/src/serving.rt': 1,  # of routes that memory ran out for
+    'dh_http/src/listening.rt': 1,  # of routes that memory ran out for
     'dh_http/src/taking.rt': 3,  # by the error of the next connection
     'dh_lines/src/answering.rt': 2,  # of an error of csv without a failed read, and of AllocError
     'dh_lives/src/cause.rt': 1,  # of AllocError
@@ -39,7 +42,7 @@ FAULTS = {
     'dh_office/src/wording.rt': 4,  # of AllocError, and a pattern
     'dh_requests/src/body.rt': 1,  # of AllocError
     'dh_requests/src/body_texts.rt': 1,  # of an error of serde_json in a body that is a list of texts
-    'dh_requests/src/unread.rt': 2,  # of AllocError
+    'dh_requests/src/unread.rt': 1,  # of AllocError
     'dh_schema/src/fault.rt': 7,  # by the error of the store, of AllocError, and four of which each asks for its reason
     'dh_types/src/wording.rt': 2,  # patterns
     'dh_words/src/kinds.rt': 1,  # of AllocError

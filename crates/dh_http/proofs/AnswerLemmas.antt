@@ -1,5 +1,5 @@
 -- Which answer a reply is given.
-use Rattle.std.proofs.Common.{◌≡◌, ◌∙◌, ◌++◌, [], ℕ, List, Option, Some, Result, Ok, Err, ap, false, refl, subst, sym}
+use Rattle.std.proofs.Common.{◌≢◌, ◌≡◌, ◌∙◌, ◌++◌, [], ℕ, List, Option, Some, Result, Ok, Err, ap, arith, false, refl, subst, sym}
 use Rattle.std.specs.Result.{is_err}
 use Rattle.dh_types.specs.Output.{Puts}
 use Rattle.dh_types.specs.Reports.{Report, NoReport}
@@ -8,11 +8,13 @@ use Rattle.dh_reports.specs.ReportTexts.{report_text}
 use Rattle.dh_types.specs.declared.reply.Reply.{Reply}
 use Rattle.dh_types.specs.declared.reply.Reply.TheVariants as reply
 use Rattle.dh_types.specs.declared.reply.Refusal.{Refusal}
+use Rattle.dh_types.specs.declared.reply.Refusal.TheVariants as refusal
 use Rattle.dh_types.specs.Replies.{reply_text}
 use Rattle.dh_types.specs.declared.output.Output.{Output}
-use Rattle.dh_http.specs.Answers.{Answer, Passes, Sends, Writes, json_answer, reply_answer, report_answer}
+use Rattle.dh_requests.specs.declared.asked.Turned.{Turned}
+use Rattle.dh_requests.specs.declared.asked.Turned.TheVariants as turned
+use Rattle.dh_http.specs.Answers.{json_answer, refusal_status, reply_answer, report_answer, turned_status}
 use Rattle.dh_http.specs.declared.answers.Content.TheVariants.{Report as Text}
-use Rattle.dh_http.specs.declared.answers.Unsent.{Unsent}
 
 -- a reply that is no refusal is told with code 0
 pub accepted_is : (it : Reply) → ((why : Refusal) → it ≡ reply.Refused why → ⊥) → json_answer 200 0 (reply_text it) ≡ reply_answer it
@@ -26,12 +28,6 @@ accepted_is (reply.Part run) other = refl
 accepted_is (reply.Posted sum) other = refl
 accepted_is (reply.AlreadyPosted sum) other = refl
 
--- an answer that is written is sent
-pub sent : (a b : Option (List ℕ)) (it : Answer) (outcome : Result ℕ Output) (result : Result ℕ Unsent) → Writes a b it outcome → Passes outcome result
-    → Sends a b it result
-sent a b it (Ok status) result written passed = subst (Sends a b it) (sym passed) written
-sent a b it (Err e) result broken passed = subst (Sends a b it) (sym passed) broken
-
 -- a report is told as its text
 pub report_is : (it : Report) → is_no_report it ≡ false → record { status = 200; content = Text; allow = []; body = report_text it } ≡ report_answer it
 report_is (NoReport why) none = cc
@@ -41,3 +37,20 @@ report_is it none = refl
 pub filled : (r : Result (Unit {0}) Output) (old new text : List ℕ) → is_err r ≡ false → old ≡ [] → Puts (Some old) (Some new) r text → new ≡ text
 filled (Ok done) old new text whole empty h = h ∙ ap (λ l. l ++ text) empty
 filled (Err e) old new text whole empty h = cc
+
+-- an answer of an agency that goes on is no 503
+pub turned_goes_on : (why : Turned) → turned_status why ≢ 503
+turned_goes_on turned.BadRequest = λ e. absurd (omega (arith, e))
+turned_goes_on _ = λ e. absurd (omega (arith, e))
+
+pub refusal_goes_on : (why : Refusal) → refusal_status why ≢ 503
+refusal_goes_on (refusal.BadLine field) = λ e. absurd (omega (arith, e))
+refusal_goes_on _ = λ e. absurd (omega (arith, e))
+
+pub reply_goes_on : (it : Reply) → (reply_answer it).status ≢ 503
+reply_goes_on (reply.Refused why) = refusal_goes_on why
+reply_goes_on _ = λ e. absurd (omega (arith, e))
+
+pub report_goes_on : (it : Report) → (report_answer it).status ≢ 503
+report_goes_on (NoReport why) = refusal_goes_on why
+report_goes_on _ = λ e. absurd (omega (arith, e))

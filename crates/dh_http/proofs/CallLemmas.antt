@@ -1,6 +1,6 @@
 -- One call of a peer's stream more.
-use Rattle.std.proofs.Common.{◌≡◌, ◌≢◌, ◌∙◌, ◌++◌, ◌+◌, ◌-◌, ◌*◌, ◌^◌, ◌<◌, ◌≤◌, [], ◌∷◌, ℕ, List, Option, Some, None, Result, Ok, Err, ap, append_assoc, zero, suc, false, true}
-use Rattle.std.proofs.Common.{append-nil, arith, inl, inr, length, length-append, refl, subst, sym}
+use Rattle.std.proofs.Common.{◌≡◌, ◌≢◌, ◌∙◌, ◌++◌, ◌+◌, ◌-◌, ◌*◌, ◌^◌, ◌<◌, ◌≤◌, [], ◌∷◌, ℕ, List, Option, Some, None, Result, Ok, Err, ap}
+use Rattle.std.proofs.Common.{append_assoc, zero, suc, false, true, append-nil, arith, inl, inr, length, length-append, refl, subst, sym}
 use Rattle.std.specs.Prelude.{IsErrAnd, is_err, unwrap_or}
 use Rattle.std.specs.Duration.{as_nanos}
 use Rattle.std.specs.Time.{instant_nanos}

@@ -1,65 +1,95 @@
 -- What serving comes to, from what the agency's call and the writing of the answer give.
-use Rattle.std.proofs.Common.{◌≡◌, ◌⊎◌, [], ℕ, Bool, true, false, List, Option, Some, None, IfSome, Result, Ok, Err, inl, inr, refl, subst, sym}
-use Rattle.std.specs.Prelude.{MatchOption}
+use Rattle.std.proofs.Common.{◌≡◌, ◌≢◌, ◌∙◌, ◌⊎◌, [], ℕ, ap, Bool, true, false, List, Option, Some, None, IfSome, Result, Ok, Err, inl, inr, refl, subst, sym}
+use Rattle.std.specs.Prelude.{IfOk, MatchOption}
 use Rattle.sqlite.specs.Store.{Ghosts}
+use Rattle.dh_types.specs.declared.command.Command.{Command}
 use Rattle.dh_types.specs.declared.reply.Fault.{Fault}
 use Rattle.dh_types.specs.declared.reply.Fault.TheVariants as faults
-use Rattle.dh_types.specs.declared.output.Output.{Output as Written}
 use Rattle.dh_model.specs.Books.{State}
 use Rattle.dh_schema.specs.Faults.{IsFirstFault}
 use Rattle.dh_agency.specs.Seat.{Seat}
-use Rattle.dh_agency.specs.Agency.{IsOpen, machine, stand}
+use Rattle.dh_agency.specs.Agency.{IsOpen, Leaves, machine, stand}
+use Rattle.dh_agency.specs.Told.{IsCut}
 use Rattle.dh_agency.proofs.Standing.{leaves_more}
+use Rattle.dh_fields.specs.declared.request.Request.TheVariants.{Command as Ordered}
 use Rattle.dh_requests.specs.Requests.{MayAsk}
 use Rattle.dh_requests.specs.declared.asked.Asked.{Asked}
+use Rattle.dh_requests.specs.declared.asked.Asked.TheVariants.{Fields}
 use Rattle.dh_http.specs.declared.fault.NetFault.{NetFault}
 use Rattle.dh_http.specs.declared.fault.NetFault.TheVariants.{Closed, Input, Output, Memory}
-use Rattle.dh_http.specs.declared.answers.Unsent.{Unsent}
-use Rattle.dh_http.specs.declared.answers.Unsent.TheVariants as unsent
-use Rattle.dh_http.specs.Answers.{Answer, Sends, Writes, fault_answer}
-use Rattle.dh_http.specs.Served.{Hears, IsFaultOf, IsLeftBy, IsOrder, IsPut, IsServed, LeavesServed, Serves, StopsBy, Tells, served}
+use Rattle.dh_http.specs.declared.answers.Response.{Response}
+use Rattle.dh_http.specs.Answers.{Answer, Sends, Writes, fault_answer, said}
+use Rattle.dh_http.specs.Served.{IsFaultOf, IsLeftBy, IsOrder, IsPut, IsServed, LeavesServed, Serves, StopsBy, served}
 
 module _ {S : Type 0} (g : Ghosts S) (old new : Seat S) (a b : Option (List ℕ)) (May : Asked → Type 0) (asked : Asked) (may : May asked) where
-  -- an answer without memory
-  pub serves_heard : (outcome : Result ℕ Written) (result : Result ℕ NetFault) → Hears outcome result
-      → Writes a b (served (stand g old) asked).answer outcome → stand g new ≡ (served (stand g old) asked).state → (¬ IsPut asked → new ≡ old)
-      → Serves g old new May a b result
-  serves_heard (Ok status) result heard written state kept =
-      subst (Serves g old new May a b) (sym heard) (asked, may, IsServed.Told written.0 state kept written.1)
-  serves_heard (Err e) result heard broken state kept =
-      subst (Serves g old new May a b) (sym heard) (asked, (served (stand g old) asked).answer.status, may, IsServed.Told broken state kept refl)
+  -- an answer
+  pub serves_sent : (it : Answer) (result : Result ℕ NetFault) → Writes a b it result → it ≡ (served (stand g old) asked).answer
+      → stand g new ≡ (served (stand g old) asked).state → (¬ IsPut asked → new ≡ old) → Serves g old new May a b result
+  serves_sent it (Ok status) sends is state kept =
+      let whole = subst (λ x. Writes a b x (Ok status)) is sends in (asked, may, IsServed.Told whole.0 state kept whole.1)
+  serves_sent it (Err (Output failed)) sends is state kept =
+      let broken = subst (λ x. Writes a b x (Err (Output failed))) is sends in
+      (asked, (served (stand g old) asked).answer.status, may, IsServed.Told broken state kept refl)
+  serves_sent it (Err Closed) sends is state kept = absurd sends
+  serves_sent it (Err Input) sends is state kept = absurd sends
+  serves_sent it (Err (Memory acted)) sends is state kept = absurd sends
 
   -- an answer that may want memory; before that the machine's step was made or not
-  pub serves_told : (acted : Bool) (it : Answer) (outcome : Result ℕ Unsent) (result : Result ℕ NetFault) → Tells acted outcome result
-      → Sends a b it outcome → it ≡ (served (stand g old) asked).answer → stand g new ≡ (served (stand g old) asked).state
-      → (acted ≡ true → IsOrder asked) → (acted ≡ false → machine g new ≡ machine g old) → (¬ IsPut asked → new ≡ old)
-      → Serves g old new May a b result
-  serves_told acted it (Ok status) result told sends is state order same kept =
-      let sends_it = subst (λ x. Sends a b x (Ok status)) is sends in
-      subst (Serves g old new May a b) (sym told) (asked, may, IsServed.Told sends_it.0 state kept sends_it.1)
-  serves_told acted it (Err (unsent.Output failed)) result told sends is state order same kept =
-      let broken = subst (λ x. Sends a b x (Err (unsent.Output failed))) is sends in
-      subst (Serves g old new May a b) (sym told) (asked, (served (stand g old) asked).answer.status, may, IsServed.Told broken state kept refl)
-  serves_told true it (Err unsent.Memory) result told sends is state order same kept =
-      subst (Serves g old new May a b) (sym told) (asked, may, sends, order refl, state)
-  serves_told false it (Err unsent.Memory) result told sends is state order same kept =
-      subst (Serves g old new May a b) (sym told) (sends, same refl)
+  pub serves_made : {E : Type 0} (acted : Bool) (it : Answer) (made : Result Response E) (result : Result ℕ NetFault) → Sends a b acted made result
+      → IfOk made (λ x. said x ≡ it) → it ≡ (served (stand g old) asked).answer → stand g new ≡ (served (stand g old) asked).state
+      → (acted ≡ true → IsOrder asked) → (acted ≡ false → machine g new ≡ machine g old) → (¬ IsPut asked → new ≡ old) → Serves g old new May a b result
+  serves_made acted it (Ok x) result sends says is state order same kept = serves_sent (said x) result sends (says ∙ is) state kept
+  serves_made true it (Err e) result sends says is state order same kept =
+      subst (Serves g old new May a b) (sym sends.1) (asked, may, sends.0, order refl, state)
+  serves_made false it (Err e) result sends says is state order same kept = subst (Serves g old new May a b) (sym sends.1) (sends.0, same refl)
 
   -- a fault
-  pub serves_fault : IsPut asked → (fault : Fault) (outcome : Result ℕ Written) (result : Result ℕ NetFault) → Hears outcome result
-      → Writes a b (fault_answer fault) outcome
+  pub serves_fault : IsPut asked → (fault : Fault) (it : Answer) (result : Result ℕ NetFault) → Writes a b it result → it ≡ fault_answer fault
       → IsFaultOf old fault → new.is_stopped ≡ true → (IsOpen g new → IsLeftBy asked (machine g old) (machine g new)) → Serves g old new May a b result
-  serves_fault put fault (Ok status) result heard written is stopped left =
-      subst (Serves g old new May a b) (sym heard) (asked, may, IsServed.Faulted fault put written.0 is stopped left written.1)
-  serves_fault put fault (Err e) result heard broken is stopped left =
-      subst (Serves g old new May a b) (sym heard) (asked, 503, may, IsServed.Faulted fault put broken is stopped left refl)
+  serves_fault put fault it (Ok status) sends told is stopped left =
+      let whole = subst (λ x. Writes a b x (Ok status)) told sends in (asked, may, IsServed.Faulted fault put whole.0 is stopped left whole.1)
+  serves_fault put fault it (Err (Output failed)) sends told is stopped left =
+      let broken = subst (λ x. Writes a b x (Err (Output failed))) told sends in (asked, 503, may, IsServed.Faulted fault put broken is stopped left refl)
+  serves_fault put fault it (Err Closed) sends told is stopped left = absurd sends
+  serves_fault put fault it (Err Input) sends told is stopped left = absurd sends
+  serves_fault put fault it (Err (Memory acted)) sends told is stopped left = absurd sends
 
 -- ---- whether the agency has stopped
-module _ {S : Type 0} (old new : Seat S) where
-  pub stops_fault : (a b : Option (List ℕ)) (fault : Fault) (outcome : Result ℕ Written) (result : Result ℕ NetFault) → Hears outcome result
-      → Writes a b (fault_answer fault) outcome → new.is_stopped ≡ true → StopsBy old new result
-  stops_fault a b fault (Ok status) result heard written stopped = subst (StopsBy old new) (sym heard) (inr (written.1, stopped))
-  stops_fault a b fault (Err e) result heard broken stopped = subst (StopsBy old new) (sym heard) (inr stopped)
+module _ {S : Type 0} (old new : Seat S) (a b : Option (List ℕ)) (it : Answer) where
+  pub stops_fault : (fault : Fault) (result : Result ℕ NetFault) → Writes a b it result → it ≡ fault_answer fault → new.is_stopped ≡ true
+      → StopsBy old new result
+  stops_fault fault (Ok status) sends told stopped = inr (sends.1 ∙ ap (λ (z : Answer). z.status) told, stopped)
+  stops_fault fault (Err (Output failed)) sends told stopped = inr stopped
+  stops_fault fault (Err Closed) sends told stopped = absurd sends
+  stops_fault fault (Err Input) sends told stopped = absurd sends
+  stops_fault fault (Err (Memory acted)) sends told stopped = absurd sends
+
+  pub goes_on_sent : (result : Result ℕ NetFault) → Writes a b it result → it.status ≢ 503 → new.is_stopped ≡ old.is_stopped → StopsBy old new result
+  goes_on_sent (Ok status) sends other same = inl (λ e. other (sym sends.1 ∙ e), same)
+  goes_on_sent (Err (Output failed)) sends other same = inl same
+  goes_on_sent (Err Closed) sends other same = absurd sends
+  goes_on_sent (Err Input) sends other same = absurd sends
+  goes_on_sent (Err (Memory acted)) sends other same = absurd sends
+
+pub goes_on_made : {S E : Type 0} (old new : Seat S) (a b : Option (List ℕ)) (it : Answer) (acted : Bool) (made : Result Response E)
+    (result : Result ℕ NetFault) → Sends a b acted made result → IfOk made (λ x. said x ≡ it) → it.status ≢ 503 → new.is_stopped ≡ old.is_stopped → StopsBy old new result
+goes_on_made old new a b it acted (Ok x) result sends says other same =
+    goes_on_sent old new a b (said x) result sends (λ e. other (sym (ap (λ (z : Answer). z.status) says) ∙ e)) same
+goes_on_made old new a b it acted (Err e) result sends says other same = subst (StopsBy old new) (sym sends.1) same
+
+-- ---- what a crash leaves
+module _ {S : Type 0} (g : Ghosts S) (old new : Seat S) (May : Asked → Type 0) where
+  pub leaves_cut : (command : Command) → May (Fields (Ok (Ordered command))) → Leaves g new (IsCut command (machine g old)) → LeavesServed g old new May
+  leaves_cut command may h = leaves_more g new (IsCut command (machine g old)) _ cut h
+    where
+      cut : (left : State) → IsCut command (machine g old) left → (left ≡ machine g old) ⊎ ((asked : Asked) × May asked × IsLeftBy asked (machine g old) left)
+      cut left is = inr (Fields (Ok (Ordered command)), may, is)
+
+  pub leaves_same : Leaves g new (λ left. left ≡ machine g old) → LeavesServed g old new May
+  leaves_same h = leaves_more g new (λ left. left ≡ machine g old) _ same h
+    where
+      same : (left : State) → left ≡ machine g old → (left ≡ machine g old) ⊎ ((asked : Asked) × May asked × IsLeftBy asked (machine g old) left)
+      same left is = inl is
 
 -- ---- where requests may be asked otherwise too
 module _ {S : Type 0} (g : Ghosts S) (old new : Seat S) (P Q : Asked → Type 0) (f : (asked : Asked) → P asked → Q asked) where

@@ -1,5 +1,5 @@
 -- The bytes of answers.
-use Rattle.std.specs.Prelude.{◌≡◌, ℕ, List, [], ◌++◌, length, codes, decimal, unwrap_or, Option, Result, Ok, Err}
+use Rattle.std.specs.Prelude.{◌≡◌, ℕ, Bool, List, [], ◌++◌, length, codes, decimal, unwrap_or, Option, Result, Ok, Err}
 use Rattle.std.specs.Io.KnownBytes.{Appends}
 use Rattle.http.specs.StatusCode.{code_digits, reason_phrase}
 use Rattle.dh_types.specs.Output.{BreaksOff}
@@ -11,15 +11,17 @@ use Rattle.dh_types.specs.declared.reply.Fault.{Fault}
 use Rattle.dh_types.specs.declared.reply.Fault.TheVariants as fault
 use Rattle.dh_types.specs.Replies.{fault_text, refusal_number, refusal_text, reply_text}
 use Rattle.dh_types.specs.Reports.{Report, NoReport}
-use Rattle.dh_types.specs.declared.output.Output.{Output}
 use Rattle.dh_reports.specs.ReportTexts.{report_text}
 use Rattle.dh_requests.specs.Texts.{reply_body}
 use Rattle.dh_requests.specs.declared.asked.Turned.{Turned}
 use Rattle.dh_requests.specs.declared.asked.Turned.TheVariants as turned
 use Rattle.dh_http.specs.declared.answers.Content.{Content}
 use Rattle.dh_http.specs.declared.answers.Content.TheVariants.{Json, Report as Text, Empty}
-use Rattle.dh_http.specs.declared.answers.Unsent.{Unsent}
-use Rattle.dh_http.specs.declared.answers.Unsent.TheVariants as unsent
+use Rattle.dh_http.specs.declared.answers.Body.{Body}
+use Rattle.dh_http.specs.declared.answers.Body.TheVariants.{Made, Fixed}
+use Rattle.dh_http.specs.declared.answers.Response.{Response}
+use Rattle.dh_http.specs.declared.fault.NetFault.{NetFault}
+use Rattle.dh_http.specs.declared.fault.NetFault.TheVariants.{Output, Memory}
 
 -- what an answer says; allow is a whole header line, or nothing
 pub record Answer : Type 0 where
@@ -39,8 +41,11 @@ head_text status content bytes allow =
     codes "HTTP/1.1 " ++ (code_digits status ++ (codes " " ++ (unwrap_or (reason_phrase status) [] ++ (codes "\r\n"
     ++ (content_line content ++ (codes "Content-Length: " ++ (decimal bytes ++ (codes "\r\n" ++ (allow ++ codes "Connection: close\r\n\r\n")))))))))
 
+abbrev pub head_of : Answer → List ℕ
+head_of it = head_text it.status it.content (length it.body) it.allow
+
 abbrev pub answer_text : Answer → List ℕ
-answer_text it = head_text it.status it.content (length it.body) it.allow ++ it.body
+answer_text it = head_of it ++ it.body
 
 -- ---- a request that is turned away
 
@@ -92,17 +97,21 @@ fault_answer it = json_answer 503 (fault_number it) (fault_text it)
 
 -- ---- an answer is sent
 
+abbrev pub body_bytes : Body → List ℕ
+body_bytes (Made bytes) = bytes.items
+body_bytes (Fixed text) = text.now
+
+-- what an answer says that was made
+abbrev pub said : Response → Answer
+said it = record { status = it.status; content = it.content; allow = it.allow.now; body = body_bytes it.body }
+
 -- the whole was written, and its status is told; or the writer failed in it
-abbrev pub Writes : Option (List ℕ) → Option (List ℕ) → Answer → Result ℕ Output → Type 0
+abbrev pub Writes : Option (List ℕ) → Option (List ℕ) → Answer → Result ℕ NetFault → Type 0
 Writes old new it (Ok status) = Appends old new (answer_text it) × (status ≡ it.status)
-Writes old new it (Err e) = BreaksOff old new (answer_text it)
+Writes old new it (Err (Output failed)) = BreaksOff old new (answer_text it)
+Writes old new it (Err _) = ⊥
 
--- the same, or memory ran out before any of it
-abbrev pub Sends : Option (List ℕ) → Option (List ℕ) → Answer → Result ℕ Unsent → Type 0
-Sends old new it (Ok status) = Appends old new (answer_text it) × (status ≡ it.status)
-Sends old new it (Err (unsent.Output failed)) = BreaksOff old new (answer_text it)
-Sends old new it (Err unsent.Memory) = new ≡ old
-
-abbrev pub Passes : Result ℕ Output → Result ℕ Unsent → Type 0
-Passes (Ok status) it = it ≡ Ok status
-Passes (Err failed) it = it ≡ Err (unsent.Output failed)
+-- the same, or memory for the answer had run out, and nothing was written
+abbrev pub Sends : {E : Type 0} → Option (List ℕ) → Option (List ℕ) → Bool → Result Response E → Result ℕ NetFault → Type 0
+Sends old new acted (Ok it) result = Writes old new (said it) result
+Sends old new acted (Err e) result = (new ≡ old) × (result ≡ Err (Memory acted))

@@ -6,7 +6,6 @@ use Rattle.dh_types.specs.Output.{BreaksOff}
 use Rattle.dh_types.specs.declared.reply.Fault.{Fault}
 use Rattle.dh_types.specs.declared.reply.Fault.TheVariants as fault
 use Rattle.dh_types.specs.declared.reply.Refusal.{Refusal}
-use Rattle.dh_types.specs.declared.output.Output.{Output as Written}
 use Rattle.dh_model.specs.Answers.{report}
 use Rattle.dh_model.specs.Books.{State}
 use Rattle.dh_model.specs.Machine.{step}
@@ -23,8 +22,6 @@ use Rattle.dh_http.specs.declared.fault.NetFault.{NetFault}
 use Rattle.dh_http.specs.declared.fault.NetFault.TheVariants.{Closed, Input, Output, Memory}
 use Rattle.dh_requests.specs.declared.unread.Unread.{Unread}
 use Rattle.dh_requests.specs.declared.unread.Unread.TheVariants as unread
-use Rattle.dh_http.specs.declared.answers.Unsent.{Unsent}
-use Rattle.dh_http.specs.declared.answers.Unsent.TheVariants as unsent
 use Rattle.dh_http.specs.Answers.{Answer, answer_text, fault_answer, refusal_answer, reply_answer, report_answer, turned_answer}
 
 -- what a request is answered, and where the machine stands then
@@ -70,16 +67,6 @@ IsFaultOf old it = (old.is_stopped ≡ false → IsFirstFault it) × (old.is_sto
 abbrev pub unread_fault : Unread → NetFault
 unread_fault unread.Input = Input
 unread_fault unread.Memory = Memory false
-
--- what came of an answer is told; want of memory with whether the machine's step was made
-abbrev pub Tells : Bool → Result ℕ Unsent → Result ℕ NetFault → Type 0
-Tells acted (Ok status) it = it ≡ Ok status
-Tells acted (Err (unsent.Output failed)) it = it ≡ Err (Output failed)
-Tells acted (Err unsent.Memory) it = it ≡ Err (Memory acted)
-
-abbrev pub Hears : Result ℕ Written → Result ℕ NetFault → Type 0
-Hears (Ok status) it = it ≡ Ok status
-Hears (Err failed) it = it ≡ Err (Output failed)
 
 module _ {S : Type 0} (g : Ghosts S) (old new : Seat S) where
   -- The request was answered, and the machine stands where the answer says: one that was not put to the agency leaves it as it is. Or it was put

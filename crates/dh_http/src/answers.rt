@@ -1,13 +1,13 @@
-//! Writing answers.
+//! Answers, and sending them.
 
-ghost use Rattle.std.specs.Prelude.{◌≡◌, [], false, unwrap_or};
+ghost use Rattle.std.specs.Prelude.{◌≡◌, [], false, unwrap_or, IfOk};
 ghost use Rattle.http.specs.StatusCode.{reason_phrase};
 ghost use Rattle.dh_types.specs.Output.{Puts};
 ghost use Rattle.dh_types.specs.Reports.{is_no_report, report_of};
-ghost use Rattle.dh_http.specs.Answers.{Passes, Sends, Writes, allow_line, answer_text, content_line, fault_answer, head_text, json_answer, refusal_answer};
-ghost use Rattle.dh_http.specs.Answers.{refusal_status, reply_answer, report_answer, turned_answer, turned_status};
-ghost use Rattle.dh_http.specs.declared.answers.Unsent.TheVariants as unsent;
+ghost use Rattle.dh_http.specs.Answers.{Sends, Writes, allow_line, answer_text, body_bytes, content_line, fault_answer, head_of, json_answer};
+ghost use Rattle.dh_http.specs.Answers.{refusal_answer, refusal_status, reply_answer, report_answer, said, turned_answer, turned_status};
 
+use crate::fault::NetFault;
 use arrayvec::ArrayVec;
 use dh_reports::write;
 use dh_requests::Turned;
@@ -29,20 +29,31 @@ pub(crate) enum Content {
     Empty,
 }
 
-/// Why an answer was not sent.
-#[derive(Clone, Copy)]
-pub(crate) enum Unsent {
-    /// Memory ran out, and nothing was written.
-    Memory,
-    /// The writer failed.
-    Output(Output),
+/// The bytes of a body.
+#[derive(Drop)]
+pub(crate) enum Body {
+    /// They were made for this answer.
+    Made(Vec<u8>),
+    /// They take no memory.
+    Fixed(&'static str),
 }
 
-impl From<AllocError> for Unsent {
-    ghost from_gives = { λ _ e. e ≡ unsent.Memory };
+/// An answer, before it is sent. `allow` is a whole header line, or nothing.
+#[derive(Drop)]
+pub(crate) struct Response {
+    status: StatusCode,
+    content: Content,
+    allow: &'static str,
+    body: Body,
+}
 
-    fn from(_: AllocError) -> Unsent {
-        Unsent::Memory
+// The bytes of the body.
+fn bytes_of(body: &Body) -> &[u8]
+    ensures { result.now ≡ body_bytes body.now }
+{
+    match body {
+        Body::Made(bytes) => bytes.as_slice(),
+        Body::Fixed(text) => text.as_bytes(),
     }
 }
 
@@ -64,89 +75,67 @@ fn content_line(content: Content) -> &'static str
 }
 
 // Writes the head of an answer part by part.
-fn put_head_parts<W: Write>(
-    writer: &mut W,
-    status: StatusCode,
-    content: Content,
-    length: usize,
-    allow: &'static str,
-) -> Result<(), Output>
-    ensures { Puts (W.contents writer.old) (W.contents writer.new) result (head_text status content length allow.now) }
+fn put_head_parts<W: Write>(writer: &mut W, it: &Response) -> Result<(), Output>
+    ensures { Puts (W.contents writer.old) (W.contents writer.new) result (head_of (said it.now)) }
 {
+    let length = bytes_of(&it.body).len();
     let mut digits = Buffer::new();
     put_parts(
         writer,
         &[
             b"HTTP/1.1 ",
-            status.as_str().as_bytes(),
+            it.status.as_str().as_bytes(),
             b" ",
-            phrase(status).as_bytes(),
+            phrase(it.status).as_bytes(),
             b"\r\n",
-            content_line(content).as_bytes(),
+            content_line(it.content).as_bytes(),
             b"Content-Length: ",
             digits.format(length).as_bytes(),
             b"\r\n",
-            allow.as_bytes(),
+            it.allow.as_bytes(),
             b"Connection: close\r\n\r\n",
         ],
     )
 }
 
-// Writes the head of an answer whose body has so many bytes, at once; one that had no room would be written part by part. `allow` is a
-// whole header line, or nothing.
-fn put_head<W: Write>(
-    writer: &mut W,
-    status: StatusCode,
-    content: Content,
-    length: usize,
-    allow: &'static str,
-) -> Result<(), Output>
-    ensures { Puts (W.contents writer.old) (W.contents writer.new) result (head_text status content length allow.now) }
+// Writes the head of an answer at once; one that had no room would be written part by part.
+fn put_head<W: Write>(writer: &mut W, it: &Response) -> Result<(), Output>
+    ensures { Puts (W.contents writer.old) (W.contents writer.new) result (head_of (said it.now)) }
 {
     let mut head: Head = ArrayVec::new();
-    match put_head_parts(&mut head, status, content, length, allow) {
+    match put_head_parts(&mut head, it) {
         Ok(()) => put(writer, &head),
-        Err(_) => put_head_parts(writer, status, content, length, allow),
+        Err(_) => put_head_parts(writer, it),
     }
 }
 
 // Writes the head and the body of an answer.
-fn put_whole<W: Write>(
-    writer: &mut W,
-    status: StatusCode,
-    content: Content,
-    allow: &'static str,
-    body: &[u8],
-) -> Result<(), Output>
-    ensures { Puts (W.contents writer.old) (W.contents writer.new) result
-        (answer_text (record { status = status; content = content; allow = allow.now; body = body.now })) }
+fn put_whole<W: Write>(writer: &mut W, it: &Response) -> Result<(), Output>
+    ensures { Puts (W.contents writer.old) (W.contents writer.new) result (answer_text (said it.now)) }
 {
-    put_head(writer, status, content, body.len(), allow)?;
-    put(writer, body)
+    put_head(writer, it)?;
+    put(writer, bytes_of(&it.body))
 }
 
-// Writes an answer, and tells its status.
-fn put_answer<W: Write>(
-    writer: &mut W,
-    status: StatusCode,
-    content: Content,
-    allow: &'static str,
-    body: &[u8],
-) -> Result<StatusCode, Output>
-    ensures { Writes (W.contents writer.old) (W.contents writer.new)
-        (record { status = status; content = content; allow = allow.now; body = body.now }) result }
+/// Writes an answer, and tells its status.
+pub(crate) fn send<W: Write>(writer: &mut W, it: &Response) -> Result<StatusCode, NetFault>
+    ensures { Writes (W.contents writer.old) (W.contents writer.new) (said it.now) result }
 {
-    put_whole(writer, status, content, allow, body)?;
-    Ok(status)
+    put_whole(writer, it)?;
+    Ok(it.status)
 }
 
-// What came of an answer, which wanted memory before it.
-fn passed(outcome: Result<StatusCode, Output>) -> Result<StatusCode, Unsent>
-    ensures { Passes outcome result }
+/// The same, where memory for the answer may have run out, before which the machine's step was made or not.
+pub(crate) fn send_made<W: Write>(
+    writer: &mut W,
+    made: Result<Response, AllocError>,
+    acted: bool,
+) -> Result<StatusCode, NetFault>
+    ensures { Sends (W.contents writer.old) (W.contents writer.new) acted made result }
 {
-    match outcome {
-        Ok(status) => Ok(status),
-        Err(output) => Err(Unsent::Output(output)),
+    match made {
+        Ok(it) => send(writer, &it),
+        Err(_) => Err(NetFault::Memory { acted }),
     }
 }
 
@@ -176,31 +165,29 @@ fn allow_line(why: Turned) -> &'static str
     }
 }
 
-/// Answers a request that is turned away. It takes no memory.
-pub(crate) fn put_turned<W: Write>(writer: &mut W, why: Turned) -> Result<StatusCode, Output>
-    ensures { Writes (W.contents writer.old) (W.contents writer.new) (turned_answer why) result }
+/// The answer to a request that is turned away. It takes no memory.
+pub(crate) fn turned(why: Turned) -> Response
+    ensures { said result ≡ turned_answer why }
 {
-    put_answer(
-        writer,
-        turned_status(why),
-        Content::Empty,
-        allow_line(why),
-        b"",
-    )
+    Response {
+        status: turned_status(why),
+        content: Content::Empty,
+        allow: allow_line(why),
+        body: Body::Fixed(""),
+    }
 }
 
-// Answers with this number and text.
-fn put_json<W: Write>(
-    alloc: Global,
-    writer: &mut W,
-    status: StatusCode,
-    code: u8,
-    text: &str,
-) -> Result<StatusCode, Unsent>
-    ensures { Sends (W.contents writer.old) (W.contents writer.new) (json_answer status code text.now) result }
+// The answer with this number and text.
+fn json(alloc: Global, status: StatusCode, code: u8, text: &str) -> Result<Response, AllocError>
+    ensures { IfOk result (λ it. said it ≡ json_answer status code text.now) }
 {
-    let body = dh_requests::reply(alloc, code, text)?;
-    passed(put_answer(writer, status, Content::Json, "", body.as_bytes()))
+    let text = dh_requests::reply(alloc, code, text)?;
+    Ok(Response {
+        status,
+        content: Content::Json,
+        allow: "",
+        body: Body::Made(text.into_bytes()),
+    })
 }
 
 // The status of a refusal.
@@ -213,60 +200,49 @@ fn refusal_status(why: &Refusal) -> StatusCode
     }
 }
 
-/// Answers a refusal.
-pub(crate) fn put_refused<W: Write>(
-    alloc: Global,
-    writer: &mut W,
-    why: Refusal,
-) -> Result<StatusCode, Unsent>
-    ensures { Sends (W.contents writer.old) (W.contents writer.new) (refusal_answer why) result }
+/// The answer to what is refused.
+pub(crate) fn refused(alloc: Global, why: Refusal) -> Result<Response, AllocError>
+    ensures { IfOk result (λ it. said it ≡ refusal_answer why) }
 {
     let text = why.to_string(alloc)?;
-    put_json(alloc, writer, refusal_status(&why), why.number(), &text)
+    json(alloc, refusal_status(&why), why.number(), &text)
 }
 
-/// Answers a command that was replied to so.
-pub(crate) fn put_replied<W: Write>(
-    alloc: Global,
-    writer: &mut W,
-    reply: Reply,
-) -> Result<StatusCode, Unsent>
-    ensures { Sends (W.contents writer.old) (W.contents writer.new) (reply_answer reply) result }
+/// The answer to a command that was replied to so.
+pub(crate) fn replied(alloc: Global, reply: Reply) -> Result<Response, AllocError>
+    ensures { IfOk result (λ it. said it ≡ reply_answer reply) }
 {
     if let Reply::Refused(why) = reply {
-        return put_refused(alloc, writer, why);
+        return refused(alloc, why);
     }
     let text = reply.to_string(alloc)?;
-    put_json(alloc, writer, StatusCode::OK, 0, &text)
+    json(alloc, StatusCode::OK, 0, &text)
 }
 
-// Answers with the text of a report.
-fn put_report<W: Write>(
-    alloc: Global,
-    writer: &mut W,
-    answer: &Answer,
-) -> Result<StatusCode, Unsent>
+// The answer with the text of a report.
+fn reported(alloc: Global, answer: &Answer) -> Result<Response, AllocError>
     requires { is_no_report (report_of answer.now) ≡ false }
-    ensures { Sends (W.contents writer.old) (W.contents writer.new) (report_answer (report_of answer.now)) result }
+    ensures { IfOk result (λ it. said it ≡ report_answer (report_of answer.now)) }
 {
     let mut body = Vec::new(alloc);
     if write(answer, &mut body).is_err() {
-        return Err(Unsent::Memory);
+        return Err(AllocError);
     }
-    passed(put_answer(writer, StatusCode::OK, Content::Report, "", &body))
+    Ok(Response {
+        status: StatusCode::OK,
+        content: Content::Report,
+        allow: "",
+        body: Body::Made(body),
+    })
 }
 
-/// Answers a question that was answered so.
-pub(crate) fn put_shown<W: Write>(
-    alloc: Global,
-    writer: &mut W,
-    answer: &Answer,
-) -> Result<StatusCode, Unsent>
-    ensures { Sends (W.contents writer.old) (W.contents writer.new) (report_answer (report_of answer.now)) result }
+/// The answer to a question that was answered so.
+pub(crate) fn shown(alloc: Global, answer: &Answer) -> Result<Response, AllocError>
+    ensures { IfOk result (λ it. said it ≡ report_answer (report_of answer.now)) }
 {
     match answer {
-        Answer::Refused(why) => put_refused(alloc, writer, *why),
-        _ => put_report(alloc, writer, answer),
+        Answer::Refused(why) => refused(alloc, *why),
+        _ => reported(alloc, answer),
     }
 }
 
@@ -281,16 +257,14 @@ fn fault_body(fault: Fault) -> &'static str
     }
 }
 
-/// Answers a request that met a fault. It takes no memory.
-pub(crate) fn put_fault<W: Write>(writer: &mut W, fault: Fault) -> Result<StatusCode, Output>
-    ensures { Writes (W.contents writer.old) (W.contents writer.new) (fault_answer fault) result }
+/// The answer to a request that met a fault. It takes no memory.
+pub(crate) fn faulted(fault: Fault) -> Response
+    ensures { said result ≡ fault_answer fault }
 {
-    let body = fault_body(fault);
-    put_answer(
-        writer,
-        StatusCode::SERVICE_UNAVAILABLE,
-        Content::Json,
-        "",
-        body.as_bytes(),
-    )
+    Response {
+        status: StatusCode::SERVICE_UNAVAILABLE,
+        content: Content::Json,
+        allow: "",
+        body: Body::Fixed(fault_body(fault)),
+    }
 }

@@ -13,10 +13,11 @@ ghost use Rattle.dh_http.specs.Taking.{is_taken};
 use crate::listening::Unserved;
 use crate::patience::Patience;
 use crate::peers::{Peer, SocketPeer};
-use crate::serving::serve_one;
+use crate::serving::answer;
 use crate::streams::{TimedStream, end_answered};
 use crate::taking::{accept, taken};
 use dh_agency::Agency;
+use dh_requests::{Routes, read_request};
 use dh_types::writing::{put, put_parts};
 use dh_types::{Fault, Output};
 use http::StatusCode;
@@ -29,6 +30,7 @@ use std::net::{TcpListener, TcpStream};
 // Answers a request: the status, if a whole answer was written.
 fn serve_over<S: Alter, R: Read, W: Write>(
     alloc: Global,
+    routes: &Routes,
     agency: &mut Agency<S>,
     reader: &mut R,
     writer: &mut W,
@@ -38,7 +40,10 @@ fn serve_over<S: Alter, R: Read, W: Write>(
     ensures stops { StopsWith agency.old agency.new result }
     ensures was_clean { WasClean S.Store agency.old agency.new }
 {
-    match serve_one(alloc, agency, reader, writer) {
+    let Ok(Some(asked)) = read_request(alloc, routes, reader) else {
+        return None;
+    };
+    match answer(alloc, agency, asked, writer) {
         Ok(status) => Some(status),
         Err(_) => None,
     }
@@ -47,6 +52,7 @@ fn serve_over<S: Alter, R: Read, W: Write>(
 // Answers a peer: the status, if it was answered.
 fn serve_peer<S: Alter, P: Peer + Copy>(
     alloc: Global,
+    routes: &Routes,
     agency: &mut Agency<S>,
     peer: P,
     patience: Patience,
@@ -57,12 +63,13 @@ fn serve_peer<S: Alter, P: Peer + Copy>(
 {
     let mut reader = TimedStream::new(peer, patience.request_seconds);
     let mut writer = TimedStream::new(peer, patience.answer_seconds);
-    serve_over(alloc, agency, &mut reader, &mut writer)
+    serve_over(alloc, routes, agency, &mut reader, &mut writer)
 }
 
 // Answers a connection: the status, if it was answered, and the peer behind it. Where it was answered the stream ends as such.
 fn serve_connection<S: Alter, P: Peer + Copy>(
     alloc: Global,
+    routes: &Routes,
     agency: &mut Agency<S>,
     peer: P,
     patience: Patience,
@@ -73,7 +80,7 @@ fn serve_connection<S: Alter, P: Peer + Copy>(
         × EndsAnswered (patience.rest_seconds * 1000000000) patience.rest_bytes calls) }
     ensures was_clean { WasClean S.Store agency.old agency.new }
 {
-    match serve_peer(alloc, agency, peer, patience) {
+    match serve_peer(alloc, routes, agency, peer, patience) {
         Some(status) => (Some(status), end_answered(peer, patience)),
         None => (None, peer),
     }
@@ -82,6 +89,7 @@ fn serve_connection<S: Alter, P: Peer + Copy>(
 // Answers what came of a call for the next connection: the status, if it was answered. A fault where no further connection can be taken.
 fn serve_taken<S: Alter>(
     rt: &HostRuntime,
+    routes: &Routes,
     agency: &mut Agency<S>,
     outcome: io::Result<TcpStream>,
     patience: Patience,
@@ -96,7 +104,7 @@ fn serve_taken<S: Alter>(
     match taken(outcome) {
         Ok(Some(stream)) => {
             let peer = SocketPeer::new(rt, &stream);
-            let (answered, _) = serve_connection(rt.alloc(), agency, peer, patience);
+            let (answered, _) = serve_connection(rt.alloc(), routes, agency, peer, patience);
             Ok(answered)
         }
         Ok(None) => Ok(None),
@@ -107,6 +115,7 @@ fn serve_taken<S: Alter>(
 // Answers the next connection: the status, if it was answered. A fault where no further connection can be taken.
 fn serve_next<S: Alter>(
     rt: &HostRuntime,
+    routes: &Routes,
     agency: &mut Agency<S>,
     listener: &TcpListener,
     patience: Patience,
@@ -117,7 +126,7 @@ fn serve_next<S: Alter>(
     ensures cause { IfErr result (λ fault. IsFirstFault fault) }
     ensures was_clean { WasClean S.Store agency.old agency.new }
 {
-    serve_taken(rt, agency, accept(listener), patience)
+    serve_taken(rt, routes, agency, accept(listener), patience)
 }
 
 // Prints the status of a connection, or that it was lost.
@@ -134,6 +143,7 @@ fn print_outcome<W: Write>(writer: &mut W, outcome: &Option<StatusCode>) -> Resu
 /// answer was lost or not, `Fault` where no further connection can be taken, `Output` where the writer failed.
 pub(crate) fn serve_connections<S: Alter, W: Write>(
     rt: &HostRuntime,
+    routes: &Routes,
     agency: &mut Agency<S>,
     listener: &TcpListener,
     count: u32,
@@ -149,7 +159,7 @@ pub(crate) fn serve_connections<S: Alter, W: Write>(
     ensures was_clean { WasClean S.Store agency.old agency.new }
 {
     for _served in 0..count {
-        let outcome = serve_next(rt, agency, listener, patience)?;
+        let outcome = serve_next(rt, routes, agency, listener, patience)?;
         print_outcome(writer, &outcome)?;
         if agency.is_stopped() {
             return Err(Unserved::Stopped);

@@ -2,6 +2,7 @@
 
 ghost use Rattle.std.specs.Prelude.{◌≡◌};
 ghost use Rattle.dh_http.specs.Served.{unread_fault};
+ghost use Rattle.dh_http.specs.declared.fault.NetFault.TheVariants as net;
 
 use dh_requests::Unread;
 use dh_types::Output;
@@ -28,5 +29,13 @@ impl From<Unread> for NetFault {
             Unread::Input => NetFault::Input,
             Unread::Memory => NetFault::Memory { acted: false },
         }
+    }
+}
+
+impl From<Output> for NetFault {
+    ghost from_gives = { λ output e. e ≡ net.Output output };
+
+    fn from(output: Output) -> NetFault {
+        NetFault::Output(output)
     }
 }

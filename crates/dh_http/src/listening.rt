@@ -13,6 +13,7 @@ ghost use Rattle.dh_http.specs.declared.listening.Unserved.TheVariants as unserv
 use crate::connections::serve_connections;
 use crate::patience::Patience;
 use dh_agency::Agency;
+use dh_requests::Routes;
 use dh_types::writing::put_parts;
 use dh_types::{BatchCount, Fault, Output};
 use itoa::Buffer;
@@ -124,12 +125,9 @@ pub fn serve_within<S: Alter, W: Write>(
         return Err(Unserved::NoListener);
     };
     print_port(writer, service.port, port)?;
-    serve_connections(
-        rt,
-        agency,
-        &listener,
-        service.count.number(),
-        patience,
-        writer,
-    )
+    let count = service.count.number();
+    let Ok(routes) = Routes::new(rt.alloc()) else {
+        return Err(Unserved::Fault(Fault::Memory));
+    };
+    serve_connections(rt, &routes, agency, &listener, count, patience, writer)
 }

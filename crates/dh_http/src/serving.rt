@@ -1,95 +1,62 @@
 //! Serving one request.
 
-ghost use Rattle.std.specs.Prelude.{◌≡◌, ◌≢◌, true, false, [], Err, Ok, IfSome};
+ghost use Rattle.std.specs.Prelude.{◌≡◌, ◌≢◌, true, false, [], Err, IfSome};
 ghost use Rattle.dh_agency.specs.Agency.{IsClean, LeavesItsTables, WasClean};
-ghost use Rattle.dh_fields.specs.declared.request.Request.TheVariants as request;
-ghost use Rattle.dh_http.specs.Answers.{Sends};
 ghost use Rattle.dh_requests.specs.Requests.{MayAsk, TakesRequest};
-ghost use Rattle.dh_http.specs.Served.{Hears, LeavesServed, Serves, StopsBy, Tells};
+ghost use Rattle.dh_http.specs.Served.{LeavesServed, Serves, StopsBy};
 
-use crate::answers::{Unsent, put_fault, put_refused, put_replied, put_shown, put_turned};
+use crate::answers::{faulted, refused, replied, send, send_made, shown, turned};
 use crate::fault::NetFault;
 use dh_agency::Agency;
 use dh_fields::Request;
 use dh_laws::asking::{answers_pass_the_run, open_runs_refuse_put_off};
-use dh_requests::{Asked, read_request};
-use dh_types::{Command, Output, Question};
+use dh_requests::{Asked, Routes, read_request};
 use http::StatusCode;
 use sqlite::Alter;
 use std::alloc::Global;
 use std::io::{Read, Write};
 
-// What came of an answer, before which the machine's step was made or not.
-fn told(outcome: Result<StatusCode, Unsent>, acted: bool) -> Result<StatusCode, NetFault>
-    ensures { Tells acted outcome result }
-{
-    match outcome {
-        Ok(status) => Ok(status),
-        Err(Unsent::Memory) => Err(NetFault::Memory { acted }),
-        Err(Unsent::Output(output)) => Err(NetFault::Output(output)),
-    }
-}
-
-// What came of an answer that takes no memory.
-fn heard(outcome: Result<StatusCode, Output>) -> Result<StatusCode, NetFault>
-    ensures { Hears outcome result }
-{
-    match outcome {
-        Ok(status) => Ok(status),
-        Err(output) => Err(NetFault::Output(output)),
-    }
-}
-
-// Carries out a command, and answers it.
-fn carry_out<S: Alter, W: Write>(
+/// Does what is asked for, and answers it: the status of the answer. The results are those of [`serve_one`].
+pub(crate) fn answer<S: Alter, W: Write>(
     alloc: Global,
     agency: &mut Agency<S>,
-    command: &Command,
+    asked: Asked,
     writer: &mut W,
 ) -> Result<StatusCode, NetFault>
-    ensures serves { IsClean S.Store agency.new → Serves S.Store agency.old agency.new
-        (λ asked. asked ≡ Asked.Fields (Ok (request.Command command.now))) (W.contents writer.old) (W.contents writer.new) result }
+    ensures serves { IsClean S.Store agency.new
+        → Serves S.Store agency.old agency.new (λ it. it ≡ asked) (W.contents writer.old) (W.contents writer.new) result }
     ensures crash { IsClean S.Store agency.new → agency.old.is_stopped ≡ false → LeavesItsTables S.Store agency.old
-        → LeavesServed S.Store agency.old agency.new (λ asked. asked ≡ Asked.Fields (Ok (request.Command command.now))) }
-    ensures left { IsClean S.Store agency.new → agency.new.is_stopped ≡ false → LeavesItsTables S.Store agency.new }
+        → LeavesServed S.Store agency.old agency.new (λ it. it ≡ asked) }
+    ensures left { IsClean S.Store agency.new → LeavesItsTables S.Store agency.old → agency.new.is_stopped ≡ false → LeavesItsTables S.Store agency.new }
     ensures open { result ≢ Err NetFault.Closed }
     ensures stops { StopsBy agency.old agency.new result }
     ensures stopped { agency.old.is_stopped ≡ true → agency.new ≡ agency.old }
     ensures was_clean { WasClean S.Store agency.old agency.new }
 {
-    match agency.step(alloc, command) {
-        Ok(reply) => told(put_replied(alloc, writer, reply), true),
-        Err(fault) => heard(put_fault(writer, fault)),
-    }
-}
-
-// Answers a question.
-fn show<S: Alter, W: Write>(
-    alloc: Global,
-    agency: &mut Agency<S>,
-    question: &Question,
-    writer: &mut W,
-) -> Result<StatusCode, NetFault>
-    ensures serves { IsClean S.Store agency.new → Serves S.Store agency.old agency.new
-        (λ asked. asked ≡ Asked.Fields (Ok (request.Question question.now))) (W.contents writer.old) (W.contents writer.new) result }
-    ensures crash { IsClean S.Store agency.new → agency.old.is_stopped ≡ false → LeavesItsTables S.Store agency.old
-        → LeavesServed S.Store agency.old agency.new (λ asked. asked ≡ Asked.Fields (Ok (request.Question question.now))) }
-    ensures left { IsClean S.Store agency.new → agency.new.is_stopped ≡ false → LeavesItsTables S.Store agency.new }
-    ensures open { result ≢ Err NetFault.Closed }
-    ensures stops { StopsBy agency.old agency.new result }
-    ensures stopped { agency.old.is_stopped ≡ true → agency.new ≡ agency.old }
-    ensures was_clean { WasClean S.Store agency.old agency.new }
-{
-    // A question is answered alike by the tables and by their whole.
-    answers_pass_the_run();
-    open_runs_refuse_put_off();
-    match agency.show(alloc, question) {
-        Ok(answer) => {
-            let outcome = put_shown(alloc, writer, &answer);
-            drop(answer);
-            told(outcome, false)
+    match asked {
+        Asked::Turned(why) => send(writer, &turned(why)),
+        Asked::Fields(Err(why)) => send_made(writer, refused(alloc, why), false),
+        Asked::Fields(Ok(Request::Command(command))) => {
+            let outcome = agency.step(alloc, &command);
+            drop(command);
+            match outcome {
+                Ok(reply) => send_made(writer, replied(alloc, reply), true),
+                Err(fault) => send(writer, &faulted(fault)),
+            }
         }
-        Err(fault) => heard(put_fault(writer, fault)),
+        Asked::Fields(Ok(Request::Question(question))) => {
+            // A question is answered alike by the tables and by their whole.
+            answers_pass_the_run();
+            open_runs_refuse_put_off();
+            match agency.show(alloc, &question) {
+                Ok(answer) => {
+                    let made = shown(alloc, &answer);
+                    drop(answer);
+                    send_made(writer, made, false)
+                }
+                Err(fault) => send(writer, &faulted(fault)),
+            }
+        }
     }
 }
 
@@ -114,17 +81,11 @@ pub fn serve_one<S: Alter, R: Read, W: Write>(
     ensures stopped { agency.old.is_stopped ≡ true → agency.new ≡ agency.old }
     ensures was_clean { WasClean S.Store agency.old agency.new }
 {
-    match read_request(alloc, reader)? {
+    let Ok(routes) = Routes::new(alloc) else {
+        return Err(NetFault::Memory { acted: false });
+    };
+    match read_request(alloc, &routes, reader)? {
+        Some(asked) => answer(alloc, agency, asked, writer),
         None => Err(NetFault::Closed),
-        Some(Asked::Turned(why)) => heard(put_turned(writer, why)),
-        Some(Asked::Fields(Err(why))) => told(put_refused(alloc, writer, why), false),
-        Some(Asked::Fields(Ok(Request::Command(command)))) => {
-            let served = carry_out(alloc, agency, &command, writer);
-            drop(command);
-            served
-        }
-        Some(Asked::Fields(Ok(Request::Question(question)))) => {
-            show(alloc, agency, &question, writer)
-        }
     }
 }

@@ -27,7 +27,7 @@ use Rattle.dh_reports.specs.Columns.{newline}
 use Rattle.dh_lines.specs.declared.outcome.Halt.{Halt}
 use Rattle.dh_lines.specs.declared.outcome.Halt.TheVariants as halt
 use Rattle.dh_lines.specs.Session.{Answered, fault_line, numbered, replied, reported, reported_text}
-use Rattle.dh_lines.specs.Batch.{Answers, HaltsByFault, IsFirst, IsStoreFault, OnlyOfRequests, TellsFault, batch_fault}
+use Rattle.dh_lines.specs.Batch.{Answers, IsAgencyFault, IsFirst, IsStoreFault, OnlyOfRequests, TellsFault, batch_fault}
 
 -- a fault that was told
 pub fault_first : (a b : Option (List ℕ)) (n : ℕ) (fault : Fault) (h : Halt) → TellsFault a b n fault h → IsFirstFault fault → IsFirst (batch_fault h)
@@ -35,7 +35,7 @@ fault_first a b n fault (halt.Fault found outcome) told first = subst IsFirstFau
 fault_first a b n fault (halt.Input cause) told first = absurd told
 fault_first a b n fault (halt.Output failed) told first = absurd told
 
-pub fault_halts : (a b : Option (List ℕ)) (n : ℕ) (fault : Fault) (h : Halt) → TellsFault a b n fault h → HaltsByFault {T = Bool} (Err h)
+pub fault_halts : (a b : Option (List ℕ)) (n : ℕ) (fault : Fault) (h : Halt) → TellsFault a b n fault h → IsAgencyFault (batch_fault h)
 fault_halts a b n fault (halt.Fault found outcome) told = tt
 fault_halts a b n fault (halt.Input cause) told = absurd told
 fault_halts a b n fault (halt.Output failed) told = absurd told
@@ -67,12 +67,6 @@ of_request fields it (Err (halt.Output failed)) asked = tt
 pub of_output : (fields : Fields) (failed : writing.Output) (r : Result Bool Halt) → IsErrAnd r (λ y. y ≡ halt.Output failed) → IfErr r (OnlyOfRequests fields)
 of_output fields failed (Ok value) is = tt
 of_output fields failed (Err e) is = subst (OnlyOfRequests fields) (sym is) tt
-
--- an error that is handed on is the one that was met
-pub store_handed : {T : Type 0} (Stops : Type 0) (r : Result T Halt) (e : Halt) → IsErrAnd r (λ y. y ≡ e) → (IsStoreFault (batch_fault e) → Stops)
-    → IfErr r (λ it. IsStoreFault (batch_fault it) → Stops)
-store_handed Stops (Ok value) e is h = tt
-store_handed Stops (Err y) e is h = λ store. h (subst (λ z. IsStoreFault (batch_fault z)) is store)
 
 module _ {S : Type 0} (g : Ghosts S) (old new : Seat S) (a b : Option (List ℕ)) (n : ℕ) where
   pub answers_fault : (it : Answered) (P : State → Type 0) (fault : Fault) (h : Halt) → TellsFault a b n fault h → (IsOpen g new → P (machine g new))

@@ -19,7 +19,7 @@ use Rattle.dh_agency.specs.Agency.{Leaves, LeavesItsTables, WasClean, machine, s
 use Rattle.dh_agency.proofs.Standing.{leaves_more, leaves_what_holds}
 use Rattle.dh_fields.specs.Lines.{Fields}
 use Rattle.dh_lines.specs.Session.{answered, fault_line, line, records_of, state_after}
-use Rattle.dh_lines.specs.Batch.{Answers, AnsweredAll, AnsweredFirst, EndsSo, Faulted, Halts, HaltsByFault, HaltsSo, IsAgencyFault, IsAtRest, IsFirst}
+use Rattle.dh_lines.specs.Batch.{Answers, AnsweredAll, AnsweredFirst, EndsSo, Faulted, Halts, IsAgencyFault, IsAtRest, IsFirst}
 use Rattle.dh_lines.specs.Batch.{IsAsked, IsStoreFault, IsWithin}
 use Rattle.dh_lines.specs.Batch.{OnlyOfRequests, PutsBehind, TellsFault, TellsReading, batch_fault}
 use Rattle.dh_lines.specs.declared.watching.Input.{Input}
@@ -65,26 +65,26 @@ module _ {S R : Type 0} (g : Ghosts S) (old new : Seat S) (a b : Option (List �
   }
 
   ends_by_want : (c : Option (List ℕ)) (h : Halt) → TellsFault b c (n + 1) faults.Memory h → (IsAtRest g old → LeavesItsTables g new)
-      → HaltsSo g old new a c (Err h) input
+      → EndsSo g old new a c (Err (batch_fault h)) input
   ends_by_want c (halt.Fault found outcome) told left =
-      wanted_memory c found outcome told.0 (subst (λ f. Puts b c outcome (fault_line (n + 1) f)) (sym told.0) told.1) left
+      (outcome, wanted_memory c found outcome told.0 (subst (λ f. Puts b c outcome (fault_line (n + 1) f)) (sym told.0) told.1) left)
   ends_by_want c (halt.Input cause) told left = absurd told
   ends_by_want c (halt.Output failed) told left = absurd told
 
   -- the next record was not read
   pub ends_unread : {W : Type 0} (held : W → Option (List ℕ)) (one two : W) (k : ErrorKind) (noted : Option Input) (h : Halt) → b ≡ held one
       → IfSome noted (λ cause. cause.is_full ≡ false) → TellsReading held one two (n + 1) k noted h → (IsAtRest g old → LeavesItsTables g new)
-      → HaltsSo g old new a (held two) (Err h) input
+      → EndsSo g old new a (held two) (Err (batch_fault h)) input
   ends_unread {W} held one two k noted h is of_reader told left = by k noted of_reader told
     where
-      want : TellsFault (held one) (held two) (n + 1) faults.Memory h → HaltsSo g old new a (held two) (Err h) input
+      want : TellsFault (held one) (held two) (n + 1) faults.Memory h → EndsSo g old new a (held two) (Err (batch_fault h)) input
       want told = ends_by_want (held two) h (subst (λ o. TellsFault o (held two) (n + 1) faults.Memory h) (sym is) told) left
 
       by : (k : ErrorKind) (noted : Option Input) → IfSome noted (λ cause. cause.is_full ≡ false) → TellsReading held one two (n + 1) k noted h
-          → HaltsSo g old new a (held two) (Err h) input
+          → EndsSo g old new a (held two) (Err (batch_fault h)) input
       by (kind.Io e) (Some cause) of_reader told =
           let same : b ≡ held two = is ∙ ap held (sym told.1) in
-          subst (λ z. HaltsSo g old new a (held two) (Err z) input) (sym told.0)
+          subst (λ z. EndsSo g old new a (held two) (Err (batch_fault z)) input) (sym told.0)
           (subst (λ o. AnsweredFirst g old new a o cause input) same (first_answered cause (λ full. absurd (false≢true (sym of_reader ∙ full)))))
       by (kind.Io e) None of_reader told = want told
       by (kind.Utf8 pos e) noted of_reader told = absurd told
@@ -147,16 +147,19 @@ module _ {S R : Type 0} (g : Ghosts S) (old mid new : Seat S) (a b c : Option (L
 
   -- the next record ended the batch
   pub ends_early : (e : Halt) → Answers g mid new b c (n + 1) (answered (stand g mid) f) (IsWithin (stand g mid) (Some f)) (Err e) → OnlyOfRequests f e
-      → (IsAtRest g old → Leaves g new (IsWithin (stand g mid) (Some f))) → HaltsSo g old new a c (Err e) input
-  ends_early (halt.Fault fault outcome) h asked left = record {
-    count = n;
-    few = few (records_of input) n w.next.count;
-    asked = λ other. subst IsAsked (sym w.next.here) (asked other);
-    written = puts_behind a b c _ _ outcome w.written h.0;
-    state = λ is_open. moved (machine g new) (h.1 is_open);
-    undone = λ on. ap stand_of (h.2 on) ∙ w.state;
-    left = λ rests. leaves_more g new (IsWithin (stand g mid) (Some f)) _ moved (left rests);
-  }
+      → (IsAtRest g old → Leaves g new (IsWithin (stand g mid) (Some f))) → EndsSo g old new a c (Err (batch_fault e)) input
+  ends_early (halt.Fault fault outcome) h asked left = (
+    outcome,
+    record {
+      count = n;
+      few = few (records_of input) n w.next.count;
+      asked = λ other. subst IsAsked (sym w.next.here) (asked other);
+      written = puts_behind a b c _ _ outcome w.written h.0;
+      state = λ is_open. moved (machine g new) (h.1 is_open);
+      undone = λ on. ap stand_of (h.2 on) ∙ w.state;
+      left = λ rests. leaves_more g new (IsWithin (stand g mid) (Some f)) _ moved (left rests);
+    },
+  )
   ends_early (halt.Input cause) h asked left = absurd h
   ends_early (halt.Output failed) h asked left =
       let broken = subst (BreaksOff b c) same_line h.0 in
@@ -171,49 +174,29 @@ module _ {S R : Type 0} (g : Ghosts S) (old mid new : Seat S) (a b c : Option (L
       }
 
 -- an error that a `?` hands on
-pub ends_handed : {S : Type 0} (g : Ghosts S) (old new : Seat S) (a b : Option (List ℕ)) (r : Result Summary Halt) (e : Halt) (input : List ℕ)
-    → IsErrAnd r (λ y. y ≡ e) → HaltsSo g old new a b (Err e) input → HaltsSo g old new a b r input
+pub ends_handed : {S : Type 0} (g : Ghosts S) (old new : Seat S) (a b : Option (List ℕ)) (r : Result Summary BatchFault) (e : BatchFault) (input : List ℕ)
+    → IsErrAnd r (λ y. y ≡ e) → EndsSo g old new a b (Err e) input → EndsSo g old new a b r input
 ends_handed g old new a b (Ok s) e input is h = absurd is
-ends_handed g old new a b (Err y) e input is h = subst (λ z. HaltsSo g old new a b (Err z) input) (sym is) h
-
--- the same, told to the caller
-pub ends_told : {S : Type 0} (g : Ghosts S) (old new : Seat S) (a b : Option (List ℕ)) (r : Result Summary BatchFault) (e : Halt) (input : List ℕ)
-    → IsErrAnd r (λ y. y ≡ batch_fault e) → HaltsSo g old new a b (Err e) input → EndsSo g old new a b r input
-ends_told g old new a b (Ok s) e input is h = absurd is
-ends_told g old new a b (Err y) e input is h = subst (λ z. EndsSo g old new a b (Err z) input) (sym is) (by e h)
-  where
-    by : (e : Halt) → HaltsSo g old new a b (Err e) input → EndsSo g old new a b (Err (batch_fault e)) input
-    by (halt.Fault fault outcome) h = (outcome, h)
-    by (halt.Input cause) h = h
-    by (halt.Output failed) h = h
-
-pub stops_told : {T : Type 0} (r : Result T BatchFault) (e : Halt) → IsErrAnd r (λ y. y ≡ batch_fault e) → HaltsByFault {T = T} (Err e) → IsAgencyFault r
-stops_told {T} (Ok s) e is h = absurd is
-stops_told {T} (Err y) e is h = subst (λ z. IsAgencyFault {T = T} (Err z)) (sym is) (by e h)
-  where
-    by : (e : Halt) → HaltsByFault {T = T} (Err e) → IsAgencyFault {T = T} (Err (batch_fault e))
-    by (halt.Fault fault outcome) h = tt
-    by (halt.Input cause) h = absurd h
-    by (halt.Output failed) h = absurd h
+ends_handed g old new a b (Err y) e input is h = subst (λ z. EndsSo g old new a b (Err z) input) (sym is) h
 
 pub one_at_most : (is_refused : Bool) (k : ℕ) → k ≡ (if is_refused then 1 else 0) → k ≤ 1
 one_at_most true k h = omega arith
 one_at_most false k h = omega arith
 
 -- an agency that has not stopped after the record had not stopped before it
-pub still_on : (e : Halt) {before after : Bool} → (after ≡ before) ⊎ (HaltsByFault {T = Bool} (Err e) × (after ≡ true)) → after ≡ false → before ≡ false
-still_on e (inl same) h = sym same ∙ h
-still_on e (inr stopped) h = cc (stopped.1, h)
+pub still_on : {P : Type 0} {before after : Bool} → (after ≡ before) ⊎ (P × (after ≡ true)) → after ≡ false → before ≡ false
+still_on (inl same) h = sym same ∙ h
+still_on (inr stopped) h = cc (stopped.1, h)
 
 -- what a record's answer said of its end, said of the batch's
-pub halts_handed : {S : Type 0} (g : Ghosts S) (old mid new : Seat S) (r : Result Summary Halt) (e : Halt) → IsErrAnd r (λ y. y ≡ e)
-    → mid.is_stopped ≡ old.is_stopped → WasClean g old mid → (old.is_stopped ≡ true → mid ≡ old) → Halts {X = Bool} g mid new (Err e)
-    → Halts g old new r
+pub halts_handed : {S : Type 0} (g : Ghosts S) (old mid new : Seat S) (r : Result Summary BatchFault) (e : Halt) → IsErrAnd r (λ y. y ≡ batch_fault e)
+    → mid.is_stopped ≡ old.is_stopped → WasClean g old mid → (old.is_stopped ≡ true → mid ≡ old) → Halts {X = Bool} batch_fault g mid new (Err e)
+    → Halts (λ it. it) g old new r
 halts_handed g old mid new (Ok s) e is same clean unmoved did = absurd is
 halts_handed g old mid new (Err y) e is same clean unmoved did = record {
-  cause = λ live. subst (λ z. IsFirst (batch_fault z)) (sym is) (did.cause (same ∙ live));
-  stops = elim did.stops [ inl alike ↦ inl (alike ∙ same) | inr stopped ↦ inr (subst (λ z. HaltsByFault {T = Summary} (Err z)) (sym is) stopped.0, stopped.1) ];
-  store = λ store. did.store (subst (λ z. IsStoreFault (batch_fault z)) is store);
+  cause = λ live. subst IsFirst (sym is) (did.cause (same ∙ live));
+  stops = elim did.stops [ inl alike ↦ inl (alike ∙ same) | inr stopped ↦ inr (subst IsAgencyFault (sym is) stopped.0, stopped.1) ];
+  store = λ store. did.store (subst IsStoreFault is store);
   stopped = λ dead. did.stopped (same ∙ dead) ∙ unmoved dead;
   was_clean = omega (arith, clean, did.was_clean);
 }

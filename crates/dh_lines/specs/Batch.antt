@@ -1,6 +1,6 @@
 -- What a batch does to the tables, and what of its lines was written.
 use Rattle.std.specs.Prelude.{◌≡◌, ◌≢◌, ◌⊎◌, ◌≤◌, ◌<◌, ℕ, ◌+◌, ◌-◌, ◌^◌, Bool, true, false, List, ◌++◌, length, take, slice_get, Option, None, Some}
-use Rattle.std.specs.Prelude.{IfErr, MatchResult, Result, Ok, Err, ⊤}
+use Rattle.std.specs.Prelude.{IfErr, IsErrAnd, MatchResult, Result, Ok, Err, ⊤}
 use Rattle.std.specs.Io.KnownBytes.{Appends}
 use Rattle.csv.specs.declared.error.ErrorKind.{ErrorKind}
 use Rattle.csv.specs.declared.error.ErrorKind.TheVariants as kind
@@ -37,20 +37,10 @@ batch_fault (halt.Fault it outcome) = ended.Agency it
 batch_fault (halt.Input cause) = ended.Input cause
 batch_fault (halt.Output failed) = ended.Output failed
 
-abbrev pub IsFaultHalt : Halt → Type 0
-IsFaultHalt (halt.Fault it outcome) = ⊤
-IsFaultHalt (halt.Input cause) = ⊥
-IsFaultHalt (halt.Output failed) = ⊥
-
-abbrev pub HaltsByFault : {T : Type 0} → Result T Halt → Type 0
-HaltsByFault (Ok value) = ⊥
-HaltsByFault (Err it) = IsFaultHalt it
-
-abbrev pub IsAgencyFault : {T : Type 0} → Result T BatchFault → Type 0
-IsAgencyFault (Ok value) = ⊥
-IsAgencyFault (Err (ended.Agency it)) = ⊤
-IsAgencyFault (Err (ended.Input cause)) = ⊥
-IsAgencyFault (Err (ended.Output failed)) = ⊥
+abbrev pub IsAgencyFault : BatchFault → Type 0
+IsAgencyFault (ended.Agency it) = ⊤
+IsAgencyFault (ended.Input cause) = ⊥
+IsAgencyFault (ended.Output failed) = ⊥
 
 -- a fault that ends the batch of an agency that had not stopped before
 abbrev pub IsFirst : BatchFault → Type 0
@@ -120,10 +110,10 @@ Answers g old new a b n it P (Err (halt.Output failed)) = BreaksOff a b (numbere
 
 -- How answering ends: at a fault that the agency answers it has stopped, and at any other end it is as before. An agency that had stopped stays
 -- as it is.
-pub record Halts {S X : Type 0} (g : Ghosts S) (old new : Seat S) (result : Result X Halt) : Type 0 where
-  pub cause : old.is_stopped ≡ false → IfErr result (λ it. IsFirst (batch_fault it))
-  pub stops : (new.is_stopped ≡ old.is_stopped) ⊎ (HaltsByFault result × (new.is_stopped ≡ true))
-  pub store : IfErr result (λ it. IsStoreFault (batch_fault it) → new.is_stopped ≡ true)
+pub record Halts {S X E : Type 0} (fault_of : E → BatchFault) (g : Ghosts S) (old new : Seat S) (result : Result X E) : Type 0 where
+  pub cause : old.is_stopped ≡ false → IfErr result (λ it. IsFirst (fault_of it))
+  pub stops : (new.is_stopped ≡ old.is_stopped) ⊎ (IsErrAnd result (λ it. IsAgencyFault (fault_of it)) × (new.is_stopped ≡ true))
+  pub store : IfErr result (λ it. IsStoreFault (fault_of it) → new.is_stopped ≡ true)
   pub stopped : old.is_stopped ≡ true → new ≡ old
   pub was_clean : WasClean g old new
 
@@ -191,13 +181,6 @@ module _ {S : Type 0} (g : Ghosts S) (old new : Seat S) where
       pub written : Appends a b (lines_from 1 (stand g old) (take count (records_of input))
           ++ take cut (line (count + 1) (state_after (stand g old) (take count (records_of input))) fields))
       pub state : stand g new ≡ state_after (stand g old) (take (count + 1) (records_of input))
-
-    -- what the result says
-    abbrev pub HaltsSo : Result Summary Halt → List ℕ → Type 0
-    HaltsSo (Ok summary) input = AnsweredAll summary input
-    HaltsSo (Err (halt.Fault fault outcome)) input = Faulted fault outcome input
-    HaltsSo (Err (halt.Input cause)) input = AnsweredFirst cause input
-    HaltsSo (Err (halt.Output failed)) input = BrokeOff input
 
     -- what the result of a batch says, which does not tell whether the fault's line was written whole
     abbrev pub EndsSo : Result Summary BatchFault → List ℕ → Type 0

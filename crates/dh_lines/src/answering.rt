@@ -9,7 +9,7 @@ ghost use Rattle.dh_model.specs.Runs.{batch_size};
 ghost use Rattle.dh_agency.specs.Agency.{IsClean, Leaves, LeavesItsTables, machine, stand};
 ghost use Rattle.dh_agency.specs.Told.{IsCut};
 ghost use Rattle.dh_lines.specs.Session.{answered, replied, reported};
-ghost use Rattle.dh_lines.specs.Batch.{Answers, Halts, IsWithin, OnlyOfRequests, TellsFault, TellsReading};
+ghost use Rattle.dh_lines.specs.Batch.{Answers, Halts, IsWithin, OnlyOfRequests, TellsFault, TellsReading, batch_fault};
 
 use crate::outcome::Halt;
 use crate::replies::{put_answer_line, put_fault_line, put_refused_line, put_reply_line};
@@ -61,7 +61,7 @@ fn answer_command<S: Alter, W: Write>(
     ensures crash { IsClean S.Store agency.new → agency.old.is_stopped ≡ false
         → Leaves S.Store agency.new (IsCut command.now (machine S.Store agency.old)) }
     ensures left { IsClean S.Store agency.new → agency.new.is_stopped ≡ false → LeavesItsTables S.Store agency.new }
-    ensures halts { Halts S.Store agency.old agency.new result }
+    ensures halts { Halts batch_fault S.Store agency.old agency.new result }
 {
     match agency.step(alloc, command) {
         Ok(reply) => {
@@ -85,7 +85,7 @@ fn answer_question<S: Alter, W: Write>(
         (reported (stand S.Store agency.old) (report (stand S.Store agency.old) question)) (λ now. now ≡ machine S.Store agency.old) result }
     ensures crash { IsClean S.Store agency.new → agency.old.is_stopped ≡ false → Leaves S.Store agency.new (λ left. left ≡ machine S.Store agency.old) }
     ensures left { IsClean S.Store agency.new → agency.new.is_stopped ≡ false → LeavesItsTables S.Store agency.new }
-    ensures halts { Halts S.Store agency.old agency.new result }
+    ensures halts { Halts batch_fault S.Store agency.old agency.new result }
 {
     // A question is answered alike by the tables and by their whole.
     answers_pass_the_run();
@@ -115,7 +115,7 @@ pub fn answer<S: Alter, W: Write>(
     ensures crash { IsClean S.Store agency.new → agency.old.is_stopped ≡ false → LeavesItsTables S.Store agency.old
         → Leaves S.Store agency.new (IsWithin (stand S.Store agency.old) (Some (fields_of row.now))) }
     ensures left { IsClean S.Store agency.new → LeavesItsTables S.Store agency.old → agency.new.is_stopped ≡ false → LeavesItsTables S.Store agency.new }
-    ensures halts { Halts S.Store agency.old agency.new result }
+    ensures halts { Halts batch_fault S.Store agency.old agency.new result }
 {
     match read_line(alloc, row) {
         Ok(Ok(Request::Command(command))) => {

@@ -1,11 +1,11 @@
 //! Running a batch: each record is read, answered and its line written, and then the next one.
 
-ghost use Rattle.std.specs.Prelude.{◌≡◌, ◌⊎◌, true, false, IfSome, IfErr, if◌then◌else◌};
-ghost use Rattle.dh_agency.specs.Agency.{IsClean, LeavesItsTables, WasClean};
-ghost use Rattle.dh_lines.specs.Batch.{EndsSo, Halts, HaltsSo, IsAgencyFault, IsFirst, IsStoreFault, LeavesAnswered};
+ghost use Rattle.std.specs.Prelude.{◌≡◌, false, IfSome, if◌then◌else◌};
+ghost use Rattle.dh_agency.specs.Agency.{IsClean, LeavesItsTables};
+ghost use Rattle.dh_lines.specs.Batch.{EndsSo, Halts, LeavesAnswered};
 
 use crate::answering::{answer, end_by_reading};
-use crate::outcome::{BatchFault, Halt, Summary};
+use crate::outcome::{BatchFault, Summary};
 use crate::watching::{Input, Watching};
 use csv::{ByteRecord, ReaderBuilder};
 use dh_agency::Agency;
@@ -18,44 +18,6 @@ fn count_of(is_refused: bool) -> u64
     ensures { result ≡ (if is_refused then 1 else 0) }
 {
     is_refused as u64
-}
-
-// Answers each record of the input, and tells what came of writing a fault's line.
-fn answer_records<S: Alter, R: Read, W: Write>(
-    alloc: Global,
-    agency: &mut Agency<S>,
-    reader: &mut R,
-    writer: &mut W,
-) -> Result<Summary, Halt>
-    ensures ends { IsClean S.Store agency.new → IfSome (R.remaining reader.old)
-        (HaltsSo S.Store agency.old agency.new (W.contents writer.old) (W.contents writer.new) result) }
-    ensures crash { IsClean S.Store agency.new → agency.old.is_stopped ≡ false → LeavesItsTables S.Store agency.old
-        → LeavesAnswered S.Store agency.old agency.new }
-    ensures left { IsClean S.Store agency.new → LeavesItsTables S.Store agency.old → agency.new.is_stopped ≡ false → LeavesItsTables S.Store agency.new }
-    ensures halts { Halts S.Store agency.old agency.new result }
-{
-    let mut records = ReaderBuilder::new()
-        .has_headers(false)
-        .flexible(true)
-        .from_reader(alloc, Watching::new(reader));
-    let mut row = ByteRecord::new(alloc);
-    let mut refused = 0;
-    for n in 0..u64::MAX {
-        match records.read_byte_record(&mut row) {
-            Ok(true) => {}
-            Ok(false) => return Ok(Summary {
-                records: n,
-                refused,
-            }),
-            Err(error) => {
-                let failure = records.get_ref().failure();
-                return Err(end_by_reading(writer, n + 1, &error, failure));
-            }
-        }
-        let is_refused = answer(alloc, agency, n + 1, &row, writer)?;
-        refused += count_of(is_refused);
-    }
-    Err(Halt::Input(Input::full()))
 }
 
 /// Answers each record of the input by its line, which is written before the next record is read, and gives the counts
@@ -76,11 +38,29 @@ pub fn batch<S: Alter, R: Read, W: Write>(
     ensures crash { IsClean S.Store agency.new → agency.old.is_stopped ≡ false → LeavesItsTables S.Store agency.old
         → LeavesAnswered S.Store agency.old agency.new }
     ensures left { IsClean S.Store agency.new → LeavesItsTables S.Store agency.old → agency.new.is_stopped ≡ false → LeavesItsTables S.Store agency.new }
-    ensures cause { agency.old.is_stopped ≡ false → IfErr result IsFirst }
-    ensures stops { (agency.new.is_stopped ≡ agency.old.is_stopped) ⊎ (IsAgencyFault result × (agency.new.is_stopped ≡ true)) }
-    ensures store { IfErr result (λ it. IsStoreFault it → agency.new.is_stopped ≡ true) }
-    ensures stopped { agency.old.is_stopped ≡ true → agency.new ≡ agency.old }
-    ensures was_clean { WasClean S.Store agency.old agency.new }
+    ensures halts { Halts (λ it. it) S.Store agency.old agency.new result }
 {
-    Ok(answer_records(alloc, agency, reader, writer)?)
+    let mut records = ReaderBuilder::new()
+        .has_headers(false)
+        .flexible(true)
+        .from_reader(alloc, Watching::new(reader));
+    let mut row = ByteRecord::new(alloc);
+    let mut refused = 0;
+    for n in 0..u64::MAX {
+        match records.read_byte_record(&mut row) {
+            Ok(true) => {}
+            Ok(false) => return Ok(Summary {
+                records: n,
+                refused,
+            }),
+            Err(error) => {
+                let failure = records.get_ref().failure();
+                let halt = end_by_reading(writer, n + 1, &error, failure);
+                return Err(BatchFault::from(halt));
+            }
+        }
+        let is_refused = answer(alloc, agency, n + 1, &row, writer)?;
+        refused += count_of(is_refused);
+    }
+    Err(BatchFault::Input(Input::full()))
 }

@@ -309,10 +309,13 @@ module _ (old mid new : conn.State) (turned : TakesForward old mid) (same : HasC
     crash = λ clean sound.
         subst (λ (now : Database). Leaves new (IsTorn (state_in now.trees))) (now_same clean)
         (then.crash clean (subst (λ (now : Database). IsSound now.trees) (sym (now_same clean)) sound));
-    untouched = λ clean wrong.
-        subst (λ (now : Database). (left : Trees) → new.may_leave left → left ≡ now.trees) (now_same clean)
-        (then.untouched clean (unsound clean wrong));
-    unchanged = λ clean is_open wrong. let it = then.unchanged clean is_open (unsound clean wrong) in (it.0, it.1 ∙ now_same clean);
+    untouched = λ wrong. record {
+      was_clean = omega (arith, turned.was_clean, then.was_clean);
+      same = λ clean up. let it = (then.untouched (unsound clean wrong)).same clean up in (it.0, it.1 ∙ now_same clean);
+      crash = λ clean.
+          subst (λ (now : Database). (left : Trees) → new.may_leave left → left ≡ now.trees) (now_same clean)
+          ((then.untouched (unsound clean wrong)).crash clean);
+    };
   }
 
   pub mended_again : (a b : Option (List ℕ)) (status : Status) → (HasCleanDisk mid → GivesVersion First old.now.trees) → HasCleanDisk new

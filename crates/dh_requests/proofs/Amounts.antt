@@ -12,7 +12,7 @@ use Rattle.dh_requests.specs.declared.limits.TheConstants.{ROOM}
 use Rattle.dh_requests.specs.Heads.{HeadOf, IsHead}
 use Rattle.dh_requests.specs.Known.{IfBoth, TakesAtMost}
 use Rattle.dh_requests.proofs.Taking.{takes_both}
-use Rattle.dh_requests.specs.Requests.{IsAnnounced, MayNeedMemory, TakesRequest, turned_by_lines}
+use Rattle.dh_requests.specs.Requests.{IsAnnounced, MayNeedMemory, TakesMemory, TakesRequest}
 use Rattle.dh_requests.specs.Steps.{TakesBody}
 
 up : (a b : ℕ) → (a ≤ b) ⊎ (b < a) → (suc a ≤ suc b) ⊎ (suc b < suc a)
@@ -71,13 +71,13 @@ takes_request a b d buffer headers read head is t x f =
 -- memory ran out behind a head that stands in the buffer
 pub needs_memory : (a b : Option (List ℕ)) (buffer : List ℕ) (headers : List HeaderSpan) (read : HeadRead) (head : Head) → read ≡ Found head
     → IfBoth a b (λ input after. HeadOf input after buffer headers read)
-    → ((h : RequestHead) → IsRequestAt (take head.filled buffer) headers head.spans h → turned_by_lines h ≡ None)
+    → ((h : RequestHead) → IsRequestAt (take head.filled buffer) headers head.spans h → TakesMemory h)
     → IfSome a MayNeedMemory
 needs_memory a b buffer headers read head is x f =
     by a b (subst (λ r. IfBoth a b (λ input after. HeadOf input after buffer headers r)) is x) f
   where
     by : (a b : Option (List ℕ)) → IfBoth a b (λ input after. HeadOf input after buffer headers (Found head))
-        → ((h : RequestHead) → IsRequestAt (take head.filled buffer) headers head.spans h → turned_by_lines h ≡ None)
+        → ((h : RequestHead) → IsRequestAt (take head.filled buffer) headers head.spans h → TakesMemory h)
         → IfSome a MayNeedMemory
     by None b x f = tt
     by (Some input) None x f = absurd x

@@ -1,7 +1,7 @@
 -- Steps of the order in which a request is judged.
 use Rattle.std.proofs.Common.{◌≡◌, ◌≢◌, ◌++◌, ◌∷◌, [], Bor, false, List, ℕ, Option, Some, None, IfSome, ap, codes, drop, inl, inr, map, refl, subst, sym}
 use Rattle.std.proofs.Common.{take, nat_eq}
-use Rattle.std.specs.Prelude.{bytes_eq, option_map, slice_get}
+use Rattle.std.specs.Prelude.{MatchOption, bytes_eq, option_map, slice_get}
 use Rattle.std.specs.Cmp.Lexicographic.{pointwise}
 use Rattle.httparse.specs.Spans.{IsRequestAt}
 use Rattle.httparse.specs.declared.spans.HeaderSpan.{HeaderSpan}
@@ -18,7 +18,7 @@ use Rattle.dh_requests.specs.declared.routing.Route.TheVariants as route
 use Rattle.dh_requests.specs.declared.asked.Asked.{Asked}
 use Rattle.dh_requests.specs.declared.asked.Asked.TheVariants as asked
 use Rattle.dh_requests.specs.declared.asked.Turned.TheVariants as turned
-use Rattle.dh_requests.specs.Requests.{IsByMethod, IsOfHead, IsOfRoute, IsOfTarget, IsQuestionOf, MayAsk, is_question}
+use Rattle.dh_requests.specs.Requests.{IsByMethod, IsOfHead, IsOfRoute, IsOfTarget, IsQuestionOf, MayAsk, is_question, turned_by_lines}
 use Rattle.dh_requests.specs.Steps.{Behind}
 
 -- the route of a question is judged by GET
@@ -47,9 +47,19 @@ pub behind_weaker : (front : List ℕ) (left : Option (List ℕ)) (P Q : List �
 behind_weaker front None P Q f x = tt
 behind_weaker front (Some after) P Q f x = f (front ++ after) x
 
-pub not_found : (h : RequestHead) → ((any : Route) → ¬ IsTarget any h.target) → (it : Asked) → it ≡ asked.Turned turned.NotFound
-    → (front : List ℕ) (left : Option (List ℕ)) → Behind front left (λ rest. IsOfTarget h rest it)
-not_found h none it is front left = behind front left (λ rest. IsOfTarget h rest it) (λ rest. inl (none, is))
+-- a head whose lines do not turn it away
+of_head : (h : RequestHead) (rest : List ℕ) (it : Asked) → None ≡ turned_by_lines h → IsOfTarget h rest it → IsOfHead h rest it
+of_head h rest it none x = subst (λ o. MatchOption o (IsOfTarget h rest it) (λ why. it ≡ asked.Turned why)) none x
+
+pub found : (h : RequestHead) → None ≡ turned_by_lines h → (route : Route) → IsTarget route h.target → (it : Asked) (front : List ℕ) (left : Option (List ℕ))
+    → Behind front left (λ rest. IsOfRoute route h rest it) → Behind front left (λ rest. IsOfHead h rest it)
+found h none route is it front left x =
+    behind_weaker front left (λ rest. IsOfRoute route h rest it) (λ rest. IsOfHead h rest it) (λ rest y. of_head h rest it none (inr (route, is, y))) x
+
+pub not_found : (h : RequestHead) → None ≡ turned_by_lines h → ((any : Route) → ¬ IsTarget any h.target) → (front : List ℕ) (left : Option (List ℕ))
+    → Behind front left (λ rest. IsOfHead h rest (asked.Turned turned.NotFound))
+not_found h lines none front left =
+    behind front left (λ rest. IsOfHead h rest (asked.Turned turned.NotFound)) (λ rest. of_head h rest (asked.Turned turned.NotFound) lines (inl (none, refl)))
 
 -- a head that stands in the buffer begins the input
 pub may_ask : (a b : Option (List ℕ)) (buffer : List ℕ) (headers : List HeaderSpan) (read : HeadRead) (head : Head) (it : Asked) → read ≡ Found head

@@ -120,6 +120,10 @@ abbrev pub NeedsMemory : Route → RequestHead → Type 0
 NeedsMemory route.Commands h = (h.method ≡ codes "POST") × ((n : ℕ) × (body_length (values_in (codes "content-length") h) ≡ Bytes n))
 NeedsMemory other h = h.method ≡ codes "GET"
 
--- the bytes begin with a head within the limits, whose lines do not turn it away
+-- the lines of a head do not turn it away, and a request of its route takes memory
+abbrev pub TakesMemory : RequestHead → Type 0
+TakesMemory h = (turned_by_lines h ≡ None) × ((route : Route) × IsTarget route h.target × NeedsMemory route h)
+
+-- the bytes begin with such a head within the limits
 abbrev pub MayNeedMemory : List ℕ → Type 0
-MayNeedMemory input = (h : RequestHead) × (rest : List ℕ) × IsHead input h rest × (turned_by_lines h ≡ None)
+MayNeedMemory input = (h : RequestHead) × (rest : List ℕ) × IsHead input h rest × TakesMemory h

@@ -1,12 +1,14 @@
 -- Words of the steps to what a request asks for.
-use Rattle.std.specs.Prelude.{◌≡◌, ◌≢◌, ◌⊎◌, ℕ, ◌-◌, ◌≤◌, List, ◌++◌, length, take, codes, Option, IfSome}
+use Rattle.std.specs.Prelude.{◌≡◌, ◌≢◌, ◌⊎◌, ℕ, ◌-◌, ◌≤◌, List, ◌++◌, drop, length, take, codes, Option, IfSome}
 use Rattle.serde_json.specs.Data.{array}
 use Rattle.serde_json.specs.View.{items_view}
 use Rattle.serde_json.specs.declared.value.Value.{Value}
 use Rattle.httparse.specs.Grammar.{RequestHead}
+use Rattle.httparse.specs.Spans.{IsRequestAt, IsRequestWithin}
 use Rattle.dh_requests.specs.HeaderLines.{body_length}
 use Rattle.dh_requests.specs.Known.{TakesAtMost}
 use Rattle.dh_requests.specs.declared.header_lines.BodyLength.{BodyLength}
+use Rattle.dh_requests.specs.declared.judging.Found.{Found}
 use Rattle.dh_requests.specs.declared.header_lines.BodyLength.TheVariants.{Absent, Invalid, TooLarge, Bytes}
 use Rattle.dh_requests.specs.Texts.{AreTexts, list_of}
 use Rattle.dh_requests.specs.Requests.{IsAnnounced, posted, values_in}
@@ -19,6 +21,17 @@ abbrev pub IsListed : List Value → Asked → Type 0
 IsListed items it =
     (((texts : List (List ℕ)) → array (items_view items) ≢ list_of texts) × (it ≡ asked.Turned turned.BadRequest))
     ⊎ ((texts : List (List ℕ)) × (array (items_view items) ≡ list_of texts) × (it ≡ asked.Fields (posted texts)))
+
+-- the head that was found stands in the buffer, and is this one
+abbrev pub HoldsHead : Found → Type 0
+HoldsHead found = IsRequestWithin found.front.now found.headers.now found.spans
+
+abbrev pub IsHeadOf : Found → RequestHead → Type 0
+IsHeadOf found h = IsRequestAt found.front.now found.headers.now found.spans h
+
+-- what was read behind it
+abbrev pub read_behind : Found → List ℕ
+read_behind found = drop found.spans.len found.front.now
 
 -- P of what follows the head, where the reader's bytes are known: what was read already, and what is left
 abbrev pub Behind : List ℕ → Option (List ℕ) → (List ℕ → Type 0) → Type 0

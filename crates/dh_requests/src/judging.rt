@@ -1,20 +1,19 @@
 //! Judging a request by its head.
 
-ghost use Rattle.std.specs.Prelude.{◌≡◌, ◌↔◌, ◌≢◌, ◌∷◌, ℕ, List, map, length, drop, All, IsTrue, IfOk, IfSome, Err, codes};
+ghost use Rattle.std.specs.Prelude.{◌≡◌, ◌↔◌, ◌≢◌, ◌∷◌, ℕ, List, map, length, All, IsTrue, IfOk, Err, codes};
 ghost use Rattle.httparse.specs.Grammar.{RequestHead};
-ghost use Rattle.httparse.specs.Spans.{IsHeaderWithin, IsRequestAt, IsRequestWithin};
+ghost use Rattle.httparse.specs.Spans.{IsHeaderWithin};
 ghost use Rattle.dh_requests.specs.Targets.{IsTarget};
-ghost use Rattle.dh_requests.specs.declared.routing.Route.{Route as AnyRoute};
-ghost use Rattle.dh_requests.specs.Requests.{IsByMethod, IsOfHead, IsOfRoute, IsOfTarget, IsQuestionOf, NeedsMemory, taken_as, turned_by_lines};
+ghost use Rattle.dh_requests.specs.Requests.{IsByMethod, IsOfHead, IsOfRoute, IsQuestionOf, NeedsMemory, TakesMemory, taken_as, turned_by_lines};
 ghost use Rattle.dh_fields.specs.Lines.{request_of};
-ghost use Rattle.dh_requests.specs.Steps.{Behind, TakesBody, TakesOrder};
+ghost use Rattle.dh_requests.specs.Steps.{Behind, HoldsHead, IsHeadOf, TakesBody, TakesOrder, read_behind};
 
 use crate::asked::{Asked, Turned};
 use crate::failure::Failure;
 use crate::header_lines::{body_length, count};
 use crate::pieces::pieces_of;
 use crate::posting::judge_command;
-use crate::routing::{Route, route_of, router};
+use crate::routing::{Route, Routes};
 use crate::unread::Unread;
 use dh_fields::{Request, read_fields};
 use dh_types::Refusal;
@@ -40,8 +39,8 @@ fn is_method(method: &[u8], wanted: &[u8]) -> bool
 
 // Why the header lines turn the request away, if they do.
 fn turned_by_lines(found: &Found) -> Option<Turned>
-    requires { IsRequestWithin found.now.front.now found.now.headers.now found.now.spans }
-    ensures { (h : RequestHead) → IsRequestAt found.now.front.now found.now.headers.now found.now.spans h → result ≡ turned_by_lines h }
+    requires { HoldsHead found.now }
+    ensures { (h : RequestHead) → IsHeadOf found.now h → result ≡ turned_by_lines h }
 {
     let lines = &found.headers[..found.spans.headers];
     if found.spans.version == 1 && count(found.front, lines, b"host") != 1 {
@@ -55,24 +54,14 @@ fn turned_by_lines(found: &Found) -> Option<Turned>
 
 // The request's target. In the grammar of heads it is a text.
 fn target_of<'a>(found: &Found<'a>) -> &'a str
-    requires at { (h : RequestHead) × IsRequestAt found.now.front.now found.now.headers.now found.now.spans h }
-    requires within { IsRequestWithin found.now.front.now found.now.headers.now found.now.spans }
-    ensures { (h : RequestHead) → IsRequestAt found.now.front.now found.now.headers.now found.now.spans h → result.now ≡ h.target }
+    requires at { (h : RequestHead) × IsHeadOf found.now h }
+    requires within { HoldsHead found.now }
+    ensures { (h : RequestHead) → IsHeadOf found.now h → result.now ≡ h.target }
 {
     match str::from_utf8(found.spans.path.of(found.front)) {
         Ok(target) => target,
         Err(_) => unreachable!(),
     }
-}
-
-// The route of a target.
-fn find_route(alloc: Global, target: &str) -> Result<Option<Route>, Unread>
-    ensures found { IfOk result (λ route. IfSome route (λ it. IsTarget it target.now)) }
-    ensures none { IfOk result (λ route. route ≡ None → (any : AnyRoute) → ¬ IsTarget any target.now) }
-    ensures lost { result ≢ Err Unread.Input }
-{
-    let router = router(alloc)?;
-    Ok(route_of(&router, target))
 }
 
 // The request of the question of a word, with as many pieces.
@@ -135,14 +124,11 @@ fn judge_order<R: Read>(
     failure: &mut Failure,
     found: &Found,
 ) -> Result<Asked, Unread>
-    requires { IsRequestWithin found.now.front.now found.now.headers.now found.now.spans }
-    ensures asks { (h : RequestHead) → IsRequestAt found.now.front.now found.now.headers.now found.now.spans h
-        → IfOk result (λ asked. Behind (drop found.now.spans.len found.now.front.now) (R.remaining reader.old)
-        (λ rest. IsOfRoute Route.Commands h rest asked)) }
-    ensures taken { (h : RequestHead) → IsRequestAt found.now.front.now found.now.headers.now found.now.spans h
-        → TakesOrder h (drop found.now.spans.len found.now.front.now) (R.remaining reader.old) (R.remaining reader.new) }
-    ensures memory { result ≡ Err Unread.Memory → (h : RequestHead) → IsRequestAt found.now.front.now found.now.headers.now found.now.spans h
-        → NeedsMemory Route.Commands h }
+    requires { HoldsHead found.now }
+    ensures asks { (h : RequestHead) → IsHeadOf found.now h
+        → IfOk result (λ asked. Behind (read_behind found.now) (R.remaining reader.old) (λ rest. IsOfRoute Route.Commands h rest asked)) }
+    ensures taken { (h : RequestHead) → IsHeadOf found.now h → TakesOrder h (read_behind found.now) (R.remaining reader.old) (R.remaining reader.new) }
+    ensures memory { result ≡ Err Unread.Memory → (h : RequestHead) → IsHeadOf found.now h → NeedsMemory Route.Commands h }
     ensures lost { result ≡ Err Unread.Input → IsTrue failure.new.noted }
 {
     if !is_method(found.spans.method.of(found.front), b"POST") {
@@ -167,14 +153,13 @@ fn judge_route<R: Read>(
     route: Route,
     target: &str,
 ) -> Result<Asked, Unread>
-    requires within { IsRequestWithin found.now.front.now found.now.headers.now found.now.spans }
+    requires within { HoldsHead found.now }
     requires target { IsTarget route target.now }
-    ensures asks { (h : RequestHead) → IsRequestAt found.now.front.now found.now.headers.now found.now.spans h → target.now ≡ h.target
-        → IfOk result (λ asked. Behind (drop found.now.spans.len found.now.front.now) (R.remaining reader.old) (λ rest. IsOfRoute route h rest asked)) }
-    ensures taken { (h : RequestHead) → IsRequestAt found.now.front.now found.now.headers.now found.now.spans h → target.now ≡ h.target
-        → TakesBody h (drop found.now.spans.len found.now.front.now) (R.remaining reader.old) (R.remaining reader.new) }
-    ensures memory { result ≡ Err Unread.Memory → (h : RequestHead) → IsRequestAt found.now.front.now found.now.headers.now found.now.spans h
-        → target.now ≡ h.target → NeedsMemory route h }
+    ensures asks { (h : RequestHead) → IsHeadOf found.now h → target.now ≡ h.target
+        → IfOk result (λ asked. Behind (read_behind found.now) (R.remaining reader.old) (λ rest. IsOfRoute route h rest asked)) }
+    ensures taken { (h : RequestHead) → IsHeadOf found.now h → target.now ≡ h.target
+        → TakesBody h (read_behind found.now) (R.remaining reader.old) (R.remaining reader.new) }
+    ensures memory { result ≡ Err Unread.Memory → (h : RequestHead) → IsHeadOf found.now h → target.now ≡ h.target → NeedsMemory route h }
     ensures lost { result ≡ Err Unread.Input → IsTrue failure.new.noted }
 {
     match route {
@@ -186,47 +171,30 @@ fn judge_route<R: Read>(
     }
 }
 
-// What a request asks for whose header lines do not turn it away.
-fn judge_target<R: Read>(
-    alloc: Global,
-    reader: &mut R,
-    failure: &mut Failure,
-    found: &Found,
-) -> Result<Asked, Unread>
-    requires at { (h : RequestHead) × IsRequestAt found.now.front.now found.now.headers.now found.now.spans h }
-    requires within { IsRequestWithin found.now.front.now found.now.headers.now found.now.spans }
-    ensures asks { (h : RequestHead) → IsRequestAt found.now.front.now found.now.headers.now found.now.spans h
-        → IfOk result (λ asked. Behind (drop found.now.spans.len found.now.front.now) (R.remaining reader.old) (λ rest. IsOfTarget h rest asked)) }
-    ensures taken { (h : RequestHead) → IsRequestAt found.now.front.now found.now.headers.now found.now.spans h
-        → TakesBody h (drop found.now.spans.len found.now.front.now) (R.remaining reader.old) (R.remaining reader.new) }
-    ensures lost { result ≡ Err Unread.Input → IsTrue failure.new.noted }
-{
-    let target = target_of(found);
-    match find_route(alloc, target)? {
-        Some(route) => judge_route(alloc, reader, failure, found, route, target),
-        None => Ok(Asked::Turned(Turned::NotFound)),
-    }
-}
-
 /// What a request with a head within the limits asks for.
 pub(crate) fn judge<R: Read>(
     alloc: Global,
+    routes: &Routes,
     reader: &mut R,
     failure: &mut Failure,
     found: &Found,
 ) -> Result<Asked, Unread>
-    requires at { (h : RequestHead) × IsRequestAt found.now.front.now found.now.headers.now found.now.spans h }
-    requires within { IsRequestWithin found.now.front.now found.now.headers.now found.now.spans }
-    ensures asks { (h : RequestHead) → IsRequestAt found.now.front.now found.now.headers.now found.now.spans h
-        → IfOk result (λ asked. Behind (drop found.now.spans.len found.now.front.now) (R.remaining reader.old) (λ rest. IsOfHead h rest asked)) }
-    ensures taken { (h : RequestHead) → IsRequestAt found.now.front.now found.now.headers.now found.now.spans h
-        → TakesBody h (drop found.now.spans.len found.now.front.now) (R.remaining reader.old) (R.remaining reader.new) }
-    ensures memory { result ≡ Err Unread.Memory → (h : RequestHead) → IsRequestAt found.now.front.now found.now.headers.now found.now.spans h
-        → turned_by_lines h ≡ None }
+    requires at { (h : RequestHead) × IsHeadOf found.now h }
+    requires within { HoldsHead found.now }
+    ensures asks { (h : RequestHead) → IsHeadOf found.now h
+        → IfOk result (λ asked. Behind (read_behind found.now) (R.remaining reader.old) (λ rest. IsOfHead h rest asked)) }
+    ensures taken { (h : RequestHead) → IsHeadOf found.now h → TakesBody h (read_behind found.now) (R.remaining reader.old) (R.remaining reader.new) }
+    ensures memory { result ≡ Err Unread.Memory → (h : RequestHead) → IsHeadOf found.now h → TakesMemory h }
     ensures lost { result ≡ Err Unread.Input → IsTrue failure.new.noted }
 {
     match turned_by_lines(found) {
         Some(why) => Ok(Asked::Turned(why)),
-        None => judge_target(alloc, reader, failure, found),
+        None => {
+            let target = target_of(found);
+            match routes.of(target) {
+                Some(route) => judge_route(alloc, reader, failure, found, route, target),
+                None => Ok(Asked::Turned(Turned::NotFound)),
+            }
+        }
     }
 }

@@ -22,4 +22,5 @@ pub use asked::{Asked, Turned};
 pub use head::one_outcome;
 pub use reading::read_request;
 pub use reply_body::reply;
+pub use routing::Routes;
 pub use unread::Unread;

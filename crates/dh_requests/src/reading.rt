@@ -8,6 +8,7 @@ use crate::failure::Failure;
 use crate::head::{HeadRead, read_head};
 use crate::judging::{Found, judge};
 use crate::limits::{HEADER_LINES, ROOM};
+use crate::routing::Routes;
 use crate::unread::Unread;
 use httparse::spans::EMPTY_HEADER_SPAN;
 use std::alloc::Global;
@@ -17,6 +18,7 @@ use std::io::Read;
 /// the end of input. `Input` is told only where the reader failed, which is noted then.
 pub(crate) fn read_noting<R: Read>(
     alloc: Global,
+    routes: &Routes,
     reader: &mut R,
     failure: &mut Failure,
 ) -> Result<Option<Asked>, Unread>
@@ -34,7 +36,7 @@ pub(crate) fn read_noting<R: Read>(
                 headers: &headers,
                 spans: head.spans,
             };
-            Ok(Some(judge(alloc, reader, failure, &found)?))
+            Ok(Some(judge(alloc, routes, reader, failure, &found)?))
         }
         Ok(HeadRead::Bad) => Ok(Some(Asked::Turned(Turned::BadRequest))),
         Ok(HeadRead::Large) => Ok(Some(Asked::Turned(Turned::HeadTooLarge))),
@@ -44,11 +46,15 @@ pub(crate) fn read_noting<R: Read>(
 }
 
 /// The same, where nobody asks for the note.
-pub fn read_request<R: Read>(alloc: Global, reader: &mut R) -> Result<Option<Asked>, Unread>
+pub fn read_request<R: Read>(
+    alloc: Global,
+    routes: &Routes,
+    reader: &mut R,
+) -> Result<Option<Asked>, Unread>
     ensures asks { IfOk result (λ found. IfSome (R.remaining reader.old) (λ input. MatchOption found (input ≡ []) (λ asked. MayAsk input asked))) }
     ensures taken { TakesRequest (R.remaining reader.old) (R.remaining reader.new) }
     ensures memory { result ≡ Err Unread.Memory → IfSome (R.remaining reader.old) MayNeedMemory }
 {
     let mut failure = Failure::none();
-    read_noting(alloc, reader, &mut failure)
+    read_noting(alloc, routes, reader, &mut failure)
 }

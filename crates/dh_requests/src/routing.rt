@@ -6,7 +6,7 @@ ghost use Rattle.dh_requests.specs.Targets.{IsTarget};
 ghost use Rattle.dh_requests.specs.declared.routing.Route.{Route as AnyRoute};
 
 use matchit::{InsertError, Router};
-use std::alloc::Global;
+use std::alloc::{AllocError, Global};
 
 /// What a target names.
 #[derive(Clone, Copy, Debug, PartialEq, Eq)]
@@ -48,8 +48,8 @@ impl Route {
     }
 }
 
-/// A router of all routes. An error comes only for want of memory.
-pub(crate) fn router(alloc: Global) -> Result<Router<Route>, InsertError>
+// A router of all routes. An error comes only for want of memory.
+fn router(alloc: Global) -> Result<Router<Route>, InsertError>
     ensures { IfOk result (λ router. router ≡ routes) }
 {
     let mut router = Router::new(alloc);
@@ -64,14 +64,30 @@ pub(crate) fn router(alloc: Global) -> Result<Router<Route>, InsertError>
     Ok(router)
 }
 
-/// The route that a target names, if it names one.
-pub(crate) fn route_of(router: &Router<Route>, target: &str) -> Option<Route>
-    requires { router.now ≡ routes }
-    ensures found { IfSome result (λ route. IsTarget route target.now) }
-    ensures none { IfNone result ((route : AnyRoute) → ¬ IsTarget route target.now) }
-{
-    match router.at(target) {
-        Ok(found) => Some(*found.value),
-        Err(_) => None,
+/// All routes, made once for many requests.
+#[derive(Drop)]
+pub struct Routes {
+    router: Router<Route>,
+    ghost all: { router ≡ routes },
+}
+
+impl Routes {
+    /// All routes. An error comes only for want of memory.
+    pub fn new(alloc: Global) -> Result<Routes, AllocError> {
+        match router(alloc) {
+            Ok(router) => Ok(Routes { router }),
+            Err(_) => Err(AllocError),
+        }
+    }
+
+    /// The route that a target names, if it names one.
+    pub(crate) fn of(&self, target: &str) -> Option<Route>
+        ensures found { IfSome result (λ route. IsTarget route target.now) }
+        ensures none { IfNone result ((route : AnyRoute) → ¬ IsTarget route target.now) }
+    {
+        match self.router.at(target) {
+            Ok(found) => Some(*found.value),
+            Err(_) => None,
+        }
     }
 }

@@ -3,7 +3,6 @@
 ghost use Rattle.std.specs.Prelude.{◌≡◌};
 ghost use Rattle.dh_requests.specs.declared.unread.Unread.TheVariants as unread;
 
-use matchit::InsertError;
 use std::alloc::AllocError;
 
 /// Why no request was read.
@@ -19,14 +18,6 @@ impl From<AllocError> for Unread {
     ghost from_gives = { λ _ e. e ≡ unread.Memory };
 
     fn from(_: AllocError) -> Unread {
-        Unread::Memory
-    }
-}
-
-impl From<InsertError> for Unread {
-    ghost from_gives = { λ _ e. e ≡ unread.Memory };
-
-    fn from(_: InsertError) -> Unread {
         Unread::Memory
     }
 }

@@ -2,7 +2,8 @@ use Rattle.std.proofs.Common.{◌≡◌, ◌∙◌, [], ℕ, List, Option, ap, a
 use Rattle.dh_schema.specs.Faults.{IsFirstFault}
 use Rattle.dh_http.specs.Printed.{PrintsBehind}
 use Rattle.dh_http.specs.Service.{ServesOn}
-use Rattle.dh_http.proofs.PrintedLemmas.{goes_on_told, halt_told, is_fault, is_output, served_more, served_none, served_to_break, served_to_fault, served_to_halt}
+use Rattle.dh_http.proofs.PrintedLemmas.{goes_on_told, halt_told, is_fault, is_output, served_more, served_none}
+use Rattle.dh_http.proofs.PrintedLemmas.{served_to_break, served_to_fault, served_to_halt}
 use Rattle.dh_http.proofs.connections.serve_connections.Goals as goal
 
 pub loop-served-init : goal.loop-served-init

@@ -45,7 +45,8 @@ returns-in-Ok-close-clause-ends g c =
     let same = c.into_store.ensures in
     let is = c.month.ensures.value in
     let begun = began (over_files {g = g.D.Disk}) c.args.conn c.into_store.result c.in-Ok.agency same c.args.first c.month.result is c.in-Ok.ensures.begun.1 in
-    let left = left (over_files {g = g.D.Disk}) c.args.conn c.into_store.result c.in-Ok.agency same c.args.first c.month.result is c.in-Ok.ensures.made in record {
+    let left = left (over_files {g = g.D.Disk}) c.args.conn c.into_store.result c.in-Ok.agency same c.args.first c.month.result is
+    c.in-Ok.ensures.made in record {
       last = c.into_store.result;
       was_clean = still_clean _ _ c.args.first left;
       left = left;
@@ -63,7 +64,8 @@ returns-in-Err-close-clause-ends g c =
     let same = c.into_store.ensures in
     let is = c.month.ensures.value in
     let begun = began (over_files {g = g.D.Disk}) c.args.conn c.into_store.result c.in-Ok.agency same c.args.first c.month.result is c.in-Ok.ensures.begun.1 in
-    let left = left (over_files {g = g.D.Disk}) c.args.conn c.into_store.result c.in-Ok.agency same c.args.first c.month.result is c.in-Ok.ensures.made in record {
+    let left = left (over_files {g = g.D.Disk}) c.args.conn c.into_store.result c.in-Ok.agency same c.args.first c.month.result is
+    c.in-Ok.ensures.made in record {
       last = c.into_store.result;
       was_clean = still_clean _ _ c.args.first left;
       left = left;

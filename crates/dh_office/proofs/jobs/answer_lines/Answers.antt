@@ -20,7 +20,7 @@ returns-in-Ok-clause-crash g c clean rests =
     let old = c.args.agency.now in
     let mid = c.batch.new.agency in
     let at : IsClean g.S.Store mid = omega (arith, c.finish.ensures.was_clean) in
-    let left = c.in-Ok.ensures.left at rests (goes_on old.is_stopped mid.is_stopped c.requires c.in-Ok.ensures.stops) in
+    let left = c.in-Ok.ensures.left at rests (goes_on old.is_stopped mid.is_stopped c.requires c.in-Ok.ensures.halts.stops) in
     lines_left g.S.Store old mid c.finish.new.agency (c.in-Ok.ensures.crash at c.requires rests) left (c.finish.ensures.crash clean left)
 
 pub returns-in-Ok-clause-kept : goal.returns-in-Ok-clause-kept
@@ -28,7 +28,7 @@ returns-in-Ok-clause-kept g c rests clean =
     let old = c.args.agency.now in
     let mid = c.batch.new.agency in
     let at : IsClean g.S.Store mid = omega (arith, c.finish.ensures.was_clean, clean) in
-    c.finish.ensures.kept (c.in-Ok.ensures.left at rests (goes_on old.is_stopped mid.is_stopped c.requires c.in-Ok.ensures.stops)) clean
+    c.finish.ensures.kept (c.in-Ok.ensures.left at rests (goes_on old.is_stopped mid.is_stopped c.requires c.in-Ok.ensures.halts.stops)) clean
 
 pub returns-in-Err-clause-ends : goal.returns-in-Err-clause-ends
 returns-in-Err-clause-ends g c clean =

@@ -28,7 +28,7 @@ returns-in-Ok-clause-ends g c clean =
     let first : IsClean g.S.Store taken = omega (arith, c.serve-outcome.ensures.was_clean, still) in
     let served = did.1 (stand g.S.Store taken) [] (λ at. begins g.S.Store taken c.in-Ok.ensures.taken.0 (c.in-Ok.ensures.left at)) still in
     inl (
-      c.in-Ok.ensures.sound first,
+      c.in-Ok.ensures.takes.taken first,
       serving_ends g.S.Store after c.into_store.result c.into_store.ensures c.args.conn taken (c.in-Ok.ensures.taken.1 first) did.0 served _ _
           c.args.service c.tell_served-status.result
           (λ is. served_whole c.serve-outcome.result _ _ c.tell_served-status.result c.tell_served-status.ensures (subst IsAnswered (sym is) tt)
@@ -59,7 +59,7 @@ returns-in-Ok-clause-crash g c =
 
 pub returns-in-Err-clause-printed : goal.returns-in-Err-clause-printed
 returns-in-Err-clause-printed g c =
-    inr (problem_prints c.in-Err.field-0.cause _ _ c.tell_problem.result c.in-Err.ensures.cause c.tell_problem.ensures)
+    inr (problem_prints c.in-Err.field-0.cause _ _ c.tell_problem.result c.in-Err.ensures.takes.cause c.tell_problem.ensures)
 
 pub returns-in-Err-clause-crash : goal.returns-in-Err-clause-crash
 returns-in-Err-clause-crash g c = kept_serving (state g.S.Store c.args.conn) (state g.S.Store c.in-Err.field-0.conn) c.in-Err.ensures.crash
@@ -77,3 +77,10 @@ returns-in-Ok-clause-kept g c =
 
 pub returns-in-Err-clause-kept : goal.returns-in-Err-clause-kept
 returns-in-Err-clause-kept g c clean answered = absurd (unanswered c.in-Err.field-0.cause _ _ c.tell_problem.result c.tell_problem.ensures answered)
+
+pub returns-in-Err-clause-ends : goal.returns-in-Err-clause-ends
+returns-in-Err-clause-ends g c clean =
+    inr (
+      record { problem = c.in-Err.field-0.cause; cause = c.in-Err.ensures.takes.refused clean; told = c.tell_problem.ensures },
+      c.in-Err.ensures.crash,
+    )

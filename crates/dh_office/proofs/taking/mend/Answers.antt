@@ -23,7 +23,7 @@ returns-in-Ok-clause-ends g c clean =
     let made = c.in-Ok.agency in
     let at = was_clean g.S.Store made c.into_store.result c.into_store.ensures clean in
     inl (
-      inr (c.in-Ok.ensures.sound at),
+      inr (c.in-Ok.ensures.takes.taken at),
       back g.S.Store made c.into_store.result c.into_store.ensures (λ new. IsMended (tables (state g.S.Store c.args.conn)) (tables new))
           (c.in-Ok.ensures.mended.1 at),
       puts_as c.print_recovered.result recovered_line Done c.heard.result _ _ c.heard.ensures c.print_recovered.ensures,
@@ -34,26 +34,26 @@ returns-then-is_first-clause-ends g c clean =
     let old = state g.S.Store c.args.conn in
     let is = c.is_first.ensures.0 c.if-is_first.true in
     mended_again old (state g.S.Store c.in-Err.field-0.conn) (state g.S.Store c.mend_first.result.1) c.in-Err.ensures.crash
-    (λ at. c.in-Err.ensures.of_version at (subst IsOfVersion (sym is) tt))
+    (λ at. c.in-Err.ensures.takes.of_version at (subst IsOfVersion (sym is) tt))
     c.mend_first.ensures.crash _ _ c.mend_first.result.0
-    (λ at. (subst (IsProblemOf Second old.now.trees) is (c.in-Err.ensures.refused at)).0)
+    (λ at. (subst (IsProblemOf Second old.now.trees) is (c.in-Err.ensures.takes.refused at)).0)
     clean (c.mend_first.ensures.ends clean)
 
 pub returns-then-is_first-clause-crash : goal.returns-then-is_first-clause-crash
 returns-then-is_first-clause-crash g c =
     let is = c.is_first.ensures.0 c.if-is_first.true in
     forward_again (state g.S.Store c.args.conn) (state g.S.Store c.in-Err.field-0.conn) (state g.S.Store c.mend_first.result.1) c.in-Err.ensures.crash
-    (λ at. c.in-Err.ensures.of_version at (subst IsOfVersion (sym is) tt)) c.mend_first.ensures.crash
+    (λ at. c.in-Err.ensures.takes.of_version at (subst IsOfVersion (sym is) tt)) c.mend_first.ensures.crash
 
 pub returns-else-is_first-clause-printed : goal.returns-else-is_first-clause-printed
 returns-else-is_first-clause-printed g c =
-    inr (problem_prints c.in-Err.field-0.cause _ _ c.tell_problem.result c.in-Err.ensures.cause c.tell_problem.ensures)
+    inr (problem_prints c.in-Err.field-0.cause _ _ c.tell_problem.result c.in-Err.ensures.takes.cause c.tell_problem.ensures)
 
 pub returns-else-is_first-clause-ends : goal.returns-else-is_first-clause-ends
 returns-else-is_first-clause-ends g c clean =
     let cause =
     second_cause (state g.S.Store c.args.conn).now.trees c.in-Err.field-0.cause
-    (λ is. false≢true (sym c.if-is_first.false ∙ c.is_first.ensures.1 is)) (c.in-Err.ensures.refused clean) in
+    (λ is. false≢true (sym c.if-is_first.false ∙ c.is_first.ensures.1 is)) (c.in-Err.ensures.takes.refused clean) in
     inr (record { problem = c.in-Err.field-0.cause; cause = cause; told = c.tell_problem.ensures }, c.in-Err.ensures.crash)
 
 pub returns-in-Ok-clause-kept : goal.returns-in-Ok-clause-kept

@@ -14,17 +14,17 @@ returns-in-Ok-clause-printed g c =
 pub returns-in-Ok-clause-ends : goal.returns-in-Ok-clause-ends
 returns-in-Ok-clause-ends g c clean =
     inl (
-      c.in-Ok.ensures.sound clean,
+      c.in-Ok.ensures.takes.taken clean,
       (c.in-Ok.ensures.mended clean).1,
       puts_as c.print_recovered.result recovered_line Done c.heard.result _ _ c.heard.ensures c.print_recovered.ensures,
     )
 
 pub returns-in-Err-clause-printed : goal.returns-in-Err-clause-printed
-returns-in-Err-clause-printed g c = inr (problem_prints c.in-Err.field-0.cause _ _ c.tell_problem.result c.in-Err.ensures.cause c.tell_problem.ensures)
+returns-in-Err-clause-printed g c = inr (problem_prints c.in-Err.field-0.cause _ _ c.tell_problem.result c.in-Err.ensures.takes.cause c.tell_problem.ensures)
 
 pub returns-in-Err-clause-ends : goal.returns-in-Err-clause-ends
 returns-in-Err-clause-ends g c clean =
-    inr (record { problem = c.in-Err.field-0.cause; cause = c.in-Err.ensures.refused clean; told = c.tell_problem.ensures }, c.in-Err.ensures.crash)
+    inr (record { problem = c.in-Err.field-0.cause; cause = c.in-Err.ensures.takes.refused clean; told = c.tell_problem.ensures }, c.in-Err.ensures.crash)
 
 pub returns-in-Err-clause-kept : goal.returns-in-Err-clause-kept
 returns-in-Err-clause-kept g c clean answered = absurd (unanswered c.in-Err.field-0.cause _ _ c.tell_problem.result c.tell_problem.ensures answered)

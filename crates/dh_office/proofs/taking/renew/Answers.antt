@@ -19,19 +19,20 @@ returns-in-Ok-clause-ends g c clean =
     let made = c.in-Ok.agency in
     let at = was_clean g.S.Store made c.into_store.result c.into_store.ensures clean in
     inl (
-      c.in-Ok.ensures.taken at,
+      c.in-Ok.ensures.takes.taken at,
       back g.S.Store made c.into_store.result c.into_store.ensures (λ new. tables new ≡ migrated_state (tables (state g.S.Store c.args.conn)))
           (c.in-Ok.ensures.migrated.1 at),
       puts_as c.print_migrated.result migrated_line Done c.heard.result _ _ c.heard.ensures c.print_migrated.ensures,
     )
 
 pub returns-in-Err-clause-printed : goal.returns-in-Err-clause-printed
-returns-in-Err-clause-printed g c = inr (not_migrated_prints c.in-Err.field-0.cause _ _ c.tell_problem.result c.in-Err.ensures.cause c.tell_problem.ensures)
+returns-in-Err-clause-printed g c =
+    inr (not_migrated_prints c.in-Err.field-0.cause _ _ c.tell_problem.result c.in-Err.ensures.takes.cause c.tell_problem.ensures)
 
 pub returns-in-Err-clause-ends : goal.returns-in-Err-clause-ends
 returns-in-Err-clause-ends g c clean =
     inr (
-      record { problem = c.in-Err.field-0.cause; cause = c.in-Err.ensures.refused clean; told = c.tell_problem.ensures },
+      record { problem = c.in-Err.field-0.cause; cause = c.in-Err.ensures.takes.refused clean; told = c.tell_problem.ensures },
       c.in-Err.ensures.stays clean,
     )
 

@@ -12,13 +12,13 @@ returns-in-Ok-clause-ends g c clean =
     let now = was_clean g.S.Store after last c.into_store.ensures clean in
     let first : IsClean g.S.Store taken = omega (arith, c.carry_out-status.ensures.was_clean, now) in
     inl (
-      c.in-Ok.ensures.sound first,
+      c.in-Ok.ensures.takes.taken first,
       work_ends g.S.Store after last c.into_store.ensures _ _ c.carry_out-status.result c.args.conn taken (c.in-Ok.ensures.taken.1 first) _ c.args.work
           (c.carry_out-status.ensures.ends now),
     )
 
 pub returns-in-Err-clause-printed : goal.returns-in-Err-clause-printed
-returns-in-Err-clause-printed g c = inr (problem_prints c.in-Err.field-0.cause _ _ c.tell_problem.result c.in-Err.ensures.cause c.tell_problem.ensures)
+returns-in-Err-clause-printed g c = inr (problem_prints c.in-Err.field-0.cause _ _ c.tell_problem.result c.in-Err.ensures.takes.cause c.tell_problem.ensures)
 
 pub returns-in-Err-clause-crash : goal.returns-in-Err-clause-crash
 returns-in-Err-clause-crash g c = kept_leaves (state g.S.Store c.args.conn) (state g.S.Store c.in-Err.field-0.conn) c.args.work c.in-Err.ensures.crash
@@ -30,3 +30,10 @@ returns-in-Ok-clause-kept g c =
 
 pub returns-in-Err-clause-kept : goal.returns-in-Err-clause-kept
 returns-in-Err-clause-kept g c clean answered = absurd (unanswered c.in-Err.field-0.cause _ _ c.tell_problem.result c.tell_problem.ensures answered)
+
+pub returns-in-Err-clause-ends : goal.returns-in-Err-clause-ends
+returns-in-Err-clause-ends g c clean =
+    inr (
+      record { problem = c.in-Err.field-0.cause; cause = c.in-Err.ensures.takes.refused clean; told = c.tell_problem.ensures },
+      c.in-Err.ensures.crash,
+    )

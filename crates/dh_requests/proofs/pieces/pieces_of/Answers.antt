@@ -1,4 +1,5 @@
-use Rattle.std.proofs.Common.{◌≡◌, ◌∙◌, ◌++◌, ◌+◌, ◌-◌, ◌≤◌, [], ◌∷◌, List, ℕ, ap, arith, drop, drop_at, length, length-append, length-drop, refl, subst, sym, take, take_all}
+use Rattle.std.proofs.Common.{◌≡◌, ◌∙◌, ◌++◌, ◌+◌, ◌-◌, ◌≤◌, [], ◌∷◌, List, ℕ, ap, arith, drop, drop_at, length, length-append, length-drop, refl}
+use Rattle.std.proofs.Common.{subst, sym, take, take_all}
 use Rattle.dh_requests.specs.Pieces.{first_slash}
 use Rattle.dh_requests.specs.Routes.{IsPiece, front, words_of}
 use Rattle.dh_requests.specs.Targets.{AreAfter, AreBehind}

@@ -4,7 +4,7 @@ use Rattle.csv.specs.declared.reader.Trim.TheVariants as trim
 use Rattle.dh_agency.specs.Agency.{IsClean, LeavesItsTables, WasClean, stand}
 use Rattle.dh_lines.specs.Batch.{WasAnswered}
 use Rattle.dh_lines.proofs.Following.{Follows}
-use Rattle.dh_lines.proofs.running.answer_records.Given as goal
+use Rattle.dh_lines.proofs.running.batch.Given as goal
 
 abbrev pub invariant-loop-n : goal.invariant-loop-n
 invariant-loop-n g l = record {
