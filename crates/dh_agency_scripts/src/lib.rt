@@ -19,7 +19,9 @@ pub use batches::batch_text;
 pub use books::{books_text, version_name};
 pub use calls::line_over;
 pub use comparing::compare;
-pub use lives::{Lived, Telling, play_block, play_lives, problem_text, told_anew, told_next};
+pub use lives::{
+    Lived, SECOND_TO_FIRST, Telling, play_block, play_lives, problem_text, told_anew, told_next,
+};
 pub use rows::{all_rows, found, rows_of};
 pub use scripts::{compare_tables, parted, play_in_memory, table_of};
 pub use sound::sound_books;

@@ -91,9 +91,9 @@ fn runs_each<S: Alter>(conn: &mut Connection<S>, statements: &[&str]) -> bool {
     true
 }
 
-// The texts that make the tables of the first version of those of the second. The indexes for look-ups are taken away, and then the later
-// tables; those of the first version are made anew behind its tables.
-static SECOND_TO_FIRST: [&str; 16] = [
+/// The texts that make the tables of the first version of those of the second. The indexes for look-ups are taken away, and then the later
+/// tables; those of the first version are made anew behind its tables.
+pub static SECOND_TO_FIRST: [&str; 16] = [
     DROP_VIEWING_PROPERTY,
     DROP_RECEIPT_LEASE,
     DROP_LEASE_CLIENT,

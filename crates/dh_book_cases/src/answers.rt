@@ -2,7 +2,7 @@
 
 use dh_books::Books;
 use dh_rules::{answer, balance, matching, vacant};
-use dh_scripts::{Fields, Unreadable, answer_text, copy_of, numbers_of};
+use dh_scripts::{Answer, Fields, Unreadable, answer_text, copy_of, numbers_of};
 use dh_types::{Balance, Client, EntryDay, LeaseNo, Property, Question};
 use std::alloc::{AllocError, Global};
 
@@ -21,11 +21,7 @@ fn vacant_on(alloc: Global, books: &Books, day: EntryDay) -> Result<Vec<Property
 }
 
 /// `vacant,DAY`: the numbers of the vacant properties.
-pub(crate) fn vacancies(
-    alloc: Global,
-    books: &Books,
-    fields: &mut Fields,
-) -> Result<String, Unreadable> {
+pub(crate) fn vacancies(alloc: Global, books: &Books, fields: &mut Fields) -> Answer {
     let found = vacant_on(alloc, books, fields.day()?)?;
     Ok(numbers_of(alloc, &found)?)
 }
@@ -40,11 +36,7 @@ fn matching_on(
 }
 
 /// `matching,CLIENT,DAY`: the numbers of the properties that the client would take.
-pub(crate) fn matched(
-    alloc: Global,
-    books: &Books,
-    fields: &mut Fields,
-) -> Result<String, Unreadable> {
+pub(crate) fn matched(alloc: Global, books: &Books, fields: &mut Fields) -> Answer {
     let client = books.client(&fields.id()?).ok_or(Unreadable)?;
     let found = matching_on(alloc, books, client, fields.day()?)?;
     Ok(numbers_of(alloc, &found)?)
@@ -55,10 +47,6 @@ fn balance_of(books: &Books, lease: LeaseNo) -> Balance {
 }
 
 /// `balance,LEASE`
-pub(crate) fn balanced(
-    alloc: Global,
-    books: &Books,
-    fields: &mut Fields,
-) -> Result<String, Unreadable> {
+pub(crate) fn balanced(alloc: Global, books: &Books, fields: &mut Fields) -> Answer {
     Ok(balance_of(books, fields.lease_no()?).to_string(alloc)?)
 }

@@ -14,7 +14,7 @@ use dh_books::Books;
 use dh_fields::Request;
 use dh_model::Verdict;
 use dh_rules::decide;
-use dh_scripts::{Fields, Unreadable, command, request_if_any, row_of};
+use dh_scripts::{Answer, Fields, Unreadable, command, request_if_any, row_of};
 use dh_types::{Command, Reply};
 use std::alloc::{AllocError, Global};
 
@@ -66,7 +66,7 @@ fn decided(alloc: Global, books: &Books, command: &Command) -> Result<String, Al
 }
 
 // `judge,COMMAND`: the verdict, which changes nothing.
-fn judged(alloc: Global, books: &Books, words: &str) -> Result<String, Unreadable> {
+fn judged(alloc: Global, books: &Books, words: &str) -> Answer {
     let command = command(alloc, words)?;
     let text = decided(alloc, books, &command);
     drop(command);
@@ -85,63 +85,24 @@ fn put_rows(alloc: Global, books: &mut Books, rows: &str) -> Result<(), Unreadab
     Ok(())
 }
 
-// What changes the books unasked.
-fn changed(alloc: Global, books: &mut Books, kind: &str, rest: &str) -> Result<(), Unreadable> {
+// Whether such a line changes the books unasked, which it then did.
+fn changed(alloc: Global, books: &mut Books, kind: &str, rest: &str) -> Result<bool, Unreadable> {
     let mut fields = Fields::of(rest);
     match kind {
-        "put" => put_rows(alloc, books, rest),
-        "post batches" => Ok(post(alloc, books, fields.month()?, fields.number()?)?),
-        "make whole" => Ok(make_whole(alloc, books)?),
-        "make run" => make_run(alloc, books, fields.key()?),
-        "set open run" => set_open_run(books, &mut fields),
-        "clear charges" => clear_charges(books, &mut fields),
-        "clear parts" => clear_parts(books, &mut fields),
-        _ => Err(Unreadable),
+        "put" => put_rows(alloc, books, rest)?,
+        "post batches" => post(alloc, books, fields.month()?, fields.number()?)?,
+        "make whole" => make_whole(alloc, books)?,
+        "make run" => make_run(alloc, books, fields.key()?)?,
+        "set open run" => set_open_run(books, &mut fields)?,
+        "clear charges" => clear_charges(books, &mut fields)?,
+        "clear parts" => clear_parts(books, &mut fields)?,
+        _ => return Ok(false),
     }
+    Ok(true)
 }
 
-// What is asked of one lease or of all.
-fn of_leases(
-    alloc: Global,
-    books: &Books,
-    kind: &str,
-    fields: &mut Fields,
-) -> Result<String, Unreadable> {
-    match kind {
-        "length" => length(alloc, books, fields),
-        "ends" => end(alloc, books, fields),
-        "covers" => covered(alloc, books, fields),
-        "overlap" => overlapping(alloc, books, fields),
-        "due" => due(alloc, books, fields),
-        "dues" => dues_of(alloc, books, fields),
-        "branch dues" => branch_dues(alloc, books, fields),
-        "balance" => balanced(alloc, books, fields),
-        _ => Err(Unreadable),
-    }
-}
-
-// What is asked of runs and months.
-fn of_months(
-    alloc: Global,
-    books: &Books,
-    kind: &str,
-    fields: &mut Fields,
-) -> Result<String, Unreadable> {
-    match kind {
-        "batches" => batched(alloc, books, fields),
-        "posted" => posted(alloc, books, fields),
-        "whole parts" => whole_parts(alloc, books, fields),
-        "posted fees" => fees_posted(alloc, books, fields),
-        "whole fees" => whole_fees(alloc, books, fields),
-        "open run" => open_run(alloc, books),
-        "version" => version(alloc, books),
-        "first" => Ok(books.first().to_string(alloc)?),
-        "next" => Ok(books.next().to_string(alloc)?),
-        _ => of_leases(alloc, books, kind, fields),
-    }
-}
-
-fn asked(alloc: Global, books: &Books, kind: &str, rest: &str) -> Result<String, Unreadable> {
+// What the books are asked.
+fn asked(alloc: Global, books: &Books, kind: &str, rest: &str) -> Answer {
     let mut fields = Fields::of(rest);
     match kind {
         "judge" => judged(alloc, books, rest),
@@ -152,49 +113,41 @@ fn asked(alloc: Global, books: &Books, kind: &str, rest: &str) -> Result<String,
         "find" => found(alloc, books, &mut fields),
         "rows" => listed(alloc, books, rest),
         "count" => counted(alloc, books, rest),
-        _ => of_months(alloc, books, kind, &mut fields),
+        "batches" => batched(alloc, books, &mut fields),
+        "posted" => posted(alloc, books, &mut fields),
+        "whole parts" => whole_parts(alloc, books, &mut fields),
+        "posted fees" => fees_posted(alloc, books, &mut fields),
+        "whole fees" => whole_fees(alloc, books, &mut fields),
+        "open run" => open_run(alloc, books),
+        "version" => version(alloc, books),
+        "first" => Ok(books.first().to_string(alloc)?),
+        "next" => Ok(books.next().to_string(alloc)?),
+        "length" => length(alloc, books, &mut fields),
+        "ends" => end(alloc, books, &mut fields),
+        "covers" => covered(alloc, books, &mut fields),
+        "overlap" => overlapping(alloc, books, &mut fields),
+        "due" => due(alloc, books, &mut fields),
+        "dues" => dues_of(alloc, books, &mut fields),
+        "branch dues" => branch_dues(alloc, books, &mut fields),
+        "balance" => balanced(alloc, books, &mut fields),
+        _ => Err(Unreadable),
     }
 }
 
-// Whether such a line changes the books and is no request.
-fn is_change(kind: &str) -> bool {
-    matches!(
-        kind,
-        "put"
-            | "post batches"
-            | "make whole"
-            | "make run"
-            | "set open run"
-            | "clear charges"
-            | "clear parts"
-    )
-}
-
 // What the words without rows are answered.
-fn answered_bare(
-    alloc: Global,
-    teller: Teller,
-    books: &mut Books,
-    words: &str,
-) -> Result<String, Unreadable> {
+fn answered_bare(alloc: Global, teller: Teller, books: &mut Books, words: &str) -> Answer {
     if let Some(request) = request_if_any(alloc, words)? {
         return Ok(requested(alloc, teller, books, &request)?);
     }
     let (kind, rest) = words.split_once(',').unwrap_or((words, ""));
-    if !is_change(kind) {
-        return asked(alloc, books, kind, rest);
+    if changed(alloc, books, kind, rest)? {
+        return Ok("ok".to_string(alloc)?);
     }
-    changed(alloc, books, kind, rest)?;
-    Ok("ok".to_string(alloc)?)
+    asked(alloc, books, kind, rest)
 }
 
 /// What the words are answered. Rows behind ` with ` and between `; ` are put into the books first.
-pub(crate) fn answered(
-    alloc: Global,
-    teller: Teller,
-    books: &mut Books,
-    words: &str,
-) -> Result<String, Unreadable> {
+pub(crate) fn answered(alloc: Global, teller: Teller, books: &mut Books, words: &str) -> Answer {
     let Some((words, rows)) = words.split_once(" with ") else {
         return answered_bare(alloc, teller, books, words);
     };

@@ -1,19 +1,16 @@
 //! All rows of a kind.
 
 use dh_books::Books;
-use dh_scripts::{ToLine, Unreadable, add_part, all_lines, or_none};
+use dh_scripts::{Answer, ToLine, Unreadable, add_part, all_lines, or_none};
 use std::alloc::Global;
 use std::collections::btree_map::{Keys, Values};
 use std::fmt::Display;
 
-fn all<K: Ord, T: ToLine>(alloc: Global, rows: Values<'_, K, T>) -> Result<String, Unreadable> {
+fn all<K: Ord, T: ToLine>(alloc: Global, rows: Values<'_, K, T>) -> Answer {
     Ok(all_lines(alloc, rows)?)
 }
 
-fn all_keys<K: Ord + Display, T>(
-    alloc: Global,
-    keys: Keys<'_, K, T>,
-) -> Result<String, Unreadable> {
+fn all_keys<K: Ord + Display, T>(alloc: Global, keys: Keys<'_, K, T>) -> Answer {
     let mut text = String::new(alloc);
     for key in keys {
         add_part(&mut text, key.to_string(alloc)?.as_str())?;
@@ -21,7 +18,7 @@ fn all_keys<K: Ord + Display, T>(
     Ok(or_none(alloc, text)?)
 }
 
-fn other_rows(alloc: Global, books: &Books, kind: &str) -> Result<String, Unreadable> {
+fn other_rows(alloc: Global, books: &Books, kind: &str) -> Answer {
     match kind {
         "leases" => all(alloc, books.leases()),
         "endings" => all(alloc, books.endings()),
@@ -38,7 +35,7 @@ fn other_rows(alloc: Global, books: &Books, kind: &str) -> Result<String, Unread
 }
 
 /// `rows,KIND`: all rows of the kind, rising by key.
-pub(crate) fn listed(alloc: Global, books: &Books, kind: &str) -> Result<String, Unreadable> {
+pub(crate) fn listed(alloc: Global, books: &Books, kind: &str) -> Answer {
     match kind {
         "branches" => all(alloc, books.branches()),
         "staff" => all(alloc, books.staff()),
@@ -53,7 +50,7 @@ pub(crate) fn listed(alloc: Global, books: &Books, kind: &str) -> Result<String,
 }
 
 /// `count,KIND`: how many rows there are.
-pub(crate) fn counted(alloc: Global, books: &Books, kind: &str) -> Result<String, Unreadable> {
+pub(crate) fn counted(alloc: Global, books: &Books, kind: &str) -> Answer {
     let count = match kind {
         "charges" => books.charges().count(),
         "parts" => books.parts().count(),

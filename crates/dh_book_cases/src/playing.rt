@@ -5,7 +5,7 @@ use crate::cuts::play_with_cuts;
 use crate::happenings::play_list;
 use crate::lines::{Teller, answered};
 use dh_books::Books;
-use dh_scripts::{Block, Manner, Tally, Unreadable};
+use dh_scripts::{Answer, Block, Manner, Tally, Unreadable};
 use std::alloc::{AllocError, Global};
 use std::io;
 
@@ -15,10 +15,7 @@ pub(crate) fn parted(line: &str) -> (&str, &str) {
 }
 
 /// The text that an answer comes to.
-pub(crate) fn told(
-    alloc: Global,
-    answer: Result<String, Unreadable>,
-) -> Result<String, AllocError> {
+pub(crate) fn told(alloc: Global, answer: Answer) -> Result<String, AllocError> {
     match answer {
         Ok(text) => Ok(text),
         Err(Unreadable) => "not read".to_string(alloc),

@@ -1,7 +1,7 @@
 //! Records with texts: the line of a copy.
 
 use crate::values::Said;
-use dh_scripts::{Row, ToLine, Unreadable, row_of};
+use dh_scripts::{Answer, Row, ToLine, Unreadable, row_of};
 use std::alloc::{AllocError, Global};
 
 // The line of a copy of the row, for a kind that has copies.
@@ -18,7 +18,7 @@ fn copied(alloc: Global, row: &Row) -> Result<String, AllocError> {
     }
 }
 
-fn copy_line(alloc: Global, words: &str) -> Result<String, Unreadable> {
+fn copy_line(alloc: Global, words: &str) -> Answer {
     let row = row_of(alloc, words)?;
     Ok(copied(alloc, &row)?)
 }

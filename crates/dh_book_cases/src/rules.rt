@@ -8,7 +8,7 @@ use dh_audit::{
 };
 use dh_books::Books;
 use dh_rules::audit;
-use dh_scripts::Unreadable;
+use dh_scripts::{Answer, Unreadable};
 use std::alloc::{AllocError, Global};
 
 // Whether all rules hold, else the least that is broken.
@@ -17,7 +17,7 @@ fn broken(alloc: Global, books: &Books) -> Result<Result<(), u8>, AllocError> {
 }
 
 /// `audit`: the least rule that is broken, or `ok`.
-pub(crate) fn audited(alloc: Global, books: &Books) -> Result<String, Unreadable> {
+pub(crate) fn audited(alloc: Global, books: &Books) -> Answer {
     match broken(alloc, books)? {
         Ok(()) => Ok("ok".to_string(alloc)?),
         Err(rule) => Ok(rule.to_string(alloc)?),
@@ -45,7 +45,7 @@ fn holds(alloc: Global, books: &Books, rule: &str) -> Result<bool, Unreadable> {
 }
 
 /// `rule,N`: whether the rule is kept or broken; of rule 10 also for closed or open months alone.
-pub(crate) fn is_kept(alloc: Global, books: &Books, rule: &str) -> Result<String, Unreadable> {
+pub(crate) fn is_kept(alloc: Global, books: &Books, rule: &str) -> Answer {
     let text = if holds(alloc, books, rule)? {
         "kept"
     } else {

@@ -4,26 +4,18 @@ use dh_books::Books;
 use dh_leases::{branch_fees, branch_parts, posted_charges, posted_fees, posted_parts};
 use dh_model::OpenRun;
 use dh_rules::batches;
-use dh_scripts::{Fields, Unreadable, add_part, lines_of};
+use dh_scripts::{Answer, Fields, Unreadable, add_part, lines_of};
 use dh_types::Version;
 use std::alloc::Global;
 
 /// `batches,MONTH`: how many the run takes.
-pub(crate) fn batched(
-    alloc: Global,
-    books: &Books,
-    fields: &mut Fields,
-) -> Result<String, Unreadable> {
+pub(crate) fn batched(alloc: Global, books: &Books, fields: &mut Fields) -> Answer {
     let all = batches(alloc, books, fields.month()?)?;
     Ok(all.to_string(alloc)?)
 }
 
 /// `posted,MONTH,DONE`: how many charges there are after so many batches, and the part rows.
-pub(crate) fn posted(
-    alloc: Global,
-    books: &Books,
-    fields: &mut Fields,
-) -> Result<String, Unreadable> {
+pub(crate) fn posted(alloc: Global, books: &Books, fields: &mut Fields) -> Answer {
     let month = fields.month()?;
     let done = u128::from(fields.number()?);
     let charges = posted_charges(alloc, books, month, done)?.len();
@@ -34,11 +26,7 @@ pub(crate) fn posted(
 }
 
 /// `posted fees,MONTH,DONE`: the fee rows after so many batches.
-pub(crate) fn fees_posted(
-    alloc: Global,
-    books: &Books,
-    fields: &mut Fields,
-) -> Result<String, Unreadable> {
+pub(crate) fn fees_posted(alloc: Global, books: &Books, fields: &mut Fields) -> Answer {
     let month = fields.month()?;
     let done = u128::from(fields.number()?);
     let fees = posted_fees(alloc, books, month, done)?;
@@ -46,27 +34,19 @@ pub(crate) fn fees_posted(
 }
 
 /// `whole fees,MONTH`: the fee rows after the last batch.
-pub(crate) fn whole_fees(
-    alloc: Global,
-    books: &Books,
-    fields: &mut Fields,
-) -> Result<String, Unreadable> {
+pub(crate) fn whole_fees(alloc: Global, books: &Books, fields: &mut Fields) -> Answer {
     let fees = branch_fees(alloc, books, fields.month()?)?;
     Ok(lines_of(alloc, &fees)?)
 }
 
 /// `whole parts,MONTH`: the part rows after the last batch.
-pub(crate) fn whole_parts(
-    alloc: Global,
-    books: &Books,
-    fields: &mut Fields,
-) -> Result<String, Unreadable> {
+pub(crate) fn whole_parts(alloc: Global, books: &Books, fields: &mut Fields) -> Answer {
     let parts = branch_parts(alloc, books, fields.month()?)?;
     Ok(lines_of(alloc, &parts)?)
 }
 
 /// `open run`: its month and how many batches are done, or `none`.
-pub(crate) fn open_run(alloc: Global, books: &Books) -> Result<String, Unreadable> {
+pub(crate) fn open_run(alloc: Global, books: &Books) -> Answer {
     match books.open_run() {
         Some(run) => Ok(format!(in alloc; "{} {}", run.month, run.done)?),
         None => Ok("none".to_string(alloc)?),
@@ -74,7 +54,7 @@ pub(crate) fn open_run(alloc: Global, books: &Books) -> Result<String, Unreadabl
 }
 
 /// `version`: `first` or `second`.
-pub(crate) fn version(alloc: Global, books: &Books) -> Result<String, Unreadable> {
+pub(crate) fn version(alloc: Global, books: &Books) -> Answer {
     let name = match books.version() {
         Version::First => "first",
         Version::Second => "second",

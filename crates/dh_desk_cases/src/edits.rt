@@ -4,21 +4,21 @@
 
 use crate::lives::{edited, tables};
 use crate::runs::{PATH, clear, ran};
-use dh_agency_scripts::{compare, parted};
+use dh_agency_scripts::{SECOND_TO_FIRST, compare, parted};
 use dh_scripts::Tally;
 use std::alloc::{AllocError, Global};
 use std::{fs, io};
 
-// What makes a file one of the first version: its indexes for look-ups come behind its own tables.
-const TO_FIRST: &str =
-    "DROP INDEX viewing_property; DROP INDEX receipt_lease; DROP INDEX lease_client; \
-    DROP INDEX lease_property; DROP INDEX property_branch; DROP INDEX property_owner; DROP INDEX property_staff; DROP TABLE ending; \
-    DROP TABLE part_fee; DROP TABLE branch_fee; CREATE INDEX property_staff ON property (staff_no); \
-    CREATE INDEX lease_property ON lease (property_no); \
-    CREATE INDEX lease_client ON lease (client_no, start_day); \
-    CREATE INDEX charge_month ON charge (month); \
-    CREATE INDEX receipt_lease ON receipt (lease_no, kind); \
-    CREATE INDEX viewing_property ON viewing (property_no); UPDATE meta SET version = 1";
+// What makes a file one of the first version.
+fn to_first(alloc: Global) -> Result<String, AllocError> {
+    let mut statements = String::new(alloc);
+    for text in &SECOND_TO_FIRST {
+        statements.push_str(text)?;
+        statements.push_str("; ")?;
+    }
+    statements.push_str("UPDATE meta SET version = 1")?;
+    Ok(statements)
+}
 
 // The statements of a line.
 fn statements_of(alloc: Global, text: &str) -> Result<String, AllocError> {
@@ -112,5 +112,6 @@ pub fn play(rt: &HostRuntime, tally: &mut Tally, lines: &str) -> io::Result<()> 
 
 /// Plays each line on a file of the first version of its own, which is migrated.
 pub fn play_first(rt: &HostRuntime, tally: &mut Tally, lines: &str) -> io::Result<()> {
-    play_over(rt, tally, "migrate --file F", TO_FIRST, lines)
+    let statements = to_first(rt.alloc())?;
+    play_over(rt, tally, "migrate --file F", statements.as_str(), lines)
 }

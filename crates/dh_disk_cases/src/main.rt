@@ -15,7 +15,7 @@ mod stories;
 mod trial_disks;
 
 use dh_agency_scripts::compare;
-use dh_scripts::Tally;
+use dh_scripts::{Tally, kinds};
 use disk_work::Work;
 use disks::Failures;
 use series::Recoveries;
@@ -47,8 +47,7 @@ fn play(rt: &HostRuntime, tally: &mut Tally, kind: &str, lines: &str) -> io::Res
 fn main(rt: HostRuntime) -> io::Result<()> {
     let text = io::read_to_string(rt.alloc(), rt.reader())?;
     let mut tally = Tally::new();
-    for block in text.as_str().split("\n\n") {
-        let (kind, lines) = block.split_once('\n').unwrap_or((block, ""));
+    for (kind, lines) in kinds(rt.alloc(), text.as_str())? {
         play(&rt, &mut tally, kind, lines)?;
     }
     println!(rt; "{tally}")

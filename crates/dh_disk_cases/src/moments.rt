@@ -144,11 +144,7 @@ fn play_block(rt: &HostRuntime, tally: &mut Tally, block: &Block) -> io::Result<
     let Some(behind) = if_played(rt, tally, block.name.as_str(), behind)? else {
         return Ok(());
     };
-    let story = Story {
-        block,
-        chapters: &chapters,
-        behind: &behind,
-    };
+    let story = Story::of(block, &chapters, &behind);
     play_story(rt, tally, story)
 }
 

@@ -302,11 +302,7 @@ fn play_block(
     let Some(behind) = if_played(rt, tally, block.name.as_str(), behind)? else {
         return Ok(());
     };
-    let story = Story {
-        block,
-        chapters: &chapters,
-        behind: &behind,
-    };
+    let story = Story::of(block, &chapters, &behind);
     for file in BOTH {
         play_file(rt, tally, story, recoveries, file)?;
     }

@@ -68,6 +68,16 @@ pub struct Story<'a> {
     pub behind: &'a Rehearsed,
 }
 
+impl<'a> Story<'a> {
+    pub fn of(block: &'a Block, chapters: &'a [Chapter], behind: &'a Rehearsed) -> Story<'a> {
+        Story {
+            block,
+            chapters,
+            behind,
+        }
+    }
+}
+
 fn add_copies(alloc: Global, lives: &mut Vec<Lived>, more: &[Lived]) -> Result<(), AllocError> {
     for lived in more {
         lives.push(Lived {

@@ -47,15 +47,19 @@ told (Ok x) bad value h = rw (h.0, h.1) refl
 told (Err (Field k)) bad value h = rw h refl
 told (Err Memory) bad value h = tt
 
+pub field_is : (fields : Fields) (n : ℕ) (text : List ℕ) → slice_get ([] ∷ fields) n ≡ Some text → field fields n ≡ text
+unfolding field
+field_is fields n text is = get_or_from_slice_get ([] ∷ fields) n text [] is
+
 module _ {T : Type 0} (forms : List (Form T)) (n : ℕ) (fields : Fields) where
   -- the line of a word
-  pub by_form : (word : List ℕ) (form : Form T) (r : Result T Unread) → field fields n ≡ word → form_of forms word ≡ Some form → ReadsForm form n fields r
-      → Tells r (value_among forms n fields)
+  pub named : (form : Form T) (word : List ℕ) (r : Result T Unread) → slice_get ([] ∷ fields) n ≡ Some word → word ≡ form.word
+      → form_of forms form.word ≡ Some form → ReadsForm form n fields r → Tells r (value_among forms n fields)
   unfolding value_among
-  by_form word form r is found h =
-      let same : first_bad (n + 1) form.tests (drop n fields) ≡ bad_from (n + 1) form.tests fields =
+  named form word r is same found h =
+      let bad : first_bad (n + 1) form.tests (drop n fields) ≡ bad_from (n + 1) form.tests fields =
       rw add-one (same_bad form.tests fields n) in
-      rw (is, found, same) (told r _ _ h)
+      rw (field_is fields n word is ∙ same, found, bad) (told r _ _ h)
 
   -- no form has the word
   unnamed : form_of forms (field fields n) ≡ None → Err (BadLine n) ≡ value_among forms n fields
@@ -65,10 +69,6 @@ module _ {T : Type 0} (forms : List (Form T)) (n : ℕ) (fields : Fields) where
 pub not_true : (b : Bool) → (b ≡ true → ⊥) → b ≡ false
 not_true true h = absurd (h refl)
 not_true false h = refl
-
-pub field_is : (fields : Fields) (n : ℕ) (text : List ℕ) → slice_get ([] ∷ fields) n ≡ Some text → field fields n ≡ text
-unfolding field
-field_is fields n text is = get_or_from_slice_get ([] ∷ fields) n text [] is
 
 pub field_is_not : (fields : Fields) (n : ℕ) → slice_get ([] ∷ fields) n ≡ None → field fields n ≡ []
 unfolding field

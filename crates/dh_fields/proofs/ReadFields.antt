@@ -14,7 +14,7 @@ use Rattle.csv.specs.Records.{field_at}
 use Rattle.dh_values.proofs.Ascii.{and_left}
 use Rattle.dh_values.specs.Texts.{is_text}
 use Rattle.dh_fields.specs.declared.unread.Unread.{Unread}
-use Rattle.dh_fields.specs.declared.unread.Unread.TheVariants.{Memory, Field}
+use Rattle.dh_fields.specs.declared.unread.Unread.TheVariants.{Field}
 use Rattle.dh_fields.specs.FieldKinds.{Kind, optional, plain, spelled}
 use Rattle.dh_fields.specs.Lines.{Fields, field}
 use Rattle.dh_fields.specs.Readings.{IsNoText, Reads, StopsAt, is_field, passes}
@@ -58,11 +58,6 @@ module _ {T : Type 0} (kind : Kind T) (fields : Fields) (n : ℕ) where
   stops texts (Err y) e is h =
       let place : y ≡ Field n = is ∙ h.0 in
       subst (λ z. Reads kind fields n (Err z)) (sym place) (bad (no_text kind.takes _ texts h.1))
-
-  -- a `?` that hands on want of memory
-  pub forgets : (r : Result T Unread) → IsErrAnd r (λ y. y ≡ Memory) → Reads kind fields n r
-  forgets (Ok x) is = absurd is
-  forgets (Err y) is = subst (λ z. Reads kind fields n (Err z)) (sym is) tt
 
   module _ (text : List ℕ) (is : slice_get ([] ∷ fields) n ≡ Some text) where
     pub found : field fields n ≡ text

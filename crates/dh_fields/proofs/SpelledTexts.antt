@@ -9,7 +9,7 @@ use Rattle.std.proofs.lemmas.Bool.{eqb-true, leb-true, ltb-true}
 use Rattle.std.proofs.lemmas.List.{take-append-drop}
 use Rattle.std.proofs.lemmas.Str.{IsAscii-append, IsUtf8-from_ascii}
 use Rattle.dh_values.proofs.Ascii.{and_left, and_right}
-use Rattle.dh_values.proofs.KindTexts.{named, no_word}
+use Rattle.dh_values.proofs.KindTexts as kind
 use Rattle.dh_values.specs.Kinds.{payment_method_of, payment_method_text, position_of, position_text, property_type_of, property_type_text, receipt_kind_of}
 use Rattle.dh_values.specs.Kinds.{receipt_kind_text}
 use Rattle.dh_values.specs.Money.{has_pence, is_pounds, pence_of}
@@ -157,22 +157,13 @@ receipts Rent = plain (codes "rent") refl
 receipts Deposit = plain (codes "deposit") refl
 
 pub position-IsUtf8 : (x : Position) (text : List ℕ) → position_of text ≡ Some x → IsUtf8 text
-position-IsUtf8 x text h =
-    word position_text positions x text (named position_text text (codes "Manager") Manager x _ refl
-    (named position_text text (codes "Supervisor") Supervisor x _ refl (named position_text text (codes "Assistant") Assistant x _ refl (no_word x text _))) h)
+position-IsUtf8 x text h = word position_text positions x text (kind.positions.printed_back x text h)
 
 pub property_type-IsUtf8 : (x : PropertyType) (text : List ℕ) → property_type_of text ≡ Some x → IsUtf8 text
-property_type-IsUtf8 x text h =
-    word property_type_text types x text (named property_type_text text (codes "House") House x _ refl
-    (named property_type_text text (codes "Flat") Flat x _ refl (no_word x text _)) h)
+property_type-IsUtf8 x text h = word property_type_text types x text (kind.property_types.printed_back x text h)
 
 pub payment_method-IsUtf8 : (x : PaymentMethod) (text : List ℕ) → payment_method_of text ≡ Some x → IsUtf8 text
-payment_method-IsUtf8 x text h =
-    word payment_method_text methods x text (named payment_method_text text (codes "Cash") Cash x _ refl
-    (named payment_method_text text (codes "Cheque") Cheque x _ refl (named payment_method_text text (codes "Card") Card x _ refl
-    (named payment_method_text text (codes "Transfer") Transfer x _ refl (no_word x text _)))) h)
+payment_method-IsUtf8 x text h = word payment_method_text methods x text (kind.payment_methods.printed_back x text h)
 
 pub receipt_kind-IsUtf8 : (x : ReceiptKind) (text : List ℕ) → receipt_kind_of text ≡ Some x → IsUtf8 text
-receipt_kind-IsUtf8 x text h =
-    word receipt_kind_text receipts x text (named receipt_kind_text text (codes "rent") Rent x _ refl
-    (named receipt_kind_text text (codes "deposit") Deposit x _ refl (no_word x text _)) h)
+receipt_kind-IsUtf8 x text h = word receipt_kind_text receipts x text (kind.receipt_kinds.printed_back x text h)

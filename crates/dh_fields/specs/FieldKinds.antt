@@ -1,8 +1,8 @@
 -- The kinds of fields: which texts each takes, and the value of each such text.
 use Rattle.std.specs.Prelude.{ℕ, Bool, ◌||◌, if◌then◌else◌, ◌==◌, List, length, Option, Some, None, is_some, unwrap_or}
 use Rattle.dh_values.specs.Texts.{is_id, is_key, is_text}
-use Rattle.dh_values.specs.Counts.{batch_count_of, fee_of, lease_months_of, lease_no_of, rooms_of}
-use Rattle.dh_values.specs.Money.{amount_of, rent_of}
+use Rattle.dh_values.specs.Money.{pence_of}
+use Rattle.dh_values.specs.Numbers.{numeral_of, within}
 use Rattle.dh_values.specs.Kinds.{payment_method_of, position_of, property_type_of, receipt_kind_of}
 use Rattle.dh_values.specs.declared.payment_method.PaymentMethod.{PaymentMethod}
 use Rattle.dh_values.specs.declared.payment_method.PaymentMethod.TheVariants.{Cash}
@@ -12,6 +12,8 @@ use Rattle.dh_values.specs.declared.property_type.PropertyType.{PropertyType}
 use Rattle.dh_values.specs.declared.property_type.PropertyType.TheVariants.{House}
 use Rattle.dh_values.specs.declared.receipt_kind.ReceiptKind.{ReceiptKind}
 use Rattle.dh_values.specs.declared.receipt_kind.ReceiptKind.TheVariants.{Rent}
+use Rattle.dh_values.specs.declared.limits.TheConstants.{LEAST_LEASE_MONTHS, MOST_AMOUNT, MOST_BATCHES, MOST_FEE, MOST_LEASE_MONTHS, MOST_NUMBER}
+use Rattle.dh_values.specs.declared.limits.TheConstants.{MOST_RENT, MOST_ROOMS}
 use Rattle.dh_days.specs.Days.{day_of}
 use Rattle.dh_days.specs.Months.{month_of}
 
@@ -40,32 +42,44 @@ id = plain is_id
 unfoldable pub key : Kind (List ℕ)
 key = plain is_key
 
-unfoldable pub text60 : Kind (List ℕ)
-text60 = plain (is_text 60)
+-- texts of so many characters at most
+unfoldable pub text : ℕ → Kind (List ℕ)
+text most = plain (is_text most)
 
-unfoldable pub comment : Kind (List ℕ)
-comment = plain (is_text 200)
+abbrev pub text60 : Kind (List ℕ)
+text60 = text 60
 
-unfoldable pub lease_no : Kind ℕ
-lease_no = spelled lease_no_of 1
+abbrev pub comment : Kind (List ℕ)
+comment = text 200
 
-unfoldable pub rooms : Kind ℕ
-rooms = spelled rooms_of 1
+-- numbers from the least to the greatest
+unfoldable pub count : ℕ → ℕ → Kind ℕ
+count low high = spelled (λ text. within low high (numeral_of text)) low
 
-unfoldable pub months : Kind ℕ
-months = spelled lease_months_of 3
+abbrev pub lease_no : Kind ℕ
+lease_no = count 1 MOST_NUMBER
 
-unfoldable pub fee : Kind ℕ
-fee = spelled fee_of 0
+abbrev pub rooms : Kind ℕ
+rooms = count 1 MOST_ROOMS
 
-unfoldable pub batch_count : Kind ℕ
-batch_count = spelled batch_count_of 1
+abbrev pub months : Kind ℕ
+months = count LEAST_LEASE_MONTHS MOST_LEASE_MONTHS
 
-unfoldable pub rent : Kind ℕ
-rent = spelled rent_of 1
+abbrev pub fee : Kind ℕ
+fee = count 0 MOST_FEE
 
-unfoldable pub amount : Kind ℕ
-amount = spelled amount_of 1
+abbrev pub batch_count : Kind ℕ
+batch_count = count 1 MOST_BATCHES
+
+-- money of so many pence at most
+unfoldable pub money : ℕ → Kind ℕ
+money most = spelled (λ text. within 1 most (pence_of text)) 1
+
+abbrev pub rent : Kind ℕ
+rent = money MOST_RENT
+
+abbrev pub amount : Kind ℕ
+amount = money MOST_AMOUNT
 
 unfoldable pub day : Kind ℕ
 day = spelled day_of 0

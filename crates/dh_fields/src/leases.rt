@@ -13,11 +13,11 @@ pub(crate) fn read_lease(line: &Line) -> Result<Command, Unread>
     ensures { ReadsForm lease_form 1 line.now result }
 {
     let terms = LeaseTerms {
-        number: line.lease_no(2)?,
+        number: line.count(2)?,
         client: line.id(3)?,
         property: line.id(4)?,
         start: line.day(5)?,
-        months: line.months(6)?,
+        months: line.count(6)?,
         method: line.method(7)?,
     };
     line.end(7)?;
@@ -29,8 +29,8 @@ pub(crate) fn read_end(line: &Line) -> Result<Command, Unread>
     ensures { ReadsForm end_form 1 line.now result }
 {
     let ending = Ending {
-        lease: line.lease_no(2)?,
-        months: line.months(3)?,
+        lease: line.count(2)?,
+        months: line.count(3)?,
     };
     line.end(3)?;
     Ok(Command::End(ending))
@@ -43,9 +43,9 @@ pub(crate) fn read_receipt(line: &Line) -> Result<Command, Unread>
     let order = ReceiptOrder {
         key: line.key(2)?,
         payment: Payment {
-            lease: line.lease_no(3)?,
+            lease: line.count(3)?,
             kind: line.receipt_kind(4)?,
-            amount: line.amount(5)?,
+            amount: line.money(5)?,
             day: line.day(6)?,
         },
     };
@@ -81,7 +81,7 @@ pub(crate) fn read_open(line: &Line) -> Result<Command, Unread>
 pub(crate) fn read_post(line: &Line) -> Result<Command, Unread>
     ensures { ReadsForm post_form 1 line.now result }
 {
-    let most = line.batch_count(2)?;
+    let most = line.count(2)?;
     line.end(2)?;
     Ok(Command::Post(most))
 }

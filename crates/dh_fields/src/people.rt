@@ -15,9 +15,9 @@ pub(crate) fn read_branch(alloc: Global, line: &Line) -> Result<Command, Unread>
 {
     let branch = Branch {
         number: line.id(2)?,
-        street: line.text60(alloc, 3)?,
-        city: line.text60(alloc, 4)?,
-        postcode: line.text60(alloc, 5)?,
+        street: line.some_text(alloc, 3)?,
+        city: line.some_text(alloc, 4)?,
+        postcode: line.some_text(alloc, 5)?,
     };
     line.end(5)?;
     Ok(Command::Branch(branch))
@@ -29,7 +29,7 @@ pub(crate) fn read_fee(line: &Line) -> Result<Command, Unread>
 {
     let fee = BranchFee {
         branch: line.id(2)?,
-        fee: line.fee(3)?,
+        fee: line.count(3)?,
     };
     line.end(3)?;
     Ok(Command::Fee(fee))
@@ -41,7 +41,7 @@ pub(crate) fn read_staff(alloc: Global, line: &Line) -> Result<Command, Unread>
 {
     let staff = Staff {
         number: line.id(2)?,
-        name: line.text60(alloc, 3)?,
+        name: line.some_text(alloc, 3)?,
         position: line.position(4)?,
         branch: line.id(5)?,
     };
@@ -55,9 +55,9 @@ pub(crate) fn read_owner(alloc: Global, line: &Line) -> Result<Command, Unread>
 {
     let owner = Owner {
         number: line.id(2)?,
-        name: line.text60(alloc, 3)?,
-        address: line.text60(alloc, 4)?,
-        telephone: line.text60(alloc, 5)?,
+        name: line.some_text(alloc, 3)?,
+        address: line.some_text(alloc, 4)?,
+        telephone: line.some_text(alloc, 5)?,
     };
     line.end(5)?;
     Ok(Command::Owner(owner))
@@ -69,10 +69,10 @@ pub(crate) fn read_client(alloc: Global, line: &Line) -> Result<Command, Unread>
 {
     let client = Client {
         number: line.id(2)?,
-        name: line.text60(alloc, 3)?,
-        telephone: line.text60(alloc, 4)?,
+        name: line.some_text(alloc, 3)?,
+        telephone: line.some_text(alloc, 4)?,
         preferred_type: line.property_type(5)?,
-        greatest_rent: line.rent(6)?,
+        greatest_rent: line.money(6)?,
     };
     line.end(6)?;
     Ok(Command::Client(client))

@@ -30,8 +30,8 @@ fn read_particulars(line: &Line) -> Result<Particulars, Unread>
 {
     let particulars = Particulars {
         property_type: line.property_type(6)?,
-        rooms: line.rooms(7)?,
-        rent: line.rent(8)?,
+        rooms: line.count(7)?,
+        rent: line.money(8)?,
         owner: line.id(9)?,
         staff: line.id_if_any(10)?,
         branch: line.id(11)?,
@@ -47,9 +47,9 @@ pub(crate) fn read_property(alloc: Global, line: &Line) -> Result<Command, Unrea
     // Read first and judged last: only one way out has all three texts to let go.
     let particulars = read_particulars(line);
     let number = line.id(2)?;
-    let street = line.text60(alloc, 3)?;
-    let city = line.text60(alloc, 4)?;
-    let postcode = line.text60(alloc, 5)?;
+    let street = line.some_text(alloc, 3)?;
+    let city = line.some_text(alloc, 4)?;
+    let postcode = line.some_text(alloc, 5)?;
     let particulars = particulars?;
     Ok(Command::Property(Property {
         number,
@@ -83,7 +83,7 @@ pub(crate) fn read_rent(line: &Line) -> Result<Command, Unread>
 {
     let change = RentChange {
         property: line.id(2)?,
-        rent: line.rent(3)?,
+        rent: line.money(3)?,
     };
     line.end(3)?;
     Ok(Command::Rent(change))
@@ -110,7 +110,7 @@ pub(crate) fn read_comment(alloc: Global, line: &Line) -> Result<Command, Unread
     let comment = ViewingComment {
         client: line.id(2)?,
         property: line.id(3)?,
-        comment: line.comment(alloc, 4)?,
+        comment: line.some_text(alloc, 4)?,
     };
     line.end(4)?;
     Ok(Command::Comment(comment))
@@ -124,7 +124,7 @@ pub(crate) fn read_inspection(alloc: Global, line: &Line) -> Result<Command, Unr
         property: line.id(2)?,
         day: line.day(3)?,
         staff: line.id(4)?,
-        comment: line.comment(alloc, 5)?,
+        comment: line.some_text(alloc, 5)?,
     };
     line.end(5)?;
     Ok(Command::Inspection(inspection))

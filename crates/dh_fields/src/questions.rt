@@ -41,7 +41,7 @@ fn read_matching(line: &Line) -> Result<Question, Unread>
 fn read_statement(line: &Line) -> Result<Question, Unread>
     ensures { ReadsForm statement_form 2 line.now result }
 {
-    let lease = line.lease_no(3)?;
+    let lease = line.count(3)?;
     line.end(3)?;
     Ok(Question::Statement(lease))
 }

@@ -7,9 +7,9 @@ ghost use Rattle.dh_fields.specs.Readings.{Reads};
 use crate::line::Line;
 use crate::unread::Unread;
 use dh_types::{
-    Amount, BatchCount, Comment, EntryDay, EntryMonth, Fee, Id, Key, LeaseMonths, LeaseNo,
-    PaymentMethod, Position, PropertyType, ReceiptKind, Rent, Rooms, Text60,
+    Comment, EntryDay, EntryMonth, Id, Key, PaymentMethod, Position, PropertyType, ReceiptKind,
 };
+use dh_values::{Bounded, Money, Text};
 use std::alloc::Global;
 
 impl<'a> Line<'a> {
@@ -40,60 +40,23 @@ impl<'a> Line<'a> {
         Key::read(self.text(number)?).or(Err(Unread::Field(number)))
     }
 
-    /// The number of a lease in the field.
-    pub(crate) fn lease_no(&self, number: u8) -> Result<LeaseNo, Unread>
+    /// The number in the field, of the kind that is wanted: of a lease, of rooms, of months or of batches, or a fee.
+    pub(crate) fn count<K, const LOW: u32, const HIGH: u32>(
+        &self,
+        number: u8,
+    ) -> Result<Bounded<K, LOW, HIGH>, Unread>
         requires { 1 ≤ number }
-        ensures { Reads kinds.lease_no self.now number result }
+        ensures { Reads (kinds.count LOW HIGH) self.now number result }
     {
-        LeaseNo::read(self.text(number)?).or(Err(Unread::Field(number)))
+        Bounded::read(self.text(number)?).or(Err(Unread::Field(number)))
     }
 
-    /// The number of rooms in the field.
-    pub(crate) fn rooms(&self, number: u8) -> Result<Rooms, Unread>
+    /// The money in the field: a rent or an amount, as is wanted.
+    pub(crate) fn money<const MOST: u32>(&self, number: u8) -> Result<Money<MOST>, Unread>
         requires { 1 ≤ number }
-        ensures { Reads kinds.rooms self.now number result }
+        ensures { Reads (kinds.money MOST) self.now number result }
     {
-        Rooms::read(self.text(number)?).or(Err(Unread::Field(number)))
-    }
-
-    /// The number of months in the field.
-    pub(crate) fn months(&self, number: u8) -> Result<LeaseMonths, Unread>
-        requires { 1 ≤ number }
-        ensures { Reads kinds.months self.now number result }
-    {
-        LeaseMonths::read(self.text(number)?).or(Err(Unread::Field(number)))
-    }
-
-    /// The fee in the field, in hundredths of a percent.
-    pub(crate) fn fee(&self, number: u8) -> Result<Fee, Unread>
-        requires { 1 ≤ number }
-        ensures { Reads kinds.fee self.now number result }
-    {
-        Fee::read(self.text(number)?).or(Err(Unread::Field(number)))
-    }
-
-    /// The number of batches in the field.
-    pub(crate) fn batch_count(&self, number: u8) -> Result<BatchCount, Unread>
-        requires { 1 ≤ number }
-        ensures { Reads kinds.batch_count self.now number result }
-    {
-        BatchCount::read(self.text(number)?).or(Err(Unread::Field(number)))
-    }
-
-    /// The rent in the field.
-    pub(crate) fn rent(&self, number: u8) -> Result<Rent, Unread>
-        requires { 1 ≤ number }
-        ensures { Reads kinds.rent self.now number result }
-    {
-        Rent::read(self.text(number)?).or(Err(Unread::Field(number)))
-    }
-
-    /// The amount in the field.
-    pub(crate) fn amount(&self, number: u8) -> Result<Amount, Unread>
-        requires { 1 ≤ number }
-        ensures { Reads kinds.amount self.now number result }
-    {
-        Amount::read(self.text(number)?).or(Err(Unread::Field(number)))
+        Money::read(self.text(number)?).or(Err(Unread::Field(number)))
     }
 
     /// The day in the field.
@@ -144,20 +107,16 @@ impl<'a> Line<'a> {
         ReceiptKind::read(self.text(number)?).or(Err(Unread::Field(number)))
     }
 
-    /// The text of 1 to 60 characters in the field. `Memory` where memory ran out.
-    pub(crate) fn text60(&self, alloc: Global, number: u8) -> Result<Text60, Unread>
+    /// The text in the field, of as many characters as is wanted. `Memory` where memory ran out.
+    pub(crate) fn some_text<const MOST: usize>(
+        &self,
+        alloc: Global,
+        number: u8,
+    ) -> Result<Text<MOST>, Unread>
         requires { 1 ≤ number }
-        ensures { Reads kinds.text60 self.now number result }
+        ensures { Reads (kinds.text MOST) self.now number result }
     {
-        Text60::read(alloc, self.text(number)?)?.or(Err(Unread::Field(number)))
-    }
-
-    /// The comment in the field. `Memory` where memory ran out.
-    pub(crate) fn comment(&self, alloc: Global, number: u8) -> Result<Comment, Unread>
-        requires { 1 ≤ number }
-        ensures { Reads kinds.comment self.now number result }
-    {
-        Comment::read(alloc, self.text(number)?)?.or(Err(Unread::Field(number)))
+        Text::read(alloc, self.text(number)?)?.or(Err(Unread::Field(number)))
     }
 
     /// The comment in the field, if it is not empty. `Memory` where memory ran out.
@@ -172,6 +131,6 @@ impl<'a> Line<'a> {
         if self.text(number)?.is_empty() {
             return Ok(None);
         }
-        Ok(Some(self.comment(alloc, number)?))
+        Ok(Some(self.some_text(alloc, number)?))
     }
 }

@@ -12,6 +12,9 @@ use std::str::Split;
 #[derive(Debug, Drop)]
 pub struct Unreadable;
 
+/// What a line comes to, as text.
+pub type Answer = Result<String, Unreadable>;
+
 impl From<AllocError> for Unreadable {
     fn from(_error: AllocError) -> Unreadable {
         Unreadable
@@ -108,6 +111,22 @@ impl<'a> Fields<'a> {
 
     pub fn receipt_no(&mut self) -> Result<ReceiptNo, Unreadable> {
         ReceiptNo::try_of_number(i64::from(self.number()?)).ok_or(Unreadable)
+    }
+
+    pub fn ids(&mut self) -> Result<(Id, Id), Unreadable> {
+        Ok((self.id()?, self.id()?))
+    }
+
+    pub fn id_and_day(&mut self) -> Result<(Id, EntryDay), Unreadable> {
+        Ok((self.id()?, self.day()?))
+    }
+
+    pub fn month_and_id(&mut self) -> Result<(EntryMonth, Id), Unreadable> {
+        Ok((self.month()?, self.id()?))
+    }
+
+    pub fn lease_and_index(&mut self) -> Result<(LeaseNo, ChargeIndex), Unreadable> {
+        Ok((self.lease_no()?, self.charge_index()?))
     }
 
     /// The lease, or none where the field is empty.

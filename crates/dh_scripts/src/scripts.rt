@@ -33,6 +33,15 @@ pub struct Block {
     pub lines: Vec<String>,
 }
 
+/// The blocks of a text, between which stand empty lines: the first line of each, which has its kind, and the others.
+pub fn kinds(alloc: Global, text: &str) -> Result<Vec<(&str, &str)>, AllocError> {
+    let mut blocks = Vec::new(alloc);
+    for block in text.split("\n\n") {
+        blocks.push(block.split_once('\n').unwrap_or((block, "")))?;
+    }
+    Ok(blocks)
+}
+
 fn add_copies(alloc: Global, lines: &mut Vec<String>, more: &[String]) -> Result<(), AllocError> {
     for line in more {
         lines.push(line.as_str().to_string(alloc)?)?;

@@ -22,7 +22,7 @@ mod sessions;
 mod short_reads;
 
 use dh_agency_scripts::{compare, play_in_memory, play_lives};
-use dh_scripts::Tally;
+use dh_scripts::{Tally, kinds};
 use std::io;
 
 // Plays a block whose kind has words of its own behind it.
@@ -55,8 +55,7 @@ fn play(rt: &HostRuntime, tally: &mut Tally, kind: &str, lines: &str) -> io::Res
 fn main(rt: HostRuntime) -> io::Result<()> {
     let text = io::read_to_string(rt.alloc(), rt.reader())?;
     let mut tally = Tally::new();
-    for block in text.as_str().split("\n\n") {
-        let (kind, lines) = block.split_once('\n').unwrap_or((block, ""));
+    for (kind, lines) in kinds(rt.alloc(), text.as_str())? {
         play(&rt, &mut tally, kind, lines)?;
     }
     println!(rt; "{tally}")

@@ -7,7 +7,6 @@ use Rattle.clap.proofs.WalkLemmas.{first_value-rows}
 use Rattle.clap.specs.Words.{Row, Text, first_of, first_value, rows_of}
 use Rattle.clap.specs.declared.parser.matches.Found.{Found}
 use Rattle.dh_values.specs.Counts.{batch_count_of}
-use Rattle.dh_values.specs.Texts.{is_key}
 use Rattle.dh_days.specs.Months.{month_of}
 use Rattle.dh_words.specs.Options.{first_bad, is_read, key_of, name_of, port_of, value}
 use Rattle.dh_words.specs.declared.options.Judged.{Judged}
@@ -16,16 +15,6 @@ use Rattle.dh_words.specs.declared.options.Judged.{Judged}
 
 pub text_of : (f : Found) (n : Text) (option : Judged) (o : Option Text) → o ≡ first_value f n → n ≡ name_of option → o ≡ first_of (name_of option) (rows_of f)
 text_of f n option o e is = e ∙ first_value-rows f n ∙ ap (λ x. first_of x (rows_of f)) is
-
-pub is_the_key : (text key : Text) → key ≡ text → is_key text ≡ true → key_of text ≡ Some key
-is_the_key text key same h = ap (λ b. cond b (Some text) None) h ∙ ap (λ t. Some t) (sym same)
-
-pub is_no_key : (text : Text) → (is_key text ≡ true → ⊥) → key_of text ≡ None
-is_no_key text h = go (is_key text) h
-  where
-    go : (b : Bool) → (b ≡ true → ⊥) → cond b (Some text) None ≡ None
-    go true wrong = absurd (wrong refl)
-    go false wrong = refl
 
 module _ {T : Type 0} (read : Text → Option T) (name : Text) (rows : List Row) where
   pub not_given : None ≡ first_of name rows → (is_read read name rows ≡ true) × (None ≡ value read name rows)

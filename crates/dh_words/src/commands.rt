@@ -145,141 +145,68 @@ fn free_words<'a>(alloc: Global) -> Arg<'a>
         .required(true)
 }
 
+// A subcommand with its arguments, in their order.
+macro_rules! words {
+    ($alloc:ident, $word:literal, $about:literal, $behind:ident; $($kind:ident $($name:literal $value:literal $help:literal)?);*) => {
+        Ok(subcommand($alloc, $word, $about, $behind)$(.arg($kind($alloc$(, $name, $value, $help)?))?)*)
+    };
+}
+
 fn init<'a>(alloc: Global) -> Result<Command<'a>, AllocError>
     ensures { IfOk result (IsSubcommand table.init) }
 {
-    subcommand(
-        alloc,
-        "init",
-        "Makes the file of a new agency and prints `created M`, M being its first month",
-        STATUSES,
-    )
-    .arg(required(
-        alloc,
-        "file",
-        "FILE",
-        "The file to make, as --file letting.db",
-    ))?
-    .arg(required(
-        alloc,
-        "first",
-        "MONTH",
-        "The month that the books begin with, as --first 2025-01",
-    ))
+    words!(alloc, "init", "Makes the file of a new agency and prints `created M`, M being its first month", STATUSES;
+        required "file" "FILE" "The file to make, as --file letting.db";
+        required "first" "MONTH" "The month that the books begin with, as --first 2025-01")
 }
 
 fn batch<'a>(alloc: Global) -> Result<Command<'a>, AllocError>
     ensures { IfOk result (IsSubcommand table.batch) }
 {
-    subcommand(
-        alloc,
-        "batch",
-        "Answers the lines of standard input and prints a reply line for each",
-        LINES,
-    )
-    .arg(option(
-        alloc,
-        "file",
-        "FILE",
-        "The agency's file, as --file letting.db; without it the agency is in memory",
-    ))?
-    .arg(option(
-        alloc,
-        "first",
-        "MONTH",
-        "The month that an agency in memory begins with, as --first 2025-01, which it is where not given",
-    ))
+    words!(alloc, "batch", "Answers the lines of standard input and prints a reply line for each", LINES;
+        option "file" "FILE" "The agency's file, as --file letting.db; without it the agency is in memory";
+        option "first" "MONTH" "The month that an agency in memory begins with, as --first 2025-01, which it is where not given")
 }
 
 fn run<'a>(alloc: Global) -> Result<Command<'a>, AllocError>
     ensures { IfOk result (IsSubcommand table.run) }
 {
-    subcommand(
-        alloc,
-        "run",
-        "Charges a month's rent and prints the reply",
-        REPLIES,
-    )
-    .arg(agency_file(alloc))?
-    .arg(required(
-        alloc,
-        "key",
-        "KEY",
-        "The key of the run, as --key R-2025-01; sent again, it charges nothing twice",
-    ))?
-    .arg(required(
-        alloc,
-        "month",
-        "MONTH",
-        "The month to charge, as --month 2025-01",
-    ))?
-    .arg(option(
-        alloc,
-        "batches",
-        "N",
-        "Only opens the run and carries out so many batches, as --batches 3",
-    ))
+    words!(alloc, "run", "Charges a month's rent and prints the reply", REPLIES;
+        agency_file;
+        required "key" "KEY" "The key of the run, as --key R-2025-01; sent again, it charges nothing twice";
+        required "month" "MONTH" "The month to charge, as --month 2025-01";
+        option "batches" "N" "Only opens the run and carries out so many batches, as --batches 3")
 }
 
 fn recover<'a>(alloc: Global) -> Result<Command<'a>, AllocError>
     ensures { IfOk result (IsSubcommand table.recover) }
 {
-    subcommand(
-        alloc,
-        "recover",
-        "Brings the open rent run to its end and prints `recovered`",
-        STATUSES,
-    )
-    .arg(agency_file(alloc))
+    words!(alloc, "recover", "Brings the open rent run to its end and prints `recovered`", STATUSES;
+        agency_file)
 }
 
 fn migrate<'a>(alloc: Global) -> Result<Command<'a>, AllocError>
     ensures { IfOk result (IsSubcommand table.migrate) }
 {
-    subcommand(
-        alloc,
-        "migrate",
-        "Takes a file of the first version to the second and prints `migrated`; copy the file first, there is no way back",
-        STATUSES,
-    )
-    .arg(agency_file(alloc))
+    words!(alloc, "migrate", "Takes a file of the first version to the second and prints `migrated`; copy the file first, there is no way back", STATUSES;
+        agency_file)
 }
 
 fn report<'a>(alloc: Global) -> Result<Command<'a>, AllocError>
     ensures { IfOk result (IsSubcommand table.report) }
 {
-    subcommand(
-        alloc,
-        "report",
-        "Answers a question: prints the report, or the refusal",
-        QUESTIONS,
-    )
-    .arg(agency_file(alloc))?
-    .arg(free_words(alloc))
+    words!(alloc, "report", "Answers a question: prints the report, or the refusal", QUESTIONS;
+        agency_file;
+        free_words)
 }
 
 fn serve<'a>(alloc: Global) -> Result<Command<'a>, AllocError>
     ensures { IfOk result (IsSubcommand table.serve) }
 {
-    subcommand(
-        alloc,
-        "serve",
-        "Answers HTTP requests on this machine, and prints the status of each answer",
-        ANSWERS,
-    )
-    .arg(agency_file(alloc))?
-    .arg(required(
-        alloc,
-        "port",
-        "PORT",
-        "The port to listen at on 127.0.0.1, 0 to 65535, as --port 8080; with 0 the system picks one, and `port P` is printed first",
-    ))?
-    .arg(required(
-        alloc,
-        "count",
-        "N",
-        "How many connections to serve, one after the other, as --count 1000 (1 to 1,000,000)",
-    ))
+    words!(alloc, "serve", "Answers HTTP requests on this machine, and prints the status of each answer", ANSWERS;
+        agency_file;
+        required "port" "PORT" "The port to listen at on 127.0.0.1, 0 to 65535, as --port 8080; with 0 the system picks one, and `port P` is printed first";
+        required "count" "N" "How many connections to serve, one after the other, as --count 1000 (1 to 1,000,000)")
 }
 
 // `letting` before it has its subcommands.
