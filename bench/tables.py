@@ -12,7 +12,7 @@ import sys
 import time
 from pathlib import Path
 
-TEXTS = Path(__file__).parent.parent / "crates/dh_catalog/src/texts.rt"
+TEXTS = Path(__file__).parent.parent / "crates/dh_ddl/src/texts.rt"
 SAMPLE = 1000
 FIRST_MONTH = 24000
 # A run has a month of its own, of which there are 2,412.

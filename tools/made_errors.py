@@ -13,40 +13,40 @@ import sys
 from pathlib import Path
 
 ERRORS = {
-    'dh_disk_cases/src/trial_disks.rt': 2,  # the faults of a disk on trial
-    'dh_fields/src/reading.rt': 1,  # passes on that memory ran out
-    'dh_office/src/files.rt': 1,  # a pattern
+    'dh_disk_tests/src/trial_disks.rt': 2,  # the faults of a disk on trial
+    'dh_fields/src/reader.rt': 1,  # passes on that memory ran out
+    'dh_jobs/src/files.rt': 1,  # a pattern
     'dh_http/src/answers.rt': 1,  # of a text that memory ran out for
     'dh_requests/src/head.rt': 1,  # a pattern: an error of httparse
-    'dh_requests/src/routing.rt': 1,  # of routes that memory ran out for
+    'dh_requests/src/routes.rt': 1,  # of routes that memory ran out for
     'dh_schema/src/fault.rt': 1,  # a pattern
-    'dh_tables/src/finding.rt': 2,  # two rows of a key, or a row that is no record: clause `corrupt`
-    'dh_tables/src/loading.rt': 2,  # a key or a rowid that is there twice, or a rowid that is no whole number: clause `corrupt`
+    'dh_tables/src/one_record.rt': 2,  # two rows of a key, or a row that is no record: clause `corrupt`
+    'dh_tables/src/whole_table.rt': 2,  # a key or a rowid that is there twice, or a rowid that is no whole number: clause `corrupt`
 }
 FAULTS = {
-    'dh_fields/src/reading.rt': 1,  # a pattern
+    'dh_fields/src/reader.rt': 1,  # a pattern
     'dh_fields/src/unread.rt': 1,  # of AllocError
     'dh_http/src/answers.rt': 3,  # of an answer that memory ran out for, and two patterns
     'dh_http/src/fault.rt': 1,  # of a request that memory ran out for
-    'dh_http/src/serving.rt': 1,  # of routes that memory ran out for
-    'dh_http/src/listening.rt': 1,  # of routes that memory ran out for
-    'dh_http/src/taking.rt': 3,  # by the error of the next connection
-    'dh_lines/src/answering.rt': 2,  # of an error of csv without a failed read, and of AllocError
+    'dh_http/src/exchange.rt': 1,  # of routes that memory ran out for
+    'dh_http/src/listener.rt': 1,  # of routes that memory ran out for
+    'dh_http/src/acceptor.rt': 3,  # by the error of the next connection
+    'dh_lines/src/records.rt': 2,  # of an error of csv without a failed read, and of AllocError
     'dh_lives/src/cause.rt': 1,  # of AllocError
     'dh_lives/src/files.rt': 1,  # files that are not usable
-    'dh_lives/src/rehearsing.rt': 2,  # of what cut the work, and of files in memory
+    'dh_lives/src/rehearsals.rt': 2,  # of what cut the work, and of files in memory
     'dh_lives/src/work.rt': 1,  # of AllocError
-    'dh_office/src/files.rt': 3,  # of looks at the path, and of AllocError
-    'dh_office/src/places.rt': 5,  # by the errors of the path, of looks at it, and of AllocError
-    'dh_office/src/process.rt': 2,  # of AllocError
-    'dh_office/src/wording.rt': 4,  # of AllocError, and a pattern
+    'dh_jobs/src/files.rt': 3,  # of looks at the path, and of AllocError
+    'dh_jobs/src/places.rt': 5,  # by the errors of the path, of looks at it, and of AllocError
+    'dh_jobs/src/process.rt': 2,  # of AllocError
+    'dh_jobs/src/program.rt': 4,  # of AllocError, and a pattern
     'dh_requests/src/body.rt': 1,  # of AllocError
     'dh_requests/src/body_texts.rt': 1,  # of an error of serde_json in a body that is a list of texts
     'dh_requests/src/unread.rt': 1,  # of AllocError
     'dh_schema/src/fault.rt': 7,  # by the error of the store, of AllocError, and four of which each asks for its reason
-    'dh_types/src/wording.rt': 2,  # patterns
-    'dh_words/src/kinds.rt': 1,  # of AllocError
-    'dh_words/src/words.rt': 1,  # by the kind of an error of clap
+    'dh_types/src/words.rt': 2,  # patterns
+    'dh_arguments/src/kinds.rt': 1,  # of AllocError
+    'dh_arguments/src/words.rt': 1,  # by the kind of an error of clap
 }
 ERROR = re.compile(r'\bError::[A-Z]|\(AllocError\)|\bAllocError\.|= AllocError\b')
 FAULT = re.compile(r'::(Memory|Store)\b(?! as|::|\()')
@@ -65,7 +65,7 @@ def main():
         name = path.relative_to('crates').as_posix()
         lines = [it for it in enumerate(path.read_text().splitlines(), 1) if not it[1].lstrip().startswith(('//', 'ghost use', 'ensures', 'requires'))]
         bad += [(path, *it) for it in others(lines, ERROR, ERRORS.get(name, 0)) + others(lines, RENAMED, 0)]
-        if '_cases/' not in name:
+        if '_tests/' not in name:
             bad += [(path, *it) for it in others(lines, FAULT, FAULTS.get(name, 0))]
     for path, number, text in bad:
         print(f'{path}:{number}: an error is made or named anew here: {text.strip()}')

@@ -22,17 +22,17 @@ use Rattle.dh_model.specs.Verdicts.{opened_run, run_verdict, verdict_on}
 use Rattle.dh_laws.specs.Batches.{is_plain}
 use Rattle.dh_laws.specs.InOrder.{IsEntered}
 use Rattle.dh_laws.specs.Looks.{AcceptedChangesFit, FitsIn}
-use Rattle.dh_laws.specs.Events.{Said}
+use Rattle.dh_laws.specs.Events.{Answered}
 use Rattle.dh_laws.specs.StateTables.{IsStateInOrder, as_tables}
 use Rattle.dh_laws.specs.Telling.{begun}
-use Rattle.dh_laws.proofs.Carrying.{opening_cut, opening_said, refused_said, rows_cut, rows_in_order, rows_said, same_cut}
-use Rattle.dh_laws.proofs.Versions.{the_version_stays}
+use Rattle.dh_laws.proofs.CommandLemmas.Carried.{opening_cut, opening_said, refused_said, rows_cut, rows_in_order, rows_said, same_cut}
+use Rattle.dh_laws.proofs.InvariantLemmas.Versions.{the_version_stays}
 use Rattle.dh_schema.specs.Store as store
 use Rattle.dh_schema.specs.Store.{IsReady, Leaves, with_change}
 use Rattle.dh_schema.specs.Tables.{IsSound, state_in}
 use Rattle.dh_schema.proofs.Keyed.{books_are_keyed, sound_tables_show_their_run}
 use Rattle.dh_store.specs.Putting.{HasPlace, came_with_rows}
-use Rattle.dh_runs.specs.Told.{IsCut, IsSaid}
+use Rattle.dh_runs.specs.Told.{IsInterrupted, IsAnsweredBy}
 
 pub on_err : {A E P : Type 0} (r : Result A E) → P → OnErr r P
 on_err (Ok a) p = tt
@@ -47,7 +47,7 @@ in_order s ready = sound_in_order s.now.trees ready.sound
 
 pub refused : (told : Command) (why : Refusal) (it : Verdict) (old : State) (t : machine.State) → IsReady old
     → it ≡ verdict_on (store.tables old).books (store.tables old).open_run told → it ≡ verdict.Refused why → t ≡ store.tables old
-    → IsSaid told (reply.Refused why) (store.tables old) t
+    → IsAnsweredBy told (reply.Refused why) (store.tables old) t
 refused told why it old t ready found h is = refused_said (store.tables old) t told why (in_order old ready) (sym found ∙ h) is
 
 -- ---- the version
@@ -61,23 +61,23 @@ pub has_place : {version : Version} (rows : Change) → version ≡ Second → H
 has_place {version = version} rows is = since_second (came_with_rows rows) version is
 
 -- and stay so where a command was answered
-pub still_second : (told : Command) (said : Reply) (s t : machine.State) → IsSaid told said s t → s.books.version ≡ Second → t.books.version ≡ Second
-still_second told said s t is second = the_version_stays batch_size (Said told said) (as_tables s) (as_tables t) is ∙ second
+pub still_second : (told : Command) (said : Reply) (s t : machine.State) → IsAnsweredBy told said s t → s.books.version ≡ Second → t.books.version ≡ Second
+still_second told said s t is second = the_version_stays batch_size (Answered told said) (as_tables s) (as_tables t) is ∙ second
 
 -- ---- what a crash leaves
 
 pub leaves_weaker : (s : State) (P Q : machine.State → Type 0) → ((t : machine.State) → P t → Q t) → Leaves s P → Leaves s Q
 leaves_weaker s P Q f h left may = let it = h left may in (it.0, f (state_in left) it.1)
 
-pub same_crash : (told : Command) (s : machine.State) (new : State) → Leaves new (λ t. t ≡ s) → Leaves new (IsCut told s)
-same_crash told s new left = leaves_weaker new (λ t. t ≡ s) (IsCut told s) (λ t is. same_cut told s t is) left
+pub same_crash : (told : Command) (s : machine.State) (new : State) → Leaves new (λ t. t ≡ s) → Leaves new (IsInterrupted told s)
+same_crash told s new left = leaves_weaker new (λ t. t ≡ s) (IsInterrupted told s) (λ t is. same_cut told s t is) left
 
 -- nothing or all of a transaction
-either_cut : (told : Command) (s b : machine.State) (new : State) → ((t : machine.State) → t ≡ b → IsCut told s t)
-    → Leaves new (λ t. (t ≡ s) ⊎ (t ≡ b)) → Leaves new (IsCut told s)
-either_cut told s b new done left = leaves_weaker new (λ t. (t ≡ s) ⊎ (t ≡ b)) (IsCut told s) by left
+either_cut : (told : Command) (s b : machine.State) (new : State) → ((t : machine.State) → t ≡ b → IsInterrupted told s t)
+    → Leaves new (λ t. (t ≡ s) ⊎ (t ≡ b)) → Leaves new (IsInterrupted told s)
+either_cut told s b new done left = leaves_weaker new (λ t. (t ≡ s) ⊎ (t ≡ b)) (IsInterrupted told s) by left
   where
-    by : (t : machine.State) → (t ≡ s) ⊎ (t ≡ b) → IsCut told s t
+    by : (t : machine.State) → (t ≡ s) ⊎ (t ≡ b) → IsInterrupted told s t
     by t (inl same) = same_cut told s t same
     by t (inr is) = done t is
 
@@ -91,10 +91,10 @@ module _ (order : RunOrder) (old : State) (ready : IsReady old) (none : (store.t
   abbrev opened : machine.State
   opened = begun order (change.Open (opened_run before.books order)) before
 
-  pub open_said : (t : machine.State) → t ≡ opened → IsSaid (command.Open order) (reply.Opened order.month) before t
+  pub open_said : (t : machine.State) → t ≡ opened → IsAnsweredBy (command.Open order) (reply.Opened order.month) before t
   open_said t is = opening_said before order none (in_order old ready) h t is
 
-  pub open_crash : (new : State) → Leaves new (λ t. (t ≡ before) ⊎ (t ≡ opened)) → Leaves new (IsCut (command.Open order) before)
+  pub open_crash : (new : State) → Leaves new (λ t. (t ≡ before) ⊎ (t ≡ opened)) → Leaves new (IsInterrupted (command.Open order) before)
   open_crash new left = either_cut (command.Open order) before opened new (opening_cut before order none (in_order old ready) h) left
 
 -- ---- rows of an accepted command
@@ -112,8 +112,8 @@ module _ (told : Command) (rows : Change) (old : State) (ready : IsReady old)
     put_in_order = rows_in_order s told rows (in_order old ready) entered h
 
     module _ (plain : is_plain rows ≡ true) where
-      pub put_said : (it : Reply) (t : machine.State) → it ≡ accepted rows → t ≡ with_change rows s → IsSaid told it s t
+      pub put_said : (it : Reply) (t : machine.State) → it ≡ accepted rows → t ≡ with_change rows s → IsAnsweredBy told it s t
       put_said it t answered is = rows_said s told rows (in_order old ready) entered h plain it t answered is
 
-      pub put_crash : (new : State) → Leaves new (λ t. (t ≡ s) ⊎ (t ≡ with_change rows s)) → Leaves new (IsCut told s)
+      pub put_crash : (new : State) → Leaves new (λ t. (t ≡ s) ⊎ (t ≡ with_change rows s)) → Leaves new (IsInterrupted told s)
       put_crash new left = either_cut told s (with_change rows s) new (rows_cut s told rows (in_order old ready) entered h plain) left

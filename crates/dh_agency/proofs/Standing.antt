@@ -11,7 +11,7 @@ use Rattle.dh_model.specs.Whole.{whole}
 use Rattle.dh_laws.specs.Asking.{AnswersPassTheRun, OpenRunsRefusePutOff}
 use Rattle.dh_laws.specs.InOrder.{IsInOrder}
 use Rattle.dh_laws.specs.StateTables.{IsStateInOrder}
-use Rattle.dh_laws.proofs.TellingWhole.{own_state, shows_none}
+use Rattle.dh_laws.proofs.CommandLemmas.Whole.{own_state, shows_none}
 use Rattle.dh_schema.proofs.Crashing.{leaves_these}
 use Rattle.dh_agency.specs.Seat.{Seat}
 use Rattle.dh_agency.specs.Agency.{IsOpen, Leaves, LeavesItsTables, ReadsAs, machine, shown_by, stand, stand_of}

@@ -8,9 +8,9 @@ ghost use Rattle.dh_types.specs.Reports.{report_of};
 ghost use Rattle.dh_model.specs.Answers.{report};
 ghost use Rattle.dh_laws.specs.Batches.{IsPostedInPart};
 ghost use Rattle.dh_agency.specs.Agency.{Ends, IsClean, IsOpen, IsServed, LeavesItsTables, Leaves, ReadsAs, machine};
-ghost use Rattle.dh_agency.specs.Told.{IsCut, IsSaid, reply_of};
+ghost use Rattle.dh_agency.specs.Told.{IsInterrupted, IsAnsweredBy, reply_of};
 
-use crate::carrying::carry_out;
+use crate::commands::carry_out;
 use dh_runs::{RunState, post_some};
 use dh_store::look_up;
 use dh_types::{Answer, Command, Fault, Question, Reply};
@@ -57,11 +57,11 @@ impl<S: Alter> Agency<S> {
     /// command happened or not, and the agency has stopped: while the store is open its tables are sound, and no transaction
     /// is. Where the agency had stopped, fault 23.
     pub fn step(&mut self, alloc: Global, command: &Command) -> Result<Reply, Fault>
-        ensures said { IsClean S.Store self.new → IfOk result (λ reply. IsSaid command.now reply (machine S.Store self.old) (machine S.Store self.new)) }
+        ensures said { IsClean S.Store self.new → IfOk result (λ reply. IsAnsweredBy command.now reply (machine S.Store self.old) (machine S.Store self.new)) }
         ensures left { IsClean S.Store self.new → OnOk result (LeavesItsTables S.Store self.new) }
-        ensures crash { IsClean S.Store self.new → self.old.is_stopped ≡ false → Leaves S.Store self.new (IsCut command.now (machine S.Store self.old)) }
+        ensures crash { IsClean S.Store self.new → self.old.is_stopped ≡ false → Leaves S.Store self.new (IsInterrupted command.now (machine S.Store self.old)) }
         ensures halted { IsClean S.Store self.new → self.old.is_stopped ≡ false → IsOpen S.Store self.new
-            → OnErr result (ReadsAs S.Store self.new (IsCut command.now (machine S.Store self.old))) }
+            → OnErr result (ReadsAs S.Store self.new (IsInterrupted command.now (machine S.Store self.old))) }
         ensures ends { Ends S.Store self.old self.new result }
     {
         if self.is_stopped {
@@ -81,7 +81,7 @@ impl<S: Alter> Agency<S> {
     /// and no transaction is. Where the agency had stopped, fault 23.
     pub fn resume(&mut self, alloc: Global, most: u32) -> Result<RunState, Fault>
         ensures said { IsClean S.Store self.new
-            → IfOk result (λ it. IsSaid (command.Post most) (reply_of it) (machine S.Store self.old) (machine S.Store self.new)) }
+            → IfOk result (λ it. IsAnsweredBy (command.Post most) (reply_of it) (machine S.Store self.old) (machine S.Store self.new)) }
         ensures left { IsClean S.Store self.new → OnOk result (LeavesItsTables S.Store self.new) }
         ensures crash { IsClean S.Store self.new → self.old.is_stopped ≡ false
             → Leaves S.Store self.new (IsPostedInPart most (machine S.Store self.old)) }

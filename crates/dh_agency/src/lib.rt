@@ -2,14 +2,14 @@
 #![tactic(auto)]
 
 mod agency;
-mod carrying;
-mod moving;
-mod opening;
-mod taking;
+mod attachment;
+mod commands;
+mod creation;
+mod first_version;
 
 pub use agency::Agency;
-pub use dh_laws::{lives as laws, passing};
+pub use attachment::{attach, recover};
+pub use creation::{NotOpened, create};
+pub use dh_laws::{commutation, lives as laws};
 pub use dh_runs::{Problem, RunState};
-pub use moving::{migrate, recover_1};
-pub use opening::{NotOpened, create};
-pub use taking::{attach, recover};
+pub use first_version::{migrate, recover_1};

@@ -2,7 +2,7 @@
 //! the runs follow one another, and each month is charged as its run says, is `months_in_order`.
 #![tactic(auto)]
 
-mod auditing;
+mod all_rules;
 mod closed_charges;
 mod closed_dues;
 mod closed_months;
@@ -22,7 +22,7 @@ mod same;
 mod staff;
 mod stays;
 
-pub use auditing::audit;
+pub use all_rules::audit;
 pub use closed_months::closed_months_are_in_order;
 pub use fees::fees_in_order;
 pub use leases::{endings_in_order, leases_in_time, one_start_a_day};

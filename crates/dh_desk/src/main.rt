@@ -1,7 +1,7 @@
 //! `letting`: the daily system of a property letting agency. Its words are carried out by `run_words`.
 #![tactic(auto)]
 
-use dh_office::{Unknown, refuse_words, run_words};
+use dh_jobs::{Unknown, refuse_words, run_words};
 use std::process::ExitCode;
 use std::{env, io};
 

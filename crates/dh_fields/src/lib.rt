@@ -7,10 +7,10 @@ mod line;
 mod people;
 mod properties;
 mod questions;
-mod reading;
+mod reader;
 mod request;
 mod unread;
 mod values;
 
-pub use reading::{read_fields, read_line};
+pub use reader::{read_fields, read_line};
 pub use request::Request;

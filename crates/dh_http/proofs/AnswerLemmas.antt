@@ -24,7 +24,7 @@ accepted_is reply.Already other = refl
 accepted_is (reply.Receipt number) other = refl
 accepted_is (reply.AlreadyReceipt number) other = refl
 accepted_is (reply.Opened month) other = refl
-accepted_is (reply.Part run) other = refl
+accepted_is (reply.Progress run) other = refl
 accepted_is (reply.Posted sum) other = refl
 accepted_is (reply.AlreadyPosted sum) other = refl
 

@@ -11,8 +11,8 @@ use Rattle.dh_types.specs.Output.{BreaksOff}
 use Rattle.dh_types.specs.declared.output.Output.{Output}
 use Rattle.dh_types.specs.declared.reply.Fault.{Fault}
 use Rattle.dh_agency.specs.Seat.{Seat}
-use Rattle.dh_http.specs.declared.listening.Unserved.{Unserved}
-use Rattle.dh_http.specs.declared.listening.Unserved.TheVariants as unserved
+use Rattle.dh_http.specs.declared.listener.Unserved.{Unserved}
+use Rattle.dh_http.specs.declared.listener.Unserved.TheVariants as unserved
 use Rattle.dh_http.specs.Service.{IsHalt, ServesOn, StopsWith}
 use Rattle.dh_http.specs.Printed.{EndsWith, GoOn, PrintsBehind, outcome_line, outcome_lines}
 use Rattle.dh_http.proofs.ServingLemmas.{serves_both, serves_none}

@@ -9,7 +9,7 @@ use Rattle.dh_model.specs.Books.{State}
 use Rattle.dh_schema.specs.Faults.{IsFirstFault}
 use Rattle.dh_agency.specs.Seat.{Seat}
 use Rattle.dh_agency.specs.Agency.{IsOpen, Leaves, machine, stand}
-use Rattle.dh_agency.specs.Told.{IsCut}
+use Rattle.dh_agency.specs.Told.{IsInterrupted}
 use Rattle.dh_agency.proofs.Standing.{leaves_more}
 use Rattle.dh_fields.specs.declared.request.Request.TheVariants.{Command as Ordered}
 use Rattle.dh_requests.specs.Requests.{MayAsk}
@@ -79,10 +79,10 @@ goes_on_made old new a b it acted (Err e) result sends says other same = subst (
 
 -- ---- what a crash leaves
 module _ {S : Type 0} (g : Ghosts S) (old new : Seat S) (May : Asked → Type 0) where
-  pub leaves_cut : (command : Command) → May (Fields (Ok (Ordered command))) → Leaves g new (IsCut command (machine g old)) → LeavesServed g old new May
-  leaves_cut command may h = leaves_more g new (IsCut command (machine g old)) _ cut h
+  pub leaves_cut : (command : Command) → May (Fields (Ok (Ordered command))) → Leaves g new (IsInterrupted command (machine g old)) → LeavesServed g old new May
+  leaves_cut command may h = leaves_more g new (IsInterrupted command (machine g old)) _ cut h
     where
-      cut : (left : State) → IsCut command (machine g old) left → (left ≡ machine g old) ⊎ ((asked : Asked) × May asked × IsLeftBy asked (machine g old) left)
+      cut : (left : State) → IsInterrupted command (machine g old) left → (left ≡ machine g old) ⊎ ((asked : Asked) × May asked × IsLeftBy asked (machine g old) left)
       cut left is = inr (Fields (Ok (Ordered command)), may, is)
 
   pub leaves_same : Leaves g new (λ left. left ≡ machine g old) → LeavesServed g old new May

@@ -57,7 +57,7 @@ module _ {S : Type 0} (g : Ghosts S) (s : State) (before : List (Option ℕ)) (o
   same_some : (left : State) → left ≡ machine g old → IsAfterSome s left
   same_some left is = (contacts, ap (λ (t : State). whole batch_size t.books) is ∙ ap (λ (t : State). t.books) stands)
 
-  -- those of a command that is cut
+  -- those of a command that is interrupted
   left_some : (it : Asked) (left : State) → IsLeftBy it (machine g old) left → IsAfterSome s left
   left_some (Fields (Ok (Ordered command))) left (inl undone) = (contacts, undone.books ∙ ap (λ (t : State). t.books) stands)
   left_some (Fields (Ok (Ordered command))) left (inr done) =

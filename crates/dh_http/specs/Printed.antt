@@ -7,9 +7,9 @@ use Rattle.dh_types.specs.Output.{BreaksOff}
 use Rattle.dh_types.specs.declared.output.Output.{Output}
 use Rattle.dh_reports.specs.Columns.{newline}
 use Rattle.dh_http.specs.Service.{IsHalt}
-use Rattle.dh_http.specs.declared.listening.Service.{Service}
-use Rattle.dh_http.specs.declared.listening.Unserved.{Unserved}
-use Rattle.dh_http.specs.declared.listening.Unserved.TheVariants as unserved
+use Rattle.dh_http.specs.declared.listener.Service.{Service}
+use Rattle.dh_http.specs.declared.listener.Unserved.{Unserved}
+use Rattle.dh_http.specs.declared.listener.Unserved.TheVariants as unserved
 
 -- the status of the answer, or that there was none
 abbrev pub outcome_line : Option ℕ → List ℕ

@@ -13,7 +13,7 @@ use Rattle.dh_model.specs.Runs.{batch_size}
 use Rattle.dh_schema.specs.Faults.{IsFirstFault}
 use Rattle.dh_agency.specs.Seat.{Seat}
 use Rattle.dh_agency.specs.Agency.{IsOpen, Leaves, machine, stand}
-use Rattle.dh_agency.specs.Told.{IsCut}
+use Rattle.dh_agency.specs.Told.{IsInterrupted}
 use Rattle.dh_fields.specs.declared.request.Request.{Request}
 use Rattle.dh_fields.specs.declared.request.Request.TheVariants.{Command as Ordered, Question}
 use Rattle.dh_requests.specs.declared.asked.Asked.{Asked}
@@ -52,9 +52,9 @@ IsPut (Fields (Ok request)) = ⊤
 IsPut (Fields (Err why)) = ⊥
 IsPut (Turned why) = ⊥
 
--- The tables that a fault leaves: those of a command that was cut, or the same where nothing was to be changed.
+-- The tables that a fault leaves: those of a command that was interrupted, or the same where nothing was to be changed.
 abbrev pub IsLeftBy : Asked → State → State → Type 0
-IsLeftBy (Fields (Ok (Ordered command))) before left = IsCut command before left
+IsLeftBy (Fields (Ok (Ordered command))) before left = IsInterrupted command before left
 IsLeftBy (Fields (Ok (Question question))) before left = left ≡ before
 IsLeftBy (Fields (Err why)) before left = left ≡ before
 IsLeftBy (Turned why) before left = left ≡ before

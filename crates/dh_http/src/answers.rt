@@ -11,7 +11,7 @@ use crate::fault::NetFault;
 use arrayvec::ArrayVec;
 use dh_reports::write;
 use dh_requests::Turned;
-use dh_types::writing::{put, put_parts};
+use dh_types::text_writer::{put, put_parts};
 use dh_types::{Answer, Fault, Output, Refusal, Reply};
 use http::StatusCode;
 use itoa::Buffer;

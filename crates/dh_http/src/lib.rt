@@ -2,18 +2,18 @@
 //! [`serve_one`] and `specs/Requests.antt` of dh_requests first, and then [`serve`].
 #![tactic(auto)]
 
+mod acceptor;
 mod answers;
 mod connections;
+mod exchange;
 mod fault;
 pub mod laws;
-mod listening;
+mod listener;
 mod patience;
 mod peers;
-mod serving;
 mod streams;
-mod taking;
 
+pub use exchange::serve_one;
 pub use fault::NetFault;
-pub use listening::{Service, Unserved, serve, serve_within};
+pub use listener::{Service, Unserved, serve, serve_within};
 pub use patience::Patience;
-pub use serving::serve_one;

@@ -1,77 +1,32 @@
-pub mod Acceptance
+-- The laws, bottom up; each folder has the lemmas of one.
+-- VerdictLemmas: What an accepted command's checks found, and what holds of its rows.
+-- InvariantLemmas: What every change keeps: keys, references, staff, fees, and the order of the books.
+-- MonthLemmas: Runs, months and the open run, whatever rows are added.
+-- BalanceLemmas: How each step moves what a lease owes.
+-- BatchLemmas: Batches, one after the other, lead to the same whole books.
+-- CommutationLemmas: What is free, and an open run, in either order.
+-- FrozenLemmas: What may be asked while a run is open, and what is refused because of it.
+-- RepeatLemmas: What a command gets whose key was used.
+-- ReceiptLemmas: A receipt that was acknowledged stays.
+-- RunLemmas: A run or an opening that was acknowledged stays, and its month is charged.
+-- ShownLemmas: The part rows of an open month tell which run is open, and how far it is.
+-- StandingLemmas: The tables, and where the machine stands with them.
+-- CommandLemmas: Commands that are answered, and interrupted ones that were carried out.
+-- LifeLemmas: All lives, one after the other.
+-- FactLemmas: What a command or a question looks at decides what it is answered.
+pub mod VerdictLemmas
+pub mod InvariantLemmas
+pub mod MonthLemmas
+pub mod BalanceLemmas
+pub mod BatchLemmas
+pub mod CommutationLemmas
+pub mod FrozenLemmas
+pub mod RepeatLemmas
+pub mod ReceiptLemmas
+pub mod RunLemmas
+pub mod ShownLemmas
+pub mod StandingLemmas
+pub mod CommandLemmas
+pub mod LifeLemmas
+pub mod FactLemmas
 pub mod MapMerges
-pub mod MonthAlike
-pub mod MonthChanges
-pub mod MonthClose
-pub mod MonthDues
-pub mod MonthKeep
-pub mod MonthOpen
-pub mod MonthShown
-pub mod MonthSums
-pub mod OweBalances
-pub mod OweCharges
-pub mod OweDues
-pub mod OweSums
-pub mod PassChanges
-pub mod PassEach
-pub mod PassVerdicts
-pub mod PostCharged
-pub mod PostDues
-pub mod PostMonth
-pub mod PostFees
-pub mod PostRules
-pub mod MonthWhole
-pub mod MonthSteps
-pub mod PostWhole
-pub mod KeyedRows
-pub mod KeepKeys
-pub mod Settled
-pub mod KeepFees
-pub mod KeepGrowth
-pub mod KeepReferences
-pub mod KeepStaff
-pub mod KeepManagers
-pub mod EarlyEnds
-pub mod KeepOrder
-pub mod PostCounts
-pub mod PostSmall
-pub mod PostNext
-pub mod PostClosing
-pub mod PostOpening
-pub mod VerdictCases
-pub mod VerdictChecks
-pub mod EmptyBooks
-mod AgainOrders
-mod ReceiptEvents
-mod ReceiptStays
-mod ReceiptSteps
-pub mod LiveBeginnings
-pub mod LiveBooks
-pub mod LiveCommands
-pub mod LiveParts
-pub mod LiveTables
-pub mod ShownBatches
-pub mod ShownRun
-mod AskAnswers
-mod AskRefusals
-mod FindKeys
-mod RepeatReplies
-mod RunTold
-mod RunSteps
-mod RunStays
-mod RepeatAgain
-pub mod StandingTells
-pub mod MovingBatches
-pub mod TellingWhole
-pub mod TellingMeanwhile
-pub mod TellingRuns
-pub mod TellingCuts
-pub mod Standing
-pub mod Versions
-pub mod Carrying
-mod StepCases
-pub mod RowsNarrowed
-pub mod LooksFit
-pub mod LooksJudged
-pub mod LooksLast
-pub mod AskedRows

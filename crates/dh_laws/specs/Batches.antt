@@ -47,7 +47,7 @@ abbrev pub sum_told : Books → Option OpenRun → RunSum
 sum_told books None = record { month = 0; count = 0; total = 0 }
 sum_told books (Some run) = posted_sum run.month (get (whole batch_size books).runs run.month)
 
--- a `post` of so many batches was cut here: the whole books are the same, and the open run is moved on by so many at most
+-- a `post` of so many batches was interrupted here: the whole books are the same, and the open run is moved on by so many at most
 abbrev pub IsPostedInPart : ℕ → State → State → Type 0
 IsPostedInPart most before after = IsUndone batch_size (command.Post most) (as_tables before) (as_tables after)
 

@@ -2,7 +2,7 @@
 use Rattle.std.specs.Prelude.{◌≡◌, ◌≤◌, ℕ, List, [], ◌∷◌, ◌++◌, length}
 use Rattle.dh_types.specs.declared.command.Command.{Command}
 use Rattle.dh_model.specs.Books.{State}
-use Rattle.dh_laws.specs.Events.{Event, Said, Cut, Taken, Torn, Mended, Tables}
+use Rattle.dh_laws.specs.Events.{Event, Answered, Interrupted, Attached, RecoveryInterrupted, Recovered, Tables}
 use Rattle.dh_laws.specs.Kept.{Kept}
 use Rattle.dh_laws.specs.Lives.{IsOneLife, calls}
 
@@ -15,13 +15,13 @@ with_first event (life ∷ lives) = (event ∷ life) ∷ lives
 -- cut begins none.
 abbrev pub lives_of : List (Event × Tables) → List (List (Event × Tables))
 lives_of [] = [] ∷ []
-lives_of ((Taken, after) ∷ events) = [] ∷ lives_of events
-lives_of ((Mended, after) ∷ events) = [] ∷ lives_of events
-lives_of ((Said it reply, after) ∷ events) = with_first (Said it reply, after) (lives_of events)
-lives_of ((Cut it, after) ∷ events) = with_first (Cut it, after) (lives_of events)
-lives_of ((Torn, after) ∷ events) = with_first (Torn, after) (lives_of events)
+lives_of ((Attached, after) ∷ events) = [] ∷ lives_of events
+lives_of ((Recovered, after) ∷ events) = [] ∷ lives_of events
+lives_of ((Answered it reply, after) ∷ events) = with_first (Answered it reply, after) (lives_of events)
+lives_of ((Interrupted it, after) ∷ events) = with_first (Interrupted it, after) (lives_of events)
+lives_of ((RecoveryInterrupted, after) ∷ events) = with_first (RecoveryInterrupted, after) (lives_of events)
 
--- in none is anything called after a command that was cut
+-- in none is anything called after a command that was interrupted
 abbrev pub AreLives : List (List (Event × Tables)) → Type 0
 AreLives [] = Unit {0}
 AreLives (life ∷ lives) = IsOneLife life × AreLives lives

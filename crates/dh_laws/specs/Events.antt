@@ -1,4 +1,4 @@
--- What can happen to an agency's tables: a command is answered or cut, files are taken, a recovery comes to its end or is cut.
+-- What can happen to an agency's tables: a command is answered or interrupted, files are taken, a recovery comes to its end or is interrupted.
 use Rattle.std.specs.Prelude.{◌≡◌, ◌≤◌, ℕ, ◌+◌, ◌⊎◌, List, [], ◌∷◌, Option, Some, None}
 use Rattle.dh_types.specs.declared.command.Command.{Command}
 use Rattle.dh_types.specs.declared.command.Command.TheVariants as command
@@ -20,15 +20,15 @@ pub record Tables : Type 0 where
 
 pub data Event : Type 0 where
   -- the command was answered without a fault
-  Said : Command → Reply → Event
+  Answered : Command → Reply → Event
   -- a fault or a stop came within the command
-  Cut : Command → Event
+  Interrupted : Command → Event
   -- the files were taken as they are
-  Taken : Event
+  Attached : Event
   -- a fault or a stop came within a recovery
-  Torn : Event
+  RecoveryInterrupted : Event
   -- a recovery came to its end
-  Mended : Event
+  Recovered : Event
 
 module _ (size : ℕ) where
   -- the run is the one that the tables show as open, or they show none
@@ -55,7 +55,7 @@ module _ (size : ℕ) where
   abbrev pub IsMovedBy : Books → ℕ → Option OpenRun → Option OpenRun → Type 0
   IsMovedBy books count before after = (after ≡ before) ⊎ ((run : OpenRun) × (before ≡ Some run) × IsFurtherBy books count run after)
 
-  -- the open run where a command was cut that changed no books: as it was, but that batches may have been posted
+  -- the open run where a command was interrupted that changed no books: as it was, but that batches may have been posted
   abbrev pub RunIfUndone : Books → Command → Option OpenRun → Option OpenRun → Type 0
   RunIfUndone books (command.Post count) before after = IsMovedBy books count before after
   RunIfUndone books _ before after = after ≡ before
@@ -65,7 +65,7 @@ module _ (size : ℕ) where
   IsOfMonth books month None = Unit {0}
   IsOfMonth books month (Some run) = (run.month ≡ month) × (run.done ≤ batches size books month)
 
-  -- the open run where a command was cut that was carried out: the machine's, but an accepted run may stand at any batch
+  -- the open run where a command was interrupted that was carried out: the machine's, but an accepted run may stand at any batch
   abbrev pub RunIfDone : State → Command → Verdict → Option OpenRun → Type 0
   RunIfDone s (command.Run order) (verdict.Change (change.Open row)) after = IsOfMonth s.books row.month after
   RunIfDone s told _ after = after ≡ (step size s told).0.open_run
@@ -78,17 +78,17 @@ module _ (size : ℕ) where
     pub books : whole size after.books ≡ (step size (state_of before) told).0.books
     pub run : RunIfDone (state_of before) told (verdict_on (whole size before.books) before.run told) after.run
 
-  pub record IsTorn (before after : Tables) : Type 0 where
+  pub record IsMidRecovery (before after : Tables) : Type 0 where
     pub books : whole size after.books ≡ whole size before.books
     pub run : IsMovedOn (whole size before.books) before.run after.run
 
   -- what the event makes of the tables
   abbrev pub Happens : Event → Tables → Tables → Type 0
-  Happens (Said told reply) before after = step size (state_of before) told ≡ (state_of after, reply)
-  Happens (Cut told) before after = IsUndone told before after ⊎ IsDone told before after
-  Happens Taken before after = after ≡ before
-  Happens Torn before after = IsTorn before after
-  Happens Mended before after = after ≡ record { books = whole size before.books; run = None }
+  Happens (Answered told reply) before after = step size (state_of before) told ≡ (state_of after, reply)
+  Happens (Interrupted told) before after = IsUndone told before after ⊎ IsDone told before after
+  Happens Attached before after = after ≡ before
+  Happens RecoveryInterrupted before after = IsMidRecovery before after
+  Happens Recovered before after = after ≡ record { books = whole size before.books; run = None }
 
   -- one event after the other, each with the tables that it left
   abbrev pub Follow : Tables → List (Event × Tables) → Type 0

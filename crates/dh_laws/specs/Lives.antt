@@ -19,7 +19,7 @@ use Rattle.dh_model.specs.Runs.{sum_of}
 use Rattle.dh_model.specs.Verdicts.{verdict_on}
 use Rattle.dh_model.specs.Machine.{step}
 use Rattle.dh_laws.specs.InOrder.{AreKeyed, IsEntered, IsInOrder}
-use Rattle.dh_laws.specs.Events.{Event, Said, Cut, Mended, Follow, IsShown, Tables, state_of}
+use Rattle.dh_laws.specs.Events.{Event, Answered, Interrupted, Recovered, Follow, IsShown, Tables, state_of}
 use Rattle.dh_laws.specs.Kept.{Kept}
 
 -- the tables of books without a row
@@ -29,21 +29,21 @@ empty_tables month = record { books = empty_books month; run = None }
 -- what was called is what lines can hold
 abbrev pub AreEntered : List (Event × Tables) → Type 0
 AreEntered [] = Unit {0}
-AreEntered ((Said it reply, after) ∷ events) = IsEntered it × AreEntered events
-AreEntered ((Cut it, after) ∷ events) = IsEntered it × AreEntered events
+AreEntered ((Answered it reply, after) ∷ events) = IsEntered it × AreEntered events
+AreEntered ((Interrupted it, after) ∷ events) = IsEntered it × AreEntered events
 AreEntered (_ ∷ events) = AreEntered events
 
 -- the commands that were called, in their order
 abbrev pub calls : List (Event × Tables) → List Command
 calls [] = []
-calls ((Said it reply, after) ∷ events) = it ∷ calls events
-calls ((Cut it, after) ∷ events) = it ∷ calls events
+calls ((Answered it reply, after) ∷ events) = it ∷ calls events
+calls ((Interrupted it, after) ∷ events) = it ∷ calls events
 calls (_ ∷ events) = calls events
 
--- within one life: nothing is called after a command that was cut
+-- within one life: nothing is called after a command that was interrupted
 abbrev pub IsOneLife : List (Event × Tables) → Type 0
 IsOneLife [] = Unit {0}
-IsOneLife ((Cut it, after) ∷ events) = calls events ≡ []
+IsOneLife ((Interrupted it, after) ∷ events) = calls events ≡ []
 IsOneLife (_ ∷ events) = IsOneLife events
 
 -- the run stands under the order's month and has its key, and the month is charged with all its dues and nothing else
@@ -55,8 +55,8 @@ module _ (size : ℕ) where
   -- machine's books after a list of commands that keeps the order of the calls, holds each that was answered, and of the others
   -- only such as a stop cut, each once at most; and no run is open.
   abbrev pub AllLives : Type 0
-  AllLives = (start after : Tables) (events : List (Event × Tables)) → IsShown size start → Follow size start (events ++ (Mended, after) ∷ [])
-      → (told : List Command) × (last : State) × Kept size (state_of size start) (events ++ (Mended, after) ∷ []) told last
+  AllLives = (start after : Tables) (events : List (Event × Tables)) → IsShown size start → Follow size start (events ++ (Recovered, after) ∷ [])
+      → (told : List Command) × (last : State) × Kept size (state_of size start) (events ++ (Recovered, after) ∷ []) told last
       × (after.books ≡ last.books) × (last.open_run ≡ None)
 
   -- from empty books as well
@@ -71,29 +71,29 @@ module _ (size : ℕ) where
   -- once recovery has come to its end the books are lawful: no month is charged in part, or twice
   abbrev pub MendedBooksAreLawful : Type 0
   MendedBooksAreLawful = (start after : Tables) (events : List (Event × Tables)) → 1 ≤ size → IsInOrder size start.books start.run → AreEntered events
-      → Follow size start (events ++ (Mended, after) ∷ []) → AreKeyed after.books × IsLawful after.books size
+      → Follow size start (events ++ (Recovered, after) ∷ []) → AreKeyed after.books × IsLawful after.books size
 
   -- a month that was run is charged with each of its dues, and nothing else
   abbrev pub MonthsAreChargedOnce : Type 0
   MonthsAreChargedOnce = (start after : Tables) (events : List (Event × Tables)) (month : ℕ) (charge : Charge) → 1 ≤ size → IsInOrder size start.books start.run
       → AreEntered events
-      → Follow size start (events ++ (Mended, after) ∷ [])
+      → Follow size start (events ++ (Recovered, after) ∷ [])
       → (IsAmong (values after.books.charges) charge × (charge.month ≡ month)) ↔ (IsThere after.books.runs month × IsAmong (dues after.books month) charge)
 
   -- a receipt that was acknowledged is in the books for good, under its number
   abbrev pub AcknowledgedReceiptsStay : Type 0
   AcknowledgedReceiptsStay = (start after said : Tables) (before later : List (Event × Tables)) (order : ReceiptOrder) (number : ℕ) → 1 ≤ size
       → IsInOrder size start.books start.run → AreEntered (before ++ later)
-      → Follow size start (before ++ (Said (command.Receipt order) (reply.Receipt number), said) ∷ later ++ (Mended, after) ∷ [])
+      → Follow size start (before ++ (Answered (command.Receipt order) (reply.Receipt number), said) ∷ later ++ (Recovered, after) ∷ [])
       → get after.books.receipts number ≡ Some (record { number = number; key = order.key; payment = order.payment })
 
   -- a run or an opening that was acknowledged is in the books for good, and its month is charged exactly once
   abbrev pub AcknowledgedRunsStay : Type 0
   AcknowledgedRunsStay = (start after said : Tables) (before later : List (Event × Tables)) (order : RunOrder) → 1 ≤ size
       → IsInOrder size start.books start.run → AreEntered (before ++ later)
-      → ((sum : RunSum) → Follow size start (before ++ (Said (command.Run order) (reply.Posted sum), said) ∷ later ++ (Mended, after) ∷ [])
+      → ((sum : RunSum) → Follow size start (before ++ (Answered (command.Run order) (reply.Posted sum), said) ∷ later ++ (Recovered, after) ∷ [])
       → (run : Run) × IsRunFor after.books order run × (sum_of run ≡ sum))
-      × ((month : ℕ) → Follow size start (before ++ (Said (command.Open order) (reply.Opened month), said) ∷ later ++ (Mended, after) ∷ [])
+      × ((month : ℕ) → Follow size start (before ++ (Answered (command.Open order) (reply.Opened month), said) ∷ later ++ (Recovered, after) ∷ [])
       → (run : Run) × IsRunFor after.books order run × (month ≡ order.month))
 
   -- a receipt or a run that was carried out and is sent again changes nothing more

@@ -8,7 +8,7 @@ use Rattle.dh_types.specs.declared.run.Run.{Run}
 use Rattle.dh_model.specs.declared.open_run.OpenRun.{OpenRun}
 use Rattle.dh_model.specs.Books.{Books, State}
 use Rattle.dh_model.specs.Whole.{with_posted}
-use Rattle.dh_laws.specs.Events.{Happens, Said, Tables, state_of}
+use Rattle.dh_laws.specs.Events.{Happens, Answered, Tables, state_of}
 use Rattle.dh_laws.specs.InOrder.{IsInOrder}
 use Rattle.dh_laws.specs.Repeating.{is_of_nothing_new}
 
@@ -47,4 +47,4 @@ module _ (size : ℕ) where
   -- A command that is refused, or that was carried out before, leaves the tables as they were, row for row; while a run is open too.
   abbrev pub NothingNewLeavesTheTables : Type 0
   NothingNewLeavesTheTables = (before after : Tables) (told : Command) (reply : Reply) → AreWorkedOn before → AreWorkedOn after
-      → Happens size (Said told reply) before after → is_of_nothing_new reply ≡ true → after ≡ before
+      → Happens size (Answered told reply) before after → is_of_nothing_new reply ≡ true → after ≡ before

@@ -1,4 +1,4 @@
--- What a command makes of tables, answered or cut.
+-- What a command makes of tables, answered or interrupted.
 use Rattle.std.specs.Prelude.{◌≡◌, ℕ, Bool, true, false, Option, Some, None}
 use Rattle.dh_types.specs.declared.command.Command.{Command}
 use Rattle.dh_types.specs.declared.command.Command.TheVariants as command
@@ -13,7 +13,7 @@ use Rattle.dh_model.specs.Runs.{batch_size}
 use Rattle.dh_model.specs.Verdicts.{verdict_on}
 use Rattle.dh_model.specs.Whole.{whole}
 use Rattle.dh_laws.specs.InOrder.{IsInOrder}
-use Rattle.dh_laws.specs.Events.{Happens, IsDone, Said, state_of}
+use Rattle.dh_laws.specs.Events.{Happens, IsDone, Answered, state_of}
 use Rattle.dh_laws.specs.StateTables.{advanced_run, as_tables}
 
 abbrev pub is_opening : Command → Bool
@@ -43,8 +43,8 @@ Stands before None told after = after.open_run ≡ (step batch_size (state_of ba
 module _ (size : ℕ) where
   -- the command was answered so, and left these tables in order
   abbrev pub IsTold : Command → Reply → State → State → Type 0
-  IsTold told reply before after = Happens size (Said told reply) (as_tables before) (as_tables after) × IsInOrder size after.books after.open_run
+  IsTold told reply before after = Happens size (Answered told reply) (as_tables before) (as_tables after) × IsInOrder size after.books after.open_run
 
-  -- the command was cut and yet carried out, and left these tables in order
+  -- the command was interrupted and yet carried out, and left these tables in order
   abbrev pub IsCutDone : Command → State → State → Type 0
   IsCutDone told before after = IsDone size told (as_tables before) (as_tables after) × IsInOrder size after.books after.open_run

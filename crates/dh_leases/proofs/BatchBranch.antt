@@ -11,7 +11,7 @@ use Rattle.dh_model.proofs.Among.{Among, is_among}
 use Rattle.dh_model.proofs.BatchLemmas.{each_due_has_its_batch}
 use Rattle.dh_model.proofs.BranchSums.{Holds}
 use Rattle.dh_model.proofs.KeyOrders.{text_ties, text_total}
-use Rattle.dh_laws.proofs.PostSmall.{own_is_before}
+use Rattle.dh_laws.proofs.BatchLemmas.Small.{own_is_before}
 use Rattle.dh_leases.proofs.PostedLemmas.{first_posted}
 use Rattle.dh_leases.specs.Rows.{Rows, branch_run, charges_at, rows_at}
 use Rattle.dh_leases.proofs.Cuts.{cut_once}

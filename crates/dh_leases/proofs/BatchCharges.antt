@@ -14,9 +14,9 @@ use Rattle.dh_model.proofs.KeyOrders.{nats_tie, nats_total}
 use Rattle.dh_model.proofs.MapRows.{get_other}
 use Rattle.dh_model.proofs.Rising.{Lesser, Rises, filter_rises}
 use Rattle.dh_laws.specs.InOrder.{AreKeyed}
-use Rattle.dh_laws.proofs.PostCharged.{charge_month, charges_fit}
-use Rattle.dh_laws.proofs.PostDues.{is_posted, of_posted, one_posted}
-use Rattle.dh_laws.proofs.PostMonth.{replaced}
+use Rattle.dh_laws.proofs.BatchLemmas.Charged.{charge_month, charges_fit}
+use Rattle.dh_laws.proofs.BatchLemmas.Dues.{is_posted, of_posted, one_posted}
+use Rattle.dh_laws.proofs.BatchLemmas.MonthRows.{replaced}
 use Rattle.dh_leases.specs.Plans.{AreNew}
 use Rattle.dh_leases.specs.Rows.{charges_at}
 use Rattle.dh_leases.proofs.BatchBranch.{IsHeld, branch_of_due, own_dues, own_number, posted_in_two}

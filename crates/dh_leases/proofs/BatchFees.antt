@@ -15,9 +15,9 @@ use Rattle.dh_model.proofs.Among.{Among, in_filter, of_filter}
 use Rattle.dh_model.proofs.KeyOrders.{nat_text_ties, nat_text_total, text_ties, text_total}
 use Rattle.dh_model.proofs.MapRows.{cases_key}
 use Rattle.dh_laws.specs.InOrder.{AreKeyed}
-use Rattle.dh_laws.proofs.PostCharged.{fee_month, fees_fit}
-use Rattle.dh_laws.proofs.PostDues.{fee_of_begun, in_second, is_fee_of, of_second}
-use Rattle.dh_laws.proofs.PostMonth.{of_new, replaced}
+use Rattle.dh_laws.proofs.BatchLemmas.Charged.{fee_month, fees_fit}
+use Rattle.dh_laws.proofs.BatchLemmas.Dues.{fee_of_begun, in_second, is_fee_of, of_second}
+use Rattle.dh_laws.proofs.BatchLemmas.MonthRows.{of_new, replaced}
 use Rattle.dh_model.specs.Whole.{with_posted}
 use Rattle.dh_leases.specs.Plans.{HasItsFeeRow, some_row}
 use Rattle.dh_leases.specs.Rows.{row_since_second}

@@ -12,9 +12,9 @@ use Rattle.dh_model.proofs.Among.{Among}
 use Rattle.dh_model.proofs.KeyOrders.{nat_text_ties, nat_text_total, text_ties, text_total}
 use Rattle.dh_model.proofs.MapRows.{cases_key}
 use Rattle.dh_laws.specs.InOrder.{AreKeyed}
-use Rattle.dh_laws.proofs.PostCharged.{part_month, parts_fit}
-use Rattle.dh_laws.proofs.PostDues.{is_begun}
-use Rattle.dh_laws.proofs.PostMonth.{of_new, replaced}
+use Rattle.dh_laws.proofs.BatchLemmas.Charged.{part_month, parts_fit}
+use Rattle.dh_laws.proofs.BatchLemmas.Dues.{is_begun}
+use Rattle.dh_laws.proofs.BatchLemmas.MonthRows.{of_new, replaced}
 use Rattle.dh_leases.proofs.BatchBranch.{IsHeld, branch_of_due, one_branch, own_dues, own_number, posted_with}
 use Rattle.dh_leases.proofs.MonthRows.{led, was_free}
 use Rattle.dh_leases.proofs.Places.{filter_alike}

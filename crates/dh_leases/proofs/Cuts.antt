@@ -4,7 +4,7 @@ use Rattle.std.specs.List.{range_with_len}
 use Rattle.std.proofs.lemmas.List.{append_assoc, take-append-drop, take-take}
 use Rattle.std.proofs.lemmas.List.FromFn.{map-range_with_len_more}
 use Rattle.dh_types.specs.declared.lease.Charge.{Charge}
-use Rattle.dh_leases.specs.declared.planning.BranchRun.{BranchRun}
+use Rattle.dh_leases.specs.declared.plans.BranchRun.{BranchRun}
 use Rattle.dh_leases.specs.Rows.{Rows, charges_at, rows_at}
 
 module _ (size : ℕ) (dues : List Charge) (number : ℕ) where

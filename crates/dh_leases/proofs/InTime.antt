@@ -12,7 +12,7 @@ use Rattle.dh_types.specs.declared.lease.Lease.{Lease}
 use Rattle.dh_model.specs.Books.{Books, Endings}
 use Rattle.dh_model.specs.Leases.{due, dues_among, dues_of, length_of}
 use Rattle.dh_model.specs.Runs.{batch_size, batches_before, batches_for, dues_of_branch, leases_of_branch}
-use Rattle.dh_leases.specs.declared.planning.Plan.{Plan}
+use Rattle.dh_leases.specs.declared.plans.Plan.{Plan}
 use Rattle.dh_leases.specs.Plans.{FallsInTime}
 use Rattle.dh_leases.specs.Rows.{Rows, all_rows_left, branch_run, rows_at, rows_left, rows_of}
 

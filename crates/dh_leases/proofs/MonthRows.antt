@@ -6,7 +6,7 @@ use Rattle.std.specs.FinMap.{FinMap, IsAntisymmetric, get}
 use Rattle.dh_model.specs.Books.{with_rows}
 use Rattle.dh_model.proofs.Among.{Among}
 use Rattle.dh_laws.proofs.MapMerges.{get-with_rows, get_of_rows, get_past_rows, got_with_rows, row_at, row_at_is, row_at_own}
-use Rattle.dh_laws.proofs.PostMonth.{Fits, Has, OneEach, in_replaced, of_new, of_old, replaced, same_rows}
+use Rattle.dh_laws.proofs.BatchLemmas.MonthRows.{Fits, Has, OneEach, in_replaced, of_new, of_old, replaced, same_rows}
 
 module _ {K X : Type 0} {R : K → K → Ordering} (key : X → K) (month_of : X → ℕ) (o : IsTotalOrder R) (anti : IsAntisymmetric R) where
   module _ (m : FinMap R X) (month : ℕ) (rows more : List X) (f : Fits key month_of m month rows) (g : Fits key month_of m month more) where

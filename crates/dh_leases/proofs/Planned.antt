@@ -8,8 +8,8 @@ use Rattle.dh_model.specs.Runs.{batch_size, batches, charge_key, part_fee_key, p
 use Rattle.dh_model.specs.Whole.{with_posted}
 use Rattle.dh_laws.specs.InOrder.{IsInOrder}
 use Rattle.dh_laws.specs.StateTables.{IsStateInOrder}
-use Rattle.dh_leases.specs.declared.planning.BatchRows.{BatchRows}
-use Rattle.dh_leases.specs.declared.planning.Plan.{Plan}
+use Rattle.dh_leases.specs.declared.plans.BatchRows.{BatchRows}
+use Rattle.dh_leases.specs.declared.plans.Plan.{Plan}
 use Rattle.dh_leases.specs.Plans.{AreNew, HasItsFeeRow, HasItsPart, HaveTheLeases, IsPlanOf, LeadOn, begins_at, some_row, stage, with_batch_rows}
 use Rattle.dh_leases.specs.Rows.{Rows, all_rows_left, rows_of}
 use Rattle.dh_leases.proofs.BatchBranch.{IsBatch}

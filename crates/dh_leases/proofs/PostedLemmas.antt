@@ -22,7 +22,7 @@ use Rattle.dh_model.proofs.BatchLemmas.{places_numbered}
 use Rattle.dh_model.proofs.BranchDues.{branches_rise}
 use Rattle.dh_model.proofs.Rising.{IsBefore, Numbered, Rises}
 use Rattle.dh_model.proofs.BranchSums.{not_back}
-use Rattle.dh_laws.proofs.MonthDues.{none_kept}
+use Rattle.dh_laws.proofs.MonthLemmas.Dues.{none_kept}
 
 in_the_middle : {X : Type 0} (xs ys : List X) (x : X) → Among (xs ++ x ∷ ys) x
 in_the_middle [] ys x = inl refl

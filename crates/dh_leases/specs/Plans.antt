@@ -11,8 +11,8 @@ use Rattle.dh_model.specs.declared.open_run.OpenRun.{OpenRun}
 use Rattle.dh_model.specs.Books.{Books, State, pair_cmp, with_rows}
 use Rattle.dh_model.specs.Runs.{batch_size, batches, charge_key, part_fee_key, part_key}
 use Rattle.dh_model.specs.Whole.{with_posted}
-use Rattle.dh_leases.specs.declared.planning.BatchRows.{BatchRows}
-use Rattle.dh_leases.specs.declared.planning.Plan.{Plan}
+use Rattle.dh_leases.specs.declared.plans.BatchRows.{BatchRows}
+use Rattle.dh_leases.specs.declared.plans.Plan.{Plan}
 
 abbrev pub one_more : Option OpenRun → Option OpenRun
 one_more None = None

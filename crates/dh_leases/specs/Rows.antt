@@ -9,8 +9,8 @@ use Rattle.dh_types.specs.declared.version.Version.{Version}
 use Rattle.dh_types.specs.declared.version.Version.TheVariants.{First, Second}
 use Rattle.dh_model.specs.Books.{Books}
 use Rattle.dh_model.specs.Runs.{batches_before, batches_for, dues_of_branch, fee_at, part_fee_of, part_of}
-use Rattle.dh_leases.specs.declared.planning.BatchRows.{BatchRows}
-use Rattle.dh_leases.specs.declared.planning.BranchRun.{BranchRun}
+use Rattle.dh_leases.specs.declared.plans.BatchRows.{BatchRows}
+use Rattle.dh_leases.specs.declared.plans.BranchRun.{BranchRun}
 
 -- a batch's charges, its part row, its fee row, and whether the branch has these rows already
 abbrev pub Rows : Type 0

@@ -2,26 +2,26 @@
 //! and the books after it. Read [`due_in`] first, and then [`with_posted`]. The batches of a run are counted out once by [`plan_of`].
 #![tactic(auto)]
 
-mod batching;
+mod batch_counts;
 mod by_branch;
 mod charges;
 mod fees;
 mod parts;
-mod planning;
+mod plans;
 mod posted;
-mod posting;
 mod sums;
 mod terms;
+mod whole_run;
 
-pub use batching::{batches, batches_for};
+pub use batch_counts::{batches, batches_for};
 pub use by_branch::{dues_by_branch, of_branch};
 pub use charges::{due_in, dues};
 pub use fees::branch_fees;
 pub use parts::branch_parts;
-pub use planning::{BatchRows, BranchRun, Plan, plan_of};
+pub use plans::{BatchRows, BranchRun, Plan, plan_of};
 pub use posted::{
     first_batches, open_row, posted_charges, posted_fees, posted_parts, whole, with_posted,
 };
-pub use posting::with_run;
 pub use sums::{Sum, charge_fee, fee_of_sum, part_of_sum, sum_of, sum_with};
 pub use terms::{covers, end_of, overlap};
+pub use whole_run::with_run;

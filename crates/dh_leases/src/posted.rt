@@ -6,11 +6,11 @@ ghost use Rattle.dh_model.specs.Runs.{batch_size, fees_of_parts, posted_charges,
 ghost use Rattle.dh_model.specs.Whole.{completed, open_row, whole, with_posted};
 ghost use Rattle.dh_leases.specs.Posted.{with_month};
 
-use crate::batching::{batches, batches_for};
+use crate::batch_counts::{batches, batches_for};
 use crate::by_branch::{dues_by_branch, of_branch};
 use crate::fees::{of_version, put_fees};
-use crate::posting::{put_charges, put_parts};
 use crate::sums::{closed, fee_with, part_with};
+use crate::whole_run::{put_charges, put_parts};
 use dh_books::Books;
 use dh_model::BATCH_SIZE;
 use dh_types::{Charge, EntryMonth, Part, PartFee, Run};

@@ -9,7 +9,7 @@ use Rattle.dh_model.specs.Machine.{step}
 use Rattle.dh_model.specs.Runs.{batch_size}
 use Rattle.dh_agency.specs.Seat.{Seat}
 use Rattle.dh_agency.specs.Agency.{Leaves, LeavesItsTables, machine, stand, stand_of}
-use Rattle.dh_agency.specs.Told.{IsCut}
+use Rattle.dh_agency.specs.Told.{IsInterrupted}
 use Rattle.dh_agency.proofs.Standing.{leaves_more, leaves_what_holds}
 use Rattle.dh_lines.specs.declared.outcome.Halt.{Halt}
 use Rattle.dh_lines.specs.declared.outcome.Halt.TheVariants as halt
@@ -20,8 +20,8 @@ use Rattle.dh_lines.specs.Session.{Answered, answered, answered_request}
 use Rattle.dh_lines.specs.Batch.{Answers, AreAfter, IsWithin, LeavesAnswered, WasAnswered}
 use Rattle.dh_lines.proofs.Following.{state-more}
 
--- a command that was cut is cut within its record
-pub cut_within : (fields : Fields) (it : told.Command) (s left : State) → request_of fields ≡ Ok (request.Command it) → IsCut it s left
+-- a command that was interrupted is interrupted within its record
+pub cut_within : (fields : Fields) (it : told.Command) (s left : State) → request_of fields ≡ Ok (request.Command it) → IsInterrupted it s left
     → IsWithin (stand_of s) (Some fields) left
 cut_within fields it s left asked (inl undone) = inr (fields, it, refl, asked, inl (undone.books, undone.run))
 cut_within fields it s left asked (inr done) =

@@ -22,7 +22,7 @@ use Rattle.dh_lines.specs.Session.{answered, fault_line, line, records_of, state
 use Rattle.dh_lines.specs.Batch.{Answers, AnsweredAll, AnsweredFirst, EndsSo, Faulted, Halts, IsAgencyFault, IsAtRest, IsFirst}
 use Rattle.dh_lines.specs.Batch.{IsAsked, IsStoreFault, IsWithin}
 use Rattle.dh_lines.specs.Batch.{OnlyOfRequests, PutsBehind, TellsFault, TellsReading, batch_fault}
-use Rattle.dh_lines.specs.declared.watching.Input.{Input}
+use Rattle.dh_lines.specs.declared.watched_reader.Input.{Input}
 use Rattle.dh_lines.specs.declared.outcome.Summary.{Summary}
 use Rattle.dh_lines.specs.declared.outcome.BatchFault.{BatchFault}
 use Rattle.dh_lines.specs.declared.outcome.Halt.{Halt}

@@ -23,7 +23,7 @@ use Rattle.dh_lines.specs.declared.outcome.BatchFault.{BatchFault}
 use Rattle.dh_lines.specs.declared.outcome.BatchFault.TheVariants as ended
 use Rattle.dh_lines.specs.declared.outcome.Halt.{Halt}
 use Rattle.dh_lines.specs.declared.outcome.Halt.TheVariants as halt
-use Rattle.dh_lines.specs.declared.watching.Input.{Input}
+use Rattle.dh_lines.specs.declared.watched_reader.Input.{Input}
 use Rattle.dh_fields.specs.declared.request.Request.{Request}
 use Rattle.dh_fields.specs.declared.request.Request.TheVariants as request
 use Rattle.dh_fields.specs.Lines.{Fields, request_of}
@@ -74,14 +74,14 @@ TellsReading held old new n _ noted it = ⊥
 abbrev pub AreAfter : State → List Fields → State → Type 0
 AreAfter start rows left = whole batch_size left.books ≡ (state_after start rows).books
 
--- A command was cut that the fields are: nothing of it is done, but that batches may be posted, or it is carried out, but
+-- A command was interrupted that the fields are: nothing of it is done, but that batches may be posted, or it is carried out, but
 -- that an accepted run may stand at any batch.
 abbrev pub IsCutAt : State → Fields → told.Command → State → Type 0
 IsCutAt s fields it left =
     ((whole batch_size left.books ≡ s.books) × RunIfUndone batch_size s.books it s.open_run left.open_run)
     ⊎ ((whole batch_size left.books ≡ (answered s fields).state.books) × RunIfDone batch_size s it (verdict_on s.books s.open_run it) left.open_run)
 
--- Tables with which the machine still stands there, or those of a cut command, which the next record is.
+-- Tables with which the machine still stands there, or those of an interrupted command, which the next record is.
 abbrev pub IsWithin : State → Option Fields → State → Type 0
 IsWithin s next left = (stand_of left ≡ s)
     ⊎ ((fields : Fields) × (it : told.Command) × (next ≡ Some fields) × (request_of fields ≡ Ok (request.Command it)) × IsCutAt s fields it left)
@@ -151,7 +151,7 @@ module _ {S : Type 0} (g : Ghosts S) (old new : Seat S) where
       pub refused : summary.refused ≡ refused_in (stand g old) (records_of input)
 
     -- The first records were answered, and the fault's line was written behind their lines as the outcome says. The tables that can
-    -- be read, and those that a crash leaves, are those behind these records, or the next one was cut. Where the agency goes on, the machine
+    -- be read, and those that a crash leaves, are those behind these records, or the next one was interrupted. Where the agency goes on, the machine
     -- stands where these records left it: nothing of the next one was done. But for want of memory the next one asks something of the agency.
     pub record Faulted (fault : Fault) (outcome : Result (Unit {0}) writing.Output) (input : List ℕ) : Type 0 where
       pub count : ℕ

@@ -1,6 +1,6 @@
 //! How a batch ends.
 
-use crate::watching::Input;
+use crate::watched_reader::Input;
 use dh_types::{Fault, Output};
 
 /// How many records were answered, and how many of them by a refusal.

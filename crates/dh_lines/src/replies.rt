@@ -12,7 +12,7 @@ ghost use Rattle.dh_lines.specs.Told.{told_line, told_text};
 
 use arrayvec::ArrayVec;
 use dh_reports::{lines, write};
-use dh_types::writing::{put, put_parts};
+use dh_types::text_writer::{put, put_parts};
 use dh_types::{Answer, Fault, Output, Refusal, Reply, put_fault, put_reply};
 use itoa::Buffer;
 use std::io::Write;

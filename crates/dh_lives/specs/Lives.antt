@@ -4,14 +4,14 @@ use Rattle.dh_types.specs.declared.command.Command.{Command}
 use Rattle.dh_lives.specs.declared.lives.Life.{Life}
 use Rattle.dh_lives.specs.declared.lives.Lived.{Lived}
 
--- Behind a recovery each command was answered, or each before the one that was cut. Without a recovery there is no reply, and no
--- command was cut.
+-- Behind a recovery each command was answered, or each before the one that was interrupted. Without a recovery there is no reply, and no
+-- command was interrupted.
 pub record FitsCommands (commands : List Command) (lived : Lived) : Type 0 where
   pub answered : lived.recovered ≡ true → lived.cut ≡ None → length lived.replies.items ≡ length commands
   pub cut : IfSome lived.cut (λ place. (length lived.replies.items ≡ place) × (place < length commands))
   pub unrecovered : lived.recovered ≡ false → (lived.replies.items ≡ []) × (lived.cut ≡ None)
 
--- the recovery returned, and no command was cut
+-- the recovery returned, and no command was interrupted
 pub record IsWhole (lived : Lived) : Type 0 where
   pub recovered : lived.recovered ≡ true
   pub uncut : lived.cut ≡ None

@@ -1,4 +1,4 @@
-//! Files on disks in memory: they are opened for one piece of work, and closed unless it was cut.
+//! Files on disks in memory: they are opened for one piece of work, and closed unless it was interrupted.
 
 ghost use Rattle.std.specs.Prelude.{◌≡◌, None, IsTrue, IsSome, IfSome, IfOk};
 ghost use Rattle.sqlite.specs.Files.{file_state};
@@ -91,7 +91,7 @@ fn closed<D: Disk + Drop>(conn: Connection<FileStore<D>>) -> (Option<Cause>, Fil
     }
 }
 
-// Closes the files of work that nothing cut, and leaves those of work that was cut as they are.
+// Closes the files of work that nothing cut, and leaves those of work that was interrupted as they are.
 fn ended<D: Disk + Drop>(mut done: Done, conn: Connection<FileStore<D>>) -> (Done, Files<D>)
     requires { IfSome done.cause IsFirstCause }
     ensures lived { result.0.lived ≡ done.lived }

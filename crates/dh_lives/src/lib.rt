@@ -5,10 +5,10 @@ mod cause;
 mod disks;
 mod files;
 mod lives;
-mod rehearsing;
+mod rehearsals;
 mod work;
 
 pub use disks::{MeasuredDisk, Measures, Stopping, copy_of, memory, no_files};
 pub use files::{SEED, Unopened, open_on, options};
 pub use lives::{Account, Life, Lived, Stop, Which};
-pub use rehearsing::{Rehearsed, live_behind, live_through, rehearse, rehearse_behind};
+pub use rehearsals::{Rehearsed, live_behind, live_through, rehearse, rehearse_behind};

@@ -31,7 +31,7 @@ pub struct Lived {
     pub recovered: bool,
     /// The replies to its commands, in their order.
     pub replies: Vec<Reply>,
-    /// The command that was cut, counted from 0.
+    /// The command that was interrupted, counted from 0.
     pub cut: Option<usize>,
 }
 

@@ -70,7 +70,7 @@ impl Done {
         }
     }
 
-    // The same, and the next command was cut by the fault.
+    // The same, and the next command was interrupted by the fault.
     fn cut(replies: Vec<Reply>, fault: Fault) -> Done
         ensures cause { result.cause ≡ Some (cause.Fault fault) }
         ensures recovered { result.lived.recovered ≡ true }

@@ -15,10 +15,10 @@ use Rattle.dh_model.specs.Runs.{part_fee_key}
 use Rattle.dh_model.specs.Kinds.{HasKind, Kind, came_with, order_of}
 use Rattle.dh_model.specs.Kinds.{BranchFees, PartFees, Endings}
 use Rattle.dh_rows.specs.Months.{Months}
-use Rattle.dh_catalog.specs.Layout.{first_schema, first_tables, our_schema}
-use Rattle.dh_catalog.specs.Versions.{schema_of}
-use Rattle.dh_catalog.specs.Making.{HasGrown}
-use Rattle.dh_catalog.specs.MetaTable.{meta}
+use Rattle.dh_ddl.specs.Layout.{first_schema, first_tables, our_schema}
+use Rattle.dh_ddl.specs.Versions.{schema_of}
+use Rattle.dh_ddl.specs.Making.{HasGrown}
+use Rattle.dh_ddl.specs.MetaTable.{meta}
 use Rattle.dh_sql.specs.Changes.{IsSame}
 use Rattle.dh_sql.specs.Shape.{rows_in}
 use Rattle.dh_sql.proofs.Lists.{all_at}

@@ -10,7 +10,7 @@ use Rattle.dh_model.specs.Runs.{batch_size}
 use Rattle.dh_model.specs.Whole.{IsOpenAt}
 use Rattle.dh_model.proofs.Among.{among}
 use Rattle.dh_laws.specs.StateTables.{IsStateInOrder}
-use Rattle.dh_laws.proofs.MonthShown.{all_closed}
+use Rattle.dh_laws.proofs.MonthLemmas.Shown.{all_closed}
 use Rattle.dh_schema.specs.Store.{IsReady, tables}
 use Rattle.dh_runs.specs.declared.problem.Problem.{Problem}
 use Rattle.dh_runs.specs.declared.problem.Problem.TheVariants as problem

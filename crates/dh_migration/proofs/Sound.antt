@@ -17,7 +17,7 @@ use Rattle.dh_model.proofs.Among.{Among, among, in_map, is_among, of_map}
 use Rattle.dh_model.proofs.KeyOrders.{nat_text_ties, nat_text_total, nat_ties, nat_total}
 use Rattle.dh_model.proofs.MapRows.{of_row, row_of, there}
 use Rattle.dh_laws.specs.InOrder.{AreKeyed}
-use Rattle.dh_laws.proofs.KeepFees.{if_found}
+use Rattle.dh_laws.proofs.InvariantLemmas.Fees.{if_found}
 use Rattle.dh_laws.proofs.MapMerges.{get_of_rows, got_with_rows, own_row, with_rows_keyed}
 use Rattle.dh_migration.specs.Migrated.{AreClosed, MigratedBooksAreInOrder, MigrationMovesNoBalance, migrated, no_fee}
 

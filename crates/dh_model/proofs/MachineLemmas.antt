@@ -74,7 +74,7 @@ module _ (size : ℕ) where
       either_books (nat_le all (run.done + count))
       (record { books = books; open_run = None }, reply.Posted (posted_sum run.month (get books.runs run.month))) (
         record { books = books; open_run = Some (record { month = run.month; done = run.done + count }) },
-        reply.Part (record { month = run.month; done = run.done + count; of = all }),
+        reply.Progress (record { month = run.month; done = run.done + count; of = all }),
       )
       books refl refl
 
@@ -91,7 +91,7 @@ module _ (size : ℕ) where
       let all = batches size books run.month in
       never (nat_le all (run.done + count)) (record { books = books; open_run = None }, reply.Posted (posted_sum run.month (get books.runs run.month))) (
         record { books = books; open_run = Some (record { month = run.month; done = run.done + count }) },
-        reply.Part (record { month = run.month; done = run.done + count; of = all }),
+        reply.Progress (record { month = run.month; done = run.done + count; of = all }),
       ) why
       (λ e. cc) (λ e. cc) h
 

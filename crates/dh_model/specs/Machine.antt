@@ -42,7 +42,7 @@ module _ (size : ℕ) where
       then (record { books = books; open_run = None }, reply.Posted (posted_sum run.month (get books.runs run.month)))
       else (
         record { books = books; open_run = Some (record { month = run.month; done = run.done + count }) },
-        reply.Part (record { month = run.month; done = run.done + count; of = all }),
+        reply.Progress (record { month = run.month; done = run.done + count; of = all }),
       )
 
   abbrev pub resumed : Books → ℕ → Option OpenRun → State × Reply

@@ -3,7 +3,7 @@
 ghost use Rattle.dh_reports.specs.ReportTexts.{branch_line};
 
 use crate::columns::{left, plain, put_line};
-use crate::listing::Line;
+use crate::record_lines::Line;
 use dh_types::{Branch, Output};
 use std::io::Write;
 

@@ -5,7 +5,7 @@ ghost use Rattle.dh_types.specs.Output.{Puts};
 ghost use Rattle.dh_reports.specs.Columns.{column_text, left, line, right};
 
 use dh_types::Output;
-use dh_types::writing::{put, put_parts};
+use dh_types::text_writer::{put, put_parts};
 use std::io::Write;
 
 const SPACES: [u8; 16] = [b' '; 16];

@@ -6,7 +6,7 @@ ghost use Rattle.dh_reports.specs.ReportTexts.{arrears_text, debt_line, name_tex
 
 use crate::columns::{left, plain, put_line, right};
 use crate::figures::money_text;
-use crate::listing::{Line, put_each};
+use crate::record_lines::{Line, put_each};
 use crate::sums::put_sum;
 use dh_types::{Arrears, Debt, Output};
 use itoa::Buffer;

@@ -6,7 +6,7 @@ ghost use Rattle.dh_types.specs.Reports.{report_of};
 ghost use Rattle.dh_reports.specs.Columns.{line_feeds};
 ghost use Rattle.dh_reports.specs.ReportTexts.{line_count, report_text};
 
-use crate::listing::Line;
+use crate::record_lines::Line;
 use dh_types::Answer;
 
 // Each record has one line.

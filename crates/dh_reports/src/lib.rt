@@ -11,16 +11,16 @@ mod columns;
 mod debts;
 mod figures;
 pub mod laws;
-mod listing;
 mod owner_statements;
 mod properties;
+mod record_lines;
 mod run_reports;
 mod statements;
 mod sums;
 
 use crate::debts::put_arrears;
-use crate::listing::put_each;
 use crate::owner_statements::put_owner_statement;
+use crate::record_lines::put_each;
 use crate::run_reports::put_run;
 use crate::statements::{put_statement, statement_lines};
 use dh_types::{Answer, Output};

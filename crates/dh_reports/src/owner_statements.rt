@@ -6,7 +6,7 @@ ghost use Rattle.dh_reports.specs.ReportTexts.{owner_line, owner_text};
 
 use crate::columns::{left, put_line, right};
 use crate::figures::pence_text;
-use crate::listing::{Line, put_each};
+use crate::record_lines::{Line, put_each};
 use crate::sums::{put_sum, put_sums};
 use dh_types::{Output, OwnerLine, OwnerStatement};
 use itoa::Buffer;

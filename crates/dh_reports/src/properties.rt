@@ -4,7 +4,7 @@ ghost use Rattle.dh_reports.specs.ReportTexts.{property_line};
 
 use crate::columns::{left, plain, put_line, right};
 use crate::figures::pence_text;
-use crate::listing::Line;
+use crate::record_lines::Line;
 use dh_types::{Output, Property};
 use itoa::Buffer;
 use std::io::Write;

@@ -5,7 +5,7 @@ ghost use Rattle.dh_reports.specs.ReportTexts.{count_line, part_line, run_text};
 
 use crate::columns::{left, put_line, right};
 use crate::figures::{month_text, pence_text};
-use crate::listing::{Line, put_each};
+use crate::record_lines::{Line, put_each};
 use dh_types::{Output, Part, Pence, RunReport};
 use itoa::Buffer;
 use std::io::Write;

@@ -6,7 +6,7 @@ ghost use Rattle.dh_reports.specs.ReportTexts.{charge_line, entry_line, lease_li
 
 use crate::columns::{left, plain, put_line, right};
 use crate::figures::{day_text, pence_text};
-use crate::listing::{Line, put_each};
+use crate::record_lines::{Line, put_each};
 use crate::sums::put_sum;
 use dh_types::{Charge, Day, Lease, Output, Receipt, Statement};
 use itoa::Buffer;

@@ -10,8 +10,8 @@ use Rattle.std.specs.Cmp.Lexicographic.{pointwise}
 use Rattle.matchit.specs.Router.{RouteOf}
 use Rattle.dh_requests.specs.Routes.{front, in_order, routes, row_of, tokens, words_of}
 use Rattle.dh_requests.specs.Targets.{AreAfter, AreBehind, IsAfter, IsTarget, IsText}
-use Rattle.dh_requests.specs.declared.routing.Route.{Route}
-use Rattle.dh_requests.specs.declared.routing.Route.TheVariants.{Commands}
+use Rattle.dh_requests.specs.declared.routes.Route.{Route}
+use Rattle.dh_requests.specs.declared.routes.Route.TheVariants.{Commands}
 use Rattle.dh_requests.proofs.Seeking.{In, Takes, AreBytes, seek_sound, takes_text, takes_piece, takes_last, seek_none, seek_past}
 
 after : (w path : List ℕ) → AreBytes w → Takes (w ++ 256 ∷ []) path → (first : List ℕ) × (second : List ℕ) × IsAfter w path first second

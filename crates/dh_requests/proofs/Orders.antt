@@ -13,8 +13,8 @@ use Rattle.dh_requests.specs.declared.head.HeadRead.{HeadRead}
 use Rattle.dh_requests.specs.declared.head.HeadRead.TheVariants.{Found}
 use Rattle.dh_requests.specs.Targets.{IsTarget}
 use Rattle.httparse.specs.Grammar.{RequestHead}
-use Rattle.dh_requests.specs.declared.routing.Route.{Route}
-use Rattle.dh_requests.specs.declared.routing.Route.TheVariants as route
+use Rattle.dh_requests.specs.declared.routes.Route.{Route}
+use Rattle.dh_requests.specs.declared.routes.Route.TheVariants as route
 use Rattle.dh_requests.specs.declared.asked.Asked.{Asked}
 use Rattle.dh_requests.specs.declared.asked.Asked.TheVariants as asked
 use Rattle.dh_requests.specs.declared.asked.Turned.TheVariants as turned

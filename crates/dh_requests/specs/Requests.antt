@@ -15,8 +15,8 @@ use Rattle.dh_requests.specs.declared.header_lines.BodyLength.{BodyLength}
 use Rattle.dh_requests.specs.declared.header_lines.BodyLength.TheVariants.{Absent, Invalid, TooLarge, Bytes}
 use Rattle.dh_requests.specs.Routes.{words_of}
 use Rattle.dh_requests.specs.Targets.{HasPieces, IsTarget}
-use Rattle.dh_requests.specs.declared.routing.Route.{Route}
-use Rattle.dh_requests.specs.declared.routing.Route.TheVariants as route
+use Rattle.dh_requests.specs.declared.routes.Route.{Route}
+use Rattle.dh_requests.specs.declared.routes.Route.TheVariants as route
 use Rattle.dh_requests.specs.Texts.{AreTexts}
 use Rattle.dh_requests.specs.declared.asked.Asked.{Asked}
 use Rattle.dh_requests.specs.declared.asked.Asked.TheVariants as asked

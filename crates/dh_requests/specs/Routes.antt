@@ -3,8 +3,8 @@ use Rattle.std.specs.Prelude.{◌≡◌, ℕ, ◌<◌, ◌+◌, List, [], ◌∷
 use Rattle.matchit.specs.Rows.{RowsOf, param_token}
 use Rattle.matchit.specs.Router.{RouteOf}
 use Rattle.matchit.specs.Seek.{has_slash}
-use Rattle.dh_requests.specs.declared.routing.Route.{Route}
-use Rattle.dh_requests.specs.declared.routing.Route.TheVariants.{Commands, Branches, Vacant, Matching, Statement, Arrears, Run, Owner}
+use Rattle.dh_requests.specs.declared.routes.Route.{Route}
+use Rattle.dh_requests.specs.declared.routes.Route.TheVariants.{Commands, Branches, Vacant, Matching, Statement, Arrears, Run, Owner}
 
 abbrev pub row : List ℕ → List ℕ → List (ℕ × ℕ) → Route → List ℕ × RouteOf Route
 row pattern text names value = (pattern, record { pattern = pattern; text = text; names = names; value = value })

@@ -8,7 +8,7 @@ use Rattle.httparse.specs.Spans.{IsRequestAt, IsRequestWithin}
 use Rattle.dh_requests.specs.HeaderLines.{body_length}
 use Rattle.dh_requests.specs.Known.{TakesAtMost}
 use Rattle.dh_requests.specs.declared.header_lines.BodyLength.{BodyLength}
-use Rattle.dh_requests.specs.declared.judging.Found.{Found}
+use Rattle.dh_requests.specs.declared.verdict.Found.{Found}
 use Rattle.dh_requests.specs.declared.header_lines.BodyLength.TheVariants.{Absent, Invalid, TooLarge, Bytes}
 use Rattle.dh_requests.specs.Texts.{AreTexts, list_of}
 use Rattle.dh_requests.specs.Requests.{IsAnnounced, posted, values_in}

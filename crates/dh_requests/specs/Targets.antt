@@ -1,7 +1,7 @@
 -- What a target says of itself, apart from how it is found.
 use Rattle.std.specs.Prelude.{◌≡◌, ℕ, List, [], ◌∷◌, ◌++◌}
 use Rattle.dh_requests.specs.Routes.{IsPiece, front, words_of}
-use Rattle.dh_requests.specs.declared.routing.Route.{Route}
+use Rattle.dh_requests.specs.declared.routes.Route.{Route}
 
 -- the target is this text alone
 abbrev pub IsText : List ℕ → List ℕ → List ℕ → List ℕ → Type 0

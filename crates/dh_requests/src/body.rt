@@ -5,8 +5,8 @@ ghost use Rattle.std.specs.IoError.{error_kind};
 ghost use Rattle.dh_requests.specs.Bodies.{BodyOf, IsFilled};
 ghost use Rattle.dh_requests.specs.Known.{TakesAtMost};
 
+use crate::buffer::fill;
 use crate::failure::Failure;
-use crate::filling::fill;
 use crate::unread::Unread;
 use std::alloc::Global;
 use std::io;

@@ -6,8 +6,8 @@ ghost use Rattle.httparse.specs.Grammar.{RequestHead};
 ghost use Rattle.dh_requests.specs.Heads.{HeadOf, JudgedAs, IfFound, IsInBuffer, IsHead, IsBadHead, IsLargeHead};
 ghost use Rattle.dh_requests.specs.Known.{IfBoth, TakesAtMost};
 
+use crate::buffer::read_more;
 use crate::failure::Failure;
-use crate::filling::read_more;
 use crate::limits::{HEAD_BYTES, HEADER_LINES, ROOM};
 use httparse::spans::{HeaderSpan, RequestSpans, parse_request};
 use httparse::{Error, Status};

@@ -4,7 +4,7 @@ ghost use Rattle.std.specs.Prelude.{◌≡◌, ◌≤◌, ◌+◌, length, take,
 ghost use Rattle.dh_requests.specs.Pieces.{first_slash};
 ghost use Rattle.dh_requests.specs.Targets.{HasPieces, IsTarget};
 
-use crate::routing::Route;
+use crate::routes::Route;
 
 // The place of the first slash; the number of bytes where there is none.
 fn first_slash(bytes: &[u8]) -> usize

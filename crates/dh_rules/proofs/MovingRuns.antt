@@ -9,11 +9,11 @@ use Rattle.dh_model.specs.Books.{Books, State}
 use Rattle.dh_model.specs.Runs.{batch_size, batches}
 use Rattle.dh_model.specs.Whole.{whole, with_posted}
 use Rattle.dh_laws.specs.InOrder.{IsInOrder}
-use Rattle.dh_laws.specs.Events.{IsMovedBy, IsMovedOn, IsTorn, IsUndone, RunIfUndone}
+use Rattle.dh_laws.specs.Events.{IsMovedBy, IsMovedOn, IsMidRecovery, IsUndone, RunIfUndone}
 use Rattle.dh_laws.specs.StateTables.{IsStateInOrder, advanced_run, as_tables}
-use Rattle.dh_laws.proofs.MovingBatches.{at_the_end, batches_of_whole, with_batches}
-use Rattle.dh_rules.specs.declared.moving.Reach.{Reach}
-use Rattle.dh_rules.specs.declared.moving.Reach.TheVariants as reach
+use Rattle.dh_laws.proofs.BatchLemmas.Moving.{at_the_end, batches_of_whole, with_batches}
+use Rattle.dh_rules.specs.declared.recoveries.Reach.{Reach}
+use Rattle.dh_rules.specs.declared.recoveries.Reach.TheVariants as reach
 use Rattle.dh_rules.specs.Reaches.{batches_left, moved_run, reach_within, undone_run}
 
 more_than : (m n : ℕ) → nat_le m n ≡ false → n + 1 ≤ m
@@ -133,7 +133,7 @@ Moves before far after =
     IsStateInOrder before → IsStateInOrder after × (whole batch_size after.books ≡ whole batch_size before.books)
     × (after.open_run ≡ moved_run (whole batch_size before.books) far before.open_run)
 
-pub torn_so_far : (before after : State) (far : Reach) → Moves before far after → IsStateInOrder before → IsTorn batch_size (as_tables before) (as_tables after)
+pub torn_so_far : (before after : State) (far : Reach) → Moves before far after → IsStateInOrder before → IsMidRecovery batch_size (as_tables before) (as_tables after)
     × IsStateInOrder after
 torn_so_far before after far moves order =
     let made = whole batch_size before.books in

@@ -6,12 +6,12 @@ use Rattle.std.proofs.lemmas.List.{append-nil, append_assoc, drop_all}
 use Rattle.dh_types.specs.declared.reply.Reply.{Reply}
 use Rattle.dh_model.specs.Books.{Books, State}
 use Rattle.dh_model.specs.Runs.{batch_size}
-use Rattle.dh_laws.specs.Events.{Event, Said, Cut, Taken, Torn, Mended, Tables, state_of}
-use Rattle.dh_laws.specs.Kept.{Kept, NoneLeft, Answered, CutUndone, CutDone, FilesTaken, RecoveryCut, RecoveryDone}
-use Rattle.dh_laws.proofs.LiveTables.{mended_whole}
+use Rattle.dh_laws.specs.Events.{Event, Answered, Interrupted, Attached, RecoveryInterrupted, Recovered, Tables, state_of}
+use Rattle.dh_laws.specs.Kept.{Kept, NoneLeft, AnswerCounts, UndoneIsLeftOut, DoneCounts, AttachingIsPassed, RecoveryMovesOn, RecoveryEnds}
+use Rattle.dh_laws.proofs.LifeLemmas.Tables.{mended_whole}
 use Rattle.dh_laws.specs.StateTables.{IsStateInOrder, as_tables}
-use Rattle.dh_rules.specs.declared.playing.Happening.{Happening}
-use Rattle.dh_rules.specs.declared.playing.Happening.TheVariants as happening
+use Rattle.dh_rules.specs.declared.events.Happening.{Happening}
+use Rattle.dh_rules.specs.declared.events.Happening.TheVariants as happening
 use Rattle.dh_rules.specs.Playing.{IsPlayed, IsStep, counted}
 
 -- what is kept of these events, from these books on
@@ -26,49 +26,49 @@ nothing_played s = record { events = []; follow = tt; are = tt; answers = refl; 
 one_more : (one : Happening) (happenings : List Happening) (reply : Option Reply) (replies : List Reply) (before middle after : State)
     → IsStateInOrder middle → IsStep one reply before middle → IsPlayed happenings replies middle after
     → IsPlayed (one ∷ happenings) (option_to_list reply ++ replies) before after
-one_more (happening.Said told) happenings (Some reply) replies before middle after o step p = record {
-  events = (Said told reply, as_tables middle) ∷ p.events;
+one_more (happening.Answered told) happenings (Some reply) replies before middle after o step p = record {
+  events = (Answered told reply, as_tables middle) ∷ p.events;
   follow = (o.shown, step, p.follow);
   are = ((refl, step), p.are);
   answers = ap (λ rs. reply ∷ rs) p.answers;
   ends = p.ends;
-  kept = Answered step p.kept;
+  kept = AnswerCounts step p.kept;
 }
 one_more (happening.Undone told reach) happenings None replies before middle after o step p = record {
-  events = (Cut told, as_tables middle) ∷ p.events;
+  events = (Interrupted told, as_tables middle) ∷ p.events;
   follow = (o.shown, inl step.undone, p.follow);
   are = ((refl, step), p.are);
   answers = p.answers;
   ends = p.ends;
-  kept = CutUndone step.undone.run (subst (λ (b : Books). KeptFrom happenings middle after p.events b) step.undone.books p.kept);
+  kept = UndoneIsLeftOut step.undone.run (subst (λ (b : Books). KeptFrom happenings middle after p.events b) step.undone.books p.kept);
 }
 one_more (happening.Done told standing) happenings None replies before middle after o step p = record {
-  events = (Cut told, as_tables middle) ∷ p.events;
+  events = (Interrupted told, as_tables middle) ∷ p.events;
   follow = (o.shown, inr step.done, p.follow);
   are = ((refl, step), p.are);
   answers = p.answers;
   ends = p.ends;
-  kept = CutDone step.done.run (subst (λ (b : Books). KeptFrom happenings middle after p.events b) step.done.books p.kept);
+  kept = DoneCounts step.done.run (subst (λ (b : Books). KeptFrom happenings middle after p.events b) step.done.books p.kept);
 }
-one_more happening.Taken happenings None replies before middle after o step p = record {
-  events = (Taken, as_tables middle) ∷ p.events;
+one_more happening.Attached happenings None replies before middle after o step p = record {
+  events = (Attached, as_tables middle) ∷ p.events;
   follow = (o.shown, step, p.follow);
   are = (step, p.are);
   answers = p.answers;
   ends = p.ends;
-  kept = FilesTaken
+  kept = AttachingIsPassed
       (subst (λ (t : Tables). Kept batch_size (state_of batch_size t) p.events (counted happenings) (state_of batch_size (as_tables after))) step p.kept);
 }
-one_more (happening.Torn reach) happenings None replies before middle after o step p = record {
-  events = (Torn, as_tables middle) ∷ p.events;
+one_more (happening.RecoveryInterrupted reach) happenings None replies before middle after o step p = record {
+  events = (RecoveryInterrupted, as_tables middle) ∷ p.events;
   follow = (o.shown, step.torn, p.follow);
   are = (step, p.are);
   answers = p.answers;
   ends = p.ends;
-  kept = RecoveryCut step.torn.run (subst (λ (b : Books). KeptFrom happenings middle after p.events b) step.torn.books p.kept);
+  kept = RecoveryMovesOn step.torn.run (subst (λ (b : Books). KeptFrom happenings middle after p.events b) step.torn.books p.kept);
 }
-one_more happening.Mended happenings None replies before middle after o step p = record {
-  events = (Mended, as_tables middle) ∷ p.events;
+one_more happening.Recovered happenings None replies before middle after o step p = record {
+  events = (Recovered, as_tables middle) ∷ p.events;
   follow = (o.shown, step, p.follow);
   are = (step, p.are);
   answers = p.answers;
@@ -76,16 +76,16 @@ one_more happening.Mended happenings None replies before middle after o step p =
   kept =
       let whole = mended_whole batch_size (as_tables middle) _ step o.shown in
       let none = ap (λ (t : Tables). t.run) step in
-      RecoveryDone
+      RecoveryEnds
       (subst (λ (s : State). Kept batch_size s p.events (counted happenings) (state_of batch_size (as_tables after)))
       (λ i. record { books = whole i; open_run = none i }) p.kept);
 }
-one_more (happening.Said told) happenings None replies before middle after o step p = absurd step
+one_more (happening.Answered told) happenings None replies before middle after o step p = absurd step
 one_more (happening.Undone told reach) happenings (Some reply) replies before middle after o step p = absurd step
 one_more (happening.Done told standing) happenings (Some reply) replies before middle after o step p = absurd step
-one_more happening.Taken happenings (Some reply) replies before middle after o step p = absurd step
-one_more (happening.Torn reach) happenings (Some reply) replies before middle after o step p = absurd step
-one_more happening.Mended happenings (Some reply) replies before middle after o step p = absurd step
+one_more happening.Attached happenings (Some reply) replies before middle after o step p = absurd step
+one_more (happening.RecoveryInterrupted reach) happenings (Some reply) replies before middle after o step p = absurd step
+one_more happening.Recovered happenings (Some reply) replies before middle after o step p = absurd step
 
 module _ (all : List Happening) (start : State) where
   -- whatever is played from here on, was played from the start with what came before

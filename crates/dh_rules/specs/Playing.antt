@@ -5,39 +5,39 @@ use Rattle.dh_types.specs.declared.reply.Reply.{Reply}
 use Rattle.dh_model.specs.Books.{State}
 use Rattle.dh_model.specs.Runs.{batch_size}
 use Rattle.dh_model.specs.Whole.{whole}
-use Rattle.dh_laws.specs.Events.{Event, Said, Cut, Taken, Torn, Mended, Follow, Happens, IsDone, IsTorn, IsUndone, Tables, state_of}
+use Rattle.dh_laws.specs.Events.{Event, Answered, Interrupted, Attached, RecoveryInterrupted, Recovered, Follow, Happens, IsDone, IsMidRecovery, IsUndone, Tables, state_of}
 use Rattle.dh_laws.specs.Kept.{Kept}
 use Rattle.dh_laws.specs.StateTables.{as_tables}
 use Rattle.dh_laws.specs.Telling.{Stands}
-use Rattle.dh_rules.specs.declared.playing.Happening.{Happening}
-use Rattle.dh_rules.specs.declared.playing.Happening.TheVariants as happening
-use Rattle.dh_rules.specs.declared.moving.Reach.{Reach}
+use Rattle.dh_rules.specs.declared.events.Happening.{Happening}
+use Rattle.dh_rules.specs.declared.events.Happening.TheVariants as happening
+use Rattle.dh_rules.specs.declared.recoveries.Reach.{Reach}
 use Rattle.dh_rules.specs.Reaches.{moved_run, undone_run}
 
--- the command was cut and changed no books, and the open run is moved on as far as named
+-- the command was interrupted and changed no books, and the open run is moved on as far as named
 pub record IsUndoneTo (told : Command) (reach : Reach) (before after : State) : Type 0 where
   pub undone : IsUndone batch_size told (as_tables before) (as_tables after)
   pub run : after.open_run ≡ undone_run (whole batch_size before.books) told reach before.open_run
 
--- the command was cut and carried out, and an accepted run stands where it is named
+-- the command was interrupted and carried out, and an accepted run stands where it is named
 pub record IsDoneTo (told : Command) (standing : Option ℕ) (before after : State) : Type 0 where
   pub done : IsDone batch_size told (as_tables before) (as_tables after)
   pub stands : Stands before standing told after
 
--- the recovery was cut when it had come as far as named
+-- the recovery was interrupted when it had come as far as named
 pub record IsTornAt (reach : Reach) (before after : State) : Type 0 where
-  pub torn : IsTorn batch_size (as_tables before) (as_tables after)
+  pub torn : IsMidRecovery batch_size (as_tables before) (as_tables after)
   pub run : after.open_run ≡ moved_run (whole batch_size before.books) reach before.open_run
 
 -- what one happening makes of the tables, with the reply where it was answered
 abbrev pub IsStep : Happening → Option Reply → State → State → Type 0
-IsStep (happening.Said told) (Some reply) before after = Happens batch_size (Said told reply) (as_tables before) (as_tables after)
-IsStep (happening.Said told) None before after = ⊥
+IsStep (happening.Answered told) (Some reply) before after = Happens batch_size (Answered told reply) (as_tables before) (as_tables after)
+IsStep (happening.Answered told) None before after = ⊥
 IsStep (happening.Undone told reach) None before after = IsUndoneTo told reach before after
 IsStep (happening.Done told standing) None before after = IsDoneTo told standing before after
-IsStep happening.Taken None before after = Happens batch_size Taken (as_tables before) (as_tables after)
-IsStep (happening.Torn reach) None before after = IsTornAt reach before after
-IsStep happening.Mended None before after = Happens batch_size Mended (as_tables before) (as_tables after)
+IsStep happening.Attached None before after = Happens batch_size Attached (as_tables before) (as_tables after)
+IsStep (happening.RecoveryInterrupted reach) None before after = IsTornAt reach before after
+IsStep happening.Recovered None before after = Happens batch_size Recovered (as_tables before) (as_tables after)
 IsStep _ (Some reply) before after = ⊥
 
 -- tables as books in memory
@@ -46,12 +46,12 @@ shown t = record { books = t.books; open_run = t.run }
 
 -- the event that the happening is, and what it makes of the tables
 abbrev pub IsEventOf : Happening → Event → Tables → Tables → Type 0
-IsEventOf (happening.Said told) (Said it reply) before after = (it ≡ told) × IsStep (happening.Said told) (Some reply) (shown before) (shown after)
-IsEventOf (happening.Undone told reach) (Cut it) before after = (it ≡ told) × IsStep (happening.Undone told reach) None (shown before) (shown after)
-IsEventOf (happening.Done told standing) (Cut it) before after = (it ≡ told) × IsStep (happening.Done told standing) None (shown before) (shown after)
-IsEventOf happening.Taken Taken before after = IsStep happening.Taken None (shown before) (shown after)
-IsEventOf (happening.Torn reach) Torn before after = IsStep (happening.Torn reach) None (shown before) (shown after)
-IsEventOf happening.Mended Mended before after = IsStep happening.Mended None (shown before) (shown after)
+IsEventOf (happening.Answered told) (Answered it reply) before after = (it ≡ told) × IsStep (happening.Answered told) (Some reply) (shown before) (shown after)
+IsEventOf (happening.Undone told reach) (Interrupted it) before after = (it ≡ told) × IsStep (happening.Undone told reach) None (shown before) (shown after)
+IsEventOf (happening.Done told standing) (Interrupted it) before after = (it ≡ told) × IsStep (happening.Done told standing) None (shown before) (shown after)
+IsEventOf happening.Attached Attached before after = IsStep happening.Attached None (shown before) (shown after)
+IsEventOf (happening.RecoveryInterrupted reach) RecoveryInterrupted before after = IsStep (happening.RecoveryInterrupted reach) None (shown before) (shown after)
+IsEventOf happening.Recovered Recovered before after = IsStep happening.Recovered None (shown before) (shown after)
 IsEventOf _ _ before after = ⊥
 
 -- one after the other, each from the tables that the one before left
@@ -60,16 +60,16 @@ AreEventsOf [] before [] = Unit {0}
 AreEventsOf (one ∷ happenings) before (event ∷ events) = IsEventOf one event.0 before event.1 × AreEventsOf happenings event.1 events
 AreEventsOf _ before _ = ⊥
 
--- the commands that count: those that were answered, and the cut ones that were carried out
+-- the commands that count: those that were answered, and the interrupted ones that were carried out
 abbrev pub counted : List Happening → List Command
 counted [] = []
-counted (happening.Said told ∷ happenings) = told ∷ counted happenings
+counted (happening.Answered told ∷ happenings) = told ∷ counted happenings
 counted (happening.Done told standing ∷ happenings) = told ∷ counted happenings
 counted (_ ∷ happenings) = counted happenings
 
 abbrev pub replies_of : List (Event × Tables) → List Reply
 replies_of [] = []
-replies_of ((Said it reply, after) ∷ events) = reply ∷ replies_of events
+replies_of ((Answered it reply, after) ∷ events) = reply ∷ replies_of events
 replies_of (_ ∷ events) = replies_of events
 
 -- the tables that the last event left

@@ -6,8 +6,8 @@ use Rattle.dh_model.specs.declared.open_run.OpenRun.{OpenRun}
 use Rattle.dh_model.specs.Books.{Books}
 use Rattle.dh_model.specs.Runs.{batch_size, batches}
 use Rattle.dh_laws.specs.StateTables.{advanced_run}
-use Rattle.dh_rules.specs.declared.moving.Reach.{Reach}
-use Rattle.dh_rules.specs.declared.moving.Reach.TheVariants as reach
+use Rattle.dh_rules.specs.declared.recoveries.Reach.{Reach}
+use Rattle.dh_rules.specs.declared.recoveries.Reach.TheVariants as reach
 
 -- the open run, moved so far
 abbrev pub moved_run : Books → Reach → Option OpenRun → Option OpenRun
@@ -24,7 +24,7 @@ abbrev pub reach_within : ℕ → ℕ → Reach → Reach
 reach_within left most (reach.Batches count) = reach.Batches (min count most)
 reach_within left most reach.End = if nat_le left most then reach.End else reach.Batches most
 
--- the open run where a command was cut that changed no books: a `post` may have come so far with its batches
+-- the open run where a command was interrupted that changed no books: a `post` may have come so far with its batches
 abbrev pub undone_run : Books → Command → Reach → Option OpenRun → Option OpenRun
 undone_run books (command.Post count) far run = moved_run books (reach_within (batches_left books run) count far) run
 undone_run books _ far run = run

@@ -81,7 +81,7 @@ fn posted(
     }));
     Ok(Stepped {
         books,
-        reply: Reply::Part(Progress {
+        reply: Reply::Progress(Progress {
             month: run.month,
             done,
             of: all,

@@ -9,7 +9,7 @@ use Rattle.dh_model.specs.Books as machine
 use Rattle.dh_model.specs.Runs.{batch_size, batches}
 use Rattle.dh_laws.specs.Batches.{IsAtItsEnd, IsPostedInPart}
 use Rattle.dh_laws.specs.StateTables.{IsStateInOrder}
-use Rattle.dh_laws.proofs.Standing.{Stands, all_of, at_its_end, posted_in_part, within}
+use Rattle.dh_laws.proofs.StandingLemmas.Batches.{Stands, all_of, at_its_end, posted_in_part, within}
 use Rattle.dh_schema.specs.Store.{IsReady, Leaves, tables}
 use Rattle.dh_schema.specs.Tables.{IsSound, state_in}
 use Rattle.dh_schema.proofs.Crashing.{leaves_these, ready_leaves}
@@ -55,7 +55,7 @@ pub record Along (old now : State) (run : Progress) (n : ℕ) : Type 0 where
   pub stands : HasCleanDisk now → Stands (at run) (tables old) n (tables now)
 
 module _ (old : State) (run : Progress) (now : State) (n : ℕ) (h : Along old now run n) where
-  -- as the tables stand, they are a `post` that was cut
+  -- as the tables stand, they are a `post` that was interrupted
   pub rests : (most : ℕ) → n ≤ most → Settles now → Stays now → HasCleanDisk now → Leaves now (IsPostedInPart most (tables old))
   rests most few settles stays clean =
       leaves_these now (IsPostedInPart most (tables old)) (ready_leaves now settles stays (h.ready clean))

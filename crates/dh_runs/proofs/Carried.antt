@@ -12,12 +12,12 @@ use Rattle.dh_model.specs.Verdicts.{opened_run, run_verdict}
 use Rattle.dh_laws.specs.Batches.{IsPostedInPart}
 use Rattle.dh_laws.specs.StateTables.{IsStateInOrder}
 use Rattle.dh_laws.specs.Telling.{begun}
-use Rattle.dh_laws.proofs.Carrying.{run_cut, run_said, same_cut}
-use Rattle.dh_laws.proofs.Standing.{same_in_part}
+use Rattle.dh_laws.proofs.CommandLemmas.Carried.{run_cut, run_said, same_cut}
+use Rattle.dh_laws.proofs.StandingLemmas.Batches.{same_in_part}
 use Rattle.dh_schema.specs.Store.{Leaves}
-use Rattle.dh_runs.specs.declared.running.RunState.{RunState}
-use Rattle.dh_runs.specs.declared.running.RunState.TheVariants as run
-use Rattle.dh_runs.specs.Told.{IsCut, IsSaid, reply_of}
+use Rattle.dh_runs.specs.declared.batches.RunState.{RunState}
+use Rattle.dh_runs.specs.declared.batches.RunState.TheVariants as run
+use Rattle.dh_runs.specs.Told.{IsInterrupted, IsAnsweredBy, reply_of}
 use Rattle.dh_runs.proofs.Along.{either, leaves_weaker}
 
 pub on_err : {A E P : Type 0} (r : Result A E) → P → OnErr r P
@@ -30,19 +30,19 @@ module _ (order : RunOrder) (s : machine.State) (none : s.open_run ≡ None) (in
   opened = begun order (change.Open (opened_run s.books order)) s
 
   -- a crash within the opening
-  pub opening_crash : (new : State) → Leaves new (λ t. (t ≡ s) ⊎ (t ≡ opened)) → Leaves new (IsCut (command.Run order) s)
+  pub opening_crash : (new : State) → Leaves new (λ t. (t ≡ s) ⊎ (t ≡ opened)) → Leaves new (IsInterrupted (command.Run order) s)
   opening_crash new left =
-      leaves_weaker new _ (IsCut (command.Run order) s) (λ t. either s opened t (IsCut (command.Run order) s) (λ t is. same_cut (command.Run order) s t is)
+      leaves_weaker new _ (IsInterrupted (command.Run order) s) (λ t. either s opened t (IsInterrupted (command.Run order) s) (λ t is. same_cut (command.Run order) s t is)
       (λ t is. run_cut s order none in_order h 0 opened t refl (same_in_part 0 opened t is)))
       left
 
   -- and within the batches
-  pub posting_crash : (most : ℕ) (o : machine.State) (new : State) → o ≡ opened → Leaves new (IsPostedInPart most o) → Leaves new (IsCut (command.Run order) s)
+  pub posting_crash : (most : ℕ) (o : machine.State) (new : State) → o ≡ opened → Leaves new (IsPostedInPart most o) → Leaves new (IsInterrupted (command.Run order) s)
   posting_crash most o new is left =
-      leaves_weaker new (IsPostedInPart most o) (IsCut (command.Run order) s) (λ t part. run_cut s order none in_order h most o t is part) left
+      leaves_weaker new (IsPostedInPart most o) (IsInterrupted (command.Run order) s) (λ t part. run_cut s order none in_order h most o t is part) left
 
   -- all batches were posted
   pub posted_said : (most : ℕ) (it : RunState) (sum : RunSum) (o t : machine.State) → o ≡ opened → it ≡ run.Posted sum
-      → IsSaid (command.Post most) (reply_of it) o t → IsSaid (command.Run order) (reply.Posted sum) s t
+      → IsAnsweredBy (command.Post most) (reply_of it) o t → IsAnsweredBy (command.Run order) (reply.Posted sum) s t
   posted_said most it sum o t is ends said =
-      run_said s order none in_order h most sum o t is (subst (λ (it : RunState). IsSaid (command.Post most) (reply_of it) o t) ends said)
+      run_said s order none in_order h most sum o t is (subst (λ (it : RunState). IsAnsweredBy (command.Post most) (reply_of it) o t) ends said)

@@ -19,9 +19,9 @@ use Rattle.dh_laws.specs.Batches.{IsAtItsEnd, IsUnderWay, closed_state, sum_told
 use Rattle.dh_laws.specs.InOrder.{IsInOrder}
 use Rattle.dh_laws.specs.Posting.{closed}
 use Rattle.dh_laws.specs.StateTables as office
-use Rattle.dh_laws.proofs.MovingBatches.{at_the_end}
-use Rattle.dh_laws.proofs.PostClosing.{closing_makes_whole}
-use Rattle.dh_laws.proofs.PostWhole.{is_open}
+use Rattle.dh_laws.proofs.BatchLemmas.Moving.{at_the_end}
+use Rattle.dh_laws.proofs.BatchLemmas.Closing.{closing_makes_whole}
+use Rattle.dh_laws.proofs.BatchLemmas.Whole.{is_open}
 use Rattle.dh_tables.specs.Calls.{Amends, CommitsNothing, IsUndone, StaysInTransaction}
 use Rattle.dh_tables.specs.RunTable.{run_shape}
 use Rattle.dh_model.specs.Kinds.{Runs}

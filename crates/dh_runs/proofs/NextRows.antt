@@ -13,16 +13,16 @@ use Rattle.dh_model.proofs.KeyOrders.{nat_text_ties, nat_text_total, nats_tie, n
 use Rattle.dh_laws.specs.Batches.{next_batch, next_of, with_batch}
 use Rattle.dh_laws.specs.InOrder.{IsInOrder}
 use Rattle.dh_laws.specs.StateTables.{IsStateInOrder}
-use Rattle.dh_laws.proofs.MovingBatches.{with_batches}
-use Rattle.dh_laws.proofs.PostCharged.{charge_month, charges_fit, fee_month, fees_fit, part_month, parts_fit}
-use Rattle.dh_laws.proofs.PostFees.{fees_posted}
-use Rattle.dh_laws.proofs.PostWhole.{is_open}
-use Rattle.dh_laws.proofs.PostMonth.{stays}
-use Rattle.dh_leases.specs.declared.planning.BatchRows.{BatchRows}
-use Rattle.dh_leases.specs.declared.planning.Plan.{Plan}
+use Rattle.dh_laws.proofs.BatchLemmas.Moving.{with_batches}
+use Rattle.dh_laws.proofs.BatchLemmas.Charged.{charge_month, charges_fit, fee_month, fees_fit, part_month, parts_fit}
+use Rattle.dh_laws.proofs.BatchLemmas.Fees.{fees_posted}
+use Rattle.dh_laws.proofs.BatchLemmas.Whole.{is_open}
+use Rattle.dh_laws.proofs.BatchLemmas.MonthRows.{stays}
+use Rattle.dh_leases.specs.declared.plans.BatchRows.{BatchRows}
+use Rattle.dh_leases.specs.declared.plans.Plan.{Plan}
 use Rattle.dh_leases.specs.Plans.{AreNew, HasItsPart, IsPlanOf, begins_at, stage, with_batch_rows}
 use Rattle.dh_leases.proofs.Leading.{IsBatchAt, batch_at, counted}
-use Rattle.dh_runs.specs.declared.posting.Batch.TheVariants.{Posted, NoneLeft}
+use Rattle.dh_runs.specs.declared.batch.Batch.TheVariants.{Posted, NoneLeft}
 use Rattle.dh_runs.specs.Batches.{batch_told}
 
 -- with the batches that are done, books are as they were

@@ -20,8 +20,8 @@ use Rattle.dh_model.proofs.KeyOrders.{nat_text_ties, nat_text_total, nat_ties, n
 use Rattle.dh_model.proofs.MapRows.{get_new, inside}
 use Rattle.dh_model.proofs.Rising.{IsBefore, Rises, filter_rises, map_rises}
 use Rattle.dh_laws.specs.InOrder.{AreKeyed, IsInOrder}
-use Rattle.dh_laws.proofs.PostClosing.{closing_makes_whole}
-use Rattle.dh_laws.proofs.PostCounts.{Differ, counted, rows_differ, same_sum}
+use Rattle.dh_laws.proofs.BatchLemmas.Closing.{closing_makes_whole}
+use Rattle.dh_laws.proofs.BatchLemmas.Counts.{Differ, counted, rows_differ, same_sum}
 use Rattle.dh_runs.specs.Closing.{sum_of_parts, sum_over}
 
 module _ (size : ℕ) (books : Books) (month : ℕ) (pos : 1 ≤ size) (keyed : AreKeyed books) (posted : ArePosted books size month (batches size books month)) where

@@ -16,7 +16,7 @@ use Rattle.dh_leases.specs.Plans.{HasItsFeeRow}
 use Rattle.std.specs.Prelude.{IfSome}
 use Rattle.dh_model.specs.Runs.{charge_key, part_fee_key, part_key}
 use Rattle.dh_model.proofs.KeyOrders.{nat_text_ties, nat_text_total, nats_tie, nats_total}
-use Rattle.dh_catalog.specs.Versions.{schema_of}
+use Rattle.dh_ddl.specs.Versions.{schema_of}
 use Rattle.dh_sql.specs.Shape.{rows_in}
 use Rattle.dh_tables.specs.Calls.{IsWritingSince}
 use Rattle.dh_model.specs.Kinds.{order_of}

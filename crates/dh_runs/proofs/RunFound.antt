@@ -12,9 +12,9 @@ use Rattle.dh_model.specs.Runs.{batch_size, batches}
 use Rattle.dh_model.specs.Whole.{whole}
 use Rattle.dh_laws.specs.Events.{state_of}
 use Rattle.dh_laws.specs.StateTables.{as_tables}
-use Rattle.dh_runs.specs.declared.running.RunState.{RunState}
-use Rattle.dh_runs.specs.declared.running.RunState.TheVariants as run
-use Rattle.dh_runs.specs.Told.{IsSaid, reply_of}
+use Rattle.dh_runs.specs.declared.batches.RunState.{RunState}
+use Rattle.dh_runs.specs.declared.batches.RunState.TheVariants as run
+use Rattle.dh_runs.specs.Told.{IsAnsweredBy, reply_of}
 
 abbrev ended : Books → OpenRun → State × Reply
 ended books at = (record { books = books; open_run = None }, reply.Posted (posted_sum at.month (get books.runs at.month)))
@@ -22,7 +22,7 @@ ended books at = (record { books = books; open_run = None }, reply.Posted (poste
 abbrev going : Books → ℕ → OpenRun → State × Reply
 going books most at = (
   record { books = books; open_run = Some (record { month = at.month; done = at.done + most }) },
-  reply.Part (record { month = at.month; done = at.done + most; of = batches batch_size books at.month }),
+  reply.Progress (record { month = at.month; done = at.done + most; of = batches batch_size books at.month }),
 )
 
 -- no such answer is that no run is open
@@ -37,10 +37,10 @@ posted_run books most at left h = by (nat_le (batches batch_size books at.month)
         ap (λ (m : State × Reply). m.1) (sym (ap (λ (b : Bool). if b then ended books at else going books most at) e) ∙ h) in absurd (cc)
 
 pub run_is_found : (most : ℕ) (s t : State) (at : OpenRun) (it : RunState) → s.open_run ≡ Some at → it ≡ run.NoRun
-    → IsSaid (command.Post most) (reply_of it) s t → ⊥
+    → IsAnsweredBy (command.Post most) (reply_of it) s t → ⊥
 run_is_found most s t at it is none said =
-    let told : IsSaid (command.Post most) (reply.Refused refusal.NoRun) s t =
-    subst (λ (r : RunState). IsSaid (command.Post most) (reply_of r) s t) none said in
+    let told : IsAnsweredBy (command.Post most) (reply.Refused refusal.NoRun) s t =
+    subst (λ (r : RunState). IsAnsweredBy (command.Post most) (reply_of r) s t) none said in
     posted_run (whole batch_size s.books) most at (state_of batch_size (as_tables t))
     (subst (λ (o : Option OpenRun). step batch_size (record { books = whole batch_size s.books; open_run = o }) (command.Post most)
     ≡ (state_of batch_size (as_tables t), reply.Refused refusal.NoRun)) is told)

@@ -11,10 +11,10 @@ use Rattle.dh_model.specs.Whole.{whole}
 use Rattle.dh_laws.specs.Batches.{IsPostedInPart}
 use Rattle.dh_laws.specs.InOrder.{IsInOrder}
 use Rattle.dh_laws.specs.StateTables.{IsStateInOrder}
-use Rattle.dh_laws.proofs.MovingBatches.{batches_of_whole, with_batches}
-use Rattle.dh_laws.proofs.Standing.{Stands, posted_in_part}
-use Rattle.dh_leases.specs.declared.planning.BatchRows.{BatchRows}
-use Rattle.dh_leases.specs.declared.planning.Plan.{Plan}
+use Rattle.dh_laws.proofs.BatchLemmas.Moving.{batches_of_whole, with_batches}
+use Rattle.dh_laws.proofs.StandingLemmas.Batches.{Stands, posted_in_part}
+use Rattle.dh_leases.specs.declared.plans.BatchRows.{BatchRows}
+use Rattle.dh_leases.specs.declared.plans.Plan.{Plan}
 use Rattle.dh_leases.specs.Plans.{AreNew, HasItsPart, IsPlanOf, begins_at, stage, with_batch_rows}
 use Rattle.dh_leases.proofs.Leading.{IsBatchAt, batch_at, counted}
 use Rattle.dh_schema.specs.Store.{IsReady, Leaves, tables}

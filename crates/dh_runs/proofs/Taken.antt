@@ -13,12 +13,12 @@ use Rattle.dh_types.specs.declared.reply.Refusal.TheVariants as refusal
 use Rattle.dh_rows.specs.Cells.{version_number}
 use Rattle.dh_model.specs.Books as machine
 use Rattle.dh_model.specs.Runs.{batch_size}
-use Rattle.dh_laws.specs.Events.{Mended}
+use Rattle.dh_laws.specs.Events.{Recovered}
 use Rattle.dh_laws.specs.StateTables.{as_tables}
-use Rattle.dh_laws.proofs.Versions.{the_version_stays}
-use Rattle.dh_laws.proofs.Carrying.{part_torn}
-use Rattle.dh_laws.proofs.Standing.{same_in_part}
-use Rattle.dh_catalog.specs.Versions.{each_is_ours, schema_of}
+use Rattle.dh_laws.proofs.InvariantLemmas.Versions.{the_version_stays}
+use Rattle.dh_laws.proofs.CommandLemmas.Carried.{part_torn}
+use Rattle.dh_laws.proofs.StandingLemmas.Batches.{same_in_part}
+use Rattle.dh_ddl.specs.Versions.{each_is_ours, schema_of}
 use Rattle.dh_tables.specs.Calls.{HasOurTables}
 use Rattle.dh_schema.specs.Store.{AreTables, IsReadyWith, Leaves, tables}
 use Rattle.dh_schema.specs.Tables.{IsSound, state_in, version_of_tables}
@@ -28,7 +28,7 @@ use Rattle.dh_runs.specs.declared.problem.Problem.TheVariants as problem
 use Rattle.dh_runs.specs.Taken.{Halts, RestsTorn, TakesForward}
 use Rattle.dh_runs.specs.Taking.{CanBeTaken, GivesVersion, HasTablesOfAnother, HasVersion, IsFirstProblem, IsOfVersion, IsProblemOf, ReadsAsItDid}
 use Rattle.dh_runs.specs.Taking.{Takes, TakesAsTheyAre}
-use Rattle.dh_runs.specs.Told.{IsMended, IsTorn}
+use Rattle.dh_runs.specs.Told.{IsRecovered, IsMidRecovery}
 
 -- sound tables are listed by the schema of their version, and a list tells one schema
 pub its_schema : (d : Database) → IsDatabase d → IsSound d.trees → d.schema ≡ schema_of (version_of_tables d.trees)
@@ -36,10 +36,10 @@ its_schema d lists sound =
     lists_once (d.trees catalog_tree) d.schema (schema_of (version_of_tables d.trees)) lists.lists sound.in_order.listed.lists
 
 -- a recovery that was stopped before its first batch
-same_is_torn : (s t : machine.State) → t ≡ s → IsTorn s t
+same_is_torn : (s t : machine.State) → t ≡ s → IsMidRecovery s t
 same_is_torn s t is = part_torn 0 s t (same_in_part 0 s t is)
 
-pub left_torn : (old : State) → IsSound old.now.trees → (left : Trees) → left ≡ old.now.trees → AreTables (IsTorn (tables old)) left
+pub left_torn : (old : State) → IsSound old.now.trees → (left : Trees) → left ≡ old.now.trees → AreTables (IsMidRecovery (tables old)) left
 left_torn old sound left is = (subst IsSound (sym is) sound, same_is_torn (tables old) (state_in left) (ap state_in is))
 
 module _ (old new : State) where
@@ -51,7 +51,7 @@ module _ (old new : State) where
       let trees : old.now.trees ≡ new.now.trees = ap (λ (d : Database). d.trees) (sym it.1) in
       (it.0, subst IsSound trees sound, same_is_torn (tables old) (tables new) (same_tables it))
 
-  pub torn_still : IsDatabase old.now → IsSound old.now.trees → ReadsAsItDid old new → IsReadyWith new (IsTorn (tables old))
+  pub torn_still : IsDatabase old.now → IsSound old.now.trees → ReadsAsItDid old new → IsReadyWith new (IsMidRecovery (tables old))
   torn_still lists sound it =
       let rests = rests_torn sound it in
       let its = its_schema new.now (subst IsDatabase (sym it.1) lists) rests.1 in (
@@ -66,7 +66,7 @@ module _ (old new : State) where
         rests.2,
       )
 
-  pub ready_rests : IsReadyWith new (IsTorn (tables old)) → RestsTorn old new
+  pub ready_rests : IsReadyWith new (IsMidRecovery (tables old)) → RestsTorn old new
   ready_rests it = (
     record { is_open = it.0.is_open; autocommit = it.0.autocommit; settled = it.0.settled },
     it.0.sound,
@@ -130,8 +130,8 @@ rows_taken g wanted old mid new (Err e) ours given never first was sound refused
     }
 
 -- they stay so where a recovery came to its end
-pub version_mended : (version : Version) (mid new : State) → HasVersion version mid → IsMended (tables mid) (tables new) → HasVersion version new
-version_mended version mid new was mended = the_version_stays batch_size Mended (as_tables (tables mid)) (as_tables (tables new)) mended ∙ was
+pub version_mended : (version : Version) (mid new : State) → HasVersion version mid → IsRecovered (tables mid) (tables new) → HasVersion version new
+version_mended version mid new was mended = the_version_stays batch_size Recovered (as_tables (tables mid)) (as_tables (tables new)) mended ∙ was
 
 -- ---- a recovery
 
@@ -168,15 +168,15 @@ module _ (wanted : Version) (old mid new : State) (kept : TakesAsTheyAre old mid
   pub not_untaken : ¬ CanBeTaken wanted old.now.trees → TakesAsTheyAre old new
   not_untaken wrong = unless_taken (λ clean. wrong (taken (early clean)))
 
-  pub moved_forward : (HasCleanDisk new → Leaves new (IsTorn (tables mid))) → TakesForward old new
+  pub moved_forward : (HasCleanDisk new → Leaves new (IsMidRecovery (tables mid))) → TakesForward old new
   moved_forward crash = record {
     was_clean = omega (arith, kept.was_clean, was);
-    crash = λ clean sound. subst (λ (t : machine.State). Leaves new (IsTorn t)) (same clean) (crash clean);
+    crash = λ clean sound. subst (λ (t : machine.State). Leaves new (IsMidRecovery t)) (same clean) (crash clean);
     untouched = λ wrong. unless_taken (λ clean. wrong (taken (early clean)).sound);
   }
 
-  pub moved_halted : (HasCleanDisk new → IsTrue new.is_open → IsReadyWith new (IsTorn (tables mid))) → Halts old new
+  pub moved_halted : (HasCleanDisk new → IsTrue new.is_open → IsReadyWith new (IsMidRecovery (tables mid))) → Halts old new
   moved_halted halted =
       let ready = λ (clean : HasCleanDisk new) (up : IsTrue new.is_open).
-      subst (λ (t : machine.State). IsReadyWith new (IsTorn t)) (same clean) (halted clean up) in
+      subst (λ (t : machine.State). IsReadyWith new (IsMidRecovery t)) (same clean) (halted clean up) in
       record { ready = λ clean up ours sound. ready clean up; resting = λ clean up sound. ready_rests old new (ready clean up) }

@@ -3,10 +3,10 @@ use Rattle.std.specs.Prelude.{All, ℕ, ◌+◌, ◌^◌, ◌≤◌, nat_lt, if�
 use Rattle.dh_model.specs.declared.open_run.OpenRun.{OpenRun}
 use Rattle.dh_model.specs.Books.{Books}
 use Rattle.dh_model.specs.Runs.{batch_size, batches}
-use Rattle.dh_leases.specs.declared.planning.Plan.{Plan}
+use Rattle.dh_leases.specs.declared.plans.Plan.{Plan}
 use Rattle.dh_leases.specs.Plans.{FallsInTime}
-use Rattle.dh_runs.specs.declared.posting.Batch.{Batch}
-use Rattle.dh_runs.specs.declared.posting.Batch.TheVariants.{Posted, NoneLeft}
+use Rattle.dh_runs.specs.declared.batch.Batch.{Batch}
+use Rattle.dh_runs.specs.declared.batch.Batch.TheVariants.{Posted, NoneLeft}
 
 -- so many batches can be counted with those of any list behind them
 abbrev pub HasRoom : ℕ → Type 0

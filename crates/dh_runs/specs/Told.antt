@@ -1,4 +1,4 @@
--- What a call told, and what it leaves where it is cut.
+-- What a call told, and what it leaves where it is interrupted.
 use Rattle.std.specs.Prelude.{◌≡◌, ◌⊎◌, ◌≤◌, IsTrue, Result, IfErr, OnErr, OnOk}
 use Rattle.sqlite_trees.specs.View.{doubt}
 use Rattle.sqlite.specs.State as sqlite
@@ -10,17 +10,17 @@ use Rattle.dh_types.specs.declared.reply.Reply.TheVariants as reply
 use Rattle.dh_types.specs.declared.reply.Refusal.TheVariants as refusal
 use Rattle.dh_model.specs.Books.{State}
 use Rattle.dh_model.specs.Runs.{batch_size}
-use Rattle.dh_laws.specs.Events.{Cut, Happens, Mended, Said, Torn}
+use Rattle.dh_laws.specs.Events.{Interrupted, Happens, Recovered, Answered, RecoveryInterrupted}
 use Rattle.dh_laws.specs.StateTables.{as_tables}
 use Rattle.dh_schema.specs.Faults.{IsFirstFault}
 use Rattle.dh_schema.specs.Store.{IsReadyWith, Leaves, StaysReady, tables}
-use Rattle.dh_runs.specs.declared.running.RunState.{RunState}
-use Rattle.dh_runs.specs.declared.running.RunState.TheVariants as run
+use Rattle.dh_runs.specs.declared.batches.RunState.{RunState}
+use Rattle.dh_runs.specs.declared.batches.RunState.TheVariants as run
 
 -- what posting batches comes to, in a reply's words
 abbrev pub reply_of : RunState → Reply
 reply_of run.NoRun = reply.Refused refusal.NoRun
-reply_of (run.Part progress) = reply.Part progress
+reply_of (run.Part progress) = reply.Progress progress
 reply_of (run.Posted sum) = reply.Posted sum
 
 -- no batch is left
@@ -30,20 +30,20 @@ IsAtEnd (run.Part progress) = ⊥
 IsAtEnd (run.Posted sum) = Unit {0}
 
 -- the command was answered so
-abbrev pub IsSaid : Command → Reply → State → State → Type 0
-IsSaid told reply before after = Happens batch_size (Said told reply) (as_tables before) (as_tables after)
+abbrev pub IsAnsweredBy : Command → Reply → State → State → Type 0
+IsAnsweredBy told reply before after = Happens batch_size (Answered told reply) (as_tables before) (as_tables after)
 
 -- a fault or a stop came within the command
-abbrev pub IsCut : Command → State → State → Type 0
-IsCut told before after = Happens batch_size (Cut told) (as_tables before) (as_tables after)
+abbrev pub IsInterrupted : Command → State → State → Type 0
+IsInterrupted told before after = Happens batch_size (Interrupted told) (as_tables before) (as_tables after)
 
 -- a recovery was stopped, or answered a fault
-abbrev pub IsTorn : State → State → Type 0
-IsTorn before after = Happens batch_size Torn (as_tables before) (as_tables after)
+abbrev pub IsMidRecovery : State → State → Type 0
+IsMidRecovery before after = Happens batch_size RecoveryInterrupted (as_tables before) (as_tables after)
 
 -- a recovery came to its end
-abbrev pub IsMended : State → State → Type 0
-IsMended before after = Happens batch_size Mended (as_tables before) (as_tables after)
+abbrev pub IsRecovered : State → State → Type 0
+IsRecovered before after = Happens batch_size Recovered (as_tables before) (as_tables after)
 
 -- One step in one transaction: an answer leaves the tables that it makes, and a fault these or those before, while the store is open those
 -- before. A fault is of memory or of the store.

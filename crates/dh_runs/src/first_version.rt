@@ -10,8 +10,8 @@ ghost use Rattle.dh_runs.specs.Batches.{batch_told};
 ghost use Rattle.dh_runs.specs.Taking.{HasVersion};
 ghost use Rattle.dh_runs.specs.Told.{Steps};
 
-use crate::closing::close_run;
-use crate::posting::{Batch, post_batch};
+use crate::batch::{Batch, post_batch};
+use crate::run_end::close_run;
 use dh_schema::StoreFault;
 use dh_types::RunSum;
 use sqlite::{Alter, Connection};

@@ -2,24 +2,24 @@
 //! cut anywhere; and the recovery. Read [`post_batch`] first, and then [`post_some`].
 #![tactic(auto)]
 
-mod closing;
+mod batch;
+mod batches;
+mod checks;
 mod first_version;
-mod opening;
-mod planning;
-mod posting;
+mod plan;
 mod problem;
-mod recovering;
+mod recovery;
 mod rows;
-mod running;
-mod taking;
+mod run_end;
+mod run_start;
 
-pub use closing::close_run;
+pub use batch::{Batch, post_batch};
+pub use batches::{RunState, post_some, run_all};
+pub use checks::{check, checked_books};
 pub use first_version::{close_run_1, post_batch_1};
-pub use opening::open_run;
-pub use planning::plan_run;
-pub use posting::{Batch, post_batch};
+pub use plan::plan_run;
 pub use problem::Problem;
-pub use recovering::recover_in;
+pub use recovery::recover_in;
 pub use rows::put_fee;
-pub use running::{RunState, post_some, run_all};
-pub use taking::{check, checked_books};
+pub use run_end::close_run;
+pub use run_start::open_run;

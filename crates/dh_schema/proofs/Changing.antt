@@ -13,8 +13,8 @@ use Rattle.dh_model.specs.Runs.{batch_size}
 use Rattle.dh_model.specs.Whole.{run_shown}
 use Rattle.dh_rows.specs.Months.{Months}
 use Rattle.dh_rows.specs.MetaRows.{months_back}
-use Rattle.dh_catalog.specs.Versions.{schema_of}
-use Rattle.dh_catalog.specs.MetaTable.{meta}
+use Rattle.dh_ddl.specs.Versions.{schema_of}
+use Rattle.dh_ddl.specs.MetaTable.{meta}
 use Rattle.dh_sql.specs.Changes.{Becomes, IsSame}
 use Rattle.dh_sql.specs.Shape.{rows_in}
 use Rattle.dh_sql.proofs.Staying.{same_beside}

@@ -13,7 +13,7 @@ use Rattle.dh_model.specs.Rules.{MeetsRules}
 use Rattle.dh_model.specs.Runs.{batch_size}
 use Rattle.dh_model.specs.Whole.{IsOpenAt}
 use Rattle.dh_laws.specs.StateTables as office
-use Rattle.dh_laws.proofs.ShownRun.{run_shown_is_reckoned}
+use Rattle.dh_laws.proofs.ShownLemmas.Run.{run_shown_is_reckoned}
 use Rattle.dh_schema.specs.Putting.{Puts}
 use Rattle.dh_schema.specs.Store.{AreTables, Commits, IsReady, Leaves, tables}
 use Rattle.dh_schema.specs.Tables.{AreInOrder, IsSound, books_in, state_in}

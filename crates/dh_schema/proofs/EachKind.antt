@@ -7,8 +7,8 @@ use Rattle.dh_model.specs.Books.{State}
 use Rattle.dh_rows.specs.Months.{Months}
 use Rattle.dh_types.specs.declared.version.Version.{Version}
 use Rattle.dh_types.specs.declared.version.Version.TheVariants.{First, Second}
-use Rattle.dh_catalog.specs.Versions.{schema_of}
-use Rattle.dh_catalog.specs.MetaTable.{meta}
+use Rattle.dh_ddl.specs.Versions.{schema_of}
+use Rattle.dh_ddl.specs.MetaTable.{meta}
 use Rattle.dh_model.specs.Kinds.{HasKind, IsSince, Kind, order_of, record_of}
 use Rattle.dh_schema.specs.Kinds.{place_of, shape_of, shelf_of, table_of}
 use Rattle.dh_model.specs.Kinds.{Branches, Staff, Owners, Properties, Clients, Registrations, Viewings, Inspections, Leases, Charges, Receipts, Runs}

@@ -6,7 +6,7 @@ use Rattle.dh_types.specs.declared.version.Version.{Version}
 use Rattle.dh_types.specs.declared.version.Version.TheVariants.{First, Second}
 use Rattle.dh_model.specs.Kinds.{Endings, PartFees, order_of}
 use Rattle.dh_model.specs.Rules.{Each, HasFees}
-use Rattle.dh_laws.proofs.EmptyBooks.{each_of_none}
+use Rattle.dh_laws.proofs.InvariantLemmas.EmptyBooks.{each_of_none}
 use Rattle.dh_sql.specs.Shape.{rows_in}
 use Rattle.dh_schema.specs.Kinds.{shape_of}
 use Rattle.dh_schema.specs.TableLaws.{FirstBreaksNoLaterRule}

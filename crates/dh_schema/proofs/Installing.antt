@@ -16,12 +16,12 @@ use Rattle.dh_model.specs.Books as machine
 use Rattle.dh_model.specs.Runs.{batch_size}
 use Rattle.dh_model.specs.Rules.{MeetsRules}
 use Rattle.dh_model.specs.Whole.{batches_shown, run_shown}
-use Rattle.dh_laws.proofs.EmptyBooks.{empty_books_are_in_order}
+use Rattle.dh_laws.proofs.InvariantLemmas.EmptyBooks.{empty_books_are_in_order}
 use Rattle.dh_rows.specs.Months.{Months}
 use Rattle.dh_types.specs.declared.version.Version.{Version}
 use Rattle.dh_types.specs.declared.version.Version.TheVariants.{First, Second}
-use Rattle.dh_catalog.specs.Versions.{each_is_ours, schema_of}
-use Rattle.dh_catalog.specs.Making.{AreEmpty}
+use Rattle.dh_ddl.specs.Versions.{each_is_ours, schema_of}
+use Rattle.dh_ddl.specs.Making.{AreEmpty}
 use Rattle.dh_sql.specs.Shape.{AreApart, IsKept, Shape, entry_in, rows_in}
 use Rattle.dh_sql.proofs.Lists.{all_at}
 use Rattle.dh_tables.specs.MetaTable.{SetsMonths}

@@ -14,7 +14,7 @@ use Rattle.dh_types.specs.declared.version.Version.{Version}
 use Rattle.dh_types.specs.declared.version.Version.TheVariants.{First, Second}
 use Rattle.dh_rows.specs.Cells.{version_number}
 use Rattle.sqlite_catalog.specs.Listing as catalog
-use Rattle.dh_catalog.specs.Versions.{HasSince, schema_of}
+use Rattle.dh_ddl.specs.Versions.{HasSince, schema_of}
 use Rattle.dh_sql.specs.Shape.{IsStored, rows_in}
 use Rattle.dh_tables.specs.Calls.{IsUndone}
 use Rattle.dh_tables.specs.Listing.{IsLoaded}

@@ -7,7 +7,7 @@ use Rattle.sqlite_schema.specs.declared.schema.Schema.{Schema}
 use Rattle.dh_types.specs.declared.version.Version.{Version}
 use Rattle.dh_types.specs.declared.version.Version.TheVariants.{First, Second}
 use Rattle.dh_model.specs.Kinds.{IsSince}
-use Rattle.dh_catalog.specs.Versions.{HasSince, each_is_ours, schema_of}
+use Rattle.dh_ddl.specs.Versions.{HasSince, each_is_ours, schema_of}
 use Rattle.dh_schema.specs.Version.{only_version}
 
 -- which row is the only one does not depend on the order

@@ -8,7 +8,7 @@ use Rattle.sqlite.specs.State.{HasCleanDisk, IsUnchanged, State}
 use Rattle.dh_types.specs.declared.version.Version.{Version}
 use Rattle.dh_types.specs.declared.version.Version.TheVariants.{First, Second}
 use Rattle.dh_model.specs.Books as machine
-use Rattle.dh_catalog.specs.Versions.{HasSince}
+use Rattle.dh_ddl.specs.Versions.{HasSince}
 use Rattle.dh_sql.specs.Shape.{rows_in}
 use Rattle.dh_tables.specs.Calls.{CommitsNothing, IsUndone}
 use Rattle.dh_schema.specs.declared.load_fault.LoadFault.{LoadFault}

@@ -6,7 +6,7 @@ use Rattle.dh_model.specs.declared.rows.Change.{Change}
 use Rattle.dh_model.specs.Books as machine
 use Rattle.dh_model.specs.Machine.{changed}
 use Rattle.dh_laws.specs.InOrder.{run_after}
-use Rattle.dh_catalog.specs.Versions.{schema_of}
+use Rattle.dh_ddl.specs.Versions.{schema_of}
 use Rattle.dh_tables.specs.Calls.{HasOurTables}
 use Rattle.dh_schema.specs.Tables.{AreInOrder, IsSound, state_in, version_of_tables}
 

@@ -16,7 +16,7 @@ use Rattle.dh_model.specs.Whole.{run_shown}
 use Rattle.dh_laws.specs.Events.{Tables}
 use Rattle.dh_rows.specs.Months.{Months}
 use Rattle.dh_rows.specs.MetaRows.{months_in}
-use Rattle.dh_catalog.specs.Versions.{schema_of}
+use Rattle.dh_ddl.specs.Versions.{schema_of}
 use Rattle.dh_sql.specs.Shape.{AreApart, IsKept, IsStored, rows_in}
 use Rattle.dh_tables.specs.MetaTable.{HasMonths, meta_rows}
 use Rattle.dh_model.specs.Kinds.{HasKind, Kind, came_with, order_of, record_of}

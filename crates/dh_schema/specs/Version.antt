@@ -6,7 +6,7 @@ use Rattle.sqlite_value.specs.Order.{Row, column}
 use Rattle.sqlite.specs.State.{State}
 use Rattle.dh_types.specs.declared.version.Version.{Version}
 use Rattle.dh_rows.specs.Cells.{version_number}
-use Rattle.dh_catalog.specs.Versions.{schema_of}
+use Rattle.dh_ddl.specs.Versions.{schema_of}
 use Rattle.dh_tables.specs.MetaTable.{meta_rows}
 
 -- whose tables a file has, and the number that meta gives

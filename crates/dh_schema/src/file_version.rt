@@ -5,7 +5,7 @@ ghost use Rattle.sqlite.specs.State.{HasCleanDisk};
 ghost use Rattle.sqlite.specs.Held.{state};
 ghost use Rattle.dh_types.specs.declared.version.Version.{Version};
 ghost use Rattle.dh_rows.specs.Cells.{version_number};
-ghost use Rattle.dh_catalog.specs.Versions.{schema_of};
+ghost use Rattle.dh_ddl.specs.Versions.{schema_of};
 ghost use Rattle.dh_tables.specs.MetaTable.{meta_rows};
 ghost use Rattle.dh_schema.specs.LoadFaults.{IsLoadFault, IsTurnedAway};
 ghost use Rattle.dh_schema.specs.Version.{only_version};

@@ -1,6 +1,6 @@
 //! The kinds of record by their keys.
 
-use crate::finding::KeyedRecord;
+use crate::by_key::KeyedRecord;
 use dh_tables::{
     BranchNumbered, ChargeOf, ClientNumbered, EndingOf, FeeOfBranch, FeeOfPart, InspectionOf,
     LeaseNumbered, MemberNumbered, OwnerNumbered, PartOf, PropertyNumbered, ReceiptNumbered,

@@ -24,7 +24,7 @@ use Rattle.dh_model.proofs.KeyOrders.{nats_tie, nats_total, text_ties, text_tota
 use Rattle.dh_laws.specs.AskedAbout.{asked_about, leases_of_owner}
 use Rattle.dh_model.proofs.MapRows.{kept_if}
 use Rattle.dh_laws.proofs.MapMerges.{get-rows_where}
-use Rattle.dh_laws.proofs.RowsNarrowed.{values_where}
+use Rattle.dh_laws.proofs.FactLemmas.Narrowed.{values_where}
 use Rattle.dh_store.specs.AnsweredFrom.{answered_from}
 
 -- what comes to nothing may be passed over

@@ -5,7 +5,7 @@ use Rattle.dh_model.specs.Books as machine
 use Rattle.dh_model.specs.Books.{Books}
 use Rattle.dh_model.proofs.KeyOrders.{nat_ties, nat_total, nats_tie, nats_total, text_ties, text_total}
 use Rattle.dh_laws.specs.AskedAbout.{with_accounts}
-use Rattle.dh_laws.proofs.AskedRows.{none_where}
+use Rattle.dh_laws.proofs.FactLemmas.Asked.{none_where}
 use Rattle.dh_tables.specs.Calls.{CommitsNothing}
 use Rattle.dh_schema.specs.Store.{StaysReady, tables}
 use Rattle.dh_schema.proofs.Crashing.{survives_both}

@@ -21,7 +21,7 @@ use Rattle.dh_model.proofs.KeyOrders.{nat_ties, nat_total, nats_tie, nats_total}
 use Rattle.dh_model.proofs.MapRows.{inside, kept_if, of_row}
 use Rattle.dh_laws.specs.InOrder.{AreKeyed}
 use Rattle.dh_laws.proofs.MapMerges.{get-rows_where, own_row}
-use Rattle.dh_laws.proofs.PostCharged.{owed_charge}
+use Rattle.dh_laws.proofs.BatchLemmas.Charged.{owed_charge}
 
 -- tests that tell the same of each row keep the same rows
 module _ {K X : Type 0} {R : K → K → Ordering} (o : IsTotalOrder R) (anti : IsAntisymmetric R) (p q : X → Bool) where

@@ -16,7 +16,7 @@ use Rattle.dh_model.proofs.MapRows.{inside, of_row}
 use Rattle.dh_laws.specs.InOrder.{StandUnder}
 use Rattle.dh_laws.specs.Looks.{is_beside, is_some_beside}
 use Rattle.dh_laws.proofs.MapMerges.{own_row}
-use Rattle.dh_laws.proofs.RowsNarrowed.{values_where}
+use Rattle.dh_laws.proofs.FactLemmas.Narrowed.{values_where}
 
 module _ (terms : LeaseTerms) (leases : FinMap nat_cmp Lease) (keyed : StandUnder (λ (it : Lease). it.terms.number) leases) where
   abbrev near : List Lease

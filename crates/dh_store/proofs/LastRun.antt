@@ -7,7 +7,7 @@ use Rattle.dh_model.specs.Books.{Books}
 use Rattle.dh_model.specs.Rules.{Runs, RunsInOrder}
 use Rattle.dh_model.specs.Whole.{open_row}
 use Rattle.dh_laws.specs.Looks.{unless_closed}
-use Rattle.dh_laws.proofs.LooksLast.{open_run_is_last}
+use Rattle.dh_laws.proofs.FactLemmas.Last.{open_run_is_last}
 use Rattle.dh_schema.specs.Tables.{IsSound, state_in}
 use Rattle.dh_schema.proofs.Keyed.{books_are_keyed}
 

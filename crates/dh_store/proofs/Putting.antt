@@ -9,7 +9,7 @@ use Rattle.dh_model.specs.declared.rows.Change.TheVariants as change
 use Rattle.dh_model.specs.Books.{Books}
 use Rattle.dh_model.specs.Books as machine
 use Rattle.dh_model.specs.Machine.{changed}
-use Rattle.dh_catalog.specs.Versions.{IsOurs}
+use Rattle.dh_ddl.specs.Versions.{IsOurs}
 use Rattle.dh_sql.specs.Changes.{Becomes}
 use Rattle.dh_sql.specs.Shape.{rows_in}
 use Rattle.dh_tables.specs.Calls.{Adds, Amends, CommitsNothing, IsUndone, StaysInTransaction}

@@ -2,10 +2,10 @@
 
 mod endings;
 mod later;
-mod looking;
-mod reading;
+mod one_table;
+mod rows;
 
 pub(crate) use endings::{held_leases, look_at_endings_of};
 pub use later::{look_at_later, look_at_lettings, look_later};
-pub use looking::{look, look_at_all};
-pub use reading::{find_open_run, months_now, no_rows, no_rows_of};
+pub use one_table::{look, look_at_all};
+pub use rows::{find_open_run, months_now, no_rows, no_rows_of};

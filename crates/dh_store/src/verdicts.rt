@@ -1,7 +1,7 @@
 //! The verdict of the tables on a command, from the rows that it looks at. Read [`ask`] first.
 
-mod asking;
-mod gathering;
+mod asked;
+mod facts;
 mod rows;
 
-pub use asking::ask;
+pub use asked::ask;

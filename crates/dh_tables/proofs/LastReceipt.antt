@@ -22,7 +22,7 @@ use Rattle.dh_model.proofs.MapRows.{found_entry, get_new}
 use Rattle.dh_laws.specs.Looks.{IsLast}
 use Rattle.sqlite_schema.specs.declared.schema.Schema.{Schema}
 use Rattle.dh_types.specs.declared.version.Version.TheVariants.{First}
-use Rattle.dh_catalog.specs.Versions.{HasSince, of_both}
+use Rattle.dh_ddl.specs.Versions.{HasSince, of_both}
 use Rattle.dh_sql.specs.Shape.{IsGreatest, IsKept, IsStored, entry_in, number_at, rows_in, rows_of, stored_in}
 use Rattle.dh_sql.specs.Texts.{IsLastText}
 use Rattle.dh_sql.proofs.Casting.{pass_each}

@@ -15,8 +15,8 @@ use Rattle.dh_rows.specs.Cells.{version_number}
 use Rattle.dh_rows.specs.Months.{Months}
 use Rattle.dh_rows.specs.MetaRows.{meta_row, is_meta_row}
 use Rattle.dh_types.specs.declared.version.Version.TheVariants.{First}
-use Rattle.dh_catalog.specs.Versions.{HasSince}
-use Rattle.dh_catalog.specs.MetaTable.{meta}
+use Rattle.dh_ddl.specs.Versions.{HasSince}
+use Rattle.dh_ddl.specs.MetaTable.{meta}
 use Rattle.dh_sql.proofs.Casting.{cast_int, cast_null}
 use Rattle.dh_sql.proofs.Inserting.{inserts}
 use Rattle.dh_sql.proofs.WholeTable.{shows_all}

@@ -11,8 +11,8 @@ use Rattle.dh_rows.specs.Months.{Months}
 use Rattle.dh_rows.specs.MetaRows.{meta_row}
 use Rattle.sqlite_schema.specs.declared.schema.Schema.{Schema}
 use Rattle.dh_types.specs.declared.version.Version.TheVariants.{First}
-use Rattle.dh_catalog.specs.Versions.{HasSince, of_both}
-use Rattle.dh_catalog.specs.MetaTable.{meta}
+use Rattle.dh_ddl.specs.Versions.{HasSince, of_both}
+use Rattle.dh_ddl.specs.MetaTable.{meta}
 use Rattle.dh_sql.specs.Texts.{IsInsertText, IsUpdateText}
 use Rattle.dh_tables.specs.Commands.{Named, insert_text, rowid_first}
 use Rattle.dh_tables.specs.Listing.{ListsRows}

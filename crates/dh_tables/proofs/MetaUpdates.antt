@@ -20,8 +20,8 @@ use Rattle.dh_rows.specs.Months.{Months}
 use Rattle.dh_rows.specs.MetaRows.{meta_row, is_meta_row, months_back, months_in}
 use Rattle.dh_types.specs.declared.version.Version.{Version}
 use Rattle.dh_types.specs.declared.version.Version.TheVariants.{First, Second}
-use Rattle.dh_catalog.specs.Versions.{HasSince}
-use Rattle.dh_catalog.specs.MetaTable.{meta}
+use Rattle.dh_ddl.specs.Versions.{HasSince}
+use Rattle.dh_ddl.specs.MetaTable.{meta}
 use Rattle.dh_sql.specs.CellTests.{AreCells, Cell}
 use Rattle.dh_sql.specs.Changes.{Becomes, IsTurnedInto}
 use Rattle.dh_sql.specs.Queries.{passes_all, shows}

@@ -6,9 +6,9 @@ use Rattle.sqlite_schema.specs.declared.schema.Keys.TheVariants.{Enforced}
 use Rattle.sqlite_schema.specs.Rules.{parent_key}
 use Rattle.sqlite_rules.specs.Action.{deed_for, pairs, work_by}
 use Rattle.sqlite_schema.specs.declared.schema.Schema.{Schema}
-use Rattle.dh_catalog.specs.Layout.{first_schema, our_schema}
+use Rattle.dh_ddl.specs.Layout.{first_schema, our_schema}
 use Rattle.dh_types.specs.declared.version.Version.TheVariants.{First}
-use Rattle.dh_catalog.specs.Versions.{HasSince, of_both}
+use Rattle.dh_ddl.specs.Versions.{HasSince, of_both}
 use Rattle.dh_sql.specs.Texts.{IsQuiet}
 
 abbrev Idle : Schema → Bool → ℕ → List Row → List Row → Type 0

@@ -7,7 +7,7 @@ use Rattle.sqlite_trees.specs.Tree.{rowid}
 use Rattle.sqlite_trees.specs.View.{is_int}
 use Rattle.sqlite_schema.specs.declared.schema.Schema.{Schema}
 use Rattle.dh_types.specs.declared.version.Version.{Version}
-use Rattle.dh_catalog.specs.Versions.{HasSince}
+use Rattle.dh_ddl.specs.Versions.{HasSince}
 use Rattle.dh_sql.specs.Changes.{IsTurnedInto}
 use Rattle.dh_sql.specs.Queries.{passes_all, shows}
 use Rattle.dh_sql.specs.Shape.{IsStored, Shape, stored_in}

@@ -10,8 +10,8 @@ use Rattle.dh_types.specs.declared.fee.BranchFee.{BranchFee}
 use Rattle.dh_model.specs.Checks.{is_same_text}
 use Rattle.dh_rows.specs.BranchFeeRows.{branch_fee_in, branch_fee_row, is_branch_fee_row}
 use Rattle.dh_types.specs.declared.version.Version.TheVariants.{Second}
-use Rattle.dh_catalog.specs.Versions.{of_second}
-use Rattle.dh_catalog.specs.BranchFeeTable.{branch_fee}
+use Rattle.dh_ddl.specs.Versions.{of_second}
+use Rattle.dh_ddl.specs.BranchFeeTable.{branch_fee}
 use Rattle.dh_sql.specs.CellTests.{Cell}
 use Rattle.dh_sql.specs.Shape.{Shape}
 use Rattle.dh_sql.proofs.Casting.{cast_null, pass_each, row_stays}

@@ -15,7 +15,7 @@ use Rattle.sqlite.specs.State.{HasCause, IsRolledBack, IsUnchanged, Shows, State
 use Rattle.dh_model.specs.Books as machine
 use Rattle.dh_model.specs.Whole.{rows_where}
 use Rattle.dh_types.specs.declared.version.Version.{Version}
-use Rattle.dh_catalog.specs.Versions.{HasSince, IsOurs}
+use Rattle.dh_ddl.specs.Versions.{HasSince, IsOurs}
 use Rattle.dh_sql.specs.Changes.{Becomes}
 use Rattle.dh_sql.specs.Shape.{Shape, rows_in, rows_of}
 use Rattle.dh_tables.specs.Questions.{AsksFor}

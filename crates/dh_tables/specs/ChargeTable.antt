@@ -10,8 +10,8 @@ use Rattle.dh_days.specs.Days.{due_day_of}
 use Rattle.dh_types.specs.declared.lease.Charge.{Charge}
 use Rattle.dh_rows.specs.ChargeRows.{charge_in, charge_row, is_charge_row}
 use Rattle.dh_types.specs.declared.version.Version.TheVariants.{First}
-use Rattle.dh_catalog.specs.Versions.{of_both}
-use Rattle.dh_catalog.specs.ChargeTable.{charge}
+use Rattle.dh_ddl.specs.Versions.{of_both}
+use Rattle.dh_ddl.specs.ChargeTable.{charge}
 use Rattle.dh_sql.specs.CellTests.{Cell}
 use Rattle.dh_sql.specs.Shape.{Shape}
 use Rattle.dh_sql.proofs.Casting.{cast_null, pass_each, row_stays}

@@ -8,8 +8,8 @@ use Rattle.dh_values.specs.declared.limits.TheConstants.{LEAST_LEASE_MONTHS, MOS
 use Rattle.dh_types.specs.declared.lease.Ending.{Ending}
 use Rattle.dh_rows.specs.EndingRows.{ending_in, ending_row, is_ending_row}
 use Rattle.dh_types.specs.declared.version.Version.TheVariants.{Second}
-use Rattle.dh_catalog.specs.Versions.{of_second}
-use Rattle.dh_catalog.specs.EndingTable.{ending}
+use Rattle.dh_ddl.specs.Versions.{of_second}
+use Rattle.dh_ddl.specs.EndingTable.{ending}
 use Rattle.dh_sql.specs.CellTests.{Cell}
 use Rattle.dh_sql.specs.Shape.{Shape}
 use Rattle.dh_sql.proofs.Casting.{cast_int, pass_each, row_stays}

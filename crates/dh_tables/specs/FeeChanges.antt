@@ -10,9 +10,9 @@ use Rattle.dh_values.specs.declared.limits.TheConstants.{LEAST_LEASE_MONTHS, MOS
 use Rattle.dh_types.specs.declared.fee.BranchFee.{BranchFee}
 use Rattle.dh_types.specs.declared.lease.Ending.{Ending}
 use Rattle.dh_types.specs.declared.version.Version.TheVariants.{Second}
-use Rattle.dh_catalog.specs.Versions.{of_second}
-use Rattle.dh_catalog.specs.BranchFeeTable.{branch_fee}
-use Rattle.dh_catalog.specs.EndingTable.{ending}
+use Rattle.dh_ddl.specs.Versions.{of_second}
+use Rattle.dh_ddl.specs.BranchFeeTable.{branch_fee}
+use Rattle.dh_ddl.specs.EndingTable.{ending}
 use Rattle.dh_sql.specs.CellTests.{AreCells}
 use Rattle.dh_sql.specs.Shape.{stored_in}
 use Rattle.dh_sql.proofs.Casting.{cast_rowid, pass_all, pass_each, row_stays}

@@ -10,8 +10,8 @@ use Rattle.dh_types.specs.declared.viewing.Inspection.{Inspection}
 use Rattle.dh_model.specs.Checks.{is_same_text}
 use Rattle.dh_rows.specs.InspectionRows.{inspection_in, inspection_row, is_inspection_row}
 use Rattle.dh_types.specs.declared.version.Version.TheVariants.{First}
-use Rattle.dh_catalog.specs.Versions.{of_both}
-use Rattle.dh_catalog.specs.InspectionTable.{inspection}
+use Rattle.dh_ddl.specs.Versions.{of_both}
+use Rattle.dh_ddl.specs.InspectionTable.{inspection}
 use Rattle.dh_sql.specs.CellTests.{Cell}
 use Rattle.dh_sql.specs.Shape.{Shape}
 use Rattle.dh_sql.proofs.Casting.{cast_null, pass_each, row_stays}

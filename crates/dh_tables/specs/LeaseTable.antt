@@ -12,8 +12,8 @@ use Rattle.dh_types.specs.declared.lease.Lease.{Lease}
 use Rattle.dh_model.specs.Checks.{is_same_text}
 use Rattle.dh_rows.specs.LeaseRows.{lease_in, lease_row, is_lease_row}
 use Rattle.dh_types.specs.declared.version.Version.TheVariants.{First}
-use Rattle.dh_catalog.specs.Versions.{of_both}
-use Rattle.dh_catalog.specs.LeaseTable.{lease}
+use Rattle.dh_ddl.specs.Versions.{of_both}
+use Rattle.dh_ddl.specs.LeaseTable.{lease}
 use Rattle.dh_sql.specs.CellTests.{Cell}
 use Rattle.dh_sql.specs.Shape.{Shape}
 use Rattle.dh_sql.proofs.Casting.{cast_int, pass_each, row_stays}

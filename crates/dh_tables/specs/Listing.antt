@@ -11,7 +11,7 @@ use Rattle.sqlite_rules.specs.Edit.{id_in}
 use Rattle.dh_model.specs.Books as machine
 use Rattle.sqlite_schema.specs.declared.schema.Schema.{Schema}
 use Rattle.dh_types.specs.declared.version.Version.{Version}
-use Rattle.dh_catalog.specs.Versions.{HasSince}
+use Rattle.dh_ddl.specs.Versions.{HasSince}
 use Rattle.dh_sql.specs.Queries.{shows}
 use Rattle.dh_sql.specs.Shape.{AreApart, IsKept, IsStored, Shape, rows_in, stored_in}
 use Rattle.dh_sql.specs.Texts.{IsSelectText}

@@ -11,8 +11,8 @@ use Rattle.dh_types.specs.declared.fee.PartFee.{PartFee}
 use Rattle.dh_model.specs.Checks.{is_same_text}
 use Rattle.dh_rows.specs.PartFeeRows.{is_part_fee_row, part_fee_in, part_fee_row}
 use Rattle.dh_types.specs.declared.version.Version.TheVariants.{Second}
-use Rattle.dh_catalog.specs.Versions.{of_second}
-use Rattle.dh_catalog.specs.PartFeeTable.{part_fee}
+use Rattle.dh_ddl.specs.Versions.{of_second}
+use Rattle.dh_ddl.specs.PartFeeTable.{part_fee}
 use Rattle.dh_sql.specs.CellTests.{Cell}
 use Rattle.dh_sql.specs.Shape.{Shape}
 use Rattle.dh_sql.proofs.Casting.{cast_null, pass_each, row_stays}

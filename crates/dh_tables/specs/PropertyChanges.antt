@@ -14,8 +14,8 @@ use Rattle.dh_types.specs.declared.command.Assignment.{Assignment}
 use Rattle.dh_types.specs.declared.command.RentChange.{RentChange}
 use Rattle.dh_rows.specs.Cells.{optional_back, optional_text}
 use Rattle.dh_types.specs.declared.version.Version.TheVariants.{First}
-use Rattle.dh_catalog.specs.Versions.{of_both}
-use Rattle.dh_catalog.specs.PropertyTable.{property}
+use Rattle.dh_ddl.specs.Versions.{of_both}
+use Rattle.dh_ddl.specs.PropertyTable.{property}
 use Rattle.dh_sql.specs.CellTests.{AreCells}
 use Rattle.dh_sql.specs.Queries.{passes_all}
 use Rattle.dh_sql.specs.Shape.{IsStored, stored_in}

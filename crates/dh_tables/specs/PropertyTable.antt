@@ -12,8 +12,8 @@ use Rattle.dh_types.specs.Records.{is_same_optional}
 use Rattle.dh_model.specs.Checks.{is_same_text}
 use Rattle.dh_rows.specs.PropertyRows.{property_in, property_row, is_property_row}
 use Rattle.dh_types.specs.declared.version.Version.TheVariants.{First}
-use Rattle.dh_catalog.specs.Versions.{of_both}
-use Rattle.dh_catalog.specs.PropertyTable.{property}
+use Rattle.dh_ddl.specs.Versions.{of_both}
+use Rattle.dh_ddl.specs.PropertyTable.{property}
 use Rattle.dh_sql.specs.CellTests.{Cell}
 use Rattle.dh_sql.specs.Shape.{Shape}
 use Rattle.dh_sql.proofs.Casting.{cast_null, pass_each, row_stays}

@@ -9,7 +9,7 @@ use Rattle.sqlite_sql.specs.declared.ops.CompareOp.TheVariants.{Eq}
 use Rattle.sqlite_sql.specs.Term.{Term, col, op2}
 use Rattle.sqlite_schema.specs.declared.schema.Schema.{Schema}
 use Rattle.dh_types.specs.declared.version.Version.{Version}
-use Rattle.dh_catalog.specs.Versions.{HasSince}
+use Rattle.dh_ddl.specs.Versions.{HasSince}
 use Rattle.dh_sql.specs.Queries.{passes_all, shows}
 use Rattle.dh_sql.specs.Shape.{IsStored, Shape, stored_in}
 use Rattle.dh_sql.specs.Texts.{IsSelectText}

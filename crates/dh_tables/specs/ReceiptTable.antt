@@ -24,8 +24,8 @@ use Rattle.dh_model.specs.Checks.{is_same_text}
 use Rattle.dh_rows.specs.ReceiptRows.{receipt_in, receipt_row, is_receipt_row}
 use Rattle.dh_rows.specs.Cells.{is_read_cell, read_in}
 use Rattle.dh_types.specs.declared.version.Version.TheVariants.{First}
-use Rattle.dh_catalog.specs.Versions.{of_both}
-use Rattle.dh_catalog.specs.ReceiptTable.{receipt}
+use Rattle.dh_ddl.specs.Versions.{of_both}
+use Rattle.dh_ddl.specs.ReceiptTable.{receipt}
 use Rattle.dh_sql.specs.CellTests.{Cell}
 use Rattle.dh_sql.specs.Shape.{Shape}
 use Rattle.dh_sql.proofs.Casting.{cast_int, pass_each, row_stays}

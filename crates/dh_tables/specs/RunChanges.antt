@@ -15,10 +15,10 @@ use Rattle.dh_types.specs.declared.fee.PartFee.{PartFee}
 use Rattle.dh_rows.specs.declared.limits.TheConstants.{MOST_COUNT}
 use Rattle.dh_rows.specs.Cells.{is_through_cell, through_back, through_value}
 use Rattle.dh_types.specs.declared.version.Version.TheVariants.{First, Second}
-use Rattle.dh_catalog.specs.Versions.{of_both, of_second}
-use Rattle.dh_catalog.specs.RunTable.{run}
-use Rattle.dh_catalog.specs.PartTable.{part}
-use Rattle.dh_catalog.specs.PartFeeTable.{part_fee}
+use Rattle.dh_ddl.specs.Versions.{of_both, of_second}
+use Rattle.dh_ddl.specs.RunTable.{run}
+use Rattle.dh_ddl.specs.PartTable.{part}
+use Rattle.dh_ddl.specs.PartFeeTable.{part_fee}
 use Rattle.dh_sql.specs.CellTests.{AreCells}
 use Rattle.dh_sql.specs.Shape.{stored_in}
 use Rattle.dh_sql.proofs.Casting.{cast_rowid, pass_all, pass_each, row_stays}

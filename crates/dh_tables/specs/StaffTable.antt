@@ -10,8 +10,8 @@ use Rattle.dh_types.specs.declared.staff.Staff.{Staff}
 use Rattle.dh_model.specs.Checks.{is_same_text}
 use Rattle.dh_rows.specs.StaffRows.{staff_in, staff_row, is_staff_row}
 use Rattle.dh_types.specs.declared.version.Version.TheVariants.{First}
-use Rattle.dh_catalog.specs.Versions.{of_both}
-use Rattle.dh_catalog.specs.StaffTable.{staff}
+use Rattle.dh_ddl.specs.Versions.{of_both}
+use Rattle.dh_ddl.specs.StaffTable.{staff}
 use Rattle.dh_sql.specs.CellTests.{Cell}
 use Rattle.dh_sql.specs.Shape.{Shape}
 use Rattle.dh_sql.proofs.Casting.{cast_null, pass_each, row_stays}

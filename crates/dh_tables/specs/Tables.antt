@@ -13,9 +13,9 @@ use Rattle.sqlite_rules.specs.Edit.{with_rowid}
 use Rattle.sqlite_rules.specs.declared.error.Rowids.TheVariants.{Chosen}
 use Rattle.dh_model.specs.Books.{State}
 use Rattle.sqlite_schema.specs.declared.schema.Schema.{Schema}
-use Rattle.dh_catalog.specs.Layout.{our_schema}
+use Rattle.dh_ddl.specs.Layout.{our_schema}
 use Rattle.dh_types.specs.declared.version.Version.{Version}
-use Rattle.dh_catalog.specs.Versions.{HasSince}
+use Rattle.dh_ddl.specs.Versions.{HasSince}
 use Rattle.dh_sql.specs.Shape.{Shape}
 use Rattle.dh_sql.specs.Texts.{IsInsertText}
 use Rattle.dh_tables.specs.Commands.{Named, insert_text}

@@ -9,7 +9,7 @@ ghost use Rattle.dh_sql.specs.Shape.{IsGreatest, IsKept, rows_in};
 ghost use Rattle.dh_tables.specs.Calls.{CommitsNothing, HasFailed, HasOurTables, IsCorrupt, IsUndone};
 ghost use Rattle.dh_tables.specs.ReceiptTable.{receipt_shape};
 
-use crate::finding::only;
+use crate::one_record::only;
 use crate::query::rows_shown;
 use crate::receipt::of_receipt;
 use dh_types::Receipt;

@@ -11,9 +11,9 @@ use Rattle.dh_types.specs.declared.reply.Refusal.{Refusal}
 use Rattle.dh_types.specs.declared.reply.Refusal.TheVariants as refusal
 use Rattle.dh_types.specs.declared.reply.Fault.{Fault}
 use Rattle.dh_types.specs.declared.reply.Fault.TheVariants as fault
-use Rattle.dh_types.specs.declared.wording.Words.{Words}
-use Rattle.dh_types.specs.declared.wording.Value.{Value}
-use Rattle.dh_types.specs.declared.wording.Value.TheVariants as value
+use Rattle.dh_types.specs.declared.words.Words.{Words}
+use Rattle.dh_types.specs.declared.words.Value.{Value}
+use Rattle.dh_types.specs.declared.words.Value.TheVariants as value
 
 abbrev pub refusal_number : Refusal → ℕ
 refusal_number refusal.Taken = 1
@@ -75,7 +75,7 @@ reply_text reply.Already = codes "already"
 reply_text (reply.Receipt number) = codes "receipt " ++ decimal number
 reply_text (reply.AlreadyReceipt number) = codes "already receipt " ++ decimal number
 reply_text (reply.Opened month) = codes "opened " ++ month_text month
-reply_text (reply.Part run) = codes "part " ++ progress_text run
+reply_text (reply.Progress run) = codes "part " ++ progress_text run
 reply_text (reply.Posted sum) = posted_text sum
 reply_text (reply.AlreadyPosted sum) = codes "already " ++ posted_text sum
 reply_text (reply.Refused why) = refusal_text why

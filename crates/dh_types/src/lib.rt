@@ -18,10 +18,10 @@ mod reply;
 mod reply_text;
 mod run;
 mod staff;
+pub mod text_writer;
 mod version;
 mod viewing;
-mod wording;
-pub mod writing;
+mod words;
 
 pub use answer::{Answer, Arrears, Debt, OwnerLine, OwnerStatement, RunReport, Statement};
 pub use branch::Branch;

@@ -3,7 +3,7 @@
 ghost use Rattle.std.specs.Prelude.{◌≡◌, Some};
 ghost use Rattle.dh_types.specs.Replies.{fault_text, is_refusal, refusal_number, refusal_text, reply_text};
 
-use crate::wording::{words_of_fault, words_of_refusal, words_of_reply, words_of_sum};
+use crate::words::{words_of_fault, words_of_refusal, words_of_reply, words_of_sum};
 use crate::{EntryMonth, LeaseMonths, LeaseNo, Month, Pence, ReceiptNo, RunSum};
 use std::fmt;
 
@@ -21,7 +21,7 @@ pub enum Reply {
     /// The rent run of this month was opened.
     Opened(EntryMonth),
     /// The rent run is open and so far done.
-    Part(Progress),
+    Progress(Progress),
     /// The rent run was closed.
     Posted(RunSum),
     /// The rent run was closed before; nothing changed.

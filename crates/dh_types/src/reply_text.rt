@@ -8,8 +8,8 @@ ghost use Rattle.dh_types.specs.Replies.{fault_text, progress_text, refusal_text
 
 use crate::output::Output;
 use crate::reply::Progress;
-use crate::wording::{Value, words_of_fault, words_of_refusal, words_of_reply};
-use crate::writing::{put, put_parts};
+use crate::text_writer::{put, put_parts};
+use crate::words::{Value, words_of_fault, words_of_refusal, words_of_reply};
 use crate::{Fault, Month, Pence, Refusal, Reply, RunSum};
 use std::io::Write;
 

@@ -4,7 +4,7 @@
 mod branches;
 mod checks;
 mod clients;
-mod deciding;
+mod decision;
 mod ends;
 mod leases;
 mod properties;
@@ -14,7 +14,7 @@ pub use branches::{decide_branch, decide_fee, decide_owner, decide_staff};
 pub use clients::{
     decide_client, decide_comment, decide_inspection, decide_register, decide_viewing,
 };
-pub use deciding::{Facts, decide, decide_on, open_refusal};
+pub use decision::{Facts, decide, decide_on, open_refusal};
 pub use ends::decide_end;
 pub use leases::decide_lease;
 pub use properties::{decide_assign, decide_property, decide_rent};

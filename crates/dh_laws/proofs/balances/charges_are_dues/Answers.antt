@@ -1,4 +1,4 @@
-use Rattle.dh_laws.proofs.OweCharges.{charges_are_dues}
+use Rattle.dh_laws.proofs.BalanceLemmas.Charges.{charges_are_dues}
 use Rattle.dh_laws.proofs.balances.charges_are_dues.Goals as goal
 
 pub returns : goal.returns

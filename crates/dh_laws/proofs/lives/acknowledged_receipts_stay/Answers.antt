@@ -1,4 +1,4 @@
-use Rattle.dh_laws.proofs.ReceiptStays.{acknowledged_receipts_stay}
+use Rattle.dh_laws.proofs.ReceiptLemmas.Stays.{acknowledged_receipts_stay}
 use Rattle.dh_laws.proofs.lives.acknowledged_receipts_stay.Goals as goal
 
 pub returns : goal.returns

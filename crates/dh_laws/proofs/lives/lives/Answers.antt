@@ -1,4 +1,4 @@
-use Rattle.dh_laws.proofs.LiveCommands.{lives}
+use Rattle.dh_laws.proofs.LifeLemmas.Commands.{lives}
 use Rattle.dh_laws.proofs.lives.lives.Goals as goal
 
 pub returns : goal.returns

@@ -1,4 +1,4 @@
-use Rattle.dh_laws.proofs.LiveBooks.{months_are_charged_once}
+use Rattle.dh_laws.proofs.LifeLemmas.Books.{months_are_charged_once}
 use Rattle.dh_laws.proofs.lives.months_are_charged_once.Goals as goal
 
 pub returns : goal.returns

@@ -1,4 +1,4 @@
-use Rattle.dh_laws.proofs.ShownRun.{open_row_is_found}
+use Rattle.dh_laws.proofs.ShownLemmas.Run.{open_row_is_found}
 use Rattle.dh_laws.proofs.shown.open_row_is_found.Goals as goal
 
 pub returns : goal.returns

@@ -1,4 +1,4 @@
-use Rattle.dh_laws.proofs.ShownRun.{run_shown_is_reckoned}
+use Rattle.dh_laws.proofs.ShownLemmas.Run.{run_shown_is_reckoned}
 use Rattle.dh_laws.proofs.shown.run_shown_is_reckoned.Goals as goal
 
 pub returns : goal.returns

@@ -1,4 +1,4 @@
-use Rattle.dh_laws.proofs.StandingTells.{nothing_new_leaves_the_tables}
+use Rattle.dh_laws.proofs.StandingLemmas.Tells.{nothing_new_leaves_the_tables}
 use Rattle.dh_laws.proofs.standings.nothing_new_leaves_the_tables.Goals as goal
 
 pub returns : goal.returns

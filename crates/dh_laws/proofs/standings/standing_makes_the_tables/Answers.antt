@@ -1,4 +1,4 @@
-use Rattle.dh_laws.proofs.StandingTells.{standing_makes_the_tables}
+use Rattle.dh_laws.proofs.StandingLemmas.Tells.{standing_makes_the_tables}
 use Rattle.dh_laws.proofs.standings.standing_makes_the_tables.Goals as goal
 
 pub returns : goal.returns

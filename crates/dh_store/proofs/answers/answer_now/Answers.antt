@@ -3,7 +3,7 @@ use Rattle.sqlite.specs.Held.{state}
 use Rattle.dh_model.specs.declared.open_run.OpenRun.{OpenRun}
 use Rattle.dh_model.specs.Answers.{report}
 use Rattle.dh_model.specs.Books.{State}
-use Rattle.dh_laws.proofs.AskedRows.{answered_by_its_rows}
+use Rattle.dh_laws.proofs.FactLemmas.Asked.{answered_by_its_rows}
 use Rattle.dh_schema.specs.Store.{tables}
 use Rattle.dh_schema.proofs.Keyed.{books_are_keyed}
 use Rattle.dh_store.proofs.AnsweredFrom.{answered_alike}

@@ -5,7 +5,7 @@ use Rattle.sqlite.specs.Held.{state}
 use Rattle.dh_model.specs.Books.{State}
 use Rattle.dh_model.specs.Runs.{is_property_of}
 use Rattle.dh_laws.specs.AskedAbout.{with_accounts}
-use Rattle.dh_laws.proofs.AskedRows.{listed_leases}
+use Rattle.dh_laws.proofs.FactLemmas.Asked.{listed_leases}
 use Rattle.dh_store.specs.AnsweredFrom.{HasNoAccounts}
 use Rattle.dh_store.proofs.answers.gather_arrears.Goals as goal
 

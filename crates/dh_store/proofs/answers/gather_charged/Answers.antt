@@ -6,7 +6,7 @@ use Rattle.sqlite.specs.Held.{state}
 use Rattle.dh_model.specs.Books.{State}
 use Rattle.dh_model.specs.Whole.{rows_where}
 use Rattle.dh_laws.specs.AskedAbout.{is_owned_by}
-use Rattle.dh_laws.proofs.AskedRows.{listed_leases}
+use Rattle.dh_laws.proofs.FactLemmas.Asked.{listed_leases}
 use Rattle.dh_schema.specs.Store.{tables}
 use Rattle.dh_schema.proofs.Keyed.{books_are_keyed}
 use Rattle.dh_store.proofs.ChargeOfMonth.{each_is_there}

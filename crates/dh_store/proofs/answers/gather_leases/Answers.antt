@@ -9,7 +9,7 @@ use Rattle.dh_model.specs.Books.{State}
 use Rattle.dh_model.specs.Checks.{is_same_text}
 use Rattle.dh_model.specs.Whole.{rows_where}
 use Rattle.dh_model.proofs.KeyOrders.{nat_ties, nat_total}
-use Rattle.dh_laws.proofs.AskedRows.{none_where, one_more}
+use Rattle.dh_laws.proofs.FactLemmas.Asked.{none_where, one_more}
 use Rattle.dh_schema.specs.Store.{tables}
 use Rattle.dh_store.proofs.AskedBooks.{along_next, nothing_yet}
 use Rattle.dh_store.proofs.answers.gather_leases.Goals as goal

@@ -11,8 +11,8 @@ use Rattle.dh_model.specs.Checks.{is_same_text}
 use Rattle.dh_model.specs.Whole.{rows_where}
 use Rattle.dh_model.proofs.KeyOrders.{text_ties, text_total}
 use Rattle.dh_laws.specs.InOrder.{AreKeyed}
-use Rattle.dh_laws.proofs.AskedRows.{named_leases}
-use Rattle.dh_laws.proofs.RowsNarrowed.{values_where}
+use Rattle.dh_laws.proofs.FactLemmas.Asked.{named_leases}
+use Rattle.dh_laws.proofs.FactLemmas.Narrowed.{values_where}
 use Rattle.dh_schema.proofs.Keyed.{books_are_keyed}
 use Rattle.dh_store.proofs.answers.gather_let.Goals as goal
 

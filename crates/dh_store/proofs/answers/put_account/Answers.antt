@@ -6,7 +6,7 @@ use Rattle.dh_types.specs.declared.lease.Lease.{Lease}
 use Rattle.dh_types.specs.declared.lease.Receipt.{Receipt}
 use Rattle.dh_model.specs.Checks.{is_same_text}
 use Rattle.dh_model.specs.Whole.{rows_where}
-use Rattle.dh_laws.proofs.AskedRows.{one_more}
+use Rattle.dh_laws.proofs.FactLemmas.Asked.{one_more}
 use Rattle.dh_store.proofs.answers.put_account.Goals as goal
 
 pub returns-clause-gathered : goal.returns-clause-gathered

@@ -2,7 +2,7 @@ use Rattle.std.proofs.Common.{◌∙◌, refl, subst, arith, List, ℕ, Ok, drop
 use Rattle.sqlite_value.specs.Order.{Row}
 use Rattle.sqlite.specs.State.{Executes, HasCleanDisk}
 use Rattle.sqlite.specs.Held.{state}
-use Rattle.dh_catalog.specs.Versions.{is_ours}
+use Rattle.dh_ddl.specs.Versions.{is_ours}
 use Rattle.dh_sql.specs.Changes.{IsTurnedInto}
 use Rattle.dh_sql.specs.Queries.{shows}
 use Rattle.dh_sql.proofs.Changing.{amends}

@@ -1,7 +1,7 @@
 use Rattle.std.proofs.Common.{arith, subst, sym}
 use Rattle.sqlite.specs.State.{HasCleanDisk}
 use Rattle.sqlite.specs.Held.{state}
-use Rattle.dh_catalog.specs.Versions.{IsOurs}
+use Rattle.dh_ddl.specs.Versions.{IsOurs}
 use Rattle.dh_tables.specs.MetaTable.{SetsMonths}
 use Rattle.dh_tables.proofs.MetaChanges.{adds_meta}
 use Rattle.dh_tables.proofs.meta.insert_meta.Given.{Over}

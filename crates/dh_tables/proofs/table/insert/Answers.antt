@@ -2,7 +2,7 @@ use Rattle.std.proofs.Common.{◌∙◌, refl, sym, subst, arith, List, ℕ, Ok}
 use Rattle.std.specs.FinMap as fin
 use Rattle.sqlite.specs.State.{Executes, HasCleanDisk}
 use Rattle.sqlite.specs.Held.{state}
-use Rattle.dh_catalog.specs.Versions.{IsOurs, is_ours}
+use Rattle.dh_ddl.specs.Versions.{IsOurs, is_ours}
 use Rattle.dh_sql.specs.Changes.{Becomes}
 use Rattle.dh_sql.specs.Shape.{rows_in}
 use Rattle.dh_sql.proofs.Adding.{adds}

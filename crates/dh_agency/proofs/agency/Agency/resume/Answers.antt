@@ -3,7 +3,7 @@ use Rattle.sqlite.specs.Held.{state}
 use Rattle.dh_types.specs.declared.command.Command.TheVariants as command
 use Rattle.dh_laws.specs.Batches.{IsPostedInPart}
 use Rattle.dh_schema.specs.Store as store
-use Rattle.dh_runs.specs.Told.{IsSaid, reply_of}
+use Rattle.dh_runs.specs.Told.{IsAnsweredBy, reply_of}
 use Rattle.dh_agency.specs.Seat.{Seat}
 use Rattle.dh_agency.specs.Agency.{machine}
 use Rattle.dh_agency.proofs.agency.Agency.resume.Goals as goal
@@ -11,8 +11,8 @@ use Rattle.dh_agency.proofs.agency.Agency.resume.Goals as goal
 pub returns-in-Ok-clause-said : goal.returns-in-Ok-clause-said
 returns-in-Ok-clause-said g c clean =
     let after = store.tables (state g.S.Store c.post_some.new.conn) in
-    subst (λ (a : Seat g.row.S.Denot). IsSaid (command.Post c.args.most) (reply_of c.in-Ok.state) (machine g.S.Store a) after) c.self.view_is
-    (subst (λ (most : ℕ). IsSaid (command.Post most) (reply_of c.in-Ok.state) (store.tables (state g.S.Store c.self.inside.conn)) after) c.from.ensures
+    subst (λ (a : Seat g.row.S.Denot). IsAnsweredBy (command.Post c.args.most) (reply_of c.in-Ok.state) (machine g.S.Store a) after) c.self.view_is
+    (subst (λ (most : ℕ). IsAnsweredBy (command.Post most) (reply_of c.in-Ok.state) (store.tables (state g.S.Store c.self.inside.conn)) after) c.from.ensures
     (c.in-Ok.ensures.said clean))
 
 pub returns-in-Ok-clause-crash : goal.returns-in-Ok-clause-crash

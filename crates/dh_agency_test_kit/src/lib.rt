@@ -1,0 +1,28 @@
+//! Agencies that are told the lines of scripts, and the calls of the layers below them; their rows and books as text, and what differs
+//! of their answers: what the programs of cases over stores share. Read `told` first.
+#![tactic(auto)]
+
+mod agencies;
+mod batches;
+mod books;
+mod calls;
+mod differences;
+mod lives;
+mod lookups;
+mod rows;
+mod scripts;
+mod sound;
+mod tables;
+
+pub use agencies::{in_memory, reply_line};
+pub use batches::batch_text;
+pub use books::{books_text, version_name};
+pub use calls::line_over;
+pub use differences::compare;
+pub use lives::{
+    Lived, SECOND_TO_FIRST, Telling, play_block, play_lives, problem_text, told_anew, told_next,
+};
+pub use rows::{all_rows, found, rows_of};
+pub use scripts::{compare_tables, parted, play_in_memory, table_of};
+pub use sound::sound_books;
+pub use tables::{install_text, load_text, version_text};

@@ -1,0 +1,24 @@
+-- CREATE INDEX property_branch, behind the later tables.
+use Rattle.std.proofs.Common.{refl}
+use Rattle.sqlite_tied.specs.Compute.{everything}
+use Rattle.sqlite.specs.Listing.{understood}
+use Rattle.sqlite_resolve.specs.Compile.{index_defined_by}
+use Rattle.dh_ddl.specs.declared.texts.TheConstants.{PROPERTY_BRANCH}
+use Rattle.dh_ddl.specs.PropertyTable.{property}
+use Rattle.dh_ddl.specs.LookIndexes.{property_branch}
+use Rattle.dh_ddl.specs.Layout.{later_property_owner_schema, later_property_branch_schema}
+use Rattle.dh_ddl.specs.Meanings.{MakesIndex}
+
+pub later_property_branch_is : MakesIndex PROPERTY_BRANCH.now later_property_owner_schema later_property_branch_schema
+unfolding understood index_defined_by everything
+later_property_branch_is = record {
+  at = 4;
+  table = property;
+  index = property_branch 0;
+  command = refl;
+  whole = refl;
+  plain = (refl, refl);
+  listed = refl;
+  defines = refl;
+  grows = refl;
+}

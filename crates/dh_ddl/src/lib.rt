@@ -1,0 +1,10 @@
+//! Our tables as the store reads them, how they are made, and which version of them a store has exactly.
+#![tactic(auto)]
+
+mod creation;
+mod ours;
+mod same;
+pub mod texts;
+
+pub use creation::{create_all, create_later};
+pub use ours::{has_tables_of, is_ours, store_of, tables_found};

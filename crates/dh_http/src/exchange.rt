@@ -1,0 +1,91 @@
+//! Serving one request.
+
+ghost use Rattle.std.specs.Prelude.{◌≡◌, ◌≢◌, true, false, [], Err, IfSome};
+ghost use Rattle.dh_agency.specs.Agency.{IsClean, LeavesItsTables, WasClean};
+ghost use Rattle.dh_requests.specs.Requests.{MayAsk, TakesRequest};
+ghost use Rattle.dh_http.specs.Served.{LeavesServed, Serves, StopsBy};
+
+use crate::answers::{faulted, refused, replied, send, send_made, shown, turned};
+use crate::fault::NetFault;
+use dh_agency::Agency;
+use dh_fields::Request;
+use dh_laws::frozen::{answers_pass_the_run, open_runs_refuse_put_off};
+use dh_requests::{Asked, Routes, read_request};
+use http::StatusCode;
+use sqlite::Alter;
+use std::alloc::Global;
+use std::io::{Read, Write};
+
+/// Does what is asked for, and answers it: the status of the answer. The results are those of [`serve_one`].
+pub(crate) fn answer<S: Alter, W: Write>(
+    alloc: Global,
+    agency: &mut Agency<S>,
+    asked: Asked,
+    writer: &mut W,
+) -> Result<StatusCode, NetFault>
+    ensures serves { IsClean S.Store agency.new
+        → Serves S.Store agency.old agency.new (λ it. it ≡ asked) (W.contents writer.old) (W.contents writer.new) result }
+    ensures crash { IsClean S.Store agency.new → agency.old.is_stopped ≡ false → LeavesItsTables S.Store agency.old
+        → LeavesServed S.Store agency.old agency.new (λ it. it ≡ asked) }
+    ensures left { IsClean S.Store agency.new → LeavesItsTables S.Store agency.old → agency.new.is_stopped ≡ false → LeavesItsTables S.Store agency.new }
+    ensures open { result ≢ Err NetFault.Closed }
+    ensures stops { StopsBy agency.old agency.new result }
+    ensures stopped { agency.old.is_stopped ≡ true → agency.new ≡ agency.old }
+    ensures was_clean { WasClean S.Store agency.old agency.new }
+{
+    match asked {
+        Asked::Turned(why) => send(writer, &turned(why)),
+        Asked::Fields(Err(why)) => send_made(writer, refused(alloc, why), false),
+        Asked::Fields(Ok(Request::Command(command))) => {
+            let outcome = agency.step(alloc, &command);
+            drop(command);
+            match outcome {
+                Ok(reply) => send_made(writer, replied(alloc, reply), true),
+                Err(fault) => send(writer, &faulted(fault)),
+            }
+        }
+        Asked::Fields(Ok(Request::Question(question))) => {
+            // A question is answered alike by the tables and by their whole.
+            answers_pass_the_run();
+            open_runs_refuse_put_off();
+            match agency.show(alloc, &question) {
+                Ok(answer) => {
+                    let made = shown(alloc, &answer);
+                    drop(answer);
+                    send_made(writer, made, false)
+                }
+                Err(fault) => send(writer, &faulted(fault)),
+            }
+        }
+    }
+}
+
+/// Reads one request, does what it asks for, and writes its answer: the status of the answer. The rules are those of
+/// docs/MODEL.md, "From requests to answers". At `Closed` and `Input` nothing was done; at `Output` the writer has a beginning of
+/// the answer, and what was asked for stands; at `Memory` nothing was written, and the command was carried out where `acted`.
+/// With status 503 the agency has stopped.
+pub fn serve_one<S: Alter, R: Read, W: Write>(
+    alloc: Global,
+    agency: &mut Agency<S>,
+    reader: &mut R,
+    writer: &mut W,
+) -> Result<StatusCode, NetFault>
+    ensures serves { IsClean S.Store agency.new → Serves S.Store agency.old agency.new
+        (λ asked. IfSome (R.remaining reader.old) (λ input. MayAsk input asked)) (W.contents writer.old) (W.contents writer.new) result }
+    ensures closed { result ≡ Err NetFault.Closed → IfSome (R.remaining reader.old) (λ input. input ≡ []) }
+    ensures taken { TakesRequest (R.remaining reader.old) (R.remaining reader.new) }
+    ensures crash { IsClean S.Store agency.new → agency.old.is_stopped ≡ false → LeavesItsTables S.Store agency.old
+        → LeavesServed S.Store agency.old agency.new (λ asked. IfSome (R.remaining reader.old) (λ input. MayAsk input asked)) }
+    ensures left { IsClean S.Store agency.new → LeavesItsTables S.Store agency.old → agency.new.is_stopped ≡ false → LeavesItsTables S.Store agency.new }
+    ensures stops { StopsBy agency.old agency.new result }
+    ensures stopped { agency.old.is_stopped ≡ true → agency.new ≡ agency.old }
+    ensures was_clean { WasClean S.Store agency.old agency.new }
+{
+    let Ok(routes) = Routes::new(alloc) else {
+        return Err(NetFault::Memory { acted: false });
+    };
+    match read_request(alloc, &routes, reader)? {
+        Some(asked) => answer(alloc, agency, asked, writer),
+        None => Err(NetFault::Closed),
+    }
+}

@@ -1,0 +1,133 @@
+//! Listening at a port.
+
+ghost use Rattle.std.specs.Prelude.{◌≡◌, ℕ, List, Option, Err, OnOk, false, true};
+ghost use Rattle.std.specs.Net.Socket.{socket_port};
+ghost use Rattle.dh_types.specs.Output.{Puts};
+ghost use Rattle.dh_types.specs.declared.reply.Fault.{Fault};
+ghost use Rattle.dh_schema.specs.Faults.{IsFirstFault};
+ghost use Rattle.dh_agency.specs.Agency.{WasClean};
+ghost use Rattle.dh_http.specs.Printed.{IsPortText, PrintsServed};
+ghost use Rattle.dh_http.specs.Service.{IsOfThisMachine, ServesOn};
+ghost use Rattle.dh_http.specs.declared.listener.Unserved.TheVariants as unserved;
+
+use crate::connections::serve_connections;
+use crate::patience::Patience;
+use dh_agency::Agency;
+use dh_requests::Routes;
+use dh_types::text_writer::put_parts;
+use dh_types::{BatchCount, Fault, Output};
+use itoa::Buffer;
+use sqlite::Alter;
+use std::io::Write;
+use std::net::{IpAddr, Ipv4Addr, SocketAddr, TcpListener};
+
+/// The port of 127.0.0.1 where requests are listened for, and on how many connections they are served. With port 0 the system picks one.
+#[derive(Clone, Copy)]
+pub struct Service {
+    pub port: u16,
+    pub count: BatchCount,
+}
+
+/// Why serving ended before its last connection.
+#[derive(Clone, Copy, Debug, PartialEq, Eq)]
+pub enum Unserved {
+    /// There is no listener at that port.
+    NoListener,
+    /// The writer failed.
+    Output(Output),
+    /// The agency has stopped, behind an answer 503 or one that was lost.
+    Stopped,
+    /// No further connection can be taken: 21 where memory ran out, 22 where the system gives no further file or the listener failed. The
+    /// agency goes on.
+    Fault(Fault),
+}
+
+impl From<Output> for Unserved {
+    ghost from_gives = { λ output e. e ≡ unserved.Output output };
+
+    fn from(output: Output) -> Unserved {
+        Unserved::Output(output)
+    }
+}
+
+impl From<Fault> for Unserved {
+    ghost from_gives = { λ fault e. e ≡ unserved.Fault fault };
+
+    fn from(fault: Fault) -> Unserved {
+        Unserved::Fault(fault)
+    }
+}
+
+// This port of 127.0.0.1.
+fn address_of(port: u16) -> SocketAddr
+    ensures machine { IsOfThisMachine result }
+    ensures port { socket_port result ≡ port }
+{
+    SocketAddr::new(IpAddr::V4(Ipv4Addr::new(127, 0, 0, 1)), port)
+}
+
+// The listener at this port of 127.0.0.1, and the port that it has.
+fn listen(rt: &HostRuntime, port: u16) -> Option<(TcpListener, u16)> {
+    let listener = TcpListener::bind(rt, address_of(port)).ok()?;
+    let port = listener.local_addr().ok()?.port();
+    Some((listener, port))
+}
+
+// Prints the port that is listened at, where the system was to pick it.
+fn print_port<W: Write>(writer: &mut W, asked: u16, port: u16) -> Result<(), Output>
+    ensures { (text : List ℕ) × IsPortText asked text × Puts (W.contents writer.old) (W.contents writer.new) result text }
+{
+    if asked != 0 {
+        return Ok(());
+    }
+    let mut digits = Buffer::new();
+    put_parts(writer, &[b"port ", digits.format(port).as_bytes(), b"\n"])
+}
+
+/// Listens at the service's port, answers its connections one after the other, and prints the status of each, or `lost`; before them
+/// `port P` where the system picks the port. Its peers have the standard time. `NoListener` where the port can't be had, `Stopped` behind
+/// the connection at which the agency stopped, whether its answer was lost or not, `Fault` where no further connection can be taken,
+/// `Output` where the writer failed.
+pub fn serve<S: Alter, W: Write>(
+    rt: &HostRuntime,
+    agency: &mut Agency<S>,
+    service: Service,
+    writer: &mut W,
+) -> Result<(), Unserved>
+    requires { agency.old.is_stopped ≡ false }
+    ensures served { (outcomes : List (Option ℕ)) × ServesOn S.Store agency.old agency.new outcomes
+        × PrintsServed service outcomes (W.contents writer.old) (W.contents writer.new) result }
+    ensures going { OnOk result (agency.new.is_stopped ≡ false) }
+    ensures stopped { result ≡ Err unserved.Stopped → agency.new.is_stopped ≡ true }
+    ensures fault { (fault : Fault) → result ≡ Err (unserved.Fault fault) → (agency.new.is_stopped ≡ false) × IsFirstFault fault }
+    ensures was_clean { WasClean S.Store agency.old agency.new }
+{
+    serve_within(rt, agency, service, Patience::standard(), writer)
+}
+
+/// The same, with peers that have this time.
+pub fn serve_within<S: Alter, W: Write>(
+    rt: &HostRuntime,
+    agency: &mut Agency<S>,
+    service: Service,
+    patience: Patience,
+    writer: &mut W,
+) -> Result<(), Unserved>
+    requires { agency.old.is_stopped ≡ false }
+    ensures served { (outcomes : List (Option ℕ)) × ServesOn S.Store agency.old agency.new outcomes
+        × PrintsServed service outcomes (W.contents writer.old) (W.contents writer.new) result }
+    ensures going { OnOk result (agency.new.is_stopped ≡ false) }
+    ensures stopped { result ≡ Err unserved.Stopped → agency.new.is_stopped ≡ true }
+    ensures fault { (fault : Fault) → result ≡ Err (unserved.Fault fault) → (agency.new.is_stopped ≡ false) × IsFirstFault fault }
+    ensures was_clean { WasClean S.Store agency.old agency.new }
+{
+    let Some((listener, port)) = listen(rt, service.port) else {
+        return Err(Unserved::NoListener);
+    };
+    print_port(writer, service.port, port)?;
+    let count = service.count.number();
+    let Ok(routes) = Routes::new(rt.alloc()) else {
+        return Err(Unserved::Fault(Fault::Memory));
+    };
+    serve_connections(rt, &routes, agency, &listener, count, patience, writer)
+}

@@ -1,0 +1,64 @@
+-- Lines and questions, in the words of jobs.
+use Rattle.std.proofs.Common.{◌≡◌, ◌∙◌, ◌⊎◌, inl, inr, Bool, true, false, ℕ, Option, List, ◌++◌, Err, refl, sym, ap, subst}
+use Rattle.sqlite.specs.Store.{Ghosts}
+use Rattle.dh_types.specs.declared.question.Question.{Question}
+use Rattle.dh_types.specs.Reports.{Report, is_no_report}
+use Rattle.dh_model.specs.Answers.{report}
+use Rattle.dh_model.specs.Books.{State}
+use Rattle.dh_model.specs.Runs.{batch_size}
+use Rattle.dh_laws.specs.Asking.{AnswersPassTheRun, OpenRunsRefusePutOff}
+use Rattle.dh_laws.specs.StateTables.{IsStateInOrder}
+use Rattle.dh_agency.specs.Seat.{Seat}
+use Rattle.dh_agency.specs.Agency.{Leaves, LeavesItsTables, machine, shown_by, stand}
+use Rattle.dh_agency.proofs.Standing.{reads_in_order, report_stands}
+use Rattle.dh_lines.specs.declared.outcome.BatchFault.{BatchFault}
+use Rattle.dh_lines.specs.declared.outcome.BatchFault.TheVariants as ended
+use Rattle.dh_lines.specs.Session.{records_of}
+use Rattle.dh_lines.specs.Batch.{AreAfter, EndsSo, LeavesAnswered}
+use Rattle.dh_jobs.specs.Jobs.{report_shown}
+use Rattle.dh_jobs.specs.Texts.{report_lines}
+use Rattle.dh_jobs.specs.Ends.{AtFault, AtReading, AtWriting, Stops}
+use Rattle.dh_jobs.specs.Leaving.{LinesLeave}
+
+-- a batch that ended early
+pub stops : {S : Type 0} (g : Ghosts S) (old new : Seat S) (a b : Option (List ℕ)) (fault : BatchFault) (input : List ℕ)
+    → EndsSo g old new a b (Err fault) input
+    → Stops (shown_by g new) a b (stand g old) (records_of input) fault
+stops g old new a b (ended.Agency fault) input (outcome, h) = AtFault h.count fault outcome refl h.few h.written h.state
+stops g old new a b (ended.Input cause) input h = AtReading h.count cause refl h.few h.written h.state
+stops g old new a b (ended.Output output) input h = AtWriting h.count output h.fields h.cut refl h.here h.part h.written h.state
+
+-- a batch that answered its lines has not stopped
+pub goes_on : (was is : Bool) → was ≡ false → (is ≡ was) ⊎ (⊥ × (is ≡ true)) → is ≡ false
+goes_on was is before (inl same) = same ∙ before
+goes_on was is before (inr (never, stopped)) = absurd never
+
+-- what a crash leaves behind a batch, where no more than the end of the job was asked for since
+pub lines_left : {S : Type 0} (g : Ghosts S) (old mid new : Seat S) → LeavesAnswered g old mid → LeavesItsTables g mid
+    → Leaves g new (λ left. left ≡ machine g mid) → LinesLeave (shown_by g new) (stand g old)
+lines_left g old mid new h rests same = record {
+  rows = h.rows;
+  within = h.within;
+  one = h.one;
+  left = λ left may.
+      let it = same left may in (
+        it.0,
+        subst (λ (t : State). AreAfter (stand g old) h.rows t ⊎ AreAfter (stand g old) (h.rows ++ h.within) t) (sym it.1)
+            (h.left (shown_by g mid).now.trees rests.some).1,
+      );
+}
+
+-- ---- a question
+
+module _ {S : Type 0} (g : Ghosts S) (old new : Seat S) (question : Question) (shown : Report) (same : machine g new ≡ machine g old)
+    (left : LeavesItsTables g new) (said : shown ≡ report (machine g old) question)
+    (passes : AnswersPassTheRun batch_size) (refuses : OpenRunsRefusePutOff) where
+  pub shown_stands : shown ≡ report (stand g old) question
+  shown_stands =
+      said ∙ report_stands passes refuses (machine g old) question (subst (λ (s : State). IsStateInOrder s) same (reads_in_order g new left))
+
+  pub shown_text : report_lines shown ≡ (report_shown (stand g old) question).text
+  shown_text = ap report_lines shown_stands
+
+  pub shown_refused : (is_refused : Bool) → is_refused ≡ is_no_report shown → (report_shown (stand g old) question).is_refused ≡ is_refused
+  shown_refused is_refused is = sym (is ∙ ap is_no_report shown_stands)

@@ -1,0 +1,114 @@
+-- How a job ends whose text was printed.
+use Rattle.std.proofs.Common.{◌≡◌, ◌∙◌, inl, inr, Bool, true, false, ℕ, Option, Some, None, List, refl, sym, ap, subst, is_some, if◌then◌else◌}
+use Rattle.std.specs.Io.KnownBytes.{Appends}
+use Rattle.sqlite.specs.State as conn
+use Rattle.sqlite.specs.State.{HasCleanDisk}
+use Rattle.dh_types.specs.declared.output.Output.{Output}
+use Rattle.dh_types.specs.Output.{BreaksOff}
+use Rattle.dh_types.specs.declared.reply.Reply.{Reply}
+use Rattle.dh_types.specs.declared.run.Run.{Run}
+use Rattle.dh_types.specs.Replies.{is_refusal}
+use Rattle.dh_types.specs.declared.question.Question.TheVariants as asked
+use Rattle.dh_model.specs.declared.open_run.OpenRun.{OpenRun}
+use Rattle.dh_model.specs.Answers.{report, run_report}
+use Rattle.dh_model.specs.Books.{Books, State}
+use Rattle.dh_schema.specs.Store as store
+use Rattle.dh_lines.specs.Session.{Answered, replied}
+use Rattle.dh_jobs.specs.declared.status.Status.{Status}
+use Rattle.dh_jobs.specs.declared.status.Status.TheVariants.{Done, SomeRefused, BadWords, Failed, RunOpen, FileRefused}
+use Rattle.dh_jobs.specs.Statuses.{IsAnswered, IsEnding, IsFailed, ending}
+use Rattle.dh_jobs.specs.Texts.{reply_line}
+use Rattle.dh_jobs.specs.Printed.{Behind, Prints, Whole, Within, breaking}
+use Rattle.dh_agency.specs.Agency.{stand_of}
+use Rattle.dh_jobs.specs.Jobs.{says_open, stand_in}
+use Rattle.dh_jobs.specs.Ends.{Comes, Finishes, Told, Unasked, Unheard}
+use Rattle.dh_jobs.proofs.TextLemmas.{same_behind, told_behind}
+
+-- ---- whether a run is open
+
+of_run : (books : Books) (run : Option Run) → says_open (run_report books run) ≡ false
+of_run books None = refl
+of_run books (Some run) = by run.is_closed refl
+  where
+    by : (closed : Bool) → run.is_closed ≡ closed → says_open (run_report books (Some run)) ≡ false
+    by true is = rw is refl
+    by false is = rw is refl
+
+-- the question for a month's run tells it
+pub asks_open : (s : State) (month : ℕ) → says_open (report s (asked.Run month)) ≡ is_some s.open_run
+asks_open s month = by s.open_run refl
+  where
+    by : (run : Option OpenRun) → s.open_run ≡ run → says_open (report s (asked.Run month)) ≡ is_some s.open_run
+    by None is = rw is (of_run s.books _)
+    by (Some run) is = rw is refl
+
+-- ---- the status
+
+pub ending_is : (is_refused : Bool) (run : Option OpenRun) → IsEnding is_refused (ending is_refused run)
+ending_is true run = refl
+ending_is false None = inl refl
+ending_is false (Some run) = inr refl
+
+by_run : (run : Option OpenRun) (is_open : Bool) → is_open ≡ is_some run → ending false run ≡ (if is_open then RunOpen else Done)
+by_run None is_open is = rw is refl
+by_run (Some run) is_open is = rw is refl
+
+pub refused_finishes : (old : conn.State) (a : Option (List ℕ)) (is_refused : Bool) → is_refused ≡ true → Finishes old old a a is_refused SomeRefused
+refused_finishes old a is_refused is = subst (λ b. Finishes old old a a b SomeRefused) (sym is) (inl (refl, refl, λ clean. (refl, refl)))
+
+pub asked_finishes : (old new : conn.State) (a : Option (List ℕ)) (is_refused is_open : Bool) (status : Status) → is_refused ≡ false
+    → status ≡ (if is_open then RunOpen else Done) → IsEnding false status
+    → (HasCleanDisk new → is_open ≡ is_some (store.tables old).open_run) → (HasCleanDisk new → store.tables new ≡ store.tables old)
+    → Finishes old new a a is_refused status
+asked_finishes old new a is_refused is_open status is tells kind said same =
+    subst (λ b. Finishes old new a a b status) (sym is)
+    (inl (refl, kind, λ clean. (same clean, tells ∙ sym (by_run (store.tables old).open_run is_open (said clean)))))
+
+-- ---- behind a text
+
+module _ (mid new : conn.State) (a m b : Option (List ℕ)) (is_refused : Bool) (status : Status) where
+  pub comes_finished : (it : Answered) → it.is_refused ≡ is_refused → Appends a m it.text → HasCleanDisk new → stand_in mid ≡ it.state
+      → Finishes mid new m b is_refused status → Comes new a b it status
+  comes_finished it refused h clean stands (inl (same, kind, left)) =
+      let now = left clean in
+      Told (same_behind a m b it.text same h) (ap stand_of now.0 ∙ stands)
+      (now.1 ∙ ap (λ (s : State). ending is_refused s.open_run) stands ∙ ap (λ r. ending r it.state.open_run) (sym refused))
+  comes_finished it refused h clean stands (inr (told, left)) =
+      Unasked (told_behind a m b it.text status h told) (λ is_open. ap stand_of (left clean is_open) ∙ stands)
+
+  module _ (IsEnd : List ℕ → Status → Type 0) (text : List ℕ) (ends : (last : Status) → IsEnding is_refused last → IsEnd text last) where
+    pub prints_finished : Appends a m text → Finishes mid new m b is_refused status → Prints IsEnd a b status
+    prints_finished h (inl (same, kind, left)) = Whole text (ends status kind) (same_behind a m b text same h)
+    prints_finished h (inr (told, left)) =
+        Behind text (ending is_refused None) (ends _ (ending_is is_refused None)) (told_behind a m b text status h told)
+
+  -- a run, whose reply was printed
+  pub run_finished : (told : State × Reply) (reply : Reply) → told ≡ (stand_in mid, reply) → is_refusal reply ≡ is_refused → Appends a m (reply_line reply)
+      → HasCleanDisk new → Finishes mid new m b is_refused status → Comes new a b (replied told) status
+  run_finished told reply is refused h clean finish =
+      subst (λ it. Comes new a b (replied it) status) (sym is) (comes_finished (replied (stand_in mid, reply)) refused h clean refl finish)
+
+-- the output failed in the reply
+pub run_unheard : (new : conn.State) (a b : Option (List ℕ)) (told : State × Reply) (reply : Reply) (output : Output) → told ≡ (stand_in new, reply)
+    → BreaksOff a b (reply_line reply) → Comes new a b (replied told) (breaking output)
+run_unheard new a b told reply output is h =
+    subst (λ it. Comes new a b (replied it) (breaking output)) (sym is) (Unheard (output, refl, h) refl)
+
+pub finished_alike : (old new : conn.State) (a b : Option (List ℕ)) (is_refused same : Bool) (status : Status) → is_refused ≡ same
+    → Finishes old new a b is_refused status → Finishes old new a b same status
+finished_alike old new a b is_refused same status is h = subst (λ r. Finishes old new a b r status) is h
+
+-- the output failed in the text
+pub prints_within : (IsEnd : List ℕ → Status → Type 0) (text : List ℕ) (is_refused : Bool) (a b : Option (List ℕ)) (output : Output)
+    → ((last : Status) → IsEnding is_refused last → IsEnd text last) → BreaksOff a b text → Prints IsEnd a b (breaking output)
+prints_within IsEnd text is_refused a b output ends h =
+    Within text (ending is_refused None) (ends _ (ending_is is_refused None)) (output, refl, h)
+
+-- nothing but the end was asked for since
+pub kept_finished : (status : Status) → IsFailed status → IsAnswered status → {A : Type 0} → A
+kept_finished (Failed why) failed answered = absurd answered
+kept_finished Done failed answered = absurd failed
+kept_finished SomeRefused failed answered = absurd failed
+kept_finished (BadWords outcome) failed answered = absurd failed
+kept_finished RunOpen failed answered = absurd failed
+kept_finished FileRefused failed answered = absurd failed

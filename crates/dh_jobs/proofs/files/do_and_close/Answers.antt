@@ -1,0 +1,33 @@
+use Rattle.std.proofs.Common.{inl, refl}
+use Rattle.dh_jobs.proofs.StoreLemmas.{job_closed}
+use Rattle.dh_jobs.proofs.files.do_and_close.Goals as goal
+
+pub returns-in-Ok-clause-ends : goal.returns-in-Ok-clause-ends
+returns-in-Ok-clause-ends g c = record {
+  last = c.do_job-done.result.1;
+  done = c.do_job-done.result.0;
+  told = _;
+  was_clean = c.do_job-done.ensures.was_clean;
+  ends = c.do_job-done.ensures.ends;
+  left = c.do_job-done.ensures.crash;
+  kept = c.do_job-done.ensures.kept;
+  closes = inl (refl, refl);
+  copied = λ fine. c.in-Ok.ensures.copied;
+}
+
+pub returns-in-Err-clause-printed : goal.returns-in-Err-clause-printed
+returns-in-Err-clause-printed g c =
+    job_closed _ _ _ c.do_job-done.result.0 c.tell_unclosed.result c.tell_unclosed.ensures.closes c.args.job c.do_job-done.ensures.printed
+
+pub returns-in-Err-clause-ends : goal.returns-in-Err-clause-ends
+returns-in-Err-clause-ends g c = record {
+  last = c.do_job-done.result.1;
+  done = c.do_job-done.result.0;
+  told = _;
+  was_clean = c.do_job-done.ensures.was_clean;
+  ends = c.do_job-done.ensures.ends;
+  left = c.do_job-done.ensures.crash;
+  kept = c.do_job-done.ensures.kept;
+  closes = c.tell_unclosed.ensures.closes;
+  copied = λ fine. absurd (fine c.tell_unclosed.ensures.failed);
+}

@@ -1,0 +1,65 @@
+-- What comes of the words behind the program's name.
+use Rattle.std.specs.Prelude.{◌≡◌, ◌⊎◌, ℕ, List, [], ◌++◌, Option, Some, None, codes}
+use Rattle.sqlite_disk.specs.declared.Disk as disk
+use Rattle.sqlite_wal.specs.Recovery.{Image}
+use Rattle.clap.specs.Values.{kind_of}
+use Rattle.clap.specs.declared.error.Error.{Error}
+use Rattle.clap.specs.declared.error.kind.ErrorKind.{ErrorKind}
+use Rattle.clap.specs.declared.error.kind.ErrorKind.TheVariants.{DisplayHelp, DisplayVersion}
+use Rattle.dh_types.specs.declared.reply.Fault.TheVariants as fault
+use Rattle.dh_arguments.specs.declared.kinds.BadWords.{BadWords}
+use Rattle.dh_arguments.specs.declared.kinds.BadWords.TheVariants as bad
+use Rattle.dh_arguments.specs.declared.kinds.Job.{Job}
+use Rattle.dh_arguments.specs.declared.kinds.Job.TheVariants.{Init, Batch, Run, Recover, Migrate, Report, Serve}
+use Rattle.dh_arguments.specs.Jobs.{IsBadFor, IsJobOf}
+use Rattle.dh_reports.specs.Columns.{newline}
+use Rattle.dh_jobs.specs.declared.jobs.Work.TheVariants as work
+use Rattle.dh_jobs.specs.declared.store_jobs.FileJob.TheVariants as job
+use Rattle.dh_jobs.specs.declared.status.Status.{Status}
+use Rattle.dh_jobs.specs.declared.status.Status.TheVariants as status
+use Rattle.dh_jobs.specs.Texts.{refusal_line}
+use Rattle.dh_jobs.specs.Statuses.{IsBad, IsFailed}
+use Rattle.dh_jobs.specs.Printed.{IsOfLines, PutsBad, Tells}
+use Rattle.dh_jobs.specs.Ends.{MemoryLinesEnd}
+use Rattle.dh_jobs.specs.OnFile.{DoneOnFile, MadeOnFile}
+
+-- Help is all that was asked for, and it was printed, or that failed; else the words are bad, whether it could be said why or not.
+abbrev pub IsOfMessage : ErrorKind → Status → Type 0
+IsOfMessage DisplayHelp it = (it ≡ status.Done) ⊎ IsFailed it
+IsOfMessage DisplayVersion it = (it ≡ status.Done) ⊎ IsFailed it
+IsOfMessage _ it = IsBad it
+
+-- what `clap` says of the words was printed, or that failed
+abbrev pub MessagePrints : Error → Status → Type 0
+MessagePrints error it = IsOfMessage (kind_of error) it
+
+-- the option whose value is bad
+abbrev pub value_line : List ℕ → List ℕ
+value_line option = codes "bad " ++ option ++ newline
+
+abbrev pub BadPrints : BadWords → Option (List ℕ) → Option (List ℕ) → Status → Type 0
+BadPrints (bad.Refused error) a b it = MessagePrints error it
+BadPrints (bad.Value option) a b it = PutsBad (value_line option.now) a b it
+BadPrints (bad.Question refusal) a b it = PutsBad (refusal_line refusal) a b it
+BadPrints bad.Memory a b it = Tells fault.Memory a b [] it
+
+-- on a disk of these ghosts, whose files held this as they were opened
+module _ {D : Type 0} (g : disk.Ghosts D) (held : Image) where
+  -- lines are answered on a file, or in memory where none is named
+  abbrev pub BatchEnds : {T : Type 0} → Option T → ℕ → Option (List ℕ) → Option (List ℕ) → Option (List ℕ) → Status → Type 0
+  BatchEnds None first input a b it = IsOfLines it × MemoryLinesEnd a b first input it
+  BatchEnds (Some file) first input a b it = DoneOnFile g held (job.Work work.Lines) input a b it
+
+  abbrev pub AskedEnds : Job → Option (List ℕ) → Option (List ℕ) → Option (List ℕ) → Status → Type 0
+  AskedEnds (Init file first) input a b it = MadeOnFile g held first a b it
+  AskedEnds (Batch file first) input a b it = BatchEnds file first input a b it
+  AskedEnds (Run file order batches) input a b it = DoneOnFile g held (job.Work (work.Run order batches)) input a b it
+  AskedEnds (Recover file) input a b it = DoneOnFile g held job.Recover input a b it
+  AskedEnds (Migrate file) input a b it = DoneOnFile g held job.Migrate input a b it
+  AskedEnds (Report file question) input a b it = DoneOnFile g held (job.Work (work.Report question)) input a b it
+  AskedEnds (Serve file port count) input a b it = DoneOnFile g held (job.Serve (record { port = port; count = count })) input a b it
+
+  -- The words ask for a job, and it was done; or they ask for none, and that was said.
+  abbrev pub DeskEnds : List (List ℕ) → Option (List ℕ) → Option (List ℕ) → Option (List ℕ) → Status → Type 0
+  DeskEnds words input a b it =
+      ((asked : Job) × IsJobOf words asked × AskedEnds asked input a b it) ⊎ ((why : BadWords) × IsBadFor words why × BadPrints why a b it)

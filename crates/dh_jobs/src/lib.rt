@@ -1,0 +1,19 @@
+//! What each subcommand of `letting` does, over any store and on files. Read [`desk_from`] first.
+#![tactic(auto)]
+
+mod files;
+mod jobs;
+mod open_run;
+pub mod places;
+mod printed;
+mod process;
+mod program;
+mod service;
+mod sites;
+mod status;
+mod store_jobs;
+
+pub use process::{refuse_words, run_words};
+pub use program::{desk, desk_from};
+pub use sqlite::{Start, Unknown};
+pub use status::{Failure, Status};

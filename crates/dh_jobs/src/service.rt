@@ -1,0 +1,55 @@
+//! Serving requests over the tables of a file.
+
+ghost use Rattle.std.specs.Prelude.{◌⊎◌, ℕ, List, Option};
+ghost use Rattle.sqlite.specs.State.{HasCleanDisk};
+ghost use Rattle.sqlite.specs.Held.{state};
+ghost use Rattle.dh_runs.specs.Taking.{IsResting};
+ghost use Rattle.dh_jobs.specs.Ends.{ServingEnds};
+ghost use Rattle.dh_jobs.specs.Leaving.{IsKept, ServingLeaves};
+ghost use Rattle.dh_jobs.specs.Printed.{IsRefusedEnd, Prints, PrintsService, TellsServed};
+
+use crate::printed::{tell_fault, tell_no_listener, tell_problem};
+use crate::status::{Failure, Status};
+use dh_agency::{NotOpened, attach};
+use dh_http::{Service, Unserved, serve};
+use sqlite::{Alter, Connection};
+use std::io::Write;
+
+// How the program ends behind serving. A want of a listener, and a fault of it, are told.
+fn tell_served<W: Write>(outcome: Result<(), Unserved>, writer: &mut W) -> Status
+    ensures { TellsServed outcome (W.contents writer.old) (W.contents writer.new) result }
+{
+    match outcome {
+        Ok(()) => Status::Done,
+        Err(Unserved::NoListener) => tell_no_listener(writer),
+        Err(Unserved::Output(output)) => Status::Failed(Failure::Output(output)),
+        Err(Unserved::Stopped) => Status::Failed(Failure::Stopped),
+        Err(Unserved::Fault(fault)) => tell_fault(writer, fault),
+    }
+}
+
+/// Takes the tables as they are, and serves requests over them.
+pub(crate) fn answer_requests<S: Alter, W: Write>(
+    rt: &HostRuntime,
+    conn: Connection<S>,
+    service: Service,
+    writer: &mut W,
+) -> (Status, Connection<S>)
+    requires { HasCleanDisk (state S.Store conn) → IsResting (state S.Store conn) }
+    ensures printed { ((outcomes : List (Option ℕ)) × PrintsService service outcomes (W.contents writer.old) (W.contents writer.new) result.0)
+        ⊎ Prints IsRefusedEnd (W.contents writer.old) (W.contents writer.new) result.0 }
+    ensures ends { HasCleanDisk (state S.Store result.1)
+        → ServingEnds (state S.Store conn) (state S.Store result.1) (W.contents writer.old) (W.contents writer.new) service result.0 }
+    ensures crash { ServingLeaves (state S.Store conn) (state S.Store result.1) }
+    ensures kept { IsKept (state S.Store result.1) result.0 }
+    ensures was_clean { HasCleanDisk (state S.Store result.1) → HasCleanDisk (state S.Store conn) }
+{
+    match attach(rt.alloc(), conn) {
+        Ok(mut agency) => {
+            let outcome = serve(rt, &mut agency, service, writer);
+            let status = tell_served(outcome, writer);
+            (status, agency.into_store())
+        }
+        Err(NotOpened { cause, conn }) => (tell_problem(writer, cause), conn),
+    }
+}

@@ -1,0 +1,4 @@
+-- A receipt that was acknowledged stays.
+pub mod Events
+pub mod Stays
+pub mod Steps

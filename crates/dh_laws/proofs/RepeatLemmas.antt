@@ -1,0 +1,5 @@
+-- What a command gets whose key was used.
+pub mod Orders
+pub mod Keys
+pub mod Replies
+pub mod Again

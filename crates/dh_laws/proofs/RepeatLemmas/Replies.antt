@@ -1,0 +1,147 @@
+-- A command whose key was used gets the reply that is kept, or a refusal, and the state stays.
+use Rattle.std.proofs.Common.{◌≡◌, ◌∙◌, refl, sym, ap, ℕ, ◌+◌, Bool, true, false, nat_eq, nat_le, [], ◌∷◌, Option, Some, None, if◌then◌else◌}
+use Rattle.std.specs.FinMap.{get, len}
+use Rattle.std.proofs.lemmas.Bool.{false_from_ne_true}
+use Rattle.dh_types.specs.declared.lease.Receipt.{Receipt}
+use Rattle.dh_types.specs.declared.run.Run.{Run}
+use Rattle.dh_types.specs.declared.command.Command.{Command}
+use Rattle.dh_types.specs.declared.command.Command.TheVariants as command
+use Rattle.dh_types.specs.declared.command.ReceiptOrder.{ReceiptOrder}
+use Rattle.dh_types.specs.declared.command.RunOrder.{RunOrder}
+use Rattle.dh_types.specs.declared.reply.Reply.{Reply}
+use Rattle.dh_types.specs.declared.reply.Reply.TheVariants as reply
+use Rattle.dh_types.specs.declared.reply.Refusal.TheVariants as refusal
+use Rattle.dh_types.specs.Records.{is_same_payment}
+use Rattle.dh_types.proofs.SameRecords.{same_payment}
+use Rattle.dh_types.proofs.SameValues.{numbers}
+use Rattle.dh_model.specs.declared.open_run.OpenRun.{OpenRun}
+use Rattle.dh_model.specs.declared.rows.Change.{Change}
+use Rattle.dh_model.specs.declared.rows.Change.TheVariants as change
+use Rattle.dh_model.specs.declared.rows.Verdict.{Verdict}
+use Rattle.dh_model.specs.declared.rows.Verdict.TheVariants as verdict
+use Rattle.dh_model.specs.Books.{Books, State}
+use Rattle.dh_model.specs.Checks.{receipt_of_key, run_of_key, unless}
+use Rattle.dh_model.specs.Machine.{accepted, carried_out, posted_sum, resumed, settled}
+use Rattle.dh_model.specs.Rules.{KeysInOrder}
+use Rattle.dh_model.specs.Runs.{batches, sum_of}
+use Rattle.dh_model.specs.Verdicts.{judged, opened_run, receipt_checks, receipt_verdict, run_verdict, unless_paid, unless_posted, unless_receipt, unless_run}
+use Rattle.dh_model.specs.Verdicts.{verdict_on}
+use Rattle.dh_laws.specs.Repeating.{IsReceiptOf, IsRunOf, NothingNewChangesNothing, ReceiptsRepeat, RepeatsGetTheirReply, RunsRepeat, is_of_nothing_new}
+use Rattle.dh_laws.specs.Repeating.{with_no_run}
+use Rattle.dh_laws.proofs.RepeatLemmas.Keys.{no_receipt, no_run, one_receipt, one_run}
+
+-- ---- what the books say of a used key
+
+module _ (books : Books) (keys : KeysInOrder books) where
+  module _ (order : ReceiptOrder) where
+    abbrev told_new : Verdict
+    told_new =
+        judged (receipt_checks books (len books.receipts) order)
+        (change.Receipt (record { number = len books.receipts + 1; key = order.key; payment = order.payment }))
+
+    abbrev told_of : Option Receipt → Option Run → Verdict
+    told_of receipt run = unless_paid books order receipt (unless_run books run told_new)
+
+    paid_by : (b : Bool) (receipt : Receipt) → is_same_payment order.payment receipt.payment ≡ b → IsReceiptOf books order.key receipt
+        → receipt_verdict books (len books.receipts) order
+        ≡ (if b then verdict.Already (reply.AlreadyReceipt receipt.number) else verdict.Refused refusal.KeyUsed)
+    paid_by b receipt same is =
+        ap (λ found. told_of found (run_of_key books order.key)) ((one_receipt books order.key keys receipt).1 is)
+        ∙ ap (λ c. if c then verdict.Already (reply.AlreadyReceipt receipt.number) else verdict.Refused refusal.KeyUsed) same
+
+    paid_by_run : (run : Run) → IsRunOf books order.key run → receipt_verdict books (len books.receipts) order ≡ verdict.Refused refusal.KeyUsed
+    paid_by_run run is =
+        ap (λ found. told_of found (run_of_key books order.key)) (no_receipt books order.key keys run is)
+        ∙ ap (λ found. told_of None found) ((one_run books order.key keys run).1 is)
+
+  module _ (order : RunOrder) where
+    abbrev run_new : Verdict
+    run_new = judged (unless (nat_eq order.month books.next) (refusal.NotNextMonth books.next) ∷ []) (change.Open (opened_run books order))
+
+    abbrev run_told : Option Run → Option Receipt → Verdict
+    run_told run receipt = unless_posted books order run (unless_receipt books receipt run_new)
+
+    posted_by : (b : Bool) (run : Run) → nat_eq order.month run.month ≡ b → IsRunOf books order.key run
+        → run_verdict books order ≡ (if b then verdict.Already (reply.AlreadyPosted (sum_of run)) else verdict.Refused refusal.KeyUsed)
+    posted_by b run same is =
+        ap (λ found. run_told found (receipt_of_key books order.key)) ((one_run books order.key keys run).1 is)
+        ∙ ap (λ c. if c then verdict.Already (reply.AlreadyPosted (sum_of run)) else verdict.Refused refusal.KeyUsed) same
+
+    posted_by_receipt : (receipt : Receipt) → IsReceiptOf books order.key receipt → run_verdict books order ≡ verdict.Refused refusal.KeyUsed
+    posted_by_receipt receipt is =
+        ap (λ found. run_told found (receipt_of_key books order.key)) (no_run books order.key keys receipt is)
+        ∙ ap (λ found. run_told None found) ((one_receipt books order.key keys receipt).1 is)
+
+-- ---- what it is answered
+
+module _ (size : ℕ) where
+  pub receipts_repeat : ReceiptsRepeat size
+  receipts_repeat books order keys = (
+    λ receipt is same. ap (settled size (with_no_run books) (command.Receipt order))
+        (paid_by books keys order true receipt ((same_payment order.payment receipt.payment).1 same) is),
+    λ receipt is differ. ap (settled size (with_no_run books) (command.Receipt order))
+        (paid_by books keys order false receipt
+        (false_from_ne_true (is_same_payment order.payment receipt.payment) (λ yes. differ ((same_payment order.payment receipt.payment).0 yes))) is),
+    λ run is. ap (settled size (with_no_run books) (command.Receipt order)) (paid_by_run books keys order run is),
+  )
+
+  pub runs_repeat : RunsRepeat size command.Run
+  runs_repeat books order keys = (
+    λ run is same. ap (settled size (with_no_run books) (command.Run order)) (posted_by books keys order true run ((numbers order.month run.month).1 same) is),
+    λ run is differ. ap (settled size (with_no_run books) (command.Run order))
+        (posted_by books keys order false run (false_from_ne_true (nat_eq order.month run.month) (λ yes. differ ((numbers order.month run.month).0 yes))) is),
+    λ receipt is. ap (settled size (with_no_run books) (command.Run order)) (posted_by_receipt books keys order receipt is),
+  )
+
+  pub openings_repeat : RunsRepeat size command.Open
+  openings_repeat books order keys = (
+    λ run is same. ap (settled size (with_no_run books) (command.Open order)) (posted_by books keys order true run ((numbers order.month run.month).1 same) is),
+    λ run is differ. ap (settled size (with_no_run books) (command.Open order))
+        (posted_by books keys order false run (false_from_ne_true (nat_eq order.month run.month) (λ yes. differ ((numbers order.month run.month).0 yes))) is),
+    λ receipt is. ap (settled size (with_no_run books) (command.Open order)) (posted_by_receipt books keys order receipt is),
+  )
+
+  -- ---- a reply of nothing new
+
+  accepted_is_new : (rows : Change) → is_of_nothing_new (accepted rows) ≡ true → ⊥
+  accepted_is_new (change.Receipt it) h = cc
+  accepted_is_new _ h = cc
+
+  either_is_new : (b : Bool) (x y : State × Reply) → (is_of_nothing_new x.1 ≡ true → ⊥) → (is_of_nothing_new y.1 ≡ true → ⊥)
+      → is_of_nothing_new (if b then x else y).1 ≡ true → ⊥
+  either_is_new true x y p q h = p h
+  either_is_new false x y p q h = q h
+
+  resumed_stays : (s : State) (count : ℕ) (run : Option OpenRun) → s.open_run ≡ run → is_of_nothing_new (resumed size s.books count run).1 ≡ true
+      → (resumed size s.books count run).0 ≡ s
+  resumed_stays s count None e h = λ i. record { books = s.books; open_run = sym e i }
+  resumed_stays s count (Some run) e h =
+      let all = batches size s.books run.month in
+      absurd (either_is_new (nat_le all (run.done + count)) (
+        record { books = s.books; open_run = None },
+        reply.Posted (posted_sum run.month (get s.books.runs run.month)),
+      ) (
+        record { books = s.books; open_run = Some (record { month = run.month; done = run.done + count }) },
+        reply.Progress (record { month = run.month; done = run.done + count; of = all }),
+      )
+      (λ new. cc) (λ new. cc) h)
+
+  carried_stays : (s : State) (told : Command) (rows : Change) → is_of_nothing_new (carried_out size s told rows).1 ≡ true
+      → (carried_out size s told rows).0 ≡ s
+  carried_stays s (command.Run order) (change.Open row) h = cc
+  carried_stays s (command.Run order) rows h = absurd (accepted_is_new rows h)
+  carried_stays s (command.Open order) (change.Open row) h = cc
+  carried_stays s (command.Open order) rows h = absurd (accepted_is_new rows h)
+  carried_stays s (command.Post count) change.Post h = resumed_stays s count s.open_run refl h
+  carried_stays s _ rows h = absurd (accepted_is_new rows h)
+
+  settled_stays : (s : State) (told : Command) (v : Verdict) → is_of_nothing_new (settled size s told v).1 ≡ true → (settled size s told v).0 ≡ s
+  settled_stays s told (verdict.Change rows) h = carried_stays s told rows h
+  settled_stays s told (verdict.Already kept) h = refl
+  settled_stays s told (verdict.Refused why) h = refl
+
+  pub repeats_get_their_reply : RepeatsGetTheirReply size
+  repeats_get_their_reply = (receipts_repeat, runs_repeat, openings_repeat)
+
+  pub nothing_new_changes_nothing : NothingNewChangesNothing size
+  nothing_new_changes_nothing s told h = settled_stays s told (verdict_on s.books s.open_run told) h

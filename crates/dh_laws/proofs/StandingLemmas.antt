@@ -1,0 +1,3 @@
+-- The tables, and where the machine stands with them.
+pub mod Tells
+pub mod Batches

@@ -1,0 +1,4 @@
+-- What an accepted command's checks found, and what holds of its rows.
+pub mod Acceptance
+pub mod Cases
+pub mod Checks

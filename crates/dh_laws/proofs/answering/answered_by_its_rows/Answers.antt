@@ -1,5 +1,0 @@
-use Rattle.dh_laws.proofs.AskedRows.{answered_by_its_rows}
-use Rattle.dh_laws.proofs.answering.answered_by_its_rows.Goals as goal
-
-pub returns : goal.returns
-returns c = answered_by_its_rows

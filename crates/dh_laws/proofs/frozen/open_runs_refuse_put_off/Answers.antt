@@ -1,0 +1,5 @@
+use Rattle.dh_laws.proofs.FrozenLemmas.Refusals.{open_runs_refuse_put_off}
+use Rattle.dh_laws.proofs.frozen.open_runs_refuse_put_off.Goals as goal
+
+pub returns : goal.returns
+returns c = open_runs_refuse_put_off

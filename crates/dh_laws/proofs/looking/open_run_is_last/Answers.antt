@@ -1,5 +1,0 @@
-use Rattle.dh_laws.proofs.LooksLast.{open_run_is_last}
-use Rattle.dh_laws.proofs.looking.open_run_is_last.Goals as goal
-
-pub returns : goal.returns
-returns c = open_run_is_last

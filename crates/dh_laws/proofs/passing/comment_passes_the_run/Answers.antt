@@ -1,7 +1,0 @@
-use Rattle.std.specs.Prelude.{refl}
-use Rattle.dh_laws.proofs.PassEach.{passes_the_run}
-use Rattle.dh_types.specs.declared.command.Command.TheVariants as command
-use Rattle.dh_laws.proofs.passing.comment_passes_the_run.Goals as goal
-
-pub returns : goal.returns
-returns c = passes_the_run command.Comment (λ order. refl)

@@ -1,5 +1,0 @@
-use Rattle.dh_laws.proofs.PostSmall.{next_batch_is_small}
-use Rattle.dh_laws.proofs.posting.next_batch_is_small.Goals as goal
-
-pub returns : goal.returns
-returns c = next_batch_is_small

@@ -1,0 +1,48 @@
+use Rattle.std.proofs.Common.{◌≡◌, inr, refl}
+use Rattle.dh_types.specs.Reports.{report_of}
+use Rattle.dh_model.specs.Answers.{report}
+use Rattle.dh_model.specs.Runs.{batch_size}
+use Rattle.dh_agency.specs.Agency.{machine, stand}
+use Rattle.dh_agency.proofs.Standing.{cut_or_stopped}
+use Rattle.dh_lines.specs.Session.{reported}
+use Rattle.dh_lines.proofs.OneRecord.{answers_fault, fault_first, fault_halts, not_on, reported_part, reported_whole}
+use Rattle.dh_lines.proofs.records.answer_question.Goals as goal
+
+pub returns-in_ok-put_answer_line-in-Ok-clause-answers : goal.returns-in_ok-put_answer_line-in-Ok-clause-answers
+returns-in_ok-put_answer_line-in-Ok-clause-answers g c clean =
+    let old = c.args.agency.now in
+    let new = c.show.new.self in
+    let said = c.in-Ok.ensures in
+    reported_whole g.S.Store old new _ _ c.args.number (λ now. now ≡ machine g.S.Store old) c.args.question (report_of c.in-Ok.answer) (said.same clean)
+    (said.left clean) (said.said clean) (c.answers_pass_the_run.ensures batch_size) c.open_runs_refuse_put_off.ensures
+    c.in_ok-put_answer_line-in-Ok.ensures c.is_refusal-is_refused.result c.is_refusal-is_refused.ensures
+
+pub returns-in_err-put_answer_line-in-Ok-clause-answers : goal.returns-in_err-put_answer_line-in-Ok-clause-answers
+returns-in_err-put_answer_line-in-Ok-clause-answers g c clean =
+    let old = c.args.agency.now in
+    let new = c.show.new.self in
+    let said = c.in-Ok.ensures in
+    reported_part g.S.Store old new _ _ c.args.number (λ now. now ≡ machine g.S.Store old) c.args.question (report_of c.in-Ok.answer) (said.same clean)
+    (said.left clean) (said.said clean) (c.answers_pass_the_run.ensures batch_size) c.open_runs_refuse_put_off.ensures
+    c.in_err-put_answer_line-in-Ok.field-0.0 c.from_residual.result c.from_residual.ensures.1 c.in_err-put_answer_line-in-Ok.ensures
+
+pub returns-in-Err-clause-answers : goal.returns-in-Err-clause-answers
+returns-in-Err-clause-answers g c clean =
+    let old = c.args.agency.now in
+    let new = c.show.new.self in
+    let before = machine g.S.Store old in
+    answers_fault g.S.Store old new _ _ c.args.number (reported (stand g.S.Store old) (report (stand g.S.Store old) c.args.question)) (λ now. now ≡ before)
+    c.in-Err.fault c.end_by_fault.result c.end_by_fault.ensures
+    (cut_or_stopped g.S.Store old new (λ now. now ≡ before) _ (c.in-Err.ensures.halted clean) c.in-Err.ensures.ends.stopped refl)
+    (not_on c.in-Err.ensures.ends.stops)
+
+pub returns-in-Err-clause-halts : goal.returns-in-Err-clause-halts
+returns-in-Err-clause-halts g c =
+    let ends = c.in-Err.ensures.ends in
+    record {
+      cause = λ live. fault_first _ _ _ c.in-Err.fault c.end_by_fault.result c.end_by_fault.ensures (ends.cause live);
+      stops = inr (fault_halts _ _ _ c.in-Err.fault c.end_by_fault.result c.end_by_fault.ensures, ends.stops);
+      store = λ is. ends.stops;
+      stopped = λ dead. (ends.stopped dead).1;
+      was_clean = ends.was_clean;
+    }

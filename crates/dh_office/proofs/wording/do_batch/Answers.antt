@@ -1,4 +1,0 @@
-use Rattle.dh_office.proofs.wording.do_batch.Goals as goal
-
-pub returns-in-Some : goal.returns-in-Some
-returns-in-Some g c = rw c.in-Some.is c.do_on_file.ensures

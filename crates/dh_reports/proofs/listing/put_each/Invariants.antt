@@ -1,9 +1,0 @@
-use Rattle.std.proofs.Common.{drop}
-use Rattle.std.specs.List.{flat_map}
-use Rattle.dh_types.proofs.WritingLemmas.{Written}
-use Rattle.dh_reports.proofs.listing.put_each.Given as goal
-
-abbrev pub invariant-loop-record : goal.invariant-loop-record
-invariant-loop-record g l =
-    Written (g.W.Write.contents l.initial.writer) (g.W.Write.contents l.writer) (flat_map g.L.Line.line l.records)
-    (flat_map g.L.Line.line (drop l.record-index l.records))

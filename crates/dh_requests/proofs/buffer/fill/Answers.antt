@@ -1,0 +1,12 @@
+use Rattle.std.proofs.Common.{◌∙◌, arith}
+use Rattle.dh_requests.proofs.Taking.{takes_both}
+use Rattle.dh_requests.proofs.buffer.fill.Goals as goal
+
+pub loop-filled-preserved : goal.loop-filled-preserved
+loop-filled-preserved g c = record {
+  room = c.read_more.ensures.length ∙ c.loop-filled.invariant.room;
+  within = c.in_ok-total.ensures.within.1;
+  read = λ start h. c.in_ok-total.ensures.bytes start (c.loop-filled.invariant.read start h);
+  taken = takes_both _ _ _ _ _ _ c.loop-filled.invariant.taken c.in_ok-total.ensures.taken (omega (arith, c.in_ok-total.ensures.within.0));
+  reached = omega (arith, c.in_ok-total.ensures.within.0);
+}

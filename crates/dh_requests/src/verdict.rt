@@ -1,0 +1,200 @@
+//! Judging a request by its head.
+
+ghost use Rattle.std.specs.Prelude.{◌≡◌, ◌↔◌, ◌≢◌, ◌∷◌, ℕ, List, map, length, All, IsTrue, IfOk, Err, codes};
+ghost use Rattle.httparse.specs.Grammar.{RequestHead};
+ghost use Rattle.httparse.specs.Spans.{IsHeaderWithin};
+ghost use Rattle.dh_requests.specs.Targets.{IsTarget};
+ghost use Rattle.dh_requests.specs.Requests.{IsByMethod, IsOfHead, IsOfRoute, IsQuestionOf, NeedsMemory, TakesMemory, taken_as, turned_by_lines};
+ghost use Rattle.dh_fields.specs.Lines.{request_of};
+ghost use Rattle.dh_requests.specs.Steps.{Behind, HoldsHead, IsHeadOf, TakesBody, TakesOrder, read_behind};
+
+use crate::asked::{Asked, Turned};
+use crate::command_body::judge_command;
+use crate::failure::Failure;
+use crate::header_lines::{body_length, count};
+use crate::pieces::pieces_of;
+use crate::routes::{Route, Routes};
+use crate::unread::Unread;
+use dh_fields::{Request, read_fields};
+use dh_types::Refusal;
+use httparse::spans::{HeaderSpan, RequestSpans};
+use std::alloc::{AllocError, Global};
+use std::io::Read;
+use std::str;
+
+/// The bytes that were read, and where in them the head of the request stands.
+#[derive(Clone, Copy)]
+pub(crate) struct Found<'a> {
+    pub(crate) front: &'a [u8],
+    pub(crate) headers: &'a [HeaderSpan],
+    pub(crate) spans: RequestSpans,
+}
+
+// The request's method is this one.
+fn is_method(method: &[u8], wanted: &[u8]) -> bool
+    ensures { IsTrue result ↔ (method.now ≡ wanted.now) }
+{
+    method == wanted
+}
+
+// Why the header lines turn the request away, if they do.
+fn turned_by_lines(found: &Found) -> Option<Turned>
+    requires { HoldsHead found.now }
+    ensures { (h : RequestHead) → IsHeadOf found.now h → result ≡ turned_by_lines h }
+{
+    let lines = &found.headers[..found.spans.headers];
+    if found.spans.version == 1 && count(found.front, lines, b"host") != 1 {
+        return Some(Turned::BadRequest);
+    }
+    if count(found.front, lines, b"transfer-encoding") > 0 {
+        return Some(Turned::NotImplemented);
+    }
+    None
+}
+
+// The request's target. In the grammar of heads it is a text.
+fn target_of<'a>(found: &Found<'a>) -> &'a str
+    requires at { (h : RequestHead) × IsHeadOf found.now h }
+    requires within { HoldsHead found.now }
+    ensures { (h : RequestHead) → IsHeadOf found.now h → result.now ≡ h.target }
+{
+    match str::from_utf8(found.spans.path.of(found.front)) {
+        Ok(target) => target,
+        Err(_) => unreachable!(),
+    }
+}
+
+// The request of the question of a word, with as many pieces.
+fn read_pieces<'a>(
+    alloc: Global,
+    word: &'a [u8],
+    count: usize,
+    first: &'a [u8],
+    second: &'a [u8],
+) -> Result<Result<Request, Refusal>, AllocError>
+    ensures { (pieces : List (List ℕ)) → count ≡ length pieces
+        → IfOk result (λ request. request ≡ request_of (codes "show" ∷ word.now ∷ taken_as pieces first.now second.now)) }
+{
+    match count {
+        0 => read_fields(alloc, &[b"show", word]),
+        1 => read_fields(alloc, &[b"show", word, first]),
+        _ => read_fields(alloc, &[b"show", word, first, second]),
+    }
+}
+
+// The request of the question that a target asks by its route.
+fn read_question(
+    alloc: Global,
+    route: Route,
+    target: &[u8],
+) -> Result<Result<Request, Refusal>, AllocError>
+    requires target { IsTarget route target.now }
+    requires asks { route ≢ Route.Commands }
+    ensures { IfOk result (λ request. IsQuestionOf route target.now (Asked.Fields request)) }
+{
+    let (first, second) = pieces_of(route, target);
+    let (word, count) = route.words();
+    read_pieces(alloc, word.as_bytes(), count, first, second)
+}
+
+// What a request asks for whose target has the route of a question.
+fn judge_question(
+    alloc: Global,
+    method: &[u8],
+    route: Route,
+    target: &[u8],
+) -> Result<Asked, Unread>
+    requires target { IsTarget route target.now }
+    requires asks { route ≢ Route.Commands }
+    ensures asks { IfOk result (λ asked. IsByMethod (codes "GET") method.now Turned.OnlyByGet asked (IsQuestionOf route target.now asked)) }
+    ensures memory { result ≡ Err Unread.Memory → method.now ≡ codes "GET" }
+    ensures lost { result ≢ Err Unread.Input }
+{
+    if !is_method(method, b"GET") {
+        return Ok(Asked::Turned(Turned::OnlyByGet));
+    }
+    let request = read_question(alloc, route, target)?;
+    Ok(Asked::Fields(request))
+}
+
+// What a request asks for whose target is the route of commands.
+fn judge_order<R: Read>(
+    alloc: Global,
+    reader: &mut R,
+    failure: &mut Failure,
+    found: &Found,
+) -> Result<Asked, Unread>
+    requires { HoldsHead found.now }
+    ensures asks { (h : RequestHead) → IsHeadOf found.now h
+        → IfOk result (λ asked. Behind (read_behind found.now) (R.remaining reader.old) (λ rest. IsOfRoute Route.Commands h rest asked)) }
+    ensures taken { (h : RequestHead) → IsHeadOf found.now h → TakesOrder h (read_behind found.now) (R.remaining reader.old) (R.remaining reader.new) }
+    ensures memory { result ≡ Err Unread.Memory → (h : RequestHead) → IsHeadOf found.now h → NeedsMemory Route.Commands h }
+    ensures lost { result ≡ Err Unread.Input → IsTrue failure.new.noted }
+{
+    if !is_method(found.spans.method.of(found.front), b"POST") {
+        return Ok(Asked::Turned(Turned::OnlyByPost));
+    }
+    let length = body_length(found.front, &found.headers[..found.spans.headers]);
+    judge_command(
+        alloc,
+        reader,
+        failure,
+        &found.front[found.spans.len..],
+        length,
+    )
+}
+
+// What a request asks for whose target has this route.
+fn judge_route<R: Read>(
+    alloc: Global,
+    reader: &mut R,
+    failure: &mut Failure,
+    found: &Found,
+    route: Route,
+    target: &str,
+) -> Result<Asked, Unread>
+    requires within { HoldsHead found.now }
+    requires target { IsTarget route target.now }
+    ensures asks { (h : RequestHead) → IsHeadOf found.now h → target.now ≡ h.target
+        → IfOk result (λ asked. Behind (read_behind found.now) (R.remaining reader.old) (λ rest. IsOfRoute route h rest asked)) }
+    ensures taken { (h : RequestHead) → IsHeadOf found.now h → target.now ≡ h.target
+        → TakesBody h (read_behind found.now) (R.remaining reader.old) (R.remaining reader.new) }
+    ensures memory { result ≡ Err Unread.Memory → (h : RequestHead) → IsHeadOf found.now h → target.now ≡ h.target → NeedsMemory route h }
+    ensures lost { result ≡ Err Unread.Input → IsTrue failure.new.noted }
+{
+    match route {
+        Route::Commands => judge_order(alloc, reader, failure, found),
+        _ => {
+            let method = found.spans.method.of(found.front);
+            judge_question(alloc, method, route, target.as_bytes())
+        }
+    }
+}
+
+/// What a request with a head within the limits asks for.
+pub(crate) fn judge<R: Read>(
+    alloc: Global,
+    routes: &Routes,
+    reader: &mut R,
+    failure: &mut Failure,
+    found: &Found,
+) -> Result<Asked, Unread>
+    requires at { (h : RequestHead) × IsHeadOf found.now h }
+    requires within { HoldsHead found.now }
+    ensures asks { (h : RequestHead) → IsHeadOf found.now h
+        → IfOk result (λ asked. Behind (read_behind found.now) (R.remaining reader.old) (λ rest. IsOfHead h rest asked)) }
+    ensures taken { (h : RequestHead) → IsHeadOf found.now h → TakesBody h (read_behind found.now) (R.remaining reader.old) (R.remaining reader.new) }
+    ensures memory { result ≡ Err Unread.Memory → (h : RequestHead) → IsHeadOf found.now h → TakesMemory h }
+    ensures lost { result ≡ Err Unread.Input → IsTrue failure.new.noted }
+{
+    match turned_by_lines(found) {
+        Some(why) => Ok(Asked::Turned(why)),
+        None => {
+            let target = target_of(found);
+            match routes.of(target) {
+                Some(route) => judge_route(alloc, reader, failure, found, route, target),
+                None => Ok(Asked::Turned(Turned::NotFound)),
+            }
+        }
+    }
+}

@@ -1,0 +1,78 @@
+//! A batch in one transaction.
+
+ghost use Rattle.std.specs.Prelude.{◌≡◌, ◌≤◌, ◌⊎◌, IsTrue, IfOk, IfErr, OnOk, OnErr};
+ghost use Rattle.sqlite.specs.State.{HasCleanDisk};
+ghost use Rattle.sqlite.specs.Held.{state};
+ghost use Rattle.sqlite_trees.specs.View.{doubt};
+ghost use Rattle.dh_laws.specs.Batches.{IsUnderWay, next_batch};
+ghost use Rattle.dh_leases.specs.Plans.{IsPlanOf};
+ghost use Rattle.dh_schema.specs.Faults.{IsFirstFault};
+ghost use Rattle.dh_schema.specs.Store.{IsReady, IsReadyWith, Leaves, StaysReady, tables};
+ghost use Rattle.dh_runs.specs.Batches.{CanBePosted, batch_told};
+
+use crate::plan::plan_run;
+use crate::rows::PostedRows;
+use dh_leases::Plan;
+use dh_schema::{StoreFault, commit};
+use sqlite::{Alter, Connection};
+use std::alloc::Global;
+
+/// What posting a batch comes to.
+#[derive(Clone, Copy, Debug, PartialEq, Eq)]
+pub enum Batch {
+    /// One more is done: so many of so many.
+    Posted { done: u128, of: u128 },
+    /// No batch of the run was left.
+    NoneLeft,
+}
+
+// Posts the first batch of the plan, if it has one.
+fn post_first<S: Alter>(
+    alloc: Global,
+    conn: &mut Connection<S>,
+    plan: &Plan,
+) -> Result<Batch, StoreFault>
+    requires ready { HasCleanDisk (state S.Store conn.old) → IsReady (state S.Store conn.old) }
+    requires plan { HasCleanDisk (state S.Store conn.old) → IsPlanOf plan.now (tables (state S.Store conn.old)) }
+    requires postable { CanBePosted plan.now }
+    ensures told { HasCleanDisk (state S.Store conn.new)
+        → IfOk result (λ it. it ≡ batch_told (tables (state S.Store conn.old)).books (tables (state S.Store conn.old)).open_run) }
+    ensures done { HasCleanDisk (state S.Store conn.new)
+        → OnOk result (IsReadyWith (state S.Store conn.new) (λ t. t ≡ next_batch (tables (state S.Store conn.old)))) }
+    ensures undone { HasCleanDisk (state S.Store conn.new) → IsTrue (state S.Store conn.new).is_open
+        → OnErr result (StaysReady (state S.Store conn.old) (state S.Store conn.new)) }
+    ensures cause { IfErr result IsFirstFault }
+    ensures crash { HasCleanDisk (state S.Store conn.new)
+        → Leaves (state S.Store conn.new) (λ t. (t ≡ tables (state S.Store conn.old)) ⊎ (t ≡ next_batch (tables (state S.Store conn.old)))) }
+    ensures was_clean { doubt (state S.Store conn.old).is_clean ≤ doubt (state S.Store conn.new).is_clean }
+{
+    let Some(rows) = plan.batches.first() else {
+        return Ok(Batch::NoneLeft);
+    };
+    commit(alloc, conn, &PostedRows { rows })?;
+    Ok(Batch::Posted {
+        done: plan.done + 1,
+        of: plan.done + plan.batches.len() as u128,
+    })
+}
+
+/// Posts the next batch of the open run, in one transaction, where one is left; it has at most fifty charges.
+pub fn post_batch<S: Alter>(alloc: Global, conn: &mut Connection<S>) -> Result<Batch, StoreFault>
+    requires ready { HasCleanDisk (state S.Store conn.old) → IsReady (state S.Store conn.old) }
+    requires run { HasCleanDisk (state S.Store conn.old) → IsUnderWay (tables (state S.Store conn.old)).open_run }
+    ensures told { HasCleanDisk (state S.Store conn.new)
+        → IfOk result (λ it. it ≡ batch_told (tables (state S.Store conn.old)).books (tables (state S.Store conn.old)).open_run) }
+    ensures done { HasCleanDisk (state S.Store conn.new)
+        → OnOk result (IsReadyWith (state S.Store conn.new) (λ t. t ≡ next_batch (tables (state S.Store conn.old)))) }
+    ensures undone { HasCleanDisk (state S.Store conn.new) → IsTrue (state S.Store conn.new).is_open
+        → OnErr result (StaysReady (state S.Store conn.old) (state S.Store conn.new)) }
+    ensures cause { IfErr result IsFirstFault }
+    ensures crash { HasCleanDisk (state S.Store conn.new)
+        → Leaves (state S.Store conn.new) (λ t. (t ≡ tables (state S.Store conn.old)) ⊎ (t ≡ next_batch (tables (state S.Store conn.old)))) }
+    ensures was_clean { doubt (state S.Store conn.old).is_clean ≤ doubt (state S.Store conn.new).is_clean }
+{
+    match plan_run(alloc, conn)? {
+        Some(plan) => post_first(alloc, conn, &plan),
+        None => Err(StoreFault::unclean(conn)),
+    }
+}
