@@ -59,7 +59,8 @@ impl<S: Alter> Agency<S> {
     pub fn step(&mut self, alloc: Global, command: &Command) -> Result<Reply, Fault>
         ensures said { IsClean S.Store self.new → IfOk result (λ reply. IsAnsweredBy command.now reply (machine S.Store self.old) (machine S.Store self.new)) }
         ensures left { IsClean S.Store self.new → OnOk result (LeavesItsTables S.Store self.new) }
-        ensures crash { IsClean S.Store self.new → self.old.is_stopped ≡ false → Leaves S.Store self.new (IsInterrupted command.now (machine S.Store self.old)) }
+        ensures crash { IsClean S.Store self.new → self.old.is_stopped ≡ false
+            → Leaves S.Store self.new (IsInterrupted command.now (machine S.Store self.old)) }
         ensures halted { IsClean S.Store self.new → self.old.is_stopped ≡ false → IsOpen S.Store self.new
             → OnErr result (ReadsAs S.Store self.new (IsInterrupted command.now (machine S.Store self.old))) }
         ensures ends { Ends S.Store self.old self.new result }

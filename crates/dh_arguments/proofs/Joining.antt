@@ -1,5 +1,6 @@
 -- How words are joined, word by word.
-use Rattle.std.proofs.Common.{◌≡◌, ◌++◌, ◌∙◌, ◌||◌, ◌+◌, ◌-◌, ◌<◌, ℕ, Bool, cond, true, false, List, [], ◌∷◌, Bor, length, drop, take, map, get_or, codes, bytes_eq}
+use Rattle.std.proofs.Common.{◌≡◌, ◌++◌, ◌∙◌, ◌||◌, ◌+◌, ◌-◌, ◌<◌, ℕ, Bool, cond, true, false}
+use Rattle.std.proofs.Common.{List, [], ◌∷◌, Bor, length, drop, take, map, get_or, codes, bytes_eq}
 use Rattle.std.proofs.Common.{refl, ap, sym, subst, suc, arith, append_assoc, add-one, drop-cons, take_all, length-drop, length-take}
 use Rattle.std.proofs.lemmas.List.{drop-map, length-map, map-append}
 use Rattle.clap.specs.Words.{Text}
@@ -37,7 +38,8 @@ module _ (done all : List Text) where
   with_word true word rest h alone = more word _ rest h refl
   with_word false word rest h alone = by (bytes_eq word (codes "--")) refl alone
     where
-      by : (ends : Bool) → bytes_eq word (codes "--") ≡ ends → (ends ≡ false → begin_with_pair (word ∷ rest) ≡ false) → (done ++ word ∷ []) ++ left ends rest ≡ all
+      by : (ends : Bool) → bytes_eq word (codes "--") ≡ ends → (ends ≡ false → begin_with_pair (word ∷ rest) ≡ false)
+          → (done ++ word ∷ []) ++ left ends rest ≡ all
       by true is alone = more word _ rest h (joined_end word rest is)
       by false is alone = more word _ (joined rest) h (joined_word word rest is (alone refl))
 
@@ -73,7 +75,8 @@ module _ (xs : List (Bor Text)) (d : Bor Text) where
 
   module _ {A : Type 0} (f : A → Text) (all : List Text) (new old : List A) (it : A) (at : ℕ) (put_in : new ≡ old ++ it ∷ []) where
     pub after_word : (was now : Bool) → at < length xs → f it ≡ (get_or xs at d).now → map f old ++ left was (drop at (map (λ word. word.now) xs)) ≡ all
-        → now ≡ (was || bytes_eq (get_or xs at d).now (codes "--")) → (now ≡ false → begin_with_pair (map (λ word. word.now) (take (length xs - at) (drop at xs))) ≡ false)
+        → now ≡ (was || bytes_eq (get_or xs at d).now (codes "--")) → (now ≡ false
+        → begin_with_pair (map (λ word. word.now) (take (length xs - at) (drop at xs))) ≡ false)
         → map f new ++ left now (drop (at + 1) (map (λ word. word.now) xs)) ≡ all
     after_word was now within named h is alone =
         let word = (get_or xs at d).now in
@@ -84,7 +87,8 @@ module _ (xs : List (Bor Text)) (d : Bor Text) where
 
     pub after_pair : at + 1 < length xs → f it ≡ (get_or xs at d).now ++ codes "=" ++ (get_or xs (at + 1) d).now
         → map f old ++ joined (drop at (map (λ word. word.now) xs)) ≡ all → bytes_eq (get_or xs at d).now (codes "--") ≡ false
-        → begin_with_pair (map (λ word. word.now) (take (length xs - at) (drop at xs))) ≡ true → map f new ++ joined (drop (at + 2) (map (λ word. word.now) xs)) ≡ all
+        → begin_with_pair (map (λ word. word.now) (take (length xs - at) (drop at xs))) ≡ true
+        → map f new ++ joined (drop (at + 2) (map (λ word. word.now) xs)) ≡ all
     after_pair within named h goes_on pair =
         let option = (get_or xs at d).now in
         let value = (get_or xs (at + 1) d).now in

@@ -36,7 +36,8 @@ module _ (kind : Kind) (b : Inside) {now : State} (view : state_of b ≡ now) (e
   listed sorted is = is ∙ ap (map (λ e. e.1)) (entries_are sorted)
 
   module _ (key : key_of kind) (row : record_of kind) (fs : List (key_of kind × record_of kind))
-      (writes : (q : key_of kind) → lookup (is_at (order_of kind q)) fs ≡ cond (is_at (order_of kind key) q) (Some row) (lookup (is_at (order_of kind q)) es)) where
+      (writes : (q : key_of kind) → lookup (is_at (order_of kind q)) fs
+      ≡ cond (is_at (order_of kind key) q) (Some row) (lookup (is_at (order_of kind q)) es)) where
     pub put : with_rows (from_entries fs) (state_of b) ≡ with_rows (insert (records_of kind now.books) key row) now
     put =
         ap (λ rows. with_rows rows (state_of b)) (one-given (total_of kind) (ties_of kind) es fs key row writes ∙ ap (λ rows. insert rows key row) (sym held))

@@ -1,6 +1,7 @@
 //! Our tables as the store reads them, how they are made, and which version of them a store has exactly.
 #![tactic(auto)]
 
+mod columns;
 mod creation;
 mod ours;
 mod same;

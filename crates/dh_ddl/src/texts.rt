@@ -1,122 +1,73 @@
 //! The texts that make the tables and their indexes. A table comes behind those that it refers to.
 
+use crate::{
+    branch_columns, branch_fee_columns, charge_columns, client_columns, ending_columns,
+    inspection_columns, lease_columns, meta_columns, owner_columns, part_columns, part_fee_columns,
+    property_columns, receipt_columns, registration_columns, run_columns, staff_columns,
+    viewing_columns,
+};
+
 /// `meta`: one row with the version and the months.
-pub const META: &str = "CREATE TABLE meta (\
-    id INTEGER PRIMARY KEY, \
-    version INTEGER NOT NULL, \
-    first_month INTEGER NOT NULL, \
-    next_month INTEGER NOT NULL) STRICT";
+pub const META: &str = meta_columns!(table, "CREATE TABLE meta (", ") STRICT");
 
 /// `branch`: a row a branch, by its number.
-pub const BRANCH: &str = "CREATE TABLE branch (\
-    branch_no TEXT NOT NULL PRIMARY KEY, \
-    street TEXT NOT NULL, \
-    city TEXT NOT NULL, \
-    postcode TEXT NOT NULL) STRICT";
+pub const BRANCH: &str = branch_columns!(table, "CREATE TABLE branch (", ") STRICT");
 
 /// `staff`: a row a member of staff, by the number.
-pub const STAFF: &str = "CREATE TABLE staff (\
-    staff_no TEXT NOT NULL PRIMARY KEY, \
-    name TEXT NOT NULL, \
-    position TEXT NOT NULL, \
-    branch_no TEXT NOT NULL REFERENCES branch) STRICT";
+pub const STAFF: &str = staff_columns!(table, "CREATE TABLE staff (", ") STRICT");
 
 /// `owner`: a row an owner, by the number.
-pub const OWNER: &str = "CREATE TABLE owner (\
-    owner_no TEXT NOT NULL PRIMARY KEY, \
-    name TEXT NOT NULL, \
-    address TEXT NOT NULL, \
-    telephone TEXT NOT NULL) STRICT";
+pub const OWNER: &str = owner_columns!(table, "CREATE TABLE owner (", ") STRICT");
 
 /// `property`: a row a property, by its number; staff_no is NULL where nobody manages it.
-pub const PROPERTY: &str = "CREATE TABLE property (\
-    property_no TEXT NOT NULL PRIMARY KEY, \
-    street TEXT NOT NULL, \
-    city TEXT NOT NULL, \
-    postcode TEXT NOT NULL, \
-    type TEXT NOT NULL, \
-    rooms INTEGER NOT NULL, \
-    rent INTEGER NOT NULL, \
-    owner_no TEXT NOT NULL REFERENCES owner, \
-    staff_no TEXT REFERENCES staff, \
-    branch_no TEXT NOT NULL REFERENCES branch) STRICT";
+pub const PROPERTY: &str = property_columns!(table, "CREATE TABLE property (", ") STRICT");
 
 /// `client`: a row a client, by the number.
-pub const CLIENT: &str = "CREATE TABLE client (\
-    client_no TEXT NOT NULL PRIMARY KEY, \
-    name TEXT NOT NULL, \
-    telephone TEXT NOT NULL, \
-    pref_type TEXT NOT NULL, \
-    max_rent INTEGER NOT NULL) STRICT";
+pub const CLIENT: &str = client_columns!(table, "CREATE TABLE client (", ") STRICT");
 
 /// `registration`: a row a client and a branch.
-pub const REGISTRATION: &str = "CREATE TABLE registration (\
-    client_no TEXT NOT NULL REFERENCES client, \
-    branch_no TEXT NOT NULL REFERENCES branch, \
-    staff_no TEXT NOT NULL REFERENCES staff, \
-    day TEXT NOT NULL, \
-    PRIMARY KEY (client_no, branch_no)) STRICT";
+pub const REGISTRATION: &str = registration_columns!(
+    table,
+    "CREATE TABLE registration (",
+    ", PRIMARY KEY (client_no, branch_no)) STRICT"
+);
 
 /// `viewing`: a row a client and a property; comment is NULL where there is none.
-pub const VIEWING: &str = "CREATE TABLE viewing (\
-    client_no TEXT NOT NULL REFERENCES client, \
-    property_no TEXT NOT NULL REFERENCES property, \
-    day TEXT NOT NULL, \
-    comment TEXT, \
-    PRIMARY KEY (client_no, property_no)) STRICT";
+pub const VIEWING: &str = viewing_columns!(
+    table,
+    "CREATE TABLE viewing (",
+    ", PRIMARY KEY (client_no, property_no)) STRICT"
+);
 
 /// `inspection`: a row a property and a day.
-pub const INSPECTION: &str = "CREATE TABLE inspection (\
-    property_no TEXT NOT NULL REFERENCES property, \
-    day TEXT NOT NULL, \
-    staff_no TEXT NOT NULL REFERENCES staff, \
-    comment TEXT NOT NULL, \
-    PRIMARY KEY (property_no, day)) STRICT";
+pub const INSPECTION: &str = inspection_columns!(
+    table,
+    "CREATE TABLE inspection (",
+    ", PRIMARY KEY (property_no, day)) STRICT"
+);
 
 /// `lease`: a row a lease, by its number.
-pub const LEASE: &str = "CREATE TABLE lease (\
-    lease_no INTEGER PRIMARY KEY, \
-    client_no TEXT NOT NULL REFERENCES client, \
-    property_no TEXT NOT NULL REFERENCES property, \
-    start_day TEXT NOT NULL, \
-    months INTEGER NOT NULL, \
-    method TEXT NOT NULL, \
-    rent INTEGER NOT NULL) STRICT";
+pub const LEASE: &str = lease_columns!(table, "CREATE TABLE lease (", ") STRICT");
 
 /// `charge`: a row a charge of a lease, by its place k among them.
-pub const CHARGE: &str = "CREATE TABLE charge (\
-    lease_no INTEGER NOT NULL REFERENCES lease, \
-    k INTEGER NOT NULL, \
-    month INTEGER NOT NULL, \
-    day TEXT NOT NULL, \
-    amount INTEGER NOT NULL, \
-    PRIMARY KEY (lease_no, k)) STRICT";
+pub const CHARGE: &str = charge_columns!(
+    table,
+    "CREATE TABLE charge (",
+    ", PRIMARY KEY (lease_no, k)) STRICT"
+);
 
 /// `receipt`: a row a receipt, by its number; no two have the same request key.
-pub const RECEIPT: &str = "CREATE TABLE receipt (\
-    receipt_no INTEGER PRIMARY KEY, \
-    req_key TEXT NOT NULL UNIQUE, \
-    lease_no INTEGER NOT NULL REFERENCES lease, \
-    kind TEXT NOT NULL, \
-    amount INTEGER NOT NULL, \
-    day TEXT NOT NULL) STRICT";
+pub const RECEIPT: &str = receipt_columns!(table, "CREATE TABLE receipt (", ") STRICT");
 
 /// `run`: a row a month whose run was opened; no two have the same request key.
-pub const RUN: &str = "CREATE TABLE run (\
-    month INTEGER PRIMARY KEY, \
-    req_key TEXT NOT NULL UNIQUE, \
-    due_count INTEGER NOT NULL, \
-    due_total INTEGER NOT NULL, \
-    closed INTEGER NOT NULL) STRICT";
+pub const RUN: &str = run_columns!(table, "CREATE TABLE run (", ") STRICT");
 
 /// `part`: a row a branch and a month: what the run has done there.
-pub const PART: &str = "CREATE TABLE part (\
-    month INTEGER NOT NULL REFERENCES run, \
-    branch_no TEXT NOT NULL REFERENCES branch, \
-    through_lease INTEGER NOT NULL, \
-    due_count INTEGER NOT NULL, \
-    due_total INTEGER NOT NULL, \
-    PRIMARY KEY (month, branch_no)) STRICT";
+pub const PART: &str = part_columns!(
+    table,
+    "CREATE TABLE part (",
+    ", PRIMARY KEY (month, branch_no)) STRICT"
+);
 
 /// The index of the properties that a member of staff manages.
 pub const PROPERTY_STAFF: &str = "CREATE INDEX property_staff ON property (staff_no)";
@@ -143,23 +94,17 @@ pub const RECEIPT_LEASE: &str = "CREATE INDEX receipt_lease ON receipt (lease_no
 pub const VIEWING_PROPERTY: &str = "CREATE INDEX viewing_property ON viewing (property_no)";
 
 /// `branch_fee`: a row a branch whose fee was set, by its number.
-pub const BRANCH_FEE: &str = "CREATE TABLE branch_fee (\
-    branch_no TEXT NOT NULL PRIMARY KEY REFERENCES branch, \
-    fee INTEGER NOT NULL) STRICT";
+pub const BRANCH_FEE: &str = branch_fee_columns!(table, "CREATE TABLE branch_fee (", ") STRICT");
 
 /// `part_fee`: a row a part of a run: the fee that its branch had, and what it comes to.
-pub const PART_FEE: &str = "CREATE TABLE part_fee (\
-    month INTEGER NOT NULL, \
-    branch_no TEXT NOT NULL, \
-    fee INTEGER NOT NULL, \
-    fee_total INTEGER NOT NULL, \
-    PRIMARY KEY (month, branch_no), \
-    FOREIGN KEY (month, branch_no) REFERENCES part) STRICT";
+pub const PART_FEE: &str = part_fee_columns!(
+    table,
+    "CREATE TABLE part_fee (",
+    ", PRIMARY KEY (month, branch_no), FOREIGN KEY (month, branch_no) REFERENCES part) STRICT"
+);
 
 /// `ending`: a row a lease that ends early, by its number.
-pub const ENDING: &str = "CREATE TABLE ending (\
-    lease_no INTEGER PRIMARY KEY REFERENCES lease, \
-    months INTEGER NOT NULL) STRICT";
+pub const ENDING: &str = ending_columns!(table, "CREATE TABLE ending (", ") STRICT");
 
 /// The text that takes away the index of [`VIEWING_PROPERTY`].
 pub const DROP_VIEWING_PROPERTY: &str = "DROP INDEX viewing_property";

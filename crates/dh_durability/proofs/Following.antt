@@ -20,7 +20,8 @@ use Rattle.dh_runs.proofs.Taken.{its_schema}
 use Rattle.dh_runs.specs.Told.{IsInterrupted, IsRecovered, IsAnsweredBy, IsMidRecovery, reply_of}
 use Rattle.dh_agency.specs.Taken.{TakesAsTheyAre}
 use Rattle.dh_durability.specs.Calls.{Answers, Breaks, BreaksRecovery, Call, IsSame, Tells}
-use Rattle.dh_durability.specs.Calls.{Stepped, StepInterrupted, Resumed, ResumeInterrupted, Shown, ShowInterrupted, Attached, AttachInterrupted, Recovered, RecoveryInterrupted}
+use Rattle.dh_durability.specs.Calls.{Stepped, StepInterrupted, Resumed, ResumeInterrupted, Shown}
+use Rattle.dh_durability.specs.Calls.{ShowInterrupted, Attached, AttachInterrupted, Recovered, RecoveryInterrupted}
 use Rattle.dh_durability.specs.Histories.{GoesOn, Happened, IsOpenedAnew, IsSoundIn, Moment, event_of, events_of, tables_of, with_event}
 use Rattle.dh_durability.specs.HistoryLaws.{HistoriesAreEvents}
 
@@ -67,7 +68,8 @@ module _ (old new : State) (clean : HasCleanDisk new) where
   left_by (Stepped told reply) sound it = answered (IsAnsweredBy told reply) it
   left_by (StepInterrupted told) sound it = broken (IsInterrupted told) it
   left_by (Resumed most run) sound it = answered (IsAnsweredBy (command.Post most) (reply_of run)) it
-  left_by (ResumeInterrupted most) sound it = weaker (IsPostedInPart most) (IsInterrupted (command.Post most)) (λ t part. inl part) (broken (IsPostedInPart most) it)
+  left_by (ResumeInterrupted most) sound it = weaker (IsPostedInPart most) (IsInterrupted (command.Post most)) (λ t part. inl part)
+      (broken (IsPostedInPart most) it)
   left_by Shown sound it = answered IsSame it
   left_by ShowInterrupted sound it = broken IsSame it
   left_by Attached sound it =

@@ -19,15 +19,15 @@ use Rattle.dh_laws.specs.Kept.{Kept, NoneLeft, AnswerCounts, UndoneIsLeftOut, Do
 use Rattle.dh_laws.proofs.LifeLemmas.Tables.{mended_whole}
 use Rattle.dh_laws.proofs.CommandLemmas.Whole.{own_state, shows_none}
 use Rattle.dh_schema.specs.Store.{AreTables, tables}
-use Rattle.dh_schema.specs.Tables.{IsSound, state_in, tables_in}
+use Rattle.dh_schema.specs.Tables.{IsSound, state_in}
 use Rattle.dh_schema.proofs.Keyed.{sound_tables_show_their_run}
 use Rattle.dh_migration.specs.Migrated.{migrated_state}
 use Rattle.dh_migration.specs.Moved.{CanBeMigrated}
-use Rattle.dh_durability.specs.Calls.{Answers, Recovered}
+use Rattle.dh_durability.specs.Calls.{Recovered}
 use Rattle.dh_durability.specs.Histories.{IsSoundIn, Moment, event_of, events_of, tables_of, with_event}
 use Rattle.dh_durability.specs.HistoryLaws.{StandBehind}
 use Rattle.dh_durability.specs.Migrations as moved
-use Rattle.dh_durability.specs.Migrations.{AreSteps, Attempt, Attempted, EndsWith, IsMigration, MachinesOverMigrations, NoneMigrates, Outcome, StandsMoved}
+use Rattle.dh_durability.specs.Migrations.{AreSteps, Attempt, Attempted, EndsWith, IsMigration, MachinesOverMigrations, Outcome}
 use Rattle.dh_durability.specs.Migrations.{StandsThrough, StandsUnmoved, Step, StepsStandOverMigrations, calls_of, found_behind, stand_at}
 use Rattle.dh_durability.specs.Migrations.{Called, Tried, Migrated, Refused, Broken}
 use Rattle.dh_durability.specs.Migrations.{AnsweredAttemptsMigrate, DaysAreMigrated, FilesAreMigratedLater, MigratesFrom, RecoveredFilesAreMigrated}
@@ -60,7 +60,8 @@ kept_on event.Recovered t u events told last shown h kept =
     let books = from_books u (whole batch_size t.books) events told last (mended_whole batch_size u (whole batch_size t.books) h shown) kept in
     let none : u.run ≡ None = ap (λ (v : Tables). v.run) h in (
       told,
-      RecoveryEnds (subst (λ (run : Option OpenRun). Kept batch_size (record { books = whole batch_size t.books; open_run = run }) events told last) none books),
+      RecoveryEnds (subst (λ (run : Option OpenRun). Kept batch_size (record { books = whole batch_size t.books; open_run = run }) events told last)
+          none books),
     )
 
 -- ---- whether tables can be migrated
@@ -416,7 +417,8 @@ module _ {S : Type 0} (g : Ghosts S) where
   only_calls [] = refl
   only_calls (it ∷ day) = ap (λ (calls : List (Moment S)). it ∷ calls) (only_calls day)
 
-  of_calls : (first : Held S) (steps : List (Step S)) (calls : List (Moment S)) (it : Attempt S) → calls_of steps ≡ calls → MigratesFrom g first (calls_of steps) it
+  of_calls : (first : Held S) (steps : List (Step S)) (calls : List (Moment S)) (it : Attempt S) → calls_of steps ≡ calls
+      → MigratesFrom g first (calls_of steps) it
       → MigratesFrom g first calls it
   of_calls first steps calls it is h = subst (λ (c : List (Moment S)). MigratesFrom g first c it) is h
 

@@ -18,7 +18,8 @@ use Rattle.dh_agency.specs.Agency.{LeavesItsTables, machine as machine_of}
 use Rattle.dh_agency.specs.Seat.{Seat}
 use Rattle.dh_durability.specs.Answered.{NothingNewLeavesTheTables, StandingTellsTheTables}
 use Rattle.dh_durability.specs.Calls.{Call}
-use Rattle.dh_durability.specs.Calls.{Stepped, StepInterrupted, Resumed, ResumeInterrupted, Shown, ShowInterrupted, Attached, AttachInterrupted, Recovered, RecoveryInterrupted}
+use Rattle.dh_durability.specs.Calls.{Stepped, StepInterrupted, Resumed, ResumeInterrupted, Shown}
+use Rattle.dh_durability.specs.Calls.{ShowInterrupted, Attached, AttachInterrupted, Recovered, RecoveryInterrupted}
 use Rattle.dh_durability.specs.Histories.{IsSoundIn, event_of, is_of_no_news}
 use Rattle.dh_durability.specs.HistoryLaws.{TablesStayWithoutNews}
 use Rattle.dh_durability.proofs.Ending.{sound_in_order}

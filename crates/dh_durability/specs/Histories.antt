@@ -13,7 +13,8 @@ use Rattle.dh_tables.specs.Calls.{HasOurTables}
 use Rattle.dh_schema.specs.Store.{tables}
 use Rattle.dh_schema.specs.Tables.{IsSound, tables_in}
 use Rattle.dh_runs.specs.Told.{reply_of}
-use Rattle.dh_durability.specs.Calls.{Call, Stepped, StepInterrupted, Resumed, ResumeInterrupted, Shown, ShowInterrupted, Attached, AttachInterrupted, Recovered, RecoveryInterrupted, Tells}
+use Rattle.dh_durability.specs.Calls.{Call, Stepped, StepInterrupted, Resumed, ResumeInterrupted, Shown}
+use Rattle.dh_durability.specs.Calls.{ShowInterrupted, Attached, AttachInterrupted, Recovered, RecoveryInterrupted, Tells}
 
 -- A call, the connection as it ended or as the stop came, and the connection that the next call finds.
 pub record Moment (S : Type 0) : Type 0 where

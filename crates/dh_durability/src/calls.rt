@@ -15,7 +15,8 @@ ghost use Rattle.dh_runs.specs.Told.{IsInterrupted};
 ghost use Rattle.dh_agency.specs.Agency.{IsClean, Leaves, machine, shown_by};
 ghost use Rattle.dh_agency.specs.Taken.{TakesForward};
 ghost use Rattle.dh_durability.specs.Calls.{Tells};
-ghost use Rattle.dh_durability.specs.Calls.{AttachInterrupted, Attached, Recovered, RecoveryInterrupted, ResumeInterrupted, Resumed, ShowInterrupted, Shown, StepInterrupted, Stepped};
+ghost use Rattle.dh_durability.specs.Calls.{AttachInterrupted, Attached, Recovered, RecoveryInterrupted, ResumeInterrupted};
+ghost use Rattle.dh_durability.specs.Calls.{Resumed, ShowInterrupted, Shown, StepInterrupted, Stepped};
 ghost use Rattle.dh_durability.specs.Histories.{IsSoundIn};
 ghost use Rattle.dh_durability.specs.Migrations.{EndsWith, IsRefusal, Migrated, Migrates, Refused};
 

@@ -72,7 +72,8 @@ module _ {S : Type 0} (old new : Seat S) (a b : Option (List ℕ)) (it : Answer)
   goes_on_sent (Err (Memory acted)) sends other same = absurd sends
 
 pub goes_on_made : {S E : Type 0} (old new : Seat S) (a b : Option (List ℕ)) (it : Answer) (acted : Bool) (made : Result Response E)
-    (result : Result ℕ NetFault) → Sends a b acted made result → IfOk made (λ x. said x ≡ it) → it.status ≢ 503 → new.is_stopped ≡ old.is_stopped → StopsBy old new result
+    (result : Result ℕ NetFault) → Sends a b acted made result → IfOk made (λ x. said x ≡ it) → it.status ≢ 503
+    → new.is_stopped ≡ old.is_stopped → StopsBy old new result
 goes_on_made old new a b it acted (Ok x) result sends says other same =
     goes_on_sent old new a b (said x) result sends (λ e. other (sym (ap (λ (z : Answer). z.status) says) ∙ e)) same
 goes_on_made old new a b it acted (Err e) result sends says other same = subst (StopsBy old new) (sym sends.1) same
@@ -82,7 +83,8 @@ module _ {S : Type 0} (g : Ghosts S) (old new : Seat S) (May : Asked → Type 0)
   pub leaves_cut : (command : Command) → May (Fields (Ok (Ordered command))) → Leaves g new (IsInterrupted command (machine g old)) → LeavesServed g old new May
   leaves_cut command may h = leaves_more g new (IsInterrupted command (machine g old)) _ cut h
     where
-      cut : (left : State) → IsInterrupted command (machine g old) left → (left ≡ machine g old) ⊎ ((asked : Asked) × May asked × IsLeftBy asked (machine g old) left)
+      cut : (left : State) → IsInterrupted command (machine g old) left → (left ≡ machine g old)
+          ⊎ ((asked : Asked) × May asked × IsLeftBy asked (machine g old) left)
       cut left is = inr (Fields (Ok (Ordered command)), may, is)
 
   pub leaves_same : Leaves g new (λ left. left ≡ machine g old) → LeavesServed g old new May

@@ -103,7 +103,8 @@ module _ (size : ℕ) (books : Books) (month done : ℕ) (pos : 1 ≤ size) (are
     before_are : batches_before size books month branch ≡ sum_by (batches_of_branch size books month) xs
     before_are =
         ap (λ ks. sum_by (batches_of_branch size books month) (filter (λ other. is_lt (text_cmp other branch)) ks)) all
-        ∙ ap (sum_by (batches_of_branch size books month)) (lesser_are text_cmp nat_list_cmp_total xs ys branch (subst (Rises (IsBefore text_cmp)) all (branches_rise books)))
+        ∙ ap (sum_by (batches_of_branch size books month)) (lesser_are text_cmp nat_list_cmp_total xs ys branch
+        (subst (Rises (IsBefore text_cmp)) all (branches_rise books)))
 
     pub left_before : left ≡ done - batches_before size books month branch
     left_before = is ∙ ap (λ n. done - n) (sym before_are)

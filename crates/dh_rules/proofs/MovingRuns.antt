@@ -1,5 +1,6 @@
 -- Where the open run stands after batches, or at its end.
-use Rattle.std.proofs.Common.{◌≡◌, ◌∙◌, refl, sym, ap, subst, inl, inr, ℕ, ◌+◌, ◌-◌, ◌≤◌, min, Bool, true, false, nat_le, if◌then◌else◌, Option, Some, None, leb-true}
+use Rattle.std.proofs.Common.{◌≡◌, ◌∙◌, refl, sym, ap, subst, inl, inr, ℕ, ◌+◌, ◌-◌}
+use Rattle.std.proofs.Common.{◌≤◌, min, Bool, true, false, nat_le, if◌then◌else◌, Option, Some, None, leb-true}
 use Rattle.std.proofs.Common.{arith}
 use Rattle.std.proofs.lemmas.Bool.Decides.{nat_tests}
 use Rattle.dh_types.specs.declared.command.Command.{Command}
@@ -133,7 +134,8 @@ Moves before far after =
     IsStateInOrder before → IsStateInOrder after × (whole batch_size after.books ≡ whole batch_size before.books)
     × (after.open_run ≡ moved_run (whole batch_size before.books) far before.open_run)
 
-pub torn_so_far : (before after : State) (far : Reach) → Moves before far after → IsStateInOrder before → IsMidRecovery batch_size (as_tables before) (as_tables after)
+pub torn_so_far : (before after : State) (far : Reach) → Moves before far after → IsStateInOrder before
+    → IsMidRecovery batch_size (as_tables before) (as_tables after)
     × IsStateInOrder after
 torn_so_far before after far moves order =
     let made = whole batch_size before.books in

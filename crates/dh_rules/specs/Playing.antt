@@ -5,7 +5,8 @@ use Rattle.dh_types.specs.declared.reply.Reply.{Reply}
 use Rattle.dh_model.specs.Books.{State}
 use Rattle.dh_model.specs.Runs.{batch_size}
 use Rattle.dh_model.specs.Whole.{whole}
-use Rattle.dh_laws.specs.Events.{Event, Answered, Interrupted, Attached, RecoveryInterrupted, Recovered, Follow, Happens, IsDone, IsMidRecovery, IsUndone, Tables, state_of}
+use Rattle.dh_laws.specs.Events.{Event, Answered, Interrupted, Attached, RecoveryInterrupted, Recovered, Follow}
+use Rattle.dh_laws.specs.Events.{Happens, IsDone, IsMidRecovery, IsUndone, Tables, state_of}
 use Rattle.dh_laws.specs.Kept.{Kept}
 use Rattle.dh_laws.specs.StateTables.{as_tables}
 use Rattle.dh_laws.specs.Telling.{Stands}
@@ -50,7 +51,8 @@ IsEventOf (happening.Answered told) (Answered it reply) before after = (it ≡ t
 IsEventOf (happening.Undone told reach) (Interrupted it) before after = (it ≡ told) × IsStep (happening.Undone told reach) None (shown before) (shown after)
 IsEventOf (happening.Done told standing) (Interrupted it) before after = (it ≡ told) × IsStep (happening.Done told standing) None (shown before) (shown after)
 IsEventOf happening.Attached Attached before after = IsStep happening.Attached None (shown before) (shown after)
-IsEventOf (happening.RecoveryInterrupted reach) RecoveryInterrupted before after = IsStep (happening.RecoveryInterrupted reach) None (shown before) (shown after)
+IsEventOf (happening.RecoveryInterrupted reach) RecoveryInterrupted before after = IsStep (happening.RecoveryInterrupted reach)
+    None (shown before) (shown after)
 IsEventOf happening.Recovered Recovered before after = IsStep happening.Recovered None (shown before) (shown after)
 IsEventOf _ _ before after = ⊥
 

@@ -66,7 +66,8 @@ pub fn moved(alloc: Global, before: Books, reach: Reach) -> Result<Books, AllocE
 
 /// What a recovery leaves that is interrupted: the open run moved so far.
 pub fn recovery_interrupted(alloc: Global, before: Books, reach: Reach) -> Result<Books, AllocError>
-    ensures happens { IfOk result (λ after. IsStateInOrder before → Happens batch_size RecoveryInterrupted (as_tables before) (as_tables after) × IsStateInOrder after) }
+    ensures happens { IfOk result (λ after. IsStateInOrder before → Happens batch_size RecoveryInterrupted (as_tables before) (as_tables after)
+        × IsStateInOrder after) }
     ensures run { IfOk result (λ after. IsStateInOrder before → after.open_run ≡ moved_run (whole batch_size before.books) reach before.open_run) }
 {
     moved(alloc, before, reach)

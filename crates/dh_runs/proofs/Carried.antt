@@ -32,12 +32,14 @@ module _ (order : RunOrder) (s : machine.State) (none : s.open_run ≡ None) (in
   -- a crash within the opening
   pub opening_crash : (new : State) → Leaves new (λ t. (t ≡ s) ⊎ (t ≡ opened)) → Leaves new (IsInterrupted (command.Run order) s)
   opening_crash new left =
-      leaves_weaker new _ (IsInterrupted (command.Run order) s) (λ t. either s opened t (IsInterrupted (command.Run order) s) (λ t is. same_cut (command.Run order) s t is)
+      leaves_weaker new _ (IsInterrupted (command.Run order) s) (λ t. either s opened t (IsInterrupted (command.Run order) s)
+      (λ t is. same_cut (command.Run order) s t is)
       (λ t is. run_cut s order none in_order h 0 opened t refl (same_in_part 0 opened t is)))
       left
 
   -- and within the batches
-  pub posting_crash : (most : ℕ) (o : machine.State) (new : State) → o ≡ opened → Leaves new (IsPostedInPart most o) → Leaves new (IsInterrupted (command.Run order) s)
+  pub posting_crash : (most : ℕ) (o : machine.State) (new : State) → o ≡ opened → Leaves new (IsPostedInPart most o)
+      → Leaves new (IsInterrupted (command.Run order) s)
   posting_crash most o new is left =
       leaves_weaker new (IsPostedInPart most o) (IsInterrupted (command.Run order) s) (λ t part. run_cut s order none in_order h most o t is part) left
 

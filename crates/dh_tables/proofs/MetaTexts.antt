@@ -20,7 +20,7 @@ use Rattle.dh_tables.specs.Tables.{own_rowid}
 
 -- its columns by their names
 abbrev pub meta_named : Named
-meta_named = rowid_first (codes "meta") (codes "id") (codes "version" ∷ codes "first_month" ∷ codes "next_month" ∷ [])
+meta_named = rowid_first meta
 
 abbrev pub meta_inserts : List ℕ
 meta_inserts = insert_text meta_named.table meta_named.names

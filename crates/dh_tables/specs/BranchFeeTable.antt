@@ -33,7 +33,7 @@ branch_fee_shape = record { tree = 26; columns = branch_fee_columns; is_row = is
 
 -- its columns by their names
 abbrev pub branch_fee_named : Named
-branch_fee_named = rowid_apart (codes "branch_fee") (codes "branch_no" ∷ codes "fee" ∷ [])
+branch_fee_named = rowid_apart branch_fee
 
 -- ---- adding a row
 

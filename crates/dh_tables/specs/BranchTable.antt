@@ -32,7 +32,7 @@ branch_shape = record { tree = 1; columns = branch_columns; is_row = is_branch_r
 
 -- its columns by their names
 abbrev pub branch_named : Named
-branch_named = rowid_apart (codes "branch") (codes "branch_no" ∷ codes "street" ∷ codes "city" ∷ codes "postcode" ∷ [])
+branch_named = rowid_apart branch
 
 -- ---- adding a row
 

@@ -36,7 +36,7 @@ charge_shape = record { tree = 18; columns = charge_columns; is_row = is_charge_
 
 -- its columns by their names
 abbrev pub charge_named : Named
-charge_named = rowid_apart (codes "charge") (codes "lease_no" ∷ codes "k" ∷ codes "month" ∷ codes "day" ∷ codes "amount" ∷ [])
+charge_named = rowid_apart charge
 
 -- ---- adding a row
 

@@ -34,7 +34,7 @@ client_shape = record { tree = 9; columns = client_columns; is_row = is_client_r
 
 -- its columns by their names
 abbrev pub client_named : Named
-client_named = rowid_apart (codes "client") (codes "client_no" ∷ codes "name" ∷ codes "telephone" ∷ codes "pref_type" ∷ codes "max_rent" ∷ [])
+client_named = rowid_apart client
 
 -- ---- adding a row
 

@@ -2,6 +2,8 @@
 use Rattle.std.specs.Prelude.{ℕ, ◌+◌, ◌/◌, ◌%◌, nat_lt, if◌then◌else◌, List, [], ◌∷◌, ◌++◌, length, codes}
 use Rattle.sqlite_value.specs.declared.value.Value.TheVariants.{Null}
 use Rattle.sqlite_sql.specs.Term.{Term, lit, col}
+use Rattle.sqlite_schema.specs.declared.schema.Column.{Column}
+use Rattle.sqlite_schema.specs.declared.schema.Table.{Table}
 
 -- texts with this between them
 abbrev pub joined : List ℕ → List (List ℕ) → List ℕ
@@ -52,17 +54,36 @@ pub record Named : Type 0 where
   pub shown : List Term
   pub rowid_name : List ℕ
 
+-- the names of columns
+abbrev pub names_of : List Column → List (List ℕ)
+names_of [] = []
+names_of (column ∷ columns) = column.name ∷ names_of columns
+
 -- the rowid is no column
-abbrev pub rowid_apart : List ℕ → List (List ℕ) → Named
-rowid_apart table names =
-    record { table = table; names = names; put = lit Null ∷ terms_from 0 0 names; shown = terms_from 1 1 names; rowid_name = codes "rowid" }
+abbrev pub rowid_apart : Table → Named
+rowid_apart table = record {
+  table = table.name;
+  names = names_of table.columns;
+  put = lit Null ∷ terms_from 0 0 (names_of table.columns);
+  shown = terms_from 1 1 (names_of table.columns);
+  rowid_name = codes "rowid";
+}
+
+-- the first name, and those behind it
+abbrev pub first_of : List (List ℕ) → List ℕ
+first_of [] = []
+first_of (name ∷ names) = name
+
+abbrev pub behind_first : List (List ℕ) → List (List ℕ)
+behind_first [] = []
+behind_first (name ∷ names) = names
 
 -- it is the first column, whose own place holds NULL
-abbrev pub rowid_first : List ℕ → List ℕ → List (List ℕ) → Named
-rowid_first table first names = record {
-  table = table;
-  names = first ∷ names;
-  put = col 0 0 ∷ lit Null ∷ terms_from 0 1 names;
-  shown = col 1 0 ∷ terms_from 1 2 names;
-  rowid_name = first;
+abbrev pub rowid_first : Table → Named
+rowid_first table = record {
+  table = table.name;
+  names = names_of table.columns;
+  put = col 0 0 ∷ lit Null ∷ terms_from 0 1 (behind_first (names_of table.columns));
+  shown = col 1 0 ∷ terms_from 1 2 (behind_first (names_of table.columns));
+  rowid_name = first_of (names_of table.columns);
 }

@@ -32,7 +32,7 @@ ending_shape = record { tree = 30; columns = ending_columns; is_row = is_ending_
 
 -- its columns by their names
 abbrev pub ending_named : Named
-ending_named = rowid_first (codes "ending") (codes "lease_no") (codes "months" ∷ [])
+ending_named = rowid_first ending
 
 -- ---- adding a row
 

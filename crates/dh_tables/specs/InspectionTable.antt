@@ -33,7 +33,7 @@ inspection_shape = record { tree = 15; columns = inspection_columns; is_row = is
 
 -- its columns by their names
 abbrev pub inspection_named : Named
-inspection_named = rowid_apart (codes "inspection") (codes "property_no" ∷ codes "day" ∷ codes "staff_no" ∷ codes "comment" ∷ [])
+inspection_named = rowid_apart inspection
 
 -- ---- adding a row
 

@@ -41,8 +41,7 @@ lease_shape = record { tree = 17; columns = lease_columns; is_row = is_lease_row
 
 -- its columns by their names
 abbrev pub lease_named : Named
-lease_named = rowid_first (codes "lease") (codes "lease_no")
-    (codes "client_no" ∷ codes "property_no" ∷ codes "start_day" ∷ codes "months" ∷ codes "method" ∷ codes "rent" ∷ [])
+lease_named = rowid_first lease
 
 -- ---- adding a row
 

@@ -32,7 +32,7 @@ owner_shape = record { tree = 5; columns = owner_columns; is_row = is_owner_row;
 
 -- its columns by their names
 abbrev pub owner_named : Named
-owner_named = rowid_apart (codes "owner") (codes "owner_no" ∷ codes "name" ∷ codes "address" ∷ codes "telephone" ∷ [])
+owner_named = rowid_apart owner
 
 -- ---- adding a row
 

@@ -35,7 +35,7 @@ part_fee_shape = record { tree = 28; columns = part_fee_columns; is_row = is_par
 
 -- its columns by their names
 abbrev pub part_fee_named : Named
-part_fee_named = rowid_apart (codes "part_fee") (codes "month" ∷ codes "branch_no" ∷ codes "fee" ∷ codes "fee_total" ∷ [])
+part_fee_named = rowid_apart part_fee
 
 -- ---- adding a row
 

@@ -37,7 +37,7 @@ part_shape = record { tree = 24; columns = part_columns; is_row = is_part_row; r
 
 -- its columns by their names
 abbrev pub part_named : Named
-part_named = rowid_apart (codes "part") (codes "month" ∷ codes "branch_no" ∷ codes "through_lease" ∷ codes "due_count" ∷ codes "due_total" ∷ [])
+part_named = rowid_apart part
 
 -- ---- adding a row
 

@@ -42,9 +42,7 @@ property_shape = record { tree = 7; columns = property_columns; is_row = is_prop
 
 -- its columns by their names
 abbrev pub property_named : Named
-property_named = rowid_apart (codes "property")
-    (codes "property_no" ∷ codes "street" ∷ codes "city" ∷ codes "postcode" ∷ codes "type" ∷ codes "rooms" ∷ codes "rent" ∷ codes "owner_no"
-    ∷ codes "staff_no" ∷ codes "branch_no" ∷ [])
+property_named = rowid_apart property
 
 -- ---- adding a row
 

@@ -54,8 +54,7 @@ receipt_shape = record { tree = 20; columns = receipt_columns; is_row = is_recei
 
 -- its columns by their names
 abbrev pub receipt_named : Named
-receipt_named = rowid_first (codes "receipt") (codes "receipt_no")
-    (codes "req_key" ∷ codes "lease_no" ∷ codes "kind" ∷ codes "amount" ∷ codes "day" ∷ [])
+receipt_named = rowid_first receipt
 
 -- ---- adding a row
 

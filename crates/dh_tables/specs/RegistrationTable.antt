@@ -39,7 +39,7 @@ registration_shape = record {
 
 -- its columns by their names
 abbrev pub registration_named : Named
-registration_named = rowid_apart (codes "registration") (codes "client_no" ∷ codes "branch_no" ∷ codes "staff_no" ∷ codes "day" ∷ [])
+registration_named = rowid_apart registration
 
 -- ---- adding a row
 

@@ -37,7 +37,7 @@ run_shape = record { tree = 22; columns = run_columns; is_row = is_run_row; row_
 
 -- its columns by their names
 abbrev pub run_named : Named
-run_named = rowid_first (codes "run") (codes "month") (codes "req_key" ∷ codes "due_count" ∷ codes "due_total" ∷ codes "closed" ∷ [])
+run_named = rowid_first run
 
 -- ---- adding a row
 

@@ -33,7 +33,7 @@ staff_shape = record { tree = 3; columns = staff_columns; is_row = is_staff_row;
 
 -- its columns by their names
 abbrev pub staff_named : Named
-staff_named = rowid_apart (codes "staff") (codes "staff_no" ∷ codes "name" ∷ codes "position" ∷ codes "branch_no" ∷ [])
+staff_named = rowid_apart staff
 
 -- ---- adding a row
 

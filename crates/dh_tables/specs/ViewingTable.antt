@@ -33,7 +33,7 @@ viewing_shape = record { tree = 13; columns = viewing_columns; is_row = is_viewi
 
 -- its columns by their names
 abbrev pub viewing_named : Named
-viewing_named = rowid_apart (codes "viewing") (codes "client_no" ∷ codes "property_no" ∷ codes "day" ∷ codes "comment" ∷ [])
+viewing_named = rowid_apart viewing
 
 -- ---- adding a row
 

@@ -2,20 +2,10 @@
 
 use crate::{Listed, PlainLook, Tabled};
 use dh_books::Books;
+use dh_ddl::branch_columns;
 use dh_types::{Branch, Id, Version};
 use sqlite::types::ValueRef;
 use std::alloc::{AllocError, Global};
-
-// Its columns, between two texts.
-macro_rules! of_branch {
-    ($before:literal, $after:literal) => {
-        concat!(
-            $before,
-            "branch_no, street, city, postcode",
-            $after
-        )
-    };
-}
 
 impl Tabled for Branch {
     ghost use Rattle.dh_types.specs.declared.version.Version.TheVariants.{First};
@@ -43,7 +33,7 @@ impl Tabled for Branch {
     ghost is_kind = { itself Branches };
 
     fn insert_text() -> &'static str {
-        of_branch!("INSERT INTO branch (", ") VALUES (?1, ?2, ?3, ?4)")
+        branch_columns!(names, "INSERT INTO branch (", ") VALUES (?1, ?2, ?3, ?4)")
     }
 
     fn put(self, books: &mut Books) -> Result<(), AllocError> {
@@ -61,7 +51,7 @@ impl Listed for Branch {
     ghost named = { branch_named };
 
     fn list_text() -> &'static str {
-        of_branch!("SELECT ", " FROM branch")
+        branch_columns!(names, "SELECT ", " FROM branch")
     }
 
     fn rowid_text() -> &'static str {
@@ -89,7 +79,7 @@ impl PlainLook for BranchNumbered {
     ghost question = { branch_numbered };
 
     fn asked_text() -> &'static str {
-        of_branch!("SELECT ", " FROM branch WHERE branch_no = ?1")
+        branch_columns!(names, "SELECT ", " FROM branch WHERE branch_no = ?1")
     }
 
     fn values(&self, alloc: Global) -> Result<Vec<ValueRef<'_>>, AllocError> {

@@ -2,20 +2,10 @@
 
 use crate::{Listed, PlainLook, Tabled};
 use dh_books::Books;
+use dh_ddl::branch_fee_columns;
 use dh_types::{BranchFee, Id, Version};
 use sqlite::types::ValueRef;
 use std::alloc::{AllocError, Global};
-
-// Its columns, between two texts.
-macro_rules! of_branch_fee {
-    ($before:literal, $after:literal) => {
-        concat!(
-            $before,
-            "branch_no, fee",
-            $after
-        )
-    };
-}
 
 impl Tabled for BranchFee {
     ghost use Rattle.dh_types.specs.declared.version.Version.TheVariants.{Second};
@@ -43,7 +33,7 @@ impl Tabled for BranchFee {
     ghost is_kind = { itself BranchFees };
 
     fn insert_text() -> &'static str {
-        of_branch_fee!("INSERT INTO branch_fee (", ") VALUES (?1, ?2)")
+        branch_fee_columns!(names, "INSERT INTO branch_fee (", ") VALUES (?1, ?2)")
     }
 
     fn put(self, books: &mut Books) -> Result<(), AllocError> {
@@ -61,7 +51,7 @@ impl Listed for BranchFee {
     ghost named = { branch_fee_named };
 
     fn list_text() -> &'static str {
-        of_branch_fee!("SELECT ", " FROM branch_fee")
+        branch_fee_columns!(names, "SELECT ", " FROM branch_fee")
     }
 
     fn rowid_text() -> &'static str {
@@ -89,7 +79,7 @@ impl PlainLook for FeeOfBranch {
     ghost question = { fee_of_branch };
 
     fn asked_text() -> &'static str {
-        of_branch_fee!("SELECT ", " FROM branch_fee WHERE branch_no = ?1")
+        branch_fee_columns!(names, "SELECT ", " FROM branch_fee WHERE branch_no = ?1")
     }
 
     fn values(&self, alloc: Global) -> Result<Vec<ValueRef<'_>>, AllocError> {

@@ -2,20 +2,10 @@
 
 use crate::{Listed, PlainLook, Tabled};
 use dh_books::Books;
+use dh_ddl::charge_columns;
 use dh_types::{Charge, ChargeIndex, LeaseNo, Version};
 use sqlite::types::ValueRef;
 use std::alloc::{AllocError, Global};
-
-// Its columns, between two texts.
-macro_rules! of_charge {
-    ($before:literal, $after:literal) => {
-        concat!(
-            $before,
-            "lease_no, k, month, day, amount",
-            $after
-        )
-    };
-}
 
 impl Tabled for Charge {
     ghost use Rattle.dh_types.specs.declared.version.Version.TheVariants.{First};
@@ -44,7 +34,11 @@ impl Tabled for Charge {
     ghost is_kind = { itself Charges };
 
     fn insert_text() -> &'static str {
-        of_charge!("INSERT INTO charge (", ") VALUES (?1, ?2, ?3, ?4, ?5)")
+        charge_columns!(
+            names,
+            "INSERT INTO charge (",
+            ") VALUES (?1, ?2, ?3, ?4, ?5)"
+        )
     }
 
     fn put(self, books: &mut Books) -> Result<(), AllocError> {
@@ -62,7 +56,7 @@ impl Listed for Charge {
     ghost named = { charge_named };
 
     fn list_text() -> &'static str {
-        of_charge!("SELECT ", " FROM charge")
+        charge_columns!(names, "SELECT ", " FROM charge")
     }
 
     fn rowid_text() -> &'static str {
@@ -91,7 +85,11 @@ impl PlainLook for ChargeOf {
     ghost question = { charge_of };
 
     fn asked_text() -> &'static str {
-        of_charge!("SELECT ", " FROM charge WHERE lease_no = ?1 AND k = ?2")
+        charge_columns!(
+            names,
+            "SELECT ",
+            " FROM charge WHERE lease_no = ?1 AND k = ?2"
+        )
     }
 
     fn values(&self, alloc: Global) -> Result<Vec<ValueRef<'_>>, AllocError> {
@@ -119,7 +117,7 @@ impl PlainLook for ChargesOfLease {
     ghost question = { charges_of_lease };
 
     fn asked_text() -> &'static str {
-        of_charge!("SELECT ", " FROM charge WHERE lease_no = ?1")
+        charge_columns!(names, "SELECT ", " FROM charge WHERE lease_no = ?1")
     }
 
     fn values(&self, alloc: Global) -> Result<Vec<ValueRef<'_>>, AllocError> {

@@ -2,20 +2,10 @@
 
 use crate::{Listed, PlainLook, Tabled};
 use dh_books::Books;
+use dh_ddl::client_columns;
 use dh_types::{Client, Id, Version};
 use sqlite::types::ValueRef;
 use std::alloc::{AllocError, Global};
-
-// Its columns, between two texts.
-macro_rules! of_client {
-    ($before:literal, $after:literal) => {
-        concat!(
-            $before,
-            "client_no, name, telephone, pref_type, max_rent",
-            $after
-        )
-    };
-}
 
 impl Tabled for Client {
     ghost use Rattle.dh_types.specs.declared.version.Version.TheVariants.{First};
@@ -43,7 +33,11 @@ impl Tabled for Client {
     ghost is_kind = { itself Clients };
 
     fn insert_text() -> &'static str {
-        of_client!("INSERT INTO client (", ") VALUES (?1, ?2, ?3, ?4, ?5)")
+        client_columns!(
+            names,
+            "INSERT INTO client (",
+            ") VALUES (?1, ?2, ?3, ?4, ?5)"
+        )
     }
 
     fn put(self, books: &mut Books) -> Result<(), AllocError> {
@@ -61,7 +55,7 @@ impl Listed for Client {
     ghost named = { client_named };
 
     fn list_text() -> &'static str {
-        of_client!("SELECT ", " FROM client")
+        client_columns!(names, "SELECT ", " FROM client")
     }
 
     fn rowid_text() -> &'static str {
@@ -89,7 +83,7 @@ impl PlainLook for ClientNumbered {
     ghost question = { client_numbered };
 
     fn asked_text() -> &'static str {
-        of_client!("SELECT ", " FROM client WHERE client_no = ?1")
+        client_columns!(names, "SELECT ", " FROM client WHERE client_no = ?1")
     }
 
     fn values(&self, alloc: Global) -> Result<Vec<ValueRef<'_>>, AllocError> {

@@ -2,20 +2,10 @@
 
 use crate::{Listed, PlainLook, Tabled};
 use dh_books::Books;
+use dh_ddl::ending_columns;
 use dh_types::{Ending, LeaseNo, Version};
 use sqlite::types::ValueRef;
 use std::alloc::{AllocError, Global};
-
-// Its columns, between two texts.
-macro_rules! of_ending {
-    ($before:literal, $after:literal) => {
-        concat!(
-            $before,
-            "lease_no, months",
-            $after
-        )
-    };
-}
 
 impl Tabled for Ending {
     ghost use Rattle.dh_types.specs.declared.version.Version.TheVariants.{Second};
@@ -43,7 +33,7 @@ impl Tabled for Ending {
     ghost is_kind = { itself Endings };
 
     fn insert_text() -> &'static str {
-        of_ending!("INSERT INTO ending (", ") VALUES (?1, ?2)")
+        ending_columns!(names, "INSERT INTO ending (", ") VALUES (?1, ?2)")
     }
 
     fn put(self, books: &mut Books) -> Result<(), AllocError> {
@@ -61,7 +51,7 @@ impl Listed for Ending {
     ghost named = { ending_named };
 
     fn list_text() -> &'static str {
-        of_ending!("SELECT ", " FROM ending")
+        ending_columns!(names, "SELECT ", " FROM ending")
     }
 
     fn rowid_text() -> &'static str {
@@ -89,7 +79,7 @@ impl PlainLook for EndingOf {
     ghost question = { ending_of };
 
     fn asked_text() -> &'static str {
-        of_ending!("SELECT ", " FROM ending WHERE lease_no = ?1")
+        ending_columns!(names, "SELECT ", " FROM ending WHERE lease_no = ?1")
     }
 
     fn values(&self, alloc: Global) -> Result<Vec<ValueRef<'_>>, AllocError> {

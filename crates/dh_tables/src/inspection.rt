@@ -2,20 +2,10 @@
 
 use crate::{Listed, Look, Tabled};
 use dh_books::Books;
+use dh_ddl::inspection_columns;
 use dh_types::{EntryDay, Id, Inspection, Version};
 use sqlite::types::ValueRef;
 use std::alloc::{AllocError, Global};
-
-// Its columns, between two texts.
-macro_rules! of_inspection {
-    ($before:literal, $after:literal) => {
-        concat!(
-            $before,
-            "property_no, day, staff_no, comment",
-            $after
-        )
-    };
-}
 
 impl Tabled for Inspection {
     ghost use Rattle.dh_types.specs.declared.version.Version.TheVariants.{First};
@@ -44,7 +34,11 @@ impl Tabled for Inspection {
     ghost is_kind = { itself Inspections };
 
     fn insert_text() -> &'static str {
-        of_inspection!("INSERT INTO inspection (", ") VALUES (?1, ?2, ?3, ?4)")
+        inspection_columns!(
+            names,
+            "INSERT INTO inspection (",
+            ") VALUES (?1, ?2, ?3, ?4)"
+        )
     }
 
     fn put(self, books: &mut Books) -> Result<(), AllocError> {
@@ -62,7 +56,7 @@ impl Listed for Inspection {
     ghost named = { inspection_named };
 
     fn list_text() -> &'static str {
-        of_inspection!("SELECT ", " FROM inspection")
+        inspection_columns!(names, "SELECT ", " FROM inspection")
     }
 
     fn rowid_text() -> &'static str {
@@ -103,7 +97,8 @@ impl Look for InspectionOf {
     ghost can_ask = { λ q. IsEntryDay q.day };
 
     fn text() -> &'static str {
-        of_inspection!(
+        inspection_columns!(
+            names,
             "SELECT ",
             " FROM inspection WHERE property_no = ?1 AND day = ?2"
         )

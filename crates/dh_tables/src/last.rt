@@ -11,7 +11,7 @@ ghost use Rattle.dh_tables.specs.ReceiptTable.{receipt_shape};
 
 use crate::one_record::only;
 use crate::query::rows_shown;
-use crate::receipt::of_receipt;
+use dh_ddl::receipt_columns;
 use dh_types::Receipt;
 use sqlite::{Alter, Connection, Error, Row};
 use std::alloc::Global;
@@ -29,7 +29,11 @@ fn last_row<S: Alter>(conn: &mut Connection<S>) -> Result<Vec<Row>, Error>
 {
     rows_shown(
         conn,
-        of_receipt!("SELECT ", " FROM receipt ORDER BY receipt_no DESC LIMIT 1"),
+        receipt_columns!(
+            names,
+            "SELECT ",
+            " FROM receipt ORDER BY receipt_no DESC LIMIT 1"
+        ),
         &[],
     )
 }

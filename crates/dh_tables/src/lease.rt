@@ -2,20 +2,10 @@
 
 use crate::{Listed, Look, PlainLook, Tabled};
 use dh_books::Books;
+use dh_ddl::lease_columns;
 use dh_types::{EntryDay, Id, Lease, LeaseNo, Version};
 use sqlite::types::ValueRef;
 use std::alloc::{AllocError, Global};
-
-// Its columns, between two texts.
-macro_rules! of_lease {
-    ($before:literal, $after:literal) => {
-        concat!(
-            $before,
-            "lease_no, client_no, property_no, start_day, months, method, rent",
-            $after
-        )
-    };
-}
 
 impl Tabled for Lease {
     ghost use Rattle.dh_types.specs.declared.version.Version.TheVariants.{First};
@@ -43,7 +33,8 @@ impl Tabled for Lease {
     ghost is_kind = { itself Leases };
 
     fn insert_text() -> &'static str {
-        of_lease!(
+        lease_columns!(
+            names,
             "INSERT INTO lease (",
             ") VALUES (?1, ?2, ?3, ?4, ?5, ?6, ?7)"
         )
@@ -64,7 +55,7 @@ impl Listed for Lease {
     ghost named = { lease_named };
 
     fn list_text() -> &'static str {
-        of_lease!("SELECT ", " FROM lease")
+        lease_columns!(names, "SELECT ", " FROM lease")
     }
 
     fn rowid_text() -> &'static str {
@@ -92,7 +83,7 @@ impl PlainLook for LeaseNumbered {
     ghost question = { lease_numbered };
 
     fn asked_text() -> &'static str {
-        of_lease!("SELECT ", " FROM lease WHERE lease_no = ?1")
+        lease_columns!(names, "SELECT ", " FROM lease WHERE lease_no = ?1")
     }
 
     fn values(&self, alloc: Global) -> Result<Vec<ValueRef<'_>>, AllocError> {
@@ -116,7 +107,7 @@ impl PlainLook for LeasesOfProperty {
     ghost question = { leases_of_property };
 
     fn asked_text() -> &'static str {
-        of_lease!("SELECT ", " FROM lease WHERE property_no = ?1")
+        lease_columns!(names, "SELECT ", " FROM lease WHERE property_no = ?1")
     }
 
     fn values(&self, alloc: Global) -> Result<Vec<ValueRef<'_>>, AllocError> {
@@ -153,7 +144,8 @@ impl Look for LeasesOfClientFrom {
     ghost can_ask = { λ q. IsEntryDay q.start };
 
     fn text() -> &'static str {
-        of_lease!(
+        lease_columns!(
+            names,
             "SELECT ",
             " FROM lease WHERE client_no = ?1 AND start_day = ?2"
         )

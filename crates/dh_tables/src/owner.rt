@@ -2,20 +2,10 @@
 
 use crate::{Listed, PlainLook, Tabled};
 use dh_books::Books;
+use dh_ddl::owner_columns;
 use dh_types::{Id, Owner, Version};
 use sqlite::types::ValueRef;
 use std::alloc::{AllocError, Global};
-
-// Its columns, between two texts.
-macro_rules! of_owner {
-    ($before:literal, $after:literal) => {
-        concat!(
-            $before,
-            "owner_no, name, address, telephone",
-            $after
-        )
-    };
-}
 
 impl Tabled for Owner {
     ghost use Rattle.dh_types.specs.declared.version.Version.TheVariants.{First};
@@ -43,7 +33,7 @@ impl Tabled for Owner {
     ghost is_kind = { itself Owners };
 
     fn insert_text() -> &'static str {
-        of_owner!("INSERT INTO owner (", ") VALUES (?1, ?2, ?3, ?4)")
+        owner_columns!(names, "INSERT INTO owner (", ") VALUES (?1, ?2, ?3, ?4)")
     }
 
     fn put(self, books: &mut Books) -> Result<(), AllocError> {
@@ -61,7 +51,7 @@ impl Listed for Owner {
     ghost named = { owner_named };
 
     fn list_text() -> &'static str {
-        of_owner!("SELECT ", " FROM owner")
+        owner_columns!(names, "SELECT ", " FROM owner")
     }
 
     fn rowid_text() -> &'static str {
@@ -89,7 +79,7 @@ impl PlainLook for OwnerNumbered {
     ghost question = { owner_numbered };
 
     fn asked_text() -> &'static str {
-        of_owner!("SELECT ", " FROM owner WHERE owner_no = ?1")
+        owner_columns!(names, "SELECT ", " FROM owner WHERE owner_no = ?1")
     }
 
     fn values(&self, alloc: Global) -> Result<Vec<ValueRef<'_>>, AllocError> {

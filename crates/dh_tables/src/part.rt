@@ -2,20 +2,10 @@
 
 use crate::{Listed, PlainLook, Tabled};
 use dh_books::Books;
+use dh_ddl::part_columns;
 use dh_types::{EntryMonth, Id, Part, Version};
 use sqlite::types::ValueRef;
 use std::alloc::{AllocError, Global};
-
-// Its columns, between two texts.
-macro_rules! of_part {
-    ($before:literal, $after:literal) => {
-        concat!(
-            $before,
-            "month, branch_no, through_lease, due_count, due_total",
-            $after
-        )
-    };
-}
 
 impl Tabled for Part {
     ghost use Rattle.dh_types.specs.declared.version.Version.TheVariants.{First};
@@ -44,7 +34,7 @@ impl Tabled for Part {
     ghost is_kind = { itself Parts };
 
     fn insert_text() -> &'static str {
-        of_part!("INSERT INTO part (", ") VALUES (?1, ?2, ?3, ?4, ?5)")
+        part_columns!(names, "INSERT INTO part (", ") VALUES (?1, ?2, ?3, ?4, ?5)")
     }
 
     fn put(self, books: &mut Books) -> Result<(), AllocError> {
@@ -62,7 +52,7 @@ impl Listed for Part {
     ghost named = { part_named };
 
     fn list_text() -> &'static str {
-        of_part!("SELECT ", " FROM part")
+        part_columns!(names, "SELECT ", " FROM part")
     }
 
     fn rowid_text() -> &'static str {
@@ -91,7 +81,11 @@ impl PlainLook for PartOf {
     ghost question = { part_of };
 
     fn asked_text() -> &'static str {
-        of_part!("SELECT ", " FROM part WHERE month = ?1 AND branch_no = ?2")
+        part_columns!(
+            names,
+            "SELECT ",
+            " FROM part WHERE month = ?1 AND branch_no = ?2"
+        )
     }
 
     fn values(&self, alloc: Global) -> Result<Vec<ValueRef<'_>>, AllocError> {
@@ -119,7 +113,7 @@ impl PlainLook for PartsOfMonth {
     ghost question = { parts_of_month };
 
     fn asked_text() -> &'static str {
-        of_part!("SELECT ", " FROM part WHERE month = ?1")
+        part_columns!(names, "SELECT ", " FROM part WHERE month = ?1")
     }
 
     fn values(&self, alloc: Global) -> Result<Vec<ValueRef<'_>>, AllocError> {

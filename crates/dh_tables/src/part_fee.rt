@@ -2,20 +2,10 @@
 
 use crate::{Listed, PlainLook, Tabled};
 use dh_books::Books;
+use dh_ddl::part_fee_columns;
 use dh_types::{EntryMonth, Id, PartFee, Version};
 use sqlite::types::ValueRef;
 use std::alloc::{AllocError, Global};
-
-// Its columns, between two texts.
-macro_rules! of_part_fee {
-    ($before:literal, $after:literal) => {
-        concat!(
-            $before,
-            "month, branch_no, fee, fee_total",
-            $after
-        )
-    };
-}
 
 impl Tabled for PartFee {
     ghost use Rattle.dh_types.specs.declared.version.Version.TheVariants.{Second};
@@ -44,7 +34,7 @@ impl Tabled for PartFee {
     ghost is_kind = { itself PartFees };
 
     fn insert_text() -> &'static str {
-        of_part_fee!("INSERT INTO part_fee (", ") VALUES (?1, ?2, ?3, ?4)")
+        part_fee_columns!(names, "INSERT INTO part_fee (", ") VALUES (?1, ?2, ?3, ?4)")
     }
 
     fn put(self, books: &mut Books) -> Result<(), AllocError> {
@@ -62,7 +52,7 @@ impl Listed for PartFee {
     ghost named = { part_fee_named };
 
     fn list_text() -> &'static str {
-        of_part_fee!("SELECT ", " FROM part_fee")
+        part_fee_columns!(names, "SELECT ", " FROM part_fee")
     }
 
     fn rowid_text() -> &'static str {
@@ -91,7 +81,8 @@ impl PlainLook for FeeOfPart {
     ghost question = { fee_of_part };
 
     fn asked_text() -> &'static str {
-        of_part_fee!(
+        part_fee_columns!(
+            names,
             "SELECT ",
             " FROM part_fee WHERE month = ?1 AND branch_no = ?2"
         )
@@ -122,7 +113,7 @@ impl PlainLook for FeesOfMonth {
     ghost question = { fees_of_month };
 
     fn asked_text() -> &'static str {
-        of_part_fee!("SELECT ", " FROM part_fee WHERE month = ?1")
+        part_fee_columns!(names, "SELECT ", " FROM part_fee WHERE month = ?1")
     }
 
     fn values(&self, alloc: Global) -> Result<Vec<ValueRef<'_>>, AllocError> {

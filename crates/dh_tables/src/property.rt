@@ -2,20 +2,10 @@
 
 use crate::{Listed, PlainLook, Tabled};
 use dh_books::Books;
+use dh_ddl::property_columns;
 use dh_types::{Id, Property, Version};
 use sqlite::types::ValueRef;
 use std::alloc::{AllocError, Global};
-
-// Its columns, between two texts.
-macro_rules! of_property {
-    ($before:literal, $after:literal) => {
-        concat!(
-            $before,
-            "property_no, street, city, postcode, type, rooms, rent, owner_no, staff_no, branch_no",
-            $after
-        )
-    };
-}
 
 impl Tabled for Property {
     ghost use Rattle.dh_types.specs.declared.version.Version.TheVariants.{First};
@@ -43,7 +33,8 @@ impl Tabled for Property {
     ghost is_kind = { itself Properties };
 
     fn insert_text() -> &'static str {
-        of_property!(
+        property_columns!(
+            names,
             "INSERT INTO property (",
             ") VALUES (?1, ?2, ?3, ?4, ?5, ?6, ?7, ?8, ?9, ?10)"
         )
@@ -64,7 +55,7 @@ impl Listed for Property {
     ghost named = { property_named };
 
     fn list_text() -> &'static str {
-        of_property!("SELECT ", " FROM property")
+        property_columns!(names, "SELECT ", " FROM property")
     }
 
     fn rowid_text() -> &'static str {
@@ -92,7 +83,7 @@ impl PlainLook for PropertyNumbered {
     ghost question = { property_numbered };
 
     fn asked_text() -> &'static str {
-        of_property!("SELECT ", " FROM property WHERE property_no = ?1")
+        property_columns!(names, "SELECT ", " FROM property WHERE property_no = ?1")
     }
 
     fn values(&self, alloc: Global) -> Result<Vec<ValueRef<'_>>, AllocError> {
@@ -116,7 +107,7 @@ impl PlainLook for PropertiesManaged {
     ghost question = { properties_managed };
 
     fn asked_text() -> &'static str {
-        of_property!("SELECT ", " FROM property WHERE staff_no = ?1")
+        property_columns!(names, "SELECT ", " FROM property WHERE staff_no = ?1")
     }
 
     fn values(&self, alloc: Global) -> Result<Vec<ValueRef<'_>>, AllocError> {
@@ -140,7 +131,7 @@ impl PlainLook for PropertiesOfOwner {
     ghost question = { properties_of_owner };
 
     fn asked_text() -> &'static str {
-        of_property!("SELECT ", " FROM property WHERE owner_no = ?1")
+        property_columns!(names, "SELECT ", " FROM property WHERE owner_no = ?1")
     }
 
     fn values(&self, alloc: Global) -> Result<Vec<ValueRef<'_>>, AllocError> {
@@ -164,7 +155,7 @@ impl PlainLook for PropertiesOfBranch {
     ghost question = { properties_of_branch };
 
     fn asked_text() -> &'static str {
-        of_property!("SELECT ", " FROM property WHERE branch_no = ?1")
+        property_columns!(names, "SELECT ", " FROM property WHERE branch_no = ?1")
     }
 
     fn values(&self, alloc: Global) -> Result<Vec<ValueRef<'_>>, AllocError> {

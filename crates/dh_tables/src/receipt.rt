@@ -2,22 +2,10 @@
 
 use crate::{Listed, PlainLook, Tabled};
 use dh_books::Books;
+use dh_ddl::receipt_columns;
 use dh_types::{Key, LeaseNo, Receipt, ReceiptNo, Version};
 use sqlite::types::ValueRef;
 use std::alloc::{AllocError, Global};
-
-// Its columns, between two texts.
-macro_rules! of_receipt {
-    ($before:literal, $after:literal) => {
-        concat!(
-            $before,
-            "receipt_no, req_key, lease_no, kind, amount, day",
-            $after
-        )
-    };
-}
-
-pub(crate) use of_receipt;
 
 impl Tabled for Receipt {
     ghost use Rattle.dh_types.specs.declared.version.Version.TheVariants.{First};
@@ -45,7 +33,11 @@ impl Tabled for Receipt {
     ghost is_kind = { itself Receipts };
 
     fn insert_text() -> &'static str {
-        of_receipt!("INSERT INTO receipt (", ") VALUES (?1, ?2, ?3, ?4, ?5, ?6)")
+        receipt_columns!(
+            names,
+            "INSERT INTO receipt (",
+            ") VALUES (?1, ?2, ?3, ?4, ?5, ?6)"
+        )
     }
 
     fn put(self, books: &mut Books) -> Result<(), AllocError> {
@@ -63,7 +55,7 @@ impl Listed for Receipt {
     ghost named = { receipt_named };
 
     fn list_text() -> &'static str {
-        of_receipt!("SELECT ", " FROM receipt")
+        receipt_columns!(names, "SELECT ", " FROM receipt")
     }
 
     fn rowid_text() -> &'static str {
@@ -91,7 +83,7 @@ impl PlainLook for ReceiptNumbered {
     ghost question = { receipt_numbered };
 
     fn asked_text() -> &'static str {
-        of_receipt!("SELECT ", " FROM receipt WHERE receipt_no = ?1")
+        receipt_columns!(names, "SELECT ", " FROM receipt WHERE receipt_no = ?1")
     }
 
     fn values(&self, alloc: Global) -> Result<Vec<ValueRef<'_>>, AllocError> {
@@ -115,7 +107,7 @@ impl PlainLook for ReceiptKeyed {
     ghost question = { receipt_keyed };
 
     fn asked_text() -> &'static str {
-        of_receipt!("SELECT ", " FROM receipt WHERE req_key = ?1")
+        receipt_columns!(names, "SELECT ", " FROM receipt WHERE req_key = ?1")
     }
 
     fn values(&self, alloc: Global) -> Result<Vec<ValueRef<'_>>, AllocError> {
@@ -139,7 +131,7 @@ impl PlainLook for ReceiptsOfLease {
     ghost question = { receipts_of_lease };
 
     fn asked_text() -> &'static str {
-        of_receipt!("SELECT ", " FROM receipt WHERE lease_no = ?1")
+        receipt_columns!(names, "SELECT ", " FROM receipt WHERE lease_no = ?1")
     }
 
     fn values(&self, alloc: Global) -> Result<Vec<ValueRef<'_>>, AllocError> {
@@ -163,7 +155,8 @@ impl PlainLook for DepositsOfLease {
     ghost question = { deposits_of_lease };
 
     fn asked_text() -> &'static str {
-        of_receipt!(
+        receipt_columns!(
+            names,
             "SELECT ",
             " FROM receipt WHERE lease_no = ?1 AND kind = 'deposit'"
         )

@@ -2,20 +2,10 @@
 
 use crate::{Listed, PlainLook, Tabled};
 use dh_books::Books;
+use dh_ddl::registration_columns;
 use dh_types::{Id, Registration, Version};
 use sqlite::types::ValueRef;
 use std::alloc::{AllocError, Global};
-
-// Its columns, between two texts.
-macro_rules! of_registration {
-    ($before:literal, $after:literal) => {
-        concat!(
-            $before,
-            "client_no, branch_no, staff_no, day",
-            $after
-        )
-    };
-}
 
 impl Tabled for Registration {
     ghost use Rattle.dh_types.specs.declared.version.Version.TheVariants.{First};
@@ -43,7 +33,11 @@ impl Tabled for Registration {
     ghost is_kind = { itself Registrations };
 
     fn insert_text() -> &'static str {
-        of_registration!("INSERT INTO registration (", ") VALUES (?1, ?2, ?3, ?4)")
+        registration_columns!(
+            names,
+            "INSERT INTO registration (",
+            ") VALUES (?1, ?2, ?3, ?4)"
+        )
     }
 
     fn put(self, books: &mut Books) -> Result<(), AllocError> {
@@ -61,7 +55,7 @@ impl Listed for Registration {
     ghost named = { registration_named };
 
     fn list_text() -> &'static str {
-        of_registration!("SELECT ", " FROM registration")
+        registration_columns!(names, "SELECT ", " FROM registration")
     }
 
     fn rowid_text() -> &'static str {
@@ -90,7 +84,8 @@ impl PlainLook for RegistrationAt {
     ghost question = { registration_at };
 
     fn asked_text() -> &'static str {
-        of_registration!(
+        registration_columns!(
+            names,
             "SELECT ",
             " FROM registration WHERE client_no = ?1 AND branch_no = ?2"
         )

@@ -2,20 +2,10 @@
 
 use crate::{Listed, PlainLook, Tabled};
 use dh_books::Books;
+use dh_ddl::run_columns;
 use dh_types::{EntryMonth, Key, Run, Version};
 use sqlite::types::ValueRef;
 use std::alloc::{AllocError, Global};
-
-// Its columns, between two texts.
-macro_rules! of_run {
-    ($before:literal, $after:literal) => {
-        concat!(
-            $before,
-            "month, req_key, due_count, due_total, closed",
-            $after
-        )
-    };
-}
 
 impl Tabled for Run {
     ghost use Rattle.dh_types.specs.declared.version.Version.TheVariants.{First};
@@ -43,7 +33,7 @@ impl Tabled for Run {
     ghost is_kind = { itself Runs };
 
     fn insert_text() -> &'static str {
-        of_run!("INSERT INTO run (", ") VALUES (?1, ?2, ?3, ?4, ?5)")
+        run_columns!(names, "INSERT INTO run (", ") VALUES (?1, ?2, ?3, ?4, ?5)")
     }
 
     fn put(self, books: &mut Books) -> Result<(), AllocError> {
@@ -61,7 +51,7 @@ impl Listed for Run {
     ghost named = { run_named };
 
     fn list_text() -> &'static str {
-        of_run!("SELECT ", " FROM run")
+        run_columns!(names, "SELECT ", " FROM run")
     }
 
     fn rowid_text() -> &'static str {
@@ -89,7 +79,7 @@ impl PlainLook for RunOf {
     ghost question = { run_of };
 
     fn asked_text() -> &'static str {
-        of_run!("SELECT ", " FROM run WHERE month = ?1")
+        run_columns!(names, "SELECT ", " FROM run WHERE month = ?1")
     }
 
     fn values(&self, alloc: Global) -> Result<Vec<ValueRef<'_>>, AllocError> {
@@ -113,7 +103,7 @@ impl PlainLook for RunKeyed {
     ghost question = { run_keyed };
 
     fn asked_text() -> &'static str {
-        of_run!("SELECT ", " FROM run WHERE req_key = ?1")
+        run_columns!(names, "SELECT ", " FROM run WHERE req_key = ?1")
     }
 
     fn values(&self, alloc: Global) -> Result<Vec<ValueRef<'_>>, AllocError> {

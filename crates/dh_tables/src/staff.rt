@@ -2,20 +2,10 @@
 
 use crate::{Listed, PlainLook, Tabled};
 use dh_books::Books;
+use dh_ddl::staff_columns;
 use dh_types::{Id, Staff, Version};
 use sqlite::types::ValueRef;
 use std::alloc::{AllocError, Global};
-
-// Its columns, between two texts.
-macro_rules! of_staff {
-    ($before:literal, $after:literal) => {
-        concat!(
-            $before,
-            "staff_no, name, position, branch_no",
-            $after
-        )
-    };
-}
 
 impl Tabled for Staff {
     ghost use Rattle.dh_types.specs.declared.version.Version.TheVariants.{First};
@@ -43,7 +33,7 @@ impl Tabled for Staff {
     ghost is_kind = { itself Staff };
 
     fn insert_text() -> &'static str {
-        of_staff!("INSERT INTO staff (", ") VALUES (?1, ?2, ?3, ?4)")
+        staff_columns!(names, "INSERT INTO staff (", ") VALUES (?1, ?2, ?3, ?4)")
     }
 
     fn put(self, books: &mut Books) -> Result<(), AllocError> {
@@ -61,7 +51,7 @@ impl Listed for Staff {
     ghost named = { staff_named };
 
     fn list_text() -> &'static str {
-        of_staff!("SELECT ", " FROM staff")
+        staff_columns!(names, "SELECT ", " FROM staff")
     }
 
     fn rowid_text() -> &'static str {
@@ -89,7 +79,7 @@ impl PlainLook for MemberNumbered {
     ghost question = { member_numbered };
 
     fn asked_text() -> &'static str {
-        of_staff!("SELECT ", " FROM staff WHERE staff_no = ?1")
+        staff_columns!(names, "SELECT ", " FROM staff WHERE staff_no = ?1")
     }
 
     fn values(&self, alloc: Global) -> Result<Vec<ValueRef<'_>>, AllocError> {

@@ -2,20 +2,10 @@
 
 use crate::{Listed, PlainLook, Tabled};
 use dh_books::Books;
+use dh_ddl::viewing_columns;
 use dh_types::{Id, Version, Viewing};
 use sqlite::types::ValueRef;
 use std::alloc::{AllocError, Global};
-
-// Its columns, between two texts.
-macro_rules! of_viewing {
-    ($before:literal, $after:literal) => {
-        concat!(
-            $before,
-            "client_no, property_no, day, comment",
-            $after
-        )
-    };
-}
 
 impl Tabled for Viewing {
     ghost use Rattle.dh_types.specs.declared.version.Version.TheVariants.{First};
@@ -43,7 +33,7 @@ impl Tabled for Viewing {
     ghost is_kind = { itself Viewings };
 
     fn insert_text() -> &'static str {
-        of_viewing!("INSERT INTO viewing (", ") VALUES (?1, ?2, ?3, ?4)")
+        viewing_columns!(names, "INSERT INTO viewing (", ") VALUES (?1, ?2, ?3, ?4)")
     }
 
     fn put(self, books: &mut Books) -> Result<(), AllocError> {
@@ -61,7 +51,7 @@ impl Listed for Viewing {
     ghost named = { viewing_named };
 
     fn list_text() -> &'static str {
-        of_viewing!("SELECT ", " FROM viewing")
+        viewing_columns!(names, "SELECT ", " FROM viewing")
     }
 
     fn rowid_text() -> &'static str {
@@ -90,7 +80,8 @@ impl PlainLook for ViewingOf {
     ghost question = { viewing_of };
 
     fn asked_text() -> &'static str {
-        of_viewing!(
+        viewing_columns!(
+            names,
             "SELECT ",
             " FROM viewing WHERE client_no = ?1 AND property_no = ?2"
         )

@@ -23,7 +23,8 @@ use Rattle.dh_model.specs.Whole.{whole}
 use Rattle.dh_laws.specs.InOrder.{IsEntered, IsInOrder, run_after}
 use Rattle.dh_laws.proofs.InvariantLemmas.Order.{changes_keep_order}
 use Rattle.dh_laws.proofs.VerdictLemmas.Cases.{run_case, run_stays}
-use Rattle.dh_laws.specs.Events.{Interrupted, Happens, IsFurtherBy, IsMovedBy, IsMovedOn, IsOfMonth, RunIfDone, RunIfUndone, Answered, RecoveryInterrupted, state_of}
+use Rattle.dh_laws.specs.Events.{Interrupted, Happens, IsFurtherBy, IsMovedBy, IsMovedOn, IsOfMonth}
+use Rattle.dh_laws.specs.Events.{RunIfDone, RunIfUndone, Answered, RecoveryInterrupted, state_of}
 use Rattle.dh_laws.specs.StateTables.{IsStateInOrder, as_tables}
 use Rattle.dh_laws.specs.Telling.{IsTold, begun, is_opening}
 use Rattle.dh_laws.specs.Batches.{IsPostedInPart, is_plain}
@@ -133,7 +134,8 @@ module _ (s : State) (order : RunOrder) (none : s.open_run ≡ None) (in_order :
   stands most after (inr (run, is, by)) = of_month most run after (let back : run ≡ record { month = order.month; done = 0 } = cc in back) by
 
   -- a run that was opened, and posted in part, was carried out
-  pub run_cut : (most : ℕ) (o t : State) → o ≡ opened → IsPostedInPart most o t → Happens batch_size (Interrupted (command.Run order)) (as_tables s) (as_tables t)
+  pub run_cut : (most : ℕ) (o t : State) → o ≡ opened → IsPostedInPart most o t
+      → Happens batch_size (Interrupted (command.Run order)) (as_tables s) (as_tables t)
   run_cut most o t is part =
       let it = subst (λ (o : State). IsPostedInPart most o t) is part in
       let now = state_of batch_size (as_tables s) in

@@ -138,6 +138,9 @@ module _ (size : ℕ) (before : State) (run : OpenRun) (count : ℕ) (is : befor
       let done : after.open_run ≡ Some (record { month = run.month; done = run.done + count }) =
       stands ∙ ap (λ (b : Bool). Some (record { month = run.month; done = if b then all else run.done + count })) rest in (
         posted_as false rest
-            ∙ (λ i. (record { books = sym same i; open_run = sym done i }, reply.Progress (record { month = run.month; done = run.done + count; of = alike i }))),
+            ∙ (λ i. (
+              record { books = sym same i; open_run = sym done i },
+              reply.Progress (record { month = run.month; done = run.done + count; of = alike i }),
+            )),
         in_order,
       )

@@ -6,7 +6,8 @@ use Rattle.dh_model.specs.Books.{Books, State}
 use Rattle.dh_model.specs.Machine.{step}
 use Rattle.dh_model.specs.Verdicts.{verdict_on}
 use Rattle.dh_model.specs.Whole.{whole}
-use Rattle.dh_laws.specs.Events.{Event, Answered, Interrupted, Attached, RecoveryInterrupted, Recovered, Follow, IsMovedOn, RunIfDone, RunIfUndone, Tables, state_of}
+use Rattle.dh_laws.specs.Events.{Event, Answered, Interrupted, Attached, RecoveryInterrupted, Recovered}
+use Rattle.dh_laws.specs.Events.{Follow, IsMovedOn, RunIfDone, RunIfUndone, Tables, state_of}
 use Rattle.dh_laws.specs.Kept.{Kept, NoneLeft, AnswerCounts, UndoneIsLeftOut, DoneCounts, AttachingIsPassed, RecoveryMovesOn, RecoveryEnds}
 use Rattle.dh_laws.specs.Lives.{AllLives}
 use Rattle.dh_laws.proofs.LifeLemmas.Tables.{mended_whole}

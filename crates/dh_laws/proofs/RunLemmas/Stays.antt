@@ -65,7 +65,8 @@ module _ (size : ℕ) where
 pub acknowledged_runs_stay : (size : ℕ) → AcknowledgedRunsStay size
 acknowledged_runs_stay size start after said before later order pos in_order entered = (
   λ sum follow.
-      let kept = stays size (IsIn size order (λ row. sum_of row ≡ sum)) (still_in size order (λ row. sum_of row ≡ sum)) (command.Run order) (reply.Posted sum) tt
+      let kept = stays size (IsIn size order (λ row. sum_of row ≡ sum)) (still_in size order (λ row. sum_of row ≡ sum))
+      (command.Run order) (reply.Posted sum) tt
       (posted_puts size order sum) start after said before later pos in_order entered follow in
       (kept.0.0, closed_for size order kept.0.0 after.books kept.0.1 kept.0.2 kept.1.kept kept.1.has, kept.0.3),
   λ month follow.

@@ -1,5 +1,6 @@
 -- Each accepted command's rows, and what its checks found.
-use Rattle.std.proofs.Common.{◌≡◌, ◌∙◌, refl, sym, ap, subst, ℕ, ◌+◌, ◌≤◌, Bool, true, false, nat_eq, nat_lt, ◌&&◌, if◌then◌else◌, [], ◌∷◌, ◌++◌, Option, Some, None}
+use Rattle.std.proofs.Common.{◌≡◌, ◌∙◌, refl, sym, ap, subst, ℕ, ◌+◌, ◌≤◌, Bool, true}
+use Rattle.std.proofs.Common.{false, nat_eq, nat_lt, ◌&&◌, if◌then◌else◌, [], ◌∷◌, ◌++◌, Option, Some, None}
 use Rattle.std.proofs.Common.{IfSome, ltb-true, leb-true, nat_le}
 use Rattle.std.proofs.lemmas.Bool.{false≢true}
 use Rattle.std.specs.FinMap.{contains_key, get, len, values}
@@ -44,7 +45,8 @@ use Rattle.dh_model.specs.Checks.{receipt_of_key, registered, run_of_key, unless
 use Rattle.dh_model.specs.Verdicts.{assigned, branch_verdict, commented, judged, lease_checks, lease_verdict, manager_checks, opened_run, post_verdict}
 use Rattle.dh_model.specs.Verdicts.{property_checks, receipt_checks, receipt_verdict, registration_checks, rent_changed, run_verdict, signed, unless_receipt}
 use Rattle.dh_model.specs.Verdicts.{end_verdict, ended, ending_checks, ending_rows, fee_rows, fee_verdict, unless_run, verdict_on}
-use Rattle.dh_laws.proofs.VerdictLemmas.Checks.{CanManage, all_pass, can_manage, deposit_of, first_passes, holds_of, new_key, none_of_leases, passed, property_of}
+use Rattle.dh_laws.proofs.VerdictLemmas.Checks.{CanManage, all_pass, can_manage, deposit_of, first_passes}
+use Rattle.dh_laws.proofs.VerdictLemmas.Checks.{holds_of, new_key, none_of_leases, passed, property_of}
 use Rattle.dh_laws.proofs.VerdictLemmas.Checks.{starts_in_time, was_closed, was_new, was_no_receipt, was_no_run, was_unpaid, was_unposted}
 use Rattle.dh_laws.specs.Batches.{is_plain}
 use Rattle.dh_laws.specs.InOrder.{IsEntered, run_after}

@@ -58,7 +58,8 @@ returns-in-Ok-show-clause-serves g c clean =
     ∙ report_stands (c.answers_pass_the_run.ensures batch_size) c.open_runs_refuse_put_off.ensures (machine g.S.Store old) w.question in_order in
     serves_made g.S.Store old new _ _ (λ x. x ≡ c.args.asked) (asked.Fields (Ok (request.Question w.question)))
     (sym (w.is ∙ ap asked.Fields (w.field-0-is ∙ ap Ok w.field-0-0-is))) false (report_answer (report_of c.in-Ok-show.answer)) c.shown-made.result
-    c.send_made-in-Ok-show.result c.send_made-in-Ok-show.ensures c.shown-made.ensures (ap report_answer shown) (ap stand_of same) (λ e. cc) (λ e. same) (λ no. absurd (no tt))
+    c.send_made-in-Ok-show.result c.send_made-in-Ok-show.ensures c.shown-made.ensures (ap report_answer shown) (ap stand_of same)
+    (λ e. cc) (λ e. same) (λ no. absurd (no tt))
 
 pub returns-in-Err-show-clause-serves : goal.returns-in-Err-show-clause-serves
 returns-in-Err-show-clause-serves g c clean =
@@ -68,7 +69,8 @@ returns-in-Err-show-clause-serves g c clean =
     let before = machine g.S.Store old in
     let ends = c.in-Err-show.ensures.ends in
     serves_fault g.S.Store old new _ _ (λ x. x ≡ c.args.asked) (asked.Fields (Ok (request.Question w.question)))
-    (sym (w.is ∙ ap asked.Fields (w.field-0-is ∙ ap Ok w.field-0-0-is))) tt c.in-Err-show.fault (said c.faulted-in-Err-show.result) c.send-in-Err-show.result c.send-in-Err-show.ensures
+    (sym (w.is ∙ ap asked.Fields (w.field-0-is ∙ ap Ok w.field-0-0-is))) tt c.in-Err-show.fault (said c.faulted-in-Err-show.result)
+    c.send-in-Err-show.result c.send-in-Err-show.ensures
     c.faulted-in-Err-show.ensures (fault_of old new c.in-Err-show.fault ends.cause ends.stopped) ends.stops
     (cut_or_stopped g.S.Store old new (λ now. now ≡ before) _ (c.in-Err-show.ensures.halted clean) ends.stopped refl)
 
@@ -105,12 +107,14 @@ returns-in-Fields-Err-clause-stops g c =
 pub returns-in-Ok-clause-stops : goal.returns-in-Ok-clause-stops
 returns-in-Ok-clause-stops g c =
     let on = c.in-Ok.ensures.ends.goes_on in
-    goes_on_made c.args.agency.now c.step-outcome.new.self _ _ (reply_answer c.in-Ok.reply) true c.replied.result c.send_made-in-Ok.result c.send_made-in-Ok.ensures
+    goes_on_made c.args.agency.now c.step-outcome.new.self _ _ (reply_answer c.in-Ok.reply) true c.replied.result
+    c.send_made-in-Ok.result c.send_made-in-Ok.ensures
     c.replied.ensures (reply_goes_on c.in-Ok.reply) (on.1 ∙ sym on.0)
 
 pub returns-in-Err-clause-stops : goal.returns-in-Err-clause-stops
 returns-in-Err-clause-stops g c =
-    stops_fault c.args.agency.now c.step-outcome.new.self _ _ (said c.faulted.result) c.in-Err.fault c.send-in-Err.result c.send-in-Err.ensures c.faulted.ensures
+    stops_fault c.args.agency.now c.step-outcome.new.self _ _ (said c.faulted.result) c.in-Err.fault c.send-in-Err.result
+    c.send-in-Err.ensures c.faulted.ensures
     c.in-Err.ensures.ends.stops
 
 pub returns-in-Ok-show-clause-stops : goal.returns-in-Ok-show-clause-stops
@@ -121,5 +125,6 @@ returns-in-Ok-show-clause-stops g c =
 
 pub returns-in-Err-show-clause-stops : goal.returns-in-Err-show-clause-stops
 returns-in-Err-show-clause-stops g c =
-    stops_fault c.args.agency.now c.show.new.self _ _ (said c.faulted-in-Err-show.result) c.in-Err-show.fault c.send-in-Err-show.result c.send-in-Err-show.ensures c.faulted-in-Err-show.ensures
+    stops_fault c.args.agency.now c.show.new.self _ _ (said c.faulted-in-Err-show.result) c.in-Err-show.fault c.send-in-Err-show.result
+    c.send-in-Err-show.ensures c.faulted-in-Err-show.ensures
     c.in-Err-show.ensures.ends.stops

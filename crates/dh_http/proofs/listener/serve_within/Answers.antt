@@ -19,7 +19,10 @@ returns-in_err-print_port-clause-served g c =
 pub returns-in_default-new-clause-served : goal.returns-in_default-new-clause-served
 returns-in_default-new-clause-served g c =
     let told = c.in_ok-print_port.ensures in
-    let fewer : AreFewer c.args.service.count [] = record { few = omega (arith, c.number-count.ensures.range.0); going = λ k d below. absurd (omega arith) } in (
+    let fewer : AreFewer c.args.service.count [] = record {
+      few = omega (arith, c.number-count.ensures.range.0);
+      going = λ k d below. absurd (omega arith);
+    } in (
       [],
       serves_none g.S.Store c.args.agency.now,
       Listened told.0 told.1 (prints_behind c.args.service.count told.0 [] _ _ _ (Err (unserved.Fault Memory)) told.2 (fewer, Appends-nil _)),

@@ -35,7 +35,8 @@ returns-in-Err-clause-answers g c clean =
     let before = machine g.S.Store old in
     answers_fault g.S.Store old new _ _ c.args.number (replied (step batch_size (stand g.S.Store old) told)) (IsInterrupted told before) c.in-Err.fault
     c.end_by_fault.result c.end_by_fault.ensures
-    (cut_or_stopped g.S.Store old new (IsInterrupted told before) _ (c.in-Err.ensures.halted clean) c.in-Err.ensures.ends.stopped (same_cut told before before refl))
+    (cut_or_stopped g.S.Store old new (IsInterrupted told before) _ (c.in-Err.ensures.halted clean) c.in-Err.ensures.ends.stopped
+    (same_cut told before before refl))
     (not_on c.in-Err.ensures.ends.stops)
 
 pub returns-in-Err-clause-halts : goal.returns-in-Err-clause-halts

@@ -22,7 +22,8 @@ commit-requires-clause-room g c clean =
     let now = state g.S.Store c.loop-rows.conn in
     let n = c.loop-rows.rows-index in
     let rows = c.rows-item.result in
-    let here = in_front c.args.plan.now.batches.items c.deref.result.now c.min-count.result n rows c.deref.ensures.value c.loop-rows-test.true c.rows-item.is in (
+    let here = in_front c.args.plan.now.batches.items c.deref.result.now c.min-count.result n rows c.deref.ensures.value
+    c.loop-rows-test.true c.rows-item.is in (
       rows_are_new old c.args.plan.now now n c.loop-rows.invariant c.requires.ready rows here.1 here.2 clean,
       rows_begun old c.args.plan.now now n c.loop-rows.invariant c.requires.ready rows here.1 here.2 clean,
     )

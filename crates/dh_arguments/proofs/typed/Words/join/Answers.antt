@@ -1,8 +1,10 @@
-use Rattle.std.proofs.Common.{◌≡◌, ◌+◌, ◌||◌, ◌∙◌, ◌++◌, Bool, Bor, List, ℕ, [], false, true, arith, bytes_eq, codes, drop, get_or, map, rules, string_bytes, subst, sym}
+use Rattle.std.proofs.Common.{◌≡◌, ◌+◌, ◌||◌, ◌∙◌, ◌++◌, Bool, Bor, List, ℕ, [], false}
+use Rattle.std.proofs.Common.{true, arith, bytes_eq, codes, drop, get_or, map, rules, string_bytes, subst, sym}
 use Rattle.dh_arguments.specs.Typed.{joined}
 use Rattle.dh_arguments.proofs.Joining.{after_pair, after_word, left, two_left}
 use Rattle.dh_arguments.proofs.typed.Words.join.Goals as goal
-use Rattle.dh_arguments.proofs.typed.Words.join.Goals.{then-ended, else-ended, else-not-ended-via-then-not-ended+else-begin_with_pair, else-not-ended-via-else-not-ended}
+use Rattle.dh_arguments.proofs.typed.Words.join.Goals.{then-ended, else-ended}
+use Rattle.dh_arguments.proofs.typed.Words.join.Goals.{else-not-ended-via-then-not-ended+else-begin_with_pair, else-not-ended-via-else-not-ended}
 
 neither : (now was ends : Bool) → now ≡ (was || ends) → now ≡ false → (was ≡ false) × (ends ≡ false)
 neither now false false is h = (search rules, search rules)

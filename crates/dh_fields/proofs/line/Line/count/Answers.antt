@@ -11,4 +11,5 @@ returns-in_err-text g c = stops (count g.row.LOW g.row.HIGH) c.args.self.now c.a
 
 pub returns : goal.returns
 unfolding count
-returns g c = reads_spelled (λ text. within g.row.LOW g.row.HIGH (numeral_of text)) g.row.LOW c.args.self.now c.args.number _ c.in_ok-text.ensures _ c.read.ensures _ c.or.ensures
+returns g c = reads_spelled (λ text. within g.row.LOW g.row.HIGH (numeral_of text)) g.row.LOW c.args.self.now c.args.number _
+    c.in_ok-text.ensures _ c.read.ensures _ c.or.ensures

@@ -1,0 +1,199 @@
+#!/usr/bin/env python3
+"""Proves and builds a program with the crates below it. `letting` calls it for the first call.
+
+    tools/build.py PROGRAM LOG     makes crates/PROGRAM/out/PROGRAM; what the toolchain prints goes into LOG
+
+A crate begins once those below it stand, as many at once as there are processors and memory for. The one with the longest chain above it gets
+all processors, and each other one what that leaves. What a crate made is kept in its out/built, so a call that was cut goes on where it stopped.
+Each crate is told on standard error as it begins and ends, and what is under way is told each minute. It ends with 0 if the program was made.
+"""
+import hashlib
+import os
+import re
+import shutil
+import subprocess
+import sys
+import time
+from pathlib import Path
+
+TOP = Path(__file__).resolve().parent.parent
+PARTS = ('src', 'specs', 'proofs')
+MOST_JOBS = 4
+# The memory that a proof takes, with a half of that for each further process of it.
+PROOF_MEMORY = 3e9
+
+
+class Crate:
+    def __init__(self, name, used):
+        self.name, self.used = name, used
+        self.folder = TOP / 'crates' / name
+        self.built = self.folder / 'out' / 'built'
+        self.is_program = (self.folder / 'src' / 'main.rt').exists()
+        self.root = 'src/main.rt' if self.is_program else 'src/lib.rt'
+        self.library = self.built / f'{name}.rlib'
+        self.program = self.folder / 'out' / name
+        files = sorted(path for part in PARTS for path in (self.folder / part).rglob('*') if path.is_file())
+        self.texts = {path: path.read_bytes() for path in files}
+        self.lines = sum(text.count(b'\n') for text in self.texts.values())
+
+    def subject(self):
+        """What its first line says it is for."""
+        first = self.texts[self.folder / self.root].decode().splitlines()[0]
+        return first.removeprefix('//! ').partition(':')[0].partition('.')[0]
+
+
+def crates_of(program):
+    """The program with the crates of the repository below it, each behind those that it uses."""
+    uses = {}
+    for line in (TOP / 'crates.txt').read_text().splitlines():
+        name, _, used = line.partition('#')[0].partition(':')
+        if name.strip():
+            uses[name.strip()] = used.split()
+    found = {}
+
+    def take(name):
+        if name in uses and name not in found:
+            for used in uses[name]:
+                take(used)
+            found[name] = Crate(name, uses[name])
+
+    take(program)
+    return found
+
+
+def below(crate, crates):
+    """The crates of the repository that this one stands on."""
+    found = {}
+    for name in crate.used:
+        if name in crates:
+            found |= below(crates[name], crates) | {name: crates[name]}
+    return found
+
+
+def stamps_of(crates, kit):
+    """A sum for each crate of all that it is made of."""
+    found = {}
+    for crate in crates.values():
+        whole = hashlib.sha256((kit / 'KIT-ID').read_bytes())
+        for path, text in crate.texts.items():
+            whole.update(f'{path.relative_to(crate.folder)} {len(text)} '.encode() + text)
+        for name in crate.used:
+            whole.update(f'{name} {found.get(name)} '.encode())
+        found[crate.name] = whole.hexdigest()
+    return found
+
+
+def words_of(crate, crates, kit, jobs):
+    """The call of the compiler that proves the crate and builds it."""
+    words = [kit / 'bin' / 'rattle', 'build', '--crate-name', crate.name, crate.root, '-L', f'dependency={kit}/rlibs']
+    for name in ['std', *crate.used]:
+        words += ['--extern', f'{name}={crates[name].library if name in crates else kit / "rlibs" / f"{name}.rlib"}']
+    for lower in below(crate, crates).values():
+        words += ['-L', f'dependency={lower.built}']
+    words += ['--antt-project', kit / 'rattle' / 'logic' / 'antt-project.json', '--logic-built', kit / 'logic_built']
+    words += ['--links', f'{crate.name}=', '--jobs', str(jobs)]
+    if crate.is_program:
+        return [*words, '--toolchain', kit / 'toolchain', '--backend', 'llvm', '-o', f'{crate.program}.o']
+    return [*words, '--statements', '-o', crate.library]
+
+
+def linked(crate, kit, log):
+    """Links the program beside its place, and then puts it there."""
+    words = [kit / 'bin' / 'rattle-link', '--target', 'x86_64-unknown-linux-gnu', '--toolchain', kit / 'toolchain']
+    words += ['-o', f'{crate.program}.new', f'{crate.program}.o', kit / 'c' / 'libos_c.a', kit / 'c' / 'liblibc_c.a']
+    if subprocess.run(words, cwd=crate.folder, stdin=subprocess.DEVNULL, stdout=log, stderr=log).returncode:
+        return False
+    os.replace(f'{crate.program}.new', crate.program)
+    return True
+
+
+class Build:
+    """What is left to be built, and what is under way."""
+
+    def __init__(self, crates, kit, log):
+        self.crates, self.kit, self.log = crates, kit, log
+        self.begun = time.monotonic()
+        self.stamps = stamps_of(crates, kit)
+        self.done = {name for name in crates if self.stands(crates[name])}
+        self.left = [name for name in crates if name not in self.done]
+        self.running = {}
+        self.ahead = {}
+        for name in reversed(crates):
+            above = [self.ahead[other] for other in self.ahead if name in crates[other].used]
+            self.ahead[name] = crates[name].lines + max(above, default=0)
+        self.processors = len(os.sched_getaffinity(0))
+        self.memory = 1024 * int(re.search(r'MemAvailable:\s+(\d+)', Path('/proc/meminfo').read_text())[1])
+
+    def stands(self, crate):
+        stamp, made = crate.built / 'stamp', crate.program if crate.is_program else crate.library
+        return made.exists() and stamp.is_file() and stamp.read_text() == self.stamps[crate.name]
+
+    def say(self, text):
+        print(f'letting: {int(time.monotonic() - self.begun) // 60} min: {text}', file=sys.stderr, flush=True)
+
+    def begin(self, name, jobs):
+        crate = self.crates[name]
+        shutil.rmtree(crate.built, ignore_errors=True)
+        crate.built.mkdir(parents=True)
+        self.left.remove(name)
+        said = open(crate.built / 'log', 'w+')
+        words = words_of(crate, self.crates, self.kit, jobs)
+        polite = [] if jobs > 1 else ['nice']
+        ran = subprocess.Popen([*polite, *words], cwd=crate.folder, stdin=subprocess.DEVNULL, stdout=said, stderr=subprocess.STDOUT)
+        self.running[name] = ran, said, jobs, time.monotonic()
+        self.say(f'begins {name}: {crate.subject()}')
+
+    def begin_what_can(self):
+        """Begins the crates whose libraries stand, while processors and memory are free."""
+        ready = [name for name in self.left if self.done.issuperset(below(self.crates[name], self.crates))]
+        for name in sorted(ready, key=lambda name: -self.ahead[name]):
+            is_urgent = all(self.ahead[name] > self.ahead[other] for other in self.running)
+            jobs = min(MOST_JOBS, self.processors) if is_urgent else 1
+            taken = sum(PROOF_MEMORY * (1 + jobs) / 2 for _, _, jobs, _ in self.running.values())
+            if self.running and (len(self.running) >= self.processors or taken + PROOF_MEMORY * (1 + jobs) / 2 > self.memory):
+                return
+            self.begin(name, jobs)
+
+    def end(self, name):
+        """Whether this crate was proved and built."""
+        ran, said, _, since = self.running.pop(name)
+        crate = self.crates[name]
+        said.seek(0)
+        text = said.read()
+        said.close()
+        self.log.write(f'== {name}\n{text}')
+        self.log.flush()
+        if ran.returncode or 'logic=proved ' not in text or crate.is_program and not linked(crate, self.kit, self.log):
+            self.say(f'{name} could not be built')
+            return False
+        (crate.built / 'stamp').write_text(self.stamps[name])
+        self.done.add(name)
+        left = len(self.left) + len(self.running)
+        self.say(f'{name} is proved, in {time.monotonic() - since:.0f} s; {left} left')
+        return True
+
+    def run(self):
+        told = time.monotonic()
+        try:
+            while self.left or self.running:
+                self.begin_what_can()
+                time.sleep(0.2)
+                if not all(self.end(name) for name in [*self.running] if self.running[name][0].poll() is not None):
+                    return False
+                if time.monotonic() - told > 50:
+                    told = time.monotonic()
+                    self.say('still at ' + ', '.join(self.running))
+            return True
+        finally:
+            for ran, *_ in self.running.values():
+                ran.kill()
+
+
+def main(program, log):
+    page = subprocess.run(['rt', 'doc'], capture_output=True, text=True, check=True).stdout.strip()
+    with open(log, 'w') as told:
+        return not Build(crates_of(program), Path(page).parent, told).run()
+
+
+if __name__ == '__main__':
+    sys.exit(main(*sys.argv[1:]) if len(sys.argv) == 3 else __doc__)
