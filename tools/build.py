@@ -1,10 +1,11 @@
 #!/usr/bin/env python3
-"""Proves and builds a program with the crates below it. `letting` calls it for the first call.
+"""Proves and builds a program with the crates below it. `letting` calls it for the first call, and bench/program.sh for a bench.
 
-    tools/build.py PROGRAM LOG     makes crates/PROGRAM/out/PROGRAM; what the toolchain prints goes into LOG
+    tools/build.py PROGRAM LOG [FOLDER]     makes out/PROGRAM in crates/PROGRAM, or in this folder, whose file `libraries` has what it uses;
+                                            what the toolchain prints goes into LOG
 
-A crate begins once those below it stand, as many at once as there are processors and memory for. The one with the longest chain above it gets
-all processors, and each other one what that leaves. What a crate made is kept in its out/built, so a call that was cut goes on where it stopped.
+A crate begins once those below it stand, as many at once as there are processors and memory for. The longer the chain above a crate, the more of
+the processors it gets. What a crate made is kept in its out/built, so a call that was cut goes on where it stopped.
 Each crate is told on standard error as it begins and ends, and what is under way is told each minute. It ends with 0 if the program was made.
 """
 import hashlib
@@ -24,9 +25,8 @@ PROOF_MEMORY = 3e9
 
 
 class Crate:
-    def __init__(self, name, used):
-        self.name, self.used = name, used
-        self.folder = TOP / 'crates' / name
+    def __init__(self, name, used, folder):
+        self.name, self.used, self.folder = name, used, folder
         self.built = self.folder / 'out' / 'built'
         self.is_program = (self.folder / 'src' / 'main.rt').exists()
         self.root = 'src/main.rt' if self.is_program else 'src/lib.rt'
@@ -42,20 +42,23 @@ class Crate:
         return first.removeprefix('//! ').partition(':')[0].partition('.')[0]
 
 
-def crates_of(program):
+def crates_of(program, folder):
     """The program with the crates of the repository below it, each behind those that it uses."""
+    folders = {}
     uses = {}
     for line in (TOP / 'crates.txt').read_text().splitlines():
         name, _, used = line.partition('#')[0].partition(':')
         if name.strip():
             uses[name.strip()] = used.split()
+    if folder:
+        uses[program], folders[program] = (folder / 'libraries').read_text().split(), folder
     found = {}
 
     def take(name):
         if name in uses and name not in found:
             for used in uses[name]:
                 take(used)
-            found[name] = Crate(name, uses[name])
+            found[name] = Crate(name, uses[name], folders.get(name, TOP / 'crates' / name))
 
     take(program)
     return found
@@ -108,7 +111,7 @@ def linked(crate, kit, log):
 
 
 class Build:
-    """What is left to be built, and what is under way."""
+    """What is to be built, and what is under way."""
 
     def __init__(self, crates, kit, log):
         self.crates, self.kit, self.log = crates, kit, log
@@ -129,17 +132,16 @@ class Build:
         return made.exists() and stamp.is_file() and stamp.read_text() == self.stamps[crate.name]
 
     def say(self, text):
-        print(f'letting: {int(time.monotonic() - self.begun) // 60} min: {text}', file=sys.stderr, flush=True)
+        print(f'{int(time.monotonic() - self.begun) // 60} min: {text}', file=sys.stderr, flush=True)
 
-    def begin(self, name, jobs):
+    def begin(self, name, jobs, rank):
         crate = self.crates[name]
         shutil.rmtree(crate.built, ignore_errors=True)
         crate.built.mkdir(parents=True)
         self.left.remove(name)
         said = open(crate.built / 'log', 'w+')
-        words = words_of(crate, self.crates, self.kit, jobs)
-        polite = [] if jobs > 1 else ['nice']
-        ran = subprocess.Popen([*polite, *words], cwd=crate.folder, stdin=subprocess.DEVNULL, stdout=said, stderr=subprocess.STDOUT)
+        words = ['nice', '-n', str(min(5 * rank, 15)), *words_of(crate, self.crates, self.kit, jobs)]
+        ran = subprocess.Popen(words, cwd=crate.folder, stdin=subprocess.DEVNULL, stdout=said, stderr=subprocess.STDOUT)
         self.running[name] = ran, said, jobs, time.monotonic()
         self.say(f'begins {name}: {crate.subject()}')
 
@@ -147,12 +149,12 @@ class Build:
         """Begins the crates whose libraries stand, while processors and memory are free."""
         ready = [name for name in self.left if self.done.issuperset(below(self.crates[name], self.crates))]
         for name in sorted(ready, key=lambda name: -self.ahead[name]):
-            is_urgent = all(self.ahead[name] > self.ahead[other] for other in self.running)
-            jobs = min(MOST_JOBS, self.processors) if is_urgent else 1
-            taken = sum(PROOF_MEMORY * (1 + jobs) / 2 for _, _, jobs, _ in self.running.values())
-            if self.running and (len(self.running) >= self.processors or taken + PROOF_MEMORY * (1 + jobs) / 2 > self.memory):
+            rank = sum(self.ahead[other] > self.ahead[name] for other in self.running)
+            jobs = min(MOST_JOBS >> rank or 1, self.processors)
+            taken = sum(PROOF_MEMORY * (1 + it) / 2 for it in [jobs, *(it for _, _, it, _ in self.running.values())])
+            if self.running and (rank >= self.processors or len(self.running) > self.processors + 1 or taken > self.memory):
                 return
-            self.begin(name, jobs)
+            self.begin(name, jobs, rank)
 
     def end(self, name):
         """Whether this crate was proved and built."""
@@ -189,11 +191,11 @@ class Build:
                 ran.kill()
 
 
-def main(program, log):
+def main(program, log, folder=None):
     page = subprocess.run(['rt', 'doc'], capture_output=True, text=True, check=True).stdout.strip()
     with open(log, 'w') as told:
-        return not Build(crates_of(program), Path(page).parent, told).run()
+        return not Build(crates_of(program, folder and Path(folder).resolve()), Path(page).parent, told).run()
 
 
 if __name__ == '__main__':
-    sys.exit(main(*sys.argv[1:]) if len(sys.argv) == 3 else __doc__)
+    sys.exit(main(*sys.argv[1:]) if len(sys.argv) in (3, 4) else __doc__)
