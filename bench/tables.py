@@ -12,7 +12,7 @@ import sys
 import time
 from pathlib import Path
 
-TEXTS = Path(__file__).parent.parent / "crates/dh_ddl/src/texts.rt"
+SOURCES = Path(__file__).parent.parent / "crates/dh_ddl/src"
 SAMPLE = 1000
 FIRST_MONTH = 24000
 # A run has a month of its own, of which there are 2,412.
@@ -24,13 +24,27 @@ TABLES = ["branch", "staff", "owner", "property", "client", "registration", "vie
           "receipt", "run", "part"]
 
 
+def columns_of(table):
+    """The columns of a table as the product makes it, each with what it holds."""
+    macro = re.search(rf"macro_rules! {table}_columns {{(.*?)\n}}", (SOURCES / "columns.rt").read_text(), re.S).group(1)
+    return ", ".join(f"{name} {holds}" for name, holds in re.findall(r'"(\w+)" "(.*?)"', macro))
+
+
 def texts_of(name="SECOND"):
     """The statements of this list of the product, in their order: those that make the tables and indexes of a version, or those of the second
     of those of the first."""
-    source = TEXTS.read_text()
-    texts = dict(re.findall(r'pub const (\w+): &str =\s*"(.*?)";', source, re.S))
-    order = re.search(rf"static {name}: .*?= \[(.*?)\]", source, re.S).group(1)
-    return [re.sub(r"\\\n\s*", "", texts[name]) for name in re.findall(r"\w+", order)]
+    source = (SOURCES / "texts.rt").read_text()
+    texts = dict(re.findall(r'const (\w+): &str =\s*"(.*?)";', source))
+    for text, table, before, after in re.findall(r'const (\w+): &str = (\w+)_columns!\(\s*table,\s*"(.*?)",\s*"(.*?)"\s*\)', source):
+        texts[text] = before + columns_of(table) + after
+
+    def listed(head):
+        return [word for word in re.findall(r"\w+", re.search(rf"{head}(.*?)[)\]]", source, re.S).group(1)) if word in texts]
+
+    tables = listed(r"\$list!\(")
+    first, second = (listed(rf"macro_rules! {macro} .*?\$\(\$text,\)\*") for macro in ("first_list", "second_list"))
+    order = {"FIRST": tables + first, "SECOND": tables + second, "FIRST_TO_SECOND": listed(r"second_list!\(") + second}[name]
+    return [texts[name] for name in order]
 
 
 def opened(path):
