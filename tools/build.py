@@ -42,7 +42,7 @@ class Crate:
         return first.removeprefix('//! ').partition(':')[0].partition('.')[0]
 
 
-def crates_of(program, folder):
+def crates_of(program, folder=None):
     """The program with the crates of the repository below it, each behind those that it uses."""
     folders = {}
     uses = {}
@@ -86,18 +86,22 @@ def stamps_of(crates, kit):
     return found
 
 
-def words_of(crate, crates, kit, jobs):
-    """The call of the compiler that proves the crate and builds it."""
-    words = [kit / 'bin' / 'rattle', 'build', '--crate-name', crate.name, crate.root, '-L', f'dependency={kit}/rlibs']
+def words_of(what, crate, crates, kit, jobs):
+    """The call of the compiler that checks the crate or builds it."""
+    words = [kit / 'bin' / 'rattle', what, '--crate-name', crate.name, crate.root, '-L', f'dependency={kit}/rlibs']
     for name in ['std', *crate.used]:
         words += ['--extern', f'{name}={crates[name].library if name in crates else kit / "rlibs" / f"{name}.rlib"}']
     for lower in below(crate, crates).values():
         words += ['-L', f'dependency={lower.built}']
     words += ['--antt-project', kit / 'rattle' / 'logic' / 'antt-project.json', '--logic-built', kit / 'logic_built']
-    words += ['--links', f'{crate.name}=', '--jobs', str(jobs)]
+    return [*words, '--links', f'{crate.name}=', '--jobs', str(jobs)]
+
+
+def made_by(crate, kit):
+    """What the compiler is to make of the crate."""
     if crate.is_program:
-        return [*words, '--toolchain', kit / 'toolchain', '--backend', 'llvm', '-o', f'{crate.program}.o']
-    return [*words, '--statements', '-o', crate.library]
+        return ['--toolchain', kit / 'toolchain', '--backend', 'llvm', '-o', f'{crate.program}.o']
+    return ['--statements', '-o', crate.library]
 
 
 def linked(crate, kit, log):
@@ -140,7 +144,7 @@ class Build:
         crate.built.mkdir(parents=True)
         self.left.remove(name)
         said = open(crate.built / 'log', 'w+')
-        words = ['nice', '-n', str(min(5 * rank, 15)), *words_of(crate, self.crates, self.kit, jobs)]
+        words = ['nice', '-n', str(min(5 * rank, 15)), *words_of('build', crate, self.crates, self.kit, jobs), *made_by(crate, self.kit)]
         ran = subprocess.Popen(words, cwd=crate.folder, stdin=subprocess.DEVNULL, stdout=said, stderr=subprocess.STDOUT)
         self.running[name] = ran, said, jobs, time.monotonic()
         self.say(f'begins {name}: {crate.subject()}')
@@ -191,10 +195,15 @@ class Build:
                 ran.kill()
 
 
-def main(program, log, folder=None):
+def toolchain():
+    """The folder of the toolchain."""
     page = subprocess.run(['rt', 'doc'], capture_output=True, text=True, check=True).stdout.strip()
+    return Path(page).parent
+
+
+def main(program, log, folder=None):
     with open(log, 'w') as told:
-        return not Build(crates_of(program, folder and Path(folder).resolve()), Path(page).parent, told).run()
+        return not Build(crates_of(program, folder and Path(folder).resolve()), toolchain(), told).run()
 
 
 if __name__ == '__main__':

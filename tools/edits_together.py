@@ -3,10 +3,11 @@
 
     tools/edits_together.py [--gate] CRATE [NAME..]     those of the crate, or these alone; with --gate those that the gate tries too
 
-It works on a copy of the repository. A group has wrong bodies of different functions. Each has to be refused at a goal of its own function,
-by one `rt check` of the group; one that does not show it is tried alone. Prints a line for each: `refused` with the first goal or error of its
-function, `names` where a proof file names what the body took away, `bad` where it does not compile, `proved` where nothing refused it.
-Ends with 0 if each was refused.
+It works on a copy of the crate, over the libraries below it as tools/build.py builds them. A group has wrong bodies of different functions.
+Each has to be refused at a goal of its own function, by one check of the group; one that does not show it is tried alone. Where one group has
+all, only the modules with a wrong body are checked. Prints a line for each: `refused` with the first goal or error of its function, `names`
+where a proof file names what the body took away, `bad` where it does not compile, `proved` where nothing refused it. Ends with 0 if each was
+refused.
 """
 import os
 import re
@@ -15,6 +16,8 @@ import subprocess
 import sys
 import tempfile
 from pathlib import Path
+
+from build import Build, crates_of, toolchain, words_of
 
 GROUP = 12
 FUNCTION = re.compile(r'^\s*(?:pub(?:\(crate\))? )?(?:const )?fn (\w+)')
@@ -83,19 +86,38 @@ def groups_of(edits, crate):
     return [group for group, _ in groups]
 
 
-def put_back(crate, kept):
-    """The sources and definitions as they were."""
-    for part in kept.iterdir():
-        shutil.rmtree(crate / part.name)
-        shutil.copytree(part, crate / part.name)
+def module_of(file):
+    """The module that a source file has; none for the root."""
+    parts = [part.removesuffix('.rt') for part in Path(file).parts[1:]]
+    return '::'.join(part for part in parts if part not in ('lib', 'main', 'mod'))
 
 
-def checked(crate, edits, kept):
-    """The output of a check with these wrong bodies, without those whose texts no longer stand."""
-    put_back(crate, kept)
-    done = [edit for edit in edits if edit.made(crate)]
-    run = subprocess.run(['rt', 'check'], cwd=crate, stdin=subprocess.DEVNULL, capture_output=True, text=True)
-    return done, run.stdout + run.stderr
+class Room:
+    """A copy of a crate in which wrong bodies are tried. What one check proves the next one takes over."""
+
+    def __init__(self, work, crate, words):
+        self.crate, self.kept, self.proved, self.words = work / 'crate', work / 'kept', work / 'proved', words
+        shutil.copytree(crate, self.crate, ignore=shutil.ignore_patterns('out'))
+        shutil.copytree(self.crate, self.kept)
+        self.is_whole = True
+
+    def put_back(self):
+        """The sources and definitions as they were."""
+        for part in ('src', 'specs'):
+            if (self.kept / part).is_dir():
+                shutil.rmtree(self.crate / part)
+                shutil.copytree(self.kept / part, self.crate / part)
+
+    def checked(self, edits):
+        """The output of a check with these wrong bodies, without those whose texts no longer stand."""
+        self.put_back()
+        done = [edit for edit in edits if edit.made(self.crate)]
+        words = [*self.words, '--incremental', self.proved]
+        if not self.is_whole:
+            modules = {module_of(file) for edit in done for file, _, _ in edit.changes}
+            words += [word for module in sorted(modules) for word in ('--only', module)]
+        run = subprocess.run(words, cwd=self.crate, stdin=subprocess.DEVNULL, capture_output=True, text=True, errors='replace')
+        return done, run.stdout + run.stderr
 
 
 def stands_for(name, module, function, output):
@@ -127,7 +149,7 @@ def is_at_a_goal(why, errors):
 
 
 def is_compiled(output):
-    return 'functions=' in output or 'not-proved' in output
+    return 'functions=' in output or 'not-proved' in output or re.search(r'^only=', output, re.M) is not None
 
 
 def told(edit, verdict, why):
@@ -135,8 +157,8 @@ def told(edit, verdict, why):
     return verdict == 'refused'
 
 
-def tried_alone(crate, edit, kept, functions):
-    done, output = checked(crate, [edit], kept)
+def tried_alone(room, edit, functions):
+    done, output = room.checked([edit])
     if not done or not is_compiled(output):
         return told(edit, 'bad', output.strip()[-160:].replace('\n', ' '))
     why = refusal(output, functions) or next((f'{name}: {why.strip(" :;")}' for name, why in REFUSED.findall(output)), None)
@@ -148,9 +170,10 @@ def tried_alone(crate, edit, kept, functions):
     return told(edit, 'refused', f'alone, {why} {errors[0] if errors else ""}')
 
 
-def tried(crate, group, kept):
-    functions = {edit.name: edit.functions(crate) for edit in group}
-    done, output = checked(crate, group, kept)
+def tried(room, group):
+    room.put_back()
+    functions = {edit.name: edit.functions(room.crate) for edit in group}
+    done, output = room.checked(group)
     right = True
     for edit in group:
         why = refusal(output, functions[edit.name]) if edit in done and is_compiled(output) else None
@@ -158,7 +181,7 @@ def tried(crate, group, kept):
         if why and is_at_a_goal(why, errors):
             told(edit, 'refused', f'{why} {errors[0] if errors else ""}')
         else:
-            right = tried_alone(crate, edit, kept, functions[edit.name]) and right
+            right = tried_alone(room, edit, functions[edit.name]) and right
     return right
 
 
@@ -166,24 +189,23 @@ def main(words):
     gate = '--gate' in words
     words = [word for word in words if word != '--gate']
     name, only = words[0], words[1:]
-    top = Path(subprocess.run(['git', 'rev-parse', '--show-toplevel'], capture_output=True, text=True, check=True).stdout.strip())
-    with tempfile.TemporaryDirectory() as work:
-        copy = Path(work) / 'copy'
-        subprocess.run(['git', 'clone', '-q', top, copy], check=True)
-        crate = copy / 'crates' / name
-        paths = sorted(path for path in (crate / 'must-fail').glob('*.edit*') if gate or path.name.endswith('.md'))
-        edits = [edit for edit in map(Edit, paths) if not only or edit.name in only]
-        kept = Path(work) / 'kept'
-        for part in ('src', 'specs'):
-            if (crate / part).is_dir():
-                shutil.copytree(crate / part, kept / part)
-        _, output = checked(crate, [], kept)
+    crates, kit = crates_of(name), toolchain()
+    source = crates[name].folder
+    paths = sorted(path for path in (source / 'must-fail').glob('*.edit*') if gate or path.name.endswith('.md'))
+    edits = [edit for edit in map(Edit, paths) if not only or edit.name in only]
+    with tempfile.TemporaryDirectory() as work, open(Path(work) / 'log', 'w') as log:
+        if not Build({lower: crate for lower, crate in crates.items() if lower != name}, kit, log).run():
+            sys.exit(f'what stands below {name} could not be built')
+        room = Room(Path(work), source, words_of('check', crates[name], crates, kit, 1))
+        groups = groups_of(edits, room.crate)
+        room.is_whole = len(groups) > 1 or any(not edit.functions(room.crate) or not module_of(file)
+                                               for edit in edits for file, _, _ in edit.changes)
+        _, output = room.checked([]) if room.is_whole else (None, 'logic=proved')
         if 'logic=proved' not in output:
             sys.exit(f'{name} is not proved as it stands: {output[-300:]}')
         right = True
-        for group in groups_of(edits, crate):
-            put_back(crate, kept)
-            right = tried(crate, group, kept) and right
+        for group in groups:
+            right = tried(room, group) and right
         print(f'{name}: {len(edits)} tried, {"each refused" if right else "not each refused"}')
     return not right
 
