@@ -5,7 +5,7 @@
                                             what the toolchain prints goes into LOG
 
 A crate begins once those below it stand, as many at once as there are processors and memory for. The longer the chain above a crate, the more of
-the processors it gets. What a crate made is kept in its out/built, so a call that was cut goes on where it stopped.
+the processors it gets. What a crate made is kept in its out/rlib, so a call that was cut goes on where it stopped.
 Each crate is told on standard error as it begins and ends, and what is under way is told each minute. It ends with 0 if the program was made.
 """
 import hashlib
@@ -27,10 +27,12 @@ PROOF_MEMORY = 3e9
 class Crate:
     def __init__(self, name, used, folder):
         self.name, self.used, self.folder = name, used, folder
-        self.built = self.folder / 'out' / 'built'
+        # `rt` refuses sources of another place below out/, and those of a library are there.
+        self.built = self.folder / 'out' / 'rlib'
         self.is_program = (self.folder / 'src' / 'main.rt').exists()
         self.root = 'src/main.rt' if self.is_program else 'src/lib.rt'
         self.library = self.built / f'{name}.rlib'
+        self.stamp = self.built / 'built-of'
         self.program = self.folder / 'out' / name
         files = sorted(path for part in PARTS for path in (self.folder / part).rglob('*') if path.is_file())
         self.texts = {path: path.read_bytes() for path in files}
@@ -132,8 +134,8 @@ class Build:
         self.memory = 1024 * int(re.search(r'MemAvailable:\s+(\d+)', Path('/proc/meminfo').read_text())[1])
 
     def stands(self, crate):
-        stamp, made = crate.built / 'stamp', crate.program if crate.is_program else crate.library
-        return made.exists() and stamp.is_file() and stamp.read_text() == self.stamps[crate.name]
+        made = crate.program if crate.is_program else crate.library
+        return made.exists() and crate.stamp.is_file() and crate.stamp.read_text() == self.stamps[crate.name]
 
     def say(self, text):
         print(f'{int(time.monotonic() - self.begun) // 60} min: {text}', file=sys.stderr, flush=True)
@@ -172,7 +174,7 @@ class Build:
         if ran.returncode or 'logic=proved ' not in text or crate.is_program and not linked(crate, self.kit, self.log):
             self.say(f'{name} could not be built')
             return False
-        (crate.built / 'stamp').write_text(self.stamps[name])
+        crate.stamp.write_text(self.stamps[name])
         self.done.add(name)
         left = len(self.left) + len(self.running)
         self.say(f'{name} is proved, in {time.monotonic() - since:.0f} s; {left} left')
