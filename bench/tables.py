@@ -26,8 +26,8 @@ TABLES = ["branch", "staff", "owner", "property", "client", "registration", "vie
 
 def columns_of(table):
     """The columns of a table as the product makes it, each with what it holds."""
-    macro = re.search(rf"macro_rules! {table}_columns {{(.*?)\n}}", (SOURCES / "columns.rt").read_text(), re.S).group(1)
-    return ", ".join(f"{name} {holds}" for name, holds in re.findall(r'"(\w+)" "(.*?)"', macro))
+    rule = re.search(rf"\n    \(\$what:ident, {table},.*?\n    }};", (SOURCES / "columns.rt").read_text(), re.S).group()
+    return ", ".join(f"{name} {holds}" for name, holds in re.findall(r'"(\w+)" "(.*?)"', rule))
 
 
 def texts_of(name="SECOND"):
@@ -35,8 +35,8 @@ def texts_of(name="SECOND"):
     of those of the first."""
     source = (SOURCES / "texts.rt").read_text()
     texts = dict(re.findall(r'const (\w+): &str =\s*"(.*?)";', source))
-    for text, table, before, after in re.findall(r'const (\w+): &str = (\w+)_columns!\(\s*table,\s*"(.*?)",\s*"(.*?)"\s*\)', source):
-        texts[text] = before + columns_of(table) + after
+    for text, table, more in re.findall(r'const (\w+): &str = text_of!\(\s*create,\s*(\w+),\s*"(.*?)"\s*\)', source):
+        texts[text] = f"CREATE TABLE {table} ({columns_of(table)}{more}) STRICT"
 
     def listed(head):
         return [word for word in re.findall(r"\w+", re.search(rf"{head}(.*?)[)\]]", source, re.S).group(1)) if word in texts]

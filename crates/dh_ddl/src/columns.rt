@@ -1,88 +1,61 @@
 //! The columns of each table, each with what it holds: for the text that makes the table, and for those that read and write its rows.
 
-/// A text with columns between two others: their names alone, or `table` for each with what it holds.
+/// The text `create` of a table with these columns, `insert` of a row, or `select` of rows, with more at its end.
 #[macro_export]
-macro_rules! columns_between {
-    (names, $before:literal, $after:literal, $first:literal $held:literal $(, $name:literal $holds:literal)*) => {
-        concat!($before, $first, $(", ", $name,)* $after)
+macro_rules! text_with {
+    (create, $more:literal, $table:literal, $first:literal $held:literal $(, $name:literal $holds:literal)*) => {
+        concat!("CREATE TABLE ", $table, " (", $first, " ", $held, $(", ", $name, " ", $holds,)* $more, ") STRICT")
     };
-    (table, $before:literal, $after:literal, $first:literal $held:literal $(, $name:literal $holds:literal)*) => {
-        concat!($before, $first, " ", $held, $(", ", $name, " ", $holds,)* $after)
+    (insert, $more:literal, $table:literal, $first:literal $held:literal $(, $name:literal $holds:literal)*) => {
+        concat!("INSERT INTO ", $table, " (", $first, $(", ", $name,)* ") VALUES (", $more, ")")
+    };
+    (select, $more:literal, $table:literal, $first:literal $held:literal $(, $name:literal $holds:literal)*) => {
+        concat!("SELECT ", $first, $(", ", $name,)* " FROM ", $table, $more)
     };
 }
 
-/// The columns of `meta`.
+/// The same of one of our tables.
 #[macro_export]
-macro_rules! meta_columns {
-    ($what:ident, $before:literal, $after:literal) => {
-        $crate::columns_between!(
-            $what,
-            $before,
-            $after,
+macro_rules! text_of {
+    ($what:ident, meta, $more:literal) => {
+        $crate::text_with!(
+            $what, $more, "meta",
             "id" "INTEGER PRIMARY KEY",
             "version" "INTEGER NOT NULL",
             "first_month" "INTEGER NOT NULL",
             "next_month" "INTEGER NOT NULL"
         )
     };
-}
-
-/// The columns of `branch`.
-#[macro_export]
-macro_rules! branch_columns {
-    ($what:ident, $before:literal, $after:literal) => {
-        $crate::columns_between!(
-            $what,
-            $before,
-            $after,
+    ($what:ident, branch, $more:literal) => {
+        $crate::text_with!(
+            $what, $more, "branch",
             "branch_no" "TEXT NOT NULL PRIMARY KEY",
             "street" "TEXT NOT NULL",
             "city" "TEXT NOT NULL",
             "postcode" "TEXT NOT NULL"
         )
     };
-}
-
-/// The columns of `staff`.
-#[macro_export]
-macro_rules! staff_columns {
-    ($what:ident, $before:literal, $after:literal) => {
-        $crate::columns_between!(
-            $what,
-            $before,
-            $after,
+    ($what:ident, staff, $more:literal) => {
+        $crate::text_with!(
+            $what, $more, "staff",
             "staff_no" "TEXT NOT NULL PRIMARY KEY",
             "name" "TEXT NOT NULL",
             "position" "TEXT NOT NULL",
             "branch_no" "TEXT NOT NULL REFERENCES branch"
         )
     };
-}
-
-/// The columns of `owner`.
-#[macro_export]
-macro_rules! owner_columns {
-    ($what:ident, $before:literal, $after:literal) => {
-        $crate::columns_between!(
-            $what,
-            $before,
-            $after,
+    ($what:ident, owner, $more:literal) => {
+        $crate::text_with!(
+            $what, $more, "owner",
             "owner_no" "TEXT NOT NULL PRIMARY KEY",
             "name" "TEXT NOT NULL",
             "address" "TEXT NOT NULL",
             "telephone" "TEXT NOT NULL"
         )
     };
-}
-
-/// The columns of `property`.
-#[macro_export]
-macro_rules! property_columns {
-    ($what:ident, $before:literal, $after:literal) => {
-        $crate::columns_between!(
-            $what,
-            $before,
-            $after,
+    ($what:ident, property, $more:literal) => {
+        $crate::text_with!(
+            $what, $more, "property",
             "property_no" "TEXT NOT NULL PRIMARY KEY",
             "street" "TEXT NOT NULL",
             "city" "TEXT NOT NULL",
@@ -95,16 +68,9 @@ macro_rules! property_columns {
             "branch_no" "TEXT NOT NULL REFERENCES branch"
         )
     };
-}
-
-/// The columns of `client`.
-#[macro_export]
-macro_rules! client_columns {
-    ($what:ident, $before:literal, $after:literal) => {
-        $crate::columns_between!(
-            $what,
-            $before,
-            $after,
+    ($what:ident, client, $more:literal) => {
+        $crate::text_with!(
+            $what, $more, "client",
             "client_no" "TEXT NOT NULL PRIMARY KEY",
             "name" "TEXT NOT NULL",
             "telephone" "TEXT NOT NULL",
@@ -112,64 +78,36 @@ macro_rules! client_columns {
             "max_rent" "INTEGER NOT NULL"
         )
     };
-}
-
-/// The columns of `registration`.
-#[macro_export]
-macro_rules! registration_columns {
-    ($what:ident, $before:literal, $after:literal) => {
-        $crate::columns_between!(
-            $what,
-            $before,
-            $after,
+    ($what:ident, registration, $more:literal) => {
+        $crate::text_with!(
+            $what, $more, "registration",
             "client_no" "TEXT NOT NULL REFERENCES client",
             "branch_no" "TEXT NOT NULL REFERENCES branch",
             "staff_no" "TEXT NOT NULL REFERENCES staff",
             "day" "TEXT NOT NULL"
         )
     };
-}
-
-/// The columns of `viewing`.
-#[macro_export]
-macro_rules! viewing_columns {
-    ($what:ident, $before:literal, $after:literal) => {
-        $crate::columns_between!(
-            $what,
-            $before,
-            $after,
+    ($what:ident, viewing, $more:literal) => {
+        $crate::text_with!(
+            $what, $more, "viewing",
             "client_no" "TEXT NOT NULL REFERENCES client",
             "property_no" "TEXT NOT NULL REFERENCES property",
             "day" "TEXT NOT NULL",
             "comment" "TEXT"
         )
     };
-}
-
-/// The columns of `inspection`.
-#[macro_export]
-macro_rules! inspection_columns {
-    ($what:ident, $before:literal, $after:literal) => {
-        $crate::columns_between!(
-            $what,
-            $before,
-            $after,
+    ($what:ident, inspection, $more:literal) => {
+        $crate::text_with!(
+            $what, $more, "inspection",
             "property_no" "TEXT NOT NULL REFERENCES property",
             "day" "TEXT NOT NULL",
             "staff_no" "TEXT NOT NULL REFERENCES staff",
             "comment" "TEXT NOT NULL"
         )
     };
-}
-
-/// The columns of `lease`.
-#[macro_export]
-macro_rules! lease_columns {
-    ($what:ident, $before:literal, $after:literal) => {
-        $crate::columns_between!(
-            $what,
-            $before,
-            $after,
+    ($what:ident, lease, $more:literal) => {
+        $crate::text_with!(
+            $what, $more, "lease",
             "lease_no" "INTEGER PRIMARY KEY",
             "client_no" "TEXT NOT NULL REFERENCES client",
             "property_no" "TEXT NOT NULL REFERENCES property",
@@ -179,16 +117,9 @@ macro_rules! lease_columns {
             "rent" "INTEGER NOT NULL"
         )
     };
-}
-
-/// The columns of `charge`.
-#[macro_export]
-macro_rules! charge_columns {
-    ($what:ident, $before:literal, $after:literal) => {
-        $crate::columns_between!(
-            $what,
-            $before,
-            $after,
+    ($what:ident, charge, $more:literal) => {
+        $crate::text_with!(
+            $what, $more, "charge",
             "lease_no" "INTEGER NOT NULL REFERENCES lease",
             "k" "INTEGER NOT NULL",
             "month" "INTEGER NOT NULL",
@@ -196,16 +127,9 @@ macro_rules! charge_columns {
             "amount" "INTEGER NOT NULL"
         )
     };
-}
-
-/// The columns of `receipt`.
-#[macro_export]
-macro_rules! receipt_columns {
-    ($what:ident, $before:literal, $after:literal) => {
-        $crate::columns_between!(
-            $what,
-            $before,
-            $after,
+    ($what:ident, receipt, $more:literal) => {
+        $crate::text_with!(
+            $what, $more, "receipt",
             "receipt_no" "INTEGER PRIMARY KEY",
             "req_key" "TEXT NOT NULL UNIQUE",
             "lease_no" "INTEGER NOT NULL REFERENCES lease",
@@ -214,16 +138,9 @@ macro_rules! receipt_columns {
             "day" "TEXT NOT NULL"
         )
     };
-}
-
-/// The columns of `run`.
-#[macro_export]
-macro_rules! run_columns {
-    ($what:ident, $before:literal, $after:literal) => {
-        $crate::columns_between!(
-            $what,
-            $before,
-            $after,
+    ($what:ident, run, $more:literal) => {
+        $crate::text_with!(
+            $what, $more, "run",
             "month" "INTEGER PRIMARY KEY",
             "req_key" "TEXT NOT NULL UNIQUE",
             "due_count" "INTEGER NOT NULL",
@@ -231,16 +148,9 @@ macro_rules! run_columns {
             "closed" "INTEGER NOT NULL"
         )
     };
-}
-
-/// The columns of `part`.
-#[macro_export]
-macro_rules! part_columns {
-    ($what:ident, $before:literal, $after:literal) => {
-        $crate::columns_between!(
-            $what,
-            $before,
-            $after,
+    ($what:ident, part, $more:literal) => {
+        $crate::text_with!(
+            $what, $more, "part",
             "month" "INTEGER NOT NULL REFERENCES run",
             "branch_no" "TEXT NOT NULL REFERENCES branch",
             "through_lease" "INTEGER NOT NULL",
@@ -248,46 +158,25 @@ macro_rules! part_columns {
             "due_total" "INTEGER NOT NULL"
         )
     };
-}
-
-/// The columns of `branch_fee`.
-#[macro_export]
-macro_rules! branch_fee_columns {
-    ($what:ident, $before:literal, $after:literal) => {
-        $crate::columns_between!(
-            $what,
-            $before,
-            $after,
+    ($what:ident, branch_fee, $more:literal) => {
+        $crate::text_with!(
+            $what, $more, "branch_fee",
             "branch_no" "TEXT NOT NULL PRIMARY KEY REFERENCES branch",
             "fee" "INTEGER NOT NULL"
         )
     };
-}
-
-/// The columns of `part_fee`.
-#[macro_export]
-macro_rules! part_fee_columns {
-    ($what:ident, $before:literal, $after:literal) => {
-        $crate::columns_between!(
-            $what,
-            $before,
-            $after,
+    ($what:ident, part_fee, $more:literal) => {
+        $crate::text_with!(
+            $what, $more, "part_fee",
             "month" "INTEGER NOT NULL",
             "branch_no" "TEXT NOT NULL",
             "fee" "INTEGER NOT NULL",
             "fee_total" "INTEGER NOT NULL"
         )
     };
-}
-
-/// The columns of `ending`.
-#[macro_export]
-macro_rules! ending_columns {
-    ($what:ident, $before:literal, $after:literal) => {
-        $crate::columns_between!(
-            $what,
-            $before,
-            $after,
+    ($what:ident, ending, $more:literal) => {
+        $crate::text_with!(
+            $what, $more, "ending",
             "lease_no" "INTEGER PRIMARY KEY REFERENCES lease",
             "months" "INTEGER NOT NULL"
         )

@@ -1,73 +1,52 @@
 //! The texts that make the tables and their indexes. A table comes behind those that it refers to.
 
-use crate::{
-    branch_columns, branch_fee_columns, charge_columns, client_columns, ending_columns,
-    inspection_columns, lease_columns, meta_columns, owner_columns, part_columns, part_fee_columns,
-    property_columns, receipt_columns, registration_columns, run_columns, staff_columns,
-    viewing_columns,
-};
+use crate::text_of;
 
 /// `meta`: one row with the version and the months.
-pub const META: &str = meta_columns!(table, "CREATE TABLE meta (", ") STRICT");
+pub const META: &str = text_of!(create, meta, "");
 
 /// `branch`: a row a branch, by its number.
-pub const BRANCH: &str = branch_columns!(table, "CREATE TABLE branch (", ") STRICT");
+pub const BRANCH: &str = text_of!(create, branch, "");
 
 /// `staff`: a row a member of staff, by the number.
-pub const STAFF: &str = staff_columns!(table, "CREATE TABLE staff (", ") STRICT");
+pub const STAFF: &str = text_of!(create, staff, "");
 
 /// `owner`: a row an owner, by the number.
-pub const OWNER: &str = owner_columns!(table, "CREATE TABLE owner (", ") STRICT");
+pub const OWNER: &str = text_of!(create, owner, "");
 
 /// `property`: a row a property, by its number; staff_no is NULL where nobody manages it.
-pub const PROPERTY: &str = property_columns!(table, "CREATE TABLE property (", ") STRICT");
+pub const PROPERTY: &str = text_of!(create, property, "");
 
 /// `client`: a row a client, by the number.
-pub const CLIENT: &str = client_columns!(table, "CREATE TABLE client (", ") STRICT");
+pub const CLIENT: &str = text_of!(create, client, "");
 
 /// `registration`: a row a client and a branch.
-pub const REGISTRATION: &str = registration_columns!(
-    table,
-    "CREATE TABLE registration (",
-    ", PRIMARY KEY (client_no, branch_no)) STRICT"
+pub const REGISTRATION: &str = text_of!(
+    create,
+    registration,
+    ", PRIMARY KEY (client_no, branch_no)"
 );
 
 /// `viewing`: a row a client and a property; comment is NULL where there is none.
-pub const VIEWING: &str = viewing_columns!(
-    table,
-    "CREATE TABLE viewing (",
-    ", PRIMARY KEY (client_no, property_no)) STRICT"
-);
+pub const VIEWING: &str = text_of!(create, viewing, ", PRIMARY KEY (client_no, property_no)");
 
 /// `inspection`: a row a property and a day.
-pub const INSPECTION: &str = inspection_columns!(
-    table,
-    "CREATE TABLE inspection (",
-    ", PRIMARY KEY (property_no, day)) STRICT"
-);
+pub const INSPECTION: &str = text_of!(create, inspection, ", PRIMARY KEY (property_no, day)");
 
 /// `lease`: a row a lease, by its number.
-pub const LEASE: &str = lease_columns!(table, "CREATE TABLE lease (", ") STRICT");
+pub const LEASE: &str = text_of!(create, lease, "");
 
 /// `charge`: a row a charge of a lease, by its place k among them.
-pub const CHARGE: &str = charge_columns!(
-    table,
-    "CREATE TABLE charge (",
-    ", PRIMARY KEY (lease_no, k)) STRICT"
-);
+pub const CHARGE: &str = text_of!(create, charge, ", PRIMARY KEY (lease_no, k)");
 
 /// `receipt`: a row a receipt, by its number; no two have the same request key.
-pub const RECEIPT: &str = receipt_columns!(table, "CREATE TABLE receipt (", ") STRICT");
+pub const RECEIPT: &str = text_of!(create, receipt, "");
 
 /// `run`: a row a month whose run was opened; no two have the same request key.
-pub const RUN: &str = run_columns!(table, "CREATE TABLE run (", ") STRICT");
+pub const RUN: &str = text_of!(create, run, "");
 
 /// `part`: a row a branch and a month: what the run has done there.
-pub const PART: &str = part_columns!(
-    table,
-    "CREATE TABLE part (",
-    ", PRIMARY KEY (month, branch_no)) STRICT"
-);
+pub const PART: &str = text_of!(create, part, ", PRIMARY KEY (month, branch_no)");
 
 /// The index of the properties that a member of staff manages.
 pub const PROPERTY_STAFF: &str = "CREATE INDEX property_staff ON property (staff_no)";
@@ -94,17 +73,17 @@ pub const RECEIPT_LEASE: &str = "CREATE INDEX receipt_lease ON receipt (lease_no
 pub const VIEWING_PROPERTY: &str = "CREATE INDEX viewing_property ON viewing (property_no)";
 
 /// `branch_fee`: a row a branch whose fee was set, by its number.
-pub const BRANCH_FEE: &str = branch_fee_columns!(table, "CREATE TABLE branch_fee (", ") STRICT");
+pub const BRANCH_FEE: &str = text_of!(create, branch_fee, "");
 
 /// `part_fee`: a row a part of a run: the fee that its branch had, and what it comes to.
-pub const PART_FEE: &str = part_fee_columns!(
-    table,
-    "CREATE TABLE part_fee (",
-    ", PRIMARY KEY (month, branch_no), FOREIGN KEY (month, branch_no) REFERENCES part) STRICT"
+pub const PART_FEE: &str = text_of!(
+    create,
+    part_fee,
+    ", PRIMARY KEY (month, branch_no), FOREIGN KEY (month, branch_no) REFERENCES part"
 );
 
 /// `ending`: a row a lease that ends early, by its number.
-pub const ENDING: &str = ending_columns!(table, "CREATE TABLE ending (", ") STRICT");
+pub const ENDING: &str = text_of!(create, ending, "");
 
 /// The text that takes away the index of [`VIEWING_PROPERTY`].
 pub const DROP_VIEWING_PROPERTY: &str = "DROP INDEX viewing_property";

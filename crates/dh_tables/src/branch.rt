@@ -2,7 +2,7 @@
 
 use crate::{Listed, PlainLook, Tabled};
 use dh_books::Books;
-use dh_ddl::branch_columns;
+use dh_ddl::text_of;
 use dh_types::{Branch, Id, Version};
 use sqlite::types::ValueRef;
 use std::alloc::{AllocError, Global};
@@ -33,7 +33,7 @@ impl Tabled for Branch {
     ghost is_kind = { itself Branches };
 
     fn insert_text() -> &'static str {
-        branch_columns!(names, "INSERT INTO branch (", ") VALUES (?1, ?2, ?3, ?4)")
+        text_of!(insert, branch, "?1, ?2, ?3, ?4")
     }
 
     fn put(self, books: &mut Books) -> Result<(), AllocError> {
@@ -51,7 +51,7 @@ impl Listed for Branch {
     ghost named = { branch_named };
 
     fn list_text() -> &'static str {
-        branch_columns!(names, "SELECT ", " FROM branch")
+        text_of!(select, branch, "")
     }
 
     fn rowid_text() -> &'static str {
@@ -79,7 +79,7 @@ impl PlainLook for BranchNumbered {
     ghost question = { branch_numbered };
 
     fn asked_text() -> &'static str {
-        branch_columns!(names, "SELECT ", " FROM branch WHERE branch_no = ?1")
+        text_of!(select, branch, " WHERE branch_no = ?1")
     }
 
     fn values(&self, alloc: Global) -> Result<Vec<ValueRef<'_>>, AllocError> {

@@ -2,7 +2,7 @@
 
 use crate::{Listed, PlainLook, Tabled};
 use dh_books::Books;
-use dh_ddl::branch_fee_columns;
+use dh_ddl::text_of;
 use dh_types::{BranchFee, Id, Version};
 use sqlite::types::ValueRef;
 use std::alloc::{AllocError, Global};
@@ -33,7 +33,7 @@ impl Tabled for BranchFee {
     ghost is_kind = { itself BranchFees };
 
     fn insert_text() -> &'static str {
-        branch_fee_columns!(names, "INSERT INTO branch_fee (", ") VALUES (?1, ?2)")
+        text_of!(insert, branch_fee, "?1, ?2")
     }
 
     fn put(self, books: &mut Books) -> Result<(), AllocError> {
@@ -51,7 +51,7 @@ impl Listed for BranchFee {
     ghost named = { branch_fee_named };
 
     fn list_text() -> &'static str {
-        branch_fee_columns!(names, "SELECT ", " FROM branch_fee")
+        text_of!(select, branch_fee, "")
     }
 
     fn rowid_text() -> &'static str {
@@ -79,7 +79,7 @@ impl PlainLook for FeeOfBranch {
     ghost question = { fee_of_branch };
 
     fn asked_text() -> &'static str {
-        branch_fee_columns!(names, "SELECT ", " FROM branch_fee WHERE branch_no = ?1")
+        text_of!(select, branch_fee, " WHERE branch_no = ?1")
     }
 
     fn values(&self, alloc: Global) -> Result<Vec<ValueRef<'_>>, AllocError> {

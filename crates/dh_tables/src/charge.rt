@@ -2,7 +2,7 @@
 
 use crate::{Listed, PlainLook, Tabled};
 use dh_books::Books;
-use dh_ddl::charge_columns;
+use dh_ddl::text_of;
 use dh_types::{Charge, ChargeIndex, LeaseNo, Version};
 use sqlite::types::ValueRef;
 use std::alloc::{AllocError, Global};
@@ -34,11 +34,7 @@ impl Tabled for Charge {
     ghost is_kind = { itself Charges };
 
     fn insert_text() -> &'static str {
-        charge_columns!(
-            names,
-            "INSERT INTO charge (",
-            ") VALUES (?1, ?2, ?3, ?4, ?5)"
-        )
+        text_of!(insert, charge, "?1, ?2, ?3, ?4, ?5")
     }
 
     fn put(self, books: &mut Books) -> Result<(), AllocError> {
@@ -56,7 +52,7 @@ impl Listed for Charge {
     ghost named = { charge_named };
 
     fn list_text() -> &'static str {
-        charge_columns!(names, "SELECT ", " FROM charge")
+        text_of!(select, charge, "")
     }
 
     fn rowid_text() -> &'static str {
@@ -85,11 +81,7 @@ impl PlainLook for ChargeOf {
     ghost question = { charge_of };
 
     fn asked_text() -> &'static str {
-        charge_columns!(
-            names,
-            "SELECT ",
-            " FROM charge WHERE lease_no = ?1 AND k = ?2"
-        )
+        text_of!(select, charge, " WHERE lease_no = ?1 AND k = ?2")
     }
 
     fn values(&self, alloc: Global) -> Result<Vec<ValueRef<'_>>, AllocError> {
@@ -117,7 +109,7 @@ impl PlainLook for ChargesOfLease {
     ghost question = { charges_of_lease };
 
     fn asked_text() -> &'static str {
-        charge_columns!(names, "SELECT ", " FROM charge WHERE lease_no = ?1")
+        text_of!(select, charge, " WHERE lease_no = ?1")
     }
 
     fn values(&self, alloc: Global) -> Result<Vec<ValueRef<'_>>, AllocError> {

@@ -2,7 +2,7 @@
 
 use crate::{Listed, PlainLook, Tabled};
 use dh_books::Books;
-use dh_ddl::client_columns;
+use dh_ddl::text_of;
 use dh_types::{Client, Id, Version};
 use sqlite::types::ValueRef;
 use std::alloc::{AllocError, Global};
@@ -33,11 +33,7 @@ impl Tabled for Client {
     ghost is_kind = { itself Clients };
 
     fn insert_text() -> &'static str {
-        client_columns!(
-            names,
-            "INSERT INTO client (",
-            ") VALUES (?1, ?2, ?3, ?4, ?5)"
-        )
+        text_of!(insert, client, "?1, ?2, ?3, ?4, ?5")
     }
 
     fn put(self, books: &mut Books) -> Result<(), AllocError> {
@@ -55,7 +51,7 @@ impl Listed for Client {
     ghost named = { client_named };
 
     fn list_text() -> &'static str {
-        client_columns!(names, "SELECT ", " FROM client")
+        text_of!(select, client, "")
     }
 
     fn rowid_text() -> &'static str {
@@ -83,7 +79,7 @@ impl PlainLook for ClientNumbered {
     ghost question = { client_numbered };
 
     fn asked_text() -> &'static str {
-        client_columns!(names, "SELECT ", " FROM client WHERE client_no = ?1")
+        text_of!(select, client, " WHERE client_no = ?1")
     }
 
     fn values(&self, alloc: Global) -> Result<Vec<ValueRef<'_>>, AllocError> {

@@ -2,7 +2,7 @@
 
 use crate::{Listed, PlainLook, Tabled};
 use dh_books::Books;
-use dh_ddl::ending_columns;
+use dh_ddl::text_of;
 use dh_types::{Ending, LeaseNo, Version};
 use sqlite::types::ValueRef;
 use std::alloc::{AllocError, Global};
@@ -33,7 +33,7 @@ impl Tabled for Ending {
     ghost is_kind = { itself Endings };
 
     fn insert_text() -> &'static str {
-        ending_columns!(names, "INSERT INTO ending (", ") VALUES (?1, ?2)")
+        text_of!(insert, ending, "?1, ?2")
     }
 
     fn put(self, books: &mut Books) -> Result<(), AllocError> {
@@ -51,7 +51,7 @@ impl Listed for Ending {
     ghost named = { ending_named };
 
     fn list_text() -> &'static str {
-        ending_columns!(names, "SELECT ", " FROM ending")
+        text_of!(select, ending, "")
     }
 
     fn rowid_text() -> &'static str {
@@ -79,7 +79,7 @@ impl PlainLook for EndingOf {
     ghost question = { ending_of };
 
     fn asked_text() -> &'static str {
-        ending_columns!(names, "SELECT ", " FROM ending WHERE lease_no = ?1")
+        text_of!(select, ending, " WHERE lease_no = ?1")
     }
 
     fn values(&self, alloc: Global) -> Result<Vec<ValueRef<'_>>, AllocError> {

@@ -2,7 +2,7 @@
 
 use crate::{Listed, Look, Tabled};
 use dh_books::Books;
-use dh_ddl::inspection_columns;
+use dh_ddl::text_of;
 use dh_types::{EntryDay, Id, Inspection, Version};
 use sqlite::types::ValueRef;
 use std::alloc::{AllocError, Global};
@@ -34,11 +34,7 @@ impl Tabled for Inspection {
     ghost is_kind = { itself Inspections };
 
     fn insert_text() -> &'static str {
-        inspection_columns!(
-            names,
-            "INSERT INTO inspection (",
-            ") VALUES (?1, ?2, ?3, ?4)"
-        )
+        text_of!(insert, inspection, "?1, ?2, ?3, ?4")
     }
 
     fn put(self, books: &mut Books) -> Result<(), AllocError> {
@@ -56,7 +52,7 @@ impl Listed for Inspection {
     ghost named = { inspection_named };
 
     fn list_text() -> &'static str {
-        inspection_columns!(names, "SELECT ", " FROM inspection")
+        text_of!(select, inspection, "")
     }
 
     fn rowid_text() -> &'static str {
@@ -97,11 +93,7 @@ impl Look for InspectionOf {
     ghost can_ask = { λ q. IsEntryDay q.day };
 
     fn text() -> &'static str {
-        inspection_columns!(
-            names,
-            "SELECT ",
-            " FROM inspection WHERE property_no = ?1 AND day = ?2"
-        )
+        text_of!(select, inspection, " WHERE property_no = ?1 AND day = ?2")
     }
 
     fn day_bytes(&self, alloc: Global) -> Result<Vec<u8>, AllocError> {

@@ -11,7 +11,7 @@ ghost use Rattle.dh_tables.specs.ReceiptTable.{receipt_shape};
 
 use crate::one_record::only;
 use crate::query::rows_shown;
-use dh_ddl::receipt_columns;
+use dh_ddl::text_of;
 use dh_types::Receipt;
 use sqlite::{Alter, Connection, Error, Row};
 use std::alloc::Global;
@@ -29,11 +29,7 @@ fn last_row<S: Alter>(conn: &mut Connection<S>) -> Result<Vec<Row>, Error>
 {
     rows_shown(
         conn,
-        receipt_columns!(
-            names,
-            "SELECT ",
-            " FROM receipt ORDER BY receipt_no DESC LIMIT 1"
-        ),
+        text_of!(select, receipt, " ORDER BY receipt_no DESC LIMIT 1"),
         &[],
     )
 }

@@ -2,7 +2,7 @@
 
 use crate::{Listed, Look, PlainLook, Tabled};
 use dh_books::Books;
-use dh_ddl::lease_columns;
+use dh_ddl::text_of;
 use dh_types::{EntryDay, Id, Lease, LeaseNo, Version};
 use sqlite::types::ValueRef;
 use std::alloc::{AllocError, Global};
@@ -33,11 +33,7 @@ impl Tabled for Lease {
     ghost is_kind = { itself Leases };
 
     fn insert_text() -> &'static str {
-        lease_columns!(
-            names,
-            "INSERT INTO lease (",
-            ") VALUES (?1, ?2, ?3, ?4, ?5, ?6, ?7)"
-        )
+        text_of!(insert, lease, "?1, ?2, ?3, ?4, ?5, ?6, ?7")
     }
 
     fn put(self, books: &mut Books) -> Result<(), AllocError> {
@@ -55,7 +51,7 @@ impl Listed for Lease {
     ghost named = { lease_named };
 
     fn list_text() -> &'static str {
-        lease_columns!(names, "SELECT ", " FROM lease")
+        text_of!(select, lease, "")
     }
 
     fn rowid_text() -> &'static str {
@@ -83,7 +79,7 @@ impl PlainLook for LeaseNumbered {
     ghost question = { lease_numbered };
 
     fn asked_text() -> &'static str {
-        lease_columns!(names, "SELECT ", " FROM lease WHERE lease_no = ?1")
+        text_of!(select, lease, " WHERE lease_no = ?1")
     }
 
     fn values(&self, alloc: Global) -> Result<Vec<ValueRef<'_>>, AllocError> {
@@ -107,7 +103,7 @@ impl PlainLook for LeasesOfProperty {
     ghost question = { leases_of_property };
 
     fn asked_text() -> &'static str {
-        lease_columns!(names, "SELECT ", " FROM lease WHERE property_no = ?1")
+        text_of!(select, lease, " WHERE property_no = ?1")
     }
 
     fn values(&self, alloc: Global) -> Result<Vec<ValueRef<'_>>, AllocError> {
@@ -144,11 +140,7 @@ impl Look for LeasesOfClientFrom {
     ghost can_ask = { λ q. IsEntryDay q.start };
 
     fn text() -> &'static str {
-        lease_columns!(
-            names,
-            "SELECT ",
-            " FROM lease WHERE client_no = ?1 AND start_day = ?2"
-        )
+        text_of!(select, lease, " WHERE client_no = ?1 AND start_day = ?2")
     }
 
     fn day_bytes(&self, alloc: Global) -> Result<Vec<u8>, AllocError> {

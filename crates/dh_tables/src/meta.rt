@@ -13,7 +13,7 @@ ghost use Rattle.dh_rows.specs.Cells.{version_number};
 ghost use Rattle.dh_tables.specs.MetaTable.{AreFound, HasItsRow, SetsMonths, SetsNext, SetsVersion, meta_rows};
 
 use crate::query::rows_shown;
-use dh_ddl::meta_columns;
+use dh_ddl::text_of;
 use dh_rows::{Meta, Record, version_number};
 use dh_types::{Month, Version};
 use sqlite::types::ValueRef;
@@ -40,10 +40,7 @@ pub fn insert_meta<S: Alter>(
     ensures crash { CommitsNothing (state S.Store tx.old.conn.now) (state S.Store tx.new.conn.now) }
 {
     let values = months.to_row(alloc, &[])?;
-    tx.execute(
-        meta_columns!(names, "INSERT INTO meta (", ") VALUES (?1, ?2, ?3, ?4)"),
-        &values,
-    )?;
+    tx.execute(text_of!(insert, meta, "?1, ?2, ?3, ?4"), &values)?;
     Ok(())
 }
 
@@ -65,7 +62,7 @@ pub fn meta_rows_shown<S: Alter>(conn: &mut Connection<S>) -> Result<Vec<Row>, E
     ensures undone { HasCleanDisk (state S.Store conn.new) → OnErr result (IsUndone (state S.Store conn.old) (state S.Store conn.new)) }
     ensures crash { CommitsNothing (state S.Store conn.old) (state S.Store conn.new) }
 {
-    rows_shown(conn, meta_columns!(names, "SELECT ", " FROM meta"), &[])
+    rows_shown(conn, text_of!(select, meta, ""), &[])
 }
 
 /// The months of the file, with its version; None where the table does not have one row, of either version. It changes no table.

@@ -2,7 +2,7 @@
 
 use crate::{Listed, PlainLook, Tabled};
 use dh_books::Books;
-use dh_ddl::owner_columns;
+use dh_ddl::text_of;
 use dh_types::{Id, Owner, Version};
 use sqlite::types::ValueRef;
 use std::alloc::{AllocError, Global};
@@ -33,7 +33,7 @@ impl Tabled for Owner {
     ghost is_kind = { itself Owners };
 
     fn insert_text() -> &'static str {
-        owner_columns!(names, "INSERT INTO owner (", ") VALUES (?1, ?2, ?3, ?4)")
+        text_of!(insert, owner, "?1, ?2, ?3, ?4")
     }
 
     fn put(self, books: &mut Books) -> Result<(), AllocError> {
@@ -51,7 +51,7 @@ impl Listed for Owner {
     ghost named = { owner_named };
 
     fn list_text() -> &'static str {
-        owner_columns!(names, "SELECT ", " FROM owner")
+        text_of!(select, owner, "")
     }
 
     fn rowid_text() -> &'static str {
@@ -79,7 +79,7 @@ impl PlainLook for OwnerNumbered {
     ghost question = { owner_numbered };
 
     fn asked_text() -> &'static str {
-        owner_columns!(names, "SELECT ", " FROM owner WHERE owner_no = ?1")
+        text_of!(select, owner, " WHERE owner_no = ?1")
     }
 
     fn values(&self, alloc: Global) -> Result<Vec<ValueRef<'_>>, AllocError> {

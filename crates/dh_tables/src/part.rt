@@ -2,7 +2,7 @@
 
 use crate::{Listed, PlainLook, Tabled};
 use dh_books::Books;
-use dh_ddl::part_columns;
+use dh_ddl::text_of;
 use dh_types::{EntryMonth, Id, Part, Version};
 use sqlite::types::ValueRef;
 use std::alloc::{AllocError, Global};
@@ -34,7 +34,7 @@ impl Tabled for Part {
     ghost is_kind = { itself Parts };
 
     fn insert_text() -> &'static str {
-        part_columns!(names, "INSERT INTO part (", ") VALUES (?1, ?2, ?3, ?4, ?5)")
+        text_of!(insert, part, "?1, ?2, ?3, ?4, ?5")
     }
 
     fn put(self, books: &mut Books) -> Result<(), AllocError> {
@@ -52,7 +52,7 @@ impl Listed for Part {
     ghost named = { part_named };
 
     fn list_text() -> &'static str {
-        part_columns!(names, "SELECT ", " FROM part")
+        text_of!(select, part, "")
     }
 
     fn rowid_text() -> &'static str {
@@ -81,11 +81,7 @@ impl PlainLook for PartOf {
     ghost question = { part_of };
 
     fn asked_text() -> &'static str {
-        part_columns!(
-            names,
-            "SELECT ",
-            " FROM part WHERE month = ?1 AND branch_no = ?2"
-        )
+        text_of!(select, part, " WHERE month = ?1 AND branch_no = ?2")
     }
 
     fn values(&self, alloc: Global) -> Result<Vec<ValueRef<'_>>, AllocError> {
@@ -113,7 +109,7 @@ impl PlainLook for PartsOfMonth {
     ghost question = { parts_of_month };
 
     fn asked_text() -> &'static str {
-        part_columns!(names, "SELECT ", " FROM part WHERE month = ?1")
+        text_of!(select, part, " WHERE month = ?1")
     }
 
     fn values(&self, alloc: Global) -> Result<Vec<ValueRef<'_>>, AllocError> {

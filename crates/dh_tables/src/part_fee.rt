@@ -2,7 +2,7 @@
 
 use crate::{Listed, PlainLook, Tabled};
 use dh_books::Books;
-use dh_ddl::part_fee_columns;
+use dh_ddl::text_of;
 use dh_types::{EntryMonth, Id, PartFee, Version};
 use sqlite::types::ValueRef;
 use std::alloc::{AllocError, Global};
@@ -34,7 +34,7 @@ impl Tabled for PartFee {
     ghost is_kind = { itself PartFees };
 
     fn insert_text() -> &'static str {
-        part_fee_columns!(names, "INSERT INTO part_fee (", ") VALUES (?1, ?2, ?3, ?4)")
+        text_of!(insert, part_fee, "?1, ?2, ?3, ?4")
     }
 
     fn put(self, books: &mut Books) -> Result<(), AllocError> {
@@ -52,7 +52,7 @@ impl Listed for PartFee {
     ghost named = { part_fee_named };
 
     fn list_text() -> &'static str {
-        part_fee_columns!(names, "SELECT ", " FROM part_fee")
+        text_of!(select, part_fee, "")
     }
 
     fn rowid_text() -> &'static str {
@@ -81,11 +81,7 @@ impl PlainLook for FeeOfPart {
     ghost question = { fee_of_part };
 
     fn asked_text() -> &'static str {
-        part_fee_columns!(
-            names,
-            "SELECT ",
-            " FROM part_fee WHERE month = ?1 AND branch_no = ?2"
-        )
+        text_of!(select, part_fee, " WHERE month = ?1 AND branch_no = ?2")
     }
 
     fn values(&self, alloc: Global) -> Result<Vec<ValueRef<'_>>, AllocError> {
@@ -113,7 +109,7 @@ impl PlainLook for FeesOfMonth {
     ghost question = { fees_of_month };
 
     fn asked_text() -> &'static str {
-        part_fee_columns!(names, "SELECT ", " FROM part_fee WHERE month = ?1")
+        text_of!(select, part_fee, " WHERE month = ?1")
     }
 
     fn values(&self, alloc: Global) -> Result<Vec<ValueRef<'_>>, AllocError> {

@@ -2,7 +2,7 @@
 
 use crate::{Listed, PlainLook, Tabled};
 use dh_books::Books;
-use dh_ddl::property_columns;
+use dh_ddl::text_of;
 use dh_types::{Id, Property, Version};
 use sqlite::types::ValueRef;
 use std::alloc::{AllocError, Global};
@@ -33,11 +33,7 @@ impl Tabled for Property {
     ghost is_kind = { itself Properties };
 
     fn insert_text() -> &'static str {
-        property_columns!(
-            names,
-            "INSERT INTO property (",
-            ") VALUES (?1, ?2, ?3, ?4, ?5, ?6, ?7, ?8, ?9, ?10)"
-        )
+        text_of!(insert, property, "?1, ?2, ?3, ?4, ?5, ?6, ?7, ?8, ?9, ?10")
     }
 
     fn put(self, books: &mut Books) -> Result<(), AllocError> {
@@ -55,7 +51,7 @@ impl Listed for Property {
     ghost named = { property_named };
 
     fn list_text() -> &'static str {
-        property_columns!(names, "SELECT ", " FROM property")
+        text_of!(select, property, "")
     }
 
     fn rowid_text() -> &'static str {
@@ -83,7 +79,7 @@ impl PlainLook for PropertyNumbered {
     ghost question = { property_numbered };
 
     fn asked_text() -> &'static str {
-        property_columns!(names, "SELECT ", " FROM property WHERE property_no = ?1")
+        text_of!(select, property, " WHERE property_no = ?1")
     }
 
     fn values(&self, alloc: Global) -> Result<Vec<ValueRef<'_>>, AllocError> {
@@ -107,7 +103,7 @@ impl PlainLook for PropertiesManaged {
     ghost question = { properties_managed };
 
     fn asked_text() -> &'static str {
-        property_columns!(names, "SELECT ", " FROM property WHERE staff_no = ?1")
+        text_of!(select, property, " WHERE staff_no = ?1")
     }
 
     fn values(&self, alloc: Global) -> Result<Vec<ValueRef<'_>>, AllocError> {
@@ -131,7 +127,7 @@ impl PlainLook for PropertiesOfOwner {
     ghost question = { properties_of_owner };
 
     fn asked_text() -> &'static str {
-        property_columns!(names, "SELECT ", " FROM property WHERE owner_no = ?1")
+        text_of!(select, property, " WHERE owner_no = ?1")
     }
 
     fn values(&self, alloc: Global) -> Result<Vec<ValueRef<'_>>, AllocError> {
@@ -155,7 +151,7 @@ impl PlainLook for PropertiesOfBranch {
     ghost question = { properties_of_branch };
 
     fn asked_text() -> &'static str {
-        property_columns!(names, "SELECT ", " FROM property WHERE branch_no = ?1")
+        text_of!(select, property, " WHERE branch_no = ?1")
     }
 
     fn values(&self, alloc: Global) -> Result<Vec<ValueRef<'_>>, AllocError> {

@@ -2,7 +2,7 @@
 
 use crate::{Listed, PlainLook, Tabled};
 use dh_books::Books;
-use dh_ddl::receipt_columns;
+use dh_ddl::text_of;
 use dh_types::{Key, LeaseNo, Receipt, ReceiptNo, Version};
 use sqlite::types::ValueRef;
 use std::alloc::{AllocError, Global};
@@ -33,11 +33,7 @@ impl Tabled for Receipt {
     ghost is_kind = { itself Receipts };
 
     fn insert_text() -> &'static str {
-        receipt_columns!(
-            names,
-            "INSERT INTO receipt (",
-            ") VALUES (?1, ?2, ?3, ?4, ?5, ?6)"
-        )
+        text_of!(insert, receipt, "?1, ?2, ?3, ?4, ?5, ?6")
     }
 
     fn put(self, books: &mut Books) -> Result<(), AllocError> {
@@ -55,7 +51,7 @@ impl Listed for Receipt {
     ghost named = { receipt_named };
 
     fn list_text() -> &'static str {
-        receipt_columns!(names, "SELECT ", " FROM receipt")
+        text_of!(select, receipt, "")
     }
 
     fn rowid_text() -> &'static str {
@@ -83,7 +79,7 @@ impl PlainLook for ReceiptNumbered {
     ghost question = { receipt_numbered };
 
     fn asked_text() -> &'static str {
-        receipt_columns!(names, "SELECT ", " FROM receipt WHERE receipt_no = ?1")
+        text_of!(select, receipt, " WHERE receipt_no = ?1")
     }
 
     fn values(&self, alloc: Global) -> Result<Vec<ValueRef<'_>>, AllocError> {
@@ -107,7 +103,7 @@ impl PlainLook for ReceiptKeyed {
     ghost question = { receipt_keyed };
 
     fn asked_text() -> &'static str {
-        receipt_columns!(names, "SELECT ", " FROM receipt WHERE req_key = ?1")
+        text_of!(select, receipt, " WHERE req_key = ?1")
     }
 
     fn values(&self, alloc: Global) -> Result<Vec<ValueRef<'_>>, AllocError> {
@@ -131,7 +127,7 @@ impl PlainLook for ReceiptsOfLease {
     ghost question = { receipts_of_lease };
 
     fn asked_text() -> &'static str {
-        receipt_columns!(names, "SELECT ", " FROM receipt WHERE lease_no = ?1")
+        text_of!(select, receipt, " WHERE lease_no = ?1")
     }
 
     fn values(&self, alloc: Global) -> Result<Vec<ValueRef<'_>>, AllocError> {
@@ -155,11 +151,7 @@ impl PlainLook for DepositsOfLease {
     ghost question = { deposits_of_lease };
 
     fn asked_text() -> &'static str {
-        receipt_columns!(
-            names,
-            "SELECT ",
-            " FROM receipt WHERE lease_no = ?1 AND kind = 'deposit'"
-        )
+        text_of!(select, receipt, " WHERE lease_no = ?1 AND kind = 'deposit'")
     }
 
     fn values(&self, alloc: Global) -> Result<Vec<ValueRef<'_>>, AllocError> {

@@ -2,7 +2,7 @@
 
 use crate::{Listed, PlainLook, Tabled};
 use dh_books::Books;
-use dh_ddl::registration_columns;
+use dh_ddl::text_of;
 use dh_types::{Id, Registration, Version};
 use sqlite::types::ValueRef;
 use std::alloc::{AllocError, Global};
@@ -33,11 +33,7 @@ impl Tabled for Registration {
     ghost is_kind = { itself Registrations };
 
     fn insert_text() -> &'static str {
-        registration_columns!(
-            names,
-            "INSERT INTO registration (",
-            ") VALUES (?1, ?2, ?3, ?4)"
-        )
+        text_of!(insert, registration, "?1, ?2, ?3, ?4")
     }
 
     fn put(self, books: &mut Books) -> Result<(), AllocError> {
@@ -55,7 +51,7 @@ impl Listed for Registration {
     ghost named = { registration_named };
 
     fn list_text() -> &'static str {
-        registration_columns!(names, "SELECT ", " FROM registration")
+        text_of!(select, registration, "")
     }
 
     fn rowid_text() -> &'static str {
@@ -84,10 +80,10 @@ impl PlainLook for RegistrationAt {
     ghost question = { registration_at };
 
     fn asked_text() -> &'static str {
-        registration_columns!(
-            names,
-            "SELECT ",
-            " FROM registration WHERE client_no = ?1 AND branch_no = ?2"
+        text_of!(
+            select,
+            registration,
+            " WHERE client_no = ?1 AND branch_no = ?2"
         )
     }
 

@@ -2,7 +2,7 @@
 
 use crate::{Listed, PlainLook, Tabled};
 use dh_books::Books;
-use dh_ddl::run_columns;
+use dh_ddl::text_of;
 use dh_types::{EntryMonth, Key, Run, Version};
 use sqlite::types::ValueRef;
 use std::alloc::{AllocError, Global};
@@ -33,7 +33,7 @@ impl Tabled for Run {
     ghost is_kind = { itself Runs };
 
     fn insert_text() -> &'static str {
-        run_columns!(names, "INSERT INTO run (", ") VALUES (?1, ?2, ?3, ?4, ?5)")
+        text_of!(insert, run, "?1, ?2, ?3, ?4, ?5")
     }
 
     fn put(self, books: &mut Books) -> Result<(), AllocError> {
@@ -51,7 +51,7 @@ impl Listed for Run {
     ghost named = { run_named };
 
     fn list_text() -> &'static str {
-        run_columns!(names, "SELECT ", " FROM run")
+        text_of!(select, run, "")
     }
 
     fn rowid_text() -> &'static str {
@@ -79,7 +79,7 @@ impl PlainLook for RunOf {
     ghost question = { run_of };
 
     fn asked_text() -> &'static str {
-        run_columns!(names, "SELECT ", " FROM run WHERE month = ?1")
+        text_of!(select, run, " WHERE month = ?1")
     }
 
     fn values(&self, alloc: Global) -> Result<Vec<ValueRef<'_>>, AllocError> {
@@ -103,7 +103,7 @@ impl PlainLook for RunKeyed {
     ghost question = { run_keyed };
 
     fn asked_text() -> &'static str {
-        run_columns!(names, "SELECT ", " FROM run WHERE req_key = ?1")
+        text_of!(select, run, " WHERE req_key = ?1")
     }
 
     fn values(&self, alloc: Global) -> Result<Vec<ValueRef<'_>>, AllocError> {

@@ -2,7 +2,7 @@
 
 use crate::{Listed, PlainLook, Tabled};
 use dh_books::Books;
-use dh_ddl::staff_columns;
+use dh_ddl::text_of;
 use dh_types::{Id, Staff, Version};
 use sqlite::types::ValueRef;
 use std::alloc::{AllocError, Global};
@@ -33,7 +33,7 @@ impl Tabled for Staff {
     ghost is_kind = { itself Staff };
 
     fn insert_text() -> &'static str {
-        staff_columns!(names, "INSERT INTO staff (", ") VALUES (?1, ?2, ?3, ?4)")
+        text_of!(insert, staff, "?1, ?2, ?3, ?4")
     }
 
     fn put(self, books: &mut Books) -> Result<(), AllocError> {
@@ -51,7 +51,7 @@ impl Listed for Staff {
     ghost named = { staff_named };
 
     fn list_text() -> &'static str {
-        staff_columns!(names, "SELECT ", " FROM staff")
+        text_of!(select, staff, "")
     }
 
     fn rowid_text() -> &'static str {
@@ -79,7 +79,7 @@ impl PlainLook for MemberNumbered {
     ghost question = { member_numbered };
 
     fn asked_text() -> &'static str {
-        staff_columns!(names, "SELECT ", " FROM staff WHERE staff_no = ?1")
+        text_of!(select, staff, " WHERE staff_no = ?1")
     }
 
     fn values(&self, alloc: Global) -> Result<Vec<ValueRef<'_>>, AllocError> {

@@ -2,7 +2,7 @@
 
 use crate::{Listed, PlainLook, Tabled};
 use dh_books::Books;
-use dh_ddl::viewing_columns;
+use dh_ddl::text_of;
 use dh_types::{Id, Version, Viewing};
 use sqlite::types::ValueRef;
 use std::alloc::{AllocError, Global};
@@ -33,7 +33,7 @@ impl Tabled for Viewing {
     ghost is_kind = { itself Viewings };
 
     fn insert_text() -> &'static str {
-        viewing_columns!(names, "INSERT INTO viewing (", ") VALUES (?1, ?2, ?3, ?4)")
+        text_of!(insert, viewing, "?1, ?2, ?3, ?4")
     }
 
     fn put(self, books: &mut Books) -> Result<(), AllocError> {
@@ -51,7 +51,7 @@ impl Listed for Viewing {
     ghost named = { viewing_named };
 
     fn list_text() -> &'static str {
-        viewing_columns!(names, "SELECT ", " FROM viewing")
+        text_of!(select, viewing, "")
     }
 
     fn rowid_text() -> &'static str {
@@ -80,10 +80,10 @@ impl PlainLook for ViewingOf {
     ghost question = { viewing_of };
 
     fn asked_text() -> &'static str {
-        viewing_columns!(
-            names,
-            "SELECT ",
-            " FROM viewing WHERE client_no = ?1 AND property_no = ?2"
+        text_of!(
+            select,
+            viewing,
+            " WHERE client_no = ?1 AND property_no = ?2"
         )
     }
 
