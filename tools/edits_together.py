@@ -7,7 +7,7 @@ It works on a copy of the crate, over the libraries below it as tools/build.py b
 Each has to be refused at a goal of its own function, by one check of the group; one that does not show it is tried alone. Where one group has
 all, only the modules with a wrong body are checked. Prints a line for each: `refused` with the first goal or error of its function, `names`
 where a proof file names what the body took away, `bad` where it does not compile, `proved` where nothing refused it. Ends with 0 if each was
-refused.
+refused. Where all outside the gate were tried, it writes that into docs/wrong-bodies.txt.
 """
 import os
 import re
@@ -17,7 +17,7 @@ import sys
 import tempfile
 from pathlib import Path
 
-from build import Build, crates_of, toolchain, words_of
+from build import TOP, Build, crates_of, toolchain, words_of
 
 GROUP = 12
 FUNCTION = re.compile(r'^\s*(?:pub(?:\(crate\))? )?(?:const )?fn (\w+)')
@@ -185,6 +185,18 @@ def tried(room, group):
     return right
 
 
+def record(name, count, right):
+    """Writes into the table when the wrong bodies outside the gate of a crate were tried."""
+    table = TOP / 'docs' / 'wrong-bodies.txt'
+    head, _, rows = read(table).partition('\ncrate ')
+    title, *rows = ('crate ' + rows).splitlines()
+    commit = subprocess.run(['git', 'rev-parse', '--short=8', 'HEAD'], cwd=TOP, capture_output=True, text=True, check=True).stdout.strip()
+    found = {row.split()[0]: row for row in rows}
+    found[name] = f"{name:<18}{count:>10}   {commit:<20}{'each refused at a goal' if right else 'not each refused'}"
+    order = re.findall(r'^(\w+):', read(TOP / 'crates.txt'), re.M)
+    table.write_text('\n'.join([head, title, *(found[crate] for crate in order if crate in found)]) + '\n')
+
+
 def main(words):
     gate = '--gate' in words
     words = [word for word in words if word != '--gate']
@@ -207,6 +219,8 @@ def main(words):
         for group in groups:
             right = tried(room, group) and right
         print(f'{name}: {len(edits)} tried, {"each refused" if right else "not each refused"}')
+    if not only and not gate:
+        record(name, len(edits), right)
     return not right
 
 
