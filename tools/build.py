@@ -12,6 +12,7 @@ import hashlib
 import os
 import re
 import shutil
+import signal
 import subprocess
 import sys
 import time
@@ -147,7 +148,7 @@ class Build:
         self.left.remove(name)
         said = open(crate.built / 'log', 'w+')
         words = ['nice', '-n', str(min(5 * rank, 15)), *words_of('build', crate, self.crates, self.kit, jobs), *made_by(crate, self.kit)]
-        ran = subprocess.Popen(words, cwd=crate.folder, stdin=subprocess.DEVNULL, stdout=said, stderr=subprocess.STDOUT)
+        ran = subprocess.Popen(words, cwd=crate.folder, stdin=subprocess.DEVNULL, stdout=said, stderr=subprocess.STDOUT, start_new_session=True)
         self.running[name] = ran, said, jobs, time.monotonic()
         self.say(f'begins {name}: {crate.subject()}')
 
@@ -194,7 +195,7 @@ class Build:
             return True
         finally:
             for ran, *_ in self.running.values():
-                ran.kill()
+                os.killpg(ran.pid, signal.SIGKILL)
 
 
 def toolchain():
@@ -209,4 +210,7 @@ def main(program, log, folder=None):
 
 
 if __name__ == '__main__':
+    # What is under way ends with this call, however it ends.
+    for number in (signal.SIGINT, signal.SIGTERM, signal.SIGHUP):
+        signal.signal(number, lambda *_: sys.exit(1))
     sys.exit(main(*sys.argv[1:]) if len(sys.argv) in (3, 4) else __doc__)
