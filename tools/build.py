@@ -148,7 +148,7 @@ class Build:
         self.left.remove(name)
         said = open(crate.built / 'log', 'w+')
         words = ['nice', '-n', str(min(5 * rank, 15)), *words_of('build', crate, self.crates, self.kit, jobs), *made_by(crate, self.kit)]
-        ran = subprocess.Popen(words, cwd=crate.folder, stdin=subprocess.DEVNULL, stdout=said, stderr=subprocess.STDOUT, start_new_session=True)
+        ran = subprocess.Popen(words, cwd=crate.folder, stdin=subprocess.DEVNULL, stdout=said, stderr=subprocess.STDOUT, preexec_fn=os.setpgrp)
         self.running[name] = ran, said, jobs, time.monotonic()
         self.say(f'begins {name}: {crate.subject()}')
 
