@@ -171,18 +171,22 @@ def tried_alone(room, edit, functions):
 
 
 def tried(room, group):
+    """Tries a group. A function that calls another wrong body says nothing of its own, so those that are left are tried once more together, and
+    alone where that shows nothing."""
     room.put_back()
     functions = {edit.name: edit.functions(room.crate) for edit in group}
     done, output = room.checked(group)
-    right = True
+    left = []
     for edit in group:
         why = refusal(output, functions[edit.name]) if edit in done and is_compiled(output) else None
         errors = errors_in(output, functions[edit.name])
         if why and is_at_a_goal(why, errors):
             told(edit, 'refused', f'{why} {errors[0] if errors else ""}')
         else:
-            right = tried_alone(room, edit, functions[edit.name]) and right
-    return right
+            left.append(edit)
+    if 1 < len(left) < len(group):
+        return tried(room, left)
+    return all([tried_alone(room, edit, functions[edit.name]) for edit in left])
 
 
 def record(name, count, right):
