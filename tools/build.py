@@ -124,7 +124,11 @@ class Build:
         self.crates, self.kit, self.log = crates, kit, log
         self.begun = time.monotonic()
         self.stamps = stamps_of(crates, kit)
-        self.done = {name for name in crates if self.stands(crates[name])}
+        # What stands over a library that is built anew is built anew too.
+        self.done = set()
+        for name, crate in crates.items():
+            if self.done.issuperset(used for used in crate.used if used in crates) and self.stands(crate):
+                self.done.add(name)
         self.left = [name for name in crates if name not in self.done]
         self.running = {}
         self.ahead = {}

@@ -214,7 +214,7 @@ def main(words):
             sys.exit(f'what stands below {name} could not be built')
         room = Room(Path(work), source, words_of('check', crates[name], crates, kit, 1))
         groups = groups_of(edits, room.crate)
-        room.is_whole = len(groups) > 1 or any(not edit.functions(room.crate) or not module_of(file)
+        room.is_whole = len(groups) > 1 or any(not edit.functions(room.crate) or not module_of(file) or not file.startswith('src/')
                                                for edit in edits for file, _, _ in edit.changes)
         _, output = room.checked([]) if room.is_whole else (None, 'logic=proved')
         if 'logic=proved' not in output:
