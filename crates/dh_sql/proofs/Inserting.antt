@@ -1,5 +1,5 @@
--- What an INSERT of one row of values does, to any table without AUTOINCREMENT.
-use Rattle.std.proofs.Common.{◌≡◌, ◌≢◌, ℕ, List, [], ◌∷◌, cond, None, Ok, ap, subst, false, ◌∙◌}
+-- What an INSERT of rows of values does, to any table without AUTOINCREMENT.
+use Rattle.std.proofs.Common.{◌≡◌, ◌≢◌, ℕ, List, [], map, cond, None, Ok, ap, subst, true, ◌∙◌}
 use Rattle.std.specs.List.{AllByRecursion}
 use Rattle.sqlite.specs.Order.{Row}
 use Rattle.sqlite.specs.Term.{Term}
@@ -10,30 +10,30 @@ use Rattle.sqlite.specs.Command.TheVariants.{Insert}
 use Rattle.sqlite_schema.specs.declared.schema.Keys.TheVariants.{Enforced}
 use Rattle.sqlite_rules.specs.Action.{works}
 use Rattle.sqlite_catalog.specs.Listing.{IsSound}
-use Rattle.sqlite.specs.Edit.{Edit, edit_of, is_taken, put_all, with_rowid}
+use Rattle.sqlite.specs.Edit.{Edit, are_fresh, edit_of, numbered, put_all}
 use Rattle.sqlite.specs.Cast.{cast_row}
 use Rattle.sqlite.specs.Rowids.TheVariants.{Chosen, Above}
 use Rattle.sqlite.specs.Effect.{Database}
 use Rattle.sqlite.specs.Does.{Tally, Does, AtPlace, OnRows}
 use Rattle.sqlite.specs.Rows.{Written, rowids_for, count_of}
-use Rattle.sqlite.specs.Tree.{Trees, put_row}
+use Rattle.sqlite.specs.Tree.{Trees}
 use Rattle.sqlite.specs.Listing.{understood}
 use Rattle.sqlite.specs.State.{State, mode_of, Executes}
 use Rattle.sqlite.proofs.Callers.{statement_of, runs_as, one_step}
 use Rattle.dh_sql.specs.Texts.{IsInsertText, IsQuiet}
-use Rattle.dh_sql.proofs.Running.{went, same_value, not_true, and_first, no_count}
+use Rattle.dh_sql.proofs.Running.{went, same_value, no_count}
 
--- the tree has this row too, which has a rowid of its own
-pub record PutsRow (schema : Schema) (tree : ℕ) (row : Row) (old new : Trees) : Type 0 where
-  pub fresh : is_taken (old tree) row ≡ false
-  pub rows : new tree ≡ put_row row (old tree)
+-- the tree has these rows too, each with a rowid of its own
+pub record PutsRows (schema : Schema) (tree : ℕ) (rows : List Row) (old new : Trees) : Type 0 where
+  pub fresh : are_fresh (old tree) rows ≡ true
+  pub rows_are : new tree ≡ put_all (old tree) rows
   pub others : AllByRecursion (λ t. t.tree ≢ tree → new t.tree ≡ old t.tree) schema.tables
 
-module _ (text : List ℕ) (schema : Schema) (at : ℕ) (table : Table) (terms : List Term) (width : ℕ) (params source : Row)
-    (quiet : IsQuiet schema) (is : IsInsertText text schema at table terms width params source) where
+module _ (text : List ℕ) (schema : Schema) (at : ℕ) (table : Table) (terms : List Term) (width : ℕ) (params : Row) (sources : List Row)
+    (quiet : IsQuiet schema) (is : IsInsertText text schema at table terms width params sources) where
   pub inserts : (old new : State) (count : ℕ) → old.now.schema ≡ schema → Executes text params old new (Ok count)
       → (new.now.schema ≡ schema)
-      × PutsRow schema table.tree (with_rowid Chosen (old.now.trees table.tree) (cast_row table source)) old.now.trees new.now.trees
+      × PutsRows schema table.tree (numbered Chosen (old.now.trees table.tree) (map (cast_row table) sources)) old.now.trees new.now.trees
       × IsSound schema new.now.trees
   inserts old new count has h =
       let db = old.now.trees in
@@ -54,18 +54,18 @@ module _ (text : List ℕ) (schema : Schema) (at : ℕ) (table : Table) (terms :
       let last : counted.0 ≡ written.0 = same_value (no_count table.is_counted _ _ _ is.is_uncounted counted.1) in
       let trees : done.0.trees ≡ written.0 = ap (λ (it : Written). it.trees) (same_value counted.2) ∙ last in
       let after : new.now.trees ≡ written.0 = ap (λ (d : Database). d.trees) now ∙ trees in
-      let row = with_rowid Chosen (db table.tree) (cast_row table source) in
+      let rows = numbered Chosen (db table.tree) (map (cast_row table) sources) in
       let chosen : rowids_for table (count_of counter.0) ≡ Chosen = ap (λ b. cond b (Above (count_of counter.0)) Chosen) is.is_uncounted in
       let edit : Edit = edit_of db table [] (rowids_for table (count_of counter.0)) 0 given.0 in
-      let news : edit.news ≡ row ∷ [] =
+      let news : edit.news ≡ rows =
       ap (λ k. (edit_of db table [] k 0 given.0).news) chosen ∙ ap (λ all. (edit_of db table [] Chosen 0 all).news) (given.1.1 ∙ is.value) in
-      let none = ap (works schema Enforced 0 table.tree []) news ∙ quiet table.tree [] (row ∷ []) in
+      let none = ap (works schema Enforced 0 table.tree []) news ∙ quiet table.tree [] rows in
       let applied = one_step schema Enforced db written.0 edit none written.1 in
       let schema_is = ap (λ (d : Database). d.schema) now in (
         schema_is,
         record {
-          fresh = not_true _ (and_first _ _ (rw news at applied.fresh));
-          rows = rw after (applied.rows ∙ ap (put_all (db table.tree)) news);
+          fresh = rw news at applied.fresh;
+          rows_are = rw after (applied.rows ∙ ap (put_all (db table.tree)) news);
           others = rw after applied.tables;
         },
         subst (λ s. IsSound s new.now.trees) schema_is w.sound,

@@ -12,6 +12,7 @@ pub mod Comparing
 pub mod Apart
 pub mod Staying
 pub mod Inserting
+pub mod EachRow
 pub mod Adding
 pub mod Writing
 pub mod Updating

@@ -1,5 +1,6 @@
 -- Facts of each element of a list.
-use Rattle.std.proofs.Common.{◌≡◌, ◌∙◌, inl, inr, refl, sym, ap, subst, ℕ, zero, suc, Bool, true, false, true≢false, List, [], ◌∷◌, map, Some}
+use Rattle.std.proofs.Common.{◌≡◌, ◌∙◌, inl, inr, refl, sym, ap, subst, arith, ℕ, zero, suc, Bool, true, false, true≢false}
+use Rattle.std.proofs.Common.{List, [], ◌∷◌, length, map, All, Some}
 use Rattle.std.specs.List.{AllByRecursion, IsDistinct, slice_get}
 use Rattle.sqlite_rules.specs.Lists.{Has}
 use Rattle.dh_model.proofs.Among.{Among}
@@ -52,3 +53,15 @@ module _ {X K : Type 0} (e : K → K → Bool) (itself : (k : K) → e k k ≡ t
   one_of_key (z ∷ xs) d x y (inl p) (inr hy) same = absurd (apart (key z) xs y d.0 hy (sym (ap key p) ∙ same))
   one_of_key (z ∷ xs) d x y (inr hx) (inl q) same = absurd (apart (key z) xs x d.0 hx (sym (ap key q) ∙ sym same))
   one_of_key (z ∷ xs) d x y (inr hx) (inr hy) same = one_of_key xs d.1 x y hx hy same
+
+-- what holds of each list of ten holds of a list with that length
+pub of_ten : {X : Type 0} (P : List X → Type 0)
+    → ((a b c d e f g h i j : X) → P (a ∷ b ∷ c ∷ d ∷ e ∷ f ∷ g ∷ h ∷ i ∷ j ∷ [])) → (xs : List X) → length xs ≡ 10 → P xs
+of_ten P each (a ∷ b ∷ c ∷ d ∷ e ∷ f ∷ g ∷ h ∷ i ∷ j ∷ []) is = each a b c d e f g h i j
+of_ten P each (a ∷ b ∷ c ∷ d ∷ e ∷ f ∷ g ∷ h ∷ i ∷ j ∷ k ∷ xs) is = absurd (omega (arith, is))
+of_ten P each xs is = absurd (omega (arith, is))
+
+-- what holds at each place holds of each element
+pub all_by_recursion : {X : Type 0} (P : X → Type 0) (xs : List X) → All P xs → AllByRecursion P xs
+all_by_recursion P [] h = tt
+all_by_recursion P (x ∷ xs) h = (h 0 x (omega arith), all_by_recursion P xs (λ k d low. h (suc k) d (omega (arith, low))))

@@ -1,7 +1,7 @@
 -- What a statement that changed one table has done.
-use Rattle.std.specs.Prelude.{◌≡◌, ℕ, nat_eq, false, Some, slice_get}
+use Rattle.std.specs.Prelude.{◌≡◌, ℕ, nat_eq, false, List, [], ◌∷◌, Some, None, slice_get}
 use Rattle.std.specs.declared.cmp.Ordering.{Ordering}
-use Rattle.std.specs.FinMap.{FinMap}
+use Rattle.std.specs.FinMap.{FinMap, get, insert}
 use Rattle.sqlite_schema.specs.declared.schema.Schema.{Schema}
 use Rattle.sqlite_schema.specs.declared.schema.Table.{Table}
 use Rattle.sqlite_value.specs.Order.{Row}
@@ -21,6 +21,11 @@ pub record IsTurnedInto {K X : Type 0} (it : Shape K X) (table : Table) (before 
   pub rowid_is : rowid after ≡ rowid before
   pub grammar : IsStored it after
   pub record_is : stored_in it after ≡ y
+
+-- each of the records is new to those that are there and to those before it
+abbrev pub AreNew : {K X : Type 0} {R : K → K → Ordering} → (X → K) → List X → FinMap R X → Type 0
+AreNew key [] held = Unit {0}
+AreNew key (x ∷ xs) held = (get held (key x) ≡ None) × AreNew key xs (insert held (key x) x)
 
 module _ {K X : Type 0} (it : Shape K X) (R : K → K → Ordering) where
   -- the table has the records that it had, and is in order where it was

@@ -1,5 +1,5 @@
 -- What a text means under a schema, for each kind of statement on one table.
-use Rattle.std.specs.Prelude.{◌≡◌, ◌/◌, ℕ, List, [], ◌∷◌, length, slice_get, false, Some}
+use Rattle.std.specs.Prelude.{◌≡◌, ◌/◌, ℕ, List, [], length, slice_get, false, Some}
 use Rattle.sqlite_value.specs.declared.keys.Key.{Key}
 use Rattle.sqlite_value.specs.Order.{Row}
 use Rattle.sqlite_schema.specs.declared.schema.Keys.TheVariants.{Enforced}
@@ -25,13 +25,14 @@ uncounted t = record t { is_counted = false; stamps = record { places = []; term
 abbrev pub IsQuiet : Schema → Type 0
 IsQuiet schema = (tree : ℕ) (olds news : List Row) → works schema Enforced 0 tree olds news ≡ []
 
--- INSERT INTO table VALUES (terms): with these parameters it adds one row, which is the source before it is cast
-pub record IsInsertText (text : List ℕ) (schema : Schema) (at : ℕ) (table : Table) (terms : List Term) (width : ℕ) (params source : Row) : Type 0 where
+-- INSERT INTO table VALUES (terms), ..: with these parameters it adds so many rows, which are the sources before they are cast
+pub record IsInsertText
+    (text : List ℕ) (schema : Schema) (at : ℕ) (table : Table) (terms : List Term) (width : ℕ) (params : Row) (sources : List Row) : Type 0 where
   pub command : command_of (understood schema text) ≡ Insert at (Values terms width)
   pub plain : IsPlain (understood schema text)
   pub listed : slice_get schema.tables at ≡ Some table
   pub is_uncounted : table.is_counted ≡ false
-  pub value : value_rows (stamped table params) width (length terms / width) terms ≡ source ∷ []
+  pub value : value_rows (stamped table params) width (length terms / width) terms ≡ sources
 
 -- SELECT project FROM tree WHERE tests ORDER BY order
 pub record IsSelectText

@@ -12,3 +12,4 @@ pub mod MetaUpdates
 pub mod AmendedRecord
 pub mod ByKey
 pub mod OfKind
+pub mod ReadBack

@@ -1,5 +1,5 @@
 -- What an INSERT into meta leaves, and what a SELECT of its rows shows.
-use Rattle.std.proofs.Common.{◌≡◌, ◌∙◌, ap, subst, refl, true, ℕ, pos, List, [], map, IsPermutation, Option, Some, None, Result, Ok, Err, IfOk}
+use Rattle.std.proofs.Common.{◌≡◌, ◌∙◌, ap, subst, refl, true, ℕ, pos, List, [], ◌∷◌, map, IsPermutation, Option, Some, None, Result, Ok, Err, IfOk}
 use Rattle.std.specs.Prelude.{Vec}
 use Rattle.std.specs.declared.alloc.Global.{Global}
 use Rattle.std.proofs.lemmas.List.Sorted.{IsPermutation-sym}
@@ -37,10 +37,10 @@ cast_stored m = rw (cast_int (pos 1), cast_null, cast_int (pos (version_number m
 pub adds_meta : (old new : State) (m : Months) (count : ℕ) → HasSince First old.now.schema → old.now.trees 0 ≡ [] → is_meta_row (meta_row m) ≡ true
     → Executes meta_inserts (meta_row m) old new (Ok count) → SetsMonths m old new
 adds_meta old new m count has empty good h =
-    let it = inserts meta_inserts old.now.schema 0 meta meta_named.put 5 (meta_row m) (stored m) (quiet old.now.schema has)
+    let it = inserts meta_inserts old.now.schema 0 meta meta_named.put 5 (meta_row m) (stored m ∷ []) (quiet old.now.schema has)
     (meta_inserts_is old.now.schema has m) old new count refl h in
     let row = ap (with_rowid Chosen (old.now.trees 0)) (cast_stored m) in
-    let rows = it.1.rows ∙ ap (λ (r : Row). put_row r (old.now.trees 0)) row ∙ ap (put_row (stored m)) empty in
+    let rows = it.1.rows_are ∙ ap (λ (r : Row). put_row r (old.now.trees 0)) row ∙ ap (put_row (stored m)) empty in
     record {
       schema_is = it.0;
       listed = it.2;

@@ -26,9 +26,9 @@ abbrev pub meta_inserts : List ℕ
 meta_inserts = insert_text meta_named.table meta_named.names
 
 pub meta_inserts_is : (s : Schema) → HasSince First s → (m : Months)
-    → IsInsertText meta_inserts s 0 meta meta_named.put 5 (meta_row m) (own_rowid meta_row m)
+    → IsInsertText meta_inserts s 0 meta meta_named.put 5 (meta_row m) (own_rowid meta_row m ∷ [])
 unfolding understood everything
-meta_inserts_is = of_both (λ s. (m : Months) → IsInsertText meta_inserts s 0 meta meta_named.put 5 (meta_row m) (own_rowid meta_row m))
+meta_inserts_is = of_both (λ s. (m : Months) → IsInsertText meta_inserts s 0 meta meta_named.put 5 (meta_row m) (own_rowid meta_row m ∷ []))
     (λ m. record { command = refl; plain = (refl, refl); listed = refl; is_uncounted = refl; value = refl })
     (λ m. record { command = refl; plain = (refl, refl); listed = refl; is_uncounted = refl; value = refl })
 

@@ -13,6 +13,7 @@ use Rattle.sqlite.specs.Listing.{understood}
 use Rattle.sqlite.proofs.Callers.{IsPlain, command_of}
 use Rattle.sqlite.specs.State.{HasCause, IsRolledBack, IsUnchanged, Shows, State, Survives}
 use Rattle.dh_model.specs.Books as machine
+use Rattle.dh_model.specs.Books.{with_rows}
 use Rattle.dh_model.specs.Whole.{rows_where}
 use Rattle.dh_types.specs.declared.version.Version.{Version}
 use Rattle.dh_ddl.specs.Versions.{HasSince, IsOurs}
@@ -75,6 +76,10 @@ module _ {K X : Type 0} (it : Shape K X) (R : K → K → Ordering) where
   -- the table has this record too
   abbrev pub Adds : X → State → State → Type 0
   Adds x old new = Becomes it R old.now.schema (insert (rows_in it old.now.trees) (it.key x) x) old new
+
+  -- the table has these records too
+  abbrev pub AddsEach : List X → State → State → Type 0
+  AddsEach xs old new = Becomes it R old.now.schema (with_rows it.key xs (rows_in it old.now.trees)) old new
 
   -- a record of the table has this key
   abbrev pub IsThere : K → State → Type 0

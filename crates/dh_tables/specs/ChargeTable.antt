@@ -10,18 +10,21 @@ use Rattle.dh_days.specs.Days.{due_day_of}
 use Rattle.dh_types.specs.declared.lease.Charge.{Charge}
 use Rattle.dh_rows.specs.ChargeRows.{charge_in, charge_row, is_charge_row}
 use Rattle.dh_types.specs.declared.version.Version.TheVariants.{First}
-use Rattle.dh_ddl.specs.Versions.{of_both}
+use Rattle.dh_ddl.specs.Versions.{HasSince, of_both}
 use Rattle.dh_ddl.specs.ChargeTable.{charge}
 use Rattle.dh_sql.specs.CellTests.{Cell}
 use Rattle.dh_sql.specs.Shape.{Shape}
 use Rattle.dh_sql.proofs.Casting.{cast_null, pass_each, row_stays}
+use Rattle.dh_sql.proofs.Lists.{of_ten}
+use Rattle.sqlite_schema.specs.declared.schema.Schema.{Schema}
+use Rattle.dh_tables.specs.declared.bulk.TheConstants.{BULK}
 use Rattle.dh_tables.specs.declared.charge.ChargeOf.{ChargeOf}
 use Rattle.dh_tables.specs.declared.charge.ChargesOfLease.{ChargesOfLease}
 use Rattle.dh_tables.specs.Cells.{is_number, number_from, pass_both, pass_one, read_as, same_number}
 use Rattle.dh_tables.specs.Commands.{Named, rowid_apart}
 use Rattle.dh_tables.specs.Listing.{IsListing, ListsRowids, ListsRows}
 use Rattle.dh_tables.specs.Questions.{IsQuestion, IsSelected, Question, asking_by}
-use Rattle.dh_tables.specs.Tables.{Adding, IsAdding, IsInsertOf, adding_to, without_rowid}
+use Rattle.dh_tables.specs.Tables.{Adding, IsAdding, IsInsertOf, IsInsertOfEach, adding_to, without_rowid}
 
 abbrev pub charge_columns : Row → Row
 charge_columns row = column row 1 ∷ column row 2 ∷ column row 3 ∷ column row 4 ∷ column row 5 ∷ []
@@ -55,6 +58,13 @@ charge_is_adding = record {
   columns = λ x rows. refl;
   keyed = λ x rows. refl;
 }
+
+-- ten rows by one text
+pub charge_adds_bulk : (s : Schema) → HasSince First s → IsInsertOfEach BULK charge_row charge_adding charge_named s
+unfolding understood everything
+charge_adds_bulk = of_both (IsInsertOfEach BULK charge_row charge_adding charge_named)
+    (of_ten _ (λ a b c d e f g h i j. record { command = refl; plain = (refl, refl); listed = refl; is_uncounted = refl; value = refl }))
+    (of_ten _ (λ a b c d e f g h i j. record { command = refl; plain = (refl, refl); listed = refl; is_uncounted = refl; value = refl }))
 
 -- ---- the whole table
 

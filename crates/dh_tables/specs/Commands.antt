@@ -1,5 +1,5 @@
 -- The texts of SQL that add a row to a table, ask for rows and change one, of its name and its columns.
-use Rattle.std.specs.Prelude.{ℕ, ◌+◌, ◌/◌, ◌%◌, nat_lt, if◌then◌else◌, List, [], ◌∷◌, ◌++◌, length, codes}
+use Rattle.std.specs.Prelude.{ℕ, zero, suc, ◌+◌, ◌/◌, ◌%◌, nat_lt, if◌then◌else◌, List, [], ◌∷◌, ◌++◌, length, codes}
 use Rattle.sqlite_value.specs.declared.value.Value.TheVariants.{Null}
 use Rattle.sqlite_sql.specs.Term.{Term, lit, col}
 use Rattle.sqlite_schema.specs.declared.schema.Column.{Column}
@@ -20,9 +20,19 @@ abbrev pub parameters : ℕ → List (List ℕ) → List (List ℕ)
 parameters n [] = []
 parameters n (column ∷ columns) = (codes "?" ++ small n) ∷ parameters (n + 1) columns
 
+-- of so many rows, the parameters of which begin with this number: each row is a text
+abbrev pub parameter_rows : ℕ → ℕ → List (List ℕ) → List (List ℕ)
+parameter_rows zero n columns = []
+parameter_rows (suc rows) n columns = joined (codes ", ") (parameters n columns) ∷ parameter_rows rows (n + length columns) columns
+
+-- so many rows are added
+abbrev pub insert_rows_text : ℕ → List ℕ → List (List ℕ) → List ℕ
+insert_rows_text rows table columns =
+    codes "INSERT INTO " ++ table ++ codes " (" ++ joined (codes ", ") columns ++ codes ") VALUES ("
+    ++ joined (codes "), (") (parameter_rows rows 1 columns) ++ codes ")"
+
 abbrev pub insert_text : List ℕ → List (List ℕ) → List ℕ
-insert_text table columns =
-    codes "INSERT INTO " ++ table ++ codes " (" ++ joined (codes ", ") columns ++ codes ") VALUES (" ++ joined (codes ", ") (parameters 1 columns) ++ codes ")"
+insert_text = insert_rows_text 1
 
 abbrev pub select_text : List ℕ → List (List ℕ) → List ℕ
 select_text table columns = codes "SELECT " ++ joined (codes ", ") columns ++ codes " FROM " ++ table
@@ -68,6 +78,11 @@ rowid_apart table = record {
   shown = terms_from 1 1 (names_of table.columns);
   rowid_name = codes "rowid";
 }
+
+-- what so many new rows are put together of, where the rowid is no column; their parameters stand from this place on
+abbrev pub put_apart : ℕ → ℕ → List (List ℕ) → List Term
+put_apart zero n names = []
+put_apart (suc rows) n names = lit Null ∷ terms_from 0 n names ++ put_apart rows (n + length names) names
 
 -- the first name, and those behind it
 abbrev pub first_of : List (List ℕ) → List ℕ

@@ -1,5 +1,5 @@
 -- What a kind of record has to have for a table of its own.
-use Rattle.std.specs.Prelude.{◌≡◌, ℕ, Bool, true, List, ◌∷◌, ◌++◌, ◌+◌, length, take, drop, Some, slice_get}
+use Rattle.std.specs.Prelude.{◌≡◌, ℕ, Bool, true, List, [], ◌∷◌, ◌++◌, ◌+◌, length, map, flat_map, take, drop, Some, slice_get}
 use Rattle.std.specs.declared.cmp.Ordering.{Ordering}
 use Rattle.std.specs.FinMap.{FinMap}
 use Rattle.sqlite_value.specs.declared.value.Value.TheVariants.{Null}
@@ -18,7 +18,7 @@ use Rattle.dh_types.specs.declared.version.Version.{Version}
 use Rattle.dh_ddl.specs.Versions.{HasSince}
 use Rattle.dh_sql.specs.Shape.{Shape}
 use Rattle.dh_sql.specs.Texts.{IsInsertText}
-use Rattle.dh_tables.specs.Commands.{Named, insert_text}
+use Rattle.dh_tables.specs.Commands.{Named, insert_rows_text, insert_text, put_apart}
 
 -- where the books have the records of one kind, and the books with others
 pub record Shelf (K X : Type 0) (R : K → K → Ordering) : Type 0 where
@@ -60,7 +60,14 @@ adding_to columns place table source = record {
 -- under this schema the text adds the row of each record
 abbrev pub IsInsertOf : {X : Type 0} → (X → Row) → Adding X → Schema → Type 0
 IsInsertOf {X} row adding s =
-    (x : X) → IsInsertText adding.text s adding.place adding.table adding.terms adding.width (row x) (adding.source x)
+    (x : X) → IsInsertText adding.text s adding.place adding.table adding.terms adding.width (row x) (adding.source x ∷ [])
+
+-- and one text those of so many records, one behind the other
+abbrev pub IsInsertOfEach : {X : Type 0} → ℕ → (X → Row) → Adding X → Named → Schema → Type 0
+IsInsertOfEach {X} count row adding named s =
+    (xs : List X) → length xs ≡ count
+    → IsInsertText (insert_rows_text count named.table named.names) s adding.place adding.table (put_apart count 0 named.names) adding.width
+    (flat_map row xs) (map adding.source xs)
 
 -- the text adds the row of a record, which is read back as the record
 pub record IsAdding {K X : Type 0} (since : Version) (it : Shape K X) (row : X → Row) (is_row : Row → Bool) (adding : Adding X) : Type 0 where

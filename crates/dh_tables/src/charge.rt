@@ -1,6 +1,6 @@
 //! Charges in their table.
 
-use crate::{Listed, PlainLook, Tabled};
+use crate::{InBulk, Listed, PlainLook, Tabled};
 use dh_books::Books;
 use dh_ddl::text_of;
 use dh_types::{Charge, ChargeIndex, LeaseNo, Version};
@@ -64,6 +64,22 @@ impl Listed for Charge {
     }
 
     ghost is_listing = { charge_is_listing };
+}
+
+impl InBulk for Charge {
+    ghost use Rattle.dh_tables.specs.ChargeTable.{charge_adds_bulk};
+
+    fn bulk_text() -> &'static str {
+        text_of!(
+            insert,
+            charge,
+            "?1, ?2, ?3, ?4, ?5), (?6, ?7, ?8, ?9, ?10), (?11, ?12, ?13, ?14, ?15), (?16, ?17, ?18, ?19, ?20), \
+             (?21, ?22, ?23, ?24, ?25), (?26, ?27, ?28, ?29, ?30), (?31, ?32, ?33, ?34, ?35), (?36, ?37, ?38, ?39, ?40), \
+             (?41, ?42, ?43, ?44, ?45), (?46, ?47, ?48, ?49, ?50"
+        )
+    }
+
+    ghost adds_bulk = { charge_adds_bulk };
 }
 
 /// The charge of this lease that has this index.

@@ -1,4 +1,4 @@
-use Rattle.std.proofs.Common.{[], refl, List, ℕ, IfOk, arith, subst, sym}
+use Rattle.std.proofs.Common.{refl, List, ℕ, IfOk, arith, subst, sym}
 use Rattle.sqlite.specs.State.{HasCleanDisk, Shown}
 use Rattle.sqlite.specs.Held.{state}
 use Rattle.dh_sql.proofs.Asking.{asked, asked_once}

@@ -1,4 +1,4 @@
-use Rattle.std.proofs.Common.{◌∙◌, refl, sym, subst, arith, List, ℕ, Ok}
+use Rattle.std.proofs.Common.{refl, sym, subst, arith, List, [], ◌∷◌, ℕ, Ok}
 use Rattle.std.specs.FinMap as fin
 use Rattle.sqlite.specs.State.{Executes, HasCleanDisk}
 use Rattle.sqlite.specs.Held.{state}
@@ -9,6 +9,7 @@ use Rattle.dh_sql.proofs.Adding.{adds}
 use Rattle.dh_tables.proofs.Quiet.{quiet}
 use Rattle.dh_tables.proofs.table.insert.Given.{Over}
 use Rattle.dh_tables.proofs.OfKind.{ties, total}
+use Rattle.dh_tables.proofs.ReadBack.{read_back}
 use Rattle.dh_tables.proofs.table.insert.Goals as goal
 
 did : (g : Over) (c : goal.After-drop-day-2 g) → HasCleanDisk (state g.S.Store c.execute.new.self.conn.now)
@@ -29,14 +30,10 @@ did g c clean =
     let one = rw (c.deref-2.ensures.value, c.in_ok-values.ensures.columns) at ran.0 in
     let told = subst (λ (t : List ℕ). Executes t (g.R.Record.row x) old new (Ok c.in_ok-execute.field-0)) c.insert_text.ensures one in
     adds (total g.R.Tabled.is_kind) (ties g.R.Tabled.is_kind) it old.now.schema (quiet old.now.schema (is_ours g.R.Tabled.since old.now.schema was.has))
-    how.text how.place how.table how.terms how.width (g.R.Record.row x) (how.source x) x
-    laws.is_adding.tree_is (laws.is_adding.inserts old.now.schema was.has x) old new c.in_ok-execute.field-0 (record {
-      stays = laws.is_adding.stays x good;
-      columns = laws.is_adding.columns x (old.now.trees how.table.tree);
-      keyed = laws.is_adding.keyed x (old.now.trees how.table.tree);
-      record_is = laws.has_shape.row_in_is (g.R.Record.row x) ∙ g.met.R.Record.decodes x good;
-      grammar = laws.has_shape.is_row_is (g.R.Record.row x) ∙ good;
-    }) refl (c.requires.kept early) (c.requires.fresh early) told
+    how.text how.place how.table how.terms how.width (g.R.Record.row x) g.R.Record.row how.source (x ∷ [])
+    laws.is_adding.tree_is (laws.is_adding.inserts old.now.schema was.has x) old new c.in_ok-execute.field-0
+    (read_back it g.R.Record.row g.R.Record.is_row g.R.Record.decode g.R.Record.key_of how laws.is_adding laws.has_shape g.met.R.Record.decodes x good, tt)
+    refl (c.requires.kept early) (c.requires.fresh early, tt) told
 
 pub returns-clause-added : goal.returns-clause-added
 returns-clause-added g c clean = did g c clean
