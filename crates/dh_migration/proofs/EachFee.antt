@@ -18,21 +18,21 @@ use Rattle.dh_model.proofs.Rising.{IsBefore, Rises, rises_by}
 use Rattle.dh_laws.specs.InOrder.{AreKeyed}
 use Rattle.dh_laws.proofs.MapMerges.{get_past_rows, rows_rise}
 use Rattle.dh_leases.specs.Plans.{HasItsFeeRow}
+use Rattle.dh_sql.proofs.EachRow.{with_none, with_one}
 use Rattle.dh_runs.specs.Putting.{with_fees}
-use Rattle.dh_runs.proofs.Putting.{with_none, with_one}
 use Rattle.dh_migration.specs.Migrated.{HaveNoFees, no_fee, with_no_fees}
 
 -- no part, no row
 pub none_put : (books : Books) → with_no_fees [] books ≡ books
 none_put books =
     ap (λ (fees : FinMap _ PartFee). let it : Books = record books { part_fees = fees } in it)
-    (with_none nat_text_total nat_text_ties part_fee_key books.part_fees)
+    (with_none part_fee_key nat_text_total nat_text_ties books.part_fees)
 
 -- one more is put on those behind it
 pub one_more : (part : Part) (parts : List Part)
     → ◌≡◌ {A = Books → Books} (λ books. with_fees (no_fee part ∷ []) (with_no_fees parts books)) (with_no_fees (part ∷ parts))
 one_more part parts = λ i books. record books {
-  part_fees = with_one nat_text_total nat_text_ties part_fee_key (no_fee part) (with_rows part_fee_key (map no_fee parts) books.part_fees) i;
+  part_fees = with_one part_fee_key nat_text_total nat_text_ties (no_fee part) (with_rows part_fee_key (map no_fee parts) books.part_fees) i;
 }
 
 -- what is left is new too

@@ -33,7 +33,7 @@ use Rattle.dh_schema.proofs.Crashing.{survives_both}
 use Rattle.dh_schema.proofs.Installing.{empty_apart, empty_kept, no_records, none_since}
 use Rattle.dh_schema.proofs.EachKind.{beside_meta, listed, same_but, tree_is}
 use Rattle.dh_schema.specs.Putting.{TurnsBooks}
-use Rattle.dh_store.proofs.Putting.{keeps_both, keeps_commit}
+use Rattle.dh_access.proofs.Putting.{keeps_both, keeps_commit}
 use Rattle.dh_migration.specs.Migrated.{as_second, migrated, no_fee, with_no_fees}
 
 module _ (old : State) (writing : IsWriting old) (first : version_of_tables old.now.trees ≡ First) where

@@ -1,12 +1,9 @@
 -- Rows that were put into their tables, as what becomes of the books.
 use Rattle.std.proofs.Common.{◌≡◌, ◌∙◌, refl, sym, ap, Bool, true, false, [], ◌∷◌, Option, Some, None, is_some, Result, Ok, Err, OnOk, arith}
 use Rattle.std.proofs.lemmas.Bool.{false≢true}
-use Rattle.std.specs.declared.cmp.Ordering.{Ordering}
-use Rattle.std.specs.Cmp.{IsTotalOrder}
-use Rattle.std.specs.FinMap.{FinMap, IsAntisymmetric, entries, get, get-entries, get-from_entries, insert, same_map}
+use Rattle.std.specs.FinMap.{FinMap, get, insert}
 use Rattle.sqlite.specs.declared.error.Error.{Error}
 use Rattle.sqlite.specs.State.{HasCleanDisk, State}
-use Rattle.dh_types.specs.declared.lease.Charge.{Charge}
 use Rattle.dh_types.specs.declared.run.Part.{Part}
 use Rattle.dh_types.specs.declared.fee.PartFee.{PartFee}
 use Rattle.dh_types.specs.declared.version.Version.TheVariants.{Second}
@@ -14,10 +11,11 @@ use Rattle.dh_model.specs.Books.{Books, with_rows}
 use Rattle.dh_model.specs.Books as machine
 use Rattle.dh_leases.specs.Plans.{HasItsFeeRow}
 use Rattle.std.specs.Prelude.{IfSome}
-use Rattle.dh_model.specs.Runs.{charge_key, part_fee_key, part_key}
-use Rattle.dh_model.proofs.KeyOrders.{nat_text_ties, nat_text_total, nats_tie, nats_total}
+use Rattle.dh_model.specs.Runs.{part_fee_key, part_key}
+use Rattle.dh_model.proofs.KeyOrders.{nat_text_ties, nat_text_total}
 use Rattle.dh_ddl.specs.Versions.{schema_of}
 use Rattle.dh_sql.specs.Shape.{rows_in}
+use Rattle.dh_sql.proofs.EachRow.{with_none, with_one}
 use Rattle.dh_tables.specs.Calls.{IsWritingSince}
 use Rattle.dh_model.specs.Kinds.{order_of}
 use Rattle.dh_schema.specs.Kinds.{shape_of}
@@ -27,22 +25,13 @@ use Rattle.dh_schema.specs.Tables.{version_of_tables}
 use Rattle.dh_schema.proofs.Crashing.{survives_both}
 use Rattle.dh_schema.proofs.EachKind.{all_since}
 use Rattle.dh_schema.proofs.Keyed.{keyed}
-use Rattle.dh_store.proofs.Putting.{IsThere, Means, keeps_both}
+use Rattle.dh_access.proofs.Putting.{IsThere, Means, keeps_both}
 use Rattle.dh_schema.specs.Putting.{Puts, TurnsBooks}
-use Rattle.dh_runs.specs.Putting.{with_charges, with_fees, with_part}
+use Rattle.dh_runs.specs.Putting.{with_fees, with_part}
 
 -- what writes tables of the second version writes those that came with it
 pub later_writing : (s : State) → IsWriting s → version_of_tables s.now.trees ≡ Second → IsWritingSince Second s
 later_writing s writing second = record { inside = writing.inside; has = writing.version ∙ ap schema_of second }
-
--- ---- rows of a map
-
-module _ {K X : Type 0} {R : K → K → Ordering} (o : IsTotalOrder R) (anti : IsAntisymmetric R) (key : X → K) where
-  pub with_none : (m : FinMap R X) → with_rows key [] m ≡ m
-  with_none m = same_map o anti (with_rows key [] m) m (λ q. get-from_entries o (entries m) q ∙ sym (get-entries m q))
-
-  pub with_one : (row : X) (m : FinMap R X) → with_rows key (row ∷ []) m ≡ insert m (key row) row
-  with_one row m = ap (λ (n : FinMap R X). insert n (key row) row) (with_none m)
 
 -- ---- one after the other
 
@@ -63,13 +52,6 @@ puts_both {books = books} later {a = a} {b = b} {c = c} {r = r} one two =
       crash = survives_both a b c one.crash two.crash;
     }
 
--- ---- charges
-
-pub no_charges : (books : Books) → with_charges [] books ≡ books
-no_charges books =
-    ap (λ (charges : FinMap _ Charge). let it : Books = record books { charges = charges } in it)
-    (with_none nats_total nats_tie charge_key books.charges)
-
 -- ---- a part row
 
 part_is : (there part : Part) → part_key there ≡ part_key part → record there { through = part.through; count = part.count; total = part.total } ≡ part
@@ -85,7 +67,7 @@ pub with_new_part : (part : Part) (books : Books)
     → (let it : Books = record books { parts = insert books.parts (part_key part) part } in it) ≡ with_part part books
 with_new_part part books =
     ap (λ (parts : FinMap _ Part). let it : Books = record books { parts = parts } in it)
-    (sym (with_one nat_text_total nat_text_ties part_key part books.parts))
+    (sym (with_one part_key nat_text_total nat_text_ties part books.parts))
 
 found : {X : Type 0} (it : Option X) → is_some it ≡ true → (x : X) × (it ≡ Some x)
 found None h = absurd (false≢true h)
@@ -117,12 +99,12 @@ pub with_new_fee : (fee : PartFee) (books : Books)
     → (let it : Books = record books { part_fees = insert books.part_fees (part_fee_key fee) fee } in it) ≡ with_fees (fee ∷ []) books
 with_new_fee fee books =
     ap (λ (fees : FinMap _ PartFee). let it : Books = record books { part_fees = fees } in it)
-    (sym (with_one nat_text_total nat_text_ties part_fee_key fee books.part_fees))
+    (sym (with_one part_fee_key nat_text_total nat_text_ties fee books.part_fees))
 
 pub no_fees : (books : Books) → with_fees [] books ≡ books
 no_fees books =
     ap (λ (fees : FinMap _ PartFee). let it : Books = record books { part_fees = fees } in it)
-    (with_none nat_text_total nat_text_ties part_fee_key books.part_fees)
+    (with_none part_fee_key nat_text_total nat_text_ties books.part_fees)
 
 -- what its part has becomes this
 pub fee_there : (fee : PartFee) (old new : State) (second : version_of_tables old.now.trees ≡ Second)

@@ -1,20 +1,23 @@
 //! The rows of a batch put into their tables, within a transaction.
 
-ghost use Rattle.std.specs.Prelude.{◌≡◌, ◌≤◌, [], ◌∷◌, All, None, IfSome, is_some};
+ghost use Rattle.std.specs.Prelude.{◌≡◌, ◌≤◌, [], ◌∷◌, All, None, IfSome, is_some, length};
 ghost use Rattle.std.specs.FinMap.{get};
 ghost use Rattle.sqlite.specs.State.{HasCleanDisk};
 ghost use Rattle.sqlite.specs.Held.{state};
 ghost use Rattle.dh_days.specs.Days.{month_of_day};
 ghost use Rattle.dh_days.specs.declared.limits.TheConstants.{LAST_ENTRY_MONTH};
 ghost use Rattle.dh_model.specs.Runs.{charge_key, part_key};
-ghost use Rattle.dh_leases.specs.Plans.{AreNew, FallsInTime, HasItsFeeRow, HasItsPart, some_row, with_batch_rows};
+ghost use Rattle.dh_leases.specs.Plans as plans;
+ghost use Rattle.dh_leases.specs.Plans.{FallsInTime, HasItsFeeRow, HasItsPart, some_row, with_batch_rows};
+ghost use Rattle.dh_sql.specs.Changes.{AreNew};
+ghost use Rattle.dh_tables.specs.declared.bulk.TheConstants.{BULK};
 ghost use Rattle.dh_schema.specs.Store.{IsWriting, tables};
 ghost use Rattle.dh_schema.specs.Putting.{TurnsBooks};
 ghost use Rattle.dh_runs.specs.Putting.{with_charge, with_charges, with_fees, with_part};
 
 use dh_leases::BatchRows;
 use dh_schema::Put;
-use dh_tables::{insert, update};
+use dh_tables::{BULK, insert, insert_bulk, update};
 use dh_types::{Charge, Part, PartFee};
 use sqlite::{Alter, Error, Transaction};
 use std::alloc::Global;
@@ -36,13 +39,14 @@ fn put_charge<S: Alter>(
 }
 
 // Puts charges that are new, one after the other.
-fn put_charges<S: Alter>(
+fn put_each_charge<S: Alter>(
     alloc: Global,
     tx: &mut Transaction<'_, S>,
     charges: &[Charge],
 ) -> Result<(), Error>
     requires writing { HasCleanDisk (state S.Store tx.old.conn.now) → IsWriting (state S.Store tx.old.conn.now) }
-    requires new { HasCleanDisk (state S.Store tx.old.conn.now) → AreNew charges.now (tables (state S.Store tx.old.conn.now)).books.charges }
+    requires new { HasCleanDisk (state S.Store tx.old.conn.now)
+        → AreNew charge_key charges.now (tables (state S.Store tx.old.conn.now)).books.charges }
     requires in_time { All (λ charge. month_of_day charge.day ≤ LAST_ENTRY_MONTH) charges.now }
     ensures same_reference { tx.new.conn.ghost_name ≡ tx.old.conn.ghost_name }
     ensures puts { TurnsBooks (with_charges charges.now) result (state S.Store tx.old.conn.now) (state S.Store tx.new.conn.now) }
@@ -51,6 +55,45 @@ fn put_charges<S: Alter>(
         put_charge(alloc, tx, charge)?;
     }
     Ok(())
+}
+
+// Puts as many charges that are new as a bulk insert adds.
+fn put_bulk<S: Alter>(
+    alloc: Global,
+    tx: &mut Transaction<'_, S>,
+    charges: &[Charge],
+) -> Result<(), Error>
+    requires count { length charges.now ≡ BULK }
+    requires writing { HasCleanDisk (state S.Store tx.old.conn.now) → IsWriting (state S.Store tx.old.conn.now) }
+    requires new { HasCleanDisk (state S.Store tx.old.conn.now)
+        → AreNew charge_key charges.now (tables (state S.Store tx.old.conn.now)).books.charges }
+    requires in_time { All (λ charge. month_of_day charge.day ≤ LAST_ENTRY_MONTH) charges.now }
+    ensures same_reference { tx.new.conn.ghost_name ≡ tx.old.conn.ghost_name }
+    ensures puts { TurnsBooks (with_charges charges.now) result (state S.Store tx.old.conn.now) (state S.Store tx.new.conn.now) }
+{
+    insert_bulk(alloc, tx, charges)
+}
+
+// Puts charges that are new: by bulk inserts, as far as they go, and the rest one after the other.
+fn put_charges<S: Alter>(
+    alloc: Global,
+    tx: &mut Transaction<'_, S>,
+    charges: &[Charge],
+) -> Result<(), Error>
+    requires writing { HasCleanDisk (state S.Store tx.old.conn.now) → IsWriting (state S.Store tx.old.conn.now) }
+    requires new { HasCleanDisk (state S.Store tx.old.conn.now)
+        → AreNew charge_key charges.now (tables (state S.Store tx.old.conn.now)).books.charges }
+    requires in_time { All (λ charge. month_of_day charge.day ≤ LAST_ENTRY_MONTH) charges.now }
+    ensures same_reference { tx.new.conn.ghost_name ≡ tx.old.conn.ghost_name }
+    ensures puts { TurnsBooks (with_charges charges.now) result (state S.Store tx.old.conn.now) (state S.Store tx.new.conn.now) }
+{
+    let mut left = charges;
+    while left.len() >= BULK {
+        let (bulk, rest) = left.split_at(BULK);
+        put_bulk(alloc, tx, bulk)?;
+        left = rest;
+    }
+    put_each_charge(alloc, tx, left)
 }
 
 // Puts the part row, in the place of the one that the branch has, if it has one.
@@ -121,7 +164,7 @@ pub(crate) struct PostedRows<'a> {
 impl Put for PostedRows<'_> {
     ghost after = { λ it. with_batch_rows it.rows.now };
 
-    ghost fits = { λ it t. AreNew it.rows.now.charges.items t.books.charges × HasItsPart it.rows.now t };
+    ghost fits = { λ it t. plans.AreNew it.rows.now.charges.items t.books.charges × HasItsPart it.rows.now t };
 
     ghost can_put = { λ it. FallsInTime it.rows.now };
 

@@ -1,13 +1,6 @@
-pub mod LastRun
-pub mod Later
-pub mod MonthsStay
-pub mod Taken
 pub mod Shown
 pub mod AskedBooks
 pub mod PutOff
-pub mod Putting
-pub mod Editing
 pub mod EndingsBeside
-pub mod ReadsInTurn
 pub mod AnsweredFrom
 pub mod ChargeOfMonth

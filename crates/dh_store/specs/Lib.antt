@@ -1,6 +1,2 @@
-pub mod Reading
-pub mod Months
-pub mod Looked
 pub mod Gathered
 pub mod AnsweredFrom
-pub mod Putting

@@ -7,15 +7,15 @@ ghost use Rattle.sqlite.specs.Held.{state};
 ghost use Rattle.dh_laws.specs.Looks.{Counts, IsCutOf, month_open};
 ghost use Rattle.dh_verdicts.specs.Seen.{facts_of};
 ghost use Rattle.dh_schema.specs.Store.{IsReady, tables};
-ghost use Rattle.dh_store.specs.Months.{IsReadyIn, IsReadyOf};
-ghost use Rattle.dh_store.specs.Reading.{OnlyReads};
+ghost use Rattle.dh_access.specs.Months.{IsReadyIn, IsReadyOf};
+ghost use Rattle.dh_access.specs.Reading.{OnlyReads};
 ghost use Rattle.dh_store.specs.Gathered.{Gathers, bare};
 
-use crate::looks::{find_open_run, look};
 use crate::verdicts::rows::{
     at_end, at_fee, at_inspection, at_lease, at_property, at_receipt, at_register, at_run,
     at_staff, at_viewing, managed,
 };
+use dh_access::{find_open_run, look};
 use dh_books::Books;
 use dh_model::OpenRun;
 use dh_rows::Meta;

@@ -2,7 +2,7 @@ use Rattle.std.proofs.Common.{inr, arith}
 use Rattle.std.proofs.lemmas.Result.{err_from_is_err_and}
 use Rattle.sqlite.specs.State.{HasCleanDisk}
 use Rattle.sqlite.specs.Held.{state}
-use Rattle.dh_store.proofs.Putting.{puts_none}
+use Rattle.dh_access.proofs.Putting.{puts_none}
 use Rattle.dh_migration.proofs.Grown.{made_second, row_there, was_first}
 use Rattle.dh_migration.proofs.second_version.make_second.Goals as goal
 

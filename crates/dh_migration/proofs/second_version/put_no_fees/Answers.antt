@@ -10,7 +10,7 @@ use Rattle.dh_model.specs.Runs.{part_key}
 use Rattle.dh_schema.specs.Store.{tables}
 use Rattle.dh_schema.specs.Putting.{TurnsBooks}
 use Rattle.dh_runs.specs.Putting.{with_fees}
-use Rattle.dh_store.proofs.Putting.{nothing_put, puts_none}
+use Rattle.dh_access.proofs.Putting.{nothing_put, puts_none}
 use Rattle.dh_runs.proofs.Putting.{puts_both}
 use Rattle.dh_migration.specs.Migrated.{no_fee, with_no_fees}
 use Rattle.dh_migration.proofs.EachFee.{all_left, is_new, none_put, not_there, one_more, tail_is}

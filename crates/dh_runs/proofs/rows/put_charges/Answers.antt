@@ -1,74 +1,101 @@
-use Rattle.std.proofs.Common.{◌≡◌, ◌∙◌, ◌+◌, ◌++◌, refl, sym, ap, subst, List, [], ◌∷◌, take, Ok, arith}
-use Rattle.std.proofs.lemmas.List.{take_all, take_more}
+use Rattle.std.proofs.Common.{◌≡◌, ◌≤◌, ◌∙◌, ◌++◌, All, List, OnOk, ap, sym, subst, refl, arith}
+use Rattle.std.proofs.lemmas.List.Elements.{All-drop, All-take}
 use Rattle.std.proofs.lemmas.Result.{err_from_is_err_and}
-use Rattle.std.specs.FinMap.{get}
 use Rattle.sqlite.specs.State.{HasCleanDisk}
 use Rattle.sqlite.specs.Held.{state}
+use Rattle.dh_days.specs.Days.{month_of_day}
+use Rattle.dh_days.specs.declared.limits.TheConstants.{LAST_ENTRY_MONTH}
 use Rattle.dh_types.specs.declared.lease.Charge.{Charge}
 use Rattle.dh_model.specs.Books.{Books}
 use Rattle.dh_model.specs.Runs.{charge_key}
-use Rattle.dh_schema.specs.Store.{tables}
-use Rattle.dh_schema.specs.Putting.{Puts, TurnsBooks}
-use Rattle.dh_store.proofs.Putting.{puts_none, nothing_put}
-use Rattle.dh_runs.specs.Putting.{with_charge}
-use Rattle.dh_runs.proofs.EachCharge.{is_new, with_all, with_each, with_each_more}
-use Rattle.dh_runs.proofs.Putting.{puts_both}
+use Rattle.dh_sql.specs.Changes.{AreNew}
+use Rattle.dh_tables.specs.declared.bulk.TheConstants.{BULK}
+use Rattle.dh_schema.specs.Store.{IsWriting, tables}
+use Rattle.dh_schema.proofs.Crashing.{survives_both}
+use Rattle.dh_access.proofs.Putting.{keeps_both, nothing_put, puts_none}
+use Rattle.dh_runs.specs.Putting.{with_charges}
+use Rattle.dh_runs.proofs.EachCharge.{new_in_parts, with_both}
 use Rattle.dh_runs.proofs.rows.put_charges.Goals as goal
 
-pub loop-charge-init : goal.loop-charge-init
-loop-charge-init g c = record {
-  same_reference = refl;
-  puts = nothing_put (state g.S.Store c.args.tx.now.conn.now) c.requires.writing refl;
-}
-
-pub put_charge-requires-clause-fresh : goal.put_charge-requires-clause-fresh
-put_charge-requires-clause-fresh g c clean =
-    let old = state g.S.Store c.args.tx.now.conn.now in
-    let charges = c.args.charges.now in
-    let charge = c.charge-item.result in
-    let puts = c.loop-charge.invariant.puts in
-    let early : HasCleanDisk old = omega (arith, puts.crash.clean, clean) in
-    ap (λ (books : Books). get books.charges (charge_key charge)) (puts.put clean).1
-    ∙ is_new c.loop-charge.charge-index charges charge (tables old).books (c.requires.new early) c.loop-charge-test.true c.charge-item.is
-
-pub loop-charge-preserved : goal.loop-charge-preserved
-loop-charge-preserved g c =
-    let charges = c.args.charges.now in
-    let n = c.loop-charge.charge-index in
-    let charge = c.charge-item.result in
-    let old = state g.S.Store c.args.tx.now.conn.now in
-    let books = (tables old).books in
-    let new = state g.S.Store c.put_charge.new.tx.conn.now in
-    let more = puts_both (with_charge charge) c.loop-charge.invariant.puts c.in_ok-put_charge.ensures.puts in
-    let last : take (n + 1) charges ≡ take n charges ++ charge ∷ [] =
-    take_more charges n charge c.loop-charge-test.true ∙ ap (λ (it : Charge). take n charges ++ it ∷ []) (sym c.charge-item.is) in
-    let next = sym (with_each_more (take n charges) charge books) ∙ ap (λ (rest : List Charge). with_each rest books) (sym last) in
+pub loop-left-init : goal.loop-left-init
+loop-left-init g c =
+    let none = nothing_put (state g.S.Store c.args.tx.now.conn.now) c.requires.writing refl in
     record {
-      same_reference = c.put_charge.ensures.same_reference ∙ c.loop-charge.invariant.same_reference;
-      puts = subst (λ (after : Books). Puts after (Ok tt) old new) next more;
+      same_reference = refl;
+      writing = c.requires.writing;
+      new = c.requires.new;
+      in_time = c.requires.in_time;
+      goes = λ clean. refl;
+      kept = none.kept;
+      crash = none.crash;
     }
 
-pub returns-in_err-put_charge-clause-same_reference : goal.returns-in_err-put_charge-clause-same_reference
-returns-in_err-put_charge-clause-same_reference g c = c.put_charge.ensures.same_reference ∙ c.loop-charge.invariant.same_reference
+pub put_bulk-requires-clause-new : goal.put_bulk-requires-clause-new
+put_bulk-requires-clause-new g c clean =
+    let books = (tables (state g.S.Store c.loop-left.tx.conn.now)).books in
+    let new = subst (λ (all : List Charge). AreNew charge_key all books.charges) c.split_at.ensures.by_index.0 (c.loop-left.invariant.new clean) in
+    (new_in_parts c.split_at.result.0.now c.split_at.result.1.now books new).0
 
-pub returns-in_err-put_charge-clause-puts : goal.returns-in_err-put_charge-clause-puts
-returns-in_err-put_charge-clause-puts g c =
+abbrev FallsInTime : List Charge → Type 0
+FallsInTime = All (λ charge. month_of_day charge.day ≤ LAST_ENTRY_MONTH)
+
+pub put_bulk-requires-clause-in_time : goal.put_bulk-requires-clause-in_time
+put_bulk-requires-clause-in_time g c =
+    subst FallsInTime (sym c.split_at.ensures.front)
+    (All-take (λ (charge : Charge). month_of_day charge.day ≤ LAST_ENTRY_MONTH) BULK c.loop-left.left.now c.loop-left.invariant.in_time)
+
+pub loop-left-smaller : goal.loop-left-smaller
+loop-left-smaller g c = omega (arith, c.split_at.ensures.back_len)
+
+pub loop-left-preserved : goal.loop-left-preserved
+loop-left-preserved g c =
+    let mid = state g.S.Store c.loop-left.tx.conn.now in
+    let new = state g.S.Store c.put_bulk.new.tx.conn.now in
+    let books = (tables mid).books in
+    let bulk = c.split_at.result.0.now in
+    let rest = c.split_at.result.1.now in
+    let was = c.loop-left.invariant in
+    let parts = c.split_at.ensures.by_index.0 in
+    let puts = c.in_ok-put_bulk.ensures.puts in
+    let early : HasCleanDisk new → HasCleanDisk mid = λ clean. omega (arith, puts.crash.clean, clean) in
+    let free : HasCleanDisk new → AreNew charge_key (bulk ++ rest) books.charges = λ clean.
+    subst (λ (all : List Charge). AreNew charge_key all books.charges) parts (was.new (early clean)) in
+    record {
+      same_reference = c.in_ok-put_bulk.ensures.same_reference ∙ was.same_reference;
+      writing = λ clean. (puts.put clean).0;
+      new = λ clean.
+          subst (λ (b : Books). AreNew charge_key rest b.charges) (sym (puts.put clean).1) (new_in_parts bulk rest books (free clean)).1;
+      in_time = subst FallsInTime (sym c.split_at.ensures.back)
+          (All-drop (λ (charge : Charge). month_of_day charge.day ≤ LAST_ENTRY_MONTH) BULK c.loop-left.left.now was.in_time);
+      goes = λ clean.
+          ap (with_charges rest) (puts.put clean).1 ∙ with_both bulk rest books (free clean)
+          ∙ ap (λ (all : List Charge). with_charges all books) (sym parts) ∙ was.goes (early clean);
+      kept = λ clean. keeps_both (state g.S.Store c.args.tx.now.conn.now) mid new (was.kept (early clean)) (puts.kept clean);
+      crash = survives_both (state g.S.Store c.args.tx.now.conn.now) mid new was.crash puts.crash;
+    }
+
+pub returns-in_err-put_bulk-clause-puts : goal.returns-in_err-put_bulk-clause-puts
+returns-in_err-put_bulk-clause-puts g c =
+    let old = state g.S.Store c.args.tx.now.conn.now in
+    let mid = state g.S.Store c.loop-left.tx.conn.now in
+    let new = state g.S.Store c.put_bulk.new.tx.conn.now in
+    let was = c.loop-left.invariant in
     let is = err_from_is_err_and c.from_residual.result c.from_residual.ensures.1 in
-    let puts = puts_both (with_charge c.charge-item.result) c.loop-charge.invariant.puts c.in_err-put_charge.ensures.puts in
-    puts_none is.1 puts.kept puts.crash
+    let puts = c.in_err-put_bulk.ensures.puts in
+    let early : HasCleanDisk new → HasCleanDisk mid = λ clean. omega (arith, puts.crash.clean, clean) in
+    puts_none is.1 (λ clean. keeps_both old mid new (was.kept (early clean)) (puts.kept clean)) (survives_both old mid new was.crash puts.crash)
 
 pub returns-clause-puts : goal.returns-clause-puts
 returns-clause-puts g c =
-    let charges = c.args.charges.now in
     let old = state g.S.Store c.args.tx.now.conn.now in
-    let new = state g.S.Store c.loop-charge.tx.conn.now in
-    let every : take c.loop-charge.charge-index charges ≡ charges = take_all c.loop-charge.charge-index charges (omega arith) in
-    let puts = subst (λ (some : List Charge). TurnsBooks (with_each some) (Ok tt) old new) every c.loop-charge.invariant.puts in
+    let mid = state g.S.Store c.loop-left.tx.conn.now in
+    let new = state g.S.Store c.put_each_charge.new.tx.conn.now in
+    let was = c.loop-left.invariant in
+    let puts = c.put_each_charge.ensures.puts in
+    let early : HasCleanDisk new → HasCleanDisk mid = λ clean. omega (arith, puts.crash.clean, clean) in
     record {
       put = λ clean.
-          let early : HasCleanDisk old = omega (arith, puts.crash.clean, clean) in
-          let put = puts.put clean in
-          (put.0, put.1 ∙ with_all charges (tables old).books (c.requires.new early));
-      kept = puts.kept;
-      crash = puts.crash;
+          subst (λ (b : Books). OnOk c.put_each_charge.result (IsWriting new × ((tables new).books ≡ b))) (was.goes (early clean)) (puts.put clean);
+      kept = λ clean. keeps_both old mid new (was.kept (early clean)) (puts.kept clean);
+      crash = survives_both old mid new was.crash puts.crash;
     }

@@ -7,7 +7,7 @@ use Rattle.dh_types.specs.declared.run.Part.{Part}
 use Rattle.dh_model.specs.Books.{Books}
 use Rattle.dh_schema.specs.Store.{tables}
 use Rattle.dh_schema.proofs.Keyed.{books_are_keyed}
-use Rattle.dh_store.proofs.Putting.{puts_none}
+use Rattle.dh_access.proofs.Putting.{puts_none}
 use Rattle.dh_runs.proofs.Putting.{puts_both}
 use Rattle.dh_migration.specs.Migrated.{HaveNoFees, with_no_fees}
 use Rattle.dh_migration.proofs.EachFee.{none_has_a_fee}

@@ -5,19 +5,21 @@ use Rattle.sqlite.specs.State.{HasCleanDisk}
 use Rattle.sqlite.specs.Held.{state}
 use Rattle.dh_types.specs.declared.lease.Charge.{Charge}
 use Rattle.dh_model.specs.Books.{Books}
-use Rattle.dh_model.specs.Runs.{part_key}
-use Rattle.dh_leases.specs.Plans.{AreNew, some_row}
+use Rattle.dh_model.specs.Runs.{charge_key, part_key}
+use Rattle.dh_leases.specs.Plans.{some_row}
+use Rattle.dh_sql.specs.Changes.{AreNew}
 use Rattle.dh_schema.specs.Putting.{TurnsBooks}
 use Rattle.dh_schema.specs.Store.{tables}
-use Rattle.dh_store.proofs.Putting.{puts_none}
+use Rattle.dh_access.proofs.Putting.{puts_none}
 use Rattle.dh_runs.specs.Putting.{with_charges, with_fees, with_part}
+use Rattle.dh_runs.proofs.EachCharge.{each_new}
 use Rattle.dh_runs.proofs.Putting.{fee_still, puts_both}
 use Rattle.dh_runs.proofs.rows.PostedRowsPut.put.Goals as goal
 
 pub put_charges-requires-clause-new : goal.put_charges-requires-clause-new
 put_charges-requires-clause-new g c clean =
-    subst (λ (charges : List Charge). AreNew charges (tables (state g.S.Store c.args.tx.now.conn.now)).books.charges) (sym c.deref.ensures.value)
-    (c.requires.room clean).0
+    let held = (tables (state g.S.Store c.args.tx.now.conn.now)).books.charges in
+    subst (λ (charges : List Charge). AreNew charge_key charges held) (sym c.deref.ensures.value) (each_new _ held (c.requires.room clean).0)
 
 pub put_part-requires-clause-known : goal.put_part-requires-clause-known
 put_part-requires-clause-known g c clean =

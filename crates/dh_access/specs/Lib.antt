@@ -1,0 +1,4 @@
+pub mod Reading
+pub mod Months
+pub mod Looked
+pub mod Putting
