@@ -8,8 +8,11 @@ runs.py leases LEASES           the same leases alone
 runs.py middle LEASES           prints half the number of batches of their run
 runs.py python LEASES [FILE]    makes the same tables, in memory or in FILE, and prints the microseconds of the run of the first
                                 month: its opening, its batches of fifty and its end, a transaction each
+runs.py open FILE               prints the microseconds of opening FILE: its check by sqlite3, all rows, and the sums of each month and
+                                branch beside the part rows, which is some of what the program audits
 """
 
+import sqlite3
 import sys
 import time
 
@@ -126,6 +129,26 @@ def time_run(leases, path):
     conn.close()
 
 
+def time_open(path):
+    start = time.perf_counter()
+    conn = sqlite3.connect(path)
+    if conn.execute("PRAGMA integrity_check").fetchall() != [("ok",)] or conn.execute("PRAGMA foreign_key_check").fetchall():
+        sys.exit(f"{path} is damaged")
+    tables = [name for (name,) in conn.execute("SELECT name FROM sqlite_schema WHERE type = 'table'")]
+    rows = {name: conn.execute(f"SELECT * FROM {name}").fetchall() for name in tables}
+    branch_of = {row[0]: row[9] for row in rows["property"]}
+    leases = {row[0]: branch_of[row[2]] for row in rows["lease"]}
+    sums = {}
+    for lease, _, month, _, amount in rows["charge"]:
+        count, total = sums.get((month, leases[lease]), (0, 0))
+        sums[month, leases[lease]] = count + 1, total + amount
+    for month, branch, _, count, total in rows["part"]:
+        if sums.get((month, branch), (0, 0)) != (count, total):
+            sys.exit(f"{path}: the part of {branch} does not add up")
+    print(f"{(time.perf_counter() - start) * 1e6:.1f}")
+    conn.close()
+
+
 def main():
     match sys.argv[1:]:
         case ["lines", leases, runs]:
@@ -138,6 +161,8 @@ def main():
             print(batches(int(leases)) // 2)
         case ["python", leases, *path]:
             time_run(int(leases), path[0] if path else ":memory:")
+        case ["open", path]:
+            time_open(path)
         case _:
             sys.exit(__doc__)
 
