@@ -26,12 +26,11 @@ use Rattle.dh_model.specs.declared.rows.Verdict.{Verdict}
 use Rattle.dh_model.specs.declared.rows.Verdict.TheVariants as verdict
 use Rattle.dh_model.specs.Answers.{balance}
 use Rattle.dh_model.specs.Books.{Books, State}
-use Rattle.dh_model.specs.Checks.{Check, first_failing, receipt_of_key, run_of_key, unless}
 use Rattle.dh_model.specs.Machine.{settled, step}
 use Rattle.dh_model.specs.Runs.{batch_size, sum_of}
 use Rattle.dh_model.specs.Rules.{IsLawful}
-use Rattle.dh_model.specs.Verdicts.{judged, opened_run, receipt_checks, receipt_verdict, rows_unless, run_verdict, unless_open, unless_paid, unless_posted}
-use Rattle.dh_model.specs.Verdicts.{ending_rows, fee_rows, unless_receipt, unless_run, verdict_on}
+use Rattle.dh_model.specs.Verdicts.{Frozen, ending_rows, fee_rows, receipt_ruling, run_ruling, verdict_on}
+use Rattle.dh_laws.proofs.VerdictLemmas.Rulings.{of_ruling}
 use Rattle.dh_model.specs.Whole.{open_row}
 use Rattle.dh_laws.specs.Balances as owed
 use Rattle.dh_laws.specs.Balances.{BalancesMoveAsTold, moved}
@@ -52,49 +51,13 @@ abbrev is_old : Verdict → Bool
 is_old (verdict.Already kept) = is_of_nothing_new kept
 is_old _ = true
 
-old_rows : (failing : Check) (rows : Change) → is_old (rows_unless failing rows) ≡ true
-old_rows None rows = refl
-old_rows (Some why) rows = refl
+module _ (books : Books) (run : Option OpenRun) (order : ReceiptOrder) where
+  old_receipt : is_old (verdict_on books run (command.Receipt order)) ≡ true
+  old_receipt = of_ruling (λ v. is_old v ≡ true) (λ why. refl) Frozen run (receipt_ruling books (len books.receipts) order) (refl, tt) refl
 
-old_if : (b : Bool) (kept : Reply) (why : Refusal) → is_of_nothing_new kept ≡ true → is_old (if b then verdict.Already kept else verdict.Refused why) ≡ true
-old_if true kept why old = old
-old_if false kept why old = refl
-
-old_open : (run : Option OpenRun) (v : Verdict) → is_old v ≡ true → is_old (unless_open run v) ≡ true
-old_open None v old = old
-old_open (Some run) v old = refl
-
-module _ (books : Books) where
-  old_paid : (order : ReceiptOrder) (found : Option Receipt) (v : Verdict) → is_old v ≡ true → is_old (unless_paid books order found v) ≡ true
-  old_paid order None v old = old
-  old_paid order (Some receipt) v old = old_if (is_same_payment order.payment receipt.payment) (reply.AlreadyReceipt receipt.number) refusal.KeyUsed refl
-
-  old_run : (found : Option Run) (v : Verdict) → is_old v ≡ true → is_old (unless_run books found v) ≡ true
-  old_run None v old = old
-  old_run (Some run) v old = refl
-
-  old_posted : (order : RunOrder) (found : Option Run) (v : Verdict) → is_old v ≡ true → is_old (unless_posted books order found v) ≡ true
-  old_posted order None v old = old
-  old_posted order (Some run) v old = old_if (nat_eq order.month run.month) (reply.AlreadyPosted (sum_of run)) refusal.KeyUsed refl
-
-  old_receipt : (found : Option Receipt) (v : Verdict) → is_old v ≡ true → is_old (unless_receipt books found v) ≡ true
-  old_receipt None v old = old
-  old_receipt (Some receipt) v old = refl
-
-  old_receipts : (order : ReceiptOrder) → is_old (receipt_verdict books (len books.receipts) order) ≡ true
-  old_receipts order =
-      let checks = receipt_checks books (len books.receipts) order in
-      let row = change.Receipt (record { number = len books.receipts + 1; key = order.key; payment = order.payment }) in
-      let inner = unless_run books (run_of_key books order.key) (judged checks row) in
-      old_paid order (receipt_of_key books order.key) inner (old_run (run_of_key books order.key) (judged checks row) (old_rows (first_failing checks) row))
-
-  old_runs : (order : RunOrder) → is_old (run_verdict books order) ≡ true
-  old_runs order =
-      let checks = unless (nat_eq order.month books.next) (refusal.NotNextMonth books.next) ∷ [] in
-      let row = change.Open (opened_run books order) in
-      let inner = unless_receipt books (receipt_of_key books order.key) (judged checks row) in
-      old_posted order (run_of_key books order.key) inner
-      (old_receipt (receipt_of_key books order.key) (judged checks row) (old_rows (first_failing checks) row))
+module _ (books : Books) (run : Option OpenRun) (order : RunOrder) where
+  old_run : is_old (verdict_on books run (command.Open order)) ≡ true
+  old_run = of_ruling (λ v. is_old v ≡ true) (λ why. refl) Frozen run (run_ruling books order) (refl, tt) refl
 
 -- ---- what a lease owes more
 
@@ -139,12 +102,11 @@ module _ (s : State) (lease : ℕ) where
 
   kept_so : (told : Command) (kept : Reply) → verdict_on s.books s.open_run told ≡ verdict.Already kept → MovesSo told (verdict.Already kept)
   kept_so (command.Receipt order) kept e =
-      let old = old_open s.open_run (receipt_verdict s.books (len s.books.receipts) order) (old_receipts s.books order) in
-      sym (none_added s.books (command.Receipt order) kept lease (sym (ap is_old e) ∙ old))
+      sym (none_added s.books (command.Receipt order) kept lease (sym (ap is_old e) ∙ old_receipt s.books s.open_run order))
   kept_so (command.Run order) kept e =
-      sym (none_added s.books (command.Run order) kept lease (sym (ap is_old e) ∙ old_open s.open_run (run_verdict s.books order) (old_runs s.books order)))
+      sym (none_added s.books (command.Run order) kept lease (sym (ap is_old e) ∙ old_run s.books s.open_run order))
   kept_so (command.Open order) kept e =
-      sym (none_added s.books (command.Open order) kept lease (sym (ap is_old e) ∙ old_open s.open_run (run_verdict s.books order) (old_runs s.books order)))
+      sym (none_added s.books (command.Open order) kept lease (sym (ap is_old e) ∙ old_run s.books s.open_run order))
   kept_so _ kept e = refl
 
   told_so : (told : Command) (v : Verdict) → verdict_on s.books s.open_run told ≡ v → MovesSo told v

@@ -2,3 +2,4 @@
 pub mod Acceptance
 pub mod Cases
 pub mod Checks
+pub mod Rulings

@@ -8,7 +8,7 @@ use Rattle.dh_types.specs.declared.reply.Reply.{Reply}
 use Rattle.dh_types.specs.declared.reply.Reply.TheVariants as reply
 use Rattle.dh_types.specs.declared.reply.Refusal.{Refusal}
 use Rattle.dh_types.specs.declared.reply.Refusal.TheVariants as refusal
-use Rattle.std.specs.FinMap.{get}
+use Rattle.std.specs.FinMap.{get, len}
 use Rattle.dh_model.specs.declared.open_run.OpenRun.{OpenRun}
 use Rattle.dh_model.specs.declared.rows.Change.{Change}
 use Rattle.dh_model.specs.declared.rows.Change.TheVariants as change
@@ -16,21 +16,18 @@ use Rattle.dh_model.specs.declared.rows.Verdict.{Verdict}
 use Rattle.dh_model.specs.declared.rows.Verdict.TheVariants as verdict
 use Rattle.dh_model.specs.Books.{Books, State}
 use Rattle.dh_model.specs.MachineLaws.{FreeKeepTheRun, FrozenAreRefused, HalfRunsAreNotShown, PostsAddUp, RefusalsChangeNothing, RunIsOpeningAndBatches}
-use Rattle.dh_model.specs.MachineLaws.{is_frozen, is_post}
+use Rattle.dh_model.specs.MachineLaws.{is_frozen, is_frozen_on, is_post}
 use Rattle.dh_model.specs.Runs.{batches, ran}
-use Rattle.dh_model.specs.Verdicts.{verdict_on}
+use Rattle.dh_model.specs.Verdicts.{OnRun, Frozen, by_run, decided, on_run, ruling, verdict_on}
 use Rattle.dh_model.specs.Machine.{accepted, carried_out, posted, posted_sum, resumed, settled, step}
+
+frozen_by : (on : OnRun) (run : OpenRun) (v : Verdict) → is_frozen_on on ≡ true → by_run on (Some run) v ≡ verdict.Refused (refusal.RunOpen run.month)
+frozen_by Frozen run v h = refl
+frozen_by _ run v h = cc
 
 pub frozen_verdict : (books : Books) (run : OpenRun) (told : Command) → is_frozen told ≡ true
     → verdict_on books (Some run) told ≡ verdict.Refused (refusal.RunOpen run.month)
-frozen_verdict books run (command.Branch it) h = refl
-frozen_verdict books run (command.Fee it) h = refl
-frozen_verdict books run (command.Lease it) h = refl
-frozen_verdict books run (command.End it) h = refl
-frozen_verdict books run (command.Receipt it) h = refl
-frozen_verdict books run (command.Run it) h = refl
-frozen_verdict books run (command.Open it) h = refl
-frozen_verdict books run _ h = cc
+frozen_verdict books run told h = frozen_by (on_run told) run (decided (ruling books (len books.receipts) told)) h
 
 pub frozen_refused : (size : ℕ) → FrozenAreRefused size
 frozen_refused size books run told h = ap (settled size (record { books = books; open_run = Some run }) told) (frozen_verdict books run told h)

@@ -1,6 +1,6 @@
 -- The checks that a command has to pass.
 use Rattle.std.specs.Prelude.{ℕ, ◌*◌, min, Bool, true, false, not, ◌&&◌, nat_eq, nat_le, nat_lt, if◌then◌else◌, List, [], ◌∷◌, map, Option, Some, None}
-use Rattle.std.specs.Prelude.{option_map}
+use Rattle.std.specs.Option.{is_some}
 use Rattle.std.specs.declared.cmp.Ordering.{Ordering}
 use Rattle.std.specs.Option.{option_or}
 use Rattle.std.specs.List.{count_by, filter, find, fold, list_any}
@@ -11,7 +11,6 @@ use Rattle.dh_days.specs.Days.{month_of_day}
 use Rattle.dh_types.specs.declared.staff.Staff.{Staff}
 use Rattle.dh_types.specs.declared.property.Property.{Property}
 use Rattle.dh_types.specs.declared.lease.LeaseTerms.{LeaseTerms}
-use Rattle.dh_types.specs.declared.lease.Lease.{Lease}
 use Rattle.dh_types.specs.declared.lease.Payment.{Payment}
 use Rattle.dh_types.specs.declared.lease.Receipt.{Receipt}
 use Rattle.dh_types.specs.declared.run.Run.{Run}
@@ -25,18 +24,38 @@ use Rattle.dh_model.specs.Leases.{overlap, running}
 abbrev pub is_same_text : List ℕ → List ℕ → Bool
 is_same_text = pointwise nat_eq
 
--- a check passes, or fails by a refusal
+-- a condition, and why what doesn't meet it is refused
 abbrev pub Check : Type 0
-Check = Option Refusal
+Check = Bool × Refusal
 
 abbrev pub unless : Bool → Refusal → Check
-unless true why = None
-unless false why = Some why
+unless holds why = (holds, why)
+
+-- a check passes, or fails by its refusal
+abbrev pub failing : Check → Option Refusal
+failing check = if check.0 then None else Some check.1
 
 -- the refusal of the first check that fails
-abbrev pub first_failing : List Check → Check
+abbrev pub first_failing : List Check → Option Refusal
 first_failing [] = None
-first_failing (check ∷ checks) = option_or check (first_failing checks)
+first_failing (check ∷ checks) = option_or (failing check) (first_failing checks)
+
+-- of a row that may be absent: it is there and so; it is so if it is there; its number, where it is there
+abbrev pub some_is : {X : Type 0} → (X → Bool) → Option X → Bool
+some_is is None = false
+some_is is (Some row) = is row
+
+abbrev pub each_is : {X : Type 0} → (X → Bool) → Option X → Bool
+each_is is None = true
+each_is is (Some row) = is row
+
+abbrev pub number_in : {X : Type 0} → (X → ℕ) → Option X → ℕ
+number_in of None = 0
+number_in of (Some row) = of row
+
+-- none is found; else the number is told
+abbrev pub none_found : (ℕ → Refusal) → Option ℕ → Check
+none_found why found = unless (not (is_some found)) (why (number_in (λ n. n) found))
 
 -- the least of the numbers
 abbrev pub at_most : Option ℕ → ℕ → ℕ
@@ -64,13 +83,8 @@ managed_besides books member property =
     count_by (λ other. is_same_optional is_same_text other.staff (Some member) && not (is_same_text other.number property)) (values books.properties)
 
 -- the member of staff has room for this property more
-abbrev pub has_room : Books → List ℕ → List ℕ → Check
-has_room books member property = unless (nat_lt (managed_besides books member property) MANAGED_AT_MOST) refusal.TooMany
-
--- a check of a manager, where there is one
-abbrev pub where_given : Option (List ℕ) → (List ℕ → Check) → Check
-where_given None check = None
-where_given (Some member) check = check member
+abbrev pub has_room : Books → List ℕ → List ℕ → Bool
+has_room books member property = nat_lt (managed_besides books member property) MANAGED_AT_MOST
 
 -- the client is registered at the branch of the property
 abbrev pub is_registered : Books → List ℕ → Option Property → Bool
@@ -84,33 +98,29 @@ registered books client property = unless (is_registered books client (get books
 abbrev pub in_time : Books → ℕ → Check
 in_time books start = unless (nat_le books.next (month_of_day start)) (refusal.MonthPosted books.next)
 
--- no lease of the client starts that day
-abbrev pub first_that_day : Books → List ℕ → ℕ → Check
-first_that_day books client day =
-    option_map refusal.ClientStart
-    (least (map (λ lease. lease.terms.number) (filter (λ lease. is_same_text lease.terms.client client
-    && nat_eq lease.terms.start day) (values books.leases))))
+-- the least number of a lease of the client that starts that day, and of one of the property that covers a common day
+abbrev pub least_that_day : Books → List ℕ → ℕ → Option ℕ
+least_that_day books client day =
+    least (map (λ lease. lease.terms.number) (filter (λ lease. is_same_text lease.terms.client client && nat_eq lease.terms.start day) (values books.leases)))
 
--- no lease of the property covers a common day
-abbrev pub free_of_others : Books → LeaseTerms → Check
-free_of_others books terms =
-    option_map refusal.Overlap (least (map (λ lease. lease.terms.number) (filter (λ lease. overlap terms (running books.endings lease)) (values books.leases))))
+abbrev pub least_overlapping : Books → LeaseTerms → Option ℕ
+least_overlapping books terms = least (map (λ lease. lease.terms.number) (filter (λ lease. overlap terms (running books.endings lease)) (values books.leases)))
 
--- the lease has no deposit receipt
-abbrev pub no_deposit_yet : Books → ℕ → Check
-no_deposit_yet books lease =
-    unless (not (list_any (λ receipt. nat_eq receipt.payment.lease lease && is_same_receipt_kind receipt.payment.kind Deposit) (values books.receipts)))
-    refusal.DepositPaid
+abbrev pub is_deposit : Payment → Bool
+is_deposit payment = is_same_receipt_kind payment.kind Deposit
 
--- the deposit is twice the lease's rent
-abbrev pub is_twice : Option Lease → ℕ → Check
-is_twice None amount = None
-is_twice (Some lease) amount = unless (nat_eq amount (2 * lease.rent)) (refusal.DepositAmount (2 * lease.rent))
+-- the lease has a deposit receipt
+abbrev pub has_deposit : Books → ℕ → Bool
+has_deposit books lease = list_any (λ receipt. nat_eq receipt.payment.lease lease && is_same_receipt_kind receipt.payment.kind Deposit) (values books.receipts)
 
+-- the deposit is the first on its lease, and twice the lease's rent
 abbrev pub deposit_checks : Books → Payment → List Check
 deposit_checks books payment =
-    if is_same_receipt_kind payment.kind Deposit then no_deposit_yet books payment.lease ∷ is_twice (get books.leases payment.lease) payment.amount ∷ []
-    else []
+    let found = get books.leases payment.lease in
+    unless (if is_deposit payment then not (has_deposit books payment.lease) else true) refusal.DepositPaid
+    ∷ unless (if is_deposit payment then each_is (λ lease. nat_eq payment.amount (2 * lease.rent)) found else true)
+    (refusal.DepositAmount (number_in (λ lease. 2 * lease.rent) found))
+    ∷ []
 
 -- the receipt and the run that have this key
 abbrev pub receipt_of_key : Books → List ℕ → Option Receipt

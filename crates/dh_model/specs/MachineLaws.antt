@@ -14,20 +14,17 @@ use Rattle.dh_model.specs.declared.rows.Change.TheVariants as change
 use Rattle.dh_model.specs.declared.rows.Verdict.TheVariants as verdict
 use Rattle.dh_model.specs.Books.{Books, State}
 use Rattle.dh_model.specs.Runs.{batches}
-use Rattle.dh_model.specs.Verdicts.{opened_run, verdict_on}
+use Rattle.dh_model.specs.Verdicts.{OnRun, Frozen, on_run, opened_run, verdict_on}
 use Rattle.dh_model.specs.Machine.{step}
 use Rattle.dh_model.specs.Answers.{report}
 
 -- what an open run puts off
+abbrev pub is_frozen_on : OnRun → Bool
+is_frozen_on Frozen = true
+is_frozen_on _ = false
+
 abbrev pub is_frozen : Command → Bool
-is_frozen (command.Branch it) = true
-is_frozen (command.Fee it) = true
-is_frozen (command.Lease it) = true
-is_frozen (command.End it) = true
-is_frozen (command.Receipt it) = true
-is_frozen (command.Run it) = true
-is_frozen (command.Open it) = true
-is_frozen _ = false
+is_frozen told = is_frozen_on (on_run told)
 
 abbrev pub is_post : Command → Bool
 is_post (command.Post count) = true

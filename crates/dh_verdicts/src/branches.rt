@@ -1,7 +1,7 @@
 //! Branches and their fees, staff and owners.
 
 ghost use Rattle.std.specs.Prelude.{◌≡◌, IfOk};
-ghost use Rattle.dh_model.specs.Verdicts.{branch_verdict, fee_verdict, owner_verdict, staff_verdict};
+ghost use Rattle.dh_model.specs.Verdicts.{branch_ruling, decided, fee_ruling, owner_ruling, staff_ruling};
 
 use dh_books::Books;
 use dh_model::{Change, Verdict};
@@ -10,7 +10,7 @@ use std::alloc::{AllocError, Global};
 
 /// What the books say of a new branch: its row; that it is there already; or that its number is taken.
 pub fn decide_branch(alloc: Global, books: &Books, branch: &Branch) -> Result<Verdict, AllocError>
-    ensures { IfOk result (λ v. v ≡ branch_verdict books.now.books branch.now) }
+    ensures { IfOk result (λ v. v ≡ decided (branch_ruling books.now.books branch.now)) }
 {
     match books.branch(&branch.number) {
         None => Ok(Verdict::Change(Change::Branch(branch.try_clone(alloc)?))),
@@ -21,7 +21,7 @@ pub fn decide_branch(alloc: Global, books: &Books, branch: &Branch) -> Result<Ve
 
 /// What the books say of a branch's fee: its row, for a branch that is there; or that the branch has this fee.
 pub fn decide_fee(books: &Books, fee: &BranchFee) -> Verdict
-    ensures { result ≡ fee_verdict books.now.books fee.now }
+    ensures { result ≡ decided (fee_ruling books.now.books fee.now) }
 {
     if books.branch(&fee.branch).is_none() {
         return Verdict::Refused(Refusal::Unknown(field::FEE_BRANCH));
@@ -37,7 +37,7 @@ pub fn decide_fee(books: &Books, fee: &BranchFee) -> Verdict
 
 /// What the books say of a new member of staff, who belongs to a branch that is there.
 pub fn decide_staff(alloc: Global, books: &Books, member: &Staff) -> Result<Verdict, AllocError>
-    ensures { IfOk result (λ v. v ≡ staff_verdict books.now.books member.now) }
+    ensures { IfOk result (λ v. v ≡ decided (staff_ruling books.now.books member.now)) }
 {
     match books.member(&member.number) {
         None if books.branch(&member.branch).is_none() => {
@@ -51,7 +51,7 @@ pub fn decide_staff(alloc: Global, books: &Books, member: &Staff) -> Result<Verd
 
 /// What the books say of a new owner: its row; that it is there already; or that its number is taken.
 pub fn decide_owner(alloc: Global, books: &Books, owner: &Owner) -> Result<Verdict, AllocError>
-    ensures { IfOk result (λ v. v ≡ owner_verdict books.now.books owner.now) }
+    ensures { IfOk result (λ v. v ≡ decided (owner_ruling books.now.books owner.now)) }
 {
     match books.owner(&owner.number) {
         None => Ok(Verdict::Change(Change::Owner(owner.try_clone(alloc)?))),

@@ -1,7 +1,8 @@
 //! Checks of members of staff.
 
 ghost use Rattle.std.specs.Prelude.{◌≡◌, [], ◌∷◌};
-ghost use Rattle.dh_model.specs.Checks.{first_failing, has_room, managed_besides, of_branch};
+ghost use Rattle.dh_types.specs.declared.reply.Refusal.TheVariants as refusal;
+ghost use Rattle.dh_model.specs.Checks.{failing, first_failing, has_room, managed_besides, of_branch, unless};
 
 use dh_books::Books;
 use dh_model::MANAGED_AT_MOST;
@@ -19,7 +20,7 @@ fn managed_besides(books: &Books, member: &Id, property: &Id) -> usize
 
 /// `WrongBranch` unless the member of staff is there and belongs to the branch.
 pub(crate) fn of_branch(books: &Books, member: &Id, branch: &Id) -> Option<Refusal>
-    ensures { result ≡ of_branch books.now.books member.now branch.now }
+    ensures { result ≡ failing (of_branch books.now.books member.now branch.now) }
 {
     match books.member(member) {
         Some(member) if member.branch == *branch => None,
@@ -29,7 +30,7 @@ pub(crate) fn of_branch(books: &Books, member: &Id, branch: &Id) -> Option<Refus
 
 // `TooMany` where the member of staff manages as many properties as one may, but for this one.
 fn has_room(books: &Books, member: &Id, property: &Id) -> Option<Refusal>
-    ensures { result ≡ has_room books.now.books member.now property.now }
+    ensures { result ≡ failing (unless (has_room books.now.books member.now property.now) refusal.TooMany) }
 {
     if (managed_besides(books, member, property) as u64) < MANAGED_AT_MOST {
         None
@@ -40,7 +41,8 @@ fn has_room(books: &Books, member: &Id, property: &Id) -> Option<Refusal>
 
 /// The first of these checks that fails: the member of staff belongs to the property's branch, and has room for it.
 pub(crate) fn may_manage(books: &Books, member: &Id, property: &Property) -> Option<Refusal>
-    ensures { result ≡ first_failing (of_branch books.now.books member.now property.now.branch ∷ has_room books.now.books member.now property.now.number ∷ []) }
+    ensures { result ≡ first_failing (of_branch books.now.books member.now property.now.branch
+        ∷ unless (has_room books.now.books member.now property.now.number) refusal.TooMany ∷ []) }
 {
     of_branch(books, member, &property.branch).or_else(|| has_room(books, member, &property.number))
 }

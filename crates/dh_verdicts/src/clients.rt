@@ -2,7 +2,7 @@
 
 ghost use Rattle.std.specs.Prelude.{◌≡◌, [], ◌∷◌, IfOk};
 ghost use Rattle.dh_model.specs.Checks.{first_failing, names};
-ghost use Rattle.dh_model.specs.Verdicts.{client_verdict, comment_verdict, inspection_verdict, register_verdict, registration_checks, viewing_verdict};
+ghost use Rattle.dh_model.specs.Verdicts.{client_ruling, comment_ruling, decided, inspection_ruling, register_ruling, registration_checks, viewing_ruling};
 
 use crate::checks::of_branch;
 use dh_books::Books;
@@ -12,7 +12,7 @@ use std::alloc::{AllocError, Global};
 
 /// What the books say of a new client: its row; that it is there already; or that its number is taken.
 pub fn decide_client(alloc: Global, books: &Books, client: &Client) -> Result<Verdict, AllocError>
-    ensures { IfOk result (λ v. v ≡ client_verdict books.now.books client.now) }
+    ensures { IfOk result (λ v. v ≡ decided (client_ruling books.now.books client.now)) }
 {
     match books.client(&client.number) {
         None => Ok(Verdict::Change(Change::Client(client.try_clone(alloc)?))),
@@ -39,7 +39,7 @@ fn registration_refusal(books: &Books, registration: &Registration) -> Option<Re
 
 /// What the books say of a client's registration at a branch, by a member of its staff.
 pub fn decide_register(books: &Books, registration: &Registration) -> Verdict
-    ensures { result ≡ register_verdict books.now.books registration.now }
+    ensures { result ≡ decided (register_ruling books.now.books registration.now) }
 {
     match books.registration(&registration.key()) {
         None => match registration_refusal(books, registration) {
@@ -70,7 +70,7 @@ pub fn decide_viewing(
     books: &Books,
     viewing: &Viewing,
 ) -> Result<Verdict, AllocError>
-    ensures { IfOk result (λ v. v ≡ viewing_verdict books.now.books viewing.now) }
+    ensures { IfOk result (λ v. v ≡ decided (viewing_ruling books.now.books viewing.now)) }
 {
     match books.viewing(&viewing.key()) {
         None => match viewing_refusal(books, viewing) {
@@ -88,7 +88,7 @@ pub fn decide_comment(
     books: &Books,
     comment: &ViewingComment,
 ) -> Result<Verdict, AllocError>
-    ensures { IfOk result (λ v. v ≡ comment_verdict books.now.books comment.now) }
+    ensures { IfOk result (λ v. v ≡ decided (comment_ruling books.now.books comment.now)) }
 {
     let Some(viewing) = books.viewing(&(comment.client, comment.property)) else {
         return Ok(Verdict::Refused(Refusal::Unknown(field::VIEWING_CLIENT)));
@@ -122,7 +122,7 @@ pub fn decide_inspection(
     books: &Books,
     inspection: &Inspection,
 ) -> Result<Verdict, AllocError>
-    ensures { IfOk result (λ v. v ≡ inspection_verdict books.now.books inspection.now) }
+    ensures { IfOk result (λ v. v ≡ decided (inspection_ruling books.now.books inspection.now)) }
 {
     match books.inspection(&inspection.key()) {
         None => match inspection_refusal(books, inspection) {

@@ -1,9 +1,9 @@
 //! Leases that are ended early.
 
-ghost use Rattle.std.specs.Prelude.{◌≡◌};
+ghost use Rattle.std.specs.Prelude.{◌≡◌, Some};
 ghost use Rattle.std.specs.FinMap.{get};
 ghost use Rattle.dh_model.specs.Checks.{first_failing};
-ghost use Rattle.dh_model.specs.Verdicts.{end_verdict, ending_checks, ending_rows};
+ghost use Rattle.dh_model.specs.Verdicts.{decided, end_ruling, ending_checks, ending_rows};
 
 use dh_books::Books;
 use dh_model::{Change, Verdict};
@@ -11,7 +11,7 @@ use dh_types::{Ending, Lease, Refusal, Reply, field};
 
 // The first check that the end of the lease fails.
 fn ending_refusal(books: &Books, ending: &Ending, lease: &Lease) -> Option<Refusal>
-    ensures { result ≡ first_failing (ending_checks books.now.books ending.now lease.now) }
+    ensures { result ≡ first_failing (ending_checks books.now.books ending.now (Some lease.now)) }
 {
     let length = books.length_of(lease);
     if ending.months >= length {
@@ -39,7 +39,7 @@ fn ending_rows(books: &Books, ending: &Ending) -> Change
 /// What the books say of the early end of a lease: that it is there, that it runs for more months than these, and that none of the
 /// months that were run is taken back.
 pub fn decide_end(books: &Books, ending: &Ending) -> Verdict
-    ensures { result ≡ end_verdict books.now.books ending.now }
+    ensures { result ≡ decided (end_ruling books.now.books ending.now) }
 {
     let Some(lease) = books.lease(&ending.lease) else {
         return Verdict::Refused(Refusal::Unknown(field::ENDED_LEASE));

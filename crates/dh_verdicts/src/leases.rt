@@ -1,12 +1,10 @@
 //! Leases.
 
-ghost use Rattle.std.specs.Prelude.{◌≡◌, [], ◌∷◌, ◌&&◌, nat_eq, map};
-ghost use Rattle.std.specs.List.{filter};
+ghost use Rattle.std.specs.Prelude.{◌≡◌, [], ◌∷◌};
 ghost use Rattle.std.specs.FinMap as fin;
 ghost use Rattle.dh_types.specs.declared.reply.Refusal.TheVariants as refusal;
-ghost use Rattle.dh_model.specs.Checks.{at_most, first_failing, first_that_day, free_of_others, in_time, is_same_text, least, unless};
-ghost use Rattle.dh_model.specs.Leases.{overlap, running};
-ghost use Rattle.dh_model.specs.Verdicts.{lease_verdict};
+ghost use Rattle.dh_model.specs.Checks.{at_most, first_failing, in_time, least_overlapping, least_that_day, none_found, unless};
+ghost use Rattle.dh_model.specs.Verdicts.{decided, lease_ruling};
 
 use dh_books::Books;
 use dh_leases::overlap;
@@ -25,9 +23,7 @@ fn at_most(least: Option<LeaseNo>, number: LeaseNo) -> LeaseNo
 
 // The least number of a lease of the client that starts that day.
 fn lease_that_day(books: &Books, client: &Id, day: EntryDay) -> Option<LeaseNo>
-    ensures { result ≡ least
-        (map (λ lease. lease.terms.number) (filter (λ lease. is_same_text lease.terms.client client.now
-        && nat_eq lease.terms.start day) (fin.values books.now.books.leases))) }
+    ensures { result ≡ least_that_day books.now.books client.now day }
 {
     books
         .leases()
@@ -38,8 +34,7 @@ fn lease_that_day(books: &Books, client: &Id, day: EntryDay) -> Option<LeaseNo>
 
 // The least number of a lease that overlaps these terms, as long as it runs.
 fn overlapping(books: &Books, terms: &LeaseTerms) -> Option<LeaseNo>
-    ensures { result ≡ least (map (λ lease. lease.terms.number)
-        (filter (λ lease. overlap terms.now (running books.now.books.endings lease)) (fin.values books.now.books.leases))) }
+    ensures { result ≡ least_overlapping books.now.books terms.now }
 {
     books
         .leases()
@@ -51,8 +46,8 @@ fn overlapping(books: &Books, terms: &LeaseTerms) -> Option<LeaseNo>
 // The first check that the terms fail, for a property of this branch.
 fn signing_refusal(books: &Books, terms: &LeaseTerms, branch: &Id) -> Option<Refusal>
     ensures { result ≡ first_failing (unless (fin.contains_key books.now.books.registrations (terms.now.client, branch.now)) refusal.NotRegistered
-        ∷ in_time books.now.books terms.now.start ∷ first_that_day books.now.books terms.now.client terms.now.start ∷ free_of_others books.now.books terms.now
-        ∷ []) }
+        ∷ in_time books.now.books terms.now.start ∷ none_found refusal.ClientStart (least_that_day books.now.books terms.now.client terms.now.start)
+        ∷ none_found refusal.Overlap (least_overlapping books.now.books terms.now) ∷ []) }
 {
     if books.registration(&(terms.client, *branch)).is_none() {
         return Some(Refusal::NotRegistered);
@@ -69,7 +64,7 @@ fn signing_refusal(books: &Books, terms: &LeaseTerms, branch: &Id) -> Option<Ref
 
 /// What the books say of a new lease: its terms at the rent that its property has.
 pub fn decide_lease(books: &Books, terms: &LeaseTerms) -> Verdict
-    ensures { result ≡ lease_verdict books.now.books terms.now }
+    ensures { result ≡ decided (lease_ruling books.now.books terms.now) }
 {
     if let Some(there) = books.lease(&terms.number) {
         return if *terms == there.terms {

@@ -1,8 +1,8 @@
 //! Properties, their managers and their rents.
 
-ghost use Rattle.std.specs.Prelude.{◌≡◌, IfOk};
+ghost use Rattle.std.specs.Prelude.{◌≡◌, IfOk, Some};
 ghost use Rattle.dh_model.specs.Checks.{first_failing};
-ghost use Rattle.dh_model.specs.Verdicts.{assign_verdict, manager_checks, property_checks, property_verdict, rent_verdict};
+ghost use Rattle.dh_model.specs.Verdicts.{assign_ruling, decided, manager_checks, property_checks, property_ruling, rent_ruling};
 
 use crate::checks::may_manage;
 use dh_books::Books;
@@ -38,7 +38,7 @@ pub fn decide_property(
     books: &Books,
     property: &Property,
 ) -> Result<Verdict, AllocError>
-    ensures { IfOk result (λ v. v ≡ property_verdict books.now.books property.now) }
+    ensures { IfOk result (λ v. v ≡ decided (property_ruling books.now.books property.now)) }
 {
     match books.property(&property.number) {
         None => match property_refusal(books, property) {
@@ -52,7 +52,7 @@ pub fn decide_property(
 
 // The first check that the manager fails, if one is given.
 fn manager_refusal(books: &Books, property: &Property, member: Option<Id>) -> Option<Refusal>
-    ensures { result ≡ first_failing (manager_checks books.now.books property.now member) }
+    ensures { result ≡ first_failing (manager_checks books.now.books (Some property.now) member) }
 {
     let Some(member) = member else {
         return None;
@@ -65,7 +65,7 @@ fn manager_refusal(books: &Books, property: &Property, member: Option<Id>) -> Op
 
 /// What the books say of a property's manager, who belongs to its branch and manages fewer than 100 others.
 pub fn decide_assign(books: &Books, assignment: &Assignment) -> Verdict
-    ensures { result ≡ assign_verdict books.now.books assignment.now }
+    ensures { result ≡ decided (assign_ruling books.now.books assignment.now) }
 {
     let Some(property) = books.property(&assignment.property) else {
         return Verdict::Refused(Refusal::Unknown(field::CHANGED_PROPERTY));
@@ -81,7 +81,7 @@ pub fn decide_assign(books: &Books, assignment: &Assignment) -> Verdict
 
 /// What the books say of a property's rent.
 pub fn decide_rent(books: &Books, change: &RentChange) -> Verdict
-    ensures { result ≡ rent_verdict books.now.books change.now }
+    ensures { result ≡ decided (rent_ruling books.now.books change.now) }
 {
     match books.property(&change.property) {
         None => Verdict::Refused(Refusal::Unknown(field::CHANGED_PROPERTY)),

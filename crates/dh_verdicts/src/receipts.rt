@@ -1,12 +1,8 @@
 //! Receipts and rent runs, each accepted once for its key.
 
-ghost use Rattle.std.specs.Prelude.{◌≡◌, ◌∷◌, ◌*◌, ◌&&◌, nat_eq, option_copied};
-ghost use Rattle.std.specs.List.{list_any};
-ghost use Rattle.std.specs.FinMap as fin;
-ghost use Rattle.dh_values.specs.declared.receipt_kind.ReceiptKind.TheVariants.{Deposit};
-ghost use Rattle.dh_types.specs.Records.{is_same_receipt_kind};
-ghost use Rattle.dh_model.specs.Checks.{deposit_checks, first_failing, names, receipt_of_key, run_of_key};
-ghost use Rattle.dh_model.specs.Verdicts.{receipt_verdict, run_verdict};
+ghost use Rattle.std.specs.Prelude.{◌≡◌, ◌∷◌, ◌*◌, option_copied};
+ghost use Rattle.dh_model.specs.Checks.{deposit_checks, first_failing, has_deposit, names, receipt_of_key, run_of_key};
+ghost use Rattle.dh_model.specs.Verdicts.{decided, receipt_ruling, run_verdict};
 
 use dh_books::Books;
 use dh_model::{Change, Verdict};
@@ -32,8 +28,7 @@ fn run_of_key<'a>(books: &'a Books, key: &Key) -> Option<&'a Run>
 
 // Whether the lease has a deposit receipt.
 fn has_deposit(books: &Books, lease: LeaseNo) -> bool
-    ensures { result ≡ list_any (λ receipt. nat_eq receipt.payment.lease lease && is_same_receipt_kind receipt.payment.kind Deposit)
-        (fin.values books.now.books.receipts) }
+    ensures { result ≡ has_deposit books.now.books lease }
 {
     books.receipts().any(|receipt| {
         receipt.payment.lease == lease && receipt.payment.kind == ReceiptKind::Deposit
@@ -71,7 +66,7 @@ fn payment_refusal(books: &Books, payment: &Payment) -> Option<Refusal>
 /// What the books say of a payment under a key that no other receipt or run has, where there are so many receipts: its
 /// receipt, with the next number.
 pub fn decide_receipt(books: &Books, receipts: usize, order: &ReceiptOrder) -> Verdict
-    ensures { result ≡ receipt_verdict books.now.books receipts order.now }
+    ensures { result ≡ decided (receipt_ruling books.now.books receipts order.now) }
 {
     if let Some(receipt) = receipt_of_key(books, &order.key) {
         return if order.payment == receipt.payment {

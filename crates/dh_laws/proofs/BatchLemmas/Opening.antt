@@ -8,6 +8,7 @@ use Rattle.dh_types.specs.declared.run.Run.{Run}
 use Rattle.dh_types.specs.declared.run.Part.{Part}
 use Rattle.dh_types.specs.declared.fee.PartFee.{PartFee}
 use Rattle.dh_model.specs.declared.rows.Change.TheVariants as change
+use Rattle.dh_types.specs.declared.command.Command.TheVariants as command
 use Rattle.dh_model.specs.Books.{Books, with_rows}
 use Rattle.dh_model.specs.Kinds.{Kind}
 use Rattle.dh_model.specs.Leases.{dues}
@@ -30,7 +31,7 @@ use Rattle.dh_laws.proofs.BatchLemmas.Closing.{closed_alike}
 use Rattle.dh_laws.proofs.BatchLemmas.Charged.{charge_month, fee_month, part_month}
 use Rattle.dh_laws.proofs.BatchLemmas.Dues.{one_charge, one_posted, owed_due}
 use Rattle.dh_laws.proofs.BatchLemmas.MonthRows.{Has, OneEach, none_of_month, same_rows}
-use Rattle.dh_laws.proofs.VerdictLemmas.Cases.{run_case}
+use Rattle.dh_laws.proofs.VerdictLemmas.Cases.{case_of}
 
 module _ {K X : Type 0} {R : K → K → Ordering} (o : IsTotalOrder R) (anti : IsAntisymmetric R) where
   again : (b : Bool) (x y : X) (was : Option X) → cond b (Some y) (cond b (Some x) was) ≡ cond b (Some y) was
@@ -140,7 +141,7 @@ module _ (size : ℕ) (books : Books) (pos : 1 ≤ size) (keyed : AreKeyed books
 pub run_is_opening_made_whole : (size : ℕ) → RunIsOpeningMadeWhole size
 run_is_opening_made_whole size books order pos in_order h =
     let row = opened_run books order in
-    let begins = (run_case books None (change.Open (opened_run books order)) order h).1 in
+    let begins = (case_of books None (change.Open (opened_run books order)) (command.Open order) h).1 in
     ap (completed size (changed (change.Open (opened_run books order)) books))
     (opened_shown size books pos in_order.keyed in_order.rules row begins.month refl refl refl in_order.shown)
     ∙ completed_is_ran size books pos in_order.keyed in_order.rules row begins.month

@@ -22,7 +22,7 @@ use Rattle.dh_model.specs.Verdicts.{opened_run, run_verdict, verdict_on}
 use Rattle.dh_model.specs.Whole.{whole}
 use Rattle.dh_laws.specs.InOrder.{IsEntered, IsInOrder, run_after}
 use Rattle.dh_laws.proofs.InvariantLemmas.Order.{changes_keep_order}
-use Rattle.dh_laws.proofs.VerdictLemmas.Cases.{run_case, run_stays}
+use Rattle.dh_laws.proofs.VerdictLemmas.Cases.{case_of, run_stays}
 use Rattle.dh_laws.specs.Events.{Interrupted, Happens, IsFurtherBy, IsMovedBy, IsMovedOn, IsOfMonth}
 use Rattle.dh_laws.specs.Events.{RunIfDone, RunIfUndone, Answered, RecoveryInterrupted, state_of}
 use Rattle.dh_laws.specs.StateTables.{IsStateInOrder, as_tables}
@@ -168,7 +168,7 @@ plain_carried s _ rows plain = refl
 
 not_opening : (books : Books) (run : Option OpenRun) (told : Command) (rows : Change) → verdict_on books run told ≡ verdict.Change rows → is_plain rows ≡ true
     → is_opening told ≡ false
-not_opening books run (command.Open order) rows h plain = absurd (false≢true (sym (ap is_plain (run_case books run rows order h).0) ∙ plain))
+not_opening books run (command.Open order) rows h plain = absurd (false≢true (sym (ap is_plain (case_of books run rows (command.Open order) h).0) ∙ plain))
 not_opening books run _ rows h plain = refl
 
 not_post : (books : Books) (run : Option OpenRun) (told : Command) (rows : Change) → verdict_on books run told ≡ verdict.Change rows → is_plain rows ≡ true
@@ -229,4 +229,4 @@ refused_said s t told why in_order h is =
 pub order_accepted : (books : Books) (run : Option OpenRun) (order : RunOrder) (rows : Change) → verdict_on books run (command.Open order) ≡ verdict.Change rows
     → (run ≡ None) × (run_verdict books order ≡ verdict.Change (change.Open (opened_run books order)))
 order_accepted books (Some at) order rows h = absurd (cc)
-order_accepted books None order rows h = (refl, h ∙ ap (λ it. verdict.Change it) (run_case books None rows order h).0)
+order_accepted books None order rows h = (refl, h ∙ ap (λ it. verdict.Change it) (case_of books None rows (command.Open order) h).0)

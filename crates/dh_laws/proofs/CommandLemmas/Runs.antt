@@ -19,7 +19,7 @@ use Rattle.dh_model.specs.Whole.{whole}
 use Rattle.dh_laws.specs.InOrder.{IsInOrder}
 use Rattle.dh_laws.proofs.InvariantLemmas.Order.{changes_keep_order}
 use Rattle.dh_laws.proofs.BatchLemmas.Opening.{run_is_opening_made_whole}
-use Rattle.dh_laws.proofs.VerdictLemmas.Cases.{run_case}
+use Rattle.dh_laws.proofs.VerdictLemmas.Cases.{case_of}
 use Rattle.dh_laws.specs.Events.{state_of}
 use Rattle.dh_laws.specs.StateTables.{as_tables}
 use Rattle.dh_laws.specs.Telling.{IsTold, begun}
@@ -65,7 +65,7 @@ module _ (size : ℕ) (before : State) (order : RunOrder) (pos : 1 ≤ size) (no
 
   module _ (rows : Change) (h : run_verdict before.books order ≡ verdict.Change rows) where
     pub opening_rows : rows ≡ change.Open (opened_run before.books order)
-    opening_rows = (run_case before.books None rows order h).0
+    opening_rows = (case_of before.books None rows (command.Open order) h).0
 
     pub opening_verdict : run_verdict before.books order ≡ verdict.Change (change.Open (opened_run before.books order))
     opening_verdict = h ∙ ap (λ r. verdict.Change r) opening_rows

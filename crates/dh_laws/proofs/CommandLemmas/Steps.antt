@@ -16,7 +16,7 @@ use Rattle.dh_model.specs.Machine.{settled, step}
 use Rattle.dh_model.proofs.MachineLemmas.{resumed_books}
 use Rattle.dh_laws.specs.Batches.{is_plain}
 use Rattle.dh_laws.proofs.VerdictLemmas.Acceptance.{Accepted, turned, turned_is}
-use Rattle.dh_laws.proofs.VerdictLemmas.Cases.{accepted, plain_rows, post_case, run_case}
+use Rattle.dh_laws.proofs.VerdictLemmas.Cases.{accepted, case_of, plain_rows}
 
 -- what holds of the books after a step, under its verdict
 module _ (size : ℕ) (s : State) (P : Verdict → Books → Type 0)
@@ -30,13 +30,13 @@ module _ (size : ℕ) (s : State) (P : Verdict → Books → Type 0)
 
   carried : (told : Command) (rows : Change) → verdict_on s.books s.open_run told ≡ verdict.Change rows → Holds told (verdict.Change rows)
   carried (command.Run order) rows e =
-      let case = run_case s.books s.open_run rows order e in
+      let case = case_of s.books s.open_run rows (command.Open order) e in
       subst (λ r. Holds (command.Run order) (verdict.Change r)) (sym case.0) (runs order case.1.month)
   carried (command.Open order) rows e =
-      let case = run_case s.books s.open_run rows order e in
+      let case = case_of s.books s.open_run rows (command.Open order) e in
       subst (λ r. Holds (command.Open order) (verdict.Change r)) (sym case.0) (runs order case.1.month)
   carried (command.Post count) rows e =
-      subst (λ r. Holds (command.Post count) (verdict.Change r)) (sym (post_case s.books s.open_run rows count e).0)
+      subst (λ r. Holds (command.Post count) (verdict.Change r)) (sym (case_of s.books s.open_run rows (command.Post count) e).0)
       (subst (P (verdict.Change change.Post)) (sym (resumed_books size s.books count s.open_run)) posts)
   carried told rows e =
       let a = accepted s.books s.open_run rows told e in

@@ -4,7 +4,6 @@ use Rattle.std.specs.FinMap.{values}
 use Rattle.dh_types.specs.declared.command.Command.{Command}
 use Rattle.dh_types.specs.declared.command.Command.TheVariants as command
 use Rattle.dh_types.specs.declared.reply.Reply.{Reply}
-use Rattle.dh_types.specs.declared.reply.Reply.TheVariants as reply
 use Rattle.dh_model.specs.declared.rows.Change.{Change}
 use Rattle.dh_model.specs.declared.rows.Change.TheVariants as change
 use Rattle.dh_model.specs.declared.rows.Verdict.{Verdict}

@@ -13,6 +13,7 @@ use Rattle.dh_types.specs.declared.lease.Ending.{Ending}
 use Rattle.dh_types.proofs.SameValues.{numbers}
 use Rattle.dh_model.specs.declared.open_run.OpenRun.{OpenRun}
 use Rattle.dh_model.specs.declared.rows.Change.{Change}
+use Rattle.dh_types.specs.declared.command.Command.TheVariants as command
 use Rattle.dh_model.specs.Books.{Books}
 use Rattle.dh_model.specs.Kinds.{Kind}
 use Rattle.dh_model.specs.Leases.{due, dues, dues_among, dues_of, length_of, months_in, overlap, running}
@@ -35,7 +36,7 @@ use Rattle.dh_laws.proofs.MonthLemmas.Alike.{have_same}
 use Rattle.dh_laws.proofs.MonthLemmas.Dues.{dues_first}
 use Rattle.dh_laws.proofs.MonthLemmas.Keep.{RunInMonths, frozen_keeps}
 use Rattle.dh_laws.proofs.MonthLemmas.Open.{run_within}
-use Rattle.dh_laws.proofs.VerdictLemmas.Cases.{end_case}
+use Rattle.dh_laws.proofs.VerdictLemmas.Cases.{case_of}
 
 -- what falls due in a month is the same, if a lease runs for more months than reach it
 module _ (month : ℕ) (lease : Lease) (m : ℕ) (late : month < month_of_day lease.terms.start + m) where
@@ -189,7 +190,7 @@ made b it (Some was) = refl
 pub ends_keep_dues : EndsKeepDues
 ends_keep_dues books run it rows month keyed accepted before =
     let found = get books.endings it.lease in
-    let case = end_case books run rows it accepted in
+    let case = case_of books run rows (command.End it) accepted in
     ap (λ (said : Change). dues (changed said books) month) case.0
     ∙ ap (λ (after : Books). dues after month) (made books it found)
     ∙ dues_after_end books keyed run it (ends books run it found case.1) month before

@@ -24,7 +24,7 @@ use Rattle.dh_laws.specs.Keeping.{ChangesKeepOrder, StepsKeepTheLaw, WholeIsLawf
 use Rattle.dh_laws.specs.Posting.{RunIsOpeningMadeWhole}
 use Rattle.dh_laws.proofs.MonthLemmas.Shown.{none_open}
 use Rattle.dh_laws.proofs.MonthLemmas.Whole.{lawful_closed}
-use Rattle.dh_laws.proofs.VerdictLemmas.Cases.{plain_rows, post_case, run_case, run_stays}
+use Rattle.dh_laws.proofs.VerdictLemmas.Cases.{case_of, plain_rows, run_stays}
 
 module _ (size : ℕ) (changes : ChangesKeepOrder size) (wholes : WholeIsLawful size) (runs : RunIsOpeningMadeWhole size) (s : State) (pos : 1 ≤ size)
     (keyed : AreKeyed s.books) (lawful : IsLawful s.books size) where
@@ -62,7 +62,7 @@ module _ (size : ℕ) (changes : ChangesKeepOrder size) (wholes : WholeIsLawful 
   opening : (order : RunOrder) (rows : Change) → verdict_on s.books s.open_run (command.Open order) ≡ verdict.Change rows
       → (rows ≡ change.Open (opened_run s.books order)) × Law (ran size s.books order.key)
   opening order rows h =
-      let case = run_case s.books s.open_run rows order h in
+      let case = case_of s.books s.open_run rows (command.Open order) h in
       let given = subst (λ r. verdict_on s.books s.open_run (command.Open order) ≡ verdict.Change r) case.0 h in
       (case.0, ran_kept order (with_no_run s.open_run (command.Open order) (change.Open (opened_run s.books order)) refl given))
 
@@ -73,7 +73,7 @@ module _ (size : ℕ) (changes : ChangesKeepOrder size) (wholes : WholeIsLawful 
   carried (command.Open order) rows e h = let case = opening order rows h in
       subst (λ r. Law (carried_out size s (command.Open order) r).0.books) (sym case.0) case.1
   carried (command.Post count) rows e h =
-      subst (λ r. Law (carried_out size s (command.Post count) r).0.books) (sym (post_case s.books s.open_run rows count h).0)
+      subst (λ r. Law (carried_out size s (command.Post count) r).0.books) (sym (case_of s.books s.open_run rows (command.Post count) h).0)
       (subst Law (sym (resumed_books size s.books count s.open_run)) (keyed, lawful))
   carried told rows e h = kept told rows e (with_no_run s.open_run told rows refl h) (plain_rows s.books s.open_run told rows refl h)
 

@@ -1,25 +1,21 @@
 -- A receipt that was acknowledged is in the books for good.
-use Rattle.std.proofs.Common.{◌≡◌, sym, ap, subst, ℕ, ◌+◌, ◌≤◌, Bool, true, false, List, [], ◌∷◌, ◌++◌, Option, Some, None, if◌then◌else◌}
+use Rattle.std.proofs.Common.{◌≡◌, sym, ap, subst, ℕ, ◌+◌, ◌≤◌, List, [], ◌∷◌, ◌++◌, Some}
 use Rattle.std.specs.FinMap.{get, insert, len, values}
 use Rattle.std.proofs.lemmas.List.{append_assoc}
 use Rattle.dh_types.specs.declared.lease.Receipt.{Receipt}
-use Rattle.dh_types.specs.declared.run.Run.{Run}
 use Rattle.dh_types.specs.declared.command.Command.{Command}
 use Rattle.dh_types.specs.declared.command.Command.TheVariants as command
 use Rattle.dh_types.specs.declared.command.ReceiptOrder.{ReceiptOrder}
 use Rattle.dh_types.specs.declared.reply.Reply.{Reply}
 use Rattle.dh_types.specs.declared.reply.Reply.TheVariants as reply
-use Rattle.dh_types.specs.declared.reply.Refusal.TheVariants as refusal
-use Rattle.dh_types.specs.Records.{is_same_payment}
-use Rattle.dh_model.specs.declared.open_run.OpenRun.{OpenRun}
 use Rattle.dh_model.specs.declared.rows.Change.TheVariants as change
 use Rattle.dh_model.specs.declared.rows.Verdict.{Verdict}
 use Rattle.dh_model.specs.declared.rows.Verdict.TheVariants as verdict
 use Rattle.dh_model.specs.Books.{Books, State}
 use Rattle.dh_model.specs.Rules.{IsLawful}
 use Rattle.dh_model.specs.Rules.Rule.{Keys}
-use Rattle.dh_model.specs.Checks.{Check, first_failing, receipt_of_key, run_of_key}
-use Rattle.dh_model.specs.Verdicts.{judged, receipt_checks, receipt_verdict, rows_unless, unless_open, unless_paid, unless_run}
+use Rattle.dh_model.specs.Verdicts.{Frozen, receipt_ruling}
+use Rattle.dh_laws.proofs.VerdictLemmas.Rulings.{of_ruling}
 use Rattle.dh_model.specs.Machine.{settled, step}
 use Rattle.dh_model.specs.Whole.{completed, whole}
 use Rattle.dh_model.proofs.Among.{is_among}
@@ -57,33 +53,8 @@ module _ (size : ℕ) (s : State) (order : ReceiptOrder) (number : ℕ) where
       let same : next ≡ number = cc in
       subst (λ n. get (insert s.books.receipts next (receipt next)) n ≡ Some (receipt n)) same (get_new nat_total nat_ties s.books.receipts next (receipt next))
 
-  told_checked : (failing : Check) → IsTold (rows_unless failing (change.Receipt (receipt next)))
-  told_checked None = told_new
-  told_checked (Some why) = λ e. cc
-
-  told_if : (b : Bool) (old : ℕ) → IsTold (if b then verdict.Already (reply.AlreadyReceipt old) else verdict.Refused refusal.KeyUsed)
-  told_if true old = λ e. cc
-  told_if false old = λ e. cc
-
-  told_paid : (found : Option Receipt) (v : Verdict) → IsTold v → IsTold (unless_paid s.books order found v)
-  told_paid None v t = t
-  told_paid (Some old) v t = told_if (is_same_payment order.payment old.payment) old.number
-
-  told_run : (found : Option Run) (v : Verdict) → IsTold v → IsTold (unless_run s.books found v)
-  told_run None v t = t
-  told_run (Some run) v t = λ e. cc
-
-  told_open : (run : Option OpenRun) (v : Verdict) → IsTold v → IsTold (unless_open run v)
-  told_open None v t = t
-  told_open (Some run) v t = λ e. cc
-
   pub told : IsToldOf (step size s (command.Receipt order))
-  told =
-      let checked = judged (receipt_checks s.books (len s.books.receipts) order) (change.Receipt (receipt next)) in
-      let no_run = unless_run s.books (run_of_key s.books order.key) checked in
-      told_open s.open_run (receipt_verdict s.books (len s.books.receipts) order)
-      (told_paid (receipt_of_key s.books order.key) no_run
-      (told_run (run_of_key s.books order.key) checked (told_checked (first_failing (receipt_checks s.books (len s.books.receipts) order)))))
+  told = of_ruling IsTold (λ why e. cc) Frozen s.open_run (receipt_ruling s.books (len s.books.receipts) order) (λ e. cc, tt) told_new
 
 -- ---- what is kept from then on
 

@@ -1,5 +1,5 @@
 -- A receipt or a run that was carried out and is sent again changes nothing more.
-use Rattle.std.proofs.Common.{◌≡◌, ◌∙◌, refl, sym, ap, subst, ℕ, ◌+◌, Bool, true, false, nat_eq, List, Option, Some, None, if◌then◌else◌}
+use Rattle.std.proofs.Common.{◌≡◌, ◌∙◌, refl, sym, ap, subst, ℕ, ◌+◌, Bool, true, false, nat_eq, List, Option, Some, None, if◌then◌else◌, [], ◌∷◌, not}
 use Rattle.std.specs.FinMap.{insert, len, values}
 use Rattle.dh_types.specs.declared.lease.Receipt.{Receipt}
 use Rattle.dh_types.specs.declared.run.Run.{Run}
@@ -8,7 +8,6 @@ use Rattle.dh_types.specs.declared.command.Command.TheVariants as command
 use Rattle.dh_types.specs.declared.command.ReceiptOrder.{ReceiptOrder}
 use Rattle.dh_types.specs.declared.command.RunOrder.{RunOrder}
 use Rattle.dh_types.specs.declared.reply.Reply.{Reply}
-use Rattle.dh_types.specs.declared.reply.Reply.TheVariants as reply
 use Rattle.dh_types.specs.declared.reply.Refusal.{Refusal}
 use Rattle.dh_types.specs.declared.reply.Refusal.TheVariants as refusal
 use Rattle.dh_types.specs.Records.{is_same_payment}
@@ -18,33 +17,30 @@ use Rattle.dh_model.specs.declared.rows.Verdict.{Verdict}
 use Rattle.dh_model.specs.declared.rows.Verdict.TheVariants as verdict
 use Rattle.dh_model.specs.Books.{Books, State}
 use Rattle.dh_model.specs.Leases.{dues}
-use Rattle.dh_model.specs.Runs.{closed_run, ran, sum_of}
-use Rattle.dh_model.specs.Checks.{is_same_text, receipt_of_key, run_of_key}
-use Rattle.dh_model.specs.Verdicts.{unless_paid, unless_posted, verdict_on}
+use Rattle.dh_model.specs.Runs.{closed_run, ran}
+use Rattle.dh_model.specs.Checks.{is_same_text, receipt_of_key, run_of_key, some_is}
+use Rattle.std.specs.Option.{is_some}
+use Rattle.dh_model.specs.Verdicts.{Finding, Known, Must, judged, receipt_ruling, run_ruling, told, verdict_on}
 use Rattle.dh_model.specs.Machine.{settled, step}
 use Rattle.dh_model.proofs.KeyOrders.{nat_ties, nat_total}
 use Rattle.dh_model.proofs.MapRows.{get_new, of_row}
-use Rattle.dh_laws.proofs.VerdictLemmas.Cases.{receipt_case, run_case}
+use Rattle.dh_laws.proofs.VerdictLemmas.Cases.{case_of}
 use Rattle.dh_laws.proofs.VerdictLemmas.Checks.{found_none}
 use Rattle.dh_laws.specs.Lives.{SentAgainIsOnce}
 
 -- a key that was used is told as such, or refused: either way the state stays
-module _ (size : ℕ) (s : State) (told : Command) (books : Books) where
+module _ (size : ℕ) (s : State) (sent : Command) where
   abbrev Stays : Verdict → Type 0
-  Stays v = (settled size s told v).0 ≡ s
+  Stays v = (settled size s sent v).0 ≡ s
 
   stays_if : (b : Bool) (kept : Reply) (why : Refusal) → Stays (if b then verdict.Already kept else verdict.Refused why)
   stays_if true kept why = refl
   stays_if false kept why = refl
 
-  stays_paid : (order : ReceiptOrder) (found : Option Receipt) (otherwise : Verdict) → (found ≡ None → ⊥) → Stays (unless_paid books order found otherwise)
-  stays_paid order None otherwise there = absurd (there refl)
-  stays_paid order (Some receipt) otherwise there =
-      stays_if (is_same_payment order.payment receipt.payment) (reply.AlreadyReceipt receipt.number) refusal.KeyUsed
-
-  stays_posted : (order : RunOrder) (found : Option Run) (otherwise : Verdict) → (found ≡ None → ⊥) → Stays (unless_posted books order found otherwise)
-  stays_posted order None otherwise there = absurd (there refl)
-  stays_posted order (Some run) otherwise there = stays_if (nat_eq order.month run.month) (reply.AlreadyPosted (sum_of run)) refusal.KeyUsed
+  stays_there : {X : Type 0} (is_so : X → Bool) (found : Option X) (kept : Reply) (why : Refusal) (rest : List Finding) (otherwise : Verdict)
+      → (found ≡ None → ⊥) → Stays (told (Known (some_is is_so found) kept ∷ Must (not (is_some found)) why ∷ rest) otherwise)
+  stays_there is_so None kept why rest otherwise there = absurd (there refl)
+  stays_there is_so (Some row) kept why rest otherwise there = stays_if (is_so row) kept why
 
 -- the key of a row that was put in is found
 receipt_is_found : (books : Books) (k : ℕ) (row : Receipt) → receipt_of_key (record books { receipts = insert books.receipts k row }) row.key ≡ None → ⊥
@@ -78,19 +74,23 @@ module _ (size : ℕ) (books : Books) where
       let told = command.Receipt order in
       let row : Receipt = record { number = len books.receipts + 1; key = order.key; payment = order.payment } in
       let after : Books = record books { receipts = insert books.receipts (len books.receipts + 1) row } in
-      let same = (receipt_case books None rows order h).0 in
+      let it = receipt_ruling after (len after.receipts) order in
+      let same = (case_of books None rows (command.Receipt order) h).0 in
       let made : (step size (closed books) told).0 ≡ closed after = ap (λ v. (settled size (closed books) told v).0) (h ∙ ap (λ r. verdict.Change r) same) in
       subst (IsOnce told) (sym made)
-      (stays_paid size (closed after) told after order (receipt_of_key after order.key) _ (receipt_is_found books (len books.receipts + 1) row))
+      (stays_there size (closed after) told (λ receipt. is_same_payment order.payment receipt.payment) (receipt_of_key after order.key) _ refusal.KeyUsed
+      (Must (not (is_some (run_of_key after order.key))) refusal.KeyUsed ∷ []) (judged it.checks it.rows) (receipt_is_found books (len books.receipts + 1) row))
 
   run_again : (order : RunOrder) (rows : Change) → verdict_on books None (command.Run order) ≡ verdict.Change rows
       → IsOnce (command.Run order) (step size (closed books) (command.Run order)).0
   run_again order rows h =
       let told = command.Run order in
       let after = ran size books order.key in
-      let same = (run_case books None rows order h).0 in
+      let it = run_ruling after order in
+      let same = (case_of books None rows (command.Open order) h).0 in
       let made : (step size (closed books) told).0 ≡ closed after = ap (λ v. (settled size (closed books) told v).0) (h ∙ ap (λ r. verdict.Change r) same) in
-      subst (IsOnce told) (sym made) (stays_posted size (closed after) told after order (run_of_key after order.key) _ (run_is_found size books order.key))
+      subst (IsOnce told) (sym made) (stays_there size (closed after) told (λ run. nat_eq order.month run.month) (run_of_key after order.key) _ refusal.KeyUsed
+      (Must (not (is_some (receipt_of_key after order.key))) refusal.KeyUsed ∷ []) (judged it.checks it.rows) (run_is_found size books order.key))
 
 pub sent_again_is_once : (size : ℕ) → SentAgainIsOnce size
 sent_again_is_once size books rows pos keyed lawful = (λ order h. receipt_again size books order rows h, λ order h. run_again size books order rows h)

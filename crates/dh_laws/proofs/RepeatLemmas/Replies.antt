@@ -1,5 +1,5 @@
 -- A command whose key was used gets the reply that is kept, or a refusal, and the state stays.
-use Rattle.std.proofs.Common.{◌≡◌, ◌∙◌, refl, sym, ap, ℕ, ◌+◌, Bool, true, false, nat_eq, nat_le, [], ◌∷◌, Option, Some, None, if◌then◌else◌}
+use Rattle.std.proofs.Common.{◌≡◌, refl, sym, ap, ℕ, ◌+◌, Bool, true, false, nat_eq, nat_le, Option, Some, None, if◌then◌else◌}
 use Rattle.std.specs.FinMap.{get, len}
 use Rattle.std.proofs.lemmas.Bool.{false_from_ne_true}
 use Rattle.dh_types.specs.declared.lease.Receipt.{Receipt}
@@ -20,11 +20,10 @@ use Rattle.dh_model.specs.declared.rows.Change.TheVariants as change
 use Rattle.dh_model.specs.declared.rows.Verdict.{Verdict}
 use Rattle.dh_model.specs.declared.rows.Verdict.TheVariants as verdict
 use Rattle.dh_model.specs.Books.{Books, State}
-use Rattle.dh_model.specs.Checks.{receipt_of_key, run_of_key, unless}
 use Rattle.dh_model.specs.Machine.{accepted, carried_out, posted_sum, resumed, settled}
 use Rattle.dh_model.specs.Rules.{KeysInOrder}
 use Rattle.dh_model.specs.Runs.{batches, sum_of}
-use Rattle.dh_model.specs.Verdicts.{judged, opened_run, receipt_checks, receipt_verdict, run_verdict, unless_paid, unless_posted, unless_receipt, unless_run}
+use Rattle.dh_model.specs.Verdicts.{decided, receipt_ruling, run_verdict}
 use Rattle.dh_model.specs.Verdicts.{verdict_on}
 use Rattle.dh_laws.specs.Repeating.{IsReceiptOf, IsRunOf, NothingNewChangesNothing, ReceiptsRepeat, RepeatsGetTheirReply, RunsRepeat, is_of_nothing_new}
 use Rattle.dh_laws.specs.Repeating.{with_no_run}
@@ -34,43 +33,23 @@ use Rattle.dh_laws.proofs.RepeatLemmas.Keys.{no_receipt, no_run, one_receipt, on
 
 module _ (books : Books) (keys : KeysInOrder books) where
   module _ (order : ReceiptOrder) where
-    abbrev told_new : Verdict
-    told_new =
-        judged (receipt_checks books (len books.receipts) order)
-        (change.Receipt (record { number = len books.receipts + 1; key = order.key; payment = order.payment }))
-
-    abbrev told_of : Option Receipt → Option Run → Verdict
-    told_of receipt run = unless_paid books order receipt (unless_run books run told_new)
+    abbrev receipt_told : Verdict
+    receipt_told = decided (receipt_ruling books (len books.receipts) order)
 
     paid_by : (b : Bool) (receipt : Receipt) → is_same_payment order.payment receipt.payment ≡ b → IsReceiptOf books order.key receipt
-        → receipt_verdict books (len books.receipts) order
-        ≡ (if b then verdict.Already (reply.AlreadyReceipt receipt.number) else verdict.Refused refusal.KeyUsed)
-    paid_by b receipt same is =
-        ap (λ found. told_of found (run_of_key books order.key)) ((one_receipt books order.key keys receipt).1 is)
-        ∙ ap (λ c. if c then verdict.Already (reply.AlreadyReceipt receipt.number) else verdict.Refused refusal.KeyUsed) same
+        → receipt_told ≡ (if b then verdict.Already (reply.AlreadyReceipt receipt.number) else verdict.Refused refusal.KeyUsed)
+    paid_by b receipt same is = rw ((one_receipt books order.key keys receipt).1 is, same) refl
 
-    paid_by_run : (run : Run) → IsRunOf books order.key run → receipt_verdict books (len books.receipts) order ≡ verdict.Refused refusal.KeyUsed
-    paid_by_run run is =
-        ap (λ found. told_of found (run_of_key books order.key)) (no_receipt books order.key keys run is)
-        ∙ ap (λ found. told_of None found) ((one_run books order.key keys run).1 is)
+    paid_by_run : (run : Run) → IsRunOf books order.key run → receipt_told ≡ verdict.Refused refusal.KeyUsed
+    paid_by_run run is = rw (no_receipt books order.key keys run is, (one_run books order.key keys run).1 is) refl
 
   module _ (order : RunOrder) where
-    abbrev run_new : Verdict
-    run_new = judged (unless (nat_eq order.month books.next) (refusal.NotNextMonth books.next) ∷ []) (change.Open (opened_run books order))
-
-    abbrev run_told : Option Run → Option Receipt → Verdict
-    run_told run receipt = unless_posted books order run (unless_receipt books receipt run_new)
-
     posted_by : (b : Bool) (run : Run) → nat_eq order.month run.month ≡ b → IsRunOf books order.key run
         → run_verdict books order ≡ (if b then verdict.Already (reply.AlreadyPosted (sum_of run)) else verdict.Refused refusal.KeyUsed)
-    posted_by b run same is =
-        ap (λ found. run_told found (receipt_of_key books order.key)) ((one_run books order.key keys run).1 is)
-        ∙ ap (λ c. if c then verdict.Already (reply.AlreadyPosted (sum_of run)) else verdict.Refused refusal.KeyUsed) same
+    posted_by b run same is = rw ((one_run books order.key keys run).1 is, same) refl
 
     posted_by_receipt : (receipt : Receipt) → IsReceiptOf books order.key receipt → run_verdict books order ≡ verdict.Refused refusal.KeyUsed
-    posted_by_receipt receipt is =
-        ap (λ found. run_told found (receipt_of_key books order.key)) (no_run books order.key keys receipt is)
-        ∙ ap (λ found. run_told None found) ((one_receipt books order.key keys receipt).1 is)
+    posted_by_receipt receipt is = rw (no_run books order.key keys receipt is, (one_receipt books order.key keys receipt).1 is) refl
 
 -- ---- what it is answered
 

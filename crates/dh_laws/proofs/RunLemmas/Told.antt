@@ -1,28 +1,26 @@
 -- What a run and an opening did that were answered so.
-use Rattle.std.proofs.Common.{◌≡◌, ◌∙◌, refl, sym, ap, ℕ, Bool, true, false, nat_eq, [], ◌∷◌, Option, Some, None, if◌then◌else◌}
+use Rattle.std.proofs.Common.{◌≡◌, ◌∙◌, refl, sym, ap, ℕ, Some, None}
 use Rattle.std.specs.FinMap.{get, insert}
-use Rattle.dh_types.specs.declared.lease.Receipt.{Receipt}
 use Rattle.dh_types.specs.declared.run.Run.{Run}
 use Rattle.dh_types.specs.declared.run.RunSum.{RunSum}
 use Rattle.dh_types.specs.declared.command.Command.TheVariants as command
 use Rattle.dh_types.specs.declared.command.RunOrder.{RunOrder}
 use Rattle.dh_types.specs.declared.reply.Reply.{Reply}
 use Rattle.dh_types.specs.declared.reply.Reply.TheVariants as reply
-use Rattle.dh_types.specs.declared.reply.Refusal.TheVariants as refusal
-use Rattle.dh_model.specs.declared.open_run.OpenRun.{OpenRun}
 use Rattle.dh_model.specs.declared.rows.Change.{Change}
 use Rattle.dh_model.specs.declared.rows.Change.TheVariants as change
 use Rattle.dh_model.specs.declared.rows.Verdict.{Verdict}
 use Rattle.dh_model.specs.declared.rows.Verdict.TheVariants as verdict
 use Rattle.dh_model.specs.Books.{State}
-use Rattle.dh_model.specs.Checks.{Check, first_failing, receipt_of_key, run_of_key, unless}
+use Rattle.dh_model.specs.Checks.{run_of_key}
 use Rattle.dh_model.specs.Leases.{dues}
 use Rattle.dh_model.specs.Machine.{carried_out, posted_sum, settled, step}
 use Rattle.dh_model.specs.Runs.{closed_run, ran, sum_of}
-use Rattle.dh_model.specs.Verdicts.{judged, opened_run, rows_unless, run_verdict, unless_open, unless_posted, unless_receipt, verdict_on}
+use Rattle.dh_model.specs.Verdicts.{Frozen, opened_run, run_ruling, sum_in, verdict_on}
+use Rattle.dh_laws.proofs.VerdictLemmas.Rulings.{of_ruling}
 use Rattle.dh_model.proofs.KeyOrders.{nat_ties, nat_total}
 use Rattle.dh_model.proofs.MapRows.{get_new}
-use Rattle.dh_laws.proofs.VerdictLemmas.Cases.{run_case}
+use Rattle.dh_laws.proofs.VerdictLemmas.Cases.{case_of}
 
 module _ (size : ℕ) (s : State) (order : RunOrder) where
   -- ---- of a run the books say only that it was posted before
@@ -30,33 +28,10 @@ module _ (size : ℕ) (s : State) (order : RunOrder) where
   abbrev OfPosted : Verdict → Type 0
   OfPosted v = (kept : Reply) → v ≡ verdict.Already kept → (sum : RunSum) × (kept ≡ reply.AlreadyPosted sum)
 
-  of_rows : (failing : Check) (rows : Change) → OfPosted (rows_unless failing rows)
-  of_rows None rows kept e = cc
-  of_rows (Some why) rows kept e = cc
-
-  of_if : (b : Bool) (run : Run) → OfPosted (if b then verdict.Already (reply.AlreadyPosted (sum_of run)) else verdict.Refused refusal.KeyUsed)
-  of_if true run kept e = let is : kept ≡ reply.AlreadyPosted (sum_of run) = cc in (sum_of run, is)
-  of_if false run kept e = cc
-
-  of_posted : (found : Option Run) (otherwise : Verdict) → OfPosted otherwise → OfPosted (unless_posted s.books order found otherwise)
-  of_posted None otherwise posted = posted
-  of_posted (Some run) otherwise posted = of_if (nat_eq order.month run.month) run
-
-  of_receipt : (found : Option Receipt) (otherwise : Verdict) → OfPosted otherwise → OfPosted (unless_receipt s.books found otherwise)
-  of_receipt None otherwise posted = posted
-  of_receipt (Some receipt) otherwise posted = λ kept e. cc
-
-  of_open : (run : Option OpenRun) (otherwise : Verdict) → OfPosted otherwise → OfPosted (unless_open run otherwise)
-  of_open None otherwise posted = posted
-  of_open (Some run) otherwise posted = λ kept e. cc
-
   of_run : OfPosted (verdict_on s.books s.open_run (command.Open order))
   of_run =
-      let checks = unless (nat_eq order.month s.books.next) (refusal.NotNextMonth s.books.next) ∷ [] in
-      let given = judged checks (change.Open (opened_run s.books order)) in
-      of_open s.open_run (run_verdict s.books order)
-      (of_posted (run_of_key s.books order.key) (unless_receipt s.books (receipt_of_key s.books order.key) given)
-      (of_receipt (receipt_of_key s.books order.key) given (of_rows (first_failing checks) (change.Open (opened_run s.books order)))))
+      of_ruling OfPosted (λ why kept e. cc) Frozen s.open_run (run_ruling s.books order)
+      (λ kept e. let is : kept ≡ reply.AlreadyPosted (sum_in s.books (run_of_key s.books order.key)) = cc in (_, is), tt) (λ kept e. cc)
 
   -- ---- the row that it made
 
@@ -93,7 +68,7 @@ module _ (size : ℕ) (s : State) (order : RunOrder) where
   posted_by : (v : Verdict) (sum : RunSum) → verdict_on s.books s.open_run (command.Open order) ≡ v
       → (settled size s (command.Run order) v).1 ≡ reply.Posted sum
       → IsPosted sum (settled size s (command.Run order) v).0
-  posted_by (verdict.Change rows) sum e h = let case = run_case s.books s.open_run rows order e in posted_rows rows sum case.0 case.1.month h
+  posted_by (verdict.Change rows) sum e h = let case = case_of s.books s.open_run rows (command.Open order) e in posted_rows rows sum case.0 case.1.month h
   posted_by (verdict.Already kept) sum e h = let is = (of_run kept e).1 in cc
   posted_by (verdict.Refused why) sum e h = cc
 
@@ -110,7 +85,7 @@ module _ (size : ℕ) (s : State) (order : RunOrder) where
   opened_by : (v : Verdict) (month : ℕ) → verdict_on s.books s.open_run (command.Open order) ≡ v
       → (settled size s (command.Open order) v).1 ≡ reply.Opened month
       → IsOpened month (settled size s (command.Open order) v).0
-  opened_by (verdict.Change rows) month e h = let case = run_case s.books s.open_run rows order e in opened_rows rows month case.0 case.1.month h
+  opened_by (verdict.Change rows) month e h = let case = case_of s.books s.open_run rows (command.Open order) e in opened_rows rows month case.0 case.1.month h
   opened_by (verdict.Already kept) month e h = let is = (of_run kept e).1 in cc
   opened_by (verdict.Refused why) month e h = cc
 

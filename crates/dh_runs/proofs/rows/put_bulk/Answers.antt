@@ -11,5 +11,6 @@ insert_bulk-requires-clause-kept g c clean = ((c.requires.writing clean).in_orde
 pub returns-clause-puts : goal.returns-clause-puts
 returns-clause-puts g c =
     let call = c.insert_bulk.ensures in
-    added Charges _ (state g.S.Store c.args.tx.now.conn.now) (state g.S.Store c.insert_bulk.new.tx.conn.now) (with_charges c.args.charges.now) c.insert_bulk.result
+    added Charges _ (state g.S.Store c.args.tx.now.conn.now) (state g.S.Store c.insert_bulk.new.tx.conn.now) (with_charges c.args.charges.now)
+    c.insert_bulk.result
     (λ _. tt) c.requires.writing (λ _. refl) call.shown call.added call.undone call.crash
