@@ -1,9 +1,9 @@
 #!/usr/bin/env bash
 # Prints the milliseconds of `letting migrate` on a file of the first version with so many leases of ten branches (10,000 where not given)
 # and ten months charged to them, beside what Python's sqlite3 takes for the same statements on a copy of the file that it has open. Start
-# is `letting migrate` on a file that is migrated, which is refused once the version was read. Report is a report of a migrated file: start,
-# loading and audit, as before a migration. Each figure is the least of five, of migrations each on a copy of its own. That both leave the
-# same tables and rows is checked.
+# is `letting migrate` on a file that is migrated, which is refused once the version was read. Check is `letting recover` on a file of the
+# first version without an open run, which is what a migration does before it changes anything: start, loading and audit. Each figure is
+# the least of five, of migrations each on a copy of its own. That both leave the same tables and rows is checked.
 set -eu
 cd "$(dirname "$0")/.."
 . bench/timed.sh
@@ -26,22 +26,22 @@ least() {
     sort -n "$work/$1" | head -n 1
 }
 
-printf '%8s %8s %12s %12s %12s %12s\n' leases charges start report migrate python
+printf '%8s %8s %12s %12s %12s %12s\n' leases charges start check migrate python
 for leases in ${*:-10000}; do
     rm -f "$work"/*
     bench/migration.py make "$work/first" "$leases"
     for _ in 1 2 3 4 5; do
         copy "$work/letting"
+        time_of 0 recover --file "$work/letting" >>"$work/check"
+        first_line recovered
         time_of 0 migrate --file "$work/letting" >>"$work/migrate"
         first_line migrated
         time_of 5 migrate --file "$work/letting" >>"$work/start"
         first_line 'refused 16 2'
-        time_of 0 report --file "$work/letting" branches >>"$work/report"
-        first_line 'B0       Leeds'
         copy "$work/python"
         bench/migration.py python "$work/python" >>"$work/by_python"
         bench/migration.py same "$work/letting" "$work/python"
     done
     printf '%8s %8s %12s %12s %12s %12s\n' \
-        "$leases" $((leases * 10)) "$(least start)" "$(least report)" "$(least migrate)" "$(least by_python)"
+        "$leases" $((leases * 10)) "$(least start)" "$(least check)" "$(least migrate)" "$(least by_python)"
 done
