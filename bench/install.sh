@@ -1,8 +1,10 @@
 #!/usr/bin/env bash
-# Tries an office's set-up on clean folders: `./letting --install`, office/nightly-copy, the man page and the units.
+# Tries `./letting --from` with a toolchain that proves nothing, and an office's set-up on clean folders: `./letting --install`,
+# office/nightly-copy, the man page and the units.
 #
-#     bench/install.sh     with the program that is built in this repository; it builds none
+#     bench/install.sh     with the program that is built in this repository; it builds none, and tries the first alone where it is not built
 #
+# - An archive of libraries, and what is built over it; each archive that is refused, with its message.
 # - Installing, and installing over a program that is serving; each call that fails, with its status and its message.
 # - A copy of a file, of one that a `batch` holds, and of one that is written all the while; a copy that is put back.
 # - Files of which no copy is kept: damaged, edited, of the first version, empty, with a journal, never at rest.
@@ -13,10 +15,6 @@ set -u
 cd "$(dirname "$0")/.." || exit 1
 top=$PWD
 built=$top/crates/dh_desk/out/dh_desk
-[ -x "$built" ] || {
-    echo "bench/install.sh: the program is not built: \`./letting init ..\` or \`.ci/run\` builds it" >&2
-    exit 3
-}
 work=$(mktemp -d)
 trap 'umount "$work/disk" 2>/dev/null; rm -rf "$work"' EXIT
 # Another user runs some of it.
@@ -45,6 +43,132 @@ call() {
 # The names in a folder, hidden ones too.
 listed() {
     find "$1" -mindepth 1 -printf '%P\n' | sort | paste -sd' '
+}
+
+# A toolchain whose prover and linker prove nothing, and note for which crate they were called.
+made_up_kit() {
+    mkdir -p kit/bin
+    sed -n 's/^The toolchain `\(rattle-kit-[^`]*\)`.*/\1/p' "$top/README.md" >kit/KIT-ID
+    cat >kit/bin/rt <<SH
+#!/bin/sh
+[ "\$1" = doc ] && echo $work/kit/START-HERE.md || cat $work/kit/KIT-ID
+SH
+    cat >kit/bin/rattle <<SH
+#!/bin/sh
+echo "\$3" >>$work/proved
+while [ "\$1" != -o ]; do shift; done
+case \$2 in *.rlib) mkdir "\$2" && touch "\$2/format" ;; *) touch "\$2" ;; esac
+echo 'logic=proved '
+SH
+    cat >kit/bin/rattle-link <<'SH'
+#!/bin/sh
+while [ "$1" != -o ]; do shift; done
+printf '#!/bin/sh\necho "$@"\n' >"$2" && chmod 755 "$2"
+SH
+    chmod 755 kit/bin/*
+}
+
+# A checkout with two libraries below the program.
+made_up_checkout() {
+    local name
+    mkdir -p proving/crates/dh_{low,high,desk}/src proving/tools
+    cp "$top/letting" "$top/README.md" "$top/.gitignore" proving
+    cp "$top"/tools/{archive,build}.py proving/tools
+    printf 'dh_low:\ndh_high: dh_low\ndh_desk: dh_high\n' >proving/crates.txt
+    for name in low/src/lib high/src/lib desk/src/main; do
+        echo '//! Made up.' >"proving/crates/dh_$name.rt"
+    done
+    git init -q proving
+    git -C proving add .
+    git -C proving -c user.name=A -c user.email=a@b.c commit -qm 'Made up'
+}
+
+# archived TOOLCHAIN NAME: odd.tar.xz is an archive of this toolchain, or of none, with a file of this name, or a link if it ends in `link`.
+archived() {
+    python3 - "$@" <<'PY'
+import sys, tarfile
+with tarfile.open('odd.tar.xz', 'w:xz', pax_headers={'comment': sys.argv[1]} if sys.argv[1] else {}) as tar:
+    entry = tarfile.TarInfo(sys.argv[2])
+    if entry.name.endswith('link'):
+        entry.type, entry.linkname = tarfile.SYMTYPE, 'format'
+    tar.addfile(entry)
+PY
+}
+
+# taking ARCHIVE: what `letting` says of it, without the lines of the build. What it proves is in `proved`.
+taking() {
+    : >proved
+    call taking/letting --from "$1" | grep -v '^[0-9]* min: '
+}
+
+handed_on() {
+    local PATH=$work/kit/bin:$PATH kit at name said trust
+    made_up_kit
+    made_up_checkout
+    kit=$(cat kit/KIT-ID)
+    # shellcheck disable=SC2016
+    same 'nothing to hand on' '1 not built of these sources: dh_low, dh_high; `./letting init ..` builds them' \
+        "$(call proving/tools/archive.py make .)"
+    same 'the first call' 'init there' "$(proving/letting init there 2>said)"
+    same 'what it proves' 'dh_low dh_high dh_desk' "$(paste -sd' ' proved)"
+    at=$(proving/tools/archive.py make .)
+    same 'the archive' "letting-${kit%% *}-$(git -C proving rev-parse --short=8 HEAD).tar.xz" "$at"
+    same 'its files' "$(printf 'crates/dh_%s/out/rlib/%s ' low built-of low dh_low.rlib/format high built-of high dh_high.rlib/format)" \
+        "$(python3 -m tarfile -l "$at" | tr -s ' \n' ' ')"
+
+    # Archives that are refused.
+    git clone -q proving taking
+    trust='letting: --from: the proofs of these libraries are trusted, as whoever made the archive checked them; '
+    # shellcheck disable=SC2016
+    trust+='`.ci/run`, or a first call in a clean clone, proves them here'
+    same 'no archive named' '2 letting: --from takes one archive' "$(call taking/letting --from)"
+    same 'two archives' '2 letting: --from takes one archive' "$(call taking/letting --from "$at" "$at")"
+    same 'no such archive' '2 letting: --from: there is no file none' "$(taking none)"
+    same 'a folder' '2 letting: --from: taking is no file that can be read' "$(taking taking)"
+    same 'no archive' '3 letting: --from: kit/KIT-ID: not an lzma file' "$(taking kit/KIT-ID)"
+    archived '' crates/dh_low/out/rlib/built-of
+    same 'no toolchain' '3 letting: --from: odd.tar.xz does not name its toolchain' "$(taking odd.tar.xz)"
+    archived 'made up' crates/dh_low/out/rlib/built-of
+    same 'another toolchain' "3 letting: --from: odd.tar.xz is of the toolchain \`made up\`, and \`rt\` on the path is of \`$kit\`" \
+        "$(taking odd.tar.xz)"
+    for name in /etc/passwd ../passwd letting crates/dh_low/src/lib.rt crates/dh_other/out/rlib/built-of crates/dh_desk/out/rlib/built-of \
+        crates/dh_low/out/rlib/{log,stamp,dh_high.rlib/format,dh_low.rlib/link,dh_low.rlib/../../../src/lib.rt}; do
+        archived "$kit" "$name"
+        same "a file at $name" "3 $trust
+letting: --from: odd.tar.xz has $name, which is no file of a library" "$(taking odd.tar.xz)"
+    done
+    head -c -60 "$at" >cut.tar.xz
+    said=$(taking cut.tar.xz)
+    same 'a cut archive' "3 cut.tar.xz: Compressed file ended before the end-of-stream marker was reached" "${said%% *} ${said##*: --from: }"
+    { head -c -60 "$at" && tail -c 60 "$at" | tr '\0' '\1'; } >damaged.tar.xz
+    said=$(taking damaged.tar.xz)
+    same 'a damaged archive' "3 damaged.tar.xz: Corrupt input data" "${said%% *} ${said##*: --from: }"
+    echo 'made up' >kit/KIT-ID
+    same 'another toolchain on the path' "3 letting: --from needs the toolchain \`$kit\`, and \`rt\` on the path is of \`made up\`" "$(taking "$at")"
+    echo "$kit" >kit/KIT-ID
+    same 'nothing was taken' '' "$(find taking/crates -path '*/out/rlib*')"
+    same 'nothing was proved' '' "$(cat proved)"
+
+    # What is proved over an archive.
+    echo >>taking/crates/dh_high/src/lib.rt
+    same 'a changed source' "0 $trust
+letting: --from: 1 of 2 libraries were taken; left to prove: 1
+letting: --from: the program is built" "$(taking "$at")"
+    same 'what is proved then' 'dh_high dh_desk' "$(paste -sd' ' proved)"
+    rm -rf taking
+    git clone -q proving taking
+    mkdir taking/crates/dh_desk/out
+    flock taking/crates/dh_desk/out/letting.lock sleep 1 &
+    sleep 0.3
+    same 'the same sources, behind another call' "0 letting: another call builds the program; waiting for it
+$trust
+letting: --from: 2 of 2 libraries were taken; left to prove: 0
+letting: --from: the program is built" "$(taking "$at")"
+    same 'what is proved over all' dh_desk "$(paste -sd' ' proved)"
+    same 'once more' '0 letting: --from: the program is built' "$(taking "$at")"
+    same 'a later call' '0 init there' "$(call taking/letting init there)"
+    mkdir again
+    same 'an archive of what was taken' "again/$at 0" "$(taking/tools/archive.py make again) $(cmp "$at" "again/$at"; echo $?)"
 }
 
 # A repository with no more than installing looks at. A `rt` is on the path that leaves a mark, and builds nothing.
@@ -256,6 +380,11 @@ linted() {
     lint shellcheck shellcheck -S warning "$top/letting" "$top/office/nightly-copy" "$top/bench/install.sh"
 }
 
+handed_on
+[ -x "$built" ] || {
+    echo "bench/install.sh: $checks checks, $wrong differ; the others need the program: \`./letting init ..\` or \`.ci/run\` builds it" >&2
+    exit 3
+}
 installing
 shut
 over_a_running_one
