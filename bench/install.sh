@@ -157,13 +157,19 @@ letting: --from: the program is built" "$(taking "$at")"
     same 'what is proved then' 'dh_high dh_desk' "$(paste -sd' ' proved)"
     rm -rf taking
     git clone -q proving taking
+    # Another call has the lock at first.
     mkdir taking/crates/dh_desk/out
-    flock taking/crates/dh_desk/out/letting.lock sleep 1 &
-    sleep 0.3
+    exec 8>taking/crates/dh_desk/out/letting.lock
+    flock 8
+    : >proved
+    taking/letting --from "$at" >said 2>&1 8>&- &
+    until grep -q waiting said 2>/dev/null || ! kill -0 $! 2>/dev/null; do sleep 0.1; done
+    exec 8>&-
+    wait $!
     same 'the same sources, behind another call' "0 letting: another call builds the program; waiting for it
 $trust
 letting: --from: 2 of 2 libraries were taken; left to prove: 0
-letting: --from: the program is built" "$(taking "$at")"
+letting: --from: the program is built" "$? $(grep -v '^[0-9]* min: ' said)"
     same 'what is proved over all' dh_desk "$(paste -sd' ' proved)"
     same 'once more' '0 letting: --from: the program is built' "$(taking "$at")"
     same 'a later call' '0 init there' "$(call taking/letting init there)"
