@@ -4,11 +4,15 @@ ghost use Rattle.std.specs.Prelude.{◌≡◌, ◌-◌, ◌≤◌, length, map, 
 ghost use Rattle.dh_types.specs.Output.{Puts};
 ghost use Rattle.dh_reports.specs.Columns.{column_text, left, line, right};
 
+use arrayvec::ArrayVec;
 use dh_types::Output;
 use dh_types::text_writer::{put, put_parts};
 use std::io::Write;
 
 const SPACES: [u8; 16] = [b' '; 16];
+
+/// A line, with room for the longest: two numbers, a sum of 42 digits and signs, and a name of 60 characters.
+type Line = ArrayVec<u8, 320>;
 
 /// A text, and the spaces that fill its column before or behind it.
 #[derive(Clone, Copy)]
@@ -61,8 +65,8 @@ pub fn right(width: usize, text: &str) -> Column<'_>
     }
 }
 
-/// Writes the columns, parted by spaces, and the end of the line; at an `Output` a beginning of the line was written.
-pub fn put_line<W: Write>(writer: &mut W, columns: &[Column<'_>]) -> Result<(), Output>
+// Writes a line part by part.
+fn put_columns<W: Write>(writer: &mut W, columns: &[Column<'_>]) -> Result<(), Output>
     ensures { Puts (W.contents writer.old) (W.contents writer.new) result (line (map column_text columns.now)) }
 {
     let mut parting: &[u8] = b"";
@@ -74,4 +78,16 @@ pub fn put_line<W: Write>(writer: &mut W, columns: &[Column<'_>]) -> Result<(), 
         parting = b" ";
     }
     put(writer, b"\n")
+}
+
+/// Writes the columns, parted by spaces, and the end of the line; at an `Output` a beginning of the line was written. It is one
+/// write; a line that had no room would be written part by part.
+pub fn put_line<W: Write>(writer: &mut W, columns: &[Column<'_>]) -> Result<(), Output>
+    ensures { Puts (W.contents writer.old) (W.contents writer.new) result (line (map column_text columns.now)) }
+{
+    let mut line: Line = ArrayVec::new();
+    match put_columns(&mut line, columns) {
+        Ok(()) => put(writer, &line),
+        Err(_) => put_columns(writer, columns),
+    }
 }

@@ -1,27 +1,11 @@
-use Rattle.std.proofs.Common.{[], ◌∷◌, ◌<◌, ◌≤◌, length, arith}
-use Rattle.std.proofs.lemmas.Result.{err_from_is_err_and}
-use Rattle.dh_reports.proofs.LineLemmas.{ends}
-use Rattle.dh_reports.proofs.ColumnLemmas.{columns-start, columns-more, columns-front, columns-done}
+use Rattle.std.specs.Prelude.{map}
+use Rattle.std.proofs.Common.{subst}
+use Rattle.dh_types.specs.Output.{Puts}
+use Rattle.dh_reports.specs.Columns.{column_text, line}
+use Rattle.dh_reports.proofs.PartLemmas.{gathered}
 use Rattle.dh_reports.proofs.columns.put_line.Goals as goal
 
-pub loop-column-init : goal.loop-column-init
-loop-column-init g c = columns-start _ c.args.columns.now
-
-pub loop-column-preserved : goal.loop-column-preserved
-loop-column-preserved g c =
-    let here : c.loop-column.column-index < length c.args.columns.now = omega arith in
-    columns-more _ _ _ _ c.loop-column.parting.now c.args.columns.now c.loop-column.column-index _ here c.loop-column.invariant
-    c.in_ok-put_parts.ensures
-
-pub returns-in_err-put_parts : goal.returns-in_err-put_parts
-returns-in_err-put_parts g c =
-    let here : c.loop-column.column-index < length c.args.columns.now = omega arith in
-    let p = err_from_is_err_and c.from_residual.result c.from_residual.ensures.1 in
-    rw p.1 (columns-front _ _ _ _ c.loop-column.parting.now c.args.columns.now c.loop-column.column-index _ here c.loop-column.invariant
-    c.in_err-put_parts.ensures)
-
-pub returns : goal.returns
-returns g c =
-    let past : length c.args.columns.now ≤ c.loop-column.column-index = omega arith in
-    ends c.put.result _ _ _ _ (10 ∷ [])
-    (columns-done _ _ _ c.loop-column.parting.now c.args.columns.now c.loop-column.column-index past c.loop-column.invariant) c.put.ensures
+pub returns-in-Ok : goal.returns-in-Ok
+returns-in-Ok g c =
+    gathered c.put.result _ _ _ _ (line (map column_text c.args.columns.now)) c.new-line.ensures c.in-Ok.ensures
+    (subst (Puts (g.W.Write.contents c.args.writer.now) (g.W.Write.contents c.put.new.writer) c.put.result) c.deref.ensures.0 c.put.ensures)

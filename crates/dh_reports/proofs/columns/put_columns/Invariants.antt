@@ -2,7 +2,7 @@ use Rattle.std.proofs.Common.{drop, map}
 use Rattle.dh_types.proofs.WritingLemmas.{Written}
 use Rattle.dh_reports.specs.Columns.{column_text, line}
 use Rattle.dh_reports.proofs.ColumnLemmas.{ahead}
-use Rattle.dh_reports.proofs.columns.put_line.Given as goal
+use Rattle.dh_reports.proofs.columns.put_columns.Given as goal
 
 abbrev pub invariant-loop-column : goal.invariant-loop-column
 invariant-loop-column g l =
