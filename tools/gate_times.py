@@ -70,8 +70,6 @@ def process(pid):
         memory = int(read(f'/proc/{pid}/statm').split()[1]) * PAGE
     except (OSError, IndexError):
         return None
-    if crate.endswith('_tests'):
-        crate = crate[:-len('_tests')]
     work = 'edits' if 'rt-edit-' in folder else 'proof'
     return crate, work, seconds, memory
 
