@@ -1,17 +1,17 @@
 #!/usr/bin/env bash
 # Times the lines of an office's day (1,000, 4,000 and 16,000 where not given), in memory and on a file, beside a Python script that does
-# the same job by its own sqlite3, a commit a command. A time is the least of three, in milliseconds. That both answer alike is checked.
+# the same job by its own sqlite3, a commit a command. A time is the least of five, in milliseconds. That both answer alike is checked.
 set -eu
 cd "$(dirname "$0")"
 ./program.sh lines nothing
 work=$(mktemp -d)
 trap 'rm -rf "$work"' EXIT
 
-# The least time of three of the command over the lines, whose answers go to the file of this name.
+# The least time of five of the command over the lines, whose answers go to the file of this name.
 least() {
     local answers=$1 least= start end time
     shift
-    for _ in 1 2 3; do
+    for _ in 1 2 3 4 5; do
         rm -f "$work"/file*
         start=$(date +%s%N)
         "$@" <"$work/lines" >"$work/$answers"
