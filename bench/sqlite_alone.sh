@@ -1,5 +1,5 @@
 #!/usr/bin/env bash
-# Prints the milliseconds of calls of the crate `sqlite` that the program can't do without, by themselves, on a file with so many leases
+# Prints the milliseconds of calls of the crate `sqlite` that take most of what the program does, by themselves, on a file with so many leases
 # (10,000 where not given) and ten charged months; beside those of Python's sqlite3. Opening is what a start has to do first, which checks the
 # trees and the references; rows are those of all tables; looks are what a branch of ten is owed from, four for each lease; indexes are those for
 # look-ups made anew, as in a migration; charges are one for each lease, fifty by a statement and a transaction, as in a run. Each is the least
