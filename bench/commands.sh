@@ -1,5 +1,5 @@
 #!/usr/bin/env bash
-# Prints the microseconds of each kind of command, and of a statement, over so many rows a table (1,000, 10,000 and 100,000 where not
+# Prints the microseconds of commands of each daily kind, and of a statement, over so many rows a table (1,000, 10,000 and 100,000 where not
 # given), in memory and on a file. Five hundred lines of each kind are told to an agency that was told the rows before; a time is
 # the mean of these, reading of the line included.
 set -eu

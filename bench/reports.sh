@@ -1,8 +1,8 @@
 #!/usr/bin/env bash
 # Prints the microseconds of an owner's statement, of what a branch is owed, and of the early end of a lease, by the program itself on a file
 # with so many leases (1,000 and 10,000 where not given), a hundred of each owner, and with 1, 10 and 120 months charged; beside what Python's
-# sqlite3 takes for the same looks and rows. The program's time is that of a batch of many such lines less that of an empty batch, each the
-# least of five; Python's is the least of three.
+# sqlite3 takes for the same looks and rows. The program's time is that of a batch of many such lines less that of an empty batch. Each is the
+# least of five.
 set -eu
 cd "$(dirname "$0")/.."
 . bench/timed.sh
@@ -37,7 +37,7 @@ for leases in ${*:-1000 10000}; do
         rm -f "$work"/*
         ./letting init --file "$work/office" --first 2025-01 >"$work/said"
         bench/reports.py lines "$leases" "$months" | ./letting batch --file "$work/office" >"$work/said"
-        for _ in 1 2 3; do
+        for _ in 1 2 3 4 5; do
             rm -f "$work/other"*
             bench/reports.py python "$leases" "$months" "$work/other" >>"$work/python"
         done

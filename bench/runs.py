@@ -8,6 +8,8 @@ runs.py leases LEASES           the same leases alone
 runs.py middle LEASES           prints half the number of batches of their run
 runs.py python LEASES [FILE]    makes the same tables, in memory or in FILE, and prints the microseconds of the run of the first
                                 month: its opening, its batches of fifty and its end, a transaction each
+runs.py recover LEASES FILE     makes the same tables in FILE with half of that run, opens FILE again, and prints the microseconds of
+                                checking its part rows against its charges, as `open` does, and of the rest of the run
 runs.py open FILE               prints the microseconds of opening FILE: its check by sqlite3, all rows, and the sums of each month and
                                 branch beside the part rows, which is some of what the program audits
 """
@@ -16,7 +18,7 @@ import sqlite3
 import sys
 import time
 
-from tables import made_tables
+from tables import made_tables, opened
 
 BRANCHES = 10
 BATCH = 50
@@ -87,36 +89,48 @@ def fill(conn, leases):
     conn.execute("COMMIT")
 
 
-def run(conn):
+def open_run(conn):
     conn.execute("BEGIN")
     conn.execute("INSERT INTO run VALUES (?, 'R-0', 0, 0, 0)", (FIRST_MONTH,))
     conn.execute("UPDATE meta SET next_month = ?", (FIRST_MONTH + 1,))
     conn.execute("COMMIT")
-    count = total = 0
-    for (branch,) in conn.execute("SELECT branch_no FROM branch ORDER BY branch_no").fetchall():
-        due = conn.execute("SELECT lease_no, start_day, lease.rent FROM lease JOIN property USING (property_no) "
-                           "WHERE branch_no = ? ORDER BY lease_no", (branch,)).fetchall()
-        of_branch = sum_of_branch = 0
-        for start in range(0, max(1, len(due)), BATCH):
-            batch = due[start:start + BATCH]
-            of_branch += len(batch)
-            sum_of_branch += sum(rent for _, _, rent in batch)
-            conn.execute("BEGIN")
-            conn.executemany("INSERT INTO charge VALUES (?, 0, ?, ?, ?)",
-                             [(lease, FIRST_MONTH, day, rent) for lease, day, rent in batch])
-            through = batch[-1][0] if batch else 0
-            if start == 0:
-                conn.execute("INSERT INTO part VALUES (?, ?, ?, ?, ?)", (FIRST_MONTH, branch, through, of_branch, sum_of_branch))
-                conn.execute("INSERT INTO part_fee VALUES (?, ?, 0, 0)", (FIRST_MONTH, branch))
-            else:
-                conn.execute("UPDATE part SET through_lease = ?, due_count = ?, due_total = ? WHERE month = ? AND branch_no = ?",
-                             (through, of_branch, sum_of_branch, FIRST_MONTH, branch))
-                conn.execute("UPDATE part_fee SET fee = 0, fee_total = 0 WHERE month = ? AND branch_no = ?", (FIRST_MONTH, branch))
-            conn.execute("COMMIT")
-        count += of_branch
-        total += sum_of_branch
+
+
+def post_batch(conn, branch, batch, part):
+    """The part row behind this batch, which is charged in a transaction; the one before it is None where this batch is the branch's first."""
+    _, count, total = part or (0, 0, 0)
+    after = (batch[-1][0] if batch else 0, count + len(batch), total + sum(rent for _, _, rent in batch))
     conn.execute("BEGIN")
-    conn.execute("UPDATE run SET due_count = ?, due_total = ?, closed = 1 WHERE month = ?", (count, total, FIRST_MONTH))
+    conn.executemany("INSERT INTO charge VALUES (?, 0, ?, ?, ?)", [(lease, FIRST_MONTH, day, rent) for lease, day, rent in batch])
+    if part is None:
+        conn.execute("INSERT INTO part VALUES (?, ?, ?, ?, ?)", (FIRST_MONTH, branch, *after))
+        conn.execute("INSERT INTO part_fee VALUES (?, ?, 0, 0)", (FIRST_MONTH, branch))
+    else:
+        conn.execute("UPDATE part SET through_lease = ?, due_count = ?, due_total = ? WHERE month = ? AND branch_no = ?",
+                     (*after, FIRST_MONTH, branch))
+        conn.execute("UPDATE part_fee SET fee = 0, fee_total = 0 WHERE month = ? AND branch_no = ?", (FIRST_MONTH, branch))
+    conn.execute("COMMIT")
+    return after
+
+
+def post(conn, most):
+    """Posts so many of the batches that are left, or all of them where there are no more."""
+    for (branch,) in conn.execute("SELECT branch_no FROM branch ORDER BY branch_no").fetchall():
+        part = conn.execute("SELECT through_lease, due_count, due_total FROM part WHERE month = ? AND branch_no = ?",
+                            (FIRST_MONTH, branch)).fetchone()
+        due = conn.execute("SELECT lease_no, start_day, lease.rent FROM lease JOIN property USING (property_no) "
+                           "WHERE branch_no = ? AND lease_no > ? ORDER BY lease_no", (branch, part[0] if part else 0)).fetchall()
+        for start in range(0, len(due) if part else max(1, len(due)), BATCH):
+            if most == 0:
+                return
+            part = post_batch(conn, branch, due[start:start + BATCH], part)
+            most -= 1
+
+
+def close_run(conn):
+    sums = conn.execute("SELECT sum(due_count), sum(due_total) FROM part WHERE month = ?", (FIRST_MONTH,)).fetchone()
+    conn.execute("BEGIN")
+    conn.execute("UPDATE run SET due_count = ?, due_total = ?, closed = 1 WHERE month = ?", (*sums, FIRST_MONTH))
     conn.execute("COMMIT")
 
 
@@ -124,16 +138,30 @@ def time_run(leases, path):
     conn = made_tables(path)
     fill(conn, leases)
     start = time.perf_counter()
-    run(conn)
+    open_run(conn)
+    post(conn, batches(leases))
+    close_run(conn)
     print(f"{(time.perf_counter() - start) * 1e6:.1f}")
     conn.close()
 
 
-def time_open(path):
+def time_recovery(leases, path):
+    conn = made_tables(path)
+    fill(conn, leases)
+    open_run(conn)
+    post(conn, batches(leases) // 2)
+    conn.close()
+    conn = opened(path)
     start = time.perf_counter()
-    conn = sqlite3.connect(path)
-    if conn.execute("PRAGMA integrity_check").fetchall() != [("ok",)] or conn.execute("PRAGMA foreign_key_check").fetchall():
-        sys.exit(f"{path} is damaged")
+    check_parts(conn, path)
+    post(conn, batches(leases))
+    close_run(conn)
+    print(f"{(time.perf_counter() - start) * 1e6:.1f}")
+    conn.close()
+
+
+def check_parts(conn, path):
+    """Fetches all rows, and compares the sums of each month and branch with the part rows."""
     tables = [name for (name,) in conn.execute("SELECT name FROM sqlite_schema WHERE type = 'table'")]
     rows = {name: conn.execute(f"SELECT * FROM {name}").fetchall() for name in tables}
     branch_of = {row[0]: row[9] for row in rows["property"]}
@@ -145,6 +173,14 @@ def time_open(path):
     for month, branch, _, count, total in rows["part"]:
         if sums.get((month, branch), (0, 0)) != (count, total):
             sys.exit(f"{path}: the part of {branch} does not add up")
+
+
+def time_open(path):
+    start = time.perf_counter()
+    conn = sqlite3.connect(path)
+    if conn.execute("PRAGMA integrity_check").fetchall() != [("ok",)] or conn.execute("PRAGMA foreign_key_check").fetchall():
+        sys.exit(f"{path} is damaged")
+    check_parts(conn, path)
     print(f"{(time.perf_counter() - start) * 1e6:.1f}")
     conn.close()
 
@@ -161,6 +197,8 @@ def main():
             print(batches(int(leases)) // 2)
         case ["python", leases, *path]:
             time_run(int(leases), path[0] if path else ":memory:")
+        case ["recover", leases, path]:
+            time_recovery(int(leases), path)
         case ["open", path]:
             time_open(path)
         case _:

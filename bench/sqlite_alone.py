@@ -2,7 +2,8 @@
 """Files for bench/sqlite_alone.sh, and what Python's own sqlite3 takes for the same calls.
 
 sqlite_alone.py make FILE LEASES      makes FILE of the second version with so many leases of ten branches, and the charges of ten months
-sqlite_alone.py python FILE LEASES    prints a row for each part: a name and the milliseconds
+sqlite_alone.py bare FILE             takes the indexes for look-ups out of it
+sqlite_alone.py python FILE [LEASES]  prints a row for each part: a name and the milliseconds; the opening alone where LEASES is left out
 sqlite_alone.py least FILE..          prints the least figure that these files have for each name, in the order of the first
 """
 
@@ -31,6 +32,22 @@ def make(path, leases):
         conn.execute("PRAGMA wal_checkpoint(TRUNCATE)")
 
 
+def index_texts():
+    return [text for text in texts_of() if text.startswith("CREATE INDEX")]
+
+
+def drop_indexes(conn):
+    for text in index_texts():
+        conn.execute(f"DROP INDEX {text.split()[2]}")
+
+
+def make_bare(path):
+    with closing(opened(path)) as conn:
+        drop_indexes(conn)
+        conn.execute("VACUUM")
+        conn.execute("PRAGMA wal_checkpoint(TRUNCATE)")
+
+
 @contextmanager
 def timed(name):
     start = time.perf_counter()
@@ -55,12 +72,10 @@ def look_at_branch(conn, leases):
 
 
 def make_indexes(conn):
-    texts = [text for text in texts_of() if text.startswith("CREATE INDEX")]
     conn.execute("BEGIN")
-    for text in texts:
-        conn.execute(f"DROP INDEX {text.split()[2]}")
+    drop_indexes(conn)
     with timed("indexes"):
-        for text in texts:
+        for text in index_texts():
             conn.execute(text)
     conn.execute("ROLLBACK")
 
@@ -77,6 +92,8 @@ def time_calls(path, leases):
     with timed("opening"):
         conn = checked(path)
     with closing(conn):
+        if leases is None:
+            return
         tables = [name for (name,) in conn.execute("SELECT name FROM sqlite_schema WHERE type = 'table'")]
         with timed("rows"):
             for name in tables:
@@ -102,8 +119,10 @@ def main(words):
     match words:
         case ["make", path, leases]:
             make(path, int(leases))
-        case ["python", path, leases]:
-            time_calls(path, int(leases))
+        case ["bare", path]:
+            make_bare(path)
+        case ["python", path, *leases]:
+            time_calls(path, int(leases[0]) if leases else None)
         case ["least", *paths]:
             put_least(paths)
         case _:
