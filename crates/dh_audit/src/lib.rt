@@ -13,7 +13,6 @@ mod fees;
 mod leases;
 mod months;
 mod open_months;
-mod open_run;
 mod open_shown;
 mod receipts;
 mod references;

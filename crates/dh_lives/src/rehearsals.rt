@@ -213,7 +213,7 @@ fn account_of(alloc: Global, rehearsed: Rehearsed, lives: &[Life]) -> Result<Acc
 }
 
 /// Plays the lives as [`rehearse`] does, and answers what came of each, with the files as a power cut behind the last of them left
-/// them. The faults are those of `rehearse`. What an account tells stands in docs/MODEL.md, "Rehearsals".
+/// them. The faults are those of `rehearse`. What an account tells is said by `AreAccountsOf`.
 pub fn live_through(alloc: Global, first: Month, lives: &[Life]) -> Result<Rehearsed, Fault>
     requires { first ≤ LAST_ENTRY_MONTH }
     ensures accounts { IfOk result (λ it. AreAccountsOf lives.now it.lives.items) }
@@ -226,7 +226,7 @@ pub fn live_through(alloc: Global, first: Month, lives: &[Life]) -> Result<Rehea
 }
 
 /// Plays the lives behind others, as [`live_through`] plays them all, and answers what came of these. It works on a copy of the files
-/// that the others left, so that many lives can be tried behind them. What an account tells stands in docs/MODEL.md, "Rehearsals".
+/// that the others left, so that many lives can be tried behind them. What an account tells is said by `AreAccountsOf`.
 pub fn live_behind(alloc: Global, behind: &Rehearsed, lives: &[Life]) -> Result<Rehearsed, Fault>
     ensures accounts { IfOk result (λ it. AreAccountsOf lives.now it.lives.items) }
     ensures cause { IfErr result IsFirstFault }
@@ -241,7 +241,7 @@ pub fn live_behind(alloc: Global, behind: &Rehearsed, lives: &[Life]) -> Result<
 /// begins with a power cut and a recovery, which its stop may hit; then its commands are told. A life that nothing cut ends with its
 /// files closed. In a life with a stop each fault counts as that stop. A fault of the making or of a life without a stop is answered,
 /// and so is one of reading the books in the end: 21 where memory ran out, 22 where the store failed or shows what an agency's
-/// tables cannot. What the account tells stands in docs/MODEL.md, "Rehearsals".
+/// tables cannot. What the account tells is said by `AreAccountsOf`.
 pub fn rehearse(alloc: Global, first: Month, lives: &[Life]) -> Result<Account, Fault>
     requires { first ≤ LAST_ENTRY_MONTH }
     ensures accounts { IfOk result (λ it. AreAccountsOf lives.now it.lives.items) }
@@ -254,7 +254,7 @@ pub fn rehearse(alloc: Global, first: Month, lives: &[Life]) -> Result<Account, 
 
 /// Plays the lives behind others, as [`rehearse`] plays them all, and answers the account of these, with the books that all of them
 /// make. It works on a copy of the files that the others left, so that many lives can be tried behind them. What the account tells
-/// stands in docs/MODEL.md, "Rehearsals".
+/// is said by `AreAccountsOf`.
 pub fn rehearse_behind(alloc: Global, behind: &Rehearsed, lives: &[Life]) -> Result<Account, Fault>
     ensures accounts { IfOk result (λ it. AreAccountsOf lives.now it.lives.items) }
     ensures books { IfOk result (λ it. is_some it.books ≡ ends_whole lives.now) }
