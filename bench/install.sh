@@ -10,7 +10,7 @@
 # - Files of which no copy is kept: damaged, edited, of the first version, empty, with a journal, never at rest.
 # - The lint of mandoc, man, systemd-analyze and shellcheck, where they are there.
 #
-# Prints each check that came otherwise, and how many there were. Ends with 0 if none did.
+# Prints each check that came otherwise, and how many there were. Ends with 0 if none did, and with 3 where the program is not built.
 set -u
 cd "$(dirname "$0")/.." || exit 1
 top=$PWD
