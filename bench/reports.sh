@@ -42,8 +42,8 @@ for leases in ${*:-1000 10000}; do
             bench/reports.py python "$leases" "$months" "$work/other" >>"$work/python"
         done
         start=$(least_of 5 /dev/null)
-        told "$leases" "$months" owner 400
-        told "$leases" "$months" arrears $((300000 / leases))
+        told "$leases" "$months" owner 20
+        told "$leases" "$months" arrears $((60000 / leases))
         [ "$months" != 1 ] || told "$leases" "$months" end 500
     done
 done
