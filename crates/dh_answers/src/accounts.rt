@@ -19,11 +19,11 @@ fn sum_at(sums: &BTreeMap<LeaseNo, u128>, lease: LeaseNo) -> u128
 }
 
 // Adds the pence to those of the lease.
-fn add(sums: &mut BTreeMap<LeaseNo, u128>, lease: LeaseNo, pence: u32) -> Result<(), AllocError>
+fn add(sums: &mut BTreeMap<LeaseNo, u128>, lease: LeaseNo, pence: u128) -> Result<(), AllocError>
     requires { sum_at sums.old lease + pence < 2 ^ 128 }
     ensures { OnOk result ((other : ℕ) → sum_at sums.new other ≡ sum_at sums.old other + (if nat_eq lease other then pence else 0)) }
 {
-    let sum = sum_at(sums, lease) + u128::from(pence);
+    let sum = sum_at(sums, lease) + pence;
     let _before = sums.insert(lease, sum)?;
     Ok(())
 }
@@ -33,13 +33,27 @@ fn charged(alloc: Global, books: &Books) -> Result<BTreeMap<LeaseNo, u128>, Allo
     ensures value { IfOk result (λ sums. (lease : ℕ) → sum_at sums lease ≡ total_of (charges_of books.now.books lease)) }
     ensures range { IfOk result (λ sums. (lease : ℕ) → sum_at sums lease ≤ MOST_RENT * 2 ^ 64) }
 {
-    let charges = books.charges();
+    let mut charges = books.charges();
     // No more than this many, so that their sum fits.
     let _count = charges.len();
     let mut sums = BTreeMap::new(alloc);
+    let Some(first) = charges.next() else {
+        return Ok(sums);
+    };
+    // They come lease by lease, so that those of one lease are put in at once.
+    let mut lease = first.lease;
+    let mut pence = u128::from(first.amount.pence());
     for charge in charges {
-        add(&mut sums, charge.lease, charge.amount.pence())?;
+        let more = u128::from(charge.amount.pence());
+        if charge.lease == lease {
+            pence += more;
+        } else {
+            add(&mut sums, lease, pence)?;
+            lease = charge.lease;
+            pence = more;
+        }
     }
+    add(&mut sums, lease, pence)?;
     Ok(sums)
 }
 
@@ -55,7 +69,7 @@ fn rent_paid(alloc: Global, books: &Books) -> Result<BTreeMap<LeaseNo, u128>, Al
     for receipt in receipts {
         let payment = receipt.payment;
         if payment.kind == ReceiptKind::Rent {
-            add(&mut sums, payment.lease, payment.amount.pence())?;
+            add(&mut sums, payment.lease, u128::from(payment.amount.pence()))?;
         }
     }
     Ok(sums)
