@@ -14,8 +14,8 @@ ghost use Rattle.dh_jobs.specs.Statuses.{IsFailed};
 use crate::printed::{heard, print_created, tell_fault};
 use crate::sites::{Site, leave};
 use crate::status::Status;
-use crate::store_jobs::{FileJob, begin, do_job};
-use dh_agency::{NotOpened, create};
+use crate::store_jobs::{FileJob, begin, do_job, make};
+use dh_agency::NotOpened;
 use dh_schema::fault_of;
 use dh_types::{EntryMonth, Fault};
 use sqlite::{Connection, Error, ErrorCode, FileFrom, FileStore, Start};
@@ -26,6 +26,11 @@ use std::io::{Read, Write};
 // Whether another has the file open.
 fn is_busy(error: &Error) -> bool {
     matches!(error, Error::SqliteFailure(ErrorCode::DatabaseBusy))
+}
+
+// Lets a store go as it is: nothing of its log goes into the database file.
+fn let_go<D: Disk + Drop>(store: FileStore<D>) {
+    drop(store.close());
 }
 
 // Opens the file at this path. An opening makes a file where there is none, so the path has to name the file still that was found there.
@@ -43,7 +48,8 @@ fn open_at<S: Start>(
             if site.admits(rt, &conn) {
                 return Ok(conn);
             }
-            leave(rt, path, site, conn);
+            leave(rt, path, site, &conn);
+            let_go(conn.into_store());
             Err(Fault::Store)
         }
         Err((error, left)) => {
@@ -76,7 +82,7 @@ fn close<D: Disk + Drop>(
         }
         Err((error, store)) => {
             site.clear(rt);
-            drop(store.close());
+            let_go(store);
             Err(fault_of(error))
         }
     }
@@ -153,8 +159,8 @@ fn make_and_close<D: Disk + Drop, W: Write>(
     ensures printed { Prints (IsMakingEnd first) (W.contents writer.old) (W.contents writer.new) result.0 }
     ensures ends { MakesOnFile conn first (W.contents writer.old) (W.contents writer.new) result.0 result.1 }
 {
-    match create(rt.alloc(), conn, first.month()) {
-        Ok(agency) => match close(rt, agency.into_store(), site) {
+    match make(rt.alloc(), conn, first) {
+        Ok(conn) => match close(rt, conn, site) {
             Ok(files) => (
                 heard(print_created(writer, first), Status::Done),
                 Some(files),
@@ -163,7 +169,7 @@ fn make_and_close<D: Disk + Drop, W: Write>(
         },
         Err(NotOpened { cause, conn }) => {
             site.clear(rt);
-            drop(conn.into_store().close());
+            let_go(conn.into_store());
             (tell_fault(writer, cause), None)
         }
     }

@@ -5,8 +5,7 @@ ghost use Rattle.dh_schema.specs.Faults.{IsFirstFault};
 
 use crate::places::{Identity, Place, is_there, look, take_back};
 use dh_types::Fault;
-use sqlite::{Connection, FileStore};
-use sqlite_disk::Disk;
+use sqlite::{Alter, Connection};
 
 /// What is at the path of a job.
 #[derive(Drop)]
@@ -41,11 +40,7 @@ impl<'a> Site<'a> {
     }
 
     /// Whether this store, which was opened at the path, is over what was found there. At the place of new tables it has to be blank.
-    pub(crate) fn admits<D: Disk + Drop>(
-        &self,
-        rt: &HostRuntime,
-        conn: &Connection<FileStore<D>>,
-    ) -> bool {
+    pub(crate) fn admits<S: Alter>(&self, rt: &HostRuntime, conn: &Connection<S>) -> bool {
         match self {
             Site::New(place) => place.is_there(rt) && is_blank(conn),
             Site::Found(path, file) => is_there(rt, path, *file),
@@ -61,22 +56,16 @@ impl<'a> Site<'a> {
 }
 
 // Whether no object is in the store.
-fn is_blank<D: Disk + Drop>(conn: &Connection<FileStore<D>>) -> bool {
+fn is_blank<S: Alter>(conn: &Connection<S>) -> bool {
     let schema = conn.schema();
     schema.tables.is_empty() && schema.indexes.is_empty() && schema.views.is_empty()
 }
 
-/// Lets a store go that was opened at this path and that the site does not admit. One with nothing in it was made by the opening, and is
-/// taken away.
-pub(crate) fn leave<D: Disk + Drop>(
-    rt: &HostRuntime,
-    path: &str,
-    site: &Site,
-    conn: Connection<FileStore<D>>,
-) {
-    if is_blank(&conn) {
+/// Leaves the path before a store is let go that was opened at it and that the site does not admit. One with nothing in it was made by the
+/// opening, and is taken away.
+pub(crate) fn leave<S: Alter>(rt: &HostRuntime, path: &str, site: &Site, conn: &Connection<S>) {
+    if is_blank(conn) {
         site.clear(rt);
         let _ = take_back(rt, path);
     }
-    drop(conn.into_store().close());
 }

@@ -1,14 +1,19 @@
 //! Jobs over a store: its tables are recovered, migrated, or taken and worked on, and the store is handed back.
 
-ghost use Rattle.std.specs.Prelude.{◌≡◌, ◌≤◌, ◌↔◌, IsTrue, pos};
+ghost use Rattle.std.specs.Prelude.{◌≡◌, ◌≤◌, ◌↔◌, Err, IfErr, IfOk, IsTrue, pos};
 ghost use Rattle.sqlite.specs.State.{HasCleanDisk};
 ghost use Rattle.sqlite.specs.Held.{state};
+ghost use Rattle.dh_types.specs.declared.reply.Fault.TheVariants as fault;
 ghost use Rattle.dh_types.specs.declared.reply.Refusal.TheVariants as refusal;
 ghost use Rattle.dh_types.specs.declared.version.Version.TheVariants.{First};
+ghost use Rattle.dh_model.specs.Books.{start};
+ghost use Rattle.dh_schema.specs.Faults.{IsFirstFault};
+ghost use Rattle.dh_schema.specs.Store.{Commits, IsBlank};
 ghost use Rattle.dh_runs.specs.declared.problem.Problem.TheVariants as problem;
 ghost use Rattle.dh_runs.specs.Taking.{CanBeTaken, IsProblemOf, IsResting};
 ghost use Rattle.dh_jobs.specs.Ends.{JobEnds, MendingEnds, MigrationEnds, NewLinesEnd, RecoveryEnds, TakingEnds};
 ghost use Rattle.dh_jobs.specs.Leaving.{IsKept, JobLeaves};
+ghost use Rattle.dh_jobs.specs.OnFile.{IsMade, IsUnmade};
 ghost use Rattle.dh_jobs.specs.Printed.{IsOfLines, IsRecoveryEnd, IsRefusedEnd, Prints, PrintsJob, PrintsWork};
 
 use crate::jobs::{Work, answer_lines, work_on};
@@ -17,7 +22,7 @@ use crate::service::answer_requests;
 use crate::status::Status;
 use dh_agency::{NotOpened, Problem, attach, create, migrate, recover, recover_1};
 use dh_http::Service;
-use dh_types::{EntryMonth, Refusal};
+use dh_types::{EntryMonth, Fault, Refusal};
 use sqlite::{Alter, Connection};
 use std::alloc::Global;
 use std::io::{Read, Write};
@@ -136,6 +141,24 @@ fn take<S: Alter, R: Read, W: Write>(
         }
         Err(NotOpened { cause, conn }) => (tell_problem(writer, cause), conn),
     }
+}
+
+/// Makes the tables of empty books that begin with this month. Fault 21 where memory runs out, and fault 22 where the store fails or is not
+/// blank.
+pub(crate) fn make<S: Alter>(
+    alloc: Global,
+    conn: Connection<S>,
+    first: EntryMonth,
+) -> Result<Connection<S>, NotOpened<Fault, S>>
+    ensures made { IfOk result (λ new. IsMade first (state S.Store new)) }
+    ensures left { IfOk result (λ new. Commits (state S.Store conn) (state S.Store new) (λ t. t ≡ start first)) }
+    ensures cause { IfErr result (λ e. IsFirstFault e.cause) }
+    ensures occupied { ¬ IsBlank (state S.Store conn) → result ≡ Err (record { cause = fault.Store; conn = conn }) }
+    ensures undone { IfErr result (λ e. IsUnmade (state S.Store conn) (state S.Store e.conn)) }
+    ensures crash { IfErr result (λ e. Commits (state S.Store conn) (state S.Store e.conn) (λ t. t ≡ start first)) }
+{
+    let agency = create(alloc, conn, first.month())?;
+    Ok(agency.into_store())
 }
 
 /// Answers lines from the beginning, over a store that has nothing yet.
