@@ -7,15 +7,14 @@ ghost use Rattle.dh_types.specs.declared.version.Version.TheVariants.{First};
 ghost use Rattle.dh_schema.specs.Store as store;
 ghost use Rattle.dh_schema.specs.Store.{IsReadyWith, tables};
 ghost use Rattle.dh_runs.specs.Taking.{CanBeTaken, HasVersion, IsResting, Sorts, Takes};
-ghost use Rattle.dh_migration.specs.Migrated.{migrated_state};
-ghost use Rattle.dh_migration.specs.Moved.{CanBeMigrated, IsMigrationProblem, IsNotMigrated, MovesOn, StaysAsItWas};
+ghost use Rattle.dh_runs.specs.Migrated.{migrated_state};
+ghost use Rattle.dh_runs.specs.Moved.{CanBeMigrated, IsMigrationProblem, IsNotMigrated, MovesOn, StaysAsItWas};
 ghost use Rattle.dh_agency.specs.Agency.{IsClean, LeavesItsTables, machine, shown_by};
 ghost use Rattle.dh_agency.specs.Taken.{Halts, TakesAsTheyAre, TakesForward};
 ghost use Rattle.dh_agency.specs.Told.{IsRecovered};
 
 use crate::{Agency, NotOpened};
-use dh_migration::migrate_in;
-use dh_runs::{Problem, recover_in};
+use dh_runs::{Problem, migrate_in, recover_in};
 use dh_types::Version;
 use sqlite::{Alter, Connection};
 use std::alloc::Global;

@@ -21,7 +21,7 @@ use Rattle.dh_runs.specs.declared.problem.Problem.{Problem}
 use Rattle.dh_runs.specs.declared.problem.Problem.TheVariants as problem
 use Rattle.dh_runs.specs.Taking.{CanBeTaken, GivesVersion, IsFirstProblem, IsProblemOf, IsRefusedFor, LeavesAsTheyWere, ReadsAsItDid}
 use Rattle.dh_runs.specs.Told.{IsRecovered, IsMidRecovery}
-use Rattle.dh_migration.specs.Moved.{IsMigrationProblem}
+use Rattle.dh_runs.specs.Moved.{IsMigrationProblem}
 use Rattle.dh_agency.specs.Taken.{TakesAsTheyAre, TakesForward}
 use Rattle.dh_agency.specs.Seat.{Seat}
 use Rattle.dh_agency.specs.Agency.{IsClean, machine, shown_by, stand, stand_of}

@@ -21,8 +21,8 @@ use Rattle.dh_runs.specs.declared.problem.Problem.{Problem}
 use Rattle.dh_runs.specs.declared.problem.Problem.TheVariants as problem
 use Rattle.dh_runs.specs.Taking.{BreaksRule, CanBeTaken, IsProblemOf, IsRefusedFor}
 use Rattle.dh_runs.specs.Told.{IsRecovered}
-use Rattle.dh_migration.specs.Migrated.{migrated_state}
-use Rattle.dh_migration.specs.Moved.{CanBeMigrated, IsNotMigrated, StaysAsItWas}
+use Rattle.dh_runs.specs.Migrated.{migrated_state}
+use Rattle.dh_runs.specs.Moved.{CanBeMigrated, IsNotMigrated, StaysAsItWas}
 use Rattle.dh_agency.specs.Taken.{TakesAsTheyAre, TakesForward}
 use Rattle.dh_agency.specs.Agency.{stand_of}
 use Rattle.dh_fields.specs.Lines.{Fields}

@@ -6,7 +6,7 @@ use Rattle.dh_model.specs.Books.{State}
 use Rattle.dh_schema.specs.Store.{Leaves, LeavesItsTables, tables}
 use Rattle.dh_schema.specs.Tables.{IsSound}
 use Rattle.dh_runs.specs.Taking.{LeavesAsTheyWere}
-use Rattle.dh_migration.specs.Moved.{MovesOn}
+use Rattle.dh_runs.specs.Moved.{MovesOn}
 use Rattle.dh_agency.specs.Taken.{TakesForward}
 use Rattle.dh_agency.specs.Agency.{stand_of}
 use Rattle.dh_fields.specs.Lines.{Fields}

@@ -12,7 +12,7 @@ use Rattle.dh_schema.specs.Faults.{IsFirstFault}
 use Rattle.dh_runs.specs.declared.problem.Problem.{Problem}
 use Rattle.dh_runs.specs.declared.problem.Problem.TheVariants as problem
 use Rattle.dh_runs.specs.Taking.{IsOfTables}
-use Rattle.dh_migration.specs.Moved.{IsMigrationProblem}
+use Rattle.dh_runs.specs.Moved.{IsMigrationProblem}
 use Rattle.dh_lines.specs.Batch.{PutsBehind}
 use Rattle.dh_http.specs.declared.listener.Service.{Service}
 use Rattle.dh_http.specs.declared.listener.Unserved.{Unserved}

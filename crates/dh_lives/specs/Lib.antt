@@ -1,2 +1,7 @@
 pub mod Causes
 pub mod Lives
+pub mod Calls
+pub mod Histories
+pub mod HistoryLaws
+pub mod Migrations
+pub mod Answered

@@ -1,9 +1,14 @@
-//! Rehearsals of stops: lives of an agency on disks in memory, one of which may stop in the middle of a life. Read [`rehearse`] first.
+//! The lives of an agency, with the stops between and within them: as the events that the laws speak of, with the theorem of their
+//! histories ([`histories`]), and rehearsed on disks in memory, one of which may stop in the middle of a life ([`rehearse`]).
 #![tactic(auto)]
 
+pub mod answers;
+pub mod calls;
 mod cause;
+pub mod crashes;
 mod disks;
 mod files;
+pub mod histories;
 mod lives;
 mod rehearsals;
 mod work;

@@ -30,7 +30,7 @@ use Rattle.dh_schema.proofs.Keyed.{books_are_keyed, sound_tables_show_their_run}
 use Rattle.dh_runs.specs.Closing.{IsOpenMonth, IsSumOfOpen, sum_of_parts, sum_over, with_run, with_sum}
 use Rattle.dh_schema.specs.Putting.{Puts}
 use Rattle.dh_runs.proofs.PartSums.{parts_are_charges}
-use Rattle.dh_access.proofs.Putting.{IsThere, amended}
+use Rattle.dh_schema.proofs.Putting.{IsThere, amended}
 
 -- a run of which no batch is left is open
 pub under_way : (books : Books) (run : Option OpenRun) → IsAtItsEnd books run → IsUnderWay run

@@ -11,3 +11,7 @@ pub mod Stages
 pub mod Carried
 pub mod Taken
 pub mod RunFound
+pub mod Sound
+pub mod Grown
+pub mod EachFee
+pub mod Moving

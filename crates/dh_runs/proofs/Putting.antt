@@ -25,7 +25,7 @@ use Rattle.dh_schema.specs.Tables.{version_of_tables}
 use Rattle.dh_schema.proofs.Crashing.{survives_both}
 use Rattle.dh_schema.proofs.EachKind.{all_since}
 use Rattle.dh_schema.proofs.Keyed.{keyed}
-use Rattle.dh_access.proofs.Putting.{IsThere, Means, keeps_both}
+use Rattle.dh_schema.proofs.Putting.{IsThere, Means, keeps_both}
 use Rattle.dh_schema.specs.Putting.{Puts, TurnsBooks}
 use Rattle.dh_runs.specs.Putting.{with_fees, with_part}
 

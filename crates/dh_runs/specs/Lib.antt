@@ -9,3 +9,5 @@ pub mod Told
 pub mod Taking
 pub mod Taken
 pub mod Problems
+pub mod Migrated
+pub mod Moved

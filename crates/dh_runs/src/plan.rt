@@ -11,20 +11,19 @@ ghost use Rattle.dh_model.specs.Whole.{batches_shown};
 ghost use Rattle.dh_leases.specs.Plans.{HaveTheLeases, IsPlanOf, IsPlanned};
 ghost use Rattle.dh_schema.specs.Faults.{IsFirstFault};
 ghost use Rattle.dh_schema.specs.Store.{IsReady, Leaves, StaysReady, tables};
-ghost use Rattle.dh_access.specs.Months.{IsReadyIn, IsReadyOf};
-ghost use Rattle.dh_access.specs.Reading.{OnlyReads};
+ghost use Rattle.dh_schema.specs.Months.{IsReadyIn, IsReadyOf};
+ghost use Rattle.dh_schema.specs.Reading.{OnlyReads};
 ghost use Rattle.dh_runs.specs.Batches.{CanBePosted, HasRoom};
 ghost use Rattle.dh_runs.specs.Planning.{with_branches};
 
-use dh_access::{
-    find_open_run, look, look_at_all, look_at_later, look_at_lettings, months_now, no_rows,
-    no_rows_of,
-};
 use dh_books::Books;
 use dh_leases::{Plan, batches_for, plan_of};
 use dh_model::OpenRun;
 use dh_rows::Meta;
-use dh_schema::StoreFault;
+use dh_schema::{
+    StoreFault, find_open_run, look, look_at_all, look_at_later, look_at_lettings, months_now,
+    no_rows, no_rows_of,
+};
 use dh_tables::PartsOfMonth;
 use dh_types::{Branch, BranchFee, EntryMonth, Version};
 use sqlite::{Alter, Connection};

@@ -11,12 +11,11 @@ ghost use Rattle.dh_laws.specs.Batches.{IsAtItsEnd, IsUnderWay, closed_state, su
 ghost use Rattle.dh_laws.specs.StateTables.{IsStateInOrder};
 ghost use Rattle.dh_schema.specs.Faults.{IsFirstFault};
 ghost use Rattle.dh_schema.specs.Store.{IsReady, IsReadyWith, Leaves, StaysReady, tables};
-ghost use Rattle.dh_access.specs.Reading.{OnlyReads};
+ghost use Rattle.dh_schema.specs.Reading.{OnlyReads};
 ghost use Rattle.dh_runs.specs.Closing.{IsOpenMonth, IsSumOfOpen, IsTooMuch, sum_of_parts};
 
-use dh_access::{find_open_run, look, months_now, no_rows};
 use dh_books::Books;
-use dh_schema::{Put, StoreFault, commit};
+use dh_schema::{Put, StoreFault, commit, find_open_run, look, months_now, no_rows};
 use dh_tables::{PartsOfMonth, update};
 use dh_types::{EntryMonth, Pence, RunSum};
 use dh_values::limits::MOST_PENCE;

@@ -11,10 +11,9 @@ ghost use Rattle.dh_laws.specs.Telling.{begun};
 ghost use Rattle.dh_schema.specs.Faults.{IsFirstFault};
 ghost use Rattle.dh_schema.specs.Store.{IsReady, IsReadyWith, Leaves, StaysReady, tables};
 
-use dh_access::apply;
 use dh_laws::facts::accepted_changes_fit;
 use dh_model::Change;
-use dh_schema::StoreFault;
+use dh_schema::{StoreFault, apply};
 use dh_types::{Pence, Run, RunOrder};
 use sqlite::{Alter, Connection};
 use std::alloc::Global;

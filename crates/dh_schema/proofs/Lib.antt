@@ -8,3 +8,10 @@ pub mod OfKind
 pub mod FirstTables
 pub mod Versions
 pub mod ReadTables
+pub mod LastRun
+pub mod Later
+pub mod MonthsStay
+pub mod Taken
+pub mod Putting
+pub mod Editing
+pub mod ReadsInTurn

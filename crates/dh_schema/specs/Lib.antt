@@ -7,3 +7,7 @@ pub mod Faults
 pub mod LoadFaults
 pub mod TableLaws
 pub use Rattle.dh_tables.specs.Kinds
+pub mod Reading
+pub mod Months
+pub mod Looked
+pub mod Changes

@@ -1,8 +1,11 @@
-//! The agency's tables: how they are made, what their rows mean, and reading them. Read [`install`] and [`load`] first.
+//! The agency's tables: how they are made, what their rows mean, and how they are read and written: all of them ([`install`],
+//! [`load`]), rows of a table put into books ([`look`]), the run that is open ([`find_open_run`]), and one change in one transaction
+//! ([`apply`]). Whatever reads rows for a command, a question or a run does so by [`look`].
 #![tactic(auto)]
 
 mod all_tables;
 mod by_key;
+mod changes;
 mod creation;
 mod fault;
 mod file_version;
@@ -10,10 +13,12 @@ mod keys;
 mod laws;
 mod load_fault;
 mod loaded_books;
+mod looks;
 mod open_run;
 mod transaction;
 
 pub use by_key::{KeyedRecord, find};
+pub use changes::apply;
 pub use creation::install;
 pub use fault::{StoreFault, fault_of};
 pub use file_version::FileVersion;
@@ -22,4 +27,8 @@ pub use laws::{
 };
 pub use load_fault::LoadFault;
 pub use loaded_books::{load, load_1, load_tables, version};
+pub use looks::{
+    find_open_run, look, look_at_all, look_at_later, look_at_lettings, look_later, months_now,
+    no_rows, no_rows_of,
+};
 pub use transaction::{Put, commit};

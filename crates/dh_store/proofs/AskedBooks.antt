@@ -10,8 +10,8 @@ use Rattle.dh_tables.specs.Calls.{CommitsNothing}
 use Rattle.dh_schema.specs.Store.{StaysReady, tables}
 use Rattle.dh_schema.proofs.Crashing.{survives_both}
 use Rattle.dh_store.specs.AnsweredFrom.{HasNoAccounts}
-use Rattle.dh_access.specs.Looked.{AreBoth}
-use Rattle.dh_access.specs.Reading.{OnlyReads}
+use Rattle.dh_schema.specs.Looked.{AreBoth}
+use Rattle.dh_schema.specs.Reading.{OnlyReads}
 
 -- the tables are as they were, nothing is committed, and this holds
 pub record Along (old now : State) (Held : Type 0) : Type 0 where

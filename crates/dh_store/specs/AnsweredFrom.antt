@@ -13,7 +13,7 @@ use Rattle.dh_model.specs.Whole.{rows_where}
 use Rattle.dh_model.specs.Checks.{is_same_text}
 use Rattle.dh_model.specs.Runs.{leases_of_branch}
 use Rattle.dh_laws.specs.AskedAbout.{asked_about, charged_by, leases_at, leases_of_owner, with_accounts}
-use Rattle.dh_access.specs.Looked.{AreBoth}
+use Rattle.dh_schema.specs.Looked.{AreBoth}
 
 module _ (books : Books) where
   -- the owner, the owner's properties, the leases of these, and what was charged on these in the month

@@ -8,7 +8,7 @@ use Rattle.dh_types.specs.declared.lease.LeaseTerms.{LeaseTerms}
 use Rattle.dh_model.specs.Books.{State}
 use Rattle.dh_model.specs.Whole.{rows_where}
 use Rattle.dh_laws.specs.Looks.{is_beside, is_some_beside, looked_at, manager_in, no_rows, properties_beside, registration_for}
-use Rattle.dh_access.specs.Looked.{AreBoth}
+use Rattle.dh_schema.specs.Looked.{AreBoth}
 
 -- the months and the version of the tables, and no rows
 abbrev pub bare : State → State

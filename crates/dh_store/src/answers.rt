@@ -22,19 +22,18 @@ ghost use Rattle.dh_model.specs.Whole.{rows_where};
 ghost use Rattle.dh_laws.specs.AskedAbout.{account_of, asked_about, charged_by, let_or_vacant, with_accounts};
 ghost use Rattle.dh_schema.specs.Faults.{IsFirstFault};
 ghost use Rattle.dh_schema.specs.Store.{IsReady, Leaves, StaysReady, tables};
-ghost use Rattle.dh_access.specs.Looked.{AreBoth};
+ghost use Rattle.dh_schema.specs.Looked.{AreBoth};
 ghost use Rattle.dh_store.specs.AnsweredFrom.{Fills, HasNoAccounts, TakesLeases, answered_from, charged_in, let_by};
-ghost use Rattle.dh_access.specs.Months.{IsReadyIn, IsReadyOf};
-ghost use Rattle.dh_access.specs.Reading.{OnlyReads};
+ghost use Rattle.dh_schema.specs.Months.{IsReadyIn, IsReadyOf};
+ghost use Rattle.dh_schema.specs.Reading.{OnlyReads};
 
 use crate::endings::held_leases;
-use dh_access::{
-    find_open_run, look, look_at_all, look_at_lettings, look_later, months_now, no_rows,
-};
 use dh_answers::{answer, is_put_off};
 use dh_books::Books;
 use dh_rows::Meta;
-use dh_schema::StoreFault;
+use dh_schema::{
+    StoreFault, find_open_run, look, look_at_all, look_at_lettings, look_later, months_now, no_rows,
+};
 use dh_tables::{
     BranchNumbered, ChargeOf, ChargesOfLease, ClientNumbered, FeesOfMonth, LeaseNumbered,
     LeasesOfProperty, OwnerNumbered, PartsOfMonth, PropertiesOfBranch, PropertiesOfOwner,

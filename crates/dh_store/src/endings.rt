@@ -8,12 +8,11 @@ ghost use Rattle.sqlite.specs.Held.{state};
 ghost use Rattle.dh_model.specs.Whole.{rows_where};
 ghost use Rattle.dh_schema.specs.Faults.{IsFirstFault};
 ghost use Rattle.dh_schema.specs.Store.{tables};
-ghost use Rattle.dh_access.specs.Months.{IsReadyOf};
-ghost use Rattle.dh_access.specs.Reading.{OnlyReads};
+ghost use Rattle.dh_schema.specs.Months.{IsReadyOf};
+ghost use Rattle.dh_schema.specs.Reading.{OnlyReads};
 
-use dh_access::look_later;
 use dh_books::Books;
-use dh_schema::StoreFault;
+use dh_schema::{StoreFault, look_later};
 use dh_tables::EndingOf;
 use dh_types::{Lease, Version};
 use sqlite::{Alter, Connection};

@@ -7,5 +7,5 @@ mod endings;
 mod verdicts;
 
 pub use answers::look_up;
-pub use dh_access::apply;
+pub use dh_schema::apply;
 pub use verdicts::ask;

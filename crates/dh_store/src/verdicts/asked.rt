@@ -8,15 +8,14 @@ ghost use Rattle.dh_model.specs.Verdicts.{verdict_on};
 ghost use Rattle.dh_laws.specs.Looks.{month_open};
 ghost use Rattle.dh_schema.specs.Faults.{IsFirstFault};
 ghost use Rattle.dh_schema.specs.Store.{IsReady, Leaves, StaysReady, tables};
-ghost use Rattle.dh_access.specs.Months.{IsReadyIn};
-ghost use Rattle.dh_access.specs.Reading.{OnlyReads};
+ghost use Rattle.dh_schema.specs.Months.{IsReadyIn};
+ghost use Rattle.dh_schema.specs.Reading.{OnlyReads};
 
 use crate::verdicts::facts::{gather_into, open_month};
-use dh_access::months_now;
 use dh_books::Books;
 use dh_model::{OpenRun, Verdict};
 use dh_rows::Meta;
-use dh_schema::StoreFault;
+use dh_schema::{StoreFault, months_now};
 use dh_types::Command;
 use dh_verdicts::{Facts, decide_on, open_refusal};
 use sqlite::{Alter, Connection};

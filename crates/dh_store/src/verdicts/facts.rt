@@ -7,19 +7,18 @@ ghost use Rattle.sqlite.specs.Held.{state};
 ghost use Rattle.dh_laws.specs.Looks.{Counts, IsCutOf, month_open};
 ghost use Rattle.dh_verdicts.specs.Seen.{facts_of};
 ghost use Rattle.dh_schema.specs.Store.{IsReady, tables};
-ghost use Rattle.dh_access.specs.Months.{IsReadyIn, IsReadyOf};
-ghost use Rattle.dh_access.specs.Reading.{OnlyReads};
+ghost use Rattle.dh_schema.specs.Months.{IsReadyIn, IsReadyOf};
+ghost use Rattle.dh_schema.specs.Reading.{OnlyReads};
 ghost use Rattle.dh_store.specs.Gathered.{Gathers, bare};
 
 use crate::verdicts::rows::{
     at_end, at_fee, at_inspection, at_lease, at_property, at_receipt, at_register, at_run,
     at_staff, at_viewing, managed,
 };
-use dh_access::{find_open_run, look};
 use dh_books::Books;
 use dh_model::OpenRun;
 use dh_rows::Meta;
-use dh_schema::StoreFault;
+use dh_schema::{StoreFault, find_open_run, look};
 use dh_tables::{
     BranchNumbered, ClientNumbered, OwnerNumbered, PropertyNumbered, ViewingOf, last_receipt,
 };

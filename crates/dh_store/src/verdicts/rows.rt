@@ -9,15 +9,14 @@ ghost use Rattle.dh_model.specs.Books.{State};
 ghost use Rattle.dh_model.specs.Checks.{is_same_text};
 ghost use Rattle.dh_model.specs.Whole.{rows_where};
 ghost use Rattle.dh_schema.specs.Store.{IsReady};
-ghost use Rattle.dh_access.specs.Looked.{AreBoth};
-ghost use Rattle.dh_access.specs.Months.{IsReadyOf};
-ghost use Rattle.dh_access.specs.Reading.{OnlyReads};
+ghost use Rattle.dh_schema.specs.Looked.{AreBoth};
+ghost use Rattle.dh_schema.specs.Months.{IsReadyOf};
+ghost use Rattle.dh_schema.specs.Reading.{OnlyReads};
 ghost use Rattle.dh_store.specs.Gathered.{Gathers, with_endings, with_leases, with_managed, with_registration};
 
 use crate::endings::{held_leases, look_at_endings_of};
-use dh_access::{look, look_later};
 use dh_books::Books;
-use dh_schema::StoreFault;
+use dh_schema::{StoreFault, look, look_later};
 use dh_tables::{
     BranchNumbered, ClientNumbered, DepositsOfLease, EndingOf, FeeOfBranch, InspectionOf,
     LeaseNumbered, LeasesOfClientFrom, LeasesOfProperty, MemberNumbered, OwnerNumbered,

@@ -2,7 +2,7 @@ use Rattle.std.proofs.Common.{◌∙◌, arith}
 use Rattle.sqlite.specs.State.{HasCleanDisk}
 use Rattle.sqlite.specs.Held.{state}
 use Rattle.dh_schema.proofs.Crashing.{survives_both, unchanged_leaves}
-use Rattle.dh_access.proofs.MonthsStay.{months_stay, version_stays}
+use Rattle.dh_schema.proofs.MonthsStay.{months_stay, version_stays}
 use Rattle.dh_runs.proofs.plan.plan_run.Goals as goal
 
 pub run_now-requires : goal.run_now-requires

@@ -2,7 +2,7 @@ use Rattle.std.proofs.Common.{refl}
 use Rattle.sqlite.specs.Held.{state}
 use Rattle.dh_model.specs.Kinds.{Charges}
 use Rattle.dh_runs.specs.Putting.{with_charges}
-use Rattle.dh_access.proofs.Putting.{added}
+use Rattle.dh_schema.proofs.Putting.{added}
 use Rattle.dh_runs.proofs.rows.put_bulk.Goals as goal
 
 pub insert_bulk-requires-clause-kept : goal.insert_bulk-requires-clause-kept

@@ -2,7 +2,7 @@ use Rattle.std.proofs.Common.{refl}
 use Rattle.sqlite.specs.Held.{state}
 use Rattle.dh_model.specs.Kinds.{Charges}
 use Rattle.dh_runs.specs.Putting.{with_charge}
-use Rattle.dh_access.proofs.Putting.{added}
+use Rattle.dh_schema.proofs.Putting.{added}
 use Rattle.dh_runs.proofs.rows.put_charge.Goals as goal
 
 pub insert-requires-clause-kept : goal.insert-requires-clause-kept

@@ -12,7 +12,7 @@ use Rattle.dh_sql.specs.Changes.{AreNew}
 use Rattle.dh_tables.specs.declared.bulk.TheConstants.{BULK}
 use Rattle.dh_schema.specs.Store.{IsWriting, tables}
 use Rattle.dh_schema.proofs.Crashing.{survives_both}
-use Rattle.dh_access.proofs.Putting.{keeps_both, nothing_put, puts_none}
+use Rattle.dh_schema.proofs.Putting.{keeps_both, nothing_put, puts_none}
 use Rattle.dh_runs.specs.Putting.{with_charges}
 use Rattle.dh_runs.proofs.EachCharge.{new_in_parts, with_both}
 use Rattle.dh_runs.proofs.rows.put_charges.Goals as goal

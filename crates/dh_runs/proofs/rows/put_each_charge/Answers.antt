@@ -9,7 +9,7 @@ use Rattle.dh_model.specs.Books.{Books}
 use Rattle.dh_model.specs.Runs.{charge_key}
 use Rattle.dh_schema.specs.Store.{tables}
 use Rattle.dh_schema.specs.Putting.{Puts, TurnsBooks}
-use Rattle.dh_access.proofs.Putting.{puts_none, nothing_put}
+use Rattle.dh_schema.proofs.Putting.{puts_none, nothing_put}
 use Rattle.dh_runs.specs.Putting.{with_charge}
 use Rattle.dh_runs.proofs.EachCharge.{is_new, with_all, with_each, with_each_more}
 use Rattle.dh_runs.proofs.Putting.{puts_both}

@@ -3,7 +3,7 @@ use Rattle.sqlite.specs.Held.{state}
 use Rattle.dh_model.specs.Runs.{part_fee_key}
 use Rattle.dh_model.specs.Kinds.{PartFees}
 use Rattle.dh_runs.specs.Putting.{with_fees}
-use Rattle.dh_access.proofs.Putting.{added, amended}
+use Rattle.dh_schema.proofs.Putting.{added, amended}
 use Rattle.dh_runs.proofs.Putting.{fee_added, fee_new, fee_there, later_writing}
 use Rattle.dh_runs.proofs.rows.put_fee.Goals as goal
 

@@ -4,7 +4,7 @@ use Rattle.dh_model.specs.Runs.{part_key}
 use Rattle.dh_model.specs.Kinds.{Parts}
 use Rattle.dh_schema.specs.Store.{tables}
 use Rattle.dh_runs.specs.Putting.{with_part}
-use Rattle.dh_access.proofs.Putting.{added, amended}
+use Rattle.dh_schema.proofs.Putting.{added, amended}
 use Rattle.dh_runs.proofs.Putting.{part_new, part_there, with_new_part}
 use Rattle.dh_runs.proofs.rows.put_part.Goals as goal
 

@@ -5,7 +5,7 @@ use Rattle.dh_leases.specs.Plans.{some_row}
 use Rattle.dh_schema.specs.Store.{tables}
 use Rattle.dh_schema.specs.Putting.{TurnsBooks}
 use Rattle.dh_runs.specs.Putting.{with_fees}
-use Rattle.dh_access.proofs.Putting.{nothing_put}
+use Rattle.dh_schema.proofs.Putting.{nothing_put}
 use Rattle.dh_runs.proofs.Putting.{no_fees}
 use Rattle.dh_runs.proofs.rows.put_some_fee.Goals as goal
 

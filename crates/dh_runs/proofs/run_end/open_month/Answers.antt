@@ -7,7 +7,7 @@ use Rattle.dh_model.specs.Runs.{batch_size}
 use Rattle.dh_model.specs.Whole.{batches_shown, open_row}
 use Rattle.dh_laws.specs.Batches.{IsUnderWay}
 use Rattle.dh_schema.specs.Store.{tables}
-use Rattle.dh_access.proofs.MonthsStay.{months_stay}
+use Rattle.dh_schema.proofs.MonthsStay.{months_stay}
 use Rattle.dh_runs.proofs.run_end.open_month.Goals as goal
 
 pub find_open_run-requires : goal.find_open_run-requires

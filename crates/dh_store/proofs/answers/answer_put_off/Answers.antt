@@ -5,7 +5,7 @@ use Rattle.dh_types.specs.declared.reply.Refusal.TheVariants.{RunOpen}
 use Rattle.dh_types.specs.Reports.{NoReport, report_of}
 use Rattle.dh_model.specs.Answers.{report}
 use Rattle.dh_model.specs.Books.{State}
-use Rattle.dh_access.proofs.MonthsStay.{version_stays}
+use Rattle.dh_schema.proofs.MonthsStay.{version_stays}
 use Rattle.dh_store.proofs.PutOff.{none_there, refused_for}
 use Rattle.dh_store.proofs.answers.answer_put_off.Goals as goal
 

@@ -1,5 +1,5 @@
 use Rattle.dh_model.specs.Books.{State}
-use Rattle.dh_access.specs.Looked.{with_lettings}
+use Rattle.dh_schema.specs.Looked.{with_lettings}
 use Rattle.dh_store.proofs.AskedBooks.{both_then}
 use Rattle.dh_store.proofs.answers.gather.Goals as goal
 

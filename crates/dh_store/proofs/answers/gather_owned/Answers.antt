@@ -1,6 +1,6 @@
 use Rattle.std.proofs.Common.{refl}
 use Rattle.dh_laws.specs.AskedAbout.{is_owned_by}
-use Rattle.dh_access.proofs.ReadsInTurn.{reads_then}
+use Rattle.dh_schema.proofs.ReadsInTurn.{reads_then}
 use Rattle.dh_store.proofs.answers.gather_owned.Goals as goal
 
 pub returns-clause-gathered : goal.returns-clause-gathered

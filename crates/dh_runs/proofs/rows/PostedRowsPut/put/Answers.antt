@@ -10,7 +10,7 @@ use Rattle.dh_leases.specs.Plans.{some_row}
 use Rattle.dh_sql.specs.Changes.{AreNew}
 use Rattle.dh_schema.specs.Putting.{TurnsBooks}
 use Rattle.dh_schema.specs.Store.{tables}
-use Rattle.dh_access.proofs.Putting.{puts_none}
+use Rattle.dh_schema.proofs.Putting.{puts_none}
 use Rattle.dh_runs.specs.Putting.{with_charges, with_fees, with_part}
 use Rattle.dh_runs.proofs.EachCharge.{each_new}
 use Rattle.dh_runs.proofs.Putting.{fee_still, puts_both}

@@ -5,7 +5,7 @@ use Rattle.dh_model.specs.Books.{State}
 use Rattle.dh_model.specs.Verdicts.{verdict_on}
 use Rattle.dh_laws.specs.Looks.{month_open}
 use Rattle.dh_schema.specs.Store.{tables}
-use Rattle.dh_access.proofs.MonthsStay.{months_stay}
+use Rattle.dh_schema.proofs.MonthsStay.{months_stay}
 use Rattle.dh_store.proofs.Shown.{refused_in}
 use Rattle.dh_store.proofs.verdicts.asked.ask_tables.Goals as goal
 

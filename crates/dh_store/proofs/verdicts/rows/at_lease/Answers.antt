@@ -1,6 +1,6 @@
 use Rattle.std.proofs.Common.{refl}
-use Rattle.dh_access.proofs.MonthsStay.{version_stays}
-use Rattle.dh_access.proofs.ReadsInTurn.{reads_then}
+use Rattle.dh_schema.proofs.MonthsStay.{version_stays}
+use Rattle.dh_schema.proofs.ReadsInTurn.{reads_then}
 use Rattle.dh_store.proofs.verdicts.rows.at_lease.Goals as goal
 
 pub leases_with_endings-requires : goal.leases_with_endings-requires

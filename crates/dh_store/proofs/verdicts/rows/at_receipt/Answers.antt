@@ -1,7 +1,7 @@
 use Rattle.std.proofs.Common.{refl}
 use Rattle.dh_types.specs.declared.lease.Receipt.{Receipt}
 use Rattle.dh_model.specs.Checks.{is_same_text}
-use Rattle.dh_access.proofs.ReadsInTurn.{reads_then}
+use Rattle.dh_schema.proofs.ReadsInTurn.{reads_then}
 use Rattle.dh_store.proofs.verdicts.rows.at_receipt.Goals as goal
 
 pub returns-clause-gathered : goal.returns-clause-gathered

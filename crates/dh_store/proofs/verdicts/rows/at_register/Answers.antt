@@ -1,5 +1,5 @@
 use Rattle.std.proofs.Common.{refl}
-use Rattle.dh_access.proofs.ReadsInTurn.{reads_then}
+use Rattle.dh_schema.proofs.ReadsInTurn.{reads_then}
 use Rattle.dh_store.proofs.verdicts.rows.at_register.Goals as goal
 
 pub returns-clause-gathered : goal.returns-clause-gathered

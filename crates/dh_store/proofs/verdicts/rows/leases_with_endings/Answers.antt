@@ -12,8 +12,8 @@ use Rattle.dh_schema.proofs.Keyed.{keyed}
 use Rattle.dh_schema.proofs.ReadTables.{on_ok}
 use Rattle.dh_store.specs.Gathered.{with_leases}
 use Rattle.dh_store.proofs.EndingsBeside.{endings_beside}
-use Rattle.dh_access.proofs.MonthsStay.{version_stays}
-use Rattle.dh_access.proofs.ReadsInTurn.{reads_then}
+use Rattle.dh_schema.proofs.MonthsStay.{version_stays}
+use Rattle.dh_schema.proofs.ReadsInTurn.{reads_then}
 use Rattle.dh_store.proofs.verdicts.rows.leases_with_endings.Goals as goal
 
 under : {X E : Type 0} (C A B : Type 0) (r : Result X E) → (C → OnOk r A) → (C → OnOk r B) → OnOk r (C → A × B)

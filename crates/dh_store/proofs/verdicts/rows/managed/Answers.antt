@@ -7,10 +7,10 @@ use Rattle.dh_types.specs.declared.property.Property.{Property}
 use Rattle.dh_model.specs.Books.{text_cmp}
 use Rattle.dh_model.specs.Checks.{is_same_text}
 use Rattle.dh_model.specs.Whole.{rows_where}
-use Rattle.dh_access.specs.Looked.{AreBoth}
-use Rattle.dh_access.specs.Reading.{OnlyReads}
+use Rattle.dh_schema.specs.Looked.{AreBoth}
+use Rattle.dh_schema.specs.Reading.{OnlyReads}
 use Rattle.dh_store.specs.Gathered.{with_managed}
-use Rattle.dh_access.proofs.ReadsInTurn.{reads_then}
+use Rattle.dh_schema.proofs.ReadsInTurn.{reads_then}
 use Rattle.dh_store.proofs.verdicts.rows.managed.Goals as goal
 
 pub returns-in_ok-look-in-Some-clause-gathered : goal.returns-in_ok-look-in-Some-clause-gathered

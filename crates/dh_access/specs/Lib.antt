@@ -1,4 +1,0 @@
-pub mod Reading
-pub mod Months
-pub mod Looked
-pub mod Putting

@@ -1,5 +1,0 @@
-pub mod Calls
-pub mod Histories
-pub mod HistoryLaws
-pub mod Migrations
-pub mod Answered

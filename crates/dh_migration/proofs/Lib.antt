@@ -1,4 +1,0 @@
-pub mod Sound
-pub mod Grown
-pub mod EachFee
-pub mod Moving

@@ -1,5 +1,0 @@
-use Rattle.dh_migration.proofs.Sound.{migrated_books_are_in_order}
-use Rattle.dh_migration.proofs.laws.migrated_books_are_in_order.Goals as goal
-
-pub returns : goal.returns
-returns c = migrated_books_are_in_order

@@ -1,5 +1,0 @@
-use Rattle.dh_migration.proofs.Sound.{migration_moves_no_balance}
-use Rattle.dh_migration.proofs.laws.migration_moves_no_balance.Goals as goal
-
-pub returns : goal.returns
-returns c = migration_moves_no_balance
