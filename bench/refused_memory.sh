@@ -20,7 +20,7 @@
 # `balance` take no memory, since other growths lie between: none of them is given an allocator.
 #
 # The program forks at each growth, and the child is refused it (bench/refused_memory/refuse.c). For `serve` it is begun anew instead, which
-# takes longer, so the job `serve, no port` has what comes before the listener. Prints a line a job, and ends with 0 if all were so. Asks
+# takes longer, so the job `serve, no port` has what comes before the listener. Prints two lines a job, and ends with 0 if all were so. Asks
 # for a C compiler. Each run has a folder of its own.
 set -eu
 cd "$(dirname "$0")/.."

@@ -43,7 +43,7 @@ for leases in ${*:-1000 10000}; do
         done
         start=$(least_of 5 /dev/null)
         told "$leases" "$months" owner 20
-        told "$leases" "$months" arrears $((60000 / leases))
+        told "$leases" "$months" arrears $((600000 / leases))
         [ "$months" != 1 ] || told "$leases" "$months" end 500
     done
 done

@@ -24,7 +24,8 @@ FUNCTION = re.compile(r'^\s*(?:pub(?:\(crate\))? )?(?:const )?fn (\w+)')
 REFUSED = re.compile(r'^(?:fn|impl) (\S+?): (?:no proof|not proved)(.*)$', re.M)
 NAMED = re.compile(r'^(?:fn|impl) (\S+?): ', re.M)
 ERROR = re.compile(r'^\./((?:proofs|specs)/\S+?):\d+:\d+: error: (.*)$', re.M)
-NAMES = re.compile(r'unknown|can be named|no (?:field|goal|such|clause)|not in scope|is not (?:a|the) (?:field|goal|name)|does not exist|was not (?:admitted|checked)')
+NAMES = re.compile(r'unknown|can be named|no (?:field|goal|such|clause)|not in scope|is not (?:a|the) (?:field|goal|name)|does not exist|'
+                   r'was not (?:admitted|checked)')
 
 
 def read(path):
