@@ -1,18 +1,15 @@
 -- What an open run says of a question.
-use Rattle.std.proofs.Common.{◌≡◌, refl, ap, if◌then◌else◌, Option, Some, None, option_map}
+use Rattle.std.proofs.Common.{◌≡◌, refl, ap, if◌then◌else◌, Option, Some, None}
 use Rattle.std.specs.FinMap.{get}
 use Rattle.dh_types.specs.declared.question.Question.{Question}
 use Rattle.dh_types.specs.declared.question.Question.TheVariants as asked
 use Rattle.dh_types.specs.declared.reply.Refusal.{Refusal}
-use Rattle.dh_types.specs.declared.reply.Refusal.TheVariants as refusal
 use Rattle.dh_types.specs.Reports.{NoReport, Report}
 use Rattle.dh_model.specs.declared.open_run.OpenRun.{OpenRun}
 use Rattle.dh_model.specs.Answers.{arrears, owner_report, report, run_report, statement, unless_open}
 use Rattle.dh_model.specs.Books.{State}
 use Rattle.dh_model.specs.MachineLaws.{is_put_off}
-
-abbrev refusal_of : Option OpenRun → Option Refusal
-refusal_of run = option_map (λ (at : OpenRun). refusal.RunOpen at.month) run
+use Rattle.dh_answers.proofs.FrozenCommands.{refusal_of}
 
 by_run : (run : Option OpenRun) (why : Refusal) (otherwise : Report) → refusal_of run ≡ Some why → NoReport why ≡ unless_open run otherwise
 by_run None why otherwise is = cc

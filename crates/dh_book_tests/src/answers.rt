@@ -2,7 +2,8 @@
 
 use dh_books::Books;
 use dh_rules::{answer, balance, matching, vacant};
-use dh_test_kit::{Answer, Fields, Unreadable, answer_text, copy_of, numbers_of};
+use dh_scripts::{Answer, Unreadable};
+use dh_test_kit::{Fields, answer_text, copy_of, numbers_of};
 use dh_types::{Balance, Client, EntryDay, LeaseNo, Property, Question};
 use std::alloc::{AllocError, Global};
 

@@ -5,7 +5,7 @@ use crate::cuts::play_with_cuts;
 use crate::happenings::play_list;
 use crate::lines::{Teller, answered};
 use dh_books::Books;
-use dh_test_kit::{Answer, Block, Manner, Tally, Unreadable};
+use dh_scripts::{Answer, Block, Manner, Tally, Unreadable};
 use std::alloc::{AllocError, Global};
 use std::io;
 

@@ -7,7 +7,8 @@ use dh_leases::{whole, with_posted, with_run};
 use dh_rules::{
     Reach, answered, interrupted_done, interrupted_undone, recovered, recovery_interrupted, step,
 };
-use dh_test_kit::{Row, Unreadable, january};
+use dh_scripts::Unreadable;
+use dh_test_kit::{Row, january};
 use dh_types::{Command, EntryMonth, Key, Version};
 use std::alloc::{AllocError, Global};
 use std::mem;

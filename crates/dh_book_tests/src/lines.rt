@@ -14,7 +14,8 @@ use dh_books::Books;
 use dh_fields::Request;
 use dh_model::Verdict;
 use dh_rules::decide;
-use dh_test_kit::{Answer, Fields, Unreadable, command, request_if_any, row_of};
+use dh_scripts::{Answer, Unreadable};
+use dh_test_kit::{Fields, command, request_if_any, row_of};
 use dh_types::{Command, Reply};
 use std::alloc::{AllocError, Global};
 

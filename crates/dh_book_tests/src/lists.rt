@@ -1,7 +1,8 @@
 //! All rows of a kind.
 
 use dh_books::Books;
-use dh_test_kit::{Answer, ToLine, Unreadable, add_part, all_lines, or_none};
+use dh_scripts::{Answer, Unreadable};
+use dh_test_kit::{ToLine, add_part, all_lines, or_none};
 use std::alloc::Global;
 use std::collections::btree_map::{Keys, Values};
 use std::fmt::Display;

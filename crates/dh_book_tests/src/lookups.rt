@@ -1,7 +1,8 @@
 //! Rows, found under their keys.
 
 use dh_books::Books;
-use dh_test_kit::{Answer, Fields, ToLine, Unreadable};
+use dh_scripts::{Answer, Unreadable};
+use dh_test_kit::{Fields, ToLine};
 use std::alloc::Global;
 
 fn line_of<T: ToLine>(alloc: Global, row: Option<&T>) -> Answer {

@@ -24,7 +24,7 @@ mod terms;
 mod values;
 mod writers;
 
-use dh_test_kit::{Tally, script};
+use dh_scripts::{Tally, script};
 use std::io;
 
 fn play_scripts(rt: &HostRuntime, tally: &mut Tally) -> io::Result<()> {

@@ -1,7 +1,8 @@
 //! Records with texts: the line of a copy.
 
 use crate::values::Said;
-use dh_test_kit::{Answer, Row, ToLine, Unreadable, row_of};
+use dh_scripts::{Answer, Unreadable};
+use dh_test_kit::{Row, ToLine, row_of};
 use std::alloc::{AllocError, Global};
 
 // The line of a copy of the row, for a kind that has copies.

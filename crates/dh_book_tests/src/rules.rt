@@ -8,7 +8,7 @@ use dh_audit::{
 };
 use dh_books::Books;
 use dh_rules::audit;
-use dh_test_kit::{Answer, Unreadable};
+use dh_scripts::{Answer, Unreadable};
 use std::alloc::{AllocError, Global};
 
 // Whether all rules hold, else the least that is broken.

@@ -4,7 +4,8 @@ use dh_books::Books;
 use dh_leases::{branch_fees, branch_parts, posted_charges, posted_fees, posted_parts};
 use dh_model::OpenRun;
 use dh_rules::batches;
-use dh_test_kit::{Answer, Fields, Unreadable, add_part, lines_of};
+use dh_scripts::{Answer, Unreadable};
+use dh_test_kit::{Fields, add_part, lines_of};
 use dh_types::Version;
 use std::alloc::Global;
 

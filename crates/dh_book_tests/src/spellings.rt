@@ -5,7 +5,7 @@
 
 use crate::values::Said;
 use crate::{days, records, replies, values, writers};
-use dh_test_kit::Tally;
+use dh_scripts::Tally;
 use std::alloc::{AllocError, Global};
 use std::{fs, io};
 

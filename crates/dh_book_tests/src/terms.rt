@@ -3,7 +3,8 @@
 use dh_books::Books;
 use dh_leases::{covers, due_in, dues_by_branch, end_of, of_branch, overlap};
 use dh_rules::dues;
-use dh_test_kit::{Answer, Fields, Unreadable, lines_of};
+use dh_scripts::{Answer, Unreadable};
+use dh_test_kit::{Fields, lines_of};
 use dh_types::Lease;
 use std::alloc::Global;
 

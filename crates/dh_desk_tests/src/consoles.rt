@@ -3,7 +3,7 @@
 
 use crate::runs::ended;
 use dh_agency_test_kit::compare;
-use dh_test_kit::Tally;
+use dh_scripts::Tally;
 use std::{fs, io, str};
 
 // The file that the calls name, and its log.

@@ -5,7 +5,7 @@
 use crate::lives::{edited, tables};
 use crate::runs::{PATH, clear, ran};
 use dh_agency_test_kit::{SECOND_TO_FIRST, compare, parted};
-use dh_test_kit::Tally;
+use dh_scripts::Tally;
 use std::alloc::{AllocError, Global};
 use std::{fs, io};
 

@@ -4,7 +4,7 @@ use crate::lives::tables;
 use crate::runs::{LOG, PATH, clear, ended, input_of, shown};
 use dh_agency_test_kit::{compare, parted};
 use dh_lines::ends::{FailingReader, FailingWriter, InterruptedReader, InterruptedWriter};
-use dh_test_kit::Tally;
+use dh_scripts::Tally;
 use std::{fs, io};
 
 // Of the calls of a run on a file every so many is interrupted, since such a run waits for the disk.

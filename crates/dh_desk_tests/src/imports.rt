@@ -5,7 +5,7 @@
 use crate::lives::tables;
 use crate::runs::{clear, outcome, ran};
 use dh_agency_test_kit::{compare, parted};
-use dh_test_kit::Tally;
+use dh_scripts::Tally;
 use std::alloc::{AllocError, Global};
 use std::io;
 

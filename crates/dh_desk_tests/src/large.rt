@@ -8,7 +8,7 @@
 use crate::lives::edited;
 use crate::runs::{clear, ended};
 use dh_agency_test_kit::{compare, parted};
-use dh_test_kit::Tally;
+use dh_scripts::Tally;
 use std::alloc::{AllocError, Global};
 use std::{io, str};
 

@@ -6,7 +6,7 @@ use crate::cracks::cracked;
 use crate::moved_files::ran_while;
 use crate::runs::{LOG, MOVED, PATH, clear, ran, standing};
 use dh_agency_test_kit::{all_rows, compare, parted, rows_of};
-use dh_test_kit::Tally;
+use dh_scripts::Tally;
 use sqlite::Connection;
 use std::alloc::AllocError;
 use std::os::unix::fs::symlink;

@@ -26,7 +26,7 @@ mod turns;
 mod unasked;
 mod ways;
 
-use dh_test_kit::{Tally, kinds};
+use dh_scripts::{Tally, kinds};
 use std::io;
 
 fn play(rt: &HostRuntime, tally: &mut Tally, kind: &str, lines: &str) -> io::Result<()> {

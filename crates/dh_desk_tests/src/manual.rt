@@ -3,7 +3,7 @@
 
 use crate::pages::play_page;
 use crate::runs::ended;
-use dh_test_kit::Tally;
+use dh_scripts::Tally;
 use std::{fs, io, str};
 
 // What `letting batch` answers to the lines, in memory.

@@ -6,7 +6,7 @@
 use crate::runs::{LOG, PATH, clear};
 use dh_agency_test_kit::{compare, parted};
 use dh_jobs::places::Place;
-use dh_test_kit::Tally;
+use dh_scripts::Tally;
 use std::alloc::{Allocator, Global};
 use std::cell::Cell;
 use std::fs::{File, Files, Metadata, OpenOptions};

@@ -4,7 +4,7 @@
 
 use crate::consoles::{clear, play_console};
 use crate::manual::{bytes_of, compare_answers};
-use dh_test_kit::Tally;
+use dh_scripts::Tally;
 use std::{fs, io};
 
 // Lines, and the answers that are wanted, as far as the page has told them.

@@ -10,7 +10,7 @@ use crate::lives;
 use crate::patterns::spread;
 use crate::runs::{clear, ended, outcome, ran, shown};
 use dh_agency_test_kit::{compare, parted};
-use dh_test_kit::Tally;
+use dh_scripts::Tally;
 use std::alloc::{AllocError, Global};
 use std::io::{Read, Write};
 use std::net::{Ipv4Addr, Shutdown, SocketAddr, SocketAddrV4, TcpListener, TcpStream};

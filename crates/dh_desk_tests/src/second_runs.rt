@@ -7,7 +7,7 @@ ghost use Rattle.std.specs.Prelude.{◌≡◌, Some};
 use crate::lives;
 use crate::runs::{LOG, PATH, clear, ended, input_of, outcome, ran, shown};
 use dh_agency_test_kit::{compare, parted};
-use dh_test_kit::Tally;
+use dh_scripts::Tally;
 use std::io::Write;
 use std::{fs, io};
 

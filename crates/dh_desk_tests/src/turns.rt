@@ -6,7 +6,7 @@ ghost use Rattle.std.specs.Prelude.{◌≡◌, Some};
 use crate::lives;
 use crate::runs::{clear, ended, input_of, outcome, shown};
 use dh_agency_test_kit::{compare, parted};
-use dh_test_kit::Tally;
+use dh_scripts::Tally;
 use std::alloc::{AllocError, Global};
 use std::cell::Cell;
 use std::io;

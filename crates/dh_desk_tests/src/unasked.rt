@@ -10,7 +10,7 @@ use dh_agency::Agency;
 use dh_agency_test_kit::{
     all_rows, compare, compare_tables, in_memory, parted, table_of, told_next,
 };
-use dh_test_kit::{Block, Manner, Tally, script};
+use dh_scripts::{Block, Manner, Tally, script};
 use sqlite::{Alter, Connection};
 use sqlite_trees::store::Reopen;
 use std::alloc::{AllocError, Global};

@@ -3,7 +3,8 @@
 
 use dh_agency_test_kit::{parted, table_of};
 use dh_lives::{Life, Stop};
-use dh_test_kit::{Block, Unreadable, command};
+use dh_scripts::{Block, Unreadable};
+use dh_test_kit::command;
 use std::alloc::{AllocError, Global};
 
 /// Which of the stops a life has.

@@ -5,7 +5,7 @@ use crate::disks::tables_after;
 use crate::trial_disks::{BOTH, Full, TrialDisk, name_of};
 use dh_agency_test_kit::compare;
 use dh_lives::{Measures, Stopping, Which, no_files};
-use dh_test_kit::Tally;
+use dh_scripts::Tally;
 use sqlite::Files;
 use sqlite_disk::Crash;
 use std::alloc::{AllocError, Global};

@@ -8,7 +8,7 @@ use dh_agency_test_kit::{
     all_rows, compare, compare_tables, in_memory, parted, reply_line, table_of,
 };
 use dh_lives::{Measures, Stopping, Which, copy_of, no_files};
-use dh_test_kit::{Block, Tally, script};
+use dh_scripts::{Block, Tally, script};
 use sqlite::{Connection, Files};
 use sqlite_disk::Crash;
 use std::alloc::{AllocError, Global};

@@ -6,7 +6,7 @@ use crate::disks::add_told;
 use crate::trial_disks::{Full, TrialDisk, name_of};
 use dh_agency_test_kit::{compare, compare_tables, parted, table_of};
 use dh_lives::{Measures, Stopping, Which, copy_of, no_files};
-use dh_test_kit::{Block, Tally, script};
+use dh_scripts::{Block, Tally, script};
 use sqlite::Files;
 use std::alloc::{AllocError, Global};
 use std::io;

@@ -15,7 +15,7 @@ mod stories;
 mod trial_disks;
 
 use dh_agency_test_kit::compare;
-use dh_test_kit::{Tally, kinds};
+use dh_scripts::{Tally, kinds};
 use disk_work::Work;
 use disks::Failures;
 use series::Recoveries;

@@ -9,7 +9,7 @@ use crate::series::{compare_end, compare_whole, is_recovered, play_lives, play_s
 use crate::stories::{Story, begun, if_played, played_up_to};
 use dh_agency_test_kit::{compare, parted, rows_of};
 use dh_lives::{Measures, Rehearsed, Stop, Which, copy_of};
-use dh_test_kit::{Block, Tally, script};
+use dh_scripts::{Block, Tally, script};
 use std::alloc::Global;
 use std::io;
 

@@ -7,7 +7,7 @@ use crate::stories::{Story, account_of, begun, if_played, played_up_to, whole_ac
 use crate::trial_disks::{BOTH, name_of};
 use dh_agency_test_kit::{books_text, compare, compare_tables};
 use dh_lives::{Account, Stop, Which};
-use dh_test_kit::{Block, Tally, script};
+use dh_scripts::{Block, Tally, script};
 use std::alloc::{AllocError, Global};
 use std::io;
 

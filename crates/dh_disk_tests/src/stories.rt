@@ -3,7 +3,8 @@
 use crate::chapters::{Chapter, Mark, Stops, lives_of, place_of};
 use dh_agency_test_kit::compare;
 use dh_lives::{Account, Lived, Rehearsed, live_behind, live_through, rehearse, rehearse_behind};
-use dh_test_kit::{Block, Tally, Unreadable, january};
+use dh_scripts::{Block, Tally, Unreadable};
+use dh_test_kit::january;
 use dh_types::Fault;
 use std::alloc::{AllocError, Global};
 use std::io;

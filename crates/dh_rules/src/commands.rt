@@ -12,12 +12,12 @@ ghost use Rattle.dh_laws.specs.Telling.{IsCutDone, IsTold, Stands, StandsAt, beg
 use crate::changes::apply_change;
 use crate::machine::step;
 use crate::recoveries::{advanced, recovered};
+use dh_answers::{decide, decide_run};
 use dh_books::Books;
 use dh_laws::entries::commands_are_entered;
 use dh_leases::batches;
 use dh_model::{Change, OpenRun, Verdict};
 use dh_types::{BatchCount, Command, Progress, Reply, RunOrder};
-use dh_verdicts::{decide, decide_run};
 use std::alloc::{AllocError, Global};
 
 /// The tables after a command, and the reply.

@@ -8,10 +8,10 @@ ghost use Rattle.dh_model.specs.declared.rows.Verdict.TheVariants as verdict;
 
 use crate::changes::apply_change;
 use crate::runs::{resumed, run_made, run_opened};
+use dh_answers::decide;
 use dh_books::Books;
 use dh_model::{Change, Verdict};
 use dh_types::{Command, Reply};
-use dh_verdicts::decide;
 use std::alloc::{AllocError, Global};
 
 /// The books after a command, and the reply to it.

@@ -21,7 +21,7 @@ use Rattle.dh_model.proofs.KeyOrders.{text_ties, text_total}
 use Rattle.dh_laws.specs.InOrder.{StandUnder}
 use Rattle.dh_laws.specs.Looks.{Counts, IsCutOf, IsLast, month_open, number_of}
 use Rattle.dh_laws.proofs.FactLemmas.Last.{last_number_is_count}
-use Rattle.dh_verdicts.proofs.OpenRuns.{refusal_of, refused}
+use Rattle.dh_answers.proofs.FrozenCommands.{refusal_of, refused}
 use Rattle.dh_sql.proofs.Found.{get_where}
 use Rattle.dh_model.specs.Kinds.{Properties}
 use Rattle.dh_schema.specs.Tables.{IsSound, books_in, state_in}

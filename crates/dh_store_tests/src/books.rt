@@ -3,7 +3,8 @@
 use dh_agency_test_kit::{books_text, compare, rows_of};
 use dh_fields::Request;
 use dh_rules::{Books, answer, step};
-use dh_test_kit::{Tally, Unreadable, answer_text, copy_of, january, request};
+use dh_scripts::{Tally, Unreadable};
+use dh_test_kit::{answer_text, copy_of, january, request};
 use dh_types::{Command, Question, Version};
 use std::alloc::{AllocError, Global};
 use std::{io, mem};

@@ -3,7 +3,7 @@
 use crate::either::line_over;
 use dh_agency_test_kit::{Lived, Telling, compare, play_block};
 use dh_lives::crashes::next_life;
-use dh_test_kit::{Tally, script};
+use dh_scripts::{Tally, script};
 use sqlite::{Alter, Connection};
 use sqlite_trees::store::Reopen;
 use std::alloc::Global;

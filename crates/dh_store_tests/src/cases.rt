@@ -3,7 +3,7 @@
 use crate::agencies::Outcome;
 use crate::blocks::Block;
 use dh_agency_test_kit::compare;
-use dh_test_kit::Tally;
+use dh_scripts::Tally;
 use std::{io, str};
 
 /// A request with the answer that is wanted, the block that it stands in, and the tables before it.

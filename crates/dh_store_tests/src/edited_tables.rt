@@ -4,7 +4,7 @@
 
 use dh_agency_test_kit::{compare, load_text, parted, version_text};
 use dh_ddl::texts::{FIRST, SECOND};
-use dh_test_kit::Tally;
+use dh_scripts::Tally;
 use sqlite::{Alter, Connection};
 use std::alloc::{AllocError, Global};
 use std::io;

@@ -6,7 +6,7 @@ use crate::failing_ends::{play_reads, play_writes};
 use crate::interrupted_ends::play_interrupted;
 use dh_http::serve_one;
 use dh_lines::ends::FailingReader;
-use dh_test_kit::Tally;
+use dh_scripts::Tally;
 use std::io;
 use std::io::{Read, Write};
 use std::net::{TcpListener, TcpStream};

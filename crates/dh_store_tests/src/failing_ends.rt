@@ -5,7 +5,7 @@ use crate::cases::{Case, end_of, judge, judge_tables};
 use dh_agency::Agency;
 use dh_http::serve_one;
 use dh_lines::ends::{FailingReader, FailingWriter};
-use dh_test_kit::Tally;
+use dh_scripts::Tally;
 use sqlite::Alter;
 use std::io;
 use std::io::Read;

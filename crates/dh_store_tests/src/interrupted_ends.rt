@@ -6,7 +6,7 @@ use crate::failing_ends::{MOST_SLOW_READS, PIECE};
 use dh_agency::Agency;
 use dh_http::{NetFault, serve_one};
 use dh_lines::ends::{InterruptedReader, InterruptedWriter};
-use dh_test_kit::Tally;
+use dh_scripts::Tally;
 use http::StatusCode;
 use sqlite::Alter;
 use std::alloc::Global;

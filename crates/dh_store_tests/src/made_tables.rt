@@ -2,7 +2,8 @@
 
 use dh_agency_test_kit::{compare, found, install_text, parted, version_text};
 use dh_schema::install;
-use dh_test_kit::{Tally, january};
+use dh_scripts::Tally;
+use dh_test_kit::january;
 use dh_types::Month;
 use sqlite::{Alter, Connection};
 use std::alloc::{AllocError, Global};

@@ -22,7 +22,7 @@ mod sessions;
 mod short_reads;
 
 use dh_agency_test_kit::{compare, play_in_memory, play_lives};
-use dh_test_kit::{Tally, kinds};
+use dh_scripts::{Tally, kinds};
 use std::io;
 
 // Plays a block whose kind has words of its own behind it.

@@ -6,7 +6,7 @@ use crate::cases::Case;
 use crate::escapes::bytes_of;
 use crate::exchanges::play_case;
 use dh_agency_test_kit::{compare, parted};
-use dh_test_kit::Tally;
+use dh_scripts::Tally;
 use std::{fs, io};
 
 // Plays the request with this word, whose answer is given with escapes; and whether a case above has the same.

@@ -2,7 +2,8 @@
 
 use dh_agency_test_kit::{compare, parted};
 use dh_rows::{Meta, Record};
-use dh_test_kit::{Row as Words, Tally, ToLine, Unreadable, row_of};
+use dh_scripts::{Tally, Unreadable};
+use dh_test_kit::{Row as Words, ToLine, row_of};
 use dh_types::{
     Branch, BranchFee, Charge, Client, Ending, Inspection, Lease, Owner, Part, PartFee, Property,
     Receipt, Registration, Run, Staff, Version, Viewing,

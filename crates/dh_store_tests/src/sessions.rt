@@ -7,7 +7,7 @@ use dh_agency_test_kit::{compare, in_memory, reply_line};
 use dh_leases::whole;
 use dh_rules::Books;
 use dh_schema::load;
-use dh_test_kit::Tally;
+use dh_scripts::Tally;
 use sqlite::{Alter, Connection};
 use std::alloc::{AllocError, Global};
 use std::io;

@@ -3,7 +3,8 @@
 use dh_agency::{Agency, NotOpened, create};
 use dh_agency_test_kit::{compare, load_text, reply_line};
 use dh_schema::install;
-use dh_test_kit::{Tally, january};
+use dh_scripts::Tally;
+use dh_test_kit::january;
 use sqlite::{Alter, Connection, MemStore, params};
 use std::alloc::{AllocError, Global};
 use std::io;

@@ -1,43 +1,11 @@
 //! The fields of a line that is no request.
 
+use dh_scripts::Unreadable;
 use dh_types::{
-    BadText, ChargeIndex, Day, EntryDay, EntryMonth, Fee, Id, Key, LeaseMonths, LeaseNo, Month,
-    Pence, ReceiptNo, Rent,
+    ChargeIndex, Day, EntryDay, EntryMonth, Fee, Id, Key, LeaseMonths, LeaseNo, Month, Pence,
+    ReceiptNo, Rent,
 };
-use std::alloc::{AllocError, AllocFailed};
-use std::num::ParseIntError;
 use std::str::Split;
-
-/// A line that can't be read, or want of memory.
-#[derive(Debug, Drop)]
-pub struct Unreadable;
-
-/// What a line comes to, as text.
-pub type Answer = Result<String, Unreadable>;
-
-impl From<AllocError> for Unreadable {
-    fn from(_error: AllocError) -> Unreadable {
-        Unreadable
-    }
-}
-
-impl<T: Drop> From<AllocFailed<T>> for Unreadable {
-    fn from(_error: AllocFailed<T>) -> Unreadable {
-        Unreadable
-    }
-}
-
-impl From<ParseIntError> for Unreadable {
-    fn from(_error: ParseIntError) -> Unreadable {
-        Unreadable
-    }
-}
-
-impl From<BadText> for Unreadable {
-    fn from(_error: BadText) -> Unreadable {
-        Unreadable
-    }
-}
 
 /// The fields of a line that are not read yet. Each method reads the next one.
 #[derive(Drop)]

@@ -1,10 +1,8 @@
-//! Scripts of cases: the lines of worked examples, what an office tells its agency, line by line, and what it is answered. Programs
-//! over each layer play the same scripts, and a [`Tally`] counts how many cases were played and how many of them differ.
+//! The words of a line of cases as commands, questions and rows, and rows and answers as words again.
 //!
-//! A line is words, an arrow ` -> `, and what is wanted: the reply to a command, or the answer to a question. The words are fields
-//! between commas, as `rent,P101,650.00` or `show,branches`, which `request` reads as an agency does; `row_of` reads those of a
-//! row of the books, which `to_line` writes again; `answer_text` is the answer to a question, which is asked of a `copy_of` the
-//! books. `script` reads a whole text: blocks of lines under headings. Read `Block` first.
+//! The words are fields between commas, as `rent,P101,650.00` or `show,branches`, which [`request`] reads as an agency does; [`row_of`]
+//! reads those of a row of the books, which [`ToLine::to_line`] writes again; [`answer_text`] is the answer to a question, which is asked
+//! of a [`copy_of`] the books.
 #![tactic(auto)]
 
 mod account_rows;
@@ -16,16 +14,12 @@ mod lists;
 mod requests;
 mod row_lines;
 mod rows;
-mod scripts;
-mod tally;
 
 pub use answers::{answer_text, numbers_of};
 pub use copies::copy_of;
-pub use fields::{Answer, Fields, Unreadable};
+pub use fields::Fields;
 pub use first_month::january;
 pub use lists::{add_part, all_lines, lines_of, or_none};
 pub use requests::{command, command_if_any, request, request_if_any};
 pub use row_lines::ToLine;
 pub use rows::{Row, row_of};
-pub use scripts::{Block, Manner, kinds, script};
-pub use tally::Tally;

@@ -12,12 +12,12 @@ ghost use Rattle.dh_schema.specs.Months.{IsReadyIn};
 ghost use Rattle.dh_schema.specs.Reading.{OnlyReads};
 
 use crate::verdicts::facts::{gather_into, open_month};
+use dh_answers::{Facts, decide_on, open_refusal};
 use dh_books::Books;
 use dh_model::{OpenRun, Verdict};
 use dh_rows::Meta;
 use dh_schema::{StoreFault, months_now};
 use dh_types::Command;
-use dh_verdicts::{Facts, decide_on, open_refusal};
 use sqlite::{Alter, Connection};
 use std::alloc::Global;
 

@@ -5,7 +5,7 @@ ghost use Rattle.std.specs.FinMap as fin;
 ghost use Rattle.sqlite.specs.State.{HasCleanDisk};
 ghost use Rattle.sqlite.specs.Held.{state};
 ghost use Rattle.dh_laws.specs.Looks.{Counts, IsCutOf, month_open};
-ghost use Rattle.dh_verdicts.specs.Seen.{facts_of};
+ghost use Rattle.dh_answers.specs.Seen.{facts_of};
 ghost use Rattle.dh_schema.specs.Store.{IsReady, tables};
 ghost use Rattle.dh_schema.specs.Months.{IsReadyIn, IsReadyOf};
 ghost use Rattle.dh_schema.specs.Reading.{OnlyReads};
@@ -15,6 +15,7 @@ use crate::verdicts::rows::{
     at_end, at_fee, at_inspection, at_lease, at_property, at_receipt, at_register, at_run,
     at_staff, at_viewing, managed,
 };
+use dh_answers::Facts;
 use dh_books::Books;
 use dh_model::OpenRun;
 use dh_rows::Meta;
@@ -23,7 +24,6 @@ use dh_tables::{
     BranchNumbered, ClientNumbered, OwnerNumbered, PropertyNumbered, ViewingOf, last_receipt,
 };
 use dh_types::{Command, Version};
-use dh_verdicts::Facts;
 use sqlite::{Alter, Connection};
 use std::alloc::Global;
 

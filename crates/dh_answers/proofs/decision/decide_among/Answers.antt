@@ -1,8 +1,8 @@
 use Rattle.std.proofs.Common.{◌≡◌, ◌∙◌, sym, ap, subst, if◌then◌else◌, Option, None, IfOk}
 use Rattle.dh_model.specs.declared.open_run.OpenRun.{OpenRun}
 use Rattle.dh_model.specs.MachineLaws.{is_frozen}
-use Rattle.dh_verdicts.proofs.OpenRuns.{passed, refusal_of, refused}
-use Rattle.dh_verdicts.proofs.decision.decide_among.Goals as goal
+use Rattle.dh_answers.proofs.FrozenCommands.{passed, refusal_of, refused}
+use Rattle.dh_answers.proofs.decision.decide_among.Goals as goal
 
 pub returns-in-Some : goal.returns-in-Some
 returns-in-Some c =

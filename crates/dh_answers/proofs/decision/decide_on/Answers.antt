@@ -1,7 +1,7 @@
 use Rattle.std.proofs.Common.{◌≡◌, subst, IfOk}
 use Rattle.dh_laws.proofs.FactLemmas.Judged.{judged_by_its_facts}
-use Rattle.dh_verdicts.specs.Seen.{facts_of}
-use Rattle.dh_verdicts.proofs.decision.decide_on.Goals as goal
+use Rattle.dh_answers.specs.Seen.{facts_of}
+use Rattle.dh_answers.proofs.decision.decide_on.Goals as goal
 
 pub returns : goal.returns
 returns c = λ books run keyed cut.

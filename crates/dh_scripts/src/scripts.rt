@@ -1,6 +1,6 @@
 //! Blocks of lines under headings.
 
-use crate::fields::Unreadable;
+use crate::Unreadable;
 use dh_types::Version;
 use std::alloc::{AllocError, Global};
 

@@ -1,7 +1,7 @@
 -- Cases that are counted.
 use Rattle.std.specs.Prelude.{ℕ, ◌+◌, ◌-◌, ◌^◌, min, Bool, cond, List, ◌++◌, codes}
 use Rattle.std.specs.Fmt.{decimal}
-use Rattle.dh_test_kit.specs.declared.tally.Tally.{Tally}
+use Rattle.dh_scripts.specs.declared.tally.Tally.{Tally}
 
 -- one more, up to the greatest number that is kept
 abbrev pub one_more : ℕ → ℕ

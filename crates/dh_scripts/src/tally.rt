@@ -1,7 +1,7 @@
 //! A count of cases.
 
 ghost use Rattle.std.specs.Prelude.{◌≡◌, ◌↔◌, IsTrue};
-ghost use Rattle.dh_test_kit.specs.Counted.{counted};
+ghost use Rattle.dh_scripts.specs.Counted.{counted};
 
 use std::fmt;
 
@@ -46,7 +46,7 @@ impl Tally {
 
 impl fmt::Display for Tally {
     ghost use Rattle.std.specs.Prelude.{Some};
-    ghost use Rattle.dh_test_kit.specs.Counted.{tally_text};
+    ghost use Rattle.dh_scripts.specs.Counted.{tally_text};
 
     ghost output = { λ tally. Some (tally_text tally) };
 

@@ -8,7 +8,7 @@ ghost use Rattle.dh_model.specs.MachineLaws.{is_frozen};
 ghost use Rattle.dh_model.specs.Verdicts.{verdict_among, verdict_on};
 ghost use Rattle.dh_laws.specs.InOrder.{AreKeyed};
 ghost use Rattle.dh_laws.specs.Looks.{IsCutOf};
-ghost use Rattle.dh_verdicts.specs.Seen.{facts_of};
+ghost use Rattle.dh_answers.specs.Seen.{facts_of};
 
 use crate::{
     decide_assign, decide_branch, decide_client, decide_comment, decide_end, decide_fee,
