@@ -9,6 +9,7 @@ the processors it gets. What a crate made is kept in its out/rlib, so a call tha
 Each crate is told on standard error as it begins and ends, and what is under way is told each minute. It ends with 0 if the program was made.
 """
 import hashlib
+import math
 import os
 import re
 import shutil
@@ -127,7 +128,7 @@ class Build:
         # What stands over a library that is built anew is built anew too.
         self.done = set()
         for name, crate in crates.items():
-            if self.done.issuperset(used for used in crate.used if used in crates) and self.stands(crate):
+            if self.can_begin(name) and self.stands(crate):
                 self.done.add(name)
         self.left = [name for name in crates if name not in self.done]
         self.running = {}
@@ -137,6 +138,10 @@ class Build:
             self.ahead[name] = crates[name].lines + max(above, default=0)
         self.processors = len(os.sched_getaffinity(0))
         self.memory = 1024 * int(re.search(r'MemAvailable:\s+(\d+)', Path('/proc/meminfo').read_text())[1])
+
+    def can_begin(self, name):
+        """Whether what the crate stands on is done. Of this, what stands below is done too."""
+        return self.done.issuperset(used for used in self.crates[name].used if used in self.crates)
 
     def stands(self, crate):
         made = crate.program if crate.is_program else crate.library
@@ -157,11 +162,12 @@ class Build:
         self.say(f'begins {name}: {crate.subject()}')
 
     def begin_what_can(self):
-        """Begins the crates whose libraries stand, while processors and memory are free."""
-        ready = [name for name in self.left if self.done.issuperset(below(self.crates[name], self.crates))]
-        for name in sorted(ready, key=lambda name: -self.ahead[name]):
+        """Begins the crates whose libraries stand, while processors and memory are free. Each gets as many processes as the next. More than there
+        are processors would cost: a second process makes a proof take a third more of their time."""
+        ready = sorted(filter(self.can_begin, self.left), key=lambda name: -self.ahead[name])
+        jobs = math.ceil(min(MOST_JOBS, self.processors) / (len(self.running) + len(ready) or 1))
+        for name in ready:
             rank = sum(self.ahead[other] > self.ahead[name] for other in self.running)
-            jobs = min(MOST_JOBS >> rank or 1, self.processors)
             taken = sum(PROOF_MEMORY * (1 + it) / 2 for it in [jobs, *(it for _, _, it, _ in self.running.values())])
             if self.running and (rank >= self.processors or len(self.running) > self.processors + 1 or taken > self.memory):
                 return
