@@ -163,7 +163,7 @@ class Build:
 
     def begin_what_can(self):
         """Begins the crates whose libraries stand, while processors and memory are free. Each gets as many processes as the next. More than there
-        are processors would cost: a second process makes a proof take a third more of their time."""
+        are processors would cost: with a second process dh_values took a third more of their time."""
         ready = sorted(filter(self.can_begin, self.left), key=lambda name: -self.ahead[name])
         jobs = math.ceil(min(MOST_JOBS, self.processors) / (len(self.running) + len(ready) or 1))
         for name in ready:
