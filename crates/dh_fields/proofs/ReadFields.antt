@@ -14,10 +14,10 @@ use Rattle.csv.specs.Records.{field_at}
 use Rattle.dh_values.proofs.Ascii.{and_left}
 use Rattle.dh_values.specs.Texts.{is_text}
 use Rattle.dh_fields.specs.declared.unread.Unread.{Unread}
-use Rattle.dh_fields.specs.declared.unread.Unread.TheVariants.{Field}
+use Rattle.dh_fields.specs.declared.unread.Unread.TheVariants.{Field, Memory}
 use Rattle.dh_fields.specs.FieldKinds.{Kind, optional, plain, spelled}
 use Rattle.dh_fields.specs.Lines.{Fields, field}
-use Rattle.dh_fields.specs.Readings.{IsNoText, Reads, StopsAt, is_field, passes}
+use Rattle.dh_fields.specs.Readings.{IsNoText, Reads, ReadsWanting, StopsAt, is_field, passes}
 
 -- the first field has number 1
 pub numbered : (fields : Fields) (n : ℕ) → 1 ≤ n → slice_get ([] ∷ fields) n ≡ slice_get fields (n - 1)
@@ -47,38 +47,43 @@ no_text : (test : List ℕ → Bool) (found : Option (List ℕ)) → ((text : Li
 no_text test None texts h = refl
 no_text test (Some bytes) texts h = not_true (test bytes) (λ p. h (texts bytes p))
 
-module _ {T : Type 0} (kind : Kind T) (fields : Fields) (n : ℕ) where
-  bad : is_field kind.takes fields n ≡ false → StopsAt (Field n) (if is_field kind.takes fields n then None else Some n)
+module _ {T : Type 0} (kind : Kind T) (fields : Fields) (n : ℕ) (is_wanted : Bool) where
+  bad : is_field kind.takes fields n ≡ false → StopsAt (Field n) (if is_field kind.takes fields n then None else Some n) is_wanted
   bad h = rw h refl
 
   -- a `?` that hands on what is no text
   pub stops : ((text : List ℕ) → kind.takes text ≡ true → IsUtf8 text) → (r : Result T Unread) (e : Unread) → IsErrAnd r (λ y. y ≡ e)
-      → (e ≡ Field n) × IsNoText (slice_get ([] ∷ fields) n) → Reads kind fields n r
+      → (e ≡ Field n) × IsNoText (slice_get ([] ∷ fields) n) → ReadsWanting is_wanted kind fields n r
   stops texts (Ok x) e is h = absurd is
   stops texts (Err y) e is h =
       let place : y ≡ Field n = is ∙ h.0 in
-      subst (λ z. Reads kind fields n (Err z)) (sym place) (bad (no_text kind.takes _ texts h.1))
+      subst (λ z. ReadsWanting is_wanted kind fields n (Err z)) (sym place) (bad (no_text kind.takes _ texts h.1))
+
+  -- a `?` that hands on want of memory
+  pub wants : (r : Result T Unread) → IsErrAnd r (λ y. y ≡ Memory) → is_wanted ≡ true → ReadsWanting is_wanted kind fields n r
+  wants (Ok x) is h = absurd is
+  wants (Err y) is h = subst (λ z. ReadsWanting is_wanted kind fields n (Err z)) (sym is) h
 
   module _ (text : List ℕ) (is : slice_get ([] ∷ fields) n ≡ Some text) where
     pub found : field fields n ≡ text
     unfolding field
     found = get_or_from_slice_get ([] ∷ fields) n text [] is
 
-    taken : (value : T) → kind.takes text ≡ true → value ≡ kind.value text → Reads kind fields n (Ok value)
+    taken : (value : T) → kind.takes text ≡ true → value ≡ kind.value text → ReadsWanting is_wanted kind fields n (Ok value)
     taken value h same = (ap (passes kind.takes) is ∙ h, same ∙ ap kind.value (sym found))
 
-    refused : (kind.takes text ≡ true → ⊥) → Reads kind fields n (Err (Field n))
+    refused : (kind.takes text ≡ true → ⊥) → ReadsWanting is_wanted kind fields n (Err (Field n))
     refused h = bad (ap (passes kind.takes) is ∙ not_true (kind.takes text) h)
 
 apart : false ≡ true → ⊥
 apart h = cc
 
 -- a value that is a text itself
-pub reads_plain : {E : Type 0} (test : List ℕ → Bool) (fields : Fields) (n : ℕ) (text : List ℕ) → slice_get ([] ∷ fields) n ≡ Some text
+pub reads_plain : {E : Type 0} (test : List ℕ → Bool) (fields : Fields) (n : ℕ) (is_wanted : Bool) (text : List ℕ) → slice_get ([] ∷ fields) n ≡ Some text
     → (got : Result (List ℕ) E) → IfOk got (λ value. value ≡ text) → IsOk got ↔ IsTrue (test text)
-    → (r : Result (List ℕ) Unread) → r ≡ result_or got (Err (Field n)) → Reads (plain test) fields n r
-reads_plain test fields n text is (Ok value) same exact r e = rw e (taken (plain test) fields n text is value (exact.0 refl) same)
-reads_plain test fields n text is (Err b) same exact r e = rw e (refused (plain test) fields n text is (λ p. apart (exact.1 p)))
+    → (r : Result (List ℕ) Unread) → r ≡ result_or got (Err (Field n)) → ReadsWanting is_wanted (plain test) fields n r
+reads_plain test fields n is_wanted text is (Ok value) same exact r e = rw e (taken (plain test) fields n is_wanted text is value (exact.0 refl) same)
+reads_plain test fields n is_wanted text is (Err b) same exact r e = rw e (refused (plain test) fields n is_wanted text is (λ p. apart (exact.1 p)))
 
 module _ {T : Type 0} (read : List ℕ → Option T) (other : T) where
   some : (o : Option T) → is_some o ≡ true → (x : T) × (o ≡ Some x)
@@ -94,9 +99,9 @@ module _ {T : Type 0} (read : List ℕ → Option T) (other : T) where
       → (got : Result T E) → MatchResult got (λ value. read text ≡ Some value) (λ _. read text ≡ None)
       → (r : Result T Unread) → r ≡ result_or got (Err (Field n)) → Reads (spelled read other) fields n r
   reads_spelled fields n text is (Ok value) h r e =
-      rw e (taken (spelled read other) fields n text is value (ap is_some h) (sym (ap (λ o. unwrap_or o other) h)))
+      rw e (taken (spelled read other) fields n false text is value (ap is_some h) (sym (ap (λ o. unwrap_or o other) h)))
   reads_spelled fields n text is (Err b) h r e =
-      rw e (refused (spelled read other) fields n text is (λ p. let none : is_some (read text) ≡ false = ap is_some h in cc))
+      rw e (refused (spelled read other) fields n false text is (λ p. let none : is_some (read text) ≡ false = ap is_some h in cc))
 
 either : (a b : Bool) → (a || b) ≡ true → (a ≡ true) ⊎ (b ≡ true)
 either true b h = inl refl
@@ -113,26 +118,29 @@ pub texts_or_nothing : {T : Type 0} (kind : Kind T) → ((text : List ℕ) → k
     → (text : List ℕ) → (optional kind).takes text ≡ true → IsUtf8 text
 texts_or_nothing kind all text h = elim (either (length text == 0) (kind.takes text) h) as (λ _. IsUtf8 text) [ inl p ↦ nothing text p | inr p ↦ all text p ]
 
-module _ {T : Type 0} (kind : Kind T) (fields : Fields) (n : ℕ) (text : List ℕ) (is : slice_get ([] ∷ fields) n ≡ Some text) where
-  pub reads_nothing : (length text == 0) ≡ true → Reads (optional kind) fields n (Ok None)
-  reads_nothing h = taken (optional kind) fields n text is None (rw h refl) (rw h refl)
+module _ {T : Type 0} (kind : Kind T) (fields : Fields) (n : ℕ) (is_wanted : Bool) (text : List ℕ) (is : slice_get ([] ∷ fields) n ≡ Some text) where
+  pub reads_nothing : (length text == 0) ≡ true → ReadsWanting is_wanted (optional kind) fields n (Ok None)
+  reads_nothing h = taken (optional kind) fields n is_wanted text is None (rw h refl) (rw h refl)
 
   same_test : (length text == 0) ≡ false → is_field (optional kind).takes fields n ≡ is_field kind.takes fields n
   same_test h =
       let either_way : passes (optional kind).takes (Some text) ≡ passes kind.takes (Some text) = rw h refl in
       ap (passes (optional kind).takes) is ∙ either_way ∙ sym (ap (passes kind.takes) is)
 
-  pub reads_something : (length text == 0) ≡ false → (value : T) → Reads kind fields n (Ok value) → Reads (optional kind) fields n (Ok (Some value))
-  reads_something h value it =
-      let there : (length (field fields n) == 0) ≡ false = ap (λ t. length t == 0) (found kind fields n text is) ∙ h in
+  pub reads_something : (length text == 0) ≡ false → (before : Bool) (value : T) → ReadsWanting before kind fields n (Ok value)
+      → ReadsWanting is_wanted (optional kind) fields n (Ok (Some value))
+  reads_something h before value it =
+      let there : (length (field fields n) == 0) ≡ false = ap (λ t. length t == 0) (found kind fields n is_wanted text is) ∙ h in
       (same_test h ∙ it.0, rw there (ap (λ x. Some x) it.1))
 
-  pub stops_something : (length text == 0) ≡ false → (r : Result (Option T) Unread) (e : Unread) → IsErrAnd r (λ y. y ≡ e) → Reads kind fields n (Err e)
-      → Reads (optional kind) fields n r
-  stops_something h (Ok x) e failed it = absurd failed
-  stops_something h (Err y) e failed it =
-      subst (λ z. StopsAt z (if is_field (optional kind).takes fields n then None else Some n)) (sym failed)
-      (subst (λ b. StopsAt e (if b then None else Some n)) (sym (same_test h)) it)
+  -- a `?` that hands on what was wrong with the text
+  pub stops_something : (before : Bool) → (before ≡ true → is_wanted ≡ true) → (length text == 0) ≡ false → (r : Result (Option T) Unread) (e : Unread)
+      → IsErrAnd r (λ y. y ≡ e) → ReadsWanting before kind fields n (Err e) → ReadsWanting is_wanted (optional kind) fields n r
+  stops_something before wants h (Ok x) e failed it = absurd failed
+  stops_something before wants h (Err y) (Field k) failed it =
+      subst (λ z. ReadsWanting is_wanted (optional kind) fields n (Err z)) (sym failed) (rw (same_test h) it)
+  stops_something before wants h (Err y) Memory failed it =
+      subst (λ z. ReadsWanting is_wanted (optional kind) fields n (Err z)) (sym failed) (wants it)
 
 pub is_text-IsUtf8 : (most : ℕ) (text : List ℕ) → is_text most text ≡ true → IsUtf8 text
 is_text-IsUtf8 most text h = IsUtf8-from_is_utf8 text (and_left _ _ (and_left _ _ (and_left _ _ h)))

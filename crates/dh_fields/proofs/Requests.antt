@@ -15,7 +15,7 @@ use Rattle.dh_fields.specs.declared.request.Request.TheVariants as request
 use Rattle.dh_fields.specs.declared.unread.Unread.{Unread}
 use Rattle.dh_fields.specs.declared.unread.Unread.TheVariants.{Memory, Field}
 use Rattle.dh_fields.specs.Lines.{Fields, a_command, a_question, command_forms, field, question_forms, request_of, value_among}
-use Rattle.dh_fields.specs.Readings.{GivesUp, IsNoText, Tells}
+use Rattle.dh_fields.specs.Readings.{GivesUp, IsNoText, Tells, wants_among, wants_text}
 
 -- whether field 1 is `show`
 abbrev pub is_show : Fields → Bool
@@ -25,16 +25,16 @@ pub shows : (fields : Fields) (word : List ℕ) (b c : Bool) → slice_get ([] �
     → is_show fields ≡ c
 shows fields word b c is tested h = ap (λ w. bytes_eq w (codes "show")) (field_is fields 1 word is) ∙ sym tested ∙ h
 
-gives : {T : Type 0} (whole : Result Request Refusal) (part : Result T Refusal) → ((refusal : Refusal) → Err refusal ≡ part → Err refusal ≡ whole)
-    → (e : Unread) → GivesUp e part → GivesUp e whole
-gives whole part f (Field k) h = f (BadLine k) h
-gives whole part f Memory h = tt
+module _ {T : Type 0} (whole : Result Request Refusal) (part : Result T Refusal) (after before : Bool)
+    (fails : (refusal : Refusal) → Err refusal ≡ part → Err refusal ≡ whole) (wants : before ≡ true → after ≡ true) where
+  gives : (e : Unread) → GivesUp e part before → GivesUp e whole after
+  gives (Field k) h = fails (BadLine k) h
+  gives Memory h = wants h
 
--- a `?` that hands on what was wrong
-handed : {T : Type 0} (whole : Result Request Refusal) (part : Result T Refusal) → ((refusal : Refusal) → Err refusal ≡ part → Err refusal ≡ whole)
-    → (r : Result Request Unread) (e : Unread) → IsErrAnd r (λ y. y ≡ e) → GivesUp e part → Tells r whole
-handed whole part f (Ok x) e is h = absurd is
-handed whole part f (Err y) e is h = subst (λ z. GivesUp z whole) (sym is) (gives whole part f e h)
+  -- a `?` that hands on what was wrong
+  handed : (r : Result Request Unread) (e : Unread) → IsErrAnd r (λ y. y ≡ e) → GivesUp e part before → Tells r whole after
+  handed (Ok x) e is h = absurd is
+  handed (Err y) e is h = subst (λ z. GivesUp z whole after) (sym is) (gives e h)
 
 module _ (fields : Fields) where
   pub asked : is_show fields ≡ true → (it : Question) → Ok it ≡ value_among question_forms 2 fields → Ok (request.Question it) ≡ request_of fields
@@ -42,18 +42,21 @@ module _ (fields : Fields) where
   asked show it h = rw show (ap a_question h)
 
   pub asked_badly : is_show fields ≡ true → (r : Result Request Unread) (e : Unread) → IsErrAnd r (λ y. y ≡ e)
-      → GivesUp e (value_among question_forms 2 fields) → Tells r (request_of fields)
+      → GivesUp e (value_among question_forms 2 fields) false → Tells r (request_of fields) (wants_text fields)
   unfolding request_of
-  asked_badly show = handed (request_of fields) (value_among question_forms 2 fields) (λ refusal h. rw show (ap a_question h))
+  asked_badly show =
+      handed (request_of fields) (value_among question_forms 2 fields) (wants_text fields) false (λ refusal h. rw show (ap a_question h)) (λ h. absurd (cc))
 
   pub commanded : is_show fields ≡ false → (it : Command) → Ok it ≡ value_among command_forms 1 fields → Ok (request.Command it) ≡ request_of fields
   unfolding request_of
   commanded show it h = rw show (ap a_command h)
 
   pub commanded_badly : is_show fields ≡ false → (r : Result Request Unread) (e : Unread) → IsErrAnd r (λ y. y ≡ e)
-      → GivesUp e (value_among command_forms 1 fields) → Tells r (request_of fields)
-  unfolding request_of
-  commanded_badly show = handed (request_of fields) (value_among command_forms 1 fields) (λ refusal h. rw show (ap a_command h))
+      → GivesUp e (value_among command_forms 1 fields) (wants_among command_forms 1 fields) → Tells r (request_of fields) (wants_text fields)
+  unfolding request_of wants_text
+  commanded_badly show =
+      handed (request_of fields) (value_among command_forms 1 fields) (wants_text fields) (wants_among command_forms 1 fields)
+      (λ refusal h. rw show (ap a_command h)) (λ h. rw show h)
 
   shows_nothing : (found : Option (List ℕ)) → slice_get ([] ∷ fields) 1 ≡ found → IsNoText found → is_show fields ≡ false
   shows_nothing None is h = ap (λ w. bytes_eq w (codes "show")) (field_is_not fields 1 is)
@@ -64,7 +67,7 @@ module _ (fields : Fields) where
 
   -- there is no word
   pub says_nothing : (r : Result Request Unread) (e : Unread) → IsErrAnd r (λ y. y ≡ e) → (e ≡ Field 1) × IsNoText (slice_get ([] ∷ fields) 1)
-      → Tells r (request_of fields)
+      → Tells r (request_of fields) (wants_text fields)
   says_nothing r e is h =
-      let P : Unread → Type 0 = λ z. GivesUp z (value_among command_forms 1 fields) in
+      let P : Unread → Type 0 = λ z. GivesUp z (value_among command_forms 1 fields) (wants_among command_forms 1 fields) in
       commanded_badly (shows_nothing _ refl h.1) r e is (subst P (sym h.0) (wordless command_forms 1 fields refl refl h.1))

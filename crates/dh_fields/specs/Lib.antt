@@ -3,3 +3,4 @@ pub mod Places
 pub mod Lines
 pub mod Readings
 pub mod PropertyFields
+pub mod Named

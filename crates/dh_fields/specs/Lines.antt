@@ -1,12 +1,13 @@
 -- Which request the fields of a line are.
-use Rattle.std.specs.Prelude.{ℕ, ◌+◌, Bool, List, [], ◌∷◌, codes, bytes_eq, drop, slice_index_or, if◌then◌else◌, Option, Some, None, Result, Ok, Err}
+use Rattle.std.specs.Prelude.{ℕ, ◌+◌, ◌==◌, Bool, true, not, if◌then◌else◌, List, [], ◌∷◌, map, length, drop, slice_index_or, codes, bytes_eq}
+use Rattle.std.specs.Prelude.{Option, Some, None, Result, Ok, Err}
 use Rattle.dh_types.specs.declared.command.Command.{Command}
 use Rattle.dh_types.specs.declared.command.Command.TheVariants as command
 use Rattle.dh_types.specs.declared.question.Question.{Question}
 use Rattle.dh_types.specs.declared.question.Question.TheVariants as question
 use Rattle.dh_types.specs.declared.reply.Refusal.{Refusal}
 use Rattle.dh_types.specs.declared.reply.Refusal.TheVariants.{BadLine}
-use Rattle.dh_fields.specs.FieldKinds.{amount, batch_count, comment, day, fee, id, key, lease_no, method, month, months, optional, position}
+use Rattle.dh_fields.specs.FieldKinds.{Kind, amount, batch_count, comment, day, fee, id, key, lease_no, method, month, months, optional, position}
 use Rattle.dh_fields.specs.FieldKinds.{property_type, receipt_kind, rent, rooms, text60}
 use Rattle.dh_fields.specs.declared.request.Request.{Request}
 use Rattle.dh_fields.specs.declared.request.Request.TheVariants as request
@@ -26,18 +27,47 @@ first_bad n [] (field ∷ fields) = Some n
 first_bad n (test ∷ tests) [] = Some n
 first_bad n (test ∷ tests) (field ∷ fields) = if test field then first_bad (n + 1) tests fields else Some n
 
--- A row of the table of lines: a word, the tests of the fields behind it, and what fields are that pass them.
+-- A column of a line, with the test that its field passes: a value, or a text that is copied into memory of its own. Copied are the texts
+-- that pass the second test.
+pub data Column : Type 0 where
+  Value : (List ℕ → Bool) → Column
+  Copied : (List ℕ → Bool) → (List ℕ → Bool) → Column
+
+abbrev pub value : {T : Type 0} → Kind T → Column
+value kind = Value kind.takes
+
+abbrev pub is_there : List ℕ → Bool
+is_there text = true
+
+abbrev pub copied : {T : Type 0} → Kind T → Column
+copied kind = Copied kind.takes is_there
+
+abbrev pub is_not_empty : List ℕ → Bool
+is_not_empty text = not (length text == 0)
+
+abbrev pub copied_if_any : {T : Type 0} → Kind T → Column
+copied_if_any kind = Copied (optional kind).takes is_not_empty
+
+-- the test that its field passes
+abbrev pub test_of : Column → List ℕ → Bool
+test_of (Value takes) = takes
+test_of (Copied takes copies) = takes
+
+-- A row of the table of lines: a word, the columns of the fields behind it, and what fields are that pass their tests.
 pub record Form (T : Type 0) : Type 0 where
   pub word : List ℕ
-  pub tests : List (List ℕ → Bool)
+  pub columns : List Column
   pub value : Fields → T
+
+abbrev pub tests_of : {T : Type 0} → Form T → List (List ℕ → Bool)
+tests_of form = map test_of form.columns
 
 -- ---- commands: their word is field 1
 
 abbrev pub branch_form : Form Command
 branch_form = record {
   word = codes "branch";
-  tests = id.takes ∷ text60.takes ∷ text60.takes ∷ text60.takes ∷ [];
+  columns = value id ∷ copied text60 ∷ copied text60 ∷ copied text60 ∷ [];
   value = λ f. command.Branch (record {
     number = id.value (field f 2);
     street = text60.value (field f 3);
@@ -49,14 +79,14 @@ branch_form = record {
 abbrev pub fee_form : Form Command
 fee_form = record {
   word = codes "fee";
-  tests = id.takes ∷ fee.takes ∷ [];
+  columns = value id ∷ value fee ∷ [];
   value = λ f. command.Fee (record { branch = id.value (field f 2); fee = fee.value (field f 3) });
 }
 
 abbrev pub staff_form : Form Command
 staff_form = record {
   word = codes "staff";
-  tests = id.takes ∷ text60.takes ∷ position.takes ∷ id.takes ∷ [];
+  columns = value id ∷ copied text60 ∷ value position ∷ value id ∷ [];
   value = λ f. command.Staff (record {
     number = id.value (field f 2);
     name = text60.value (field f 3);
@@ -68,7 +98,7 @@ staff_form = record {
 abbrev pub owner_form : Form Command
 owner_form = record {
   word = codes "owner";
-  tests = id.takes ∷ text60.takes ∷ text60.takes ∷ text60.takes ∷ [];
+  columns = value id ∷ copied text60 ∷ copied text60 ∷ copied text60 ∷ [];
   value = λ f. command.Owner (record {
     number = id.value (field f 2);
     name = text60.value (field f 3);
@@ -80,8 +110,8 @@ owner_form = record {
 abbrev pub property_form : Form Command
 property_form = record {
   word = codes "property";
-  tests = id.takes ∷ text60.takes ∷ text60.takes ∷ text60.takes ∷ property_type.takes ∷ rooms.takes ∷ rent.takes ∷ id.takes ∷ (optional id).takes
-      ∷ id.takes ∷ [];
+  columns = value id ∷ copied text60 ∷ copied text60 ∷ copied text60 ∷ value property_type ∷ value rooms ∷ value rent ∷ value id
+      ∷ value (optional id) ∷ value id ∷ [];
   value = λ f. command.Property (record {
     number = id.value (field f 2);
     street = text60.value (field f 3);
@@ -99,21 +129,21 @@ property_form = record {
 abbrev pub assign_form : Form Command
 assign_form = record {
   word = codes "assign";
-  tests = id.takes ∷ (optional id).takes ∷ [];
+  columns = value id ∷ value (optional id) ∷ [];
   value = λ f. command.Assign (record { property = id.value (field f 2); staff = (optional id).value (field f 3) });
 }
 
 abbrev pub rent_form : Form Command
 rent_form = record {
   word = codes "rent";
-  tests = id.takes ∷ rent.takes ∷ [];
+  columns = value id ∷ value rent ∷ [];
   value = λ f. command.Rent (record { property = id.value (field f 2); rent = rent.value (field f 3) });
 }
 
 abbrev pub client_form : Form Command
 client_form = record {
   word = codes "client";
-  tests = id.takes ∷ text60.takes ∷ text60.takes ∷ property_type.takes ∷ rent.takes ∷ [];
+  columns = value id ∷ copied text60 ∷ copied text60 ∷ value property_type ∷ value rent ∷ [];
   value = λ f. command.Client (record {
     number = id.value (field f 2);
     name = text60.value (field f 3);
@@ -126,7 +156,7 @@ client_form = record {
 abbrev pub register_form : Form Command
 register_form = record {
   word = codes "register";
-  tests = id.takes ∷ id.takes ∷ id.takes ∷ day.takes ∷ [];
+  columns = value id ∷ value id ∷ value id ∷ value day ∷ [];
   value = λ f. command.Register (record {
     client = id.value (field f 2);
     branch = id.value (field f 3);
@@ -138,7 +168,7 @@ register_form = record {
 abbrev pub viewing_form : Form Command
 viewing_form = record {
   word = codes "viewing";
-  tests = id.takes ∷ id.takes ∷ day.takes ∷ (optional comment).takes ∷ [];
+  columns = value id ∷ value id ∷ value day ∷ copied_if_any comment ∷ [];
   value = λ f. command.Viewing (record {
     client = id.value (field f 2);
     property = id.value (field f 3);
@@ -150,14 +180,14 @@ viewing_form = record {
 abbrev pub comment_form : Form Command
 comment_form = record {
   word = codes "comment";
-  tests = id.takes ∷ id.takes ∷ comment.takes ∷ [];
+  columns = value id ∷ value id ∷ copied comment ∷ [];
   value = λ f. command.Comment (record { client = id.value (field f 2); property = id.value (field f 3); comment = comment.value (field f 4) });
 }
 
 abbrev pub inspection_form : Form Command
 inspection_form = record {
   word = codes "inspection";
-  tests = id.takes ∷ day.takes ∷ id.takes ∷ comment.takes ∷ [];
+  columns = value id ∷ value day ∷ value id ∷ copied comment ∷ [];
   value = λ f. command.Inspection (record {
     property = id.value (field f 2);
     day = day.value (field f 3);
@@ -169,7 +199,7 @@ inspection_form = record {
 abbrev pub lease_form : Form Command
 lease_form = record {
   word = codes "lease";
-  tests = lease_no.takes ∷ id.takes ∷ id.takes ∷ day.takes ∷ months.takes ∷ method.takes ∷ [];
+  columns = value lease_no ∷ value id ∷ value id ∷ value day ∷ value months ∷ value method ∷ [];
   value = λ f. command.Lease (record {
     number = lease_no.value (field f 2);
     client = id.value (field f 3);
@@ -183,14 +213,14 @@ lease_form = record {
 abbrev pub end_form : Form Command
 end_form = record {
   word = codes "end";
-  tests = lease_no.takes ∷ months.takes ∷ [];
+  columns = value lease_no ∷ value months ∷ [];
   value = λ f. command.End (record { lease = lease_no.value (field f 2); months = months.value (field f 3) });
 }
 
 abbrev pub receipt_form : Form Command
 receipt_form = record {
   word = codes "receipt";
-  tests = key.takes ∷ lease_no.takes ∷ receipt_kind.takes ∷ amount.takes ∷ day.takes ∷ [];
+  columns = value key ∷ value lease_no ∷ value receipt_kind ∷ value amount ∷ value day ∷ [];
   value = λ f. command.Receipt (record {
     key = key.value (field f 2);
     payment = record {
@@ -205,21 +235,21 @@ receipt_form = record {
 abbrev pub run_form : Form Command
 run_form = record {
   word = codes "run";
-  tests = key.takes ∷ month.takes ∷ [];
+  columns = value key ∷ value month ∷ [];
   value = λ f. command.Run (record { key = key.value (field f 2); month = month.value (field f 3) });
 }
 
 abbrev pub open_form : Form Command
 open_form = record {
   word = codes "open";
-  tests = key.takes ∷ month.takes ∷ [];
+  columns = value key ∷ value month ∷ [];
   value = λ f. command.Open (record { key = key.value (field f 2); month = month.value (field f 3) });
 }
 
 abbrev pub post_form : Form Command
 post_form = record {
   word = codes "post";
-  tests = batch_count.takes ∷ [];
+  columns = value batch_count ∷ [];
   value = λ f. command.Post (batch_count.value (field f 2));
 }
 
@@ -230,31 +260,31 @@ command_forms = branch_form ∷ fee_form ∷ staff_form ∷ owner_form ∷ prope
 -- ---- questions: field 1 is `show`, and their word is field 2
 
 abbrev pub branches_form : Form Question
-branches_form = record { word = codes "branches"; tests = []; value = λ f. question.Branches }
+branches_form = record { word = codes "branches"; columns = []; value = λ f. question.Branches }
 
 abbrev pub vacant_form : Form Question
-vacant_form = record { word = codes "vacant"; tests = day.takes ∷ []; value = λ f. question.Vacant (day.value (field f 3)) }
+vacant_form = record { word = codes "vacant"; columns = value day ∷ []; value = λ f. question.Vacant (day.value (field f 3)) }
 
 abbrev pub matching_form : Form Question
 matching_form = record {
   word = codes "matching";
-  tests = id.takes ∷ day.takes ∷ [];
+  columns = value id ∷ value day ∷ [];
   value = λ f. question.Matching (record { client = id.value (field f 3); day = day.value (field f 4) });
 }
 
 abbrev pub statement_form : Form Question
-statement_form = record { word = codes "statement"; tests = lease_no.takes ∷ []; value = λ f. question.Statement (lease_no.value (field f 3)) }
+statement_form = record { word = codes "statement"; columns = value lease_no ∷ []; value = λ f. question.Statement (lease_no.value (field f 3)) }
 
 abbrev pub arrears_form : Form Question
-arrears_form = record { word = codes "arrears"; tests = id.takes ∷ []; value = λ f. question.Arrears (id.value (field f 3)) }
+arrears_form = record { word = codes "arrears"; columns = value id ∷ []; value = λ f. question.Arrears (id.value (field f 3)) }
 
 abbrev pub shown_run_form : Form Question
-shown_run_form = record { word = codes "run"; tests = month.takes ∷ []; value = λ f. question.Run (month.value (field f 3)) }
+shown_run_form = record { word = codes "run"; columns = value month ∷ []; value = λ f. question.Run (month.value (field f 3)) }
 
 abbrev pub owner_month_form : Form Question
 owner_month_form = record {
   word = codes "owner";
-  tests = id.takes ∷ month.takes ∷ [];
+  columns = value id ∷ value month ∷ [];
   value = λ f. question.Owner (record { owner = id.value (field f 3); month = month.value (field f 4) });
 }
 
@@ -276,7 +306,7 @@ form_of (form ∷ forms) word = if bytes_eq word form.word then Some form else f
 -- what the fields are whose word is field n, by the form of that word; or their first bad field
 abbrev pub value_by : {T : Type 0} → Option (Form T) → ℕ → Fields → Result T Refusal
 value_by None n fields = Err (BadLine n)
-value_by (Some form) n fields = judged (first_bad (n + 1) form.tests (drop n fields)) (form.value fields)
+value_by (Some form) n fields = judged (first_bad (n + 1) (tests_of form) (drop n fields)) (form.value fields)
 
 unfoldable pub value_among : {T : Type 0} → List (Form T) → ℕ → Fields → Result T Refusal
 value_among forms n fields = value_by (form_of forms (field fields n)) n fields

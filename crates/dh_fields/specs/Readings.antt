@@ -1,11 +1,13 @@
 -- What reading a field, or a whole line, gives.
-use Rattle.std.specs.Prelude.{◌≡◌, ℕ, ◌+◌, Bool, true, false, List, [], ◌∷◌, slice_get, Option, None, Some, is_some, if◌then◌else◌, ⊤, Result, Ok, Err, IsUtf8}
+use Rattle.std.specs.Prelude.{◌≡◌, ℕ, ◌+◌, Bool, true, false, not, ◌&&◌, if◌then◌else◌, List, [], ◌∷◌, slice_get, codes, bytes_eq, IsUtf8, ⊤}
+use Rattle.std.specs.Prelude.{Option, None, Some, is_some, Result, Ok, Err}
 use Rattle.dh_types.specs.declared.reply.Refusal.{Refusal}
 use Rattle.dh_types.specs.declared.reply.Refusal.TheVariants.{BadLine}
 use Rattle.dh_fields.specs.declared.unread.Unread.{Unread}
 use Rattle.dh_fields.specs.declared.unread.Unread.TheVariants.{Memory, Field}
 use Rattle.dh_fields.specs.FieldKinds.{Kind}
-use Rattle.dh_fields.specs.Lines.{Fields, Form, field}
+use Rattle.dh_fields.specs.Lines.{Column, Fields, Form, command_forms, field, form_of, tests_of}
+use Rattle.dh_fields.specs.Lines.Column.{Value, Copied}
 
 -- there is a text, and it passes the test
 abbrev pub passes : (List ℕ → Bool) → Option (List ℕ) → Bool
@@ -25,35 +27,68 @@ abbrev pub IsNoText : Option (List ℕ) → Type 0
 IsNoText None = ⊤
 IsNoText (Some bytes) = ¬ (IsUtf8 bytes)
 
--- the stop is at this bad field, unless memory ran out
-abbrev pub StopsAt : Unread → Option ℕ → Type 0
-StopsAt (Field n) bad = bad ≡ Some n
-StopsAt Memory bad = ⊤
+-- the stop is at this bad field, or memory ran out where it was wanted
+abbrev pub StopsAt : Unread → Option ℕ → Bool → Type 0
+StopsAt (Field n) bad is_wanted = bad ≡ Some n
+StopsAt Memory bad is_wanted = is_wanted ≡ true
 
--- the field of this number was read as this kind, or is bad
+-- the field of this number was read as this kind, or is bad, or memory for it ran out
+abbrev pub ReadsWanting : {T : Type 0} → Bool → Kind T → Fields → ℕ → Result T Unread → Type 0
+ReadsWanting is_wanted kind fields n (Ok value) = (is_field kind.takes fields n ≡ true) × (value ≡ kind.value (field fields n))
+ReadsWanting is_wanted kind fields n (Err stop) = StopsAt stop (if is_field kind.takes fields n then None else Some n) is_wanted
+
+-- the same of a value, for which no memory is wanted
 abbrev pub Reads : {T : Type 0} → Kind T → Fields → ℕ → Result T Unread → Type 0
-Reads kind fields n (Ok value) = (is_field kind.takes fields n ≡ true) × (value ≡ kind.value (field fields n))
-Reads kind fields n (Err stop) = StopsAt stop (if is_field kind.takes fields n then None else Some n)
+Reads kind fields n result = ReadsWanting false kind fields n result
+
+-- the same of a text, which is copied if it is one of these
+abbrev pub Copies : {T : Type 0} → (List ℕ → Bool) → Kind T → Fields → ℕ → Result T Unread → Type 0
+Copies copies kind fields n result = ReadsWanting (is_field copies fields n) kind fields n result
 
 -- the first bad field, numbered from n
 abbrev pub bad_from : ℕ → List (List ℕ → Bool) → Fields → Option ℕ
 bad_from n [] fields = if has_field fields n then Some n else None
 bad_from n (test ∷ tests) fields = if is_field test fields n then bad_from (n + 1) tests fields else Some n
 
-abbrev pub Gives : {T : Type 0} → Result T Unread → Option ℕ → T → Type 0
-Gives (Ok value) bad wanted = (bad ≡ None) × (value ≡ wanted)
-Gives (Err stop) bad wanted = StopsAt stop bad
+-- Memory is wanted for the fields of these columns, numbered from n: the first text is one that is copied, and each field before it is good.
+abbrev pub wants_from : ℕ → List Column → Fields → Bool
+wants_from n [] fields = false
+wants_from n (Value takes ∷ columns) fields = wants_from (n + 1) columns fields && is_field takes fields n
+wants_from n (Copied takes copies ∷ columns) fields = is_field copies fields n
+
+abbrev pub Gives : {T : Type 0} → Result T Unread → Option ℕ → Bool → T → Type 0
+Gives (Ok value) bad is_wanted wanted = (bad ≡ None) × (value ≡ wanted)
+Gives (Err stop) bad is_wanted wanted = StopsAt stop bad is_wanted
 
 -- the fields behind field n were read so
 abbrev pub ReadsForm : {T : Type 0} → Form T → ℕ → Fields → Result T Unread → Type 0
-ReadsForm form n fields result = Gives result (bad_from (n + 1) form.tests fields) (form.value fields)
+ReadsForm form n fields result =
+    Gives result (bad_from (n + 1) (tests_of form) fields) (wants_from (n + 1) form.columns fields) (form.value fields)
 
--- what is wanted is this bad field, unless memory ran out
-abbrev pub GivesUp : {T : Type 0} → Unread → Result T Refusal → Type 0
-GivesUp (Field bad) wanted = Err (BadLine bad) ≡ wanted
-GivesUp Memory wanted = ⊤
+-- what is wanted is this bad field, or memory ran out where it was wanted
+abbrev pub GivesUp : {T : Type 0} → Unread → Result T Refusal → Bool → Type 0
+GivesUp (Field bad) wanted is_wanted = Err (BadLine bad) ≡ wanted
+GivesUp Memory wanted is_wanted = is_wanted ≡ true
 
 -- what was read is what is wanted
-abbrev pub Tells : {T : Type 0} → Result T Unread → Result T Refusal → Type 0
-Tells (Ok value) wanted = Ok value ≡ wanted
-Tells (Err stop) wanted = GivesUp stop wanted
+abbrev pub Tells : {T : Type 0} → Result T Unread → Result T Refusal → Bool → Type 0
+Tells (Ok value) wanted is_wanted = Ok value ≡ wanted
+Tells (Err stop) wanted is_wanted = GivesUp stop wanted is_wanted
+
+-- ---- the lines for which memory is wanted
+
+abbrev pub wants_by : {T : Type 0} → Option (Form T) → ℕ → Fields → Bool
+wants_by None n fields = false
+wants_by (Some form) n fields = wants_from (n + 1) form.columns fields
+
+-- memory is wanted for the fields whose word is field n, by the form of that word
+unfoldable pub wants_among : {T : Type 0} → List (Form T) → ℕ → Fields → Bool
+wants_among forms n fields = wants_by (form_of forms (field fields n)) n fields
+
+-- The line has a text to copy: its word is that of a command with texts, each field before the first of them is good, and that one is there.
+-- Where it may be empty, it is not.
+unfoldable pub wants_text : Fields → Bool
+wants_text fields = not (bytes_eq (field fields 1) (codes "show")) && wants_among command_forms 1 fields
+
+abbrev pub WantsText : Fields → Type 0
+WantsText fields = wants_text fields ≡ true

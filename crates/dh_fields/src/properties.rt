@@ -1,8 +1,8 @@
 //! The lines of properties and of what is done about them. Each function gives the command of the line above it. `Field` has the number of
 //! the first bad field, and `Memory` is want of memory.
 
-ghost use Rattle.std.specs.Prelude.{drop};
-ghost use Rattle.dh_fields.specs.Lines.{assign_form, comment_form, inspection_form, property_form, rent_form, viewing_form};
+ghost use Rattle.std.specs.Prelude.{drop, false};
+ghost use Rattle.dh_fields.specs.Lines.{assign_form, comment_form, inspection_form, property_form, rent_form, tests_of, viewing_form};
 ghost use Rattle.dh_fields.specs.PropertyFields.{particulars_of};
 ghost use Rattle.dh_fields.specs.Readings.{Gives, ReadsForm, bad_from};
 
@@ -26,7 +26,7 @@ struct Particulars {
 }
 
 fn read_particulars(line: &Line) -> Result<Particulars, Unread>
-    ensures { Gives result (bad_from 6 (drop 4 property_form.tests) line.now) (particulars_of line.now) }
+    ensures { Gives result (bad_from 6 (drop 4 (tests_of property_form)) line.now) false (particulars_of line.now) }
 {
     let particulars = Particulars {
         property_type: line.property_type(6)?,

@@ -1,9 +1,9 @@
 //! Reading the lines that an agency is given.
 
-ghost use Rattle.std.specs.Prelude.{◌≡◌, map, bytes_eq, codes, IfOk};
+ghost use Rattle.std.specs.Prelude.{◌≡◌, map, bytes_eq, codes, MatchResult};
 ghost use Rattle.csv.specs.Records.{fields_of};
 ghost use Rattle.dh_fields.specs.Lines.{field, request_of};
-ghost use Rattle.dh_fields.specs.Readings.{Tells};
+ghost use Rattle.dh_fields.specs.Readings.{Tells, WantsText, wants_text};
 
 use crate::Request;
 use crate::commands::read_command;
@@ -15,7 +15,7 @@ use dh_types::Refusal;
 use std::alloc::{AllocError, Global};
 
 fn read_request(alloc: Global, line: &Line) -> Result<Request, Unread>
-    ensures { Tells result (request_of line.now) }
+    ensures { Tells result (request_of line.now) (wants_text line.now) }
 {
     if line.text(1)? == "show" {
         Ok(Request::Question(read_question(line)?))
@@ -25,7 +25,7 @@ fn read_request(alloc: Global, line: &Line) -> Result<Request, Unread>
 }
 
 fn judge(alloc: Global, line: &Line) -> Result<Result<Request, Refusal>, AllocError>
-    ensures { IfOk result (λ r. r ≡ request_of line.now) }
+    ensures { MatchResult result (λ r. r ≡ request_of line.now) (λ _. WantsText line.now) }
 {
     match read_request(alloc, line) {
         Ok(request) => Ok(Ok(request)),
@@ -35,17 +35,19 @@ fn judge(alloc: Global, line: &Line) -> Result<Result<Request, Refusal>, AllocEr
 }
 
 /// The request that the fields of a line are. A `BadLine` has the number of the first field, from 1 on,
-/// that is wrong, missing or too many. An error comes only for want of memory.
+/// that is wrong, missing or too many. An error comes only for want of memory, and only of a line
+/// with texts: each field before its first text is good, and that text is there.
 pub fn read_fields(alloc: Global, fields: &[&[u8]]) -> Result<Result<Request, Refusal>, AllocError>
-    ensures { IfOk result (λ r. r ≡ request_of (map (λ f. f.now) fields.now)) }
+    ensures { MatchResult result (λ r. r ≡ request_of (map (λ f. f.now) fields.now)) (λ _. WantsText (map (λ f. f.now) fields.now)) }
 {
     judge(alloc, &Line::of_fields(fields))
 }
 
 /// The request that a record's fields are. A `BadLine` has the number of the first field, from 1 on,
-/// that is wrong, missing or too many. An error comes only for want of memory.
+/// that is wrong, missing or too many. An error comes only for want of memory, and only of a line
+/// with texts: each field before its first text is good, and that text is there.
 pub fn read_line(alloc: Global, record: &ByteRecord) -> Result<Result<Request, Refusal>, AllocError>
-    ensures { IfOk result (λ r. r ≡ request_of (fields_of «record».now)) }
+    ensures { MatchResult result (λ r. r ≡ request_of (fields_of «record».now)) (λ _. WantsText (fields_of «record».now)) }
 {
     judge(alloc, &Line::of_record(record))
 }

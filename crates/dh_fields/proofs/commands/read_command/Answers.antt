@@ -5,7 +5,7 @@ use Rattle.dh_fields.specs.Lines.{open_form, owner_form, post_form, property_for
 use Rattle.dh_fields.proofs.commands.read_command.Goals as goal
 
 pub returns-in_err-text : goal.returns-in_err-text
-returns-in_err-text c = no_text command_forms 1 c.args.line.now refl refl _ _ c.from_residual.ensures.1 c.in_err-text.ensures
+returns-in_err-text c = no_text command_forms 1 c.args.line.now refl refl _ _ _ c.from_residual.ensures.1 c.in_err-text.ensures
 
 pub returns-in-branch : goal.returns-in-branch
 returns-in-branch c = named command_forms 1 c.args.line.now branch_form _ _ c.in_ok-text.ensures c.in-branch.is refl c.read_branch.ensures

@@ -1,3 +1,4 @@
+use Rattle.std.proofs.Common.{false}
 use Rattle.dh_values.specs.Kinds.{payment_method_of}
 use Rattle.dh_values.specs.declared.payment_method.PaymentMethod.TheVariants.{Cash}
 use Rattle.dh_fields.proofs.ReadFields.{stops, texts, reads_spelled}
@@ -7,7 +8,7 @@ use Rattle.dh_fields.proofs.line.Line.method.Goals as goal
 
 pub returns-in_err-text : goal.returns-in_err-text
 unfolding method
-returns-in_err-text c = stops method c.args.self.now c.args.number
+returns-in_err-text c = stops method c.args.self.now c.args.number false
     (texts payment_method_of Cash payment_method-IsUtf8) _ _ c.from_residual.ensures.1 c.in_err-text.ensures
 
 pub returns : goal.returns

@@ -1,3 +1,4 @@
+use Rattle.std.proofs.Common.{false}
 use Rattle.dh_days.specs.Months.{month_of}
 use Rattle.dh_fields.proofs.ReadFields.{stops, texts, reads_spelled}
 use Rattle.dh_fields.proofs.SpelledTexts.{month-IsUtf8}
@@ -6,7 +7,7 @@ use Rattle.dh_fields.proofs.line.Line.month.Goals as goal
 
 pub returns-in_err-text : goal.returns-in_err-text
 unfolding month
-returns-in_err-text c = stops month c.args.self.now c.args.number (texts month_of 0 month-IsUtf8) _ _ c.from_residual.ensures.1 c.in_err-text.ensures
+returns-in_err-text c = stops month c.args.self.now c.args.number false (texts month_of 0 month-IsUtf8) _ _ c.from_residual.ensures.1 c.in_err-text.ensures
 
 pub returns : goal.returns
 unfolding month

@@ -1,3 +1,4 @@
+use Rattle.std.proofs.Common.{false}
 use Rattle.dh_values.specs.Kinds.{position_of}
 use Rattle.dh_values.specs.declared.position.Position.TheVariants.{Manager}
 use Rattle.dh_fields.proofs.ReadFields.{stops, texts, reads_spelled}
@@ -7,7 +8,7 @@ use Rattle.dh_fields.proofs.line.Line.position.Goals as goal
 
 pub returns-in_err-text : goal.returns-in_err-text
 unfolding position
-returns-in_err-text c = stops position c.args.self.now c.args.number
+returns-in_err-text c = stops position c.args.self.now c.args.number false
     (texts position_of Manager position-IsUtf8) _ _ c.from_residual.ensures.1 c.in_err-text.ensures
 
 pub returns : goal.returns
