@@ -40,8 +40,6 @@ FAULTS = {
     'dh_jobs/src/places.rt': 5,  # by the errors of the path, of looks at it, and of AllocError
     'dh_jobs/src/process.rt': 2,  # of AllocError
     'dh_jobs/src/program.rt': 4,  # of AllocError, and a pattern
-    'dh_requests/src/body.rt': 1,  # of AllocError
-    'dh_requests/src/body_texts.rt': 1,  # of an error of serde_json in a body that is a list of texts
     'dh_requests/src/unread.rt': 1,  # of AllocError
     'dh_schema/src/fault.rt': 7,  # by the error of the store, of AllocError, and four of which each asks for its reason
     'dh_types/src/words.rt': 2,  # patterns

@@ -65,7 +65,7 @@ IsFaultOf old it = (old.is_stopped ≡ false → IsFirstFault it) × (old.is_sto
 
 -- where no request was read nothing was carried out
 abbrev pub unread_fault : Unread → NetFault
-unread_fault unread.Input = Input
+unread_fault (unread.Input failed) = Input
 unread_fault unread.Memory = Memory false
 
 module _ {S : Type 0} (g : Ghosts S) (old new : Seat S) where

@@ -26,7 +26,7 @@ impl From<Unread> for NetFault {
 
     fn from(unread: Unread) -> NetFault {
         match unread {
-            Unread::Input => NetFault::Input,
+            Unread::Input(_) => NetFault::Input,
             Unread::Memory => NetFault::Memory { acted: false },
         }
     }

@@ -5,6 +5,7 @@ ghost use Rattle.std.specs.Io.{ReadsAtMost};
 ghost use Rattle.std.specs.Io.KnownBytes.{ReadConsumes};
 ghost use Rattle.std.specs.IoError.{error_kind};
 
+use dh_reading::read_again;
 use std::io;
 use std::io::{ErrorKind, Read};
 
@@ -67,18 +68,12 @@ impl<R: Read> Read for Watching<'_, R> {
         ensures failed { OnErr result (self.new.has_failed ≡ true) }
         ensures again { IfErr result (λ e. error_kind e ≢ ErrorKind.Interrupted) }
     {
-        for _ in 0..u64::MAX {
-            match self.inner.read(buf) {
-                Ok(count) => return Ok(count),
-                Err(error) => {
-                    if error.kind() != ErrorKind::Interrupted {
-                        self.has_failed = true;
-                        return Err(error);
-                    }
-                }
+        match read_again(self.inner, buf) {
+            Ok(count) => Ok(count),
+            Err(failed) => {
+                self.has_failed = true;
+                Err(failed.error())
             }
         }
-        self.has_failed = true;
-        Err(ErrorKind::Other.into())
     }
 }

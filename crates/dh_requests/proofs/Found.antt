@@ -1,7 +1,7 @@
 -- What the routes find.
-use Rattle.std.proofs.Common.{◌≡◌, ℕ, ◌≤◌, map, ◌<◌, List, [], ◌∷◌, ◌++◌, Option, Some, None, refl, sym, ap, ◌∙◌, subst, arith, codes}
+use Rattle.std.proofs.Common.{◌≡◌, ℕ, ◌≤◌, map, ◌<◌, List, [], ◌∷◌, ◌++◌, Option, Some, None, refl, sym, ap, ◌∙◌, subst, arith}
 use Rattle.std.proofs.Common.{inl, inr, append-nil, Bool, true}
-use Rattle.std.proofs.Common.{false, ltb, ◌&&◌, ◌==◌, get_or, suc, length, ◌-◌, ◌+◌, cond, leb, length-append, drop, take, drop_at, take_all, le_refl, nat_eq}
+use Rattle.std.proofs.Common.{false, ltb, ◌&&◌, ◌==◌, get_or, suc, length, ◌-◌, ◌+◌, cond, length-append, drop, drop_at, nat_eq}
 use Rattle.std.specs.List.{ends_with}
 use Rattle.matchit.specs.Rows.{RowsOf}
 use Rattle.std.proofs.lemmas.Bool.Decides.{nat_tests}

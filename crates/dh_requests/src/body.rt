@@ -1,29 +1,20 @@
 //! The body of a request.
 
-ghost use Rattle.std.specs.Prelude.{◌≡◌, ◌≢◌, ◌++◌, ◌-◌, IfOk, IfErr, IfSome, IsTrue, OnErr, Err, length, vec_len};
-ghost use Rattle.std.specs.IoError.{error_kind};
+ghost use Rattle.std.specs.Prelude.{◌≡◌, ◌++◌, ◌-◌, IfOk, IfSome, Err, length, vec_len};
 ghost use Rattle.dh_requests.specs.Bodies.{BodyOf, IsFilled};
 ghost use Rattle.dh_requests.specs.Known.{TakesAtMost};
 
 use crate::buffer::fill;
-use crate::failure::Failure;
 use crate::unread::Unread;
+use dh_reading::ReaderFailed;
 use std::alloc::Global;
-use std::io;
-use std::io::{ErrorKind, Read};
+use std::io::Read;
 
 // Fills the body from what was read already, with what may follow it, and from the reader. False: the input ends first.
-fn fill_from<R: Read>(
-    reader: &mut R,
-    failure: &mut Failure,
-    body: &mut [u8],
-    front: &[u8],
-) -> io::Result<bool>
+fn fill_from<R: Read>(reader: &mut R, body: &mut [u8], front: &[u8]) -> Result<bool, ReaderFailed>
     ensures length { length body.new ≡ length body.old }
     ensures whole { IfOk result (λ whole. IfSome (R.remaining reader.old) (λ after. IsFilled (front.now ++ after) body.new whole)) }
     ensures taken { TakesAtMost (length body.old - length front.now) (R.remaining reader.old) (R.remaining reader.new) }
-    ensures lost { OnErr result (IsTrue failure.new.noted) }
-    ensures again { IfErr result (λ e. error_kind e ≢ ErrorKind.Interrupted) }
 {
     let most = body.len();
     if front.len() >= most {
@@ -31,7 +22,7 @@ fn fill_from<R: Read>(
         return Ok(true);
     }
     body[..front.len()].copy_from_slice(front);
-    fill(reader, failure, body, front.len())
+    fill(reader, body, front.len())
 }
 
 /// Reads a body of so many bytes, of which `front` was read already, with what may follow it. `None`: the input ends before it
@@ -39,7 +30,6 @@ fn fill_from<R: Read>(
 pub(crate) fn read_body<R: Read>(
     alloc: Global,
     reader: &mut R,
-    failure: &mut Failure,
     front: &[u8],
     bytes: usize,
 ) -> Result<Option<Vec<u8>>, Unread>
@@ -47,14 +37,10 @@ pub(crate) fn read_body<R: Read>(
     ensures body { IfOk result (λ body. IfSome (R.remaining reader.old) (λ after. BodyOf (front.now ++ after) bytes body)) }
     ensures taken { TakesAtMost (bytes - length front.now) (R.remaining reader.old) (R.remaining reader.new) }
     ensures memory { result ≡ Err Unread.Memory → reader.new ≡ reader.old }
-    ensures lost { result ≡ Err Unread.Input → IsTrue failure.new.noted }
 {
-    let Ok(mut body) = vec![in alloc; 0u8; bytes] else {
-        return Err(Unread::Memory);
-    };
-    match fill_from(reader, failure, body.as_mut_slice(), front) {
-        Ok(true) => Ok(Some(body)),
-        Ok(false) => Ok(None),
-        Err(_) => Err(Unread::Input),
+    let mut body = vec![in alloc; 0u8; bytes]?;
+    if !fill_from(reader, body.as_mut_slice(), front)? {
+        return Ok(None);
     }
+    Ok(Some(body))
 }

@@ -1,17 +1,17 @@
 //! A body that is a list of texts.
 
-ghost use Rattle.std.specs.Prelude.{◌≡◌, ◌≢◌, ◌≤◌, ◌<◌, ◌↔◌, List, [], ◌∷◌, ℕ, length, map, Some, None, Err, false};
+ghost use Rattle.std.specs.Prelude.{◌≡◌, ◌≢◌, ◌≤◌, ◌<◌, ◌↔◌, List, [], ◌∷◌, ℕ, length, map, Some, None, false};
 ghost use Rattle.std.specs.Prelude.{IfOk, IfSome, IsTrue, OnErr, MatchBool, MatchOption};
 ghost use Rattle.json.specs.Scratch.{room};
 ghost use Rattle.json.specs.Token.{Token as JsonToken};
 ghost use Rattle.serde_json.specs.Data.{array};
 ghost use Rattle.serde_json.specs.View.{items_view};
 ghost use Rattle.dh_requests.specs.Texts.{AreTexts, list_of};
+ghost use Rattle.serde_json.specs.Errors.{IsMemory};
 ghost use Rattle.serde_json.specs.Read.{read};
 
-use crate::unread::Unread;
 use json::{Reader, Scratch, Token};
-use serde_json::Value;
+use serde_json::{Error, Value};
 use std::alloc::{AllocError, Global};
 use std::str;
 
@@ -79,19 +79,26 @@ fn is_list(text: &str, scratch: &mut Scratch) -> bool
     is_at_end(&mut reader)
 }
 
-/// The values of the list that the body is; `None` where it is no list of texts. Want of memory is told of a list of texts alone.
+// That memory ran out, as an error says that has no other reason.
+fn want_of_memory(error: &Error) -> AllocError
+    requires { IsMemory error.now }
+{
+    AllocError
+}
+
+/// The values of the list that the body is; `None` where it is no list of texts. An error comes only for want of memory, and of a list
+/// of texts alone.
 pub(crate) fn list_in(
     alloc: Global,
     scratch: &mut Scratch,
     body: &[u8],
-) -> Result<Option<Vec<Value>>, Unread>
+) -> Result<Option<Vec<Value>>, AllocError>
     requires { length body.now ≤ room scratch.old }
     ensures ok { IfOk result (λ found. IfSome found (λ v. (texts : List (List ℕ)) → array (items_view v.items) ≡ list_of texts → AreTexts body.now texts)) }
     ensures only { IfOk result (λ found. IfSome found (λ v. (texts : List (List ℕ)) → AreTexts body.now texts → array (items_view v.items) ≡ list_of texts)) }
     ensures texts { IfOk result (λ found. IfSome found (λ _. (texts : List (List ℕ)) × AreTexts body.now texts)) }
     ensures none { IfOk result (λ found. found ≡ None → (texts : List (List ℕ)) → ¬ AreTexts body.now texts) }
-    ensures memory { result ≡ Err Unread.Memory → (texts : List (List ℕ)) × AreTexts body.now texts }
-    ensures lost { result ≢ Err Unread.Input }
+    ensures memory { OnErr result ((texts : List (List ℕ)) × AreTexts body.now texts) }
 {
     let Ok(text) = str::from_utf8(body) else {
         return Ok(None);
@@ -106,7 +113,7 @@ pub(crate) fn list_in(
             if !error.is_memory() {
                 unreachable!();
             }
-            Err(Unread::Memory)
+            Err(want_of_memory(&error))
         }
     }
 }

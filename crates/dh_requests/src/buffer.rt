@@ -1,22 +1,19 @@
 //! Filling a buffer from a reader.
 
-ghost use Rattle.std.specs.Prelude.{◌≡◌, ◌≢◌, ◌-◌, ◌≤◌, ◌<◌, IfOk, IfErr, OnErr, IsTrue, take, length, List, ℕ, Option};
+ghost use Rattle.std.specs.Prelude.{◌≡◌, ◌-◌, ◌≤◌, ◌<◌, IfOk, OnErr, take, length, List, ℕ, Option};
 ghost use Rattle.std.specs.Io.KnownBytes.{Consumes, IsAtEnd, Keeps};
-ghost use Rattle.std.specs.IoError.{error_kind};
 ghost use Rattle.dh_requests.specs.Bodies.{FillsOrEnds};
 ghost use Rattle.dh_requests.specs.Known.{TakesAtMost};
 
-use crate::failure::{Failure, read_some};
-use std::io;
-use std::io::{ErrorKind, Read};
+use dh_reading::{ReaderFailed, read_again};
+use std::io::Read;
 
 /// Reads once, after the first `filled` bytes of the buffer, and gives how many it has then: as many at the end of input.
 pub(crate) fn read_more<R: Read>(
     reader: &mut R,
-    failure: &mut Failure,
     buffer: &mut [u8],
     filled: usize,
-) -> io::Result<usize>
+) -> Result<usize, ReaderFailed>
     requires { filled < length buffer.now }
     ensures within { IfOk result (λ total. (filled ≤ total) × (total ≤ length buffer.new)) }
     ensures length { length buffer.new ≡ length buffer.old }
@@ -25,31 +22,26 @@ pub(crate) fn read_more<R: Read>(
     ensures end { IfOk result (λ total. total ≡ filled → IsAtEnd (R.remaining reader.new)) }
     ensures taken { IfOk result (λ total. TakesAtMost (total - filled) (R.remaining reader.old) (R.remaining reader.new)) }
     ensures err { OnErr result (Keeps (R.remaining reader.old) (R.remaining reader.new)) }
-    ensures lost { OnErr result (IsTrue failure.new.noted) }
-    ensures again { IfErr result (λ e. error_kind e ≢ ErrorKind.Interrupted) }
 {
-    let count = read_some(reader, failure, &mut buffer[filled..])?;
+    let count = read_again(reader, &mut buffer[filled..])?;
     Ok(filled + count)
 }
 
 /// Reads after the first `front` bytes until the buffer is full, which is true, or the input ends.
 pub(crate) fn fill<R: Read>(
     reader: &mut R,
-    failure: &mut Failure,
     buffer: &mut [u8],
     front: usize,
-) -> io::Result<bool>
+) -> Result<bool, ReaderFailed>
     requires { front ≤ length buffer.now }
     ensures length { length buffer.new ≡ length buffer.old }
     ensures bytes { (start : Option (List ℕ)) → Consumes start (R.remaining reader.old) (take front buffer.old)
         → IfOk result (FillsOrEnds start (R.remaining reader.new) buffer.new) }
     ensures taken { TakesAtMost (length buffer.old - front) (R.remaining reader.old) (R.remaining reader.new) }
-    ensures lost { OnErr result (IsTrue failure.new.noted) }
-    ensures again { IfErr result (λ e. error_kind e ≢ ErrorKind.Interrupted) }
 {
     let mut filled = front;
     while filled < buffer.len() {
-        let total = read_more(reader, failure, buffer, filled)?;
+        let total = read_more(reader, buffer, filled)?;
         if total == filled {
             return Ok(false);
         }

@@ -1,6 +1,6 @@
 //! The body of a command.
 
-ghost use Rattle.std.specs.Prelude.{◌≡◌, ◌≢◌, ◌≤◌, ◌-◌, ◌⊎◌, ℕ, List, length, map, IfOk, IsTrue, Err};
+ghost use Rattle.std.specs.Prelude.{◌≡◌, ◌≤◌, ◌-◌, ◌⊎◌, ℕ, List, length, map, IfOk, OnErr, Err};
 ghost use Rattle.json.specs.Scratch.{room};
 ghost use Rattle.dh_requests.specs.Known.{TakesAtMost};
 ghost use Rattle.dh_requests.specs.Texts.{AreTexts};
@@ -10,7 +10,6 @@ ghost use Rattle.dh_requests.specs.Steps.{Behind, IsListed, IsTextsOf, TakesLeng
 use crate::asked::{Asked, Turned};
 use crate::body::read_body;
 use crate::body_texts::{list_in, texts_of};
-use crate::failure::Failure;
 use crate::header_lines::BodyLength;
 use crate::unread::Unread;
 use dh_fields::{Request, read_fields};
@@ -41,9 +40,8 @@ fn request_of(alloc: Global, texts: &[&[u8]]) -> Result<Result<Request, Refusal>
 }
 
 // What the values of a posted list ask for.
-fn judge_list(alloc: Global, items: &[Value]) -> Result<Asked, Unread>
+fn judge_list(alloc: Global, items: &[Value]) -> Result<Asked, AllocError>
     ensures asks { IfOk result (λ asked. IsListed items.now asked) }
-    ensures lost { result ≢ Err Unread.Input }
 {
     match texts_of(alloc, items)? {
         Some(texts) => Ok(Asked::Fields(request_of(alloc, &texts)?)),
@@ -51,12 +49,11 @@ fn judge_list(alloc: Global, items: &[Value]) -> Result<Asked, Unread>
     }
 }
 
-// What a body asks for. Want of memory is told of a list of texts alone.
-fn judge_body(alloc: Global, scratch: &mut Scratch, body: &[u8]) -> Result<Asked, Unread>
+// What a body asks for. An error comes only for want of memory, and of a list of texts alone.
+fn judge_body(alloc: Global, scratch: &mut Scratch, body: &[u8]) -> Result<Asked, AllocError>
     requires { length body.now ≤ room scratch.old }
     ensures asks { IfOk result (λ asked. IsPosted body.now asked) }
-    ensures memory { result ≡ Err Unread.Memory → (texts : List (List ℕ)) × AreTexts body.now texts }
-    ensures lost { result ≢ Err Unread.Input }
+    ensures memory { OnErr result ((texts : List (List ℕ)) × AreTexts body.now texts) }
 {
     match list_in(alloc, scratch, body)? {
         Some(items) => judge_list(alloc, &items),
@@ -69,19 +66,17 @@ fn judge_body(alloc: Global, scratch: &mut Scratch, body: &[u8]) -> Result<Asked
 fn read_posted<R: Read>(
     alloc: Global,
     reader: &mut R,
-    failure: &mut Failure,
     front: &[u8],
     bytes: u32,
 ) -> Result<Asked, Unread>
     ensures asks { IfOk result (λ asked. Behind front.now (R.remaining reader.old) (λ rest. IsBodyOf (BodyLength.Bytes bytes) rest asked)) }
     ensures taken { TakesAtMost (bytes - length front.now) (R.remaining reader.old) (R.remaining reader.new) }
     ensures memory { result ≡ Err Unread.Memory → (reader.new ≡ reader.old) ⊎ Behind front.now (R.remaining reader.old) (IsTextsOf bytes) }
-    ensures lost { result ≡ Err Unread.Input → IsTrue failure.new.noted }
 {
     let mut scratch = Scratch::new(alloc);
     scratch.reserve(bytes as usize)?;
-    match read_body(alloc, reader, failure, front, bytes as usize)? {
-        Some(body) => judge_body(alloc, &mut scratch, &body),
+    match read_body(alloc, reader, front, bytes as usize)? {
+        Some(body) => Ok(judge_body(alloc, &mut scratch, &body)?),
         None => Ok(Asked::Turned(Turned::BadRequest)),
     }
 }
@@ -90,19 +85,17 @@ fn read_posted<R: Read>(
 pub(crate) fn judge_command<R: Read>(
     alloc: Global,
     reader: &mut R,
-    failure: &mut Failure,
     front: &[u8],
     length: BodyLength,
 ) -> Result<Asked, Unread>
     ensures asks { IfOk result (λ asked. Behind front.now (R.remaining reader.old) (λ rest. IsBodyOf length rest asked)) }
     ensures taken { TakesLength length front.now (R.remaining reader.old) (R.remaining reader.new) }
     ensures memory { result ≡ Err Unread.Memory → (n : ℕ) × (length ≡ BodyLength.Bytes n) }
-    ensures lost { result ≡ Err Unread.Input → IsTrue failure.new.noted }
 {
     match length {
         BodyLength::Absent => Ok(Asked::Turned(Turned::NoLength)),
         BodyLength::Invalid => Ok(Asked::Turned(Turned::BadRequest)),
         BodyLength::TooLarge => Ok(Asked::Turned(Turned::BodyTooLarge)),
-        BodyLength::Bytes(bytes) => read_posted(alloc, reader, failure, front, bytes),
+        BodyLength::Bytes(bytes) => read_posted(alloc, reader, front, bytes),
     }
 }

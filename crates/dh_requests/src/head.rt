@@ -1,18 +1,16 @@
 //! The head of a request.
 
-ghost use Rattle.std.specs.Prelude.{◌≡◌, ◌≢◌, ◌≤◌, ◌<◌, IfOk, IfErr, IsTrue, OnErr, length, List, ℕ};
-ghost use Rattle.std.specs.IoError.{error_kind};
+ghost use Rattle.std.specs.Prelude.{◌≡◌, ◌≤◌, ◌<◌, IfOk, length, List, ℕ};
 ghost use Rattle.httparse.specs.Grammar.{RequestHead};
 ghost use Rattle.dh_requests.specs.Heads.{HeadOf, JudgedAs, IfFound, IsInBuffer, IsHead, IsBadHead, IsLargeHead};
 ghost use Rattle.dh_requests.specs.Known.{IfBoth, TakesAtMost};
 
 use crate::buffer::read_more;
-use crate::failure::Failure;
 use crate::limits::{HEAD_BYTES, HEADER_LINES, ROOM};
+use dh_reading::ReaderFailed;
 use httparse::spans::{HeaderSpan, RequestSpans, parse_request};
 use httparse::{Error, Status};
-use std::io;
-use std::io::{ErrorKind, Read};
+use std::io::Read;
 
 /// A head in a buffer, of which `filled` bytes were read.
 #[derive(Clone, Copy, Debug)]
@@ -60,22 +58,19 @@ fn judge(front: &[u8], headers: &mut [HeaderSpan]) -> Judged
 /// the reader's.
 pub(crate) fn read_head<R: Read>(
     reader: &mut R,
-    failure: &mut Failure,
     buffer: &mut [u8],
     headers: &mut [HeaderSpan],
-) -> io::Result<HeadRead>
+) -> Result<HeadRead, ReaderFailed>
     requires room { length buffer.now ≡ ROOM }
     requires lines { length headers.now ≡ HEADER_LINES }
     ensures found { IfOk result (λ read. IfFound read (IsInBuffer buffer.new headers.new)) }
     ensures input { IfOk result (λ read. IfBoth (R.remaining reader.old) (R.remaining reader.new)
         (λ input after. HeadOf input after buffer.new headers.new read)) }
     ensures taken { TakesAtMost ROOM (R.remaining reader.old) (R.remaining reader.new) }
-    ensures lost { OnErr result (IsTrue failure.new.noted) }
-    ensures again { IfErr result (λ e. error_kind e ≢ ErrorKind.Interrupted) }
 {
     let mut filled = 0usize;
     while filled < ROOM {
-        let total = read_more(reader, failure, buffer, filled)?;
+        let total = read_more(reader, buffer, filled)?;
         if total == filled {
             return Ok(if filled == 0 {
                 HeadRead::Closed

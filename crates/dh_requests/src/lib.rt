@@ -7,7 +7,6 @@ mod body;
 mod body_texts;
 mod buffer;
 mod command_body;
-mod failure;
 mod head;
 mod header_lines;
 pub mod limits;

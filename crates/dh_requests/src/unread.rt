@@ -3,13 +3,14 @@
 ghost use Rattle.std.specs.Prelude.{◌≡◌};
 ghost use Rattle.dh_requests.specs.declared.unread.Unread.TheVariants as unread;
 
+use dh_reading::ReaderFailed;
 use std::alloc::AllocError;
 
 /// Why no request was read.
-#[derive(Clone, Copy, Debug, PartialEq, Eq)]
+#[derive(Clone, Copy, Debug)]
 pub enum Unread {
-    /// The reader failed.
-    Input,
+    /// The reader failed. Only a read that failed makes what this holds.
+    Input(ReaderFailed),
     /// Memory ran out.
     Memory,
 }
@@ -19,5 +20,13 @@ impl From<AllocError> for Unread {
 
     fn from(_: AllocError) -> Unread {
         Unread::Memory
+    }
+}
+
+impl From<ReaderFailed> for Unread {
+    ghost from_gives = { λ failed e. e ≡ unread.Input failed };
+
+    fn from(failed: ReaderFailed) -> Unread {
+        Unread::Input(failed)
     }
 }

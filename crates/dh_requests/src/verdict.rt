@@ -1,6 +1,6 @@
 //! Judging a request by its head.
 
-ghost use Rattle.std.specs.Prelude.{◌≡◌, ◌↔◌, ◌≢◌, ◌∷◌, ℕ, List, map, length, All, IsTrue, IfOk, Err, codes};
+ghost use Rattle.std.specs.Prelude.{◌≡◌, ◌↔◌, ◌≢◌, ◌∷◌, ℕ, List, map, length, All, IsTrue, IfOk, OnErr, Err, codes};
 ghost use Rattle.httparse.specs.Grammar.{RequestHead};
 ghost use Rattle.httparse.specs.Spans.{IsHeaderWithin};
 ghost use Rattle.dh_requests.specs.Targets.{IsTarget};
@@ -10,7 +10,6 @@ ghost use Rattle.dh_requests.specs.Steps.{Behind, HoldsHead, IsHeadOf, TakesBody
 
 use crate::asked::{Asked, Turned};
 use crate::command_body::judge_command;
-use crate::failure::Failure;
 use crate::header_lines::{body_length, count};
 use crate::pieces::pieces_of;
 use crate::routes::{Route, Routes};
@@ -97,18 +96,17 @@ fn read_question(
     read_pieces(alloc, word.as_bytes(), count, first, second)
 }
 
-// What a request asks for whose target has the route of a question.
+// What a request asks for whose target has the route of a question. An error comes only for want of memory.
 fn judge_question(
     alloc: Global,
     method: &[u8],
     route: Route,
     target: &[u8],
-) -> Result<Asked, Unread>
+) -> Result<Asked, AllocError>
     requires target { IsTarget route target.now }
     requires asks { route ≢ Route.Commands }
     ensures asks { IfOk result (λ asked. IsByMethod (codes "GET") method.now Turned.OnlyByGet asked (IsQuestionOf route target.now asked)) }
-    ensures memory { result ≡ Err Unread.Memory → method.now ≡ codes "GET" }
-    ensures lost { result ≢ Err Unread.Input }
+    ensures memory { OnErr result (method.now ≡ codes "GET") }
 {
     if !is_method(method, b"GET") {
         return Ok(Asked::Turned(Turned::OnlyByGet));
@@ -118,37 +116,24 @@ fn judge_question(
 }
 
 // What a request asks for whose target is the route of commands.
-fn judge_order<R: Read>(
-    alloc: Global,
-    reader: &mut R,
-    failure: &mut Failure,
-    found: &Found,
-) -> Result<Asked, Unread>
+fn judge_order<R: Read>(alloc: Global, reader: &mut R, found: &Found) -> Result<Asked, Unread>
     requires { HoldsHead found.now }
     ensures asks { (h : RequestHead) → IsHeadOf found.now h
         → IfOk result (λ asked. Behind (read_behind found.now) (R.remaining reader.old) (λ rest. IsOfRoute Route.Commands h rest asked)) }
     ensures taken { (h : RequestHead) → IsHeadOf found.now h → TakesOrder h (read_behind found.now) (R.remaining reader.old) (R.remaining reader.new) }
     ensures memory { result ≡ Err Unread.Memory → (h : RequestHead) → IsHeadOf found.now h → NeedsMemory Route.Commands h }
-    ensures lost { result ≡ Err Unread.Input → IsTrue failure.new.noted }
 {
     if !is_method(found.spans.method.of(found.front), b"POST") {
         return Ok(Asked::Turned(Turned::OnlyByPost));
     }
     let length = body_length(found.front, &found.headers[..found.spans.headers]);
-    judge_command(
-        alloc,
-        reader,
-        failure,
-        &found.front[found.spans.len..],
-        length,
-    )
+    judge_command(alloc, reader, &found.front[found.spans.len..], length)
 }
 
 // What a request asks for whose target has this route.
 fn judge_route<R: Read>(
     alloc: Global,
     reader: &mut R,
-    failure: &mut Failure,
     found: &Found,
     route: Route,
     target: &str,
@@ -160,13 +145,12 @@ fn judge_route<R: Read>(
     ensures taken { (h : RequestHead) → IsHeadOf found.now h → target.now ≡ h.target
         → TakesBody h (read_behind found.now) (R.remaining reader.old) (R.remaining reader.new) }
     ensures memory { result ≡ Err Unread.Memory → (h : RequestHead) → IsHeadOf found.now h → target.now ≡ h.target → NeedsMemory route h }
-    ensures lost { result ≡ Err Unread.Input → IsTrue failure.new.noted }
 {
     match route {
-        Route::Commands => judge_order(alloc, reader, failure, found),
+        Route::Commands => judge_order(alloc, reader, found),
         _ => {
             let method = found.spans.method.of(found.front);
-            judge_question(alloc, method, route, target.as_bytes())
+            Ok(judge_question(alloc, method, route, target.as_bytes())?)
         }
     }
 }
@@ -176,7 +160,6 @@ pub(crate) fn judge<R: Read>(
     alloc: Global,
     routes: &Routes,
     reader: &mut R,
-    failure: &mut Failure,
     found: &Found,
 ) -> Result<Asked, Unread>
     requires at { (h : RequestHead) × IsHeadOf found.now h }
@@ -185,14 +168,13 @@ pub(crate) fn judge<R: Read>(
         → IfOk result (λ asked. Behind (read_behind found.now) (R.remaining reader.old) (λ rest. IsOfHead h rest asked)) }
     ensures taken { (h : RequestHead) → IsHeadOf found.now h → TakesBody h (read_behind found.now) (R.remaining reader.old) (R.remaining reader.new) }
     ensures memory { result ≡ Err Unread.Memory → (h : RequestHead) → IsHeadOf found.now h → TakesMemory h }
-    ensures lost { result ≡ Err Unread.Input → IsTrue failure.new.noted }
 {
     match turned_by_lines(found) {
         Some(why) => Ok(Asked::Turned(why)),
         None => {
             let target = target_of(found);
             match routes.of(target) {
-                Some(route) => judge_route(alloc, reader, failure, found, route, target),
+                Some(route) => judge_route(alloc, reader, found, route, target),
                 None => Ok(Asked::Turned(Turned::NotFound)),
             }
         }
