@@ -6,8 +6,8 @@ use dh_types::BatchCount;
 use std::alloc::AllocError;
 use std::io::Write;
 
-// A second for a request, for its answer, and for what comes behind it.
-const HASTE: Patience = Patience {
+/// A second for a request, for its answer, and for what comes behind it.
+pub const HASTE: Patience = Patience {
     request_seconds: 1,
     answer_seconds: 1,
     rest_seconds: 1,

@@ -4,6 +4,7 @@
 
 use crate::cracks::cracked;
 use crate::moved_files::ran_while;
+use crate::patterns::spread;
 use crate::runs::{LOG, MOVED, PATH, clear, ran, standing};
 use dh_agency_test_kit::{all_rows, compare, parted, rows_of};
 use dh_scripts::Tally;
@@ -116,7 +117,8 @@ pub fn play(rt: &HostRuntime, tally: &mut Tally, lines: &str) -> io::Result<()> 
     clear(rt);
     let mut kept = Vec::new(rt.alloc());
     for line in lines.lines() {
-        play_line(rt, tally, &mut kept, line)?;
+        let line = spread(rt.alloc(), line)?;
+        play_line(rt, tally, &mut kept, line.as_str())?;
     }
     clear(rt);
     Ok(())

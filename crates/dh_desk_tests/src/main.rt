@@ -22,6 +22,7 @@ mod patterns;
 mod peers;
 mod runs;
 mod second_runs;
+mod slow_peers;
 mod turns;
 mod unasked;
 mod ways;
@@ -41,6 +42,7 @@ fn play(rt: &HostRuntime, tally: &mut Tally, kind: &str, lines: &str) -> io::Res
         "places with which another program meddles" => other_programs::play(rt, tally, lines),
         "peers" => peers::play(rt, tally, lines),
         "second runs" => second_runs::play(rt, tally, lines),
+        "slow peers" => slow_peers::play(rt, tally, lines),
         "unasked" => unasked::play(rt, tally, lines),
         "a reader that fails" => failures::play_reader(rt, tally, lines),
         "a writer that fails" => failures::play_writer(rt, tally, "3", lines),
