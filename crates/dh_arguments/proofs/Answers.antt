@@ -14,7 +14,8 @@ use Rattle.dh_types.specs.declared.question.Question.{Question}
 use Rattle.dh_types.specs.declared.reply.Refusal.{Refusal}
 use Rattle.dh_fields.specs.declared.request.Request.TheVariants as request
 use Rattle.dh_fields.specs.Lines.{a_question, field, question_forms, request_of, value_among}
-use Rattle.dh_arguments.specs.Jobs.{is_complete, is_there, question_fields}
+use Rattle.dh_fields.specs.Readings.{WantsText, wants_text}
+use Rattle.dh_arguments.specs.Jobs.{IsShown, is_complete, is_there, question_fields}
 use Rattle.dh_arguments.specs.Table.{batch, init, letting, migrate, recover, report, run, serve}
 
 abbrev pub has : Text → List Row → Type 0
@@ -111,6 +112,14 @@ not_a_command : (it : Command) (r : Result Question Refusal) → Ok (request.Com
 not_a_command it (Ok x) e = cc
 not_a_command it (Err x) e = cc
 
-pub asks_only : (words : List Text) (it : Command) → Ok (request.Command it) ≡ request_of (codes "show" ∷ words) → ⊥
+pub asks_only : (fields : List Text) (it : Command) → IsShown fields → Ok (request.Command it) ≡ request_of fields → ⊥
 unfolding request_of field
-asks_only words it e = not_a_command it (value_among question_forms 2 (codes "show" ∷ words)) e
+asks_only fields it shown e =
+    let words = shown.0 in
+    let asked : Ok (request.Command it) ≡ request_of (codes "show" ∷ words) = e ∙ ap request_of shown.1 in
+    not_a_command it (value_among question_forms 2 (codes "show" ∷ words)) asked
+
+-- no memory is wanted for it
+pub wants_none : (fields : List Text) → IsShown fields → WantsText fields → ⊥
+unfolding wants_text field
+wants_none fields shown h = let wanted : wants_text (codes "show" ∷ shown.0) ≡ true = ap wants_text (sym shown.1) ∙ h in cc

@@ -59,4 +59,4 @@ module _ (name file : Text) (rows : List Row) (is : name ≡ codes "report") (we
   reported (Err (Question refusal)) h = (well, is, h)
   reported (Err (Refused error)) h = absurd h
   reported (Err (Value option)) h = absurd h
-  reported (Err Memory) h = tt
+  reported (Err Memory) h = (well, is)

@@ -32,6 +32,10 @@ usual_first = 24300
 abbrev pub question_fields : List Row → List Text
 question_fields rows = codes "show" ∷ unwrap_or (all_of (codes "word") rows) []
 
+-- the fields of a line that asks with some words
+abbrev pub IsShown : List Text → Type 0
+IsShown fields = (words : List Text) × (fields ≡ codes "show" ∷ words)
+
 -- the subcommand of this name asks for the job with the values of these rows
 abbrev pub Asks : Text → List Row → Job → Type 0
 Asks name rows (Init file first) = (name ≡ codes "init") × (first_of (codes "file") rows ≡ Some file.now) × (value month_of (codes "first") rows ≡ Some first)
@@ -51,7 +55,7 @@ Asks name rows (Serve file port count) = (name ≡ codes "serve") × (first_of (
 abbrev pub IsJobOf : List Text → Job → Type 0
 IsJobOf words job = (sub : Text × List Row) × Takes words sub × (first_bad sub.1 ≡ None) × Asks sub.0 sub.1 job
 
--- why the words ask for no job
+-- Why the words ask for no job. `clap` may want memory at any words.
 abbrev pub IsBadFor : List Text → BadWords → Type 0
 IsBadFor words (bad.Refused error) = IsAmong (kind_of error) (fault_of letting (joined words))
 IsBadFor words (bad.Value option) = (sub : Text × List Row) × Takes words sub × (first_bad sub.1 ≡ Some option.now)
@@ -81,13 +85,13 @@ IsReport name fields (Err (bad.Question refusal)) = request_of fields ≡ Err re
 IsReport name fields (Err bad.Memory) = ⊤
 IsReport name fields (Err _) = ⊥
 
--- what the subcommand of this name comes to with these rows
+-- What the subcommand of this name comes to with these rows. Memory is wanted for a question alone, and behind options that are all read.
 abbrev pub IsAnswer : Text → List Row → Result Job BadWords → Type 0
 IsAnswer name rows (Ok job) = (first_bad rows ≡ None) × Asks name rows job
 IsAnswer name rows (Err (bad.Refused error)) = ⊥
 IsAnswer name rows (Err (bad.Value option)) = first_bad rows ≡ Some option.now
 IsAnswer name rows (Err (bad.Question refusal)) = (first_bad rows ≡ None) × (name ≡ codes "report") × (request_of (question_fields rows) ≡ Err refusal)
-IsAnswer name rows (Err bad.Memory) = ⊤
+IsAnswer name rows (Err bad.Memory) = (first_bad rows ≡ None) × (name ≡ codes "report")
 
 -- an error of `clap` is told as it is, but for want of memory
 abbrev pub HandsOn : Error → BadWords → Type 0

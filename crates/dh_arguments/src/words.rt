@@ -6,7 +6,7 @@ ghost use Rattle.dh_arguments.specs.Jobs.{HandsOn, IsAnswer, IsBadFor, IsJobOf, 
 
 use crate::commands::letting;
 use crate::options::read_options;
-use crate::questions::read_question;
+use crate::questions::{line_of, read_question};
 use crate::typed::Words;
 use crate::{BadWords, Job};
 use clap::error::ErrorKind;
@@ -32,7 +32,8 @@ fn report<'a>(alloc: Global, file: &'a str, values: &ArgMatches<'a>) -> Result<J
     requires { is_some (first_of (codes "word") (rows_of (found_of values.now))) ≡ true }
     ensures { IsReport file.now (question_fields (rows_of (found_of values.now))) result }
 {
-    match read_question(alloc, values.get_strs("word").unwrap())? {
+    let fields = line_of(alloc, values.get_strs("word").unwrap())?;
+    match read_question(alloc, &fields) {
         Ok(question) => Ok(Job::Report { file, question }),
         Err(refusal) => Err(BadWords::Question(refusal)),
     }

@@ -40,6 +40,7 @@ module _ {S : Type 0} (g : Ghosts S) where
       by : (r : Result Bool Halt) → Answers g old new a b n it P r → Answers g old new a b n it Q r
       by (Ok is_refused) h = h
       by (Err (halt.Fault fault outcome)) h = (h.0, λ is_open. f (machine g new) (h.1 is_open), h.2)
+      by (Err (halt.Unread cause outcome)) h = h
       by (Err (halt.Input cause)) h = h
       by (Err (halt.Output failed)) h = h
 

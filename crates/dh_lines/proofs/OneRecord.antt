@@ -1,5 +1,5 @@
 -- What one record is answered, from what the agency's call and the writing of its line give.
-use Rattle.std.proofs.Common.{◌≡◌, ◌∙◌, ℕ, Bool, true, false, Option, List, ◌++◌, Result, Ok, Err, refl, sym, ap, subst}
+use Rattle.std.proofs.Common.{◌≡◌, ◌∙◌, inl, inr, ℕ, Bool, true, false, Option, List, ◌++◌, Result, Ok, Err, refl, sym, ap, subst}
 use Rattle.std.specs.Prelude.{IfErr, IsErrAnd}
 use Rattle.std.proofs.lemmas.Bool.{false≢true}
 use Rattle.std.specs.Io.KnownBytes.{Appends}
@@ -23,6 +23,7 @@ use Rattle.dh_agency.specs.Agency.{IsOpen, LeavesItsTables, machine, stand, stan
 use Rattle.dh_agency.proofs.Standing.{reads_in_order, report_stands}
 use Rattle.dh_fields.specs.declared.request.Request.{Request}
 use Rattle.dh_fields.specs.Lines.{Fields, request_of}
+use Rattle.dh_fields.specs.Readings.{WantsText}
 use Rattle.dh_reports.specs.Columns.{newline}
 use Rattle.dh_lines.specs.declared.outcome.Halt.{Halt}
 use Rattle.dh_lines.specs.declared.outcome.Halt.TheVariants as halt
@@ -32,11 +33,13 @@ use Rattle.dh_lines.specs.Batch.{Answers, IsAgencyFault, IsFirst, IsStoreFault, 
 -- a fault that was told
 pub fault_first : (a b : Option (List ℕ)) (n : ℕ) (fault : Fault) (h : Halt) → TellsFault a b n fault h → IsFirstFault fault → IsFirst (batch_fault h)
 fault_first a b n fault (halt.Fault found outcome) told first = subst IsFirstFault (sym told.0) first
+fault_first a b n fault (halt.Unread cause outcome) told first = absurd told
 fault_first a b n fault (halt.Input cause) told first = absurd told
 fault_first a b n fault (halt.Output failed) told first = absurd told
 
 pub fault_halts : (a b : Option (List ℕ)) (n : ℕ) (fault : Fault) (h : Halt) → TellsFault a b n fault h → IsAgencyFault (batch_fault h)
 fault_halts a b n fault (halt.Fault found outcome) told = tt
+fault_halts a b n fault (halt.Unread cause outcome) told = absurd told
 fault_halts a b n fault (halt.Input cause) told = absurd told
 fault_halts a b n fault (halt.Output failed) told = absurd told
 
@@ -47,19 +50,23 @@ not_on stopped on = absurd (false≢true (sym on ∙ stopped))
 -- want of memory is no fault of the store
 pub no_store_fault : (a b : Option (List ℕ)) (n : ℕ) (h : Halt) → TellsFault a b n faults.Memory h → ¬ IsStoreFault (batch_fault h)
 no_store_fault a b n (halt.Fault found outcome) told is = cc (told.0)
+no_store_fault a b n (halt.Unread cause outcome) told is = is
 no_store_fault a b n (halt.Input cause) told is = is
 no_store_fault a b n (halt.Output failed) told is = is
 
--- want of memory may end the batch at any record
-pub memory_of_any : (fields : Fields) (a b : Option (List ℕ)) (n : ℕ) (h : Halt) → TellsFault a b n faults.Memory h → OnlyOfRequests fields h
-memory_of_any fields a b n (halt.Fault found outcome) told = λ other. absurd (other told.0)
-memory_of_any fields a b n (halt.Input cause) told = tt
-memory_of_any fields a b n (halt.Output failed) told = tt
+-- memory may run out for a text
+pub memory_of_text : (fields : Fields) (a b : Option (List ℕ)) (n : ℕ) (h : Halt) → TellsFault a b n faults.Memory h → WantsText fields
+    → OnlyOfRequests fields h
+memory_of_text fields a b n (halt.Fault found outcome) told wants = inr (told.0, (fields, refl, wants))
+memory_of_text fields a b n (halt.Unread cause outcome) told wants = tt
+memory_of_text fields a b n (halt.Input cause) told wants = tt
+memory_of_text fields a b n (halt.Output failed) told wants = tt
 
 -- of fields that ask something any fault may come
 pub of_request : (fields : Fields) (it : Request) (r : Result Bool Halt) → request_of fields ≡ Ok it → IfErr r (OnlyOfRequests fields)
 of_request fields it (Ok value) asked = tt
-of_request fields it (Err (halt.Fault fault outcome)) asked = λ other. (fields, it, refl, asked)
+of_request fields it (Err (halt.Fault fault outcome)) asked = inl (fields, it, refl, asked)
+of_request fields it (Err (halt.Unread cause outcome)) asked = tt
 of_request fields it (Err (halt.Input cause)) asked = tt
 of_request fields it (Err (halt.Output failed)) asked = tt
 
@@ -74,6 +81,7 @@ module _ {S : Type 0} (g : Ghosts S) (old new : Seat S) (a b : Option (List ℕ)
       → Answers g old new a b n it P (Err h)
   answers_fault it P fault (halt.Fault found outcome) told reads undone =
       (subst (λ f. Puts a b outcome (fault_line n f)) (sym told.0) told.1, reads, undone)
+  answers_fault it P fault (halt.Unread cause outcome) told reads undone = absurd told
   answers_fault it P fault (halt.Input cause) told reads undone = absurd told
   answers_fault it P fault (halt.Output failed) told reads undone = absurd told
 

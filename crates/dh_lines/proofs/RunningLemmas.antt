@@ -10,24 +10,20 @@ use Rattle.csv.specs.declared.error.ErrorKind.TheVariants as kind
 use Rattle.csv.specs.declared.reader.Reader.{Reader}
 use Rattle.sqlite.specs.Store.{Ghosts}
 use Rattle.dh_types.specs.Output.{BreaksOff, Puts}
-use Rattle.dh_types.specs.declared.reply.Fault.{Fault}
-use Rattle.dh_types.specs.declared.reply.Fault.TheVariants as faults
-use Rattle.dh_types.specs.declared.output.Output as writing
 use Rattle.dh_model.specs.Books.{State}
 use Rattle.dh_agency.specs.Seat.{Seat}
 use Rattle.dh_agency.specs.Agency.{Leaves, LeavesItsTables, WasClean, machine, stand, stand_of}
-use Rattle.dh_agency.proofs.Standing.{leaves_more, leaves_what_holds}
+use Rattle.dh_agency.proofs.Standing.{leaves_more}
 use Rattle.dh_fields.specs.Lines.{Fields}
 use Rattle.dh_lines.specs.Session.{answered, fault_line, line, records_of, state_after}
-use Rattle.dh_lines.specs.Batch.{Answers, AnsweredAll, AnsweredFirst, EndsSo, Faulted, Halts, IsAgencyFault, IsAtRest, IsFirst}
-use Rattle.dh_lines.specs.Batch.{IsAsked, IsStoreFault, IsWithin}
-use Rattle.dh_lines.specs.Batch.{OnlyOfRequests, PutsBehind, TellsFault, TellsReading, batch_fault}
+use Rattle.dh_lines.specs.Batch.{Answers, AnsweredAll, AnsweredFirst, EndsSo, Halts, IsAgencyFault, IsAtRest, IsFirst}
+use Rattle.dh_lines.specs.Batch.{IsFaultAt, IsStoreFault, IsWithin}
+use Rattle.dh_lines.specs.Batch.{OnlyOfRequests, PutsBehind, TellsReading, TellsUnread, batch_fault}
 use Rattle.dh_lines.specs.declared.watched_reader.Input.{Input}
 use Rattle.dh_lines.specs.declared.outcome.Summary.{Summary}
 use Rattle.dh_lines.specs.declared.outcome.BatchFault.{BatchFault}
 use Rattle.dh_lines.specs.declared.outcome.Halt.{Halt}
 use Rattle.dh_lines.specs.declared.outcome.Halt.TheVariants as halt
-use Rattle.dh_lines.proofs.OneRecord.{no_store_fault}
 use Rattle.dh_lines.proofs.Following.{Ended, Follows, Found, state-more}
 
 few : {X : Type 0} (xs : List X) (n : ℕ) → length (take n xs) ≡ n → n ≤ length xs
@@ -51,25 +47,22 @@ module _ {S R : Type 0} (g : Ghosts S) (old new : Seat S) (a b : Option (List �
   pub first_answered : (cause : Input) → (cause.is_full ≡ true → n ≡ 2 ^ 64 - 1) → AnsweredFirst g old new a b cause input
   first_answered cause full = record { count = n; few = few (records_of input) n w.count; full = full; written = w.written; state = w.state }
 
-  wanted_memory : (c : Option (List ℕ)) (fault : Fault) (outcome : Result (Unit {0}) writing.Output) → fault ≡ faults.Memory
-      → Puts b c outcome (fault_line (n + 1) fault) → (IsAtRest g old → LeavesItsTables g new) → Faulted g old new a c fault outcome input
-  wanted_memory c fault outcome memory put left = record {
-    count = n;
-    few = few (records_of input) n w.count;
-    asked = λ other. absurd (other memory);
-    written = puts_behind a b c _ _ outcome w.written put;
-    state = λ is_open. inl w.state;
-    undone = λ on. w.state;
-    left = λ rests. leaves_what_holds g new (IsWithin (state_after (stand g old) (take n (records_of input))) (slice_get (records_of input) n))
-        (left rests) (inl w.state);
-  }
-
-  ends_by_want : (c : Option (List ℕ)) (h : Halt) → TellsFault b c (n + 1) faults.Memory h → (IsAtRest g old → LeavesItsTables g new)
+  left_unread : (c : Option (List ℕ)) (h : Halt) → TellsUnread b c (n + 1) h → (IsAtRest g old → LeavesItsTables g new)
       → EndsSo g old new a c (Err (batch_fault h)) input
-  ends_by_want c (halt.Fault found outcome) told left =
-      (outcome, wanted_memory c found outcome told.0 (subst (λ f. Puts b c outcome (fault_line (n + 1) f)) (sym told.0) told.1) left)
-  ends_by_want c (halt.Input cause) told left = absurd told
-  ends_by_want c (halt.Output failed) told left = absurd told
+  left_unread c (halt.Fault found outcome) told left = absurd told
+  left_unread c (halt.Unread cause outcome) told left = (
+    outcome,
+    record {
+      count = n;
+      few = few (records_of input) n w.count;
+      number = told.0;
+      written = puts_behind a b c _ _ outcome w.written told.1;
+      state = w.state;
+      left = left;
+    },
+  )
+  left_unread c (halt.Input cause) told left = absurd told
+  left_unread c (halt.Output failed) told left = absurd told
 
   -- the next record was not read
   pub ends_unread : {W : Type 0} (held : W → Option (List ℕ)) (one two : W) (k : ErrorKind) (noted : Option Input) (h : Halt) → b ≡ held one
@@ -77,8 +70,8 @@ module _ {S R : Type 0} (g : Ghosts S) (old new : Seat S) (a b : Option (List �
       → EndsSo g old new a (held two) (Err (batch_fault h)) input
   ends_unread {W} held one two k noted h is of_reader told left = by k noted of_reader told
     where
-      want : TellsFault (held one) (held two) (n + 1) faults.Memory h → EndsSo g old new a (held two) (Err (batch_fault h)) input
-      want told = ends_by_want (held two) h (subst (λ o. TellsFault o (held two) (n + 1) faults.Memory h) (sym is) told) left
+      want : TellsUnread (held one) (held two) (n + 1) h → EndsSo g old new a (held two) (Err (batch_fault h)) input
+      want told = left_unread (held two) h (subst (λ o. TellsUnread o (held two) (n + 1) h) (sym is) told) left
 
       by : (k : ErrorKind) (noted : Option Input) → IfSome noted (λ cause. cause.is_full ≡ false) → TellsReading held one two (n + 1) k noted h
           → EndsSo g old new a (held two) (Err (batch_fault h)) input
@@ -98,8 +91,9 @@ pub first_unread : {W : Type 0} (held : W → Option (List ℕ)) (one two : W) (
     → TellsReading held one two n k noted h → IsFirst (batch_fault h)
 first_unread {W} held one two n k noted h told = by k noted told
   where
-    memory : (h : Halt) → TellsFault (held one) (held two) n faults.Memory h → IsFirst (batch_fault h)
-    memory (halt.Fault found outcome) told = subst (λ f. IsFirst (batch_fault (halt.Fault f outcome))) (sym told.0) tt
+    memory : (h : Halt) → TellsUnread (held one) (held two) n h → IsFirst (batch_fault h)
+    memory (halt.Fault found outcome) told = absurd told
+    memory (halt.Unread cause outcome) told = tt
     memory (halt.Input cause) told = absurd told
     memory (halt.Output failed) told = absurd told
 
@@ -112,16 +106,22 @@ first_unread {W} held one two n k noted h told = by k noted told
     by (kind.Deserialize pos e) noted told = absurd told
     by kind.OutOfMemory noted told = memory h told
 
+no_store_memory : (a b : Option (List ℕ)) (n : ℕ) (h : Halt) → TellsUnread a b n h → ¬ IsStoreFault (batch_fault h)
+no_store_memory a b n (halt.Fault found outcome) told is = told
+no_store_memory a b n (halt.Unread cause outcome) told is = is
+no_store_memory a b n (halt.Input cause) told is = told
+no_store_memory a b n (halt.Output failed) told is = told
+
 -- no such end is a fault of the store
 pub no_store_unread : {W : Type 0} (held : W → Option (List ℕ)) (one two : W) (n : ℕ) (k : ErrorKind) (noted : Option Input) (h : Halt)
     → TellsReading held one two n k noted h → ¬ IsStoreFault (batch_fault h)
 no_store_unread held one two n (kind.Io e) (Some cause) h told store = subst (λ z. IsStoreFault (batch_fault z)) told.0 store
-no_store_unread held one two n (kind.Io e) None h told store = no_store_fault (held one) (held two) n h told store
+no_store_unread held one two n (kind.Io e) None h told store = no_store_memory (held one) (held two) n h told store
 no_store_unread held one two n (kind.Utf8 pos e) noted h told store = told
 no_store_unread held one two n (kind.UnequalLengths pos expected len) noted h told store = told
 no_store_unread held one two n (kind.Serialize text) noted h told store = told
 no_store_unread held one two n (kind.Deserialize pos e) noted h told store = told
-no_store_unread held one two n kind.OutOfMemory noted h told store = no_store_fault (held one) (held two) n h told store
+no_store_unread held one two n kind.OutOfMemory noted h told store = no_store_memory (held one) (held two) n h told store
 
 -- a reader that was noted to fail is not the count that is full
 pub noted_of_reader : (has_failed : Bool) (noted : Option Input) → noted ≡ (if has_failed then Some (record { is_full = false }) else None)
@@ -153,13 +153,14 @@ module _ {S R : Type 0} (g : Ghosts S) (old mid new : Seat S) (a b c : Option (L
     record {
       count = n;
       few = few (records_of input) n w.next.count;
-      asked = λ other. subst IsAsked (sym w.next.here) (asked other);
+      asked = subst (IsFaultAt fault) (sym w.next.here) asked;
       written = puts_behind a b c _ _ outcome w.written h.0;
       state = λ is_open. moved (machine g new) (h.1 is_open);
       undone = λ on. ap stand_of (h.2 on) ∙ w.state;
       left = λ rests. leaves_more g new (IsWithin (stand g mid) (Some f)) _ moved (left rests);
     },
   )
+  ends_early (halt.Unread cause outcome) h asked left = absurd h
   ends_early (halt.Input cause) h asked left = absurd h
   ends_early (halt.Output failed) h asked left =
       let broken = subst (BreaksOff b c) same_line h.0 in

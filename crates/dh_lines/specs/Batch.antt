@@ -18,6 +18,7 @@ use Rattle.dh_laws.specs.Events.{RunIfDone, RunIfUndone}
 use Rattle.dh_schema.specs.Faults.{IsFirstFault}
 use Rattle.dh_agency.specs.Seat.{Seat}
 use Rattle.dh_agency.specs.Agency.{IsOpen, Leaves, LeavesItsTables, WasClean, machine, stand, stand_of}
+use Rattle.dh_lines.specs.declared.records.Unread.{Unread}
 use Rattle.dh_lines.specs.declared.outcome.Summary.{Summary}
 use Rattle.dh_lines.specs.declared.outcome.BatchFault.{BatchFault}
 use Rattle.dh_lines.specs.declared.outcome.BatchFault.TheVariants as ended
@@ -27,6 +28,7 @@ use Rattle.dh_lines.specs.declared.watched_reader.Input.{Input}
 use Rattle.dh_fields.specs.declared.request.Request.{Request}
 use Rattle.dh_fields.specs.declared.request.Request.TheVariants as request
 use Rattle.dh_fields.specs.Lines.{Fields, request_of}
+use Rattle.dh_fields.specs.Readings.{WantsText}
 use Rattle.dh_lines.specs.Session.{Answered, answered, fault_line, line, lines_from, numbered, records_of, refused_in, state_after}
 
 -- ---- how a batch ends early
@@ -34,38 +36,50 @@ use Rattle.dh_lines.specs.Session.{Answered, answered, fault_line, line, lines_f
 -- the same, as it is told to the caller
 abbrev pub batch_fault : Halt → BatchFault
 batch_fault (halt.Fault it outcome) = ended.Agency it
+batch_fault (halt.Unread cause outcome) = ended.Unread cause
 batch_fault (halt.Input cause) = ended.Input cause
 batch_fault (halt.Output failed) = ended.Output failed
 
 abbrev pub IsAgencyFault : BatchFault → Type 0
 IsAgencyFault (ended.Agency it) = ⊤
+IsAgencyFault (ended.Unread cause) = ⊥
 IsAgencyFault (ended.Input cause) = ⊥
 IsAgencyFault (ended.Output failed) = ⊥
 
 -- a fault that ends the batch of an agency that had not stopped before
 abbrev pub IsFirst : BatchFault → Type 0
 IsFirst (ended.Agency it) = IsFirstFault it
+IsFirst (ended.Unread cause) = ⊤
 IsFirst (ended.Input cause) = ⊤
 IsFirst (ended.Output failed) = ⊤
 
 -- fault 22, which only the agency answers: the batch itself can want memory alone
 abbrev pub IsStoreFault : BatchFault → Type 0
 IsStoreFault (ended.Agency it) = it ≡ faults.Store
+IsStoreFault (ended.Unread cause) = ⊥
 IsStoreFault (ended.Input cause) = ⊥
 IsStoreFault (ended.Output failed) = ⊥
 
 -- this fault, whose line was written as the outcome of that says: the whole, or some of it
 abbrev pub TellsFault : Option (List ℕ) → Option (List ℕ) → ℕ → Fault → Halt → Type 0
 TellsFault a b n it (halt.Fault found outcome) = (found ≡ it) × Puts a b outcome (fault_line n it)
+TellsFault a b n it (halt.Unread cause outcome) = ⊥
 TellsFault a b n it (halt.Input cause) = ⊥
 TellsFault a b n it (halt.Output failed) = ⊥
 
--- A reader that was noted to fail is told as that, and nothing is written. Want of memory is the agency's fault of that, and so is an error
+-- record n was not read, and the line of fault 21 was written as the outcome of that says
+abbrev pub TellsUnread : Option (List ℕ) → Option (List ℕ) → ℕ → Halt → Type 0
+TellsUnread a b n (halt.Fault found outcome) = ⊥
+TellsUnread a b n (halt.Unread cause outcome) = (cause.number ≡ n) × Puts a b outcome (fault_line n faults.Memory)
+TellsUnread a b n (halt.Input cause) = ⊥
+TellsUnread a b n (halt.Output failed) = ⊥
+
+-- A reader that was noted to fail is told as that, and nothing is written. At want of memory the record was not read, and so at an error
 -- of a reader that never failed. There is no other error.
 abbrev pub TellsReading : {W : Type 0} → (W → Option (List ℕ)) → W → W → ℕ → ErrorKind → Option Input → Halt → Type 0
 TellsReading held old new n (kind.Io error) (Some cause) it = (it ≡ halt.Input cause) × (new ≡ old)
-TellsReading held old new n (kind.Io error) None it = TellsFault (held old) (held new) n faults.Memory it
-TellsReading held old new n kind.OutOfMemory noted it = TellsFault (held old) (held new) n faults.Memory it
+TellsReading held old new n (kind.Io error) None it = TellsUnread (held old) (held new) n it
+TellsReading held old new n kind.OutOfMemory noted it = TellsUnread (held old) (held new) n it
 TellsReading held old new n _ noted it = ⊥
 
 -- ---- where the machine stands
@@ -90,11 +104,16 @@ IsWithin s next left = (stand_of left ≡ s)
 abbrev pub IsAsked : Option Fields → Type 0
 IsAsked next = (fields : Fields) × (it : Request) × (next ≡ Some fields) × (request_of fields ≡ Ok it)
 
+-- The next record may end a batch by this fault: it asks something of the agency, or memory ran out for a text of it.
+abbrev pub IsFaultAt : Fault → Option Fields → Type 0
+IsFaultAt fault next = IsAsked next ⊎ ((fault ≡ faults.Memory) × ((fields : Fields) × (next ≡ Some fields) × WantsText fields))
+
 -- ---- one record
 
--- a fault that only the agency answers is of fields that ask something of it
+-- a fault is one that these fields may end a batch by
 abbrev pub OnlyOfRequests : Fields → Halt → Type 0
-OnlyOfRequests fields (halt.Fault fault outcome) = fault ≢ faults.Memory → IsAsked (Some fields)
+OnlyOfRequests fields (halt.Fault fault outcome) = IsFaultAt fault (Some fields)
+OnlyOfRequests fields (halt.Unread cause outcome) = ⊤
 OnlyOfRequests fields (halt.Input cause) = ⊤
 OnlyOfRequests fields (halt.Output failed) = ⊤
 
@@ -105,6 +124,7 @@ abbrev pub Answers : {S : Type 0} → Ghosts S → Seat S → Seat S → Option 
 Answers g old new a b n it P (Ok is_refused) = Appends a b (numbered n it.text) × (stand g new ≡ it.state) × (is_refused ≡ it.is_refused)
 Answers g old new a b n it P (Err (halt.Fault fault outcome)) =
     Puts a b outcome (fault_line n fault) × (IsOpen g new → P (machine g new)) × (new.is_stopped ≡ false → machine g new ≡ machine g old)
+Answers g old new a b n it P (Err (halt.Unread cause outcome)) = ⊥
 Answers g old new a b n it P (Err (halt.Input cause)) = ⊥
 Answers g old new a b n it P (Err (halt.Output failed)) = BreaksOff a b (numbered n it.text) × (stand g new ≡ it.state)
 
@@ -152,16 +172,26 @@ module _ {S : Type 0} (g : Ghosts S) (old new : Seat S) where
 
     -- The first records were answered, and the fault's line was written behind their lines as the outcome says. The tables that can
     -- be read, and those that a crash leaves, are those behind these records, or the next one was interrupted. Where the agency goes on, the machine
-    -- stands where these records left it: nothing of the next one was done. But for want of memory the next one asks something of the agency.
+    -- stands where these records left it: nothing of the next one was done. The next one asks something of the agency, or memory ran out for
+    -- a text of it.
     pub record Faulted (fault : Fault) (outcome : Result (Unit {0}) writing.Output) (input : List ℕ) : Type 0 where
       pub count : ℕ
       pub few : count ≤ length (records_of input)
-      pub asked : fault ≢ faults.Memory → IsAsked (slice_get (records_of input) count)
+      pub asked : IsFaultAt fault (slice_get (records_of input) count)
       pub written : PutsBehind a b (lines_from 1 (stand g old) (take count (records_of input))) outcome (fault_line (count + 1) fault)
       pub state : IsOpen g new → IsWithin (state_after (stand g old) (take count (records_of input))) (slice_get (records_of input) count) (machine g new)
       pub undone : new.is_stopped ≡ false → stand g new ≡ state_after (stand g old) (take count (records_of input))
       pub left : IsAtRest g old
           → Leaves g new (IsWithin (state_after (stand g old) (take count (records_of input))) (slice_get (records_of input) count))
+
+    -- The first records were answered, and the next one was not read: the line of fault 21 was written behind their lines as the outcome says.
+    pub record NotRead (cause : Unread) (outcome : Result (Unit {0}) writing.Output) (input : List ℕ) : Type 0 where
+      pub count : ℕ
+      pub few : count ≤ length (records_of input)
+      pub number : cause.number ≡ count + 1
+      pub written : PutsBehind a b (lines_from 1 (stand g old) (take count (records_of input))) outcome (fault_line (count + 1) faults.Memory)
+      pub state : stand g new ≡ state_after (stand g old) (take count (records_of input))
+      pub left : IsAtRest g old → LeavesItsTables g new
 
     -- The first records were answered. If no reader failed, they are as many as can be counted.
     pub record AnsweredFirst (cause : Input) (input : List ℕ) : Type 0 where
@@ -186,5 +216,6 @@ module _ {S : Type 0} (g : Ghosts S) (old new : Seat S) where
     abbrev pub EndsSo : Result Summary BatchFault → List ℕ → Type 0
     EndsSo (Ok summary) input = AnsweredAll summary input
     EndsSo (Err (ended.Agency fault)) input = (outcome : Result (Unit {0}) writing.Output) × Faulted fault outcome input
+    EndsSo (Err (ended.Unread cause)) input = (outcome : Result (Unit {0}) writing.Output) × NotRead cause outcome input
     EndsSo (Err (ended.Input cause)) input = AnsweredFirst cause input
     EndsSo (Err (ended.Output failed)) input = BrokeOff input

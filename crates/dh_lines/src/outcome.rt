@@ -1,5 +1,6 @@
 //! How a batch ends.
 
+use crate::records::Unread;
 use crate::watched_reader::Input;
 use dh_types::{Fault, Output};
 
@@ -13,8 +14,10 @@ pub struct Summary {
 /// Why a batch ended early.
 #[derive(Clone, Copy, Debug, PartialEq, Eq)]
 pub enum BatchFault {
-    /// The agency answered this fault, or reading wanted memory or met an error that is none of the reader's.
+    /// The agency answered this fault, or memory ran out for a text of the record.
     Agency(Fault),
+    /// A record was not read, which is told as fault 21.
+    Unread(Unread),
     /// The reader failed, or 2^64 - 1 records were answered.
     Input(Input),
     /// The writer failed.
@@ -26,6 +29,8 @@ pub enum BatchFault {
 pub enum Halt {
     /// The fault, and whether its line was written whole.
     Fault(Fault, Result<(), Output>),
+    /// The record was not read, and whether the line of fault 21 was written whole.
+    Unread(Unread, Result<(), Output>),
     /// The reader failed, or 2^64 - 1 records were answered.
     Input(Input),
     /// The writer failed in an answer's line.
@@ -52,6 +57,7 @@ impl From<Halt> for BatchFault {
     fn from(it: Halt) -> BatchFault {
         match it {
             Halt::Fault(fault, _) => BatchFault::Agency(fault),
+            Halt::Unread(unread, _) => BatchFault::Unread(unread),
             Halt::Input(input) => BatchFault::Input(input),
             Halt::Output(output) => BatchFault::Output(output),
         }

@@ -9,7 +9,7 @@ ghost use Rattle.dh_model.specs.Runs.{batch_size};
 ghost use Rattle.dh_agency.specs.Agency.{IsClean, Leaves, LeavesItsTables, machine, stand};
 ghost use Rattle.dh_agency.specs.Told.{IsInterrupted};
 ghost use Rattle.dh_lines.specs.Session.{answered, replied, reported};
-ghost use Rattle.dh_lines.specs.Batch.{Answers, Halts, IsWithin, OnlyOfRequests, TellsFault, TellsReading, batch_fault};
+ghost use Rattle.dh_lines.specs.Batch.{Answers, Halts, IsWithin, OnlyOfRequests, TellsFault, TellsReading, TellsUnread, batch_fault};
 
 use crate::outcome::Halt;
 use crate::replies::{put_answer_line, put_fault_line, put_refused_line, put_reply_line};
@@ -23,6 +23,14 @@ use sqlite::Alter;
 use std::alloc::Global;
 use std::io::Write;
 
+/// Why a record was not read, though the reader had not failed: memory ran out, or `csv` had another error. Only [`end_by_reading`] makes it, of
+/// such an error.
+#[derive(Clone, Copy, Debug, PartialEq, Eq)]
+pub struct Unread {
+    // The record's number, which clauses alone read.
+    number: u64,
+}
+
 // Writes the fault's line, and keeps what came of that.
 fn end_by_fault<W: Write>(writer: &mut W, number: u64, fault: Fault) -> Halt
     ensures { TellsFault (W.contents writer.old) (W.contents writer.new) number fault result }
@@ -31,8 +39,16 @@ fn end_by_fault<W: Write>(writer: &mut W, number: u64, fault: Fault) -> Halt
     Halt::Fault(fault, outcome)
 }
 
+// Writes the line of fault 21, and keeps what came of that.
+fn end_unread<W: Write>(writer: &mut W, number: u64) -> Halt
+    ensures { TellsUnread (W.contents writer.old) (W.contents writer.new) number result }
+{
+    let outcome = put_fault_line(writer, number, Fault::Memory);
+    Halt::Unread(Unread { number }, outcome)
+}
+
 /// What this error of the reading of a record is, where the reader failed so or did not: a failing reader is told as that. Else memory
-/// ran out, or `csv` had an error of a reader that never failed, and both are told as a fault of the agency.
+/// ran out, or `csv` had an error of a reader that never failed, and both are told as fault 21.
 pub fn end_by_reading<W: Write>(
     writer: &mut W,
     number: u64,
@@ -44,7 +60,7 @@ pub fn end_by_reading<W: Write>(
 {
     match failure {
         Some(input) if error.is_io_error() => Halt::Input(input),
-        _ => end_by_fault(writer, number, Fault::Memory),
+        _ => end_unread(writer, number),
     }
 }
 

@@ -23,10 +23,10 @@ fn count_of(is_refused: bool) -> u64
 /// Answers each record of the input by its line, which is written before the next record is read, and gives the counts
 /// of records and refusals.
 ///
-/// At an `Agency` fault the agency answered it, or memory for reading ran out, or `csv` could not read on though the reader never failed;
-/// the fault's line was written, as far as the writer took it, and if the agency goes on, nothing of the record was done. At `Input` the
-/// reader failed, or 2^64 - 1 records were answered; what was written are whole lines. At `Output` the writer failed in a line, whose
-/// command was carried out.
+/// At an `Agency` fault the agency answered it, or memory ran out for a text of the record. At `Unread` memory for reading ran out, or `csv`
+/// could not read on though the reader never failed. At both the fault's line was written, as far as the writer took it, and if the agency
+/// goes on, nothing of the record was done. At `Input` the reader failed, or 2^64 - 1 records were answered; what was written are whole
+/// lines. At `Output` the writer failed in a line, whose command was carried out.
 pub fn batch<S: Alter, R: Read, W: Write>(
     alloc: Global,
     agency: &mut Agency<S>,

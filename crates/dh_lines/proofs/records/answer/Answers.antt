@@ -7,7 +7,7 @@ use Rattle.dh_fields.specs.declared.request.Request.TheVariants as request
 use Rattle.dh_fields.specs.Lines.{request_of}
 use Rattle.dh_lines.specs.Session.{answered, answered_request}
 use Rattle.dh_lines.specs.Batch.{IsWithin}
-use Rattle.dh_lines.proofs.OneRecord.{answers_fault, fault_first, memory_of_any, no_store_fault, of_output, of_request}
+use Rattle.dh_lines.proofs.OneRecord.{answers_fault, fault_first, memory_of_text, no_store_fault, of_output, of_request}
 use Rattle.dh_lines.proofs.CrashLemmas.{answers_so, cut_within, same_within}
 use Rattle.dh_lines.proofs.records.answer.Goals as goal
 
@@ -98,4 +98,4 @@ returns-in_err-put_refused_line-in-Ok-Err-clause-asked g c =
     of_output (fields_of c.args.row.now) _ c.from_residual.result c.from_residual.ensures.1
 
 pub returns-in-Err-clause-asked : goal.returns-in-Err-clause-asked
-returns-in-Err-clause-asked g c = memory_of_any (fields_of c.args.row.now) _ _ _ c.end_by_fault.result c.end_by_fault.ensures
+returns-in-Err-clause-asked g c = memory_of_text (fields_of c.args.row.now) _ _ _ c.end_by_fault.result c.end_by_fault.ensures c.in-Err.ensures
