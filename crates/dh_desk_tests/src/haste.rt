@@ -1,7 +1,7 @@
 //! Serving in haste: over an agency in memory, whose peers have a second.
 
 use dh_agency_test_kit::in_memory;
-use dh_http::{Patience, Service, Unserved, serve_within};
+use dh_http::{Patience, Service, Unserved, serve};
 use dh_types::BatchCount;
 use std::alloc::AllocError;
 use std::io::Write;
@@ -39,7 +39,12 @@ pub fn serve_in_haste<W: Write>(
     };
     let mut end = "stopped before";
     if !agency.is_stopped() {
-        end = end_of(serve_within(rt, &mut agency, Service { port: 0, count }, HASTE, writer));
+        let service = Service {
+            port: 0,
+            count,
+            patience: HASTE,
+        };
+        end = end_of(serve(rt, &mut agency, service, writer));
     }
     drop(agency.into_store());
     Ok(end)

@@ -34,9 +34,8 @@ report_is (NoReport why) none = cc
 report_is it none = refl
 
 -- what is written to an empty list is the list
-pub filled : (r : Result (Unit {0}) Output) (old new text : List ℕ) → is_err r ≡ false → old ≡ [] → Puts (Some old) (Some new) r text → new ≡ text
-filled (Ok done) old new text whole empty h = h ∙ ap (λ l. l ++ text) empty
-filled (Err e) old new text whole empty h = cc
+pub filled : (old new text : List ℕ) → old ≡ [] → new ≡ old ++ text → new ≡ text
+filled old new text empty h = h ∙ ap (λ l. l ++ text) empty
 
 -- an answer of an agency that goes on is no 503
 pub turned_goes_on : (why : Turned) → turned_status why ≢ 503

@@ -11,11 +11,11 @@ use Rattle.std.specs.declared.io.Error.{Error}
 use Rattle.std.specs.declared.io.ErrorKind.TheVariants.{Interrupted}
 use Rattle.dh_http.specs.Calls.{AsksLeft, AsksTime, Call, EndsAnswered, EndsOutput, HasTakenIn, Makes, Reads, TakesIn, UsesInTime, left_at}
 
-pub makes_none : (a : Option (List Call)) → Makes a a []
+pub makes_none : {T : Type 0} (a : Option (List T)) → Makes a a []
 makes_none None = tt
 makes_none (Some calls) = sym (append-nil calls)
 
-pub makes_both : (a m b : Option (List Call)) (first second : List Call) → Makes a m first → Makes m b second → Makes a b (first ++ second)
+pub makes_both : {T : Type 0} (a m b : Option (List T)) (first second : List T) → Makes a m first → Makes m b second → Makes a b (first ++ second)
 makes_both None m b first second one two = tt
 makes_both (Some xs) None b first second one two = absurd one
 makes_both (Some xs) (Some ys) None first second one two = absurd two

@@ -4,3 +4,4 @@ mod FirstLineLemmas
 pub mod ServingLemmas
 pub mod PrintedLemmas
 mod CallLemmas
+mod TryLemmas

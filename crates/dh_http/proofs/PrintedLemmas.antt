@@ -1,6 +1,6 @@
 -- The line of one connection more.
 use Rattle.std.proofs.Common.{◌≡◌, ◌≢◌, ◌∙◌, ◌++◌, ◌+◌, ◌<◌, [], ◌∷◌, ℕ, List, Option, Some, Result, Ok, Err, ap, append_assoc, append-nil, arith, length}
-use Rattle.std.proofs.Common.{None, false, inl, inr, length-append, refl, subst, sym, take, true}
+use Rattle.std.proofs.Common.{None, false, inl, inr, length-append, refl, subst, suc, sym, take, true, zero}
 use Rattle.std.proofs.lemmas.Bool.{false≢true}
 use Rattle.std.specs.Io.KnownBytes.{Appends}
 use Rattle.std.specs.Prelude.{IsErrAnd}
@@ -14,7 +14,7 @@ use Rattle.dh_agency.specs.Seat.{Seat}
 use Rattle.dh_http.specs.declared.listener.Unserved.{Unserved}
 use Rattle.dh_http.specs.declared.listener.Unserved.TheVariants as unserved
 use Rattle.dh_http.specs.Service.{IsHalt, ServesOn, StopsWith}
-use Rattle.dh_http.specs.Printed.{EndsWith, GoOn, PrintsBehind, outcome_line, outcome_lines}
+use Rattle.dh_http.specs.Printed.{EndsWith, GoOn, IsPortText, PrintsBehind, outcome_line, outcome_lines, port_text}
 use Rattle.dh_http.proofs.ServingLemmas.{serves_both, serves_none}
 
 lines_more : (outcomes : List (Option ℕ)) (it : Option ℕ) → outcome_lines (outcomes ++ it ∷ []) ≡ outcome_lines outcomes ++ outcome_line it
@@ -56,6 +56,11 @@ pub halt_told : {S : Type 0} (old new : Seat S) (outcome : Option ℕ) → Stops
 halt_told old new None stops live stopped = tt
 halt_told old new (Some status) (inl goes) live stopped = absurd (false≢true (sym live ∙ sym goes.1 ∙ stopped))
 halt_told old new (Some status) (inr halts) live stopped = halts.0
+
+-- the port, or nothing
+pub is_port_text : (asked port : ℕ) → IsPortText asked (port_text asked port)
+is_port_text zero port = (port, refl)
+is_port_text (suc asked) port = refl
 
 -- the writer that failed is told as such
 pub is_output : (failed : Output) (r : Result (Unit {0}) Unserved) → IsErrAnd r (λ e. e ≡ unserved.Output failed) → r ≡ Err (unserved.Output failed)

@@ -15,10 +15,9 @@ use Rattle.dh_requests.specs.declared.asked.Asked.{Asked}
 use Rattle.dh_requests.specs.declared.asked.Asked.TheVariants.{Turned, Fields}
 use Rattle.dh_http.specs.declared.fault.NetFault.{NetFault}
 use Rattle.dh_http.specs.declared.fault.NetFault.TheVariants.{Closed, Input, Output, Memory}
-use Rattle.dh_http.specs.Answers.{fault_answer}
 use Rattle.dh_http.specs.Served.{IsLeftBy, IsServed, LeavesServed, Serves, StopsBy, served}
-use Rattle.dh_http.specs.Service.{Answered, AreTold, Contact, IsAfterSome, IsHalt, IsServing, Lost, ServesOn, Unheard, WritesAnswer, outcome_of}
-use Rattle.dh_http.specs.Service.{outcomes_of, state_after, state_behind}
+use Rattle.dh_http.specs.Service.{Answered, AreTold, Contact, IsAfterSome, IsHalt, IsServing, Lost, ServesOn, Unheard, outcome_of}
+use Rattle.dh_http.specs.Service.{outcomes_of, state_after, state_behind, told_of}
 
 -- ---- one contact more
 
@@ -30,17 +29,6 @@ pub outcomes_more : (s : State) (contacts : List Contact) (it : Contact)
     → outcomes_of s (contacts ++ it ∷ []) ≡ outcomes_of s contacts ++ outcome_of (state_after s contacts) it ∷ []
 outcomes_more s [] it = refl
 outcomes_more s (first ∷ contacts) it = ap (λ l. outcome_of s first ∷ l) (outcomes_more (state_behind s first) contacts it)
-
--- an answer that was told, or a fault, has the status that is told of it
-pub written_answer : {S : Type 0} {g : Ghosts S} {old new : Seat S} (asked : Asked) (status : ℕ) (a b : Option (List ℕ))
-    → IsServed g old new asked status (Appends a b) → WritesAnswer a b (Some status)
-written_answer {S} {g} {old} asked status a b (IsServed.Told written state kept is) = ((served (stand g old) asked).answer, sym is, written)
-written_answer asked status a b (IsServed.Faulted fault put written is stopped reads told) = (fault_answer fault, sym told, written)
-
--- what is told of a connection that ended so
-abbrev pub told_of : Result ℕ NetFault → Option ℕ
-told_of (Ok status) = Some status
-told_of (Err why) = None
 
 module _ {S : Type 0} (g : Ghosts S) (s : State) (before : List (Option ℕ)) (old : Seat S) (contacts : List Contact)
     (are : before ≡ outcomes_of s contacts) (stands : stand g old ≡ state_after s contacts) where

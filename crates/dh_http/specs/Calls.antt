@@ -16,7 +16,7 @@ pub data Call : Type 0 where
   EndsOutput : Result (Unit {0}) Error → Call
 
 -- these calls were made behind those before them, where they are known
-abbrev pub Makes : Option (List Call) → Option (List Call) → List Call → Type 0
+abbrev pub Makes : {T : Type 0} → Option (List T) → Option (List T) → List T → Type 0
 Makes None after calls = ⊤
 Makes (Some before) None calls = ⊥
 Makes (Some before) (Some after) calls = after ≡ before ++ calls

@@ -5,3 +5,4 @@ pub mod Service
 pub mod Printed
 pub mod Calls
 pub mod Taking
+pub mod Patience

@@ -24,6 +24,11 @@ outcome_lines (it ∷ rest) = outcome_line it ++ outcome_lines rest
 abbrev pub port_line : ℕ → List ℕ
 port_line port = codes "port " ++ decimal port ++ newline
 
+-- what is printed first: the port, where the system was to pick it
+abbrev pub port_text : ℕ → ℕ → List ℕ
+port_text zero port = port_line port
+port_text (suc asked) port = []
+
 -- it is told first where the system was to pick it
 abbrev pub IsPortText : ℕ → List ℕ → Type 0
 IsPortText zero text = (port : ℕ) × (text ≡ port_line port)

@@ -1,6 +1,5 @@
 -- What serving connections leaves, whatever peers send and whenever a crash comes, and what is told of each connection.
-use Rattle.std.specs.Prelude.{◌≡◌, ℕ, Bool, true, false, ⊤, List, [], ◌∷◌, ◌++◌, Option, Some, None, Ok}
-use Rattle.std.specs.Io.KnownBytes.{Appends}
+use Rattle.std.specs.Prelude.{◌≡◌, ℕ, Bool, true, false, ⊤, List, [], ◌∷◌, ◌++◌, Option, Some, None, IfSome, Result, Ok, Err}
 use Rattle.std.specs.Net.Addr.{ipv4_octets}
 use Rattle.std.specs.Net.Socket.{socket_ip}
 use Rattle.std.specs.declared.net.ip_addr.IpAddr.TheVariants.{V4}
@@ -13,8 +12,10 @@ use Rattle.dh_model.specs.Whole.{whole}
 use Rattle.dh_agency.specs.Seat.{Seat}
 use Rattle.dh_agency.specs.Agency.{IsClean, IsOpen, Leaves, LeavesItsTables, machine, stand}
 use Rattle.dh_requests.specs.declared.asked.Asked.{Asked}
-use Rattle.dh_http.specs.Answers.{Answer, answer_text}
-use Rattle.dh_http.specs.Served.{StopsBy, served}
+use Rattle.dh_requests.specs.Requests.{MayAsk}
+use Rattle.dh_http.specs.declared.fault.NetFault.{NetFault}
+use Rattle.dh_http.specs.declared.fault.NetFault.TheVariants.{Closed}
+use Rattle.dh_http.specs.Served.{Serves, StopsBy, served}
 
 -- What became of a connection: what was asked was answered; or it was dealt with, and its answer was lost; or nothing was dealt with.
 pub data Contact : Type 0 where
@@ -72,15 +73,23 @@ abbrev pub ServesOn : {S : Type 0} → Ghosts S → Seat S → Seat S → List (
 ServesOn g old new outcomes =
     (s : State) (before : List (Option ℕ)) → (IsClean g old → IsServing g s before old) → IsClean g new → IsServing g s (before ++ outcomes) new
 
+-- what is told of a connection whose exchange ended so
+abbrev pub told_of : Result ℕ NetFault → Option ℕ
+told_of (Ok status) = Some status
+told_of (Err why) = None
+
+-- This is told of a connection: its exchange ended somehow, and a status that is told is that of the answer to what was read, which was written.
+pub record IsTold {S : Type 0} (g : Ghosts S) (old new : Seat S) (input a b : Option (List ℕ)) (told : Option ℕ) : Type 0 where
+  pub end : Result ℕ NetFault
+  pub is : told ≡ told_of end
+  pub serves : IsClean g new → Serves g old new (λ asked. IfSome input (λ bytes. MayAsk bytes asked)) a b end
+  pub closed : end ≡ Err Closed → IfSome input (λ bytes. bytes ≡ [])
+  pub stops : StopsBy old new end
+
 -- An answer tells whether the agency has stopped: 503 exactly then. Of a connection that was lost nothing is told.
 abbrev pub StopsWith : {S : Type 0} → Seat S → Seat S → Option ℕ → Type 0
 StopsWith old new (Some status) = StopsBy old new (Ok status)
 StopsWith old new None = ⊤
-
--- a status is told of an answer that was written whole, and that has it
-abbrev pub WritesAnswer : Option (List ℕ) → Option (List ℕ) → Option ℕ → Type 0
-WritesAnswer a b (Some status) = (answer : Answer) × (answer.status ≡ status) × Appends a b (answer_text answer)
-WritesAnswer a b None = ⊤
 
 -- the address is 127.0.0.1, which no other machine can reach
 abbrev pub IsOfThisMachine : SocketAddr → Type 0

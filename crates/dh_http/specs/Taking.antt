@@ -1,7 +1,9 @@
--- Which failures to take a connection are of that connection, and which of this machine.
-use Rattle.std.specs.Prelude.{ℕ, ℤ, List, [], ◌∷◌, Option, Some, None, Result, Ok, Err, Bool, true, false, if◌then◌else◌, ◌==◌, unsigned_abs}
-use Rattle.std.specs.IoError.{raw_os_error}
+-- Which failures to take a connection are of that connection, and which of this machine; and that a try is made again.
+use Rattle.std.specs.Prelude.{◌≡◌, ◌⊎◌, ℕ, ℤ, ◌-◌, ◌^◌, ◌≤◌, List, [], ◌∷◌, ◌++◌, length, All, Option, Some, None, Result, Ok, Err, IsErrAnd, Bool}
+use Rattle.std.specs.Prelude.{true, false, if◌then◌else◌, ◌==◌, unsigned_abs}
+use Rattle.std.specs.IoError.{error_kind, raw_os_error}
 use Rattle.std.specs.declared.io.Error.{Error}
+use Rattle.std.specs.declared.io.ErrorKind.TheVariants.{Interrupted}
 use Rattle.dh_types.specs.declared.reply.Fault.{Fault}
 use Rattle.dh_types.specs.declared.reply.Fault.TheVariants.{Memory, Store}
 
@@ -34,3 +36,20 @@ untaken (Some fault) = Err fault
 abbrev pub is_taken : {T : Type 0} → Result T Error → Result (Option T) Fault
 is_taken (Ok it) = Ok (Some it)
 is_taken (Err e) = untaken (fault_of (raw_os_error e))
+
+-- ---- tries for the next connection
+
+-- a signal interrupted the try
+abbrev pub IsInterrupted : {T : Type 0} → Result T Error → Type 0
+IsInterrupted it = IsErrAnd it (λ e. error_kind e ≡ Interrupted)
+
+-- the last of these tries gave the result; it was not interrupted, and each before it was
+pub record EndsTries {T : Type 0} (tries : List (Result T Error)) (result : Result T Error) : Type 0 where
+  pub before : List (Result T Error)
+  pub are : tries ≡ before ++ result ∷ []
+  pub interrupted : All (λ it. IsInterrupted it) before
+  pub ends : ¬ IsInterrupted result
+
+-- The same; only behind more tries than are ever made it ends before.
+abbrev pub HasTried : {T : Type 0} → List (Result T Error) → Result T Error → Type 0
+HasTried tries result = EndsTries tries result ⊎ (2 ^ 64 - 1 ≤ length tries)

@@ -1,14 +1,16 @@
 //! Taking connections.
 
-ghost use Rattle.std.specs.Prelude.{◌≡◌, ◌≢◌, IfErr, IfSome};
+ghost use Rattle.std.specs.Prelude.{◌≡◌, ◌≢◌, List, [], ◌∷◌, Option, None, Result, IfErr, IfSome};
 ghost use Rattle.std.specs.IoError.{error_kind, raw_os_error};
+ghost use Rattle.std.specs.declared.io.Error.{Error};
 ghost use Rattle.dh_schema.specs.Faults.{IsFirstFault};
-ghost use Rattle.dh_http.specs.Taking.{fault_of, fault_of_code, is_taken};
+ghost use Rattle.dh_http.specs.Calls.{Makes};
+ghost use Rattle.dh_http.specs.Taking.{HasTried, fault_of, fault_of_code, is_taken};
 
 use dh_types::Fault;
 use std::io;
 use std::io::ErrorKind;
-use std::net::{TcpListener, TcpStream};
+use std::net::{SocketAddr, TcpListener, TcpStream};
 
 // Linux's numbers of the errors that accept(2) says are of the connection: it was aborted, or its network had failed.
 const NO_NETWORK: u32 = 64;
@@ -79,13 +81,36 @@ pub(crate) fn taken<T>(outcome: io::Result<T>) -> Result<Option<T>, Fault>
     }
 }
 
-/// The next connection. A call that a signal interrupts is made again.
-pub(crate) fn accept(listener: &TcpListener) -> io::Result<TcpStream>
+/// Where connections come from, one after the other.
+pub trait Door {
+    /// A connection.
+    type Caller;
+
+    // What each try so far gave, where that is known.
+    ghost tries: { Self → Option (List (Result Self.Caller Error)) } = { λ _. None };
+
+    /// One try for the next connection. A signal may interrupt it.
+    fn try_next(&mut self) -> io::Result<Self::Caller>
+        ensures { Makes (tries self.old) (tries self.new) (result ∷ []) };
+}
+
+impl Door for TcpListener {
+    type Caller = (TcpStream, SocketAddr);
+
+    fn try_next(&mut self) -> io::Result<(TcpStream, SocketAddr)> {
+        self.accept()
+    }
+}
+
+/// The next connection. A try that a signal interrupts is made again, and no error has that kind: where the door is interrupted without end, the
+/// kind is `Other`.
+pub fn accept<D: Door>(door: &mut D) -> io::Result<D::Caller>
+    ensures tried { (tries : List (Result D.Caller Error)) × Makes (D.tries door.old) (D.tries door.new) tries × HasTried tries result }
     ensures again { IfErr result (λ e. error_kind e ≢ ErrorKind.Interrupted) }
 {
-    for _ in 0..u64::MAX {
-        match listener.accept() {
-            Ok((stream, _)) => return Ok(stream),
+    for _turn in 0..u64::MAX {
+        match door.try_next() {
+            Ok(caller) => return Ok(caller),
             Err(error) => {
                 if error.kind() != ErrorKind::Interrupted {
                     return Err(error);

@@ -38,6 +38,25 @@ pub(crate) enum Body {
     Fixed(&'static str),
 }
 
+/// There was no memory for an answer: an allocation failed, or a text that is written to memory broke off.
+#[derive(Clone, Copy)]
+pub(crate) enum NoMemory {
+    Allocation(AllocError),
+    Text(Output),
+}
+
+impl From<AllocError> for NoMemory {
+    fn from(error: AllocError) -> NoMemory {
+        NoMemory::Allocation(error)
+    }
+}
+
+impl From<Output> for NoMemory {
+    fn from(output: Output) -> NoMemory {
+        NoMemory::Text(output)
+    }
+}
+
 /// An answer, before it is sent. `allow` is a whole header line, or nothing.
 #[derive(Drop)]
 pub(crate) struct Response {
@@ -128,7 +147,7 @@ pub(crate) fn send<W: Write>(writer: &mut W, it: &Response) -> Result<StatusCode
 /// The same, where memory for the answer may have run out, before which the machine's step was made or not.
 pub(crate) fn send_made<W: Write>(
     writer: &mut W,
-    made: Result<Response, AllocError>,
+    made: Result<Response, NoMemory>,
     acted: bool,
 ) -> Result<StatusCode, NetFault>
     ensures { Sends (W.contents writer.old) (W.contents writer.new) acted made result }
@@ -178,7 +197,7 @@ pub(crate) fn turned(why: Turned) -> Response
 }
 
 // The answer with this number and text.
-fn json(alloc: Global, status: StatusCode, code: u8, text: &str) -> Result<Response, AllocError>
+fn json(alloc: Global, status: StatusCode, code: u8, text: &str) -> Result<Response, NoMemory>
     ensures { IfOk result (λ it. said it ≡ json_answer status code text.now) }
 {
     let text = dh_requests::reply(alloc, code, text)?;
@@ -201,7 +220,7 @@ fn refusal_status(why: &Refusal) -> StatusCode
 }
 
 /// The answer to what is refused.
-pub(crate) fn refused(alloc: Global, why: Refusal) -> Result<Response, AllocError>
+pub(crate) fn refused(alloc: Global, why: Refusal) -> Result<Response, NoMemory>
     ensures { IfOk result (λ it. said it ≡ refusal_answer why) }
 {
     let text = why.to_string(alloc)?;
@@ -209,7 +228,7 @@ pub(crate) fn refused(alloc: Global, why: Refusal) -> Result<Response, AllocErro
 }
 
 /// The answer to a command that was replied to so.
-pub(crate) fn replied(alloc: Global, reply: Reply) -> Result<Response, AllocError>
+pub(crate) fn replied(alloc: Global, reply: Reply) -> Result<Response, NoMemory>
     ensures { IfOk result (λ it. said it ≡ reply_answer reply) }
 {
     if let Reply::Refused(why) = reply {
@@ -220,14 +239,12 @@ pub(crate) fn replied(alloc: Global, reply: Reply) -> Result<Response, AllocErro
 }
 
 // The answer with the text of a report.
-fn reported(alloc: Global, answer: &Answer) -> Result<Response, AllocError>
+fn reported(alloc: Global, answer: &Answer) -> Result<Response, NoMemory>
     requires { is_no_report (report_of answer.now) ≡ false }
     ensures { IfOk result (λ it. said it ≡ report_answer (report_of answer.now)) }
 {
     let mut body = Vec::new(alloc);
-    if write(answer, &mut body).is_err() {
-        return Err(AllocError);
-    }
+    write(answer, &mut body)?;
     Ok(Response {
         status: StatusCode::OK,
         content: Content::Report,
@@ -237,7 +254,7 @@ fn reported(alloc: Global, answer: &Answer) -> Result<Response, AllocError>
 }
 
 /// The answer to a question that was answered so.
-pub(crate) fn shown(alloc: Global, answer: &Answer) -> Result<Response, AllocError>
+pub(crate) fn shown(alloc: Global, answer: &Answer) -> Result<Response, NoMemory>
     ensures { IfOk result (λ it. said it ≡ report_answer (report_of answer.now)) }
 {
     match answer {

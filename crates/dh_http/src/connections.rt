@@ -1,88 +1,63 @@
 //! Serving connections, one after the other.
 
-ghost use Rattle.std.specs.Prelude.{◌≡◌, ◌*◌, ℕ, List, [], ◌∷◌, Option, false, true, Err, IfErr, IfOk, IsOk, MatchOption, MatchResult, OnErr, OnOk};
+ghost use Rattle.std.specs.Prelude.{◌≡◌, ◌*◌, ℕ, List, [], ◌∷◌, Option, false, true, Err, IfErr, IfOk, IfSome, IsOk, MatchOption, MatchResult};
+ghost use Rattle.std.specs.Prelude.{OnErr, OnOk};
 ghost use Rattle.dh_types.specs.Output.{Puts};
 ghost use Rattle.dh_types.specs.declared.reply.Fault.{Fault};
 ghost use Rattle.dh_schema.specs.Faults.{IsFirstFault};
-ghost use Rattle.dh_agency.specs.Agency.{IsClean, WasClean};
+ghost use Rattle.dh_agency.specs.Agency.{IsClean, LeavesItsTables, WasClean};
+ghost use Rattle.dh_requests.specs.Requests.{MayAsk, TakesRequest};
 ghost use Rattle.dh_http.specs.Calls.{Call, EndsAnswered, Makes};
 ghost use Rattle.dh_http.specs.Printed.{PrintsBehind, outcome_line};
-ghost use Rattle.dh_http.specs.Service.{ServesOn, StopsWith, WritesAnswer};
+ghost use Rattle.dh_http.specs.Served.{LeavesServed};
+ghost use Rattle.dh_http.specs.Service.{IsTold, ServesOn, StopsWith};
 ghost use Rattle.dh_http.specs.Taking.{is_taken};
 
 use crate::acceptor::{accept, taken};
-use crate::exchange::answer;
+use crate::exchange::serve_over;
 use crate::listener::Unserved;
 use crate::patience::Patience;
 use crate::peers::{Peer, SocketPeer};
 use crate::streams::{TimedStream, end_answered};
 use dh_agency::Agency;
-use dh_requests::{Routes, read_request};
+use dh_requests::Routes;
 use dh_types::text_writer::{put, put_parts};
 use dh_types::{Fault, Output};
 use http::StatusCode;
 use sqlite::Alter;
 use std::alloc::Global;
 use std::io;
-use std::io::{Read, Write};
-use std::net::{TcpListener, TcpStream};
+use std::io::Write;
+use std::net::{SocketAddr, TcpListener, TcpStream};
 
-// Answers a request: the status, if a whole answer was written.
-fn serve_over<S: Alter, R: Read, W: Write>(
+// Answers a peer through two streams, which have the time of its patience: the status, if it was answered, and the peer behind it. Where it was
+// answered the stream ends as such.
+fn serve_peer<S: Alter, P: Peer>(
     alloc: Global,
     routes: &Routes,
     agency: &mut Agency<S>,
-    reader: &mut R,
-    writer: &mut W,
-) -> Option<StatusCode>
-    ensures on { ServesOn S.Store agency.old agency.new (result ∷ []) }
-    ensures written { IsClean S.Store agency.new → WritesAnswer (W.contents writer.old) (W.contents writer.new) result }
-    ensures stops { StopsWith agency.old agency.new result }
-    ensures was_clean { WasClean S.Store agency.old agency.new }
-{
-    let Ok(Some(asked)) = read_request(alloc, routes, reader) else {
-        return None;
-    };
-    match answer(alloc, agency, asked, writer) {
-        Ok(status) => Some(status),
-        Err(_) => None,
-    }
-}
-
-// Answers a peer: the status, if it was answered.
-fn serve_peer<S: Alter, P: Peer + Copy>(
-    alloc: Global,
-    routes: &Routes,
-    agency: &mut Agency<S>,
-    peer: P,
-    patience: Patience,
-) -> Option<StatusCode>
-    ensures on { ServesOn S.Store agency.old agency.new (result ∷ []) }
-    ensures stops { StopsWith agency.old agency.new result }
-    ensures was_clean { WasClean S.Store agency.old agency.new }
-{
-    let mut reader = TimedStream::new(peer, patience.request_seconds);
-    let mut writer = TimedStream::new(peer, patience.answer_seconds);
-    serve_over(alloc, routes, agency, &mut reader, &mut writer)
-}
-
-// Answers a connection: the status, if it was answered, and the peer behind it. Where it was answered the stream ends as such.
-fn serve_connection<S: Alter, P: Peer + Copy>(
-    alloc: Global,
-    routes: &Routes,
-    agency: &mut Agency<S>,
+    reader: &mut TimedStream<P>,
+    writer: &mut TimedStream<P>,
     peer: P,
     patience: Patience,
 ) -> (Option<StatusCode>, P)
+    requires request { reader.old.seconds ≡ patience.request_seconds }
+    requires answer { writer.old.seconds ≡ patience.answer_seconds }
     ensures on { ServesOn S.Store agency.old agency.new (result.0 ∷ []) }
+    ensures told { IsTold S.Store agency.old agency.new (P.remaining reader.old.peer) (P.contents writer.old.peer) (P.contents writer.new.peer) result.0 }
+    ensures taken { TakesRequest (P.remaining reader.old.peer) (P.remaining reader.new.peer) }
+    ensures crash { IsClean S.Store agency.new → agency.old.is_stopped ≡ false → LeavesItsTables S.Store agency.old
+        → LeavesServed S.Store agency.old agency.new (λ asked. IfSome (P.remaining reader.old.peer) (λ input. MayAsk input asked)) }
+    ensures left { IsClean S.Store agency.new → LeavesItsTables S.Store agency.old → agency.new.is_stopped ≡ false → LeavesItsTables S.Store agency.new }
     ensures stops { StopsWith agency.old agency.new result.0 }
+    ensures stopped { agency.old.is_stopped ≡ true → agency.new ≡ agency.old }
     ensures ended { MatchOption result.0 (P.calls result.1 ≡ P.calls peer) (λ _. (calls : List Call) × Makes (P.calls peer) (P.calls result.1) calls
         × EndsAnswered (patience.rest_seconds * 1000000000) patience.rest_bytes calls) }
     ensures was_clean { WasClean S.Store agency.old agency.new }
 {
-    match serve_peer(alloc, routes, agency, peer, patience) {
-        Some(status) => (Some(status), end_answered(peer, patience)),
-        None => (None, peer),
+    match serve_over(alloc, routes, agency, reader, writer) {
+        Ok(status) => (Some(status), end_answered(peer, patience)),
+        Err(_) => (None, peer),
     }
 }
 
@@ -91,7 +66,7 @@ fn serve_taken<S: Alter>(
     rt: &HostRuntime,
     routes: &Routes,
     agency: &mut Agency<S>,
-    outcome: io::Result<TcpStream>,
+    outcome: io::Result<(TcpStream, SocketAddr)>,
     patience: Patience,
 ) -> Result<Option<StatusCode>, Fault>
     ensures told { MatchResult (is_taken outcome) (λ _. IsOk result) (λ fault. result ≡ Err fault) }
@@ -102,9 +77,19 @@ fn serve_taken<S: Alter>(
     ensures was_clean { WasClean S.Store agency.old agency.new }
 {
     match taken(outcome) {
-        Ok(Some(stream)) => {
+        Ok(Some((stream, _))) => {
             let peer = SocketPeer::new(rt, &stream);
-            let (answered, _) = serve_connection(rt.alloc(), routes, agency, peer, patience);
+            let mut reader = TimedStream::of_request(peer, patience);
+            let mut writer = TimedStream::of_answer(peer, patience);
+            let (answered, _) = serve_peer(
+                rt.alloc(),
+                routes,
+                agency,
+                &mut reader,
+                &mut writer,
+                peer,
+                patience,
+            );
             Ok(answered)
         }
         Ok(None) => Ok(None),
@@ -117,7 +102,7 @@ fn serve_next<S: Alter>(
     rt: &HostRuntime,
     routes: &Routes,
     agency: &mut Agency<S>,
-    listener: &TcpListener,
+    listener: &mut TcpListener,
     patience: Patience,
 ) -> Result<Option<StatusCode>, Fault>
     ensures on { IfOk result (λ outcome. ServesOn S.Store agency.old agency.new (outcome ∷ [])) }
@@ -145,7 +130,7 @@ pub(crate) fn serve_connections<S: Alter, W: Write>(
     rt: &HostRuntime,
     routes: &Routes,
     agency: &mut Agency<S>,
-    listener: &TcpListener,
+    listener: &mut TcpListener,
     count: u32,
     patience: Patience,
     writer: &mut W,

@@ -16,8 +16,8 @@ use sqlite::Alter;
 use std::alloc::Global;
 use std::io::{Read, Write};
 
-/// Does what is asked for, and answers it: the status of the answer. The results are those of [`serve_one`].
-pub(crate) fn answer<S: Alter, W: Write>(
+// Does what is asked for, and answers it: the status of the answer.
+fn answer<S: Alter, W: Write>(
     alloc: Global,
     agency: &mut Agency<S>,
     asked: Asked,
@@ -60,6 +60,32 @@ pub(crate) fn answer<S: Alter, W: Write>(
     }
 }
 
+/// Reads one request, whose route it looks up in these, does what it asks for, and writes its answer: the status of the answer. The
+/// results are those of [`serve_one`].
+pub(crate) fn serve_over<S: Alter, R: Read, W: Write>(
+    alloc: Global,
+    routes: &Routes,
+    agency: &mut Agency<S>,
+    reader: &mut R,
+    writer: &mut W,
+) -> Result<StatusCode, NetFault>
+    ensures serves { IsClean S.Store agency.new → Serves S.Store agency.old agency.new
+        (λ asked. IfSome (R.remaining reader.old) (λ input. MayAsk input asked)) (W.contents writer.old) (W.contents writer.new) result }
+    ensures closed { result ≡ Err NetFault.Closed → IfSome (R.remaining reader.old) (λ input. input ≡ []) }
+    ensures taken { TakesRequest (R.remaining reader.old) (R.remaining reader.new) }
+    ensures crash { IsClean S.Store agency.new → agency.old.is_stopped ≡ false → LeavesItsTables S.Store agency.old
+        → LeavesServed S.Store agency.old agency.new (λ asked. IfSome (R.remaining reader.old) (λ input. MayAsk input asked)) }
+    ensures left { IsClean S.Store agency.new → LeavesItsTables S.Store agency.old → agency.new.is_stopped ≡ false → LeavesItsTables S.Store agency.new }
+    ensures stops { StopsBy agency.old agency.new result }
+    ensures stopped { agency.old.is_stopped ≡ true → agency.new ≡ agency.old }
+    ensures was_clean { WasClean S.Store agency.old agency.new }
+{
+    match read_request(alloc, routes, reader)? {
+        Some(asked) => answer(alloc, agency, asked, writer),
+        None => Err(NetFault::Closed),
+    }
+}
+
 /// Reads one request, does what it asks for, and writes its answer: the status of the answer. The rules are those of
 /// docs/MODEL.md, "From requests to answers". At `Closed` and `Input` nothing was done; at `Output` the writer has a beginning of
 /// the answer, and what was asked for stands; at `Memory` nothing was written, and the command was carried out where `acted`.
@@ -81,11 +107,6 @@ pub fn serve_one<S: Alter, R: Read, W: Write>(
     ensures stopped { agency.old.is_stopped ≡ true → agency.new ≡ agency.old }
     ensures was_clean { WasClean S.Store agency.old agency.new }
 {
-    let Ok(routes) = Routes::new(alloc) else {
-        return Err(NetFault::Memory { acted: false });
-    };
-    match read_request(alloc, &routes, reader)? {
-        Some(asked) => answer(alloc, agency, asked, writer),
-        None => Err(NetFault::Closed),
-    }
+    let routes = Routes::new(alloc)?;
+    serve_over(alloc, &routes, agency, reader, writer)
 }

@@ -1,11 +1,12 @@
 //! Why a request got no answer.
 
-ghost use Rattle.std.specs.Prelude.{◌≡◌};
+ghost use Rattle.std.specs.Prelude.{◌≡◌, false};
 ghost use Rattle.dh_http.specs.Served.{unread_fault};
 ghost use Rattle.dh_http.specs.declared.fault.NetFault.TheVariants as net;
 
 use dh_requests::Unread;
 use dh_types::Output;
+use std::alloc::AllocError;
 
 /// Why a request got no answer.
 #[derive(Clone, Copy, Debug, PartialEq, Eq)]
@@ -37,5 +38,14 @@ impl From<Output> for NetFault {
 
     fn from(output: Output) -> NetFault {
         NetFault::Output(output)
+    }
+}
+
+/// Before a request is read nothing is done.
+impl From<AllocError> for NetFault {
+    ghost from_gives = { λ _ e. e ≡ net.Memory false };
+
+    fn from(_: AllocError) -> NetFault {
+        NetFault::Memory { acted: false }
     }
 }

@@ -2,7 +2,7 @@
 //! [`serve_one`] and `specs/Requests.antt` of dh_requests first, and then [`serve`].
 #![tactic(auto)]
 
-mod acceptor;
+pub mod acceptor;
 mod answers;
 mod connections;
 mod exchange;
@@ -15,5 +15,5 @@ mod streams;
 
 pub use exchange::serve_one;
 pub use fault::NetFault;
-pub use listener::{Service, Unserved, serve, serve_within};
+pub use listener::{Service, Unserved, serve};
 pub use patience::Patience;

@@ -1,12 +1,13 @@
 //! Listening at a port.
 
-ghost use Rattle.std.specs.Prelude.{◌≡◌, ℕ, List, Option, Err, OnOk, false, true};
+ghost use Rattle.std.specs.Prelude.{◌≡◌, ℕ, List, Option, None, Err, IfOk, IfSome, OnOk, false, true};
 ghost use Rattle.std.specs.Net.Socket.{socket_port};
 ghost use Rattle.dh_types.specs.Output.{Puts};
 ghost use Rattle.dh_types.specs.declared.reply.Fault.{Fault};
+ghost use Rattle.dh_types.specs.declared.reply.Fault.TheVariants as faults;
 ghost use Rattle.dh_schema.specs.Faults.{IsFirstFault};
 ghost use Rattle.dh_agency.specs.Agency.{WasClean};
-ghost use Rattle.dh_http.specs.Printed.{IsPortText, PrintsServed};
+ghost use Rattle.dh_http.specs.Printed.{PrintsServed, port_text};
 ghost use Rattle.dh_http.specs.Service.{IsOfThisMachine, ServesOn};
 ghost use Rattle.dh_http.specs.declared.listener.Unserved.TheVariants as unserved;
 
@@ -18,14 +19,18 @@ use dh_types::text_writer::put_parts;
 use dh_types::{BatchCount, Fault, Output};
 use itoa::Buffer;
 use sqlite::Alter;
+use std::alloc::AllocError;
+use std::io;
 use std::io::Write;
 use std::net::{IpAddr, Ipv4Addr, SocketAddr, TcpListener};
 
-/// The port of 127.0.0.1 where requests are listened for, and on how many connections they are served. With port 0 the system picks one.
+/// The port of 127.0.0.1 where requests are listened for, on how many connections they are served, and how long their peers are waited for. With
+/// port 0 the system picks one.
 #[derive(Clone, Copy)]
 pub struct Service {
     pub port: u16,
     pub count: BatchCount,
+    pub patience: Patience,
 }
 
 /// Why serving ended before its last connection.
@@ -58,6 +63,14 @@ impl From<Fault> for Unserved {
     }
 }
 
+impl From<AllocError> for Unserved {
+    ghost from_gives = { λ _ e. e ≡ unserved.Fault faults.Memory };
+
+    fn from(_: AllocError) -> Unserved {
+        Unserved::Fault(Fault::Memory)
+    }
+}
+
 // This port of 127.0.0.1.
 fn address_of(port: u16) -> SocketAddr
     ensures machine { IsOfThisMachine result }
@@ -66,16 +79,39 @@ fn address_of(port: u16) -> SocketAddr
     SocketAddr::new(IpAddr::V4(Ipv4Addr::new(127, 0, 0, 1)), port)
 }
 
+// What listens at a port.
+trait Listening {
+    // Its port, where that is known.
+    ghost port: { Self → Option ℕ } = { λ _. None };
+
+    // The port that it has.
+    fn port(&self) -> io::Result<u16>
+        ensures { IfOk result (λ it. IfSome (port self.now) (λ known. it ≡ known)) };
+}
+
+impl Listening for TcpListener {
+    fn port(&self) -> io::Result<u16> {
+        Ok(self.local_addr()?.port())
+    }
+}
+
+// What listens, and the port that it has.
+fn with_port<L: Listening + Drop>(listener: L) -> io::Result<(L, u16)>
+    ensures same { IfOk result (λ it. it.0 ≡ listener) }
+    ensures port { IfOk result (λ it. IfSome (L.port it.0) (λ known. it.1 ≡ known)) }
+{
+    let port = listener.port()?;
+    Ok((listener, port))
+}
+
 // The listener at this port of 127.0.0.1, and the port that it has.
-fn listen(rt: &HostRuntime, port: u16) -> Option<(TcpListener, u16)> {
-    let listener = TcpListener::bind(rt, address_of(port)).ok()?;
-    let port = listener.local_addr().ok()?.port();
-    Some((listener, port))
+fn listen(rt: &HostRuntime, port: u16) -> io::Result<(TcpListener, u16)> {
+    with_port(TcpListener::bind(rt, address_of(port))?)
 }
 
 // Prints the port that is listened at, where the system was to pick it.
 fn print_port<W: Write>(writer: &mut W, asked: u16, port: u16) -> Result<(), Output>
-    ensures { (text : List ℕ) × IsPortText asked text × Puts (W.contents writer.old) (W.contents writer.new) result text }
+    ensures { Puts (W.contents writer.old) (W.contents writer.new) result (port_text asked port) }
 {
     if asked != 0 {
         return Ok(());
@@ -85,7 +121,7 @@ fn print_port<W: Write>(writer: &mut W, asked: u16, port: u16) -> Result<(), Out
 }
 
 /// Listens at the service's port, answers its connections one after the other, and prints the status of each, or `lost`; before them
-/// `port P` where the system picks the port. Its peers have the standard time. `NoListener` where the port can't be had, `Stopped` behind
+/// `port P` where the system picks the port. Its peers have the time of its patience. `NoListener` where the port can't be had, `Stopped` behind
 /// the connection at which the agency stopped, whether its answer was lost or not, `Fault` where no further connection can be taken,
 /// `Output` where the writer failed.
 pub fn serve<S: Alter, W: Write>(
@@ -102,32 +138,19 @@ pub fn serve<S: Alter, W: Write>(
     ensures fault { (fault : Fault) → result ≡ Err (unserved.Fault fault) → (agency.new.is_stopped ≡ false) × IsFirstFault fault }
     ensures was_clean { WasClean S.Store agency.old agency.new }
 {
-    serve_within(rt, agency, service, Patience::standard(), writer)
-}
-
-/// The same, with peers that have this time.
-pub fn serve_within<S: Alter, W: Write>(
-    rt: &HostRuntime,
-    agency: &mut Agency<S>,
-    service: Service,
-    patience: Patience,
-    writer: &mut W,
-) -> Result<(), Unserved>
-    requires { agency.old.is_stopped ≡ false }
-    ensures served { (outcomes : List (Option ℕ)) × ServesOn S.Store agency.old agency.new outcomes
-        × PrintsServed service outcomes (W.contents writer.old) (W.contents writer.new) result }
-    ensures going { OnOk result (agency.new.is_stopped ≡ false) }
-    ensures stopped { result ≡ Err unserved.Stopped → agency.new.is_stopped ≡ true }
-    ensures fault { (fault : Fault) → result ≡ Err (unserved.Fault fault) → (agency.new.is_stopped ≡ false) × IsFirstFault fault }
-    ensures was_clean { WasClean S.Store agency.old agency.new }
-{
-    let Some((listener, port)) = listen(rt, service.port) else {
+    let Ok((mut listener, port)) = listen(rt, service.port) else {
         return Err(Unserved::NoListener);
     };
     print_port(writer, service.port, port)?;
     let count = service.count.number();
-    let Ok(routes) = Routes::new(rt.alloc()) else {
-        return Err(Unserved::Fault(Fault::Memory));
-    };
-    serve_connections(rt, &routes, agency, &listener, count, patience, writer)
+    let routes = Routes::new(rt.alloc())?;
+    serve_connections(
+        rt,
+        &routes,
+        agency,
+        &mut listener,
+        count,
+        service.patience,
+        writer,
+    )
 }

@@ -1,6 +1,7 @@
 //! How long a peer is waited for.
 
 ghost use Rattle.std.specs.Prelude.{◌≡◌};
+ghost use Rattle.dh_http.specs.Patience.{standard_patience};
 
 /// How long a peer is waited for, and how much of its input is taken in behind its request.
 #[derive(Clone, Copy, Debug, PartialEq, Eq)]
@@ -16,8 +17,9 @@ pub struct Patience {
 }
 
 impl Patience {
-    /// That of [`serve`](crate::serve).
+    /// Half a minute for a request, half a minute for its answer, and two seconds or 64 KiB for what comes behind it.
     pub fn standard() -> Patience
+        ensures whole { result ≡ standard_patience }
         ensures request { result.request_seconds ≡ 30 }
         ensures answer { result.answer_seconds ≡ 30 }
         ensures rest { result.rest_seconds ≡ 2 }

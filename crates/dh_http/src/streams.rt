@@ -2,6 +2,7 @@
 
 ghost use Rattle.std.specs.Prelude.{◌≡◌, ◌*◌, ℕ, List, Option, None};
 ghost use Rattle.std.specs.Io.{ReadsAtMost, WritesAtMost};
+ghost use Rattle.std.specs.Io.KnownBytes.{Keeps, ReadConsumes, WriteAppends};
 ghost use Rattle.dh_http.specs.Calls.{AsksLeft, Call, EndsAnswered, HasTakenIn, Makes, Reads, UsesInTime, Writes};
 
 use crate::patience::Patience;
@@ -19,7 +20,7 @@ pub(crate) struct TimedStream<P: Peer> {
 }
 
 impl<P: Peer> TimedStream<P> {
-    pub(crate) fn new(peer: P, seconds: u64) -> TimedStream<P>
+    fn new(peer: P, seconds: u64) -> TimedStream<P>
         ensures peer { result.peer ≡ peer }
         ensures seconds { result.seconds ≡ seconds }
         ensures begun { result.begun ≡ None }
@@ -31,11 +32,31 @@ impl<P: Peer> TimedStream<P> {
         }
     }
 
+    /// The stream from which a peer's request is read.
+    pub(crate) fn of_request(peer: P, patience: Patience) -> TimedStream<P>
+        ensures peer { result.peer ≡ peer }
+        ensures seconds { result.seconds ≡ patience.request_seconds }
+        ensures begun { result.begun ≡ None }
+    {
+        TimedStream::new(peer, patience.request_seconds)
+    }
+
+    /// The stream to which a peer's answer is written.
+    pub(crate) fn of_answer(peer: P, patience: Patience) -> TimedStream<P>
+        ensures peer { result.peer ≡ peer }
+        ensures seconds { result.seconds ≡ patience.answer_seconds }
+        ensures begun { result.begun ≡ None }
+    {
+        TimedStream::new(peer, patience.answer_seconds)
+    }
+
     // How long the next call may wait.
     fn time_left(&mut self) -> io::Result<Duration>
         ensures asks { (calls : List Call) × Makes (P.calls self.old.peer) (P.calls self.new.peer) calls
             × AsksLeft (self.old.seconds * 1000000000) self.old.begun self.new.begun calls result }
         ensures seconds { self.new.seconds ≡ self.old.seconds }
+        ensures unread { Keeps (P.remaining self.old.peer) (P.remaining self.new.peer) }
+        ensures unsent { Keeps (P.contents self.old.peer) (P.contents self.new.peer) }
     {
         let now = self.peer.time()?;
         let begun = self.begun.unwrap_or(now);
@@ -45,28 +66,6 @@ impl<P: Peer> TimedStream<P> {
             return Err(ErrorKind::TimedOut.into());
         }
         Ok(left)
-    }
-
-    // Reads some bytes within the time that is left.
-    fn read_in_time(&mut self, buf: &mut [u8]) -> io::Result<usize>
-        ensures bound { ReadsAtMost result buf.new }
-        ensures uses { (calls : List Call) × Makes (P.calls self.old.peer) (P.calls self.new.peer) calls
-            × UsesInTime (λ n r. Reads n r) (self.old.seconds * 1000000000) self.old.begun self.new.begun calls result }
-        ensures seconds { self.new.seconds ≡ self.old.seconds }
-    {
-        let left = self.time_left()?;
-        self.peer.read_within(left, buf)
-    }
-
-    // Writes some bytes within the time that is left.
-    fn write_in_time(&mut self, buf: &[u8]) -> io::Result<usize>
-        ensures bound { WritesAtMost result buf.now }
-        ensures uses { (calls : List Call) × Makes (P.calls self.old.peer) (P.calls self.new.peer) calls
-            × UsesInTime (λ n r. Writes n r) (self.old.seconds * 1000000000) self.old.begun self.new.begun calls result }
-        ensures seconds { self.new.seconds ≡ self.old.seconds }
-    {
-        let left = self.time_left()?;
-        self.peer.write_within(left, buf)
     }
 
     // Reads what comes, up to so many bytes. A read that a signal interrupts is made again.
@@ -80,7 +79,7 @@ impl<P: Peer> TimedStream<P> {
             if left == 0 {
                 return;
             }
-            match self.read_in_time(&mut buffer) {
+            match self.read(&mut buffer) {
                 Ok(0) => return,
                 Ok(count) => left = left.saturating_sub(count),
                 Err(error) => {
@@ -94,14 +93,34 @@ impl<P: Peer> TimedStream<P> {
 }
 
 impl<P: Peer> Read for TimedStream<P> {
-    fn read(&mut self, buf: &mut [u8]) -> io::Result<usize> {
-        self.read_in_time(buf)
+    ghost remaining = { λ s. P.remaining s.peer };
+
+    // Reads some bytes within the time that is left.
+    fn read(&mut self, buf: &mut [u8]) -> io::Result<usize>
+        ensures bound { ReadsAtMost result buf.new }
+        ensures bytes { ReadConsumes (P.remaining self.old.peer) (P.remaining self.new.peer) result buf.new }
+        ensures uses { (calls : List Call) × Makes (P.calls self.old.peer) (P.calls self.new.peer) calls
+            × UsesInTime (λ n r. Reads n r) (self.old.seconds * 1000000000) self.old.begun self.new.begun calls result }
+        ensures seconds { self.new.seconds ≡ self.old.seconds }
+    {
+        let left = self.time_left()?;
+        self.peer.read_within(left, buf)
     }
 }
 
 impl<P: Peer> Write for TimedStream<P> {
-    fn write(&mut self, buf: &[u8]) -> io::Result<usize> {
-        self.write_in_time(buf)
+    ghost contents = { λ s. P.contents s.peer };
+
+    // Writes some bytes within the time that is left.
+    fn write(&mut self, buf: &[u8]) -> io::Result<usize>
+        ensures bound { WritesAtMost result buf.now }
+        ensures bytes { WriteAppends (P.contents self.old.peer) (P.contents self.new.peer) result buf.now }
+        ensures uses { (calls : List Call) × Makes (P.calls self.old.peer) (P.calls self.new.peer) calls
+            × UsesInTime (λ n r. Writes n r) (self.old.seconds * 1000000000) self.old.begun self.new.begun calls result }
+        ensures seconds { self.new.seconds ≡ self.old.seconds }
+    {
+        let left = self.time_left()?;
+        self.peer.write_within(left, buf)
     }
 
     fn flush(&mut self) -> io::Result<()> {

@@ -13,6 +13,7 @@ use Rattle.dh_arguments.specs.declared.kinds.Job.{Job}
 use Rattle.dh_arguments.specs.declared.kinds.Job.TheVariants.{Init, Batch, Run, Recover, Migrate, Report, Serve}
 use Rattle.dh_arguments.specs.Jobs.{IsBadFor, IsJobOf}
 use Rattle.dh_reports.specs.Columns.{newline}
+use Rattle.dh_http.specs.Patience.{standard_patience}
 use Rattle.dh_jobs.specs.declared.jobs.Work.TheVariants as work
 use Rattle.dh_jobs.specs.declared.store_jobs.FileJob.TheVariants as job
 use Rattle.dh_jobs.specs.declared.status.Status.{Status}
@@ -57,7 +58,8 @@ module _ {D : Type 0} (g : disk.Ghosts D) (held : Image) where
   AskedEnds (Recover file) input a b it = DoneOnFile g held job.Recover input a b it
   AskedEnds (Migrate file) input a b it = DoneOnFile g held job.Migrate input a b it
   AskedEnds (Report file question) input a b it = DoneOnFile g held (job.Work (work.Report question)) input a b it
-  AskedEnds (Serve file port count) input a b it = DoneOnFile g held (job.Serve (record { port = port; count = count })) input a b it
+  AskedEnds (Serve file port count) input a b it =
+      DoneOnFile g held (job.Serve (record { port = port; count = count; patience = standard_patience })) input a b it
 
   -- The words ask for a job, and it was done; or they ask for none, and that was said.
   abbrev pub DeskEnds : List (List ℕ) → Option (List ℕ) → Option (List ℕ) → Option (List ℕ) → Status → Type 0

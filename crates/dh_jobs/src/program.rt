@@ -14,7 +14,7 @@ use crate::status::{Failure, Status};
 use crate::store_jobs::FileJob;
 use clap::Error;
 use dh_arguments::{BadWords, Job, Words, job};
-use dh_http::Service;
+use dh_http::{Patience, Service};
 use dh_types::text_writer::put_parts;
 use dh_types::{EntryMonth, Fault, Output};
 use sqlite::{FileFrom, Start, Unknown};
@@ -129,6 +129,7 @@ fn do_asked<S: Start, R: Read, W: Write>(
             let service = Service {
                 port: *port,
                 count: *count,
+                patience: Patience::standard(),
             };
             do_on_file(rt, start, file, FileJob::Serve(service), reader, writer)
         }

@@ -6,5 +6,5 @@ use Rattle.dh_http.proofs.answers.reported.Goals as goal
 
 pub returns : goal.returns
 returns c =
-    let body = filled c.write.result _ _ _ (sym c.is_err.ensures.value ∙ c.if-is_err.false) c.new-body.ensures.items c.write.ensures in
+    let body = filled _ _ _ c.new-body.ensures.items c.in_ok-write.ensures in
     ap (λ l. record { status = 200; content = Report; allow = []; body = l }) body ∙ report_is (report_of c.args.answer.now) c.requires

@@ -1,3 +1,4 @@
+use Rattle.std.proofs.Common.{sym}
 use Rattle.dh_jobs.proofs.program.do_asked.Goals as goal
 
 pub returns-in-Init : goal.returns-in-Init
@@ -19,4 +20,4 @@ pub returns-in-Report : goal.returns-in-Report
 returns-in-Report g c = rw c.in-Report.is c.do_on_file-in-Report.ensures
 
 pub returns-in-Serve : goal.returns-in-Serve
-returns-in-Serve g c = rw c.in-Serve.is c.do_on_file-in-Serve.ensures
+returns-in-Serve g c = rw c.in-Serve.is (rw (sym c.standard.ensures.whole) c.do_on_file-in-Serve.ensures)

@@ -15,7 +15,7 @@ pub returns-in-Ok-eq0 : goal.returns-in-Ok-eq0
 returns-in-Ok-eq0 g c =
     let did = c.in-Ok-eq0.ensures.uses in
     let some : 0 < c.loop-turn.left = omega arith in
-    let now = c.read_in_time.new.self in
+    let now = c.read.new.self in
     taken_all (g.P.Peer.calls c.args.self.now.peer) (g.P.Peer.calls c.loop-turn.self.peer) (g.P.Peer.calls now.peer)
     (c.args.self.now.seconds * 1000000000) c.args.self.now.begun c.loop-turn.self.begun now.begun c.args.bytes c.loop-turn.left c.loop-turn._turn
     c.loop-turn.invariant.taken some did.0 did.1 c.in-Ok-eq0.field-0 c.in-Ok-eq0.field-0-test
@@ -26,7 +26,7 @@ pub returns-then-ne : goal.returns-then-ne
 returns-then-ne g c =
     let did = c.in-Err.ensures.uses in
     let some : 0 < c.loop-turn.left = omega arith in
-    let now = c.read_in_time.new.self in
+    let now = c.read.new.self in
     let kind : error_kind c.in-Err.error ≢ Interrupted = search rules in
     taken_part (g.P.Peer.calls c.args.self.now.peer) (g.P.Peer.calls c.loop-turn.self.peer) (g.P.Peer.calls now.peer)
     (c.args.self.now.seconds * 1000000000) c.args.self.now.begun c.loop-turn.self.begun now.begun c.args.bytes c.loop-turn.left c.loop-turn._turn
@@ -37,9 +37,9 @@ returns-then-ne g c =
 pub loop-turn-preserved : goal.loop-turn-preserved
 loop-turn-preserved g c =
     let some : 0 < c.loop-turn.left = omega arith in
-    let now = c.read_in_time.new.self in
-    let seconds = c.read_in_time.ensures.seconds ∙ c.loop-turn.invariant.seconds in
-    elim c.match-read_in_time.branch [
+    let now = c.read.new.self in
+    let seconds = c.read.ensures.seconds ∙ c.loop-turn.invariant.seconds in
+    elim c.match-read.branch [
       | in-Ok w ↦
           let did = w.in-Ok.ensures.uses in
           let any : 0 < w.in-Ok.count = omega arith in

@@ -8,7 +8,7 @@ use Rattle.dh_http.proofs.streams.TimedStream.time_left.Goals as goal
 pub returns-in_err-now-clause-asks : goal.returns-in_err-now-clause-asks
 returns-in_err-now-clause-asks g c =
     let e = c.in_err-now.field-0.0 in
-    (AsksTime (Err e) ∷ [], c.in_err-now.ensures, AsksLeft.Timeless e refl refl (is_error e c.from_residual.result c.from_residual.ensures.1))
+    (AsksTime (Err e) ∷ [], c.in_err-now.ensures.made, AsksLeft.Timeless e refl refl (is_error e c.from_residual.result c.from_residual.ensures.1))
 
 pub returns-then-is_zero-clause-asks : goal.returns-then-is_zero-clause-asks
 returns-then-is_zero-clause-asks g c =
@@ -18,7 +18,7 @@ returns-then-is_zero-clause-asks g c =
     left_is (c.args.self.now.seconds * 1000000000) begun now c.unwrap_or-begun.result (as_nanos c.from_secs.result) (as_nanos c.duration_since.result)
     (as_nanos c.saturating_sub-left.result) c.unwrap_or-begun.ensures c.from_secs.ensures c.duration_since.ensures c.saturating_sub-left.ensures in (
       AsksTime (Ok now) ∷ [],
-      c.in_ok-now.ensures,
+      c.in_ok-now.ensures.made,
       AsksLeft.Late now c.into.result refl (ap Some c.unwrap_or-begun.ensures) (sym is ∙ c.if-is_zero.ensures.0 refl) c.into.ensures refl,
     )
 
@@ -30,7 +30,7 @@ returns-clause-asks g c =
     left_is (c.args.self.now.seconds * 1000000000) begun now c.unwrap_or-begun.result (as_nanos c.from_secs.result) (as_nanos c.duration_since.result)
     (as_nanos c.saturating_sub-left.result) c.unwrap_or-begun.ensures c.from_secs.ensures c.duration_since.ensures c.saturating_sub-left.ensures in (
       AsksTime (Ok now) ∷ [],
-      c.in_ok-now.ensures,
+      c.in_ok-now.ensures.made,
       AsksLeft.InTime now c.saturating_sub-left.result refl (ap Some c.unwrap_or-begun.ensures) is
           (some_left (as_nanos c.saturating_sub-left.result) (λ e. false≢true (c.if-is_zero.ensures.1 e))) refl,
     )

@@ -2,7 +2,7 @@ use Rattle.std.proofs.Common.{◌*◌, ◌++◌, ◌∷◌, []}
 use Rattle.std.specs.Duration.{as_nanos}
 use Rattle.dh_http.specs.Calls.{Reads}
 use Rattle.dh_http.proofs.CallLemmas.{is_error, makes_both, unused, used}
-use Rattle.dh_http.proofs.streams.TimedStream.read_in_time.Goals as goal
+use Rattle.dh_http.proofs.streams.TimedStreamRead.read.Goals as goal
 
 pub returns-in_err-left-clause-uses : goal.returns-in_err-left-clause-uses
 returns-in_err-left-clause-uses g c =

@@ -1,7 +1,7 @@
 use Rattle.std.proofs.Common.{IfSome, subst, sym}
 use Rattle.dh_requests.specs.Requests.{MayAsk}
 use Rattle.dh_http.proofs.ServedLemmas.{leaves_served_more, may_of, serves_more}
-use Rattle.dh_http.proofs.exchange.serve_one.Goals as goal
+use Rattle.dh_http.proofs.exchange.serve_over.Goals as goal
 
 pub returns-in-Some-clause-serves : goal.returns-in-Some-clause-serves
 returns-in-Some-clause-serves g c clean =
