@@ -4,7 +4,7 @@
 
 use crate::haste::HASTE;
 use dh_agency_test_kit::{compare, in_memory, parted};
-use dh_http::{Door, Peer, accept, serve_connection};
+use dh_http::{Door, Peer, TimedStream, accept, serve_peer};
 use dh_requests::Routes;
 use dh_scripts::Tally;
 use http::StatusCode;
@@ -124,7 +124,9 @@ fn served(alloc: Global, peer: SlowPeer) -> Result<Option<StatusCode>, AllocErro
     let Some(mut agency) = in_memory(alloc)? else {
         return Ok(None);
     };
-    let (told, _) = serve_connection(alloc, &routes, &mut agency, peer, HASTE);
+    let mut reader = TimedStream::of_request(peer, HASTE);
+    let mut writer = TimedStream::of_answer(peer, HASTE);
+    let (told, _) = serve_peer(alloc, &routes, &mut agency, &mut reader, &mut writer, peer, HASTE);
     drop(agency.into_store());
     Ok(told)
 }

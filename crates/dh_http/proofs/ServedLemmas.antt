@@ -31,7 +31,7 @@ module _ {S : Type 0} (g : Ghosts S) (old new : Seat S) (a b : Option (List ℕ)
       let broken = subst (λ x. Writes a b x (Err (Output failed))) is sends in
       (asked, (served (stand g old) asked).answer.status, may, IsServed.Told broken state kept refl)
   serves_sent it (Err Closed) sends is state kept = absurd sends
-  serves_sent it (Err Input) sends is state kept = absurd sends
+  serves_sent it (Err (Input failed)) sends is state kept = absurd sends
   serves_sent it (Err (Memory acted)) sends is state kept = absurd sends
 
   -- an answer that may want memory; before that the machine's step was made or not
@@ -51,7 +51,7 @@ module _ {S : Type 0} (g : Ghosts S) (old new : Seat S) (a b : Option (List ℕ)
   serves_fault put fault it (Err (Output failed)) sends told is stopped left =
       let broken = subst (λ x. Writes a b x (Err (Output failed))) told sends in (asked, 503, may, IsServed.Faulted fault put broken is stopped left refl)
   serves_fault put fault it (Err Closed) sends told is stopped left = absurd sends
-  serves_fault put fault it (Err Input) sends told is stopped left = absurd sends
+  serves_fault put fault it (Err (Input failed)) sends told is stopped left = absurd sends
   serves_fault put fault it (Err (Memory acted)) sends told is stopped left = absurd sends
 
 -- ---- whether the agency has stopped
@@ -61,14 +61,14 @@ module _ {S : Type 0} (old new : Seat S) (a b : Option (List ℕ)) (it : Answer)
   stops_fault fault (Ok status) sends told stopped = inr (sends.1 ∙ ap (λ (z : Answer). z.status) told, stopped)
   stops_fault fault (Err (Output failed)) sends told stopped = inr stopped
   stops_fault fault (Err Closed) sends told stopped = absurd sends
-  stops_fault fault (Err Input) sends told stopped = absurd sends
+  stops_fault fault (Err (Input failed)) sends told stopped = absurd sends
   stops_fault fault (Err (Memory acted)) sends told stopped = absurd sends
 
   pub goes_on_sent : (result : Result ℕ NetFault) → Writes a b it result → it.status ≢ 503 → new.is_stopped ≡ old.is_stopped → StopsBy old new result
   goes_on_sent (Ok status) sends other same = inl (λ e. other (sym sends.1 ∙ e), same)
   goes_on_sent (Err (Output failed)) sends other same = inl same
   goes_on_sent (Err Closed) sends other same = absurd sends
-  goes_on_sent (Err Input) sends other same = absurd sends
+  goes_on_sent (Err (Input failed)) sends other same = absurd sends
   goes_on_sent (Err (Memory acted)) sends other same = absurd sends
 
 pub goes_on_made : {S E : Type 0} (old new : Seat S) (a b : Option (List ℕ)) (it : Answer) (acted : Bool) (made : Result Response E)
@@ -99,7 +99,7 @@ module _ {S : Type 0} (g : Ghosts S) (old new : Seat S) (P Q : Asked → Type 0)
   serves_more a b (Ok status) h = (h.0, f h.0 h.1, h.2)
   serves_more a b (Err (Output failed)) h = (h.0, h.1, f h.0 h.2, h.3)
   serves_more a b (Err Closed) h = h
-  serves_more a b (Err Input) h = h
+  serves_more a b (Err (Input failed)) h = h
   serves_more a b (Err (Memory true)) h = (h.0, f h.0 h.1, h.2, h.3, h.4)
   serves_more a b (Err (Memory false)) h = h
 

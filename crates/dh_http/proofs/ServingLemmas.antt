@@ -112,7 +112,7 @@ module _ {S : Type 0} (g : Ghosts S) (s : State) (before : List (Option ℕ)) (o
     by_result May a b (Ok status) h stops = by_answer h.0 status (Appends a b) h.2 stops
     by_result May a b (Err (Output failed)) h stops = by_lost_answer h.0 h.1 (BreaksOff a b) h.3
     by_result May a b (Err Closed) h stops = same_as h.1
-    by_result May a b (Err Input) h stops = same_as h.1
+    by_result May a b (Err (Input failed)) h stops = same_as h.1
     by_result May a b (Err (Memory true)) h stops = goes_on (Unheard h.0) None refl h.4 (stops ∙ live)
     by_result May a b (Err (Memory false)) h stops = goes_on Lost None refl (ap stand_of h.1) (stops ∙ live)
 

@@ -65,7 +65,7 @@ IsFaultOf old it = (old.is_stopped ≡ false → IsFirstFault it) × (old.is_sto
 
 -- where no request was read nothing was carried out
 abbrev pub unread_fault : Unread → NetFault
-unread_fault (unread.Input failed) = Input
+unread_fault (unread.Input failed) = Input failed
 unread_fault unread.Memory = Memory false
 
 module _ {S : Type 0} (g : Ghosts S) (old new : Seat S) where
@@ -83,7 +83,7 @@ module _ {S : Type 0} (g : Ghosts S) (old new : Seat S) where
   Serves May a b (Ok status) = (asked : Asked) × May asked × IsServed asked status (Appends a b)
   Serves May a b (Err (Output failed)) = (asked : Asked) × (status : ℕ) × May asked × IsServed asked status (BreaksOff a b)
   Serves May a b (Err Closed) = (b ≡ a) × (new ≡ old)
-  Serves May a b (Err Input) = (b ≡ a) × (new ≡ old)
+  Serves May a b (Err (Input failed)) = (b ≡ a) × (new ≡ old)
   Serves May a b (Err (Memory true)) =
       (asked : Asked) × May asked × (b ≡ a) × IsOrder asked × (stand g new ≡ (served (stand g old) asked).state)
   Serves May a b (Err (Memory false)) = (b ≡ a) × (machine g new ≡ machine g old)
@@ -98,5 +98,5 @@ module _ {S : Type 0} (old new : Seat S) where
   StopsBy (Ok status) = ((status ≢ 503) × (new.is_stopped ≡ old.is_stopped)) ⊎ ((status ≡ 503) × (new.is_stopped ≡ true))
   StopsBy (Err (Output failed)) = (new.is_stopped ≡ old.is_stopped) ⊎ (new.is_stopped ≡ true)
   StopsBy (Err Closed) = new.is_stopped ≡ old.is_stopped
-  StopsBy (Err Input) = new.is_stopped ≡ old.is_stopped
+  StopsBy (Err (Input failed)) = new.is_stopped ≡ old.is_stopped
   StopsBy (Err (Memory acted)) = new.is_stopped ≡ old.is_stopped

@@ -30,9 +30,9 @@ use std::io;
 use std::io::Write;
 use std::net::{SocketAddr, TcpListener, TcpStream};
 
-// Answers a peer through two streams, which have the time of its patience: the status, if it was answered, and the peer behind it. Where it was
-// answered the stream ends as such.
-fn serve_peer<S: Alter, P: Peer>(
+/// Answers a peer through two streams, which have the time of its patience: the status, if it was answered, and the peer behind it. Where it was
+/// answered the stream ends as such.
+pub fn serve_peer<S: Alter, P: Peer>(
     alloc: Global,
     routes: &Routes,
     agency: &mut Agency<S>,

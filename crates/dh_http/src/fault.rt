@@ -4,17 +4,18 @@ ghost use Rattle.std.specs.Prelude.{◌≡◌, false};
 ghost use Rattle.dh_http.specs.Served.{unread_fault};
 ghost use Rattle.dh_http.specs.declared.fault.NetFault.TheVariants as net;
 
+use dh_reading::ReaderFailed;
 use dh_requests::Unread;
 use dh_types::Output;
 use std::alloc::AllocError;
 
 /// Why a request got no answer.
-#[derive(Clone, Copy, Debug, PartialEq, Eq)]
+#[derive(Clone, Copy, Debug)]
 pub enum NetFault {
     /// No byte came; nothing was done.
     Closed,
-    /// The reader failed; nothing was done.
-    Input,
+    /// The reader failed; nothing was done. Only a read that failed makes what this holds.
+    Input(ReaderFailed),
     /// The writer failed, and has a beginning of the answer; what was asked for stands.
     Output(Output),
     /// Memory for the request or its answer ran out, and nothing was written. The command was carried out where `acted`, and
@@ -27,7 +28,7 @@ impl From<Unread> for NetFault {
 
     fn from(unread: Unread) -> NetFault {
         match unread {
-            Unread::Input(_) => NetFault::Input,
+            Unread::Input(failed) => NetFault::Input(failed),
             Unread::Memory => NetFault::Memory { acted: false },
         }
     }

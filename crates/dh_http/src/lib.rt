@@ -2,7 +2,7 @@
 //! [`serve_one`] and `specs/Requests.antt` of dh_requests first, and then [`serve`].
 #![tactic(auto)]
 
-pub mod acceptor;
+mod acceptor;
 mod answers;
 mod connections;
 mod exchange;
@@ -13,7 +13,11 @@ mod patience;
 mod peers;
 mod streams;
 
+pub use acceptor::{Door, accept};
+pub use connections::serve_peer;
 pub use exchange::serve_one;
 pub use fault::NetFault;
 pub use listener::{Service, Unserved, serve};
 pub use patience::Patience;
+pub use peers::Peer;
+pub use streams::TimedStream;

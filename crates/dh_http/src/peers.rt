@@ -12,7 +12,7 @@ use std::net::{Shutdown, TcpStream};
 use std::time::{Duration, Instant};
 
 /// A peer's stream, and the clock.
-pub(crate) trait Peer {
+pub trait Peer {
     // The calls that were made, in order, where they are known.
     ghost calls: { Self → Option (List Call) } = { λ _. None };
 

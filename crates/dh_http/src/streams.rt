@@ -13,7 +13,7 @@ use std::time::{Duration, Instant};
 
 /// A stream that is read, or written, for so many seconds in all, from the first call on. Each later call fails.
 #[derive(Drop)]
-pub(crate) struct TimedStream<P: Peer> {
+pub struct TimedStream<P: Peer> {
     peer: P,
     seconds: u64,
     begun: Option<Instant>,
@@ -33,7 +33,7 @@ impl<P: Peer> TimedStream<P> {
     }
 
     /// The stream from which a peer's request is read.
-    pub(crate) fn of_request(peer: P, patience: Patience) -> TimedStream<P>
+    pub fn of_request(peer: P, patience: Patience) -> TimedStream<P>
         ensures peer { result.peer ≡ peer }
         ensures seconds { result.seconds ≡ patience.request_seconds }
         ensures begun { result.begun ≡ None }
@@ -42,7 +42,7 @@ impl<P: Peer> TimedStream<P> {
     }
 
     /// The stream to which a peer's answer is written.
-    pub(crate) fn of_answer(peer: P, patience: Patience) -> TimedStream<P>
+    pub fn of_answer(peer: P, patience: Patience) -> TimedStream<P>
         ensures peer { result.peer ≡ peer }
         ensures seconds { result.seconds ≡ patience.answer_seconds }
         ensures begun { result.begun ≡ None }

@@ -16,7 +16,7 @@ pub fn end_text(alloc: Global, end: Result<StatusCode, NetFault>) -> Result<Stri
     match end {
         Ok(status) => status.as_str().to_string(alloc),
         Err(NetFault::Closed) => "closed".to_string(alloc),
-        Err(NetFault::Input) => "input failed".to_string(alloc),
+        Err(NetFault::Input(_)) => "input failed".to_string(alloc),
         Err(NetFault::Output(_)) => "output failed".to_string(alloc),
         Err(NetFault::Memory { acted: _ }) => "no memory".to_string(alloc),
     }
