@@ -15,7 +15,7 @@ use Rattle.dh_agency.specs.Seat.{Seat}
 use Rattle.dh_agency.specs.Agency.{Leaves, LeavesItsTables, WasClean, machine, stand, stand_of}
 use Rattle.dh_agency.proofs.Standing.{leaves_more}
 use Rattle.dh_fields.specs.Lines.{Fields}
-use Rattle.dh_lines.specs.Session.{answered, fault_line, line, records_of, state_after}
+use Rattle.dh_lines.specs.Session.{answered, line, records_of, state_after}
 use Rattle.dh_lines.specs.Batch.{Answers, AnsweredAll, AnsweredFirst, EndsSo, Halts, IsAgencyFault, IsAtRest, IsFirst}
 use Rattle.dh_lines.specs.Batch.{IsFaultAt, IsStoreFault, IsWithin}
 use Rattle.dh_lines.specs.Batch.{OnlyOfRequests, PutsBehind, TellsReading, TellsUnread, batch_fault}
