@@ -1,7 +1,5 @@
 -- Which answer a reply is given.
-use Rattle.std.proofs.Common.{◌≢◌, ◌≡◌, ◌∙◌, ◌++◌, [], ℕ, List, Option, Some, Result, Ok, Err, ap, arith, false, refl, subst, sym}
-use Rattle.std.specs.Result.{is_err}
-use Rattle.dh_types.specs.Output.{Puts}
+use Rattle.std.proofs.Common.{◌≢◌, ◌≡◌, ◌∙◌, ◌++◌, [], ℕ, List, ap, arith, false, refl}
 use Rattle.dh_types.specs.Reports.{Report, NoReport}
 use Rattle.dh_types.specs.Reports.{is_no_report}
 use Rattle.dh_reports.specs.ReportTexts.{report_text}
@@ -10,7 +8,6 @@ use Rattle.dh_types.specs.declared.reply.Reply.TheVariants as reply
 use Rattle.dh_types.specs.declared.reply.Refusal.{Refusal}
 use Rattle.dh_types.specs.declared.reply.Refusal.TheVariants as refusal
 use Rattle.dh_types.specs.Replies.{reply_text}
-use Rattle.dh_types.specs.declared.output.Output.{Output}
 use Rattle.dh_requests.specs.declared.asked.Turned.{Turned}
 use Rattle.dh_requests.specs.declared.asked.Turned.TheVariants as turned
 use Rattle.dh_http.specs.Answers.{json_answer, refusal_status, reply_answer, report_answer, turned_status}

@@ -1,4 +1,4 @@
-use Rattle.std.proofs.Common.{[], ◌∙◌, ap, sym}
+use Rattle.std.proofs.Common.{[], ◌∙◌, ap}
 use Rattle.dh_types.specs.Reports.{report_of}
 use Rattle.dh_http.specs.declared.answers.Content.TheVariants.{Report}
 use Rattle.dh_http.proofs.AnswerLemmas.{filled, report_is}

@@ -1,7 +1,6 @@
 use Rattle.std.proofs.Common.{[], ℕ, List, Option, Err, arith, refl, subst, sym}
 use Rattle.std.proofs.KnownBytes.{Appends-nil}
 use Rattle.dh_types.specs.declared.reply.Fault.TheVariants.{Memory}
-use Rattle.dh_schema.specs.Faults.{IsFirstFault}
 use Rattle.dh_http.specs.declared.listener.Unserved.TheVariants as unserved
 use Rattle.dh_http.specs.Printed.{AreFewer, Listened, PrintsBehind, PrintsServed, Untold, port_text}
 use Rattle.dh_http.specs.Service.{ServesOn}
