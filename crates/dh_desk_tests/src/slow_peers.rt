@@ -152,6 +152,7 @@ fn outcome(rt: &HostRuntime, habit: &str, request: &str) -> io::Result<String> {
 }
 
 // A door at which so many tries more are interrupted.
+#[derive(Drop)]
 struct InterruptedDoor {
     left: u32,
     tries: u32,
