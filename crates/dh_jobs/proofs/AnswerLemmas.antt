@@ -14,19 +14,30 @@ use Rattle.dh_agency.proofs.Standing.{reads_in_order, report_stands}
 use Rattle.dh_lines.specs.declared.outcome.BatchFault.{BatchFault}
 use Rattle.dh_lines.specs.declared.outcome.BatchFault.TheVariants as ended
 use Rattle.dh_lines.specs.Session.{records_of}
-use Rattle.dh_lines.specs.Batch.{AreAfter, EndsSo, LeavesAnswered}
+use Rattle.dh_lines.specs.Batch.{AreAfter, EndsSo, IsStoreFault, LeavesAnswered}
 use Rattle.dh_jobs.specs.Jobs.{report_shown}
 use Rattle.dh_jobs.specs.Texts.{report_lines}
-use Rattle.dh_jobs.specs.Ends.{AtFault, AtReading, AtWriting, Stops}
+use Rattle.dh_jobs.specs.Ends.{AtFault, AtReading, AtUnread, AtWriting, Stops}
 use Rattle.dh_jobs.specs.Leaving.{LinesLeave}
 
 -- a batch that ended early
 pub stops : {S : Type 0} (g : Ghosts S) (old new : Seat S) (a b : Option (List ℕ)) (fault : BatchFault) (input : List ℕ)
-    → EndsSo g old new a b (Err fault) input
-    → Stops (shown_by g new) a b (stand g old) (records_of input) fault
-stops g old new a b (ended.Agency fault) input (outcome, h) = AtFault h.count fault outcome refl h.few h.written h.state
-stops g old new a b (ended.Input cause) input h = AtReading h.count cause refl h.few h.written h.state
-stops g old new a b (ended.Output output) input h = AtWriting h.count output h.fields h.cut refl h.here h.part h.written h.state
+    → (IsStoreFault fault → new.is_stopped ≡ true) → EndsSo g old new a b (Err fault) input
+    → Stops (shown_by g new) new.is_stopped a b (stand g old) (records_of input) fault
+stops g old new a b (ended.Agency fault) input store (outcome, h) =
+    AtFault fault refl (record {
+      count = h.count;
+      outcome = outcome;
+      few = h.few;
+      asked = h.asked;
+      written = h.written;
+      left = h.state;
+      stopped = store;
+      undone = h.undone;
+    })
+stops g old new a b (ended.Unread cause) input store (outcome, h) = AtUnread h.count cause outcome refl h.few h.number h.written h.state
+stops g old new a b (ended.Input cause) input store h = AtReading h.count cause refl h.few h.written h.state
+stops g old new a b (ended.Output output) input store h = AtWriting h.count output h.fields h.cut refl h.here h.part h.written h.state
 
 -- a batch that answered its lines has not stopped
 pub goes_on : (was is : Bool) → was ≡ false → (is ≡ was) ⊎ (⊥ × (is ≡ true)) → is ≡ false

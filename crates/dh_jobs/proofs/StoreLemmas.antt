@@ -1,5 +1,5 @@
 -- From an agency to the store that it is over.
-use Rattle.std.proofs.Common.{◌≡◌, ◌⊎◌, ◌∙◌, inl, inr, ℕ, Option, Some, None, List, [], ◌++◌, refl, sym, ap, subst, arith, false}
+use Rattle.std.proofs.Common.{◌≡◌, ◌⊎◌, ◌∙◌, inl, inr, Bool, ℕ, Option, Some, None, List, [], ◌∷◌, ◌++◌, refl, sym, ap, subst, arith, true, false}
 use Rattle.std.specs.Prelude.{pos, IfSome, IsTrue, OnOk, Result, Ok, Err}
 use Rattle.sqlite.specs.Store.{Ghosts}
 use Rattle.sqlite.specs.State as conn
@@ -30,7 +30,7 @@ use Rattle.dh_http.specs.declared.listener.Service.{Service}
 use Rattle.dh_http.specs.declared.listener.Unserved.{Unserved}
 use Rattle.dh_http.specs.declared.listener.Unserved.TheVariants as unserved
 use Rattle.dh_http.specs.Printed.{Listened, PrintsServed, Unlistened, Untold, outcome_lines}
-use Rattle.dh_http.specs.Service.{AreTold, IsAfterSome, IsServing}
+use Rattle.dh_http.specs.Service.{AreTold, GoesOn, HasStopped, IsAfterSome, IsServing, outcomes_of}
 use Rattle.dh_jobs.specs.Jobs.{IsRunCut, stand_in}
 use Rattle.dh_jobs.specs.Leaving.{IsKept, ServingLeaves, TakingLeaves, WorkLeaves}
 use Rattle.dh_jobs.specs.declared.jobs.Work.{Work}
@@ -45,7 +45,7 @@ use Rattle.dh_jobs.specs.Printed.{Before, Behind, Closes, IsMigrationEnd, IsNotM
 use Rattle.dh_jobs.specs.Printed.{IsReportEnd, IsRunEnd, Prints}
 use Rattle.dh_jobs.specs.Printed.{PrintsEnd, PrintsJob, PrintsService, PrintsWork, PutsAs, Served, TellsFault, TellsNoListener, TellsProblem, TellsServed}
 use Rattle.dh_jobs.specs.Printed.{Unclosed, Whole, Within}
-use Rattle.dh_jobs.specs.Ends.{IsNotRecovered, IsNotRecoveredFor, IsServed, LinesEnd, MendingEnds, RecoveryEnds, WorkEnds}
+use Rattle.dh_jobs.specs.Ends.{IsNotRecovered, IsNotRecoveredFor, IsServed, LinesEnd, MendingEnds, RecoveryEnds, StandsBy, WorkEnds}
 use Rattle.dh_jobs.proofs.TextLemmas.{broken_failed, fault_told, tells_behind, told_behind, told_failed}
 
 -- ---- what was printed
@@ -140,6 +140,33 @@ serving_prints service outcomes a m b (Err (unserved.Fault fault)) status first 
     by (Untold text port broken none failed is) = cc
     by (Unlistened same none is) = cc
 
+-- Where no connection was served the agency goes on.
+no_end : {A : Type 0} (xs : List A) (y : A) (ys : List A) → [] ≡ xs ++ y ∷ ys → ⊥
+no_end [] y ys is = cc
+no_end (x ∷ xs) y ys is = cc
+
+none_stops : (s : State) (outcomes : List (Option ℕ)) (now : State) (is_stopped : Bool) → outcomes ≡ [] → AreTold s outcomes now is_stopped
+    → is_stopped ≡ false
+none_stops s outcomes now is_stopped none (GoesOn contacts told stands going) = going
+none_stops s outcomes now is_stopped none (HasStopped contacts halt more told halts stopped) =
+    absurd (no_end (outcomes_of s contacts) halt more (sym none ∙ told))
+
+-- how serving ended says whether the agency goes on
+module _ (service : Service) (outcomes : List (Option ℕ)) (a m b : Option (List ℕ)) (status : Status) (s now : State) (is_stopped : Bool) where
+  pub stands_by : (result : Result (Unit {0}) Unserved) → OnOk result (is_stopped ≡ false) → (result ≡ Err unserved.Stopped → is_stopped ≡ true)
+      → ((fault : Fault) → result ≡ Err (unserved.Fault fault) → (is_stopped ≡ false) × IsFirstFault fault)
+      → PrintsServed service outcomes a m result → AreTold s outcomes now is_stopped → TellsServed result m b status → StandsBy status is_stopped
+  stands_by (Ok done) going stopped fault h told (same, is) = subst (λ it. StandsBy it is_stopped) (sym is) going
+  stands_by (Err unserved.NoListener) going stopped fault h told said = subst (λ it. StandsBy it is_stopped) (sym said.1) (by h)
+    where
+      by : PrintsServed service outcomes a m (Err unserved.NoListener) → is_stopped ≡ false
+      by (Listened text port never) = absurd never
+      by (Untold text port broken none failed is) = cc
+      by (Unlistened same none is) = none_stops s outcomes now is_stopped none told
+  stands_by (Err (unserved.Output output)) going stopped fault h told (same, is) = subst (λ it. StandsBy it is_stopped) (sym is) tt
+  stands_by (Err unserved.Stopped) going stopped fault h told (same, is) = subst (λ it. StandsBy it is_stopped) (sym is) (stopped refl)
+  stands_by (Err (unserved.Fault why)) going stopped fault h told said = subst (λ it. StandsBy it is_stopped) (sym said.failed) (fault why refl).0
+
 module _ (service : Service) (outcomes : List (Option ℕ)) (a m b : Option (List ℕ)) (before after : Status) where
   failed_end : (why : Unserved) → PrintsEnd service outcomes a m (Err why) before → IsFailed before
   failed_end unserved.NoListener (none, h) = subst IsFailed (sym h.1) tt
@@ -205,27 +232,29 @@ module _ {S : Type 0} (g : Ghosts S) (after : Seat S) (last : Held S) (same : la
 
   module _ (a b : Option (List ℕ)) (status : Status) where
     pub work_ends : (old : Held S) (taken : Seat S) → machine g taken ≡ store.tables (state g old) → (input : Option (List ℕ)) (it : Work)
-        → WorkEnds (shown_by g after) a b (machine g taken) input it status → WorkEnds (state g last) a b (store.tables (state g old)) input it status
+        → WorkEnds (shown_by g after) after.is_stopped a b (machine g taken) input it status
+        → WorkEnds (state g last) after.is_stopped a b (store.tables (state g old)) input it status
     work_ends old taken is input it h =
-        subst (λ t. WorkEnds (state g last) a b t input it status) is (back (λ new. WorkEnds new a b (machine g taken) input it status) h)
+        subst (λ t. WorkEnds (state g last) after.is_stopped a b t input it status) is
+        (back (λ new. WorkEnds new after.is_stopped a b (machine g taken) input it status) h)
 
     pub lines_end : (s : State) (made : Seat S) → stand g made ≡ s → (input : Option (List ℕ))
-        → IfSome input (λ input. LinesEnd (shown_by g after) a b (stand g made) input status)
-        → IfSome input (λ input. LinesEnd (state g last) a b s input status)
+        → IfSome input (λ input. LinesEnd (shown_by g after) after.is_stopped a b (stand g made) input status)
+        → IfSome input (λ input. LinesEnd (state g last) after.is_stopped a b s input status)
     lines_end s made is input h =
-        subst (λ t. IfSome input (λ input. LinesEnd (state g last) a b t input status)) is
-        (back (λ new. IfSome input (λ input. LinesEnd new a b (stand g made) input status)) h)
+        subst (λ t. IfSome input (λ input. LinesEnd (state g last) after.is_stopped a b t input status)) is
+        (back (λ new. IfSome input (λ input. LinesEnd new after.is_stopped a b (stand g made) input status)) h)
 
   -- connections were served
   module _ (old : Held S) (taken : Seat S) (is : machine g taken ≡ store.tables (state g old)) (outcomes : List (Option ℕ))
       (served : IsServing g (stand g taken) outcomes after) where
-    pub serving_ends : (a b : Option (List ℕ)) (service : Service) (status : Status) → (status ≡ Done → after.is_stopped ≡ false)
+    pub serving_ends : (a b : Option (List ℕ)) (service : Service) (status : Status) → StandsBy status after.is_stopped
         → PrintsService service outcomes a b status → IsServed (state g old) (state g last) a b service status
-    serving_ends a b service status goes_on printed = record {
+    serving_ends a b service status stands printed = record {
       outcomes = outcomes;
       printed = printed;
       is_stopped = after.is_stopped;
-      goes_on = goes_on;
+      stands = stands;
       told =
           subst (λ t. AreTold (stand_of t) outcomes (stand_in (state g last)) after.is_stopped) is
           (back (λ new. AreTold (stand_of (machine g taken)) outcomes (stand_in new) after.is_stopped) served.told);

@@ -1,11 +1,13 @@
 -- What comes of the words behind the program's name.
-use Rattle.std.specs.Prelude.{◌≡◌, ◌⊎◌, ℕ, List, [], ◌++◌, Option, Some, None, codes}
+use Rattle.std.specs.Prelude.{◌≡◌, ◌⊎◌, ℕ, List, [], ◌++◌, Option, Some, None, Result, codes}
+use Rattle.std.specs.Str.Pattern.{FindsCharSuffix, IsTrimEndMatches}
 use Rattle.sqlite_disk.specs.declared.Disk as disk
 use Rattle.sqlite_wal.specs.Recovery.{Image}
 use Rattle.clap.specs.Values.{kind_of}
 use Rattle.clap.specs.declared.error.Error.{Error}
 use Rattle.clap.specs.declared.error.kind.ErrorKind.{ErrorKind}
 use Rattle.clap.specs.declared.error.kind.ErrorKind.TheVariants.{DisplayHelp, DisplayVersion}
+use Rattle.dh_types.specs.declared.output.Output.{Output}
 use Rattle.dh_types.specs.declared.reply.Fault.TheVariants as fault
 use Rattle.dh_arguments.specs.declared.kinds.BadWords.{BadWords}
 use Rattle.dh_arguments.specs.declared.kinds.BadWords.TheVariants as bad
@@ -16,30 +18,48 @@ use Rattle.dh_reports.specs.Columns.{newline}
 use Rattle.dh_http.specs.Patience.{standard_patience}
 use Rattle.dh_jobs.specs.declared.jobs.Work.TheVariants as work
 use Rattle.dh_jobs.specs.declared.store_jobs.FileJob.TheVariants as job
+use Rattle.dh_jobs.specs.declared.status.Failure.TheVariants as failure
 use Rattle.dh_jobs.specs.declared.status.Status.{Status}
 use Rattle.dh_jobs.specs.declared.status.Status.TheVariants as status
-use Rattle.dh_jobs.specs.Texts.{refusal_line}
-use Rattle.dh_jobs.specs.Statuses.{IsBad, IsFailed}
-use Rattle.dh_jobs.specs.Printed.{IsOfLines, PutsBad, Tells}
+use Rattle.dh_jobs.specs.Texts.{fault_line, refusal_line}
+use Rattle.dh_jobs.specs.Printed.{IsOfLines, PutsBad, PutsEnding, Tells, heard}
 use Rattle.dh_jobs.specs.Ends.{MemoryLinesEnd}
 use Rattle.dh_jobs.specs.OnFile.{DoneOnFile, MadeOnFile}
 
--- Help is all that was asked for, and it was printed, or that failed; else the words are bad, whether it could be said why or not.
-abbrev pub IsOfMessage : ErrorKind → Status → Type 0
-IsOfMessage DisplayHelp it = (it ≡ status.Done) ⊎ IsFailed it
-IsOfMessage DisplayVersion it = (it ≡ status.Done) ⊎ IsFailed it
-IsOfMessage _ it = IsBad it
+-- the text without the line feeds at its end, and then one
+abbrev pub IsLineOf : List ℕ → List ℕ → Type 0
+IsLineOf text line = (trimmed : List ℕ) × IsTrimEndMatches (FindsCharSuffix 10) text trimmed × (line ≡ trimmed ++ newline)
 
--- what `clap` says of the words was printed, or that failed
-abbrev pub MessagePrints : Error → Status → Type 0
-MessagePrints error it = IsOfMessage (kind_of error) it
+-- How the program ends where a message was written so: help is all that was asked for, or the words are bad.
+abbrev pub said_status : ErrorKind → Result (Unit {0}) Output → Status
+said_status DisplayHelp outcome = heard outcome status.Done
+said_status DisplayVersion outcome = heard outcome status.Done
+said_status _ outcome = status.BadWords outcome
+
+-- the same where there was no memory for the message, and the line of that fault was written so
+abbrev pub unsaid_status : ErrorKind → Result (Unit {0}) Output → Status
+unsaid_status DisplayHelp outcome = status.Failed (failure.Fault fault.Memory outcome)
+unsaid_status DisplayVersion outcome = status.Failed (failure.Fault fault.Memory outcome)
+unsaid_status _ outcome = status.BadWords outcome
+
+-- This message was printed, with one line feed at its end.
+abbrev pub SaysMessage : ErrorKind → List ℕ → Option (List ℕ) → Option (List ℕ) → Status → Type 0
+SaysMessage kind text a b it = (line : List ℕ) × IsLineOf text line × PutsEnding (said_status kind) line a b it
+
+-- There was no memory for the message, and that was told.
+abbrev pub SaysNoMessage : ErrorKind → Option (List ℕ) → Option (List ℕ) → Status → Type 0
+SaysNoMessage kind a b it = PutsEnding (unsaid_status kind) (fault_line fault.Memory) a b it
+
+-- What `clap` says of the words was printed. Which text that is, only `clap` knows.
+abbrev pub MessagePrints : Error → Option (List ℕ) → Option (List ℕ) → Status → Type 0
+MessagePrints error a b it = ((text : List ℕ) × SaysMessage (kind_of error) text a b it) ⊎ SaysNoMessage (kind_of error) a b it
 
 -- the option whose value is bad
 abbrev pub value_line : List ℕ → List ℕ
 value_line option = codes "bad " ++ option ++ newline
 
 abbrev pub BadPrints : BadWords → Option (List ℕ) → Option (List ℕ) → Status → Type 0
-BadPrints (bad.Refused error) a b it = MessagePrints error it
+BadPrints (bad.Refused error) a b it = MessagePrints error a b it
 BadPrints (bad.Value option) a b it = PutsBad (value_line option.now) a b it
 BadPrints (bad.Question refusal) a b it = PutsBad (refusal_line refusal) a b it
 BadPrints bad.Memory a b it = Tells fault.Memory a b [] it

@@ -1,5 +1,6 @@
 -- How jobs end: what was printed, the status, and where the tables stand.
-use Rattle.std.specs.Prelude.{◌≡◌, ◌⊎◌, ℕ, ◌+◌, ◌<◌, ◌≤◌, List, [], ◌++◌, length, take, slice_get, Option, Some, IfSome, Bool, false, IsTrue, Result}
+use Rattle.std.specs.Prelude.{◌≡◌, ◌⊎◌, ℕ, ◌+◌, ◌<◌, ◌≤◌, List, [], ◌++◌, length, take, slice_get, Option, Some, IfSome}
+use Rattle.std.specs.Prelude.{Bool, true, false, IsTrue, Result, ⊤}
 use Rattle.std.specs.Io.KnownBytes.{Appends}
 use Rattle.sqlite.specs.State as conn
 use Rattle.sqlite.specs.State.{HasCleanDisk}
@@ -12,6 +13,7 @@ use Rattle.dh_types.specs.declared.question.Question.{Question}
 use Rattle.dh_types.specs.declared.reply.Refusal.{Refusal}
 use Rattle.dh_types.specs.declared.reply.Refusal.TheVariants as refusal
 use Rattle.dh_types.specs.declared.reply.Fault.{Fault}
+use Rattle.dh_types.specs.declared.reply.Fault.TheVariants as fault
 use Rattle.dh_types.specs.declared.version.Version.TheVariants.{First, Second}
 use Rattle.dh_types.specs.declared.output.Output.{Output}
 use Rattle.dh_model.specs.Books.{State, start}
@@ -28,10 +30,11 @@ use Rattle.dh_agency.specs.Agency.{stand_of}
 use Rattle.dh_fields.specs.Lines.{Fields}
 use Rattle.dh_lines.specs.declared.outcome.BatchFault.{BatchFault}
 use Rattle.dh_lines.specs.declared.outcome.BatchFault.TheVariants as ended
+use Rattle.dh_lines.specs.declared.records.Unread.{Unread}
 use Rattle.dh_lines.specs.declared.watched_reader.Input.{Input}
 use Rattle.dh_lines.specs.Session as session
 use Rattle.dh_lines.specs.Session.{Answered, line, lines_from, records_of, replied, state_after}
-use Rattle.dh_lines.specs.Batch.{IsWithin, PutsBehind}
+use Rattle.dh_lines.specs.Batch.{IsFaultAt, IsWithin, PutsBehind}
 use Rattle.dh_http.specs.declared.listener.Service.{Service}
 use Rattle.dh_http.specs.Service.{AreTold, IsAfterSome}
 use Rattle.dh_jobs.specs.declared.jobs.Work.{Work}
@@ -60,23 +63,37 @@ pub record Breaks (new : conn.State) (a b : Option (List ℕ)) (P : State → Ty
   pub told : TellsFault a b [] status
   pub left : IsTrue new.is_open → P (store.tables new)
 
--- The first records were answered, and then no more, for this: by a fault within the next one, whose line follows as the outcome says;
--- by a reader that failed; or by a writer that failed in the next one's line, which was carried out.
-pub data Stops (new : conn.State) (a b : Option (List ℕ)) (s : State) (rows : List Fields) (why : BatchFault) : Type 0 where
-  AtFault : (count : ℕ) (fault : Fault) (outcome : Result (Unit {0}) Output) → why ≡ ended.Agency fault → count ≤ length rows
-      → PutsBehind a b (lines_from 1 s (take count rows)) outcome (session.fault_line (count + 1) fault)
-      → (IsTrue new.is_open → IsWithin (state_after s (take count rows)) (slice_get rows count) (store.tables new)) → Stops new a b s rows why
+-- The first records were answered, and then a fault came within the next one, whose line follows as the outcome says. The agency has stopped, at
+-- fault 22 always; or it goes on, and nothing of that record was done.
+pub record FaultedIn (new : conn.State) (is_stopped : Bool) (a b : Option (List ℕ)) (s : State) (rows : List Fields) (why : Fault) : Type 0 where
+  pub count : ℕ
+  pub outcome : Result (Unit {0}) Output
+  pub few : count ≤ length rows
+  pub asked : IsFaultAt why (slice_get rows count)
+  pub written : PutsBehind a b (lines_from 1 s (take count rows)) outcome (session.fault_line (count + 1) why)
+  pub left : IsTrue new.is_open → IsWithin (state_after s (take count rows)) (slice_get rows count) (store.tables new)
+  pub stopped : why ≡ fault.Store → is_stopped ≡ true
+  pub undone : is_stopped ≡ false → stand_in new ≡ state_after s (take count rows)
+
+-- The first records were answered, and then no more, for this: by a fault within the next one; by the next one, which was not read, as the line
+-- of fault 21 says; by a reader that failed; or by a writer that failed in the next one's line, which was carried out.
+pub data Stops (new : conn.State) (is_stopped : Bool) (a b : Option (List ℕ)) (s : State) (rows : List Fields) (why : BatchFault) : Type 0 where
+  AtFault : (it : Fault) → why ≡ ended.Agency it → FaultedIn new is_stopped a b s rows it → Stops new is_stopped a b s rows why
+  AtUnread : (count : ℕ) (cause : Unread) (outcome : Result (Unit {0}) Output) → why ≡ ended.Unread cause → count ≤ length rows
+      → cause.number ≡ count + 1 → PutsBehind a b (lines_from 1 s (take count rows)) outcome (session.fault_line (count + 1) fault.Memory)
+      → stand_in new ≡ state_after s (take count rows) → Stops new is_stopped a b s rows why
   AtReading : (count : ℕ) (cause : Input) → why ≡ ended.Input cause → count ≤ length rows → Appends a b (lines_from 1 s (take count rows))
-      → stand_in new ≡ state_after s (take count rows) → Stops new a b s rows why
+      → stand_in new ≡ state_after s (take count rows) → Stops new is_stopped a b s rows why
   AtWriting : (count : ℕ) (output : Output) (fields : Fields) (cut : ℕ) → why ≡ ended.Output output → slice_get rows count ≡ Some fields
       → cut < length (line (count + 1) (state_after s (take count rows)) fields)
       → Appends a b (lines_from 1 s (take count rows) ++ take cut (line (count + 1) (state_after s (take count rows)) fields))
-      → stand_in new ≡ state_after s (take (count + 1) rows) → Stops new a b s rows why
+      → stand_in new ≡ state_after s (take (count + 1) rows) → Stops new is_stopped a b s rows why
 
-abbrev pub LinesEnd : conn.State → Option (List ℕ) → Option (List ℕ) → State → List ℕ → Status → Type 0
-LinesEnd new a b s input status =
+-- by an agency that then has stopped, or goes on
+abbrev pub LinesEnd : conn.State → Bool → Option (List ℕ) → Option (List ℕ) → State → List ℕ → Status → Type 0
+LinesEnd new is_stopped a b s input status =
     Comes new a b (lines_answered s (records_of input)) status
-    ⊎ ((why : BatchFault) × Stops new a b s (records_of input) why × (status ≡ Failed (failure.Lines why)))
+    ⊎ ((why : BatchFault) × Stops new is_stopped a b s (records_of input) why × (status ≡ Failed (failure.Lines why)))
 
 -- Nothing is printed, and the status is by what is left; or a fault came, and was told. The tables are as they were.
 abbrev pub Finishes : conn.State → conn.State → Option (List ℕ) → Option (List ℕ) → Bool → Status → Type 0
@@ -93,10 +110,10 @@ RunEnds new a b t order batches status =
 abbrev pub ReportEnds : conn.State → Option (List ℕ) → Option (List ℕ) → State → Question → Status → Type 0
 ReportEnds new a b t question status = Comes new a b (report_shown (stand_of t) question) status ⊎ Breaks new a b (λ left. left ≡ t) status
 
-abbrev pub WorkEnds : conn.State → Option (List ℕ) → Option (List ℕ) → State → Option (List ℕ) → Work → Status → Type 0
-WorkEnds new a b t input work.Lines status = IfSome input (λ input. LinesEnd new a b (stand_of t) input status)
-WorkEnds new a b t input (work.Run order batches) status = RunEnds new a b t order batches status
-WorkEnds new a b t input (work.Report question) status = ReportEnds new a b t question status
+abbrev pub WorkEnds : conn.State → Bool → Option (List ℕ) → Option (List ℕ) → State → Option (List ℕ) → Work → Status → Type 0
+WorkEnds new is_stopped a b t input work.Lines status = IfSome input (λ input. LinesEnd new is_stopped a b (stand_of t) input status)
+WorkEnds new is_stopped a b t input (work.Run order batches) status = RunEnds new a b t order batches status
+WorkEnds new is_stopped a b t input (work.Report question) status = ReportEnds new a b t question status
 
 -- ---- over a store
 
@@ -109,7 +126,7 @@ pub record IsNotTaken (IsCause : Problem → Type 0) (a b : Option (List ℕ)) (
 -- The tables were sound and of the second version, and were worked on; or they were not taken, and are as they were.
 abbrev pub TakingEnds : conn.State → conn.State → Option (List ℕ) → Option (List ℕ) → Option (List ℕ) → Work → Status → Type 0
 TakingEnds old new a b input it status =
-    (CanBeTaken Second old.now.trees × WorkEnds new a b (store.tables old) input it status)
+    (CanBeTaken Second old.now.trees × (is_stopped : Bool) × WorkEnds new is_stopped a b (store.tables old) input it status)
     ⊎ (IsNotTaken (IsProblemOf Second old.now.trees) a b status × TakesAsTheyAre old new)
 
 -- The open run of such tables was made to its end; or for such a cause they were not taken, or not to the end, and the open run is moved
@@ -147,21 +164,30 @@ MigrationEnds old new a b status =
 -- Lines are answered from the beginning with this month; or there was no agency, for a fault.
 abbrev pub NewLinesEnd : conn.State → Option (List ℕ) → Option (List ℕ) → ℕ → Option (List ℕ) → Status → Type 0
 NewLinesEnd new a b first input status =
-    IfSome input (λ input. LinesEnd new a b (start first) input status) ⊎ TellsFault a b [] status
+    ((is_stopped : Bool) × IfSome input (λ input. LinesEnd new is_stopped a b (start first) input status)) ⊎ TellsFault a b [] status
 
 -- the same in memory, which leaves some tables
 abbrev pub MemoryLinesEnd : Option (List ℕ) → Option (List ℕ) → ℕ → Option (List ℕ) → Status → Type 0
 MemoryLinesEnd a b first input status =
     ((left : Held MemStore) × NewLinesEnd (state over_memory left) a b first input status) ⊎ TellsFault a b [] status
 
+-- What the end of serving says of the agency: it has stopped where serving ended for that, and else it goes on. Nothing is said where the output
+-- failed.
+abbrev pub StandsBy : Status → Bool → Type 0
+StandsBy Done is_stopped = is_stopped ≡ false
+StandsBy (Failed (failure.Fault why outcome)) is_stopped = is_stopped ≡ false
+StandsBy (Failed (failure.NoListener outcome)) is_stopped = is_stopped ≡ false
+StandsBy (Failed failure.Stopped) is_stopped = is_stopped ≡ true
+StandsBy _ is_stopped = ⊤
+
 -- Connections were served, and the outcomes that were printed are those of the machine's answers; the tables that can be read are the machine's
--- behind some connections. An end that is done says that the agency goes on, and so does the status of each connection.
+-- behind some connections. The end says whether the agency goes on, and so does the status of each connection.
 pub record IsServed (old new : conn.State) (a b : Option (List ℕ)) (service : Service) (status : Status) : Type 0 where
   pub outcomes : List (Option ℕ)
   pub printed : PrintsService service outcomes a b status
   pub is_stopped : Bool
   pub told : AreTold (stand_of (store.tables old)) outcomes (stand_in new) is_stopped
-  pub goes_on : status ≡ Done → is_stopped ≡ false
+  pub stands : StandsBy status is_stopped
   pub reads : IsTrue new.is_open → IsAfterSome (stand_of (store.tables old)) (store.tables new)
 
 -- The tables were sound and of the second version, and connections were served; or they were not taken.

@@ -45,9 +45,13 @@ BreaksIn text a b status = (output : Output) × (status ≡ breaking output) × 
 abbrev pub PutsAs : List ℕ → Status → Option (List ℕ) → Option (List ℕ) → Status → Type 0
 PutsAs text wanted a b status = ((status ≡ wanted) × Appends a b text) ⊎ BreaksIn text a b status
 
--- The text was printed as the outcome says, and so the words are bad.
+-- The text was printed as the outcome says, and the status is the one for that.
+abbrev pub PutsEnding : (Result (Unit {0}) Output → Status) → List ℕ → Option (List ℕ) → Option (List ℕ) → Status → Type 0
+PutsEnding ending_by text a b status = (outcome : Result (Unit {0}) Output) × (status ≡ ending_by outcome) × Puts a b outcome text
+
+-- so the words are bad
 abbrev pub PutsBad : List ℕ → Option (List ℕ) → Option (List ℕ) → Status → Type 0
-PutsBad text a b status = (outcome : Result (Unit {0}) Output) × (status ≡ BadWords outcome) × Puts a b outcome text
+PutsBad text a b status = PutsEnding BadWords text a b status
 
 -- Behind this text this fault was told, as the outcome in the status says: its whole line, or a beginning of it.
 pub record Tells (fault : Fault) (a b : Option (List ℕ)) (text : List ℕ) (status : Status) : Type 0 where

@@ -1,123 +1,160 @@
 //! Jobs on files and in memory: a store is opened for one job, and closed.
 
-ghost use Rattle.std.specs.Prelude.{◌≡◌, ℕ, [], IfErr, IfOk};
+ghost use Rattle.std.specs.Prelude.{◌≡◌, ◌↔◌, ℕ, [], IfErr, IfOk, IfSome, IsTrue};
 ghost use Rattle.sqlite_wal.specs.Files.{image_at};
 ghost use Rattle.sqlite.specs.Files.{file_state};
 ghost use Rattle.sqlite.specs.State.{HasCleanDisk};
+ghost use Rattle.sqlite.specs.declared.error.Error.TheVariants.{SqliteFailure};
+ghost use Rattle.sqlite.specs.declared.error.ErrorCode.TheVariants.{DatabaseBusy};
 ghost use Rattle.dh_runs.specs.Taking.{IsResting};
 ghost use Rattle.dh_schema.specs.Faults.{IsFirstFault};
 ghost use Rattle.dh_jobs.specs.Ends.{MemoryLinesEnd};
-ghost use Rattle.dh_jobs.specs.OnFile.{DoneOnFile, EndsOnFile, HasCommits, IsOpenedOn, MadeOnFile, MakesOnFile};
+ghost use Rattle.dh_jobs.specs.OnFile.{ClosesTo, DoneOnFile, EndsOnFile, IsLeftOf, IsOpenedOn, IsUnopenedOn, MadeOnFile, MakesOnFile};
 ghost use Rattle.dh_jobs.specs.Printed.{Closes, IsMakingEnd, IsOfLines, Prints, PrintsJob, Tells};
 ghost use Rattle.dh_jobs.specs.Statuses.{IsFailed};
 
+use crate::blank::Blank;
+use crate::places::{Found, Place, take_back};
 use crate::printed::{heard, print_created, tell_fault};
-use crate::sites::{Site, leave};
+use crate::remains::Remains;
 use crate::status::Status;
 use crate::store_jobs::{FileJob, begin, do_job, make};
 use dh_agency::NotOpened;
 use dh_schema::fault_of;
 use dh_types::{EntryMonth, Fault};
-use sqlite::{Connection, Error, ErrorCode, FileFrom, FileStore, Start};
+use sqlite::{Connection, Error, ErrorCode, FileFrom, FileStore, Leftover, Start};
 use sqlite_disk::{Disk, Files};
 use std::alloc::Global;
 use std::io::{Read, Write};
 
 // Whether another has the file open.
-fn is_busy(error: &Error) -> bool {
+fn is_busy(error: &Error) -> bool
+    ensures { IsTrue result ↔ (error.now ≡ SqliteFailure DatabaseBusy) }
+{
     matches!(error, Error::SqliteFailure(ErrorCode::DatabaseBusy))
 }
 
-// Lets a store go as it is: nothing of its log goes into the database file.
-fn let_go<D: Disk + Drop>(store: FileStore<D>) {
-    drop(store.close());
-}
-
-// Opens the file at this path. An opening makes a file where there is none, so the path has to name the file still that was found there.
+// Opens the files at this path, and makes them where there are none.
 fn open_at<S: Start>(
     rt: &HostRuntime,
     start: S,
     path: &str,
-    site: &Site,
-) -> Result<Connection<FileStore<FileFrom<S>>>, Fault>
+) -> Result<Connection<FileStore<FileFrom<S>>>, (Error, Option<Leftover<FileFrom<S>>>)>
     ensures opened { IfOk result (IsOpenedOn (image_at S.Start)) }
-    ensures cause { IfErr result IsFirstFault }
+    ensures left { IfErr result (λ e. IfSome e.1 (IsUnopenedOn (image_at S.Start) e.0)) }
 {
-    match Connection::open_from(rt, path, false, start) {
+    Connection::open_from(rt, path, false, start)
+}
+
+// Opens the file that was found. The path has to name it still: an opening makes a file where there is none, which is taken back.
+fn open_found<S: Start>(
+    rt: &HostRuntime,
+    start: S,
+    found: &Found,
+) -> Result<Connection<FileStore<FileFrom<S>>>, (Fault, Remains<FileFrom<S>>)>
+    ensures opened { IfOk result (IsOpenedOn (image_at S.Start)) }
+    ensures left { IfErr result (λ e. IsLeftOf (image_at S.Start) e.1) }
+    ensures cause { IfErr result (λ e. IsFirstFault e.0) }
+{
+    match open_at(rt, start, found.path()) {
         Ok(conn) => {
-            if site.admits(rt, &conn) {
+            if found.is_there(rt) {
                 return Ok(conn);
             }
-            leave(rt, path, site, &conn);
-            let_go(conn.into_store());
-            Err(Fault::Store)
+            if let Some(blank) = Blank::of(&conn) {
+                // Fault 22 is told whether it went or not.
+                let _ = take_back(rt, found.path(), blank);
+            }
+            Err((Fault::Store, Remains::Astray(conn)))
+        }
+        Err((error, left)) => Err((fault_of(error), Remains::Unopened(left))),
+    }
+}
+
+// Opens the file at a place of new tables. It has to be blank, and the path to name it still.
+fn open_new<S: Start>(
+    rt: &HostRuntime,
+    start: S,
+    place: &Place,
+) -> Result<Connection<FileStore<FileFrom<S>>>, (Fault, Remains<FileFrom<S>>)>
+    ensures opened { IfOk result (IsOpenedOn (image_at S.Start)) }
+    ensures left { IfErr result (λ e. IsLeftOf (image_at S.Start) e.1) }
+    ensures cause { IfErr result (λ e. IsFirstFault e.0) }
+{
+    match open_at(rt, start, place.path()) {
+        Ok(conn) => {
+            let Some(blank) = Blank::of(&conn) else {
+                return Err((Fault::Store, Remains::Astray(conn)));
+            };
+            if place.is_there(rt) {
+                return Ok(conn);
+            }
+            // Fault 22 is told whether they went or not.
+            let _ = place.clear(rt);
+            let _ = take_back(rt, place.path(), blank);
+            Err((Fault::Store, Remains::Astray(conn)))
         }
         Err((error, left)) => {
-            if !is_busy(&error) {
-                site.clear(rt);
-            }
-            drop(left);
-            Err(fault_of(error))
+            let is_anothers = is_busy(&error);
+            let cause = fault_of(error);
+            let fault = if is_anothers {
+                cause
+            } else {
+                place.leave(rt, cause)
+            };
+            Err((fault, Remains::Unopened(left)))
         }
     }
 }
 
-// Closes the store, whose files the path has to name still, and gives them. Where that fails, the place of new tables is left as it was found.
+// Closes the store and gives its files; or the store, where that fails, and the fault that it is.
 fn close<D: Disk + Drop>(
-    rt: &HostRuntime,
     conn: Connection<FileStore<D>>,
-    site: &Site,
-) -> Result<Files<D>, Fault>
-    ensures copied { IfOk result (HasCommits conn) }
-    ensures cause { IfErr result IsFirstFault }
+) -> Result<Files<D>, (Fault, FileStore<D>)>
+    ensures { ClosesTo conn result }
 {
     match conn.close_files() {
-        Ok(files) => {
-            if site.is_there(rt) {
-                return Ok(files);
-            }
-            site.clear(rt);
-            drop(files);
-            Err(Fault::Store)
-        }
-        Err((error, store)) => {
-            site.clear(rt);
-            let_go(store);
-            Err(fault_of(error))
-        }
+        Ok(files) => Ok(files),
+        Err((error, store)) => Err((fault_of(error), store)),
     }
 }
 
-// The status behind a closing that met this fault. It is told, where nothing had failed before.
-fn tell_unclosed<W: Write>(fault: Fault, status: Status, writer: &mut W) -> Status
-    requires { IsFirstFault fault }
+// The status behind a closing that failed for this. It is told, where nothing had failed before.
+fn tell_unclosed<W: Write>(cause: Fault, status: Status, writer: &mut W) -> Status
+    requires { IsFirstFault cause }
     ensures closes { Closes (W.contents writer.old) (W.contents writer.new) status result }
     ensures failed { IsFailed result }
-    ensures told { ¬ IsFailed status → Tells fault (W.contents writer.old) (W.contents writer.new) [] result }
+    ensures told { ¬ IsFailed status → Tells cause (W.contents writer.old) (W.contents writer.new) [] result }
 {
     if status.is_failed() {
         return status;
     }
-    tell_fault(writer, fault)
+    tell_fault(writer, cause)
 }
 
-// Does the job over the store of a file, and closes it whatever came of the job, so that the file has all that was committed.
+// Does the job over the store of a file, and closes it whatever came of the job, so that the file has all that was committed. The path has to
+// name the file still.
 fn do_and_close<D: Disk + Drop, R: Read, W: Write>(
     rt: &HostRuntime,
     conn: Connection<FileStore<D>>,
-    site: &Site,
+    found: &Found,
     job: FileJob,
     reader: &mut R,
     writer: &mut W,
-) -> (Status, Option<Files<D>>)
+) -> (Status, Result<Files<D>, (Fault, FileStore<D>)>)
     requires { HasCleanDisk (file_state conn) → IsResting (file_state conn) }
     ensures printed { PrintsJob job (W.contents writer.old) (W.contents writer.new) result.0 }
     ensures ends { EndsOnFile conn job (R.remaining reader.old) (W.contents writer.old) (W.contents writer.new) result.0 result.1 }
 {
     let (done, conn) = do_job(rt, conn, job, reader, writer);
-    match close(rt, conn, site) {
-        Ok(files) => (done, Some(files)),
-        Err(fault) => (tell_unclosed(fault, done, writer), None),
+    match close(conn) {
+        Ok(files) => {
+            if found.is_there(rt) {
+                return (done, Ok(files));
+            }
+            (tell_unclosed(Fault::Store, done, writer), Ok(files))
+        }
+        Err((fault, store)) => (tell_unclosed(fault, done, writer), Err((fault, store))),
     }
 }
 
@@ -134,50 +171,61 @@ pub(crate) fn do_on_file<S: Start, R: Read, W: Write>(
 ) -> Status
     ensures { DoneOnFile ⟦<FileFrom<S> as Disk>⟧ (image_at S.Start) job (R.remaining reader.old) (W.contents writer.old) (W.contents writer.new) result }
 {
-    let site = match Site::found(rt, path) {
-        Ok(site) => site,
+    let found = match Found::at(rt, path) {
+        Ok(found) => found,
         Err(fault) => return tell_fault(writer, fault),
     };
-    match open_at(rt, start, path, &site) {
+    match open_found(rt, start, &found) {
         Ok(conn) => {
-            let (status, _) = do_and_close(rt, conn, &site, job, reader, writer);
+            let (status, closed) = do_and_close(rt, conn, &found, job, reader, writer);
+            drop(closed);
             status
         }
-        Err(fault) => tell_fault(writer, fault),
+        Err((fault, left)) => {
+            drop(left);
+            tell_fault(writer, fault)
+        }
     }
 }
 
 // Makes the tables of empty books in the store of a new file, closes it, and then tells that. Where they can't be made or closed, the place is
-// left as it was found.
+// left as it was found, or fault 22 is told.
 fn make_and_close<D: Disk + Drop, W: Write>(
     rt: &HostRuntime,
     conn: Connection<FileStore<D>>,
-    site: &Site,
+    place: &Place,
     first: EntryMonth,
     writer: &mut W,
-) -> (Status, Option<Files<D>>)
+) -> (Status, Option<Result<Files<D>, (Fault, FileStore<D>)>>)
     ensures printed { Prints (IsMakingEnd first) (W.contents writer.old) (W.contents writer.new) result.0 }
     ensures ends { MakesOnFile conn first (W.contents writer.old) (W.contents writer.new) result.0 result.1 }
 {
     match make(rt.alloc(), conn, first) {
-        Ok(conn) => match close(rt, conn, site) {
-            Ok(files) => (
-                heard(print_created(writer, first), Status::Done),
-                Some(files),
-            ),
-            Err(fault) => (tell_fault(writer, fault), None),
+        Ok(conn) => match close(conn) {
+            Ok(files) => {
+                if place.is_there(rt) {
+                    let status = heard(print_created(writer, first), Status::Done);
+                    return (status, Some(Ok(files)));
+                }
+                let fault = place.leave(rt, Fault::Store);
+                (tell_fault(writer, fault), Some(Ok(files)))
+            }
+            Err((cause, store)) => {
+                let fault = place.leave(rt, cause);
+                (tell_fault(writer, fault), Some(Err((cause, store))))
+            }
         },
         Err(NotOpened { cause, conn }) => {
-            site.clear(rt);
-            let_go(conn.into_store());
-            (tell_fault(writer, cause), None)
+            let fault = place.leave(rt, cause);
+            drop(conn);
+            (tell_fault(writer, fault), None)
         }
     }
 }
 
 /// Makes the file of an agency whose books begin with this month, where nothing is at the path, or an empty file, beside no log with news.
 /// Fault 21 where memory runs out, and fault 22 where something else is there, another call has the file, or it can't be made or closed:
-/// then what was found is left.
+/// then what was found is left, and fault 22 comes also where that fails.
 pub(crate) fn make_on_file<S: Start, W: Write>(
     rt: &HostRuntime,
     start: S,
@@ -187,16 +235,20 @@ pub(crate) fn make_on_file<S: Start, W: Write>(
 ) -> Status
     ensures { MadeOnFile ⟦<FileFrom<S> as Disk>⟧ (image_at S.Start) first (W.contents writer.old) (W.contents writer.new) result }
 {
-    let site = match Site::new(rt, path) {
-        Ok(site) => site,
+    let place = match Place::take(rt, path) {
+        Ok(place) => place,
         Err(fault) => return tell_fault(writer, fault),
     };
-    match open_at(rt, start, path, &site) {
+    match open_new(rt, start, &place) {
         Ok(conn) => {
-            let (status, _) = make_and_close(rt, conn, &site, first, writer);
+            let (status, closed) = make_and_close(rt, conn, &place, first, writer);
+            drop(closed);
             status
         }
-        Err(fault) => tell_fault(writer, fault),
+        Err((fault, left)) => {
+            drop(left);
+            tell_fault(writer, fault)
+        }
     }
 }
 

@@ -65,7 +65,8 @@ pub(crate) fn answer_lines<S: Alter, R: Read, W: Write>(
     requires { agency.old.is_stopped ≡ false }
     ensures printed { IsOfLines result }
     ensures ends { IsClean S.Store agency.new → IfSome (R.remaining reader.old)
-        (λ input. LinesEnd (shown_by S.Store agency.new) (W.contents writer.old) (W.contents writer.new) (stand S.Store agency.old) input result) }
+        (λ input. LinesEnd (shown_by S.Store agency.new) agency.new.is_stopped (W.contents writer.old) (W.contents writer.new) (stand S.Store agency.old)
+            input result) }
     ensures crash { IsClean S.Store agency.new → LeavesItsTables S.Store agency.old → LinesLeave (shown_by S.Store agency.new) (stand S.Store agency.old) }
     ensures kept { LeavesItsTables S.Store agency.old → IsKept (shown_by S.Store agency.new) result }
     ensures was_clean { WasClean S.Store agency.old agency.new }
@@ -190,7 +191,7 @@ pub(crate) fn work_on<S: Alter, R: Read, W: Write>(
 ) -> Status
     requires { agency.old.is_stopped ≡ false }
     ensures printed { PrintsWork work (W.contents writer.old) (W.contents writer.new) result }
-    ensures ends { IsClean S.Store agency.new → WorkEnds (shown_by S.Store agency.new) (W.contents writer.old) (W.contents writer.new)
+    ensures ends { IsClean S.Store agency.new → WorkEnds (shown_by S.Store agency.new) agency.new.is_stopped (W.contents writer.old) (W.contents writer.new)
         (machine S.Store agency.old) (R.remaining reader.old) work result }
     ensures crash { IsClean S.Store agency.new → LeavesItsTables S.Store agency.old
         → WorkLeaves (shown_by S.Store agency.new) (machine S.Store agency.old) work }

@@ -1,6 +1,7 @@
 //! What each subcommand of `letting` does, over any store and on files. Read [`desk_from`] first.
 #![tactic(auto)]
 
+mod blank;
 mod files;
 mod jobs;
 mod open_run;
@@ -8,12 +9,12 @@ pub mod places;
 mod printed;
 mod process;
 mod program;
+mod remains;
 mod service;
-mod sites;
 mod status;
 mod store_jobs;
 
-pub use process::{refuse_words, run_words};
+pub use process::{exit_code, refuse_words, run_words};
 pub use program::{desk, desk_from};
 pub use sqlite::{Start, Unknown};
 pub use status::{Failure, Status};

@@ -2,10 +2,17 @@
 //!
 //! A path may come to name another file between any two calls of the system, so each step asks again which file it names. Only between the
 //! last look and a removal nothing can be asked: what another program puts at the path in that moment goes.
+//!
+//! What the system answers is judged by functions with a clause each; beside them stands the call alone.
 
-ghost use Rattle.std.specs.Prelude.{IfErr};
+ghost use Rattle.std.specs.Prelude.{◌≡◌, ◌≢◌, ◌↔◌, Bool, Some, IfErr, IsTrue, OnOk, false};
+ghost use Rattle.std.specs.IoError.{error_kind};
+ghost use Rattle.std.specs.declared.io.ErrorKind.TheVariants.{WouldBlock};
+ghost use Rattle.dh_types.specs.declared.reply.Fault.TheVariants as fault;
 ghost use Rattle.dh_schema.specs.Faults.{IsFirstFault};
+ghost use Rattle.dh_jobs.specs.Places.{IsEmptyFile, IsFoundAs, IsNoNews, MayHoldTables, fault_behind, system_fault};
 
+use crate::blank::Blank;
 use dh_types::Fault;
 use os::RangeLock;
 use std::fs::{File, Files, Metadata, OpenOptions};
@@ -45,9 +52,17 @@ fn identity_of(found: &Metadata) -> Identity {
     }
 }
 
+// Whether the file is this one.
+fn is_same(found: Option<Identity>, file: Identity) -> bool
+    ensures { IsTrue result ↔ (found ≡ Some file) }
+{
+    found == Some(file)
+}
+
 // Want of memory is told as that, and all else as a fault of the store.
 fn told_as(error: io::Error) -> Fault
-    ensures { IsFirstFault result }
+    ensures told { result ≡ system_fault (error_kind error) }
+    ensures first { IsFirstFault result }
 {
     match error.kind() {
         ErrorKind::OutOfMemory => Fault::Memory,
@@ -55,24 +70,67 @@ fn told_as(error: io::Error) -> Fault
     }
 }
 
-/// The file at the path, which may hold a database. Fault 21 where memory runs out, and fault 22 where nothing is there, or anything but a
-/// file of a page or more.
-pub fn look<R: Files>(rt: &R, path: &str) -> Result<Identity, Fault>
-    ensures { IfErr result IsFirstFault }
+// Whether it may be a database.
+fn may_hold_tables(found: &Metadata) -> bool
+    ensures { IsTrue result ↔ MayHoldTables found.now }
 {
-    let found = fs::metadata(rt, path).map_err(told_as)?;
-    if found.is_file() && found.len() >= LEAST_BYTES {
-        Ok(identity_of(&found))
-    } else {
-        Err(Fault::Store)
+    found.is_file() && found.len() >= LEAST_BYTES
+}
+
+// The file that was found, if it may be a database.
+fn file_of(found: io::Result<Metadata>) -> Result<Identity, Fault>
+    ensures found { IsFoundAs found result }
+    ensures cause { IfErr result IsFirstFault }
+{
+    match found {
+        Ok(found) if may_hold_tables(&found) => Ok(identity_of(&found)),
+        Ok(_) => Err(Fault::Store),
+        Err(error) => Err(told_as(error)),
     }
 }
 
-/// Whether the path names this file.
-pub fn is_there<R: Files>(rt: &R, path: &str, file: Identity) -> bool {
-    match fs::metadata(rt, path) {
-        Ok(found) => identity_of(&found) == file,
-        Err(_) => false,
+// The file at the path, if it may be a database.
+fn look<R: Files>(rt: &R, path: &str) -> Result<Identity, Fault>
+    ensures { IfErr result IsFirstFault }
+{
+    file_of(fs::metadata(rt, path))
+}
+
+// What the path names, behind each link.
+fn named<R: Files>(rt: &R, path: &str) -> Option<Identity> {
+    fs::metadata(rt, path).ok().map(|found| identity_of(&found))
+}
+
+// Whether the path names this file.
+fn names<R: Files>(rt: &R, path: &str, file: Identity) -> bool {
+    is_same(named(rt, path), file)
+}
+
+/// A file that was found at the path of a job. No call made it, so there is nothing of it to be removed.
+#[derive(Clone, Copy)]
+pub struct Found<'a> {
+    path: &'a str,
+    file: Identity,
+}
+
+impl<'a> Found<'a> {
+    /// The file at the path, which may hold a database. Fault 21 where memory runs out, and fault 22 where nothing is there, or anything but
+    /// a file of a page or more.
+    pub fn at<R: Files>(rt: &R, path: &'a str) -> Result<Found<'a>, Fault>
+        ensures { IfErr result IsFirstFault }
+    {
+        let file = look(rt, path)?;
+        Ok(Found { path, file })
+    }
+
+    /// Its path.
+    pub fn path(&self) -> &'a str {
+        self.path
+    }
+
+    /// Whether the path still names it.
+    pub fn is_there<R: Files>(&self, rt: &R) -> bool {
+        names(rt, self.path, self.file)
     }
 }
 
@@ -85,23 +143,32 @@ fn real_paths<R: Files + AllocGlobal>(rt: &R, path: &str) -> Result<(PathBuf, St
     Ok((real, log))
 }
 
-// Takes away what stands at the path if it is this file, and no link to it.
-fn remove<R: Files>(rt: &R, path: &str, file: Identity) {
-    if matches!(fs::symlink_metadata(rt, path), Ok(found) if identity_of(&found) == file) {
-        let _ = fs::remove_file(rt, path);
+// Takes away what stands at the path if it is this file, and no link to it. Whether nothing stands there behind it.
+fn remove<R: Files>(rt: &R, path: &str, file: Identity) -> bool {
+    match fs::symlink_metadata(rt, path) {
+        Ok(found) => {
+            is_same(Some(identity_of(&found)), file) && fs::remove_file(rt, path).is_ok()
+        }
+        Err(error) => error.kind() == ErrorKind::NotFound,
     }
 }
 
-// Takes away the log at this path.
-fn remove_log<R: Files>(rt: &R, log: &str) {
-    if matches!(fs::symlink_metadata(rt, log), Ok(found) if found.is_file()) {
-        let _ = fs::remove_file(rt, log);
+// Takes away the log at this path. Whether nothing stands there behind it.
+fn remove_log<R: Files>(rt: &R, log: &str) -> bool {
+    match fs::symlink_metadata(rt, log) {
+        Ok(found) => found.is_file() && fs::remove_file(rt, log).is_ok(),
+        Err(error) => error.kind() == ErrorKind::NotFound,
     }
 }
 
-/// Takes away the file at the path and its log. Call it while a store is open there that the opening made: nothing is in it, and the path
-/// had named another file before. Fault 21 where memory runs out, and fault 22 where no database is there. All stays then.
-pub fn take_back<R: Files + AllocGlobal>(rt: &R, path: &str) -> Result<(), Fault>
+/// Takes away the file at the path and its log. Call it while a store with nothing in it is open there, which the opening made: the path had
+/// named another file before, so fault 22 is told whether the two go or not. Fault 21 where memory runs out, and fault 22 where no database is
+/// there: both stay then.
+pub(crate) fn take_back<R: Files + AllocGlobal>(
+    rt: &R,
+    path: &str,
+    _blank: Blank,
+) -> Result<(), Fault>
     ensures { IfErr result IsFirstFault }
 {
     let file = look(rt, path)?;
@@ -120,10 +187,43 @@ pub struct Place<'a> {
     is_made: bool,
 }
 
+// Whether it is a file with no bytes.
+fn is_empty_file(found: &Metadata) -> bool
+    ensures { IsTrue result ↔ IsEmptyFile found.now }
+{
+    found.is_file() && found.len() == 0
+}
+
+// Whether a file has no bytes and this one name, which the path is.
+fn is_unused(found: &Metadata, links: u64, is_named: bool) -> bool
+    ensures { IsTrue result ↔ (IsEmptyFile found.now × (links ≡ 1) × IsTrue is_named) }
+{
+    is_empty_file(found) && links == 1 && is_named
+}
+
+// Whether there is no log, or one with nothing in it.
+fn is_no_news(found: io::Result<Metadata>) -> io::Result<bool>
+    ensures { IsNoNews found result }
+{
+    match found {
+        Ok(found) => Ok(found.is_file() && found.len() <= EMPTY_LOG_BYTES),
+        Err(error) if error.kind() == ErrorKind::NotFound => Ok(true),
+        Err(error) => Err(error),
+    }
+}
+
+// The fault that is told behind a place that was left as it was found, or not.
+fn fault_behind(is_left: bool, cause: Fault) -> Fault
+    ensures told { result ≡ fault_behind is_left cause }
+    ensures first { IsFirstFault cause → IsFirstFault result }
+    ensures store { cause ≡ fault.Store → result ≡ fault.Store }
+{
+    if is_left { cause } else { Fault::Store }
+}
+
 // The empty file that is there.
 fn open_empty<R: Files<File = File>>(rt: &R, path: &str) -> io::Result<File> {
-    let found = fs::metadata(rt, path)?;
-    if !found.is_file() || found.len() != 0 {
+    if !is_empty_file(&fs::metadata(rt, path)?) {
         return Err(ErrorKind::AlreadyExists.into());
     }
     OpenOptions::new().read(true).write(true).open(rt, path)
@@ -146,10 +246,18 @@ fn make_or_open<R: Files<File = File>>(rt: &R, path: &str) -> io::Result<(File, 
     }
 }
 
+// Locks the file among calls of `init`.
+fn lock_init(file: &File) -> io::Result<()> {
+    if os::try_lock_range(file.as_raw_fd(), RangeLock::Exclusive, INIT_BYTE, 1) == 0 {
+        return Ok(());
+    }
+    Err(io::Error::from_raw_os_error(os::errno()))
+}
+
 impl<'a> Place<'a> {
     /// Takes the place at this path: makes a file there, or takes an empty one. Fault 21 where memory runs out. Fault 22 where anything
     /// else is there, where a log with news lies beside it, where another call of `init` is at it, or where no file can be made. What was
-    /// there stays as it is, and what was made is taken away.
+    /// there stays as it is, and what was made is taken away; fault 22 also where that fails.
     pub fn take<R: Files<File = File> + AllocGlobal>(
         rt: &R,
         path: &'a str,
@@ -165,10 +273,7 @@ impl<'a> Place<'a> {
         };
         match place.settle(rt) {
             Ok(()) => Ok(place),
-            Err(fault) => {
-                place.give_up(rt);
-                Err(fault)
-            }
+            Err(fault) => Err(fault_behind(place.give_up(rt), fault)),
         }
     }
 
@@ -196,72 +301,80 @@ impl<'a> Place<'a> {
     }
 
     // Locks the file among calls of `init`. Where another call has it, the file is that call's, whoever made it.
-    fn lock(&mut self) -> io::Result<()> {
-        if os::try_lock_range(self.file.as_raw_fd(), RangeLock::Exclusive, INIT_BYTE, 1) == 0 {
-            return Ok(());
-        }
-        let error = io::Error::from_raw_os_error(os::errno());
-        if error.kind() == ErrorKind::WouldBlock {
+    fn lock(&mut self) -> io::Result<()>
+        ensures taken { OnOk result (self.new ≡ self.old) }
+        ensures held { IfErr result (λ e. error_kind e ≡ WouldBlock → self.new.is_made ≡ false) }
+        ensures failed { IfErr result (λ e. error_kind e ≢ WouldBlock → self.new ≡ self.old) }
+    {
+        let locked = lock_init(&self.file);
+        if matches!(&locked, Err(error) if error.kind() == ErrorKind::WouldBlock) {
             self.is_made = false;
         }
-        Err(error)
+        locked
     }
 
-    // Whether there is no log, or an empty one.
+    // Whether there is no log, or one with nothing in it.
     fn has_no_news<R: Files>(&self, rt: &R) -> io::Result<bool> {
-        match fs::symlink_metadata(rt, self.log.as_str()) {
-            Ok(found) => Ok(found.is_file() && found.len() <= EMPTY_LOG_BYTES),
-            Err(error) if error.kind() == ErrorKind::NotFound => Ok(true),
-            Err(error) => Err(error),
-        }
+        is_no_news(fs::symlink_metadata(rt, self.log.as_str()))
     }
 
     // Whether the path names the file, no other path does, and it has no bytes.
     fn is_empty<R: Files>(&self, rt: &R) -> io::Result<bool> {
         let found = self.file.metadata()?;
-        Ok(
-            found.is_file()
-                && found.len() == 0
-                && found.nlink() == 1
-                && is_there(rt, self.path, identity_of(&found)),
-        )
+        let is_named = names(rt, self.path, identity_of(&found));
+        Ok(is_unused(&found, found.nlink(), is_named))
     }
 
-    // Takes away the file that this call made, if it is still empty.
-    fn give_up<R: Files>(&self, rt: &R) {
+    // Takes away the file that this call made, if it is still empty. Whether nothing that was made is left.
+    fn give_up<R: Files>(&self, rt: &R) -> bool {
         if !self.is_made {
-            return;
+            return true;
         }
-        if let Ok(found) = self.file.metadata() {
-            if found.len() == 0 {
-                remove(rt, self.path, identity_of(&found));
-            }
+        match self.file.metadata() {
+            Ok(found) => is_empty_file(&found) && remove(rt, self.path, identity_of(&found)),
+            Err(_) => false,
         }
+    }
+
+    /// Its path.
+    pub fn path(&self) -> &'a str {
+        self.path
     }
 
     /// Whether the path still names the file.
     pub fn is_there<R: Files>(&self, rt: &R) -> bool {
         match self.file.metadata() {
-            Ok(found) => is_there(rt, self.path, identity_of(&found)),
+            Ok(found) => names(rt, self.path, identity_of(&found)),
             Err(_) => false,
         }
     }
 
     /// Leaves the place as it was found, behind tables that could not be made there: nothing where this call made the file, else an empty
-    /// file. The log goes first, so that none is left without its file. Where the path names another file, all stays.
-    pub fn clear<R: Files>(&self, rt: &R) {
+    /// file. The log goes first, so that none is left without its file. Where the path names another file, all stays. Whether the place is
+    /// as it was found.
+    pub fn clear<R: Files>(&self, rt: &R) -> bool {
         let Ok(found) = self.file.metadata() else {
-            return;
+            return false;
         };
         let file = identity_of(&found);
-        if !is_there(rt, self.path, file) {
-            return;
+        if !names(rt, self.path, file) {
+            return false;
         }
-        remove_log(rt, self.log.as_str());
-        if self.is_made {
-            remove(rt, self.path, file);
+        let is_log_gone = remove_log(rt, self.log.as_str());
+        let is_left = if self.is_made {
+            remove(rt, self.path, file)
         } else {
-            let _ = self.file.set_len(0);
-        }
+            self.file.set_len(0).is_ok()
+        };
+        is_log_gone && is_left
+    }
+
+    /// Leaves the place so behind this fault, and gives the one that is told: fault 22 where the place is not as it was found.
+    pub(crate) fn leave<R: Files>(&self, rt: &R, cause: Fault) -> Fault
+        ensures told { (is_left : Bool) × (result ≡ fault_behind is_left cause) }
+        ensures first { IsFirstFault cause → IsFirstFault result }
+        ensures store { cause ≡ fault.Store → result ≡ fault.Store }
+    {
+        fault_behind(self.clear(rt), cause)
     }
 }

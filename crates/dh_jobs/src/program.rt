@@ -1,9 +1,11 @@
 //! What the words behind the program's name ask for, done.
 
-ghost use Rattle.std.specs.Prelude.{◌≡◌, [], ◌∷◌, codes, map};
+ghost use Rattle.std.specs.Prelude.{◌≡◌, ℕ, List, [], ◌∷◌, MatchResult, codes, map, string_bytes};
 ghost use Rattle.sqlite_wal.specs.Files.{image_at};
 ghost use Rattle.dh_arguments.specs.Jobs.{IsBadFor};
-ghost use Rattle.dh_jobs.specs.Desk.{AskedEnds, BadPrints, BatchEnds, DeskEnds, MessagePrints};
+ghost use Rattle.dh_types.specs.Output.{Puts};
+ghost use Rattle.dh_jobs.specs.Desk.{AskedEnds, BadPrints, BatchEnds, DeskEnds, IsLineOf, MessagePrints, SaysMessage, SaysNoMessage};
+ghost use Rattle.dh_jobs.specs.Desk.{said_status, unsaid_status};
 ghost use Rattle.dh_jobs.specs.Ends.{MemoryLinesEnd};
 ghost use Rattle.dh_jobs.specs.Statuses.{IsBad};
 
@@ -12,6 +14,7 @@ use crate::jobs::Work;
 use crate::printed::{heard, print_fault, print_refusal, tell_fault};
 use crate::status::{Failure, Status};
 use crate::store_jobs::FileJob;
+use clap::error::ErrorKind;
 use clap::Error;
 use dh_arguments::{BadWords, Job, Words, job};
 use dh_http::{Patience, Service};
@@ -19,7 +22,7 @@ use dh_types::text_writer::put_parts;
 use dh_types::{EntryMonth, Fault, Output};
 use sqlite::{FileFrom, Start, Unknown};
 use sqlite_disk::Disk;
-use std::alloc::Global;
+use std::alloc::{AllocError, Global};
 use std::io::{Read, Write};
 
 /// Words that ask for nothing are bad, whether it could be written why or not; the status says which.
@@ -29,33 +32,62 @@ pub(crate) fn refused(outcome: Result<(), Output>) -> Status
     Status::BadWords(outcome)
 }
 
-// Writes what `clap` says of the words, with one line feed at its end.
-fn put_message<W: Write>(writer: &mut W, text: &str) -> Result<(), Output> {
+// How the program ends where a message was written so: help is all that was asked for, or the words are bad.
+fn said(kind: ErrorKind, outcome: Result<(), Output>) -> Status
+    ensures { result ≡ said_status kind outcome }
+{
+    match kind {
+        ErrorKind::DisplayHelp | ErrorKind::DisplayVersion => heard(outcome, Status::Done),
+        _ => refused(outcome),
+    }
+}
+
+// The same where there was no memory for the message, and the line of that fault was written so.
+fn unsaid(kind: ErrorKind, outcome: Result<(), Output>) -> Status
+    ensures { result ≡ unsaid_status kind outcome }
+{
+    match kind {
+        ErrorKind::DisplayHelp | ErrorKind::DisplayVersion => {
+            Status::Failed(Failure::Fault(Fault::Memory, outcome))
+        }
+        _ => refused(outcome),
+    }
+}
+
+// Writes the text of a message, with one line feed at its end.
+fn put_message<W: Write>(writer: &mut W, text: &str) -> Result<(), Output>
+    ensures { (line : List ℕ) × IsLineOf text.now line × Puts (W.contents writer.old) (W.contents writer.new) result line }
+{
     let message = text.trim_end_matches('\n');
     put_parts(writer, &[message.as_bytes(), b"\n"])
 }
 
-// Prints what `clap` says of the words: that they are bad, or help. Where there is no memory for it, that is told.
-fn print_message<W: Write>(alloc: Global, error: &Error, writer: &mut W) -> Status
-    ensures { MessagePrints error.now result }
+// Prints a message of this kind. Where there is no memory for it, that is told.
+fn print_text<W: Write>(
+    kind: ErrorKind,
+    text: Result<String, AllocError>,
+    writer: &mut W,
+) -> Status
+    ensures { MatchResult text (λ text. SaysMessage kind (string_bytes text) (W.contents writer.old) (W.contents writer.new) result)
+        (λ _. SaysNoMessage kind (W.contents writer.old) (W.contents writer.new) result) }
 {
-    let is_bad = error.use_stderr();
-    match error.to_string(alloc) {
+    match text {
         Ok(text) => {
             let outcome = put_message(writer, text.as_str());
-            if is_bad {
-                return refused(outcome);
-            }
-            heard(outcome, Status::Done)
+            said(kind, outcome)
         }
         Err(_) => {
             let outcome = print_fault(writer, Fault::Memory);
-            if is_bad {
-                return refused(outcome);
-            }
-            Status::Failed(Failure::Fault(Fault::Memory, outcome))
+            unsaid(kind, outcome)
         }
     }
+}
+
+// Prints what `clap` says of the words: that they are bad, or help.
+fn print_message<W: Write>(alloc: Global, error: &Error, writer: &mut W) -> Status
+    ensures { MessagePrints error.now (W.contents writer.old) (W.contents writer.new) result }
+{
+    print_text(error.kind(), error.to_string(alloc), writer)
 }
 
 // Says why the words ask for no job.

@@ -33,4 +33,4 @@ returns-in-Ok-clause-kept g c rests clean =
 pub returns-in-Err-clause-ends : goal.returns-in-Err-clause-ends
 returns-in-Err-clause-ends g c clean =
     IfSome_then (g.R.Read.remaining c.args.reader.now) (c.in-Err.ensures.ends clean)
-    (λ input h. inr (c.in-Err.fault, stops g.S.Store c.args.agency.now c.batch.new.agency _ _ c.in-Err.fault input h, refl))
+    (λ input h. inr (c.in-Err.fault, stops g.S.Store c.args.agency.now c.batch.new.agency _ _ c.in-Err.fault input c.in-Err.ensures.halts.store h, refl))

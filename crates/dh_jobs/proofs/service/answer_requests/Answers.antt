@@ -1,12 +1,11 @@
-use Rattle.std.proofs.Common.{[], arith, inl, inr, subst, sym}
+use Rattle.std.proofs.Common.{[], arith, inl, inr, subst}
 use Rattle.sqlite.specs.Held.{state}
 use Rattle.dh_schema.specs.Tables.{IsSound}
 use Rattle.dh_agency.specs.Agency.{IsClean, shown_by, stand}
 use Rattle.dh_http.proofs.ServingLemmas.{begins}
 use Rattle.dh_jobs.specs.Printed.{Served}
-use Rattle.dh_jobs.specs.Statuses.{IsAnswered}
 use Rattle.dh_jobs.proofs.StoreLemmas.{kept_behind, kept_serving, problem_prints, served_whole, serving_ends, serving_leaves, serving_prints}
-use Rattle.dh_jobs.proofs.StoreLemmas.{unanswered, was_clean}
+use Rattle.dh_jobs.proofs.StoreLemmas.{stands_by, unanswered, was_clean}
 use Rattle.dh_jobs.proofs.service.answer_requests.Goals as goal
 
 pub returns-in-Ok-clause-printed : goal.returns-in-Ok-clause-printed
@@ -31,8 +30,8 @@ returns-in-Ok-clause-ends g c clean =
       c.in-Ok.ensures.takes.taken first,
       serving_ends g.S.Store after c.into_store.result c.into_store.ensures c.args.conn taken (c.in-Ok.ensures.taken.1 first) did.0 served _ _
           c.args.service c.tell_served-status.result
-          (λ is. served_whole c.serve-outcome.result _ _ c.tell_served-status.result c.tell_served-status.ensures (subst IsAnswered (sym is) tt)
-          c.serve-outcome.ensures.going)
+          (stands_by c.args.service did.0 _ _ _ c.tell_served-status.result _ _ after.is_stopped c.serve-outcome.result c.serve-outcome.ensures.going
+          c.serve-outcome.ensures.stopped c.serve-outcome.ensures.fault did.2 served.told c.tell_served-status.ensures)
           (Served c.serve-outcome.result
           (serving_prints c.args.service did.0 _ _ _ c.serve-outcome.result c.tell_served-status.result
           (λ fault is. (c.serve-outcome.ensures.fault fault is).1) did.2 c.tell_served-status.ensures)),

@@ -12,6 +12,8 @@ returns-in-Ok-clause-ends g c clean =
     let now = was_clean g.S.Store after last c.into_store.ensures clean in
     let stands = begins g.S.Store made c.month.result (c.in-Ok.ensures.left (omega (arith, c.answer_lines-status.ensures.was_clean, now)))
     (c.in-Ok.ensures.begun.1 (omega (arith, c.answer_lines-status.ensures.was_clean, now))) in
-    inl (lines_end g.S.Store after last c.into_store.ensures _ _ c.answer_lines-status.result (start c.args.first) made
-    (stands ∙ ap start c.month.ensures.value) _
-    (c.answer_lines-status.ensures.ends now))
+    inl (
+      after.is_stopped,
+      lines_end g.S.Store after last c.into_store.ensures _ _ c.answer_lines-status.result (start c.args.first) made
+          (stands ∙ ap start c.month.ensures.value) _ (c.answer_lines-status.ensures.ends now),
+    )

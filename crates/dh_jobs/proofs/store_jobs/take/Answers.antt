@@ -13,6 +13,7 @@ returns-in-Ok-clause-ends g c clean =
     let first : IsClean g.S.Store taken = omega (arith, c.work_on-status.ensures.was_clean, now) in
     inl (
       c.in-Ok.ensures.takes.taken first,
+      after.is_stopped,
       work_ends g.S.Store after last c.into_store.ensures _ _ c.work_on-status.result c.args.conn taken (c.in-Ok.ensures.taken.1 first) _ c.args.work
           (c.work_on-status.ensures.ends now),
     )
