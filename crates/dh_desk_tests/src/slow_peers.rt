@@ -82,7 +82,10 @@ impl SlowPeer<'_> {
 
 impl Peer for SlowPeer<'_> {
     fn time(&mut self) -> io::Result<Instant> {
-        match self.begun.checked_add(Duration::from_millis(self.millis.get())) {
+        match self
+            .begun
+            .checked_add(Duration::from_millis(self.millis.get()))
+        {
             Some(now) => Ok(now),
             None => Err(ErrorKind::Other.into()),
         }
@@ -126,7 +129,15 @@ fn served(alloc: Global, peer: SlowPeer) -> Result<Option<StatusCode>, AllocErro
     };
     let mut reader = TimedStream::of_request(peer, HASTE);
     let mut writer = TimedStream::of_answer(peer, HASTE);
-    let (told, _) = serve_peer(alloc, &routes, &mut agency, &mut reader, &mut writer, peer, HASTE);
+    let (told, _) = serve_peer(
+        alloc,
+        &routes,
+        &mut agency,
+        &mut reader,
+        &mut writer,
+        peer,
+        HASTE,
+    );
     drop(agency.into_store());
     Ok(told)
 }

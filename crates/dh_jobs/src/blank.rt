@@ -18,8 +18,9 @@ impl Blank {
         ensures { IsSome result ↔ IsBlank (state S.Store conn.now) }
     {
         let schema = conn.schema();
-        let is_blank =
-            schema.tables.is_empty() && schema.indexes.is_empty() && schema.views.is_empty();
+        let is_blank = schema.tables.is_empty()
+            && schema.indexes.is_empty()
+            && schema.views.is_empty();
         is_blank.then_some(Blank { noted: () })
     }
 }

@@ -108,9 +108,7 @@ fn open_new<S: Start>(
 }
 
 // Closes the store and gives its files; or the store, where that fails, and the fault that it is.
-fn close<D: Disk + Drop>(
-    conn: Connection<FileStore<D>>,
-) -> Result<Files<D>, (Fault, FileStore<D>)>
+fn close<D: Disk + Drop>(conn: Connection<FileStore<D>>) -> Result<Files<D>, (Fault, FileStore<D>)>
     ensures { ClosesTo conn result }
 {
     match conn.close_files() {

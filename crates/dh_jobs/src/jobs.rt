@@ -66,7 +66,7 @@ pub(crate) fn answer_lines<S: Alter, R: Read, W: Write>(
     ensures printed { IsOfLines result }
     ensures ends { IsClean S.Store agency.new → IfSome (R.remaining reader.old)
         (λ input. LinesEnd (shown_by S.Store agency.new) agency.new.is_stopped (W.contents writer.old) (W.contents writer.new) (stand S.Store agency.old)
-            input result) }
+        input result) }
     ensures crash { IsClean S.Store agency.new → LeavesItsTables S.Store agency.old → LinesLeave (shown_by S.Store agency.new) (stand S.Store agency.old) }
     ensures kept { LeavesItsTables S.Store agency.old → IsKept (shown_by S.Store agency.new) result }
     ensures was_clean { WasClean S.Store agency.old agency.new }

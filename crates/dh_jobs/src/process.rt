@@ -95,7 +95,7 @@ fn answer_process<S: Start, R: Read, W: Write>(
 ) -> Status
     ensures { MatchResult words
         (λ words. WordsEnd ⟦<FileFrom<S> as Disk>⟧ (image_at S.Start) (map string_bytes (into_iter_items words)) (R.remaining reader.old)
-            (W.contents writer.old) (W.contents writer.new) result)
+        (W.contents writer.old) (W.contents writer.new) result)
         (λ error. UnreadPrints (error_kind error) (W.contents writer.old) (W.contents writer.new) result) }
 {
     match words {
@@ -118,7 +118,7 @@ pub fn exit_code<S: Start, R: Read, W: Write>(
 ) -> u8
     ensures { (status : Status) × (result ≡ status_code status) × MatchResult words
         (λ words. WordsEnd ⟦<FileFrom<S> as Disk>⟧ (image_at S.Start) (map string_bytes (into_iter_items words)) (R.remaining reader.old)
-            (W.contents writer.old) (W.contents writer.new) status)
+        (W.contents writer.old) (W.contents writer.new) status)
         (λ error. UnreadPrints (error_kind error) (W.contents writer.old) (W.contents writer.new) status) }
 {
     answer_process(rt, start, words, reader, writer).code()

@@ -14,8 +14,8 @@ use crate::jobs::Work;
 use crate::printed::{heard, print_fault, print_refusal, tell_fault};
 use crate::status::{Failure, Status};
 use crate::store_jobs::FileJob;
-use clap::error::ErrorKind;
 use clap::Error;
+use clap::error::ErrorKind;
 use dh_arguments::{BadWords, Job, Words, job};
 use dh_http::{Patience, Service};
 use dh_types::text_writer::put_parts;
@@ -63,11 +63,7 @@ fn put_message<W: Write>(writer: &mut W, text: &str) -> Result<(), Output>
 }
 
 // Prints a message of this kind. Where there is no memory for it, that is told.
-fn print_text<W: Write>(
-    kind: ErrorKind,
-    text: Result<String, AllocError>,
-    writer: &mut W,
-) -> Status
+fn print_text<W: Write>(kind: ErrorKind, text: Result<String, AllocError>, writer: &mut W) -> Status
     ensures { MatchResult text (λ text. SaysMessage kind (string_bytes text) (W.contents writer.old) (W.contents writer.new) result)
         (λ _. SaysNoMessage kind (W.contents writer.old) (W.contents writer.new) result) }
 {
