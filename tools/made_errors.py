@@ -161,16 +161,17 @@ def wrong_places(name, text, texts):
     is_case = '_tests/' in name or '_kit/' in name
     bad, bodies = [], {}
     for kind, part, tokens in parts_of(without_clauses(tokens_of(text))):
-        if kind == 'use':
-            if wrong_in_use(tokens) and not is_case:
-                bodies.setdefault(part, []).extend(tokens)
+        if kind == 'use' and wrong_in_use(tokens) and not is_case:
+            bodies[part] = []
+            if len(covered(tokens, texts.pop((name, part), []))[0]) < len(tokens):
+                bad.append((tokens[0][1], part, 'brought in under another name'))
         elif kind == 'type' and any(word in ERRORS and not is_within_result(tokens, at) for at, (word, _) in enumerate(tokens)):
             bad.append((tokens[0][1], part, 'another name for an error'))
         elif kind == 'fn':
             bodies.setdefault(part, []).extend(tokens)
     for part, tokens in bodies.items():
         places, left = covered(tokens, texts.get((name, part), []))
-        bad += [(tokens[0][1], part, 'listed, and no longer there: ' + ' '.join(it)) for it in left]
+        bad += [(tokens[0][1] if tokens else 1, part, 'listed, and no longer there: ' + ' '.join(it)) for it in left]
         for at in range(len(tokens)):
             if at not in places and looked_for(tokens, at, is_case):
                 bad.append((tokens[at][1], part, tokens[at][0]))
