@@ -116,9 +116,13 @@ def gathered(texts, read):
     return found
 
 
+def both(crate, commit, part, ending, read):
+    """What the crate had at the commit, and what it has now."""
+    return [gathered(files_of(at, crate, part, ending), read) for at in (commit, None)]
+
+
 def tell_clauses(crate, commit):
-    old = gathered(files_of(commit, crate, 'src', '.rt'), clauses_in)
-    new = gathered(files_of(None, crate, 'src', '.rt'), clauses_in)
+    old, new = both(crate, commit, 'src', '.rt', clauses_in)
     count = 0
     for name, clauses in old.items():
         if name not in new:
@@ -128,33 +132,24 @@ def tell_clauses(crate, commit):
         said = {text for texts in new[name].values() for text in texts}
         had = {text for texts in clauses.values() for text in texts}
         lost = [(clause, text) for clause, texts in clauses.items() for text in sorted(texts - said)]
+        more = [(clause, text) for clause, texts in new[name].items() for text in sorted(texts - had)]
         # A `requires` more asks more of a caller.
-        asked = [(clause, text) for clause, texts in new[name].items() for text in sorted(texts - had) if clause.startswith('requires')]
-        if lost or asked:
+        if lost or any(clause.startswith('requires') for clause, _ in more):
             count += 1
             print(f'{crate} {name}')
-            for clause, text in lost:
-                print(f'  - {clause} {{ {text} }}')
-            for clause, texts in new[name].items():
-                for text in sorted(texts - had):
-                    print(f'  + {clause} {{ {text} }}')
+            for sign, clause, text in [('-', *it) for it in lost] + [('+', *it) for it in more]:
+                print(f'  {sign} {clause} {{ {text} }}')
     return count
 
 
 def tell_definitions(crate, commit):
-    old = gathered(files_of(commit, crate, 'specs', '.antt'), definitions_in)
-    new = gathered(files_of(None, crate, 'specs', '.antt'), definitions_in)
-    count = 0
-    for name, texts in old.items():
-        lost = texts - new.get(name, set())
-        if lost:
-            count += 1
-            print(f'{crate} {name}: ' + ('differs' if name in new else 'gone'))
-            for text in sorted(lost):
-                print(f'  - {text}')
-            for text in sorted(new.get(name, set()) - texts):
-                print(f'  + {text}')
-    return count
+    old, new = both(crate, commit, 'specs', '.antt', definitions_in)
+    lost = {name: texts - new.get(name, set()) for name, texts in old.items() if texts - new.get(name, set())}
+    for name, texts in lost.items():
+        print(f'{crate} {name}: ' + ('differs' if name in new else 'gone'))
+        for sign, text in [('-', it) for it in sorted(texts)] + [('+', it) for it in sorted(new.get(name, set()) - old[name])]:
+            print(f'  {sign} {text}')
+    return len(lost)
 
 
 def main(words):
