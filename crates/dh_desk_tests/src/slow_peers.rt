@@ -57,13 +57,14 @@ impl Habit {
     }
 }
 
-/// A peer, its clock, what it will still send, and how much of the answer it took.
+/// A peer, its clock, its request, and how many bytes it sent and took.
 #[derive(Clone, Copy)]
 struct SlowPeer<'a> {
     habit: Habit,
     begun: Instant,
     millis: &'a Cell<u64>,
-    request: &'a Cell<&'a [u8]>,
+    request: &'a [u8],
+    sent: &'a Cell<usize>,
     taken: &'a Cell<usize>,
 }
 
@@ -92,7 +93,7 @@ impl Peer for SlowPeer<'_> {
     }
 
     fn read_within(&mut self, limit: Duration, buf: &mut [u8]) -> io::Result<usize> {
-        let mut left = self.request.get();
+        let mut left = self.request.get(self.sent.get()..).unwrap_or(&[]);
         if left.is_empty() && self.habit != Habit::NeverShuts {
             return Ok(0);
         }
@@ -102,7 +103,7 @@ impl Peer for SlowPeer<'_> {
         self.pass(self.habit.pause());
         let room = buf.len().min(self.habit.bytes_read());
         let count = left.read(&mut buf[..room])?;
-        self.request.set(left);
+        self.sent.set(self.sent.get().saturating_add(count));
         Ok(count)
     }
 
@@ -146,13 +147,13 @@ fn outcome(rt: &HostRuntime, habit: &str, request: &str) -> io::Result<String> {
     let alloc = rt.alloc();
     let request = request.replace(alloc, "\\r", "\r")?;
     let request = request.as_str().replace(alloc, "\\n", "\n")?;
-    let (millis, taken) = (Cell::new(0), Cell::new(0));
-    let left = Cell::new(request.as_bytes());
+    let (millis, sent, taken) = (Cell::new(0), Cell::new(0), Cell::new(0));
     let peer = SlowPeer {
         habit: Habit::named(habit),
         begun: Instant::now(rt)?,
         millis: &millis,
-        request: &left,
+        request: request.as_bytes(),
+        sent: &sent,
         taken: &taken,
     };
     let told = match served(alloc, peer)? {
