@@ -67,7 +67,7 @@ module _ (old : State) (run : Progress) (now : State) (n : ℕ) (h : Along old n
       let fits = within (at run) (tables old) n (tables now) (h.stands clean) in
       omega (arith, fits, all, h.counted clean)
 
-  ends : run.of - run.done ≤ n → HasCleanDisk now → IsAtItsEnd (tables now).books (tables now).open_run
+  pub ends : run.of - run.done ≤ n → HasCleanDisk now → IsAtItsEnd (tables now).books (tables now).open_run
   ends all clean = at_its_end (at run) (tables old) n (tables now) (h.stands clean) (full all clean)
 
   -- and the open run shows it

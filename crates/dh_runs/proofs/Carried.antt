@@ -1,28 +1,42 @@
 -- What a run leaves at an exit, from what its transactions leave.
-use Rattle.std.proofs.Common.{◌≡◌, ◌⊎◌, refl, subst, ℕ, None, OnErr, Result, Ok, Err}
+use Rattle.std.proofs.Common.{◌≡◌, ◌⊎◌, inl, inr, refl, subst, ℕ, None, OnErr, Option, Result, Ok, Err, Some}
 use Rattle.sqlite.specs.State.{State}
 use Rattle.dh_types.specs.declared.command.Command.TheVariants as command
 use Rattle.dh_types.specs.declared.command.RunOrder.{RunOrder}
 use Rattle.dh_types.specs.declared.reply.Reply.TheVariants as reply
 use Rattle.dh_types.specs.declared.run.RunSum.{RunSum}
 use Rattle.dh_model.specs.Books as machine
+use Rattle.dh_model.specs.declared.open_run.OpenRun.{OpenRun}
+use Rattle.dh_model.specs.Runs.{batch_size}
 use Rattle.dh_model.specs.declared.rows.Change.TheVariants as change
 use Rattle.dh_model.specs.declared.rows.Verdict.TheVariants as verdict
 use Rattle.dh_model.specs.Verdicts.{opened_run, run_verdict}
+use Rattle.dh_model.specs.Whole.{whole}
 use Rattle.dh_laws.specs.Batches.{IsPostedInPart}
-use Rattle.dh_laws.specs.StateTables.{IsStateInOrder}
+use Rattle.dh_laws.specs.Events.{IsMovedBy, IsMovedOn}
+use Rattle.dh_laws.specs.StateTables.{IsStateInOrder, as_tables}
 use Rattle.dh_laws.specs.Telling.{begun}
 use Rattle.dh_laws.proofs.CommandLemmas.Carried.{run_cut, run_said, same_cut}
 use Rattle.dh_laws.proofs.StandingLemmas.Batches.{same_in_part}
 use Rattle.dh_schema.specs.Store.{Leaves}
 use Rattle.dh_runs.specs.declared.batches.RunState.{RunState}
 use Rattle.dh_runs.specs.declared.batches.RunState.TheVariants as run
-use Rattle.dh_runs.specs.Told.{IsInterrupted, IsAnsweredBy, reply_of}
+use Rattle.dh_runs.specs.Told.{IsInterrupted, IsAnsweredBy, IsMidRecovery, reply_of}
 use Rattle.dh_runs.proofs.Along.{either, leaves_weaker}
 
 pub on_err : {A E P : Type 0} (r : Result A E) → P → OnErr r P
 on_err (Ok a) p = tt
 on_err (Err e) p = p
+
+moved_on : (books : machine.Books) (most : ℕ) (before after : Option OpenRun) → IsMovedBy batch_size books most before after
+    → IsMovedOn batch_size books before after
+moved_on books most before after (inl same) = inl same
+moved_on books most before None (inr (at, is, more)) = inr (at, is, tt)
+moved_on books most before (Some after) (inr (at, is, more)) = inr (at, is, more.0)
+
+-- a `post` that was interrupted is a recovery that was
+pub mid_of_part : (most : ℕ) (s t : machine.State) → IsPostedInPart most s t → IsMidRecovery s t
+mid_of_part most s t part = record { books = part.books; run = moved_on (whole batch_size (as_tables s).books) most _ _ part.run }
 
 module _ (order : RunOrder) (s : machine.State) (none : s.open_run ≡ None) (in_order : IsStateInOrder s)
     (h : run_verdict s.books order ≡ verdict.Change (change.Open (opened_run s.books order))) where

@@ -6,7 +6,7 @@ use Rattle.std.specs.FinMap.{get}
 use Rattle.std.proofs.lemmas.Option.{get_or_from_slice_get, slice_get_within}
 use Rattle.std.proofs.lemmas.Bool.Decides.{nat_tests}
 use Rattle.dh_model.specs.declared.open_run.OpenRun.{OpenRun}
-use Rattle.dh_model.specs.Books.{Books, State}
+use Rattle.dh_model.specs.Books.{Books, State, with_rows}
 use Rattle.dh_model.specs.Runs.{batch_size, batches, charge_key, part_fee_key, part_key, posted_charges, posted_fees, posted_parts}
 use Rattle.dh_model.specs.Whole.{with_posted}
 use Rattle.dh_model.proofs.KeyOrders.{nat_text_ties, nat_text_total, nats_tie, nats_total}
@@ -17,7 +17,7 @@ use Rattle.dh_laws.proofs.BatchLemmas.Moving.{with_batches}
 use Rattle.dh_laws.proofs.BatchLemmas.Charged.{charge_month, charges_fit, fee_month, fees_fit, part_month, parts_fit}
 use Rattle.dh_laws.proofs.BatchLemmas.Fees.{fees_posted}
 use Rattle.dh_laws.proofs.BatchLemmas.Whole.{is_open}
-use Rattle.dh_laws.proofs.BatchLemmas.MonthRows.{stays}
+use Rattle.dh_laws.proofs.BatchLemmas.MonthRows.{others_stay, stays}
 use Rattle.dh_leases.specs.declared.plans.BatchRows.{BatchRows}
 use Rattle.dh_leases.specs.declared.plans.Plan.{Plan}
 use Rattle.dh_leases.specs.Plans.{AreNew, HasItsPart, IsPlanOf, begins_at, stage, with_batch_rows}
@@ -41,6 +41,33 @@ own_stage books run order =
     (fees_fit batch_size books order.keyed order.rules run.month run.done)
     (fees_posted batch_size books order.keyed order.rules run.month run.done shown row here at.open_still) in
     λ i. record books { charges = charges i; parts = parts i; part_fees = fees i }
+
+-- batches in the place of others of the month are as they are without those
+posted_again : (books : Books) (run : OpenRun) (n m : ℕ) → IsInOrder batch_size books (Some run)
+    → with_posted batch_size (with_posted batch_size books run.month n) run.month m ≡ with_posted batch_size books run.month m
+posted_again books run n m order =
+    let charges = others_stay charge_key charge_month nats_total nats_tie books.charges run.month (posted_charges batch_size books run.month n)
+    (charges_fit batch_size books order.keyed order.rules run.month n) in
+    let parts = others_stay part_key part_month nat_text_total nat_text_ties books.parts run.month (posted_parts batch_size books run.month n)
+    (parts_fit batch_size books order.keyed order.rules run.month n) in
+    let fees = others_stay part_fee_key fee_month nat_text_total nat_text_ties books.part_fees run.month (posted_fees batch_size books run.month n)
+    (fees_fit batch_size books order.keyed order.rules run.month n) in
+    λ i. record books {
+      charges = with_rows charge_key (posted_charges batch_size books run.month m) (charges i);
+      parts = with_rows part_key (posted_parts batch_size books run.month m) (parts i);
+      part_fees = with_rows part_fee_key (posted_fees batch_size books run.month m) (fees i);
+    }
+
+-- where a batch is left, the next one leads to the stage behind
+pub stage_behind : (books : Books) (run : OpenRun) (done : ℕ) → IsInOrder batch_size books (Some run) → done < batches batch_size books run.month
+    → next_batch (stage books run.month done) ≡ stage books run.month (done + 1)
+stage_behind books run done order more =
+    let posted = with_posted batch_size books run.month done in
+    let here : OpenRun = record { month = run.month; done = done } in
+    let left : nat_lt done (batches batch_size posted run.month) ≡ true = grind (arith, nat_tests, more) in
+    let next : with_batch posted here ≡ stage books run.month (done + 1) =
+    λ i. record { books = posted_again books run done (done + 1) order i; open_run = Some (record { month = run.month; done = done + 1 }) } in
+    ap (λ (b : Bool). if b then with_batch posted here else record { books = posted; open_run = Some here }) left ∙ next
 
 -- the first of a list that is there
 pub first_is : (rows : List BatchRows) (view : List BatchRows) (found : Option (Bor BatchRows)) {row : Bor BatchRows} → view ≡ rows

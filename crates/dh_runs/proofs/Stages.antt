@@ -1,5 +1,5 @@
 -- The loop over a plan: the tables are those of so many batches.
-use Rattle.std.proofs.Common.{◌≡◌, ◌∙◌, ◌⊎◌, refl, sym, ap, subst, ℕ, ◌+◌, ◌≤◌, ◌<◌, min, List, length, take, get_or, Some, arith}
+use Rattle.std.proofs.Common.{◌≡◌, ◌∙◌, ◌⊎◌, inl, inr, refl, sym, ap, subst, ℕ, ◌+◌, ◌≤◌, ◌<◌, min, List, length, take, get_or, Some, arith}
 use Rattle.std.specs.Prelude.{slice_index_or}
 use Rattle.std.proofs.lemmas.List.{get_or-take, length-take}
 use Rattle.sqlite.specs.State.{State, HasCleanDisk}
@@ -8,7 +8,7 @@ use Rattle.dh_types.specs.declared.reply.Progress.{Progress}
 use Rattle.dh_model.specs.Books as machine
 use Rattle.dh_model.specs.Runs.{batch_size}
 use Rattle.dh_model.specs.Whole.{whole}
-use Rattle.dh_laws.specs.Batches.{IsPostedInPart}
+use Rattle.dh_laws.specs.Batches.{IsAtItsEnd, IsPostedInPart, closed_state, next_batch}
 use Rattle.dh_laws.specs.InOrder.{IsInOrder}
 use Rattle.dh_laws.specs.StateTables.{IsStateInOrder}
 use Rattle.dh_laws.proofs.BatchLemmas.Moving.{batches_of_whole, with_batches}
@@ -18,8 +18,9 @@ use Rattle.dh_leases.specs.declared.plans.Plan.{Plan}
 use Rattle.dh_leases.specs.Plans.{AreNew, HasItsPart, IsPlanOf, begins_at, stage, with_batch_rows}
 use Rattle.dh_leases.proofs.Leading.{IsBatchAt, batch_at, counted}
 use Rattle.dh_schema.specs.Store.{IsReady, Leaves, tables}
-use Rattle.dh_runs.proofs.Along.{Along, either, in_order, leaves_weaker}
-use Rattle.dh_runs.proofs.NextRows.{first_stage}
+use Rattle.dh_runs.specs.Told.{LeavesOneBatch}
+use Rattle.dh_runs.proofs.Along.{Along, either, ends, in_order, leaves_weaker}
+use Rattle.dh_runs.proofs.NextRows.{first_stage, stage_behind}
 
 -- each of the first rows is that of all at its place
 pub in_front : (all given : List BatchRows) (n k : ℕ) (rows : BatchRows) → given ≡ all → k < length (take n given) → rows ≡ get_or (take n given) k rows
@@ -39,6 +40,13 @@ pub record Planned (old now : State) (plan : Plan) (n : ℕ) : Type 0 where
   pub along : Along old now (progress plan) n
   pub plans : HasCleanDisk now → IsPlanOf plan (tables old)
   pub stands : HasCleanDisk now → tables now ≡ stage (tables old).books plan.month (plan.done + n)
+
+-- as of `LeavesOneBatch`
+abbrev pub IsOneOn : machine.State → machine.State → Type 0
+IsOneOn at t = (t ≡ at) ⊎ ((t ≡ next_batch at) ⊎ (IsAtItsEnd at.books at.open_run × (t ≡ closed_state at)))
+
+pub from_opened : (most : ℕ) (o opened : machine.State) (new : State) → o ≡ opened → LeavesOneBatch most o new → (m : ℕ) × LeavesOneBatch m opened new
+from_opened most o opened new is left = (most, subst (λ (t : machine.State). LeavesOneBatch most t new) is left)
 
 module _ (old : State) (plan : Plan) where
   at_stage : (s t : machine.State) (n : ℕ) → IsStateInOrder s → IsPlanOf plan s → n ≤ length plan.batches.items
@@ -124,3 +132,43 @@ module _ (old : State) (plan : Plan) where
         (posted_in_part (begins_at plan) (tables old) n (tables now) (h.along.stands back) most (h.along.shown back) (omega (arith, less))))
         (λ t it. posted_in_part (begins_at plan) (tables old) (n + 1) t (next_stage t back it) most (h.along.shown back) (omega (arith, less))))
         (crash clean)
+
+    is_next : HasCleanDisk now → with_batch_rows rows (tables now) ≡ next_batch (tables now)
+    is_next clean =
+        let low = h.along.was_clean in
+        let order : IsStateInOrder (tables old) = in_order old (was (omega (arith, clean, low))) in
+        let here : IsInOrder batch_size (tables old).books (Some (begins_at plan)) =
+        subst (λ it. IsInOrder batch_size (tables old).books it) (h.along.shown clean) order in
+        let count = counted plan (tables old) (h.plans clean) in
+        let next : plan.done + (n + 1) ≡ plan.done + n + 1 = omega arith in
+        put_is clean ∙ ap (stage (tables old).books plan.month) next
+        ∙ sym (stage_behind (tables old).books (begins_at plan) (plan.done + n) here (omega (arith, few, count)))
+        ∙ sym (ap next_batch (h.stands clean))
+
+    -- which leaves no more than the batch
+    pub rows_single : (most : ℕ) (new : State) → n < most → doubt now.is_clean ≤ doubt new.is_clean
+        → (HasCleanDisk new → Leaves new (λ t. (t ≡ tables now) ⊎ (t ≡ with_batch_rows rows (tables now)))) → HasCleanDisk new
+        → LeavesOneBatch most (tables old) new
+    rows_single most new less up crash clean =
+        let back : HasCleanDisk now = omega (arith, clean, up) in
+        record {
+          at = tables now;
+          reached = posted_in_part (begins_at plan) (tables old) n (tables now) (h.along.stands back) most (h.along.shown back) (omega (arith, less));
+          left = leaves_weaker new _ (IsOneOn (tables now))
+              (λ t. either (tables now) (with_batch_rows rows (tables now)) t (IsOneOn (tables now)) (λ t it. inl it)
+              (λ t it. inr (inl (it ∙ is_next back)))) (crash clean);
+        }
+
+  -- a crash within the end of the run
+  pub end_single : (now : State) (n most : ℕ) (new : State) → Planned old now plan n → n ≤ most → length plan.batches.items ≤ n
+      → doubt now.is_clean ≤ doubt new.is_clean → (HasCleanDisk new → Leaves new (λ t. (t ≡ tables now) ⊎ (t ≡ closed_state (tables now))))
+      → HasCleanDisk new → LeavesOneBatch most (tables old) new
+  end_single now n most new h less all up crash clean =
+      let back : HasCleanDisk now = omega (arith, clean, up) in
+      let end = ends old (progress plan) now n h.along (omega (arith, all)) back in
+      record {
+        at = tables now;
+        reached = posted_in_part (begins_at plan) (tables old) n (tables now) (h.along.stands back) most (h.along.shown back) less;
+        left = leaves_weaker new _ (IsOneOn (tables now))
+            (λ t. either (tables now) (closed_state (tables now)) t (IsOneOn (tables now)) (λ t it. inl it) (λ t it. inr (inr (end, it)))) (crash clean);
+      }

@@ -1,17 +1,22 @@
 -- What a call told, and what it leaves where it is interrupted.
-use Rattle.std.specs.Prelude.{◌≡◌, ◌⊎◌, ◌≤◌, IsTrue, Result, IfErr, OnErr, OnOk}
+use Rattle.std.specs.Prelude.{◌≡◌, ◌⊎◌, ◌≤◌, ℕ, IsTrue, Result, IfErr, OnErr, OnOk}
 use Rattle.sqlite_trees.specs.View.{doubt}
 use Rattle.sqlite.specs.State as sqlite
 use Rattle.sqlite.specs.State.{HasCleanDisk}
 use Rattle.dh_types.specs.declared.command.Command.{Command}
+use Rattle.dh_types.specs.declared.command.RunOrder.{RunOrder}
 use Rattle.dh_types.specs.declared.reply.Fault.{Fault}
 use Rattle.dh_types.specs.declared.reply.Reply.{Reply}
 use Rattle.dh_types.specs.declared.reply.Reply.TheVariants as reply
 use Rattle.dh_types.specs.declared.reply.Refusal.TheVariants as refusal
+use Rattle.dh_model.specs.declared.rows.Change.TheVariants as change
 use Rattle.dh_model.specs.Books.{State}
 use Rattle.dh_model.specs.Runs.{batch_size}
+use Rattle.dh_model.specs.Verdicts.{opened_run}
+use Rattle.dh_laws.specs.Batches.{IsAtItsEnd, IsPostedInPart, closed_state, next_batch}
 use Rattle.dh_laws.specs.Events.{Interrupted, Happens, Recovered, Answered, RecoveryInterrupted}
 use Rattle.dh_laws.specs.StateTables.{as_tables}
+use Rattle.dh_laws.specs.Telling.{begun}
 use Rattle.dh_schema.specs.Faults.{IsFirstFault}
 use Rattle.dh_schema.specs.Store.{IsReadyWith, Leaves, StaysReady, tables}
 use Rattle.dh_runs.specs.declared.batches.RunState.{RunState}
@@ -53,3 +58,15 @@ pub record Steps {X : Type 0} (next : State → State) (result : Result X Fault)
   pub cause : IfErr result IsFirstFault
   pub crash : HasCleanDisk new → Leaves new (λ t. (t ≡ tables old) ⊎ (t ≡ next (tables old)))
   pub was_clean : doubt old.is_clean ≤ doubt new.is_clean
+
+-- Whatever a crash leaves is the run at one batch, at the next one, or closed where none was left: no transaction has two batches.
+pub record LeavesOneBatch (most : ℕ) (before : State) (s : sqlite.State) : Type 0 where
+  pub at : State
+  pub reached : IsPostedInPart most before at
+  pub left : Leaves s (λ t. (t ≡ at) ⊎ ((t ≡ next_batch at) ⊎ (IsAtItsEnd at.books at.open_run × (t ≡ closed_state at))))
+
+-- Whatever a crash within a `run` leaves is the tables before, or those of its opening; or some batches on from these, it is as above.
+abbrev pub LeavesOneStep : RunOrder → State → sqlite.State → Type 0
+LeavesOneStep order before s =
+    let opened = begun order (change.Open (opened_run before.books order)) before in
+    Leaves s (λ t. (t ≡ before) ⊎ (t ≡ opened)) ⊎ ((most : ℕ) × LeavesOneBatch most opened s)

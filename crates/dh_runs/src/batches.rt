@@ -14,7 +14,7 @@ ghost use Rattle.dh_leases.specs.Plans.{IsPlanOf};
 ghost use Rattle.dh_schema.specs.Faults.{IsFirstFault};
 ghost use Rattle.dh_schema.specs.Store.{IsReady, IsReadyWith, Leaves, tables};
 ghost use Rattle.dh_runs.specs.Batches.{CanBePosted};
-ghost use Rattle.dh_runs.specs.Told.{IsAtEnd, IsInterrupted, IsAnsweredBy, reply_of};
+ghost use Rattle.dh_runs.specs.Told.{IsAtEnd, IsInterrupted, IsAnsweredBy, LeavesOneBatch, LeavesOneStep, reply_of};
 
 use crate::plan::plan_run;
 use crate::rows::PostedRows;
@@ -52,6 +52,7 @@ fn post_planned<S: Alter>(
         → IfOk result (λ it. IsAnsweredBy (command.Post most) (reply_of it) (tables (state S.Store conn.old)) (tables (state S.Store conn.new))) }
     ensures end { most ≡ u128.MAX → IfOk result IsAtEnd }
     ensures crash { HasCleanDisk (state S.Store conn.new) → Leaves (state S.Store conn.new) (IsPostedInPart most (tables (state S.Store conn.old))) }
+    ensures single { HasCleanDisk (state S.Store conn.new) → OnErr result (LeavesOneBatch most (tables (state S.Store conn.old)) (state S.Store conn.new)) }
     ensures halted { HasCleanDisk (state S.Store conn.new) → IsTrue (state S.Store conn.new).is_open
         → OnErr result (IsReadyWith (state S.Store conn.new) (IsPostedInPart most (tables (state S.Store conn.old)))) }
     ensures cause { IfErr result IsFirstFault }
@@ -74,7 +75,8 @@ fn post_planned<S: Alter>(
 
 /// Carries out at most so many batches of the open run, each in a transaction of its own, and closes it where none is left. The
 /// batches are counted out once, before the first. Fault 21 or 22 comes where memory ran out or the store failed. Whatever cuts
-/// it, the whole books are the same, and the open run is moved on by so many batches at most.
+/// it, the whole books are the same, and the open run is moved on by so many batches at most. A crash after a fault leaves the
+/// tables of one batch or of the next, or those of the end where no batch was left.
 pub fn post_some<S: Alter>(
     alloc: Global,
     conn: &mut Connection<S>,
@@ -86,6 +88,7 @@ pub fn post_some<S: Alter>(
         → IfOk result (λ it. IsAnsweredBy (command.Post most) (reply_of it) (tables (state S.Store conn.old)) (tables (state S.Store conn.new))) }
     ensures end { most ≡ u128.MAX → IfOk result IsAtEnd }
     ensures crash { HasCleanDisk (state S.Store conn.new) → Leaves (state S.Store conn.new) (IsPostedInPart most (tables (state S.Store conn.old))) }
+    ensures single { HasCleanDisk (state S.Store conn.new) → OnErr result (LeavesOneBatch most (tables (state S.Store conn.old)) (state S.Store conn.new)) }
     ensures halted { HasCleanDisk (state S.Store conn.new) → IsTrue (state S.Store conn.new).is_open
         → OnErr result (IsReadyWith (state S.Store conn.new) (IsPostedInPart most (tables (state S.Store conn.old)))) }
     ensures cause { IfErr result IsFirstFault }
@@ -115,6 +118,8 @@ pub fn run_all<S: Alter>(
         → IfOk result (λ sum. IsAnsweredBy (command.Run order.now) (reply.Posted sum) (tables (state S.Store conn.old)) (tables (state S.Store conn.new))) }
     ensures crash { HasCleanDisk (state S.Store conn.new)
         → Leaves (state S.Store conn.new) (IsInterrupted (command.Run order.now) (tables (state S.Store conn.old))) }
+    ensures single { HasCleanDisk (state S.Store conn.new)
+        → OnErr result (LeavesOneStep order.now (tables (state S.Store conn.old)) (state S.Store conn.new)) }
     ensures halted { HasCleanDisk (state S.Store conn.new) → IsTrue (state S.Store conn.new).is_open
         → OnErr result (IsReadyWith (state S.Store conn.new) (IsInterrupted (command.Run order.now) (tables (state S.Store conn.old)))) }
     ensures cause { IfErr result IsFirstFault }

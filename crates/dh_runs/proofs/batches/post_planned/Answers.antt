@@ -2,7 +2,8 @@ use Rattle.std.proofs.Common.{◌-◌, ◌+◌, ◌≤◌, ◌<◌, ap, length, 
 use Rattle.std.proofs.lemmas.List.{length-take}
 use Rattle.sqlite.specs.Held.{state}
 use Rattle.dh_runs.proofs.Along.{ends_at}
-use Rattle.dh_runs.proofs.Stages.{in_front, planned_first, planned_next, progress, rows_are_new, rows_begun, rows_crash, rows_in_order}
+use Rattle.dh_runs.proofs.Carried.{on_err}
+use Rattle.dh_runs.proofs.Stages.{end_single, in_front, planned_first, planned_next, progress, rows_are_new, rows_begun, rows_crash, rows_in_order, rows_single}
 use Rattle.dh_runs.proofs.batches.post_planned.Goals as goal
 
 pub loop-rows-init : goal.loop-rows-init
@@ -38,6 +39,17 @@ returns-in_err-commit-clause-crash g c =
     rows_crash (state g.S.Store c.args.conn.now) c.args.plan.now (state g.S.Store c.loop-rows.conn) n c.loop-rows.invariant c.requires.ready rows here.1
     here.2 c.args.most (state g.S.Store c.commit.new.conn) less c.commit.ensures.was_clean c.commit.ensures.crash
 
+pub returns-in_err-commit-clause-single : goal.returns-in_err-commit-clause-single
+returns-in_err-commit-clause-single g c clean =
+    let n = c.loop-rows.rows-index in
+    let rows = c.rows-item.result in
+    let here = in_front c.args.plan.now.batches.items c.deref.result.now c.min-count.result n rows c.deref.ensures.value c.loop-rows-test.true c.rows-item.is in
+    let low = here.0 in
+    let less : n < c.args.most = omega arith in
+    on_err c.from_residual.result
+    (rows_single (state g.S.Store c.args.conn.now) c.args.plan.now (state g.S.Store c.loop-rows.conn) n c.loop-rows.invariant c.requires.ready rows here.1
+    here.2 c.args.most (state g.S.Store c.commit.new.conn) less c.commit.ensures.was_clean c.commit.ensures.crash clean)
+
 pub loop-rows-preserved : goal.loop-rows-preserved
 loop-rows-preserved g c =
     let n = c.loop-rows.rows-index in
@@ -53,3 +65,15 @@ close_month-requires-clause-end g c =
     let same = ap length c.deref.ensures.value in
     let all : plan.done + length plan.batches.items - plan.done ≤ c.loop-rows.rows-index = omega (arith, given, same) in
     ends_at (state g.S.Store c.args.conn.now) (progress plan) (state g.S.Store c.loop-rows.conn) c.loop-rows.rows-index c.loop-rows.invariant.along all
+
+pub returns-in_err-close_month-clause-single : goal.returns-in_err-close_month-clause-single
+returns-in_err-close_month-clause-single g c clean =
+    let plan = c.args.plan.now in
+    let n = c.loop-rows.rows-index in
+    let given = length-take c.min-count.result c.deref.result.now in
+    let same = ap length c.deref.ensures.value in
+    let all : length plan.batches.items ≤ n = omega (arith, given, same) in
+    let less : n ≤ c.args.most = omega (arith, given) in
+    on_err c.from_residual-in_err-close_month.result
+    (end_single (state g.S.Store c.args.conn.now) plan (state g.S.Store c.loop-rows.conn) n c.args.most (state g.S.Store c.close_month.new.conn)
+    c.loop-rows.invariant less all c.close_month.ensures.was_clean c.close_month.ensures.crash clean)

@@ -1,4 +1,4 @@
-use Rattle.std.proofs.Common.{ap, arith}
+use Rattle.std.proofs.Common.{ap, arith, inl, inr}
 use Rattle.sqlite.specs.State.{HasCleanDisk}
 use Rattle.sqlite.specs.Held.{state}
 use Rattle.dh_model.specs.Books.{State}
@@ -8,6 +8,7 @@ use Rattle.dh_schema.specs.Store.{tables}
 use Rattle.dh_runs.proofs.RunFound.{run_is_found}
 use Rattle.dh_runs.proofs.Along.{in_order}
 use Rattle.dh_runs.proofs.Carried.{on_err, opening_crash, posted_said, posting_crash}
+use Rattle.dh_runs.proofs.Stages.{from_opened}
 use Rattle.dh_runs.proofs.batches.run_all.Goals as goal
 
 pub returns-in_err-open_run-clause-crash : goal.returns-in_err-open_run-clause-crash
@@ -71,3 +72,13 @@ returns-in_err-open_run-clause-halted g c clean is_open =
     let new = state g.S.Store c.open_run.new.conn in
     let it = c.in_err-open_run.ensures.undone clean is_open in
     on_err c.from_residual.result (it.0, same_cut (command.Run c.args.order.now) (tables old) (tables new) it.1)
+
+pub returns-in_err-open_run-clause-single : goal.returns-in_err-open_run-clause-single
+returns-in_err-open_run-clause-single g c clean = on_err c.from_residual.result (inl (c.open_run.ensures.crash clean))
+
+pub returns-in_err-sum-clause-single : goal.returns-in_err-sum-clause-single
+returns-in_err-sum-clause-single g c clean =
+    let new = state g.S.Store c.post_some.new.conn in
+    let between : HasCleanDisk (state g.S.Store c.open_run.new.conn) = omega (arith, clean, c.post_some.ensures.was_clean) in
+    on_err c.from_residual-in_err-sum.result
+    (inr (from_opened _ _ _ new (c.in_ok-open_run.ensures.done between).1 (c.in_err-sum.ensures.single clean)))
