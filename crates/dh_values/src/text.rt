@@ -1,6 +1,6 @@
 //! Texts of few characters: names, streets, cities, comments.
 
-ghost use Rattle.std.specs.Prelude.{◌≡◌, ◌↔◌, true, length, IsTrue, IsOk, IfOk, Some, nat_eq};
+ghost use Rattle.std.specs.Prelude.{◌≡◌, ◌↔◌, true, length, IsTrue, IsOk, IfErr, IfOk, Some, nat_eq};
 ghost use Rattle.std.specs.Str.{chars};
 ghost use Rattle.std.specs.List.{list_all};
 ghost use Rattle.std.specs.Cmp.{partial_equiv_from_equiv};
@@ -62,10 +62,11 @@ fn is_text(most: usize, text: &str) -> bool
 }
 
 impl<const MOST: usize> Text<MOST> {
-    /// The text, where it is one. Want of memory is the outer error.
+    /// The text, where it is one. Want of memory is the outer error, and only a text wants it.
     pub fn read(alloc: Global, text: &str) -> Result<Result<Self, BadText>, AllocError>
         ensures value { IfOk result (λ r. IfOk r (λ t. t ≡ text.now)) }
         ensures exact { IfOk result (λ r. IsOk r ↔ IsTrue (is_text MOST text.now)) }
+        ensures memory { IfErr result (λ _. IsTrue (is_text MOST text.now)) }
     {
         if !is_text(MOST, text) {
             return Ok(Err(BadText));
