@@ -1,9 +1,1 @@
-pub mod ClosedMonths
-pub mod Months
 pub mod Audit
-pub mod Counts
-pub mod Endings
-pub mod Fees
-pub mod Receipts
-pub mod Staff
-pub mod Stays

@@ -6,7 +6,7 @@ ghost use Rattle.dh_model.specs.Rules.{MeetsRules};
 ghost use Rattle.dh_model.specs.Runs.{batch_size};
 ghost use Rattle.dh_audit.specs.Audit.{HoldBelow, IsLeastBroken};
 
-use crate::{
+use dh_audit_rules::{
     deposits_in_order, endings_in_order, fees_in_order, keys_in_order, leases_in_time,
     leases_never_overlap, manages_at_most_hundred, months_in_order, names_what_is_there,
     one_start_a_day, runs_in_order, staff_of_the_branch,

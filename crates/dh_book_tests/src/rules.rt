@@ -1,6 +1,6 @@
 //! The rules of the audit, all at once and one by one.
 
-use dh_audit::{
+use dh_audit_rules::{
     closed_months_are_in_order, deposits_in_order, endings_in_order, fees_in_order, keys_in_order,
     leases_in_time, leases_never_overlap, manages_at_most_hundred, months_in_order,
     names_what_is_there, one_start_a_day, open_months_are_in_order, runs_in_order,

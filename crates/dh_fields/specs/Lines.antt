@@ -27,7 +27,7 @@ first_bad n [] (field ∷ fields) = Some n
 first_bad n (test ∷ tests) [] = Some n
 first_bad n (test ∷ tests) (field ∷ fields) = if test field then first_bad (n + 1) tests fields else Some n
 
--- A column of a line, with the test that its field passes: a value, or a text that is copied into memory of its own. Copied are the texts
+-- A column of a line, with the test that its field passes: a value, or a text that is copied into memory of its own. Copied are the fields
 -- that pass the second test.
 pub data Column : Type 0 where
   Value : (List ℕ → Bool) → Column
@@ -36,17 +36,11 @@ pub data Column : Type 0 where
 abbrev pub value : {T : Type 0} → Kind T → Column
 value kind = Value kind.takes
 
-abbrev pub is_there : List ℕ → Bool
-is_there text = true
-
 abbrev pub copied : {T : Type 0} → Kind T → Column
-copied kind = Copied kind.takes is_there
-
-abbrev pub is_not_empty : List ℕ → Bool
-is_not_empty text = not (length text == 0)
+copied kind = Copied kind.takes kind.takes
 
 abbrev pub copied_if_any : {T : Type 0} → Kind T → Column
-copied_if_any kind = Copied (optional kind).takes is_not_empty
+copied_if_any kind = Copied (optional kind).takes kind.takes
 
 -- the test that its field passes
 abbrev pub test_of : Column → List ℕ → Bool

@@ -50,7 +50,7 @@ abbrev pub bad_from : ℕ → List (List ℕ → Bool) → Fields → Option ℕ
 bad_from n [] fields = if has_field fields n then Some n else None
 bad_from n (test ∷ tests) fields = if is_field test fields n then bad_from (n + 1) tests fields else Some n
 
--- Memory is wanted for the fields of these columns, numbered from n: the first text is one that is copied, and each field before it is good.
+-- Memory is wanted for the fields of these columns, numbered from n: the first text is a good one, and so is each field before it.
 abbrev pub wants_from : ℕ → List Column → Fields → Bool
 wants_from n [] fields = false
 wants_from n (Value takes ∷ columns) fields = wants_from (n + 1) columns fields && is_field takes fields n
@@ -85,8 +85,8 @@ wants_by (Some form) n fields = wants_from (n + 1) form.columns fields
 unfoldable pub wants_among : {T : Type 0} → List (Form T) → ℕ → Fields → Bool
 wants_among forms n fields = wants_by (form_of forms (field fields n)) n fields
 
--- The line has a text to copy: its word is that of a command with texts, each field before the first of them is good, and that one is there.
--- Where it may be empty, it is not.
+-- The line has a text to copy: its word is that of a command with texts, and each field up to the first of them is good. Where that one may
+-- be empty, it is not.
 unfoldable pub wants_text : Fields → Bool
 wants_text fields = not (bytes_eq (field fields 1) (codes "show")) && wants_among command_forms 1 fields
 

@@ -2,7 +2,6 @@
 
 ghost use Rattle.std.specs.Prelude.{◌≤◌};
 ghost use Rattle.dh_fields.specs.FieldKinds as kinds;
-ghost use Rattle.dh_fields.specs.Lines.{is_not_empty, is_there};
 ghost use Rattle.dh_fields.specs.Readings.{Copies, Reads};
 
 use crate::line::Line;
@@ -115,7 +114,7 @@ impl<'a> Line<'a> {
         number: u8,
     ) -> Result<Text<MOST>, Unread>
         requires { 1 ≤ number }
-        ensures { Copies is_there (kinds.text MOST) self.now number result }
+        ensures { Copies (kinds.text MOST).takes (kinds.text MOST) self.now number result }
     {
         Text::read(alloc, self.text(number)?)?.or(Err(Unread::Field(number)))
     }
@@ -127,7 +126,7 @@ impl<'a> Line<'a> {
         number: u8,
     ) -> Result<Option<Comment>, Unread>
         requires { 1 ≤ number }
-        ensures { Copies is_not_empty (kinds.optional kinds.comment) self.now number result }
+        ensures { Copies kinds.comment.takes (kinds.optional kinds.comment) self.now number result }
     {
         if self.text(number)?.is_empty() {
             return Ok(None);

@@ -1,5 +1,5 @@
 -- What is found at a path, and what is made of it.
-use Rattle.std.specs.Prelude.{◌≡◌, ◌≢◌, ◌↔◌, ◌≤◌, ℕ, Bool, true, false, IsTrue, Result, Ok, Err}
+use Rattle.std.specs.Prelude.{◌≡◌, ◌≢◌, ◌↔◌, ◌≤◌, ◌≤ℤ◌, ℕ, ℤ, pos, Bool, true, false, IsTrue, Result, Ok, Err}
 use Rattle.std.specs.Fs.{IsFile, file_type, metadata_len}
 use Rattle.std.specs.IoError.{error_kind}
 use Rattle.std.specs.declared.fs.attrs.Metadata.{Metadata}
@@ -25,6 +25,10 @@ IsFoundAs (Ok it) (Ok file) = MayHoldTables it
 IsFoundAs (Ok it) (Err why) = (¬ MayHoldTables it) × (why ≡ fault.Store)
 IsFoundAs (Err error) (Ok file) = ⊥
 IsFoundAs (Err error) (Err why) = why ≡ system_fault (error_kind error)
+
+-- a descriptor of a standard stream: that of standard error is 2, and the other two have lesser ones
+abbrev pub IsOfStream : ℤ → Type 0
+IsOfStream descriptor = descriptor ≤ℤ pos 2
 
 abbrev pub IsEmptyFile : Metadata → Type 0
 IsEmptyFile found = IsFile (file_type found) × (metadata_len found ≡ 0)

@@ -10,7 +10,7 @@ ghost use Rattle.std.specs.IoError.{error_kind};
 ghost use Rattle.std.specs.declared.io.ErrorKind.TheVariants.{WouldBlock};
 ghost use Rattle.dh_types.specs.declared.reply.Fault.TheVariants as fault;
 ghost use Rattle.dh_schema.specs.Faults.{IsFirstFault};
-ghost use Rattle.dh_jobs.specs.Places.{IsEmptyFile, IsFoundAs, IsNoNews, MayHoldTables, fault_behind, system_fault};
+ghost use Rattle.dh_jobs.specs.Places.{IsEmptyFile, IsFoundAs, IsNoNews, IsOfStream, MayHoldTables, fault_behind, system_fault};
 
 use crate::blank::Blank;
 use dh_types::Fault;
@@ -57,6 +57,13 @@ fn is_same(found: Option<Identity>, file: Identity) -> bool
     ensures { IsTrue result ↔ (found ≡ Some file) }
 {
     found == Some(file)
+}
+
+// Whether the descriptor is that of a standard stream.
+fn is_stream(descriptor: i32) -> bool
+    ensures { IsTrue result ↔ IsOfStream descriptor }
+{
+    descriptor <= LAST_STREAM
 }
 
 // Want of memory is told as that, and all else as a fault of the store.
@@ -293,7 +300,7 @@ impl<'a> Place<'a> {
 
     // Moves the file away from the descriptor of a standard stream that was closed, since what is printed would land in it.
     fn keep_off_streams(&mut self) -> io::Result<()> {
-        if self.file.as_raw_fd() <= LAST_STREAM {
+        if is_stream(self.file.as_raw_fd()) {
             let moved = self.file.try_clone()?;
             self.file = moved;
         }

@@ -1,8 +1,7 @@
-use Rattle.std.proofs.Common.{ap, not, sym, ◌∙◌}
+use Rattle.std.proofs.Common.{sym, ◌∙◌}
 use Rattle.dh_fields.proofs.ReadFields.{stops, texts_or_nothing, reads_nothing, reads_something, stops_something, is_text-IsUtf8}
 use Rattle.dh_fields.specs.FieldKinds.{comment, optional, text}
-use Rattle.dh_fields.specs.Lines.{is_not_empty, is_there}
-use Rattle.dh_fields.specs.Readings.{is_field, passes}
+use Rattle.dh_fields.specs.Readings.{is_field}
 use Rattle.dh_fields.proofs.line.Line.comment_if_any.Goals as goal
 
 pub returns-in_err-text : goal.returns-in_err-text
@@ -13,18 +12,17 @@ returns-in_err-text c =
 
 pub returns-then-is_empty : goal.returns-then-is_empty
 returns-then-is_empty c =
-    let wanted = is_field is_not_empty c.args.self.now c.args.number in
+    let wanted = is_field comment.takes c.args.self.now c.args.number in
     reads_nothing comment c.args.self.now c.args.number wanted _ c.in_ok-text.ensures (sym c.is_empty.ensures ∙ c.if-is_empty.true)
 
 pub returns-in_err-some_text : goal.returns-in_err-some_text
 returns-in_err-some_text c =
     let not_empty = sym c.is_empty.ensures ∙ c.if-is_empty.false in
-    stops_something comment c.args.self.now c.args.number _ _ c.in_ok-text.ensures _ (λ _. ap (passes is_not_empty) c.in_ok-text.ensures ∙ ap not not_empty)
-    not_empty _ _ c.from_residual-in_err-some_text.ensures.1 c.in_err-some_text.ensures
+    stops_something comment c.args.self.now c.args.number _ _ c.in_ok-text.ensures _ (λ wanted. wanted) not_empty _ _
+    c.from_residual-in_err-some_text.ensures.1 c.in_err-some_text.ensures
 
 pub returns : goal.returns
 returns c =
-    let there = is_field is_there c.args.self.now c.args.number in
-    let wanted = is_field is_not_empty c.args.self.now c.args.number in
-    reads_something comment c.args.self.now c.args.number wanted _ c.in_ok-text.ensures (sym c.is_empty.ensures ∙ c.if-is_empty.false) there _
+    let wanted = is_field comment.takes c.args.self.now c.args.number in
+    reads_something comment c.args.self.now c.args.number wanted _ c.in_ok-text.ensures (sym c.is_empty.ensures ∙ c.if-is_empty.false) wanted _
     c.in_ok-some_text.ensures

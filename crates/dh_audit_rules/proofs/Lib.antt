@@ -1,0 +1,14 @@
+pub mod ClosedDues
+pub mod ClosedSets
+pub mod ClosedSums
+pub mod ClosedWhole
+pub mod Consecutive
+pub mod OpenBatches
+pub mod Rows
+pub mod SameLists
+pub mod Counting
+pub mod NamedByKind
+pub mod Neighbours
+pub mod Pairs
+pub mod Permuted
+pub mod FeeRows
