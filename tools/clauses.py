@@ -8,98 +8,35 @@ not; and whether it is gone. Then each definition of specs/ whose text differs, 
 another file of its crate under its name is the same one. What is listed has to be said or implied by what stands now: the reason for each
 belongs into the note on the change. Nothing is listed of what is only new.
 """
-import re
-import subprocess
 import sys
-from pathlib import Path
 
-TOP = Path(__file__).resolve().parent.parent
-FUNCTION = re.compile(r'^\s*(pub(?:\(crate\))? )?(?:final )?(?:const )?(?:unsafe )?fn (\w+)')
-CLAUSE = re.compile(r'(requires|ensures)(\*?)\s*(\w+)?\s*\{')
-HEAD = re.compile(r'^(?:pub )?(?:abbrev |unfoldable |data |record )*(?:pub )?(?:data |record )?([^\s:(]+)\s.*?(?::|where)')
-IMPL = re.compile(r'^impl\b(?:<.*?>)?\s+(?:.*\bfor\s+)?&?(?:\'\w+ )?(\w+)')
+from statements import Sources, behind_ghost, definitions_in, items_in, squeezed, with_below
 
 
-def shipped():
+def shipped(sources):
     """The crates below `dh_desk`, and itself."""
-    uses = {}
-    for line in (TOP / 'crates.txt').read_text().splitlines():
-        name, _, used = line.partition('#')[0].partition(':')
-        uses[name.strip()] = used.split()
-    found, left = [], ['dh_desk']
-    while left:
-        name = left.pop()
-        if name in uses and name not in found:
-            found.append(name)
-            left += uses[name]
-    return sorted(found)
-
-
-def squeezed(text):
-    return re.sub(r'\s+', ' ', text).strip()
-
-
-def behind(text, at):
-    """The place behind the brace that closes the one at this place."""
-    depth = 0
-    for place in range(at, len(text)):
-        depth += (text[place] == '{') - (text[place] == '}')
-        if not depth:
-            return place + 1
-    return len(text)
+    return sorted(with_below('dh_desk', sources.uses()))
 
 
 def clauses_in(text):
     """The clauses of each public function in a source: those of a trait's method and of a method of an `impl` under the name of that too."""
-    found, owner, lines, at = {}, '', text.splitlines(keepends=True), 0
-    for line in lines:
-        if line.startswith('impl'):
-            owner = (IMPL.match(line) or [None, ''])[1]
-        elif re.match(r'(pub(\(crate\))? )?trait (\w+)', line):
-            owner = re.match(r'(?:pub(?:\(crate\))? )?trait (\w+)', line)[1]
-        elif line.startswith('}'):
-            owner = ''
-        match = FUNCTION.match(line)
-        if match and (match[1] == 'pub ' or owner and not match[1]):
-            body = re.search(r'^\s*\{\s*$|\{\}?$|;$', text[at:], re.M)
-            head = text[at:at + (body.end() if body else 0)]
-            name = f'{owner}::{match[2]}' if owner else match[2]
-            found[name] = {it[0]: it[1] for it in clauses_of(head)}
-        at += len(line)
+    found = {}
+    for item in items_in(text):
+        if item.kind == 'fn' and (item.is_public or item.holder and item.tokens[0][0] != 'pub'):
+            found[f'{item.owner()}::{item.name}' if item.holder else item.name] = dict(clauses_of(item))
     return found
 
 
-def clauses_of(head):
-    at = 0
-    while match := CLAUSE.search(head, at):
-        end = behind(head, match.end() - 1)
-        yield f'{match[1]} {match[3] or ""}'.strip(), squeezed(head[match.end():end - 1])
+def clauses_of(item):
+    tokens, at = item.tokens, 0
+    while at < len(tokens):
+        end = at + 1
+        if tokens[at][0] in ('requires', 'ensures'):
+            end = behind_ghost(tokens, at)
+            begun = next(place for place in range(at, end) if tokens[place][0] == '{')
+            said = item.text[tokens[begun][2] - tokens[0][1]:tokens[end - 1][1] - tokens[0][1]]
+            yield ' '.join(word for word, *_ in tokens[at:begun] if word != '*'), squeezed(said)
         at = end
-
-
-def definitions_in(text):
-    """The definitions of a file of specs/, each with its text without comments."""
-    found, name = {}, None
-    for line in text.splitlines():
-        bare = line.partition('-- ')[0] if not line.lstrip().startswith('--') else ''
-        if not bare.strip() or bare.startswith(('use ', 'pub use ', 'pub mod ', 'infix')):
-            continue
-        match = re.match(r'\s*(?:abbrev pub|pub abbrev|unfoldable pub|pub unfoldable|pub data|pub record|abbrev|unfoldable|data|record|pub)\s+(\S+)', bare)
-        if match and len(bare) - len(bare.lstrip()) <= 2 and not re.match(r'\s+pub \w+ :', bare):
-            name = match[1]
-        if name:
-            found[name] = found.get(name, '') + ' ' + bare
-    return {name: squeezed(text) for name, text in found.items()}
-
-
-def files_of(commit, crate, part, ending):
-    """The texts of a crate's files, at a commit or as they stand."""
-    if commit is None:
-        folder = TOP / 'crates' / crate / part
-        return [path.read_text() for path in sorted(folder.rglob(f'*{ending}'))]
-    listing = subprocess.run(['git', 'ls-tree', '-r', '--name-only', commit, f'crates/{crate}/{part}'], cwd=TOP, capture_output=True, text=True, check=True)
-    names = [name for name in listing.stdout.splitlines() if name.endswith(ending)]
-    return [subprocess.run(['git', 'show', f'{commit}:{name}'], cwd=TOP, capture_output=True, text=True, check=True).stdout for name in names]
 
 
 def gathered(texts, read):
@@ -116,13 +53,13 @@ def gathered(texts, read):
     return found
 
 
-def both(crate, commit, part, ending, read):
-    """What the crate had at the commit, and what it has now."""
-    return [gathered(files_of(at, crate, part, ending), read) for at in (commit, None)]
+def both(crate, then, now, part, ending, read):
+    """What the crate had then, and what it has now."""
+    return [gathered(sources.texts(crate, part, ending), read) for sources in (then, now)]
 
 
-def tell_clauses(crate, commit):
-    old, new = both(crate, commit, 'src', '.rt', clauses_in)
+def tell_clauses(crate, then, now):
+    old, new = both(crate, then, now, 'src', '.rt', clauses_in)
     count = 0
     for name, clauses in old.items():
         if name not in new:
@@ -142,8 +79,8 @@ def tell_clauses(crate, commit):
     return count
 
 
-def tell_definitions(crate, commit):
-    old, new = both(crate, commit, 'specs', '.antt', definitions_in)
+def tell_definitions(crate, then, now):
+    old, new = both(crate, then, now, 'specs', '.antt', definitions_in)
     lost = {name: texts - new.get(name, set()) for name, texts in old.items() if texts - new.get(name, set())}
     for name, texts in lost.items():
         print(f'{crate} {name}: ' + ('differs' if name in new else 'gone'))
@@ -153,11 +90,12 @@ def tell_definitions(crate, commit):
 
 
 def main(words):
-    commit, crates = words[0], words[1:] or shipped()
+    commit, then, now = words[0], Sources(words[0]), Sources()
+    crates = words[1:] or shipped(now)
     print('== public functions')
-    functions = sum(tell_clauses(crate, commit) for crate in crates)
+    functions = sum(tell_clauses(crate, then, now) for crate in crates)
     print('== definitions')
-    definitions = sum(tell_definitions(crate, commit) for crate in crates)
+    definitions = sum(tell_definitions(crate, then, now) for crate in crates)
     print(f'{functions} functions and {definitions} definitions differ from {commit}')
     return 0
 
