@@ -1,25 +1,44 @@
 #!/usr/bin/env python3
-"""Tries the wrong bodies of a crate that are kept outside the gate, many in one check.
+"""Tries the wrong bodies that are kept outside the gate, many in one check, and tells where they have to be tried anew.
 
     tools/edits_together.py [--gate] CRATE [NAME..]     those of the crate, or these alone; with --gate those that the gate tries too
+    tools/edits_together.py [--gate] --all [--stale]    those of all crates, or of the stale ones, in the order of crates.txt
+    tools/edits_together.py --stale                     lists the stale crates, each with the reason; ends with 0 if there is none
+    tools/edits_together.py --texts                     only whether each text that a wrong body replaces stands once
 
 It works on a copy of the crate, over the libraries below it as tools/build.py builds them. A group has wrong bodies of different functions.
 Each has to be refused at a goal of its own function, by one check of the group; one that does not show it is tried alone. Where one group has
 all, only the modules with a wrong body are checked. Prints a line for each: `refused` with the first goal or error of its function, `names`
 where a proof file names what the body took away, `bad` where it does not compile, `proved` where nothing refused it. Ends with 0 if each was
-refused. Where all outside the gate were tried, it writes that into docs/wrong-bodies.txt.
+refused. Where all outside the gate were tried, it writes the row of the crate into docs/wrong-bodies.txt.
+
+A row keeps a sum of what was stated as they were tried. A crate is stale where the sum is another now, or the number of its wrong bodies is, or
+not each was refused. Summed are (tools/statements.py), in no order and without comments and layout:
+- of the crate the signature, the `requires` and the `ensures` of each function, public or not, types, constants, macros, ghost items, and
+  the heads of traits and of `impl`s;
+- its definitions, and those of the crates of the repository below it, with what definitions can name of the sources there: public types and
+  constants, macros, what an `impl` or a trait has besides functions;
+- beside each of these, where the imported names in it come from.
+No sum has bodies, tactics, proofs, the contracts of functions below, the texts of the wrong bodies, or the toolchain.
 """
-import os
 import re
 import shutil
+import signal
 import subprocess
 import sys
 import tempfile
+import time
 from pathlib import Path
+from typing import NamedTuple
 
 from build import TOP, Build, crates_of, toolchain, words_of
+from statements import Sources, sum_of, with_below
 
 GROUP = 12
+# What a check of a group takes of the time of the crate's proof.
+SHARE = 0.5
+TABLE = TOP / 'docs' / 'wrong-bodies.txt'
+EACH = 'each refused at a goal'
 FUNCTION = re.compile(r'^\s*(?:pub(?:\(crate\))? )?(?:const )?fn (\w+)')
 REFUSED = re.compile(r'^(?:fn|impl) (\S+?): (?:no proof|not proved)(.*)$', re.M)
 NAMED = re.compile(r'^(?:fn|impl) (\S+?): ', re.M)
@@ -32,6 +51,10 @@ def read(path):
     return Path(path).read_text(encoding='utf-8')
 
 
+def read_if_there(path):
+    return read(path) if path.is_file() else ''
+
+
 class Edit:
     """A wrong body: in each file the texts that are replaced, and the functions in which they stand."""
 
@@ -40,7 +63,8 @@ class Edit:
         self.changes = []
         file = old = None
         for line in read(path).splitlines():
-            key, _, text = line.partition(': ')
+            key, _, text = line.partition(':')
+            text = text[1:]
             if key == 'file':
                 file = text
             elif key == 'old':
@@ -52,7 +76,7 @@ class Edit:
         """The functions that hold what is replaced, each with its module."""
         found = set()
         for file, old, _ in self.changes:
-            text = read(crate / file)
+            text = read_if_there(crate / file)
             at = text.find(old)
             if at < 0:
                 continue
@@ -62,14 +86,23 @@ class Edit:
                 found.add((Path(file).stem, names[-1]))
         return found
 
+    def replaced(self, crate):
+        """The files with its texts replaced, and those of the texts that do not stand once."""
+        files, wrong = {}, []
+        for file, old, new in self.changes:
+            text = files.get(file) or read_if_there(crate / file)
+            if text.count(old) != 1:
+                wrong.append(f'stands {text.count(old)} times: {old}')
+            files[file] = text.replace(old, new, 1)
+        return files, wrong
+
     def made(self, crate):
         """Replaces its texts; False where one of them does not stand once."""
-        for file, old, new in self.changes:
-            text = read(crate / file)
-            if text.count(old) != 1:
-                return False
-            (crate / file).write_text(text.replace(old, new), encoding='utf-8')
-        return True
+        files, wrong = self.replaced(crate)
+        if not wrong:
+            for file, text in files.items():
+                (crate / file).write_text(text, encoding='utf-8')
+        return not wrong
 
 
 def groups_of(edits, crate):
@@ -89,7 +122,7 @@ def groups_of(edits, crate):
 
 def module_of(file):
     """The module that a source file has; none for the root."""
-    parts = [part.removesuffix('.rt') for part in Path(file).parts[1:]]
+    parts = Path(file).with_suffix('').parts[1:]
     return '::'.join(part for part in parts if part not in ('lib', 'main', 'mod'))
 
 
@@ -172,8 +205,8 @@ def tried_alone(room, edit, functions):
 
 
 def tried(room, group):
-    """Tries a group. A function that calls another wrong body says nothing of its own, so those that are left are tried once more together, and
-    alone where that shows nothing."""
+    """Tries a group; the names of those that were not refused. A function that calls another wrong body says nothing of its own, so those that are
+    left are tried once more together, and alone where that shows nothing."""
     room.put_back()
     functions = {edit.name: edit.functions(room.crate) for edit in group}
     done, output = room.checked(group)
@@ -187,47 +220,186 @@ def tried(room, group):
             left.append(edit)
     if 1 < len(left) < len(group):
         return tried(room, left)
-    return all([tried_alone(room, edit, functions[edit.name]) for edit in left])
+    return [edit.name for edit in left if not tried_alone(room, edit, functions[edit.name])]
 
 
-def record(name, count, right):
-    """Writes into the table when the wrong bodies outside the gate of a crate were tried."""
-    table = TOP / 'docs' / 'wrong-bodies.txt'
-    head, _, rows = read(table).partition('\ncrate ')
-    title, *rows = ('crate ' + rows).splitlines()
+class Row(NamedTuple):
+    """What the table has of a crate."""
+    count: int
+    commit: str
+    total: str
+    result: str
+
+
+def table():
+    """The head of the table, and its rows by crate."""
+    head, _, rows = read(TABLE).partition('\ncrate ')
+    found = {}
+    for row in rows.splitlines()[1:]:
+        name, count, *rest = row.split(None, 4)
+        found[name] = Row(int(count), *rest)
+    return head, found
+
+
+def record(name, row):
+    """Writes the row of a crate into the table."""
+    head, found = table()
+    found[name] = row
+    lines = [head, f"{'crate':<18}{'how many':>10}   {'last tried':<13}{'sum':<15}result"]
+    for crate in Sources().uses():
+        if crate in found:
+            count, commit, total, result = found[crate]
+            lines.append(f'{crate:<18}{count:>10}   {commit:<13}{total:<15}{result}')
+    TABLE.write_text('\n'.join(lines) + '\n', encoding='utf-8')
+
+
+def edits_of(name, gate=False):
+    """The wrong bodies of a crate that are kept outside the gate; with those of the gate too."""
+    folder = TOP / 'crates' / name / 'must-fail'
+    return [Edit(path) for path in sorted(folder.glob('*.edit*')) if gate or path.name.endswith('.md')]
+
+
+def stale():
+    """The crates whose wrong bodies have to be tried anew, each with the reason."""
+    sources, found = Sources(), {}
+    rows = table()[1]
+    for name in sources.uses():
+        count, row = len(edits_of(name)), rows.get(name)
+        why = [f'{count} wrong bodies, {row.count if row else 0} when last tried'] if count != (row.count if row else 0) else []
+        if row and row.result != EACH:
+            why.append(row.result)
+        if row and row.total == '-':
+            why.append('no sum yet')
+        elif row and row.total != sum_of(sources, name):
+            why.append(f'its clauses, or definitions below them, differ since {row.commit}')
+        if why:
+            found[name] = '; '.join(why)
+    return found
+
+
+def tell_stale():
+    found = stale()
+    for name, why in found.items():
+        print(f'{name}: {why}')
+    return bool(found)
+
+
+def tell_texts():
+    """Says which texts of wrong bodies do not stand once."""
+    count = 0
+    for name in Sources().uses():
+        for edit in edits_of(name, gate=True):
+            for wrong in edit.replaced(TOP / 'crates' / name)[1]:
+                print(f'{name} {edit.name}: {wrong}')
+                count += 1
+    print(f'{count} texts that do not stand once')
+    return count > 0
+
+
+def is_whole(edits, groups, crate):
+    """Whether all modules are checked: where several groups are, or a wrong body is of no function or stands in the root or in a definition."""
+    return len(groups) > 1 or any(not edit.functions(crate) or not module_of(file) or not file.startswith('src/')
+                                  for edit in edits for file, _, _ in edit.changes)
+
+
+def try_in(work, name, edits):
+    """Tries these of a crate in a folder; the names of those that were not refused, or None where the crate could not be tried."""
+    crates, kit = crates_of(name), toolchain()
+    with open(work / 'log', 'w') as log:
+        if not Build({lower: crate for lower, crate in crates.items() if lower != name}, kit, log).run():
+            print(f'what stands below {name} could not be built')
+            return None
+    room = Room(work, crates[name].folder, words_of('check', crates[name], crates, kit, 1))
+    groups = groups_of(edits, room.crate)
+    room.is_whole = is_whole(edits, groups, room.crate)
+    output = room.checked([])[1] if room.is_whole else 'logic=proved'
+    if 'logic=proved' not in output:
+        print(f'{name} is not proved as it stands: {output[-300:]}')
+        return None
+    return [edit for group in groups for edit in tried(room, group)]
+
+
+def try_crate(name, only=(), gate=False):
+    """Whether each was refused. Where all outside the gate were tried, the table has the result."""
     commit = subprocess.run(['git', 'rev-parse', '--short=8', 'HEAD'], cwd=TOP, capture_output=True, text=True, check=True).stdout.strip()
-    found = {row.split()[0]: row for row in rows}
-    found[name] = f"{name:<18}{count:>10}   {commit:<20}{'each refused at a goal' if right else 'not each refused'}"
-    order = re.findall(r'^(\w+):', read(TOP / 'crates.txt'), re.M)
-    table.write_text('\n'.join([head, title, *(found[crate] for crate in order if crate in found)]) + '\n')
+    total = sum_of(Sources(), name)
+    edits = [edit for edit in edits_of(name, gate) if not only or edit.name in only]
+    with tempfile.TemporaryDirectory() as work:
+        left = try_in(Path(work), name, edits)
+    if left is None:
+        return False
+    result = EACH if not left else 'not each refused: ' + ', '.join(left)
+    print(f'{name}: {len(edits)} tried, {result}', flush=True)
+    if edits and not only and not gate:
+        record(name, Row(len(edits), commit, total, result))
+    return not left
+
+
+def proof_times():
+    """The seconds of each crate's proof, by the table of the gate. A crate that it does not have is taken for one of the others."""
+    uses = Sources().uses()
+    rows = dict(re.findall(r'^(\w+) +(\d+) .*$', read(TOP / 'docs' / 'gate-times.txt'), re.M))
+    known = [int(rows[name]) for name in uses if name in rows]
+    return {name: int(rows.get(name, sum(known) // len(known))) for name in uses}
+
+
+def not_built(names):
+    """The libraries below these crates that have to be proved and built first."""
+    uses, crates = Sources().uses(), {}
+    for name in names:
+        crates.update(crates_of(name))
+    lower = {it for name in names for it in with_below(name, uses) if it != name}
+    return Build({it: crate for it, crate in crates.items() if it in lower}, toolchain(), None).left
+
+
+def estimate(names, gate):
+    """What the wrong bodies of these crates should take: of each crate its proof where there are several groups, and a share of that for each."""
+    times, seconds = proof_times(), 0
+    for name in names:
+        edits, crate = edits_of(name, gate), TOP / 'crates' / name
+        groups = groups_of(edits, crate)
+        seconds += times[name] * (is_whole(edits, groups, crate) + SHARE * len(groups))
+    lower = not_built(names)
+    told = f', and {sum(times[name] for name in lower) / 3600:.1f} hours to prove {len(lower)} libraries below' if lower else ''
+    return f'some {seconds / 3600:.1f} hours of one processor{told}'
+
+
+def try_all(names, gate):
+    """Tries those of all these crates and says how far it is. Whether each was refused."""
+    begun = time.monotonic()
+    counts = {name: len(edits_of(name, gate)) for name in names}
+    print(f'{sum(counts.values())} wrong bodies of {len(names)} crates: {estimate(names, gate)}', flush=True)
+    right = True
+    for done, name in enumerate(names):
+        print(f'== {name} begins, with {counts[name]} wrong bodies: {so_far(done, names, begun)}', flush=True)
+        right = try_crate(name, gate=gate) and right
+        print(f'== {name} ends: {so_far(done + 1, names, begun)}', flush=True)
+    return right
+
+
+def so_far(done, names, begun):
+    return f'{done} crates are done, {len(names) - done} left, {(time.monotonic() - begun) / 60:.0f} min so far'
 
 
 def main(words):
-    gate = '--gate' in words
-    words = [word for word in words if word != '--gate']
-    name, only = words[0], words[1:]
-    crates, kit = crates_of(name), toolchain()
-    source = crates[name].folder
-    paths = sorted(path for path in (source / 'must-fail').glob('*.edit*') if gate or path.name.endswith('.md'))
-    edits = [edit for edit in map(Edit, paths) if not only or edit.name in only]
-    with tempfile.TemporaryDirectory() as work, open(Path(work) / 'log', 'w') as log:
-        if not Build({lower: crate for lower, crate in crates.items() if lower != name}, kit, log).run():
-            sys.exit(f'what stands below {name} could not be built')
-        room = Room(Path(work), source, words_of('check', crates[name], crates, kit, 1))
-        groups = groups_of(edits, room.crate)
-        room.is_whole = len(groups) > 1 or any(not edit.functions(room.crate) or not module_of(file) or not file.startswith('src/')
-                                               for edit in edits for file, _, _ in edit.changes)
-        _, output = room.checked([]) if room.is_whole else (None, 'logic=proved')
-        if 'logic=proved' not in output:
-            sys.exit(f'{name} is not proved as it stands: {output[-300:]}')
-        right = True
-        for group in groups:
-            right = tried(room, group) and right
-        print(f'{name}: {len(edits)} tried, {"each refused" if right else "not each refused"}')
-    if not only and not gate:
-        record(name, len(edits), right)
-    return not right
+    flags = {word for word in words if word.startswith('--')}
+    words = [word for word in words if word not in flags]
+    gate = '--gate' in flags
+    crates = Sources().uses()
+    if flags - {'--gate', '--all', '--stale', '--texts'} or bool(words) == bool(flags - {'--gate'}) or words and words[0] not in crates:
+        return __doc__
+    if '--all' in flags:
+        names = stale() if '--stale' in flags else crates
+        return not try_all([name for name in names if edits_of(name, gate)], gate)
+    if '--texts' in flags:
+        return tell_texts()
+    if '--stale' in flags:
+        return tell_stale()
+    return not try_crate(words[0], words[1:], gate)
 
 
 if __name__ == '__main__':
-    sys.exit(main(sys.argv[1:]) if len(sys.argv) > 1 else __doc__)
+    # A check that is under way ends with this call, however it ends.
+    for number in (signal.SIGINT, signal.SIGTERM, signal.SIGHUP):
+        signal.signal(number, lambda *_: sys.exit(1))
+    sys.exit(main(sys.argv[1:]))
