@@ -22,7 +22,7 @@ def clauses_in(text):
     """The clauses of each public function in a source: those of a trait's method and of a method of an `impl` under the name of that too."""
     found = {}
     for item in items_in(text):
-        if item.kind == 'fn' and (item.is_public or item.holder and item.tokens[0][0] != 'pub'):
+        if item.kind == 'fn' and (item.visibility == 'pub' or item.holder and not item.visibility):
             found[f'{item.owner()}::{item.name}' if item.holder else item.name] = dict(clauses_of(item))
     return found
 

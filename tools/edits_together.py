@@ -9,8 +9,9 @@
 It works on a copy of the crate, over the libraries below it as tools/build.py builds them. A group has wrong bodies of different functions.
 Each has to be refused at a goal of its own function, by one check of the group; one that does not show it is tried alone. Where one group has
 all, only the modules with a wrong body are checked. Prints a line for each: `refused` with the first goal or error of its function, `names`
-where a proof file names what the body took away, `bad` where it does not compile, `proved` where nothing refused it. Ends with 0 if each was
-refused. Where all outside the gate were tried, it writes the row of the crate into docs/wrong-bodies.txt.
+where a proof file names what the body took away, `no goal` where the refusal names no goal, `bad` where it does not compile, `proved` where
+nothing refused it. Ends with 0 if each was refused. Where all outside the gate were tried, it writes the row of the crate into
+docs/wrong-bodies.txt.
 
 A row keeps a sum of what was stated as they were tried. A crate is stale where the sum is another now, or the number of its wrong bodies is, or
 not each was refused. Summed are (tools/statements.py), in no order and without comments and layout:
@@ -195,13 +196,17 @@ def tried_alone(room, edit, functions):
     done, output = room.checked([edit])
     if not done or not is_compiled(output):
         return told(edit, 'bad', output.strip()[-160:].replace('\n', ' '))
-    why = refusal(output, functions) or next((f'{name}: {why.strip(" :;")}' for name, why in REFUSED.findall(output)), None)
-    if why is None:
-        return told(edit, 'proved', 'nothing refused it')
     errors = [error for _, error in ERROR.findall(output)]
-    if errors and not is_at_a_goal(why, errors):
-        return told(edit, 'names', errors[0])
-    return told(edit, 'refused', f'alone, {why} {errors[0] if errors else ""}')
+    own = refusal(output, functions)
+    # Another function may be named, as one that the wrong body brings in, or one that stands over a definition.
+    lines = [own] if own and errors else [own, *(f'{name}: {why.strip(" :;")}' for name, why in REFUSED.findall(output))]
+    lines = [line for line in lines if line]
+    if not lines:
+        return told(edit, 'proved', 'nothing refused it')
+    why = next((line for line in lines if is_at_a_goal(line, [])), lines[0])
+    if is_at_a_goal(why, errors):
+        return told(edit, 'refused', f'alone, {why} {errors[0] if errors else ""}')
+    return told(edit, 'names' if errors else 'no goal', errors[0] if errors else why)
 
 
 def tried(room, group):

@@ -77,7 +77,8 @@ def squeezed(text):
 class Item(NamedTuple):
     kind: str
     name: str
-    is_public: bool
+    # `pub`, or `pub(` within the crate, or nothing.
+    visibility: str
     # The head of the `impl` or the trait that it stands in.
     holder: str
     # Each with its place in the text.
@@ -122,6 +123,11 @@ def lead_of(tokens, at):
     return kept, at
 
 
+def visibility_of(lead):
+    words = [word for word, *_ in lead]
+    return 'pub(' if 'pub(' in ''.join(words) else 'pub' if 'pub' in words else ''
+
+
 def end_of_head(tokens, at, is_braced):
     """The place of the semicolon at which an item ends, or of its braces."""
     while at < len(tokens) and tokens[at][0] != ';':
@@ -149,9 +155,8 @@ def items_among(tokens, text, holder):
         closed = behind(tokens, end) if tokens[end:end + 1] and tokens[end][0] == '{' else end + 1
         held = [*lead, *tokens[at:end if kind in HEADS else closed]]
         name = next((word for word, *_ in tokens[at + 1:end] if word[0].isalpha() or word[0] == '_'), '')
-        is_public = [word for word, *_ in lead[:1]] == ['pub'] and [word for word, *_ in lead[1:2]] != ['(']
         said = text[held[0][1]:held[-1][2]]
-        yield Item(kind, name, is_public, holder, held, said)
+        yield Item(kind, name, visibility_of(lead), holder, held, said)
         if kind in HOLDERS:
             yield from items_among(tokens[end + 1:closed - 1], text, holder if kind == 'mod' else squeezed(said))
         lead, at = lead_of(tokens, closed)
@@ -212,7 +217,7 @@ def statement_of(item, imports, ghost_imports):
 
 def is_seen_above(item):
     """Whether definitions and clauses of crates above can name the item: as a type, a constant or a ghost item."""
-    return item.kind not in HEADS and (item.is_public or item.holder != '' or item.kind == 'macro_rules')
+    return item.kind not in HEADS and (item.visibility == 'pub' or item.holder != '' or item.kind == 'macro_rules')
 
 
 def statements_of_source(text):
