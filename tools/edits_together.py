@@ -37,7 +37,7 @@ from statements import Sources, sum_of, with_below
 
 GROUP = 12
 # What a check of a group takes of the time of the crate's proof.
-SHARE = 0.5
+SHARE = 0.7
 TABLE = TOP / 'docs' / 'wrong-bodies.txt'
 EACH = 'each refused at a goal'
 FUNCTION = re.compile(r'^\s*(?:pub(?:\(crate\))? )?(?:const )?fn (\w+)')
