@@ -1,8 +1,12 @@
-use Rattle.std.proofs.Common.{◌∙◌, ap}
+use Rattle.std.proofs.Common.{◌∙◌, ap, arith}
+use Rattle.std.proofs.lemmas.Grind.{common_steps}
 use Rattle.std.specs.Map.Iter.{deref}
 use Rattle.std.proofs.lemmas.Map.Iter.{iter_end}
 use Rattle.dh_model.specs.Leases.{dues_among}
 use Rattle.dh_leases.proofs.charges.dues.Goals as goal
+
+pub loop-lease-preserved-in-Continue-1 : goal.loop-lease-preserved-in-Continue-1
+loop-lease-preserved-in-Continue-1 c = grind (arith, common_steps)
 
 pub returns : goal.returns
 returns c =

@@ -2,7 +2,7 @@ use Rattle.std.proofs.Common.{◌∙◌, ◌++◌, ◌∷◌, [], ap, arith, len
 use Rattle.std.specs.Map.Iter.{deref}
 use Rattle.std.proofs.lemmas.List.{map-append}
 use Rattle.std.proofs.lemmas.Map.Iter.{iter_end}
-use Rattle.dh_model.specs.Runs.{fee_at, part_fee_of, since_second}
+use Rattle.dh_model.specs.Runs.{part_fee_of, since_second}
 use Rattle.dh_leases.proofs.FewLemmas.{few_dues}
 use Rattle.dh_leases.proofs.RunLemmas.{fee_of_all}
 use Rattle.dh_leases.proofs.fees.branch_fees.Goals as goal

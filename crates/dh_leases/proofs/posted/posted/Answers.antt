@@ -3,7 +3,7 @@ use Rattle.std.specs.List.{filter, flat_map}
 use Rattle.std.specs.Map.Iter.{deref}
 use Rattle.std.proofs.lemmas.List.{length-take, map-append}
 use Rattle.std.proofs.lemmas.Map.Iter.{iter_end, rest_more, rest_so_far}
-use Rattle.dh_model.specs.Runs.{batch_size, fee_at, part_fee_of, part_of, posted_of_branch}
+use Rattle.dh_model.specs.Runs.{batch_size, part_fee_of, part_of, posted_of_branch}
 use Rattle.dh_leases.proofs.FewLemmas.{few_dues, few_posted}
 use Rattle.dh_leases.proofs.PostedLemmas.{charges_next, fee_row_after, has_begun, left_after, left_next, no_row_next, part_after, posted_next, rows_next}
 use Rattle.dh_leases.proofs.posted.posted.Goals.{then-left-gt0+in_ok-push+in_ok-push-2, else-left-gt0}
