@@ -20,8 +20,8 @@ use Rattle.dh_requests.specs.declared.asked.Asked.{Asked}
 use Rattle.dh_requests.specs.declared.asked.Asked.TheVariants.{Turned, Fields}
 use Rattle.dh_http.specs.declared.fault.NetFault.{NetFault}
 use Rattle.dh_http.specs.declared.fault.NetFault.TheVariants.{Closed, Input, Output, Memory}
-use Rattle.dh_requests.specs.declared.unread.Unread.{Unread}
-use Rattle.dh_requests.specs.declared.unread.Unread.TheVariants as unread
+use Rattle.dh_reading.specs.declared.unread.Unread.{Unread}
+use Rattle.dh_reading.specs.declared.unread.Unread.TheVariants as unread
 use Rattle.dh_http.specs.Answers.{Answer, answer_text, fault_answer, refusal_answer, reply_answer, report_answer, turned_answer}
 
 -- what a request is answered, and where the machine stands then

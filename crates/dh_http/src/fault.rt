@@ -4,8 +4,7 @@ ghost use Rattle.std.specs.Prelude.{◌≡◌, false};
 ghost use Rattle.dh_http.specs.Served.{unread_fault};
 ghost use Rattle.dh_http.specs.declared.fault.NetFault.TheVariants as net;
 
-use dh_reading::ReaderFailed;
-use dh_requests::Unread;
+use dh_reading::{ReaderFailed, Unread};
 use dh_types::Output;
 use std::alloc::AllocError;
 

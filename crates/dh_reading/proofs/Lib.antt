@@ -1,1 +1,4 @@
 mod ReadLemmas
+mod BufferLemmas
+mod BodyLemmas
+pub mod Taking

@@ -1,1 +1,3 @@
 pub mod Reads
+pub mod Known
+pub mod Bodies

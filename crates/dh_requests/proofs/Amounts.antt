@@ -10,8 +10,8 @@ use Rattle.dh_requests.specs.declared.head.HeadRead.{HeadRead}
 use Rattle.dh_requests.specs.declared.head.HeadRead.TheVariants.{Found}
 use Rattle.dh_requests.specs.declared.limits.TheConstants.{ROOM}
 use Rattle.dh_requests.specs.Heads.{HeadOf, IsHead}
-use Rattle.dh_requests.specs.Known.{IfBoth, TakesAtMost}
-use Rattle.dh_requests.proofs.Taking.{takes_both}
+use Rattle.dh_reading.specs.Known.{IfBoth, TakesAtMost}
+use Rattle.dh_reading.proofs.Taking.{takes_both}
 use Rattle.dh_requests.specs.Requests.{IsAnnounced, MayNeedMemory, TakesMemory, TakesRequest}
 use Rattle.dh_requests.specs.Steps.{TakesBody}
 

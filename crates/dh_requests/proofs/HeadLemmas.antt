@@ -1,37 +1,15 @@
 -- What the bytes so far say of the whole input.
-use Rattle.std.proofs.Common.{◌≡◌, ℕ, ◌+◌, ◌-◌, ◌<◌, ◌≤◌, List, [], ◌++◌, Option, Some, None, length, take, drop, slice_range, sym, ap, ◌∙◌, subst, arith}
-use Rattle.std.proofs.Common.{append_assoc, append-nil, length-take-le, drop_at, drop_of_length-le, length-append, inl, inr}
-use Rattle.std.proofs.lemmas.Slice.{take-put_mid_below}
+use Rattle.std.proofs.Common.{◌≡◌, ℕ, ◌+◌, ◌-◌, ◌<◌, ◌≤◌, List, [], ◌++◌, Option, Some, None, length, take, drop, sym, ap, ◌∙◌, subst, arith}
+use Rattle.std.proofs.Common.{append_assoc, append-nil, drop_of_length-le, length-append, inl, inr}
 use Rattle.std.specs.Io.KnownBytes.{Consumes, IsAtEnd}
-use borrow.Rule.Slice.PartMut.{put_mid, post_of}
-use lib.Seq.{take-add, take-append-le, take-append_seam, take-append-add}
-use Rattle.std.proofs.Common.{le_refl}
+use lib.Seq.{take-append_seam, take-append-add}
 use Rattle.httparse.specs.Grammar.{RequestHead, print_request, ReadsRequest, HasNoRequest, NeverHasRequest, MayBecomeRequest}
 use Rattle.httparse.specs.declared.spans.HeaderSpan.{HeaderSpan}
 use Rattle.httparse.specs.declared.spans.RequestSpans.{RequestSpans}
 use Rattle.httparse.proofs.GrammarLemmas.{ReadsRequest-append, request_unique}
 use Rattle.dh_requests.specs.declared.limits.TheConstants.{HEAD_BYTES, HEADER_LINES, ROOM}
-use Rattle.dh_requests.specs.Known.{IfBoth}
+use Rattle.dh_reading.specs.Known.{IfBoth}
 use Rattle.dh_requests.specs.Heads.{IsHead, IsLargeHead, IsUnfinished, IsWhole, IsCrowded}
-
--- ---- the buffer after a read
-
-take_split : (a b : ℕ) (old new : List ℕ) → a ≤ b → take a new ≡ take a old → take a old ++ slice_range new a b ≡ take b new
-take_split a b old new h front =
-    let same : a + (b - a) ≡ b = omega arith in
-    ap (λ l. l ++ slice_range new a b) (sym front) ∙ sym (take-add a (b - a) new) ∙ ap (λ n. take n new) same
-
-slice_range-put_mid : (a k n : ℕ) (xs ys : List ℕ) → a ≤ length xs → n ≤ length ys → slice_range (put_mid a k xs ys) a (a + n) ≡ take n ys
-slice_range-put_mid a k n xs ys within fits =
-    let same : (a + n) - a ≡ n = omega arith in
-    let after = post_of a k xs in
-    ap (take ((a + n) - a)) (drop_at (take a xs) (ys ++ after) a (length-take-le a xs within)) ∙ ap (λ m. take m (ys ++ after)) same
-    ∙ take-append-le n ys after fits
-
-pub take_read : (a k n : ℕ) (xs ys : List ℕ) → a ≤ length xs → n ≤ length ys → take a xs ++ take n ys ≡ take (a + n) (put_mid a k xs ys)
-take_read a k n xs ys within fits =
-    ap (λ l. take a xs ++ l) (sym (slice_range-put_mid a k n xs ys within fits))
-    ∙ take_split a (a + n) xs (put_mid a k xs ys) (omega arith) (take-put_mid_below a k xs ys a (le_refl a) within)
 
 -- ---- from the front to the input
 

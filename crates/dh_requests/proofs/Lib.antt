@@ -1,6 +1,4 @@
-pub mod Taking
 pub mod HeadLemmas
-pub mod BodyLemmas
 pub mod LineLemmas
 pub mod Seeking
 pub mod Found

@@ -7,7 +7,7 @@ use Rattle.httparse.specs.Spans.{IsRequestAt}
 use Rattle.httparse.specs.declared.spans.HeaderSpan.{HeaderSpan}
 use Rattle.dh_fields.specs.Lines.{field}
 use Rattle.dh_requests.specs.Heads.{HeadOf}
-use Rattle.dh_requests.specs.Known.{IfBoth}
+use Rattle.dh_reading.specs.Known.{IfBoth}
 use Rattle.dh_requests.specs.declared.head.Head.{Head}
 use Rattle.dh_requests.specs.declared.head.HeadRead.{HeadRead}
 use Rattle.dh_requests.specs.declared.head.HeadRead.TheVariants.{Found}

@@ -1,6 +1,4 @@
 pub mod Heads
-pub mod Known
-pub mod Bodies
 pub mod HeaderLines
 pub mod Routes
 pub mod Targets

@@ -6,7 +6,7 @@ use Rattle.serde_json.specs.declared.value.Value.{Value}
 use Rattle.httparse.specs.Grammar.{RequestHead}
 use Rattle.httparse.specs.Spans.{IsRequestAt, IsRequestWithin}
 use Rattle.dh_requests.specs.HeaderLines.{body_length}
-use Rattle.dh_requests.specs.Known.{TakesAtMost}
+use Rattle.dh_reading.specs.Known.{TakesAtMost}
 use Rattle.dh_requests.specs.declared.header_lines.BodyLength.{BodyLength}
 use Rattle.dh_requests.specs.declared.verdict.Found.{Found}
 use Rattle.dh_requests.specs.declared.header_lines.BodyLength.TheVariants.{Absent, Invalid, TooLarge, Bytes}

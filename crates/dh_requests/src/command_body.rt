@@ -2,17 +2,16 @@
 
 ghost use Rattle.std.specs.Prelude.{◌≡◌, ◌≤◌, ◌-◌, ◌⊎◌, ℕ, List, length, map, IfOk, OnErr, Err};
 ghost use Rattle.json.specs.Scratch.{room};
-ghost use Rattle.dh_requests.specs.Known.{TakesAtMost};
+ghost use Rattle.dh_reading.specs.Known.{TakesAtMost};
 ghost use Rattle.dh_requests.specs.Texts.{AreTexts};
 ghost use Rattle.dh_requests.specs.Requests.{IsBodyOf, IsPosted, is_question, posted};
 ghost use Rattle.dh_requests.specs.Steps.{Behind, IsListed, IsTextsOf, TakesLength};
 
 use crate::asked::{Asked, Turned};
-use crate::body::read_body;
 use crate::body_texts::{list_in, texts_of};
 use crate::header_lines::BodyLength;
-use crate::unread::Unread;
 use dh_fields::{Request, read_fields};
+use dh_reading::{Unread, read_body};
 use dh_types::Refusal;
 use json::Scratch;
 use serde_json::Value;

@@ -3,11 +3,10 @@
 ghost use Rattle.std.specs.Prelude.{◌≡◌, ◌≤◌, ◌<◌, IfOk, length, List, ℕ};
 ghost use Rattle.httparse.specs.Grammar.{RequestHead};
 ghost use Rattle.dh_requests.specs.Heads.{HeadOf, JudgedAs, IfFound, IsInBuffer, IsHead, IsBadHead, IsLargeHead};
-ghost use Rattle.dh_requests.specs.Known.{IfBoth, TakesAtMost};
+ghost use Rattle.dh_reading.specs.Known.{IfBoth, TakesAtMost};
 
-use crate::buffer::read_more;
 use crate::limits::{HEAD_BYTES, HEADER_LINES, ROOM};
-use dh_reading::ReaderFailed;
+use dh_reading::{ReaderFailed, read_more};
 use httparse::spans::{HeaderSpan, RequestSpans, parse_request};
 use httparse::{Error, Status};
 use std::io::Read;

@@ -3,9 +3,7 @@
 #![tactic(auto)]
 
 mod asked;
-mod body;
 mod body_texts;
-mod buffer;
 mod command_body;
 mod head;
 mod header_lines;
@@ -14,7 +12,6 @@ mod pieces;
 mod reply_body;
 mod request;
 mod routes;
-mod unread;
 mod verdict;
 
 pub use asked::{Asked, Turned};
@@ -22,4 +19,3 @@ pub use head::one_outcome;
 pub use reply_body::reply;
 pub use request::read_request;
 pub use routes::Routes;
-pub use unread::Unread;

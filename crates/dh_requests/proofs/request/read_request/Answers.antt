@@ -1,6 +1,6 @@
 use Rattle.std.proofs.Common.{◌≡◌, Result, Ok, Err, ap}
 use Rattle.std.specs.Prelude.{IsErrAnd}
-use Rattle.dh_requests.specs.declared.unread.Unread.TheVariants.{Memory}
+use Rattle.dh_reading.specs.declared.unread.Unread.TheVariants.{Memory}
 use Rattle.dh_requests.proofs.Amounts.{needs_memory, takes_request}
 use Rattle.dh_requests.proofs.Orders.{may_ask}
 use Rattle.dh_requests.proofs.request.read_request.Goals as goal

@@ -3,9 +3,9 @@ use Rattle.std.specs.Io.KnownBytes.{Consumes, prepend_known}
 use Rattle.std.proofs.lemmas.Result.{IfOk-weaker}
 use Rattle.std.proofs.lemmas.Slice.{take-put_mid}
 use borrow.Rule.Slice.PartMut.{put_mid}
-use Rattle.dh_requests.specs.Bodies.{FillsOrEnds}
-use Rattle.dh_requests.proofs.BodyLemmas.{after_front, filled}
-use Rattle.dh_requests.proofs.body.fill_from.Goals as goal
+use Rattle.dh_reading.specs.Bodies.{FillsOrEnds}
+use Rattle.dh_reading.proofs.BodyLemmas.{after_front, filled}
+use Rattle.dh_reading.proofs.body.fill_from.Goals as goal
 
 placed : (k : ℕ) (body front new : List ℕ) → new ≡ front → take (length front) (put_mid 0 k body new) ≡ front
 placed k body front new e = take-put_mid 0 k body new (length front) (omega (arith, ap length e)) (omega arith) ∙ e

@@ -3,7 +3,7 @@ use Rattle.std.proofs.Common.{◌≡◌, ℕ, List, ◌++◌, Option, Some, None
 use Rattle.std.proofs.Common.{true, false, Bool}
 use Rattle.std.specs.Io.KnownBytes.{Consumes, prepend_known}
 use lib.Seq.{take-append_seam}
-use Rattle.dh_requests.specs.Bodies.{IsFilled, FillsOrEnds}
+use Rattle.dh_reading.specs.Bodies.{IsFilled, FillsOrEnds}
 
 pub after_front : (a : Option (List ℕ)) (front : List ℕ) → Consumes (prepend_known front a) a front
 after_front None front = tt

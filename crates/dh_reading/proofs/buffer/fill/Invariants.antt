@@ -1,7 +1,7 @@
 use Rattle.std.proofs.Common.{◌-◌, ◌≡◌, ◌≤◌, take, length, List, ℕ, Option}
 use Rattle.std.specs.Io.KnownBytes.{Consumes}
-use Rattle.dh_requests.specs.Known.{TakesAtMost}
-use Rattle.dh_requests.proofs.buffer.fill.Given as goal
+use Rattle.dh_reading.specs.Known.{TakesAtMost}
+use Rattle.dh_reading.proofs.buffer.fill.Given as goal
 
 abbrev pub invariant-loop-filled : goal.invariant-loop-filled
 invariant-loop-filled g l = record {

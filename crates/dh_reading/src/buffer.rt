@@ -2,14 +2,14 @@
 
 ghost use Rattle.std.specs.Prelude.{◌≡◌, ◌-◌, ◌≤◌, ◌<◌, IfOk, OnErr, take, length, List, ℕ, Option};
 ghost use Rattle.std.specs.Io.KnownBytes.{Consumes, IsAtEnd, Keeps};
-ghost use Rattle.dh_requests.specs.Bodies.{FillsOrEnds};
-ghost use Rattle.dh_requests.specs.Known.{TakesAtMost};
+ghost use Rattle.dh_reading.specs.Bodies.{FillsOrEnds};
+ghost use Rattle.dh_reading.specs.Known.{TakesAtMost};
 
-use dh_reading::{ReaderFailed, read_again};
+use crate::again::{ReaderFailed, read_again};
 use std::io::Read;
 
 /// Reads once, after the first `filled` bytes of the buffer, and gives how many it has then: as many at the end of input.
-pub(crate) fn read_more<R: Read>(
+pub fn read_more<R: Read>(
     reader: &mut R,
     buffer: &mut [u8],
     filled: usize,

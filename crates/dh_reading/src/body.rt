@@ -1,12 +1,12 @@
-//! The body of a request.
+//! A body of so many bytes.
 
 ghost use Rattle.std.specs.Prelude.{◌≡◌, ◌++◌, ◌-◌, IfOk, IfSome, Err, length, vec_len};
-ghost use Rattle.dh_requests.specs.Bodies.{BodyOf, IsFilled};
-ghost use Rattle.dh_requests.specs.Known.{TakesAtMost};
+ghost use Rattle.dh_reading.specs.Bodies.{BodyOf, IsFilled};
+ghost use Rattle.dh_reading.specs.Known.{TakesAtMost};
 
+use crate::again::ReaderFailed;
 use crate::buffer::fill;
 use crate::unread::Unread;
-use dh_reading::ReaderFailed;
 use std::alloc::Global;
 use std::io::Read;
 
@@ -27,7 +27,7 @@ fn fill_from<R: Read>(reader: &mut R, body: &mut [u8], front: &[u8]) -> Result<b
 
 /// Reads a body of so many bytes, of which `front` was read already, with what may follow it. `None`: the input ends before it
 /// does. Want of memory is told before a byte is read. What is read of the reader is no more than what `front` lacks of the body.
-pub(crate) fn read_body<R: Read>(
+pub fn read_body<R: Read>(
     alloc: Global,
     reader: &mut R,
     front: &[u8],

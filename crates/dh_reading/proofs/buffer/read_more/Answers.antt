@@ -1,8 +1,8 @@
 use Rattle.std.proofs.Common.{◌-◌, length, subst, arith}
 use Rattle.std.specs.Io.KnownBytes.{Consumes}
 use Rattle.std.proofs.KnownBytes.{Consumes-trans}
-use Rattle.dh_requests.proofs.HeadLemmas.{take_read}
-use Rattle.dh_requests.proofs.buffer.read_more.Goals as goal
+use Rattle.dh_reading.proofs.BufferLemmas.{take_read}
+use Rattle.dh_reading.proofs.buffer.read_more.Goals as goal
 
 pub returns-clause-bytes : goal.returns-clause-bytes
 returns-clause-bytes g c start before =

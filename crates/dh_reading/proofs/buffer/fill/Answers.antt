@@ -1,6 +1,6 @@
 use Rattle.std.proofs.Common.{◌∙◌, arith}
-use Rattle.dh_requests.proofs.Taking.{takes_both}
-use Rattle.dh_requests.proofs.buffer.fill.Goals as goal
+use Rattle.dh_reading.proofs.Taking.{takes_both}
+use Rattle.dh_reading.proofs.buffer.fill.Goals as goal
 
 pub loop-filled-preserved : goal.loop-filled-preserved
 loop-filled-preserved g c = record {

@@ -1,12 +1,12 @@
-//! Why no request was read.
+//! Why nothing was read.
 
 ghost use Rattle.std.specs.Prelude.{◌≡◌};
-ghost use Rattle.dh_requests.specs.declared.unread.Unread.TheVariants as unread;
+ghost use Rattle.dh_reading.specs.declared.unread.Unread.TheVariants as unread;
 
-use dh_reading::ReaderFailed;
+use crate::again::ReaderFailed;
 use std::alloc::AllocError;
 
-/// Why no request was read.
+/// Why nothing was read.
 #[derive(Clone, Copy, Debug)]
 pub enum Unread {
     /// The reader failed. Only a read that failed makes what this holds.

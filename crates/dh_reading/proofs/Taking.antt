@@ -2,7 +2,7 @@
 use Rattle.std.proofs.Common.{ℕ, ◌+◌, ◌≤◌, List, [], ◌++◌, Option, take, arith, length-append, length-take}
 use Rattle.std.specs.Io.KnownBytes.{Consumes, Keeps}
 use Rattle.std.proofs.KnownBytes.{Consumes-nil, Consumes-kept, Consumes-trans}
-use Rattle.dh_requests.specs.Known.{TakesAtMost}
+use Rattle.dh_reading.specs.Known.{TakesAtMost}
 
 -- nothing was read
 pub takes_none : (most : ℕ) (a : Option (List ℕ)) → TakesAtMost most a a
