@@ -10,7 +10,7 @@ a text of tools/made_errors.txt: that names the file, the function and why, and 
 that have such a word are listed too. A word that is brought in under another name, by `*` or as a variant alone, is refused, and so is a
 `type` of it. The sizes that memory is asked for (`vec!` and the like) are listed in the same way.
 
-What the prover refuses without its reason isn't looked for, as `StoreFault::unclean`. The programs of cases and their kits may name any fault,
+What the prover refuses without its reason isn't looked for, as `StoreFault::unclean`. The cases and their kits may name any fault,
 and an error of a reader or a writer.
 No text sees a size that is too large: it stands in the list with what it is of.
 """
@@ -21,7 +21,7 @@ from pathlib import Path
 ERRORS = {'AllocError', 'Error', 'ErrorCode', 'ErrorKind'}
 FAULTS = {'Memory', 'Store', 'NoListener'}
 GROWTHS = {'vec', 'reserve', 'with_capacity', 'resize', 'try_reserve'}
-# What the programs of cases may not make either.
+# What the cases may not make either.
 OF_STORE = {'AllocError', 'ErrorCode'}
 TOKEN = re.compile(r'''//[^\n]*|b?r?"(?:\\[\s\S]|[^"\\])*"|b?'(?:\\u\{\w+\}|\\x\w\w|\\.|[^'\\])'|'\w+|\w+|::|->|=>|[^\s\w]''')
 ENDS = {'{': '}', '(': ')', '[': ']'}
@@ -158,7 +158,7 @@ def looked_for(tokens, at, is_case):
 
 def wrong_places(name, text, texts):
     """The lines of a source that have to be in the list and are not, and the listed texts that no longer stand."""
-    is_case = '_tests/' in name or '_kit/' in name
+    is_case = '_cases/' in name or '_kit/' in name
     bad, bodies = [], {}
     for kind, part, tokens in parts_of(without_clauses(tokens_of(text))):
         if kind == 'use' and wrong_in_use(tokens) and not is_case:

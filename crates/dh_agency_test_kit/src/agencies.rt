@@ -3,8 +3,7 @@
 use dh_agency::{Agency, NotOpened, create};
 use dh_fields::Request;
 use dh_runs::RunState;
-use dh_scripts::Unreadable;
-use dh_test_kit::{answer_text, january, request};
+use dh_test_kit::{Unreadable, answer_text, january, request};
 use dh_types::{Command, Fault, Question, Reply};
 use sqlite::{Alter, Connection, MemStore};
 use std::alloc::{AllocError, Global};

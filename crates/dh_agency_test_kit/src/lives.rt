@@ -19,8 +19,7 @@ use dh_ddl::texts::{
 };
 use dh_fields::Request;
 use dh_lives::crashes::{next_life, recovery_and_crash, step_and_crash};
-use dh_scripts::{Block, Tally, script};
-use dh_test_kit::request;
+use dh_test_kit::{Block, Tally, request, script};
 use dh_types::{Command, Version};
 use sqlite::{Alter, Connection};
 use sqlite_trees::store::Reopen;

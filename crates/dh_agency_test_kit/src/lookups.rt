@@ -8,8 +8,7 @@ use crate::lives::problem_text;
 use crate::sound::sound_books;
 use dh_runs::Problem;
 use dh_schema::{KeyedRecord, find};
-use dh_scripts::Unreadable;
-use dh_test_kit::{Fields, ToLine};
+use dh_test_kit::{Fields, ToLine, Unreadable};
 use dh_types::{
     Branch, BranchFee, Charge, Client, Ending, Inspection, Lease, Owner, Part, PartFee, Property,
     Receipt, Registration, Run, Staff, Viewing,

@@ -4,7 +4,7 @@ use crate::agencies::{in_memory, reply_line};
 use crate::differences::compare;
 use crate::rows::{all_rows, rows_of};
 use dh_agency::Agency;
-use dh_scripts::{Block, Tally, script};
+use dh_test_kit::{Block, Tally, script};
 use sqlite::Alter;
 use std::alloc::Global;
 use std::io;

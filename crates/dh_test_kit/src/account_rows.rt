@@ -1,8 +1,8 @@
 //! The rows of leases, of their early ends, of what is charged and paid on them, of rent runs, and of fees.
 
+use crate::Unreadable;
 use crate::fields::Fields;
 use crate::requests::command;
-use dh_scripts::Unreadable;
 use dh_types::{
     BranchFee, Charge, Command, Ending, Lease, Part, PartFee, Receipt, ReceiptNo, Rent, Run,
 };

@@ -1,8 +1,12 @@
 //! What questions are answered, as texts: the rows between ` / `.
 
 use crate::lists::{add_part, lines_of, or_none};
-use dh_types::{Answer, Arrears, Debt, OwnerStatement, Property, RunReport, Statement};
+use dh_types::{
+    Answer, Arrears, Charge, Debt, OwnerLine, OwnerStatement, Part, Property, Receipt, RunReport,
+    Statement,
+};
 use std::alloc::{AllocError, Global};
+use std::fmt::Write;
 
 /// The numbers of the properties, or `none`.
 pub fn numbers_of(alloc: Global, properties: &[Property]) -> Result<String, AllocError> {
@@ -13,70 +17,91 @@ pub fn numbers_of(alloc: Global, properties: &[Property]) -> Result<String, Allo
     or_none(alloc, text)
 }
 
-// The lease, its charges, its receipts and its balance.
-fn statement_text(alloc: Global, found: &Statement) -> Result<String, AllocError> {
+fn add_charge(text: &mut String, charge: &Charge) -> Result<(), AllocError> {
+    write!(text, " / charged {} {}", charge.day, charge.amount)
+}
+
+fn add_receipt(text: &mut String, receipt: &Receipt) -> Result<(), AllocError> {
+    let paid = &receipt.payment;
+    write!(
+        text,
+        " / paid {} {} {} {}",
+        receipt.number, paid.kind, paid.day, paid.amount
+    )
+}
+
+// Adds the lease, its charges, its receipts and its balance.
+fn add_statement(text: &mut String, found: &Statement) -> Result<(), AllocError> {
     let terms = &found.lease.terms;
-    let mut text = format!(in alloc; "{} {} {}", terms.number, terms.client, terms.property)?;
+    write!(text, "{} {} {}", terms.number, terms.client, terms.property)?;
     for charge in &found.charges {
-        let row = format!(in alloc; "charged {} {}", charge.day, charge.amount)?;
-        add_part(&mut text, row.as_str())?;
+        add_charge(text, charge)?;
     }
     for receipt in &found.receipts {
-        let paid = &receipt.payment;
-        let row = format!(in alloc;
-            "paid {} {} {} {}",
-            receipt.number, paid.kind, paid.day, paid.amount
-        )?;
-        add_part(&mut text, row.as_str())?;
+        add_receipt(text, receipt)?;
     }
-    let balance = format!(in alloc; "balance {}", found.balance)?;
-    add_part(&mut text, balance.as_str())?;
+    write!(text, " / balance {}", found.balance)
+}
+
+fn statement_text(alloc: Global, found: &Statement) -> Result<String, AllocError> {
+    let mut text = String::new(alloc);
+    add_statement(&mut text, found)?;
     Ok(text)
 }
 
-fn debt_text(alloc: Global, debt: &Debt) -> Result<String, AllocError> {
+fn add_debt(text: &mut String, debt: &Debt) -> Result<(), AllocError> {
     let name = debt.name.as_ref().map_or("nobody", |name| name.as_str());
-    format!(in alloc; "{} {} {} {}", debt.lease, debt.client, debt.balance, name)
+    write!(
+        text,
+        "{} {} {} {} / ",
+        debt.lease, debt.client, debt.balance, name
+    )
 }
 
 // The leases on which rent is owed, and the sum.
 fn arrears_text(alloc: Global, found: &Arrears) -> Result<String, AllocError> {
     let mut text = String::new(alloc);
     for debt in &found.debts {
-        add_part(&mut text, debt_text(alloc, debt)?.as_str())?;
+        add_debt(&mut text, debt)?;
     }
-    let total = format!(in alloc; "total {}", found.total)?;
-    add_part(&mut text, total.as_str())?;
+    write!(text, "total {}", found.total)?;
     Ok(text)
+}
+
+fn add_part_sum(text: &mut String, part: &Part) -> Result<(), AllocError> {
+    write!(text, "{} {} {} / ", part.branch, part.count, part.total)
 }
 
 // The branches' parts, and the sum.
 fn run_text(alloc: Global, found: &RunReport) -> Result<String, AllocError> {
     let mut text = String::new(alloc);
     for part in &found.parts {
-        let row = format!(in alloc; "{} {} {}", part.branch, part.count, part.total)?;
-        add_part(&mut text, row.as_str())?;
+        add_part_sum(&mut text, part)?;
     }
     let sum = &found.sum;
-    let row = format!(in alloc; "{} {} {}", sum.month, sum.count, sum.total)?;
-    add_part(&mut text, row.as_str())?;
+    write!(text, "{} {} {}", sum.month, sum.count, sum.total)?;
     Ok(text)
+}
+
+fn add_owned(text: &mut String, line: &OwnerLine) -> Result<(), AllocError> {
+    write!(
+        text,
+        "{} {} {} {} / ",
+        line.lease, line.property, line.amount, line.fee
+    )
 }
 
 // What was charged on the owner's properties, with what the branches take of it, both sums, and what is left.
 fn owner_text(alloc: Global, found: &OwnerStatement) -> Result<String, AllocError> {
     let mut text = String::new(alloc);
     for line in &found.lines {
-        let row = format!(in alloc;
-            "{} {} {} {}",
-            line.lease, line.property, line.amount, line.fee
-        )?;
-        add_part(&mut text, row.as_str())?;
+        add_owned(&mut text, line)?;
     }
-    let sums = format!(in alloc; "total {} {}", found.total, found.fees)?;
-    add_part(&mut text, sums.as_str())?;
-    let payable = format!(in alloc; "payable {}", found.payable)?;
-    add_part(&mut text, payable.as_str())?;
+    write!(
+        text,
+        "total {} {} / payable {}",
+        found.total, found.fees, found.payable
+    )?;
     Ok(text)
 }
 

@@ -1,6 +1,6 @@
 //! The fields of a line that is no request.
 
-use dh_scripts::Unreadable;
+use crate::Unreadable;
 use dh_types::{
     ChargeIndex, Day, EntryDay, EntryMonth, Fee, Id, Key, LeaseMonths, LeaseNo, Month, Pence,
     ReceiptNo, Rent,

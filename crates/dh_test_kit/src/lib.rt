@@ -1,4 +1,8 @@
-//! The words of a line of cases as commands, questions and rows, and rows and answers as words again.
+//! Scripts of cases, and what their words are.
+//!
+//! A script is what an office tells its agency, line by line, and what it is answered: a line is words, an arrow ` -> `, and the reply to a
+//! command or the answer to a question. [`script`] reads a text as blocks of lines under headings, and a [`Tally`] counts how many cases were
+//! played and how many of them differ. Read [`Block`] first.
 //!
 //! The words are fields between commas, as `rent,P101,650.00` or `show,branches`, which [`request`] reads as an agency does; [`row_of`]
 //! reads those of a row of the books, which [`ToLine::to_line`] writes again; [`answer_text`] is the answer to a question, which is asked
@@ -14,6 +18,9 @@ mod lists;
 mod requests;
 mod row_lines;
 mod rows;
+mod scripts;
+mod tally;
+mod unreadable;
 
 pub use answers::{answer_text, numbers_of};
 pub use copies::copy_of;
@@ -23,3 +30,6 @@ pub use lists::{add_part, all_lines, lines_of, or_none};
 pub use requests::{command, command_if_any, request, request_if_any};
 pub use row_lines::ToLine;
 pub use rows::{Row, row_of};
+pub use scripts::{Block, Manner, kinds, script};
+pub use tally::Tally;
+pub use unreadable::{Answer, Unreadable};

@@ -1,7 +1,7 @@
 //! Lines that an agency is given, read as it reads them.
 
+use crate::Unreadable;
 use dh_fields::{Request, read_fields};
-use dh_scripts::Unreadable;
 use dh_types::{Command, Refusal};
 use std::alloc::{AllocError, Global};
 

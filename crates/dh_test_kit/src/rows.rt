@@ -1,9 +1,9 @@
 //! The rows of the books.
 
+use crate::Unreadable;
 use crate::account_rows::{branch_fee, charge, ending, lease, part, part_fee, receipt, run};
 use crate::fields::Fields;
 use crate::requests::command;
-use dh_scripts::Unreadable;
 use dh_types::{
     Branch, BranchFee, Charge, Client, Command, Ending, Inspection, Lease, Month, Owner, Part,
     PartFee, Property, Receipt, Registration, Run, Staff, Viewing,

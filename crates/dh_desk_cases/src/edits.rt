@@ -1,0 +1,117 @@
+//! Files that another program edited. The first line is the input that makes the file. A line behind it is `STATEMENT -> STATUS TEXT`, as a recovery
+//! ends once the statement ran; with `100 TIMES` before it the statement runs a hundred times, with `{n}` for 00 to 99. Of a file of the first
+//! version it is so that a migration ends.
+
+use crate::lives::{edited, tables};
+use crate::runs::{PATH, clear, ran};
+use dh_agency_test_kit::{SECOND_TO_FIRST, compare, parted};
+use dh_test_kit::Tally;
+use std::alloc::{AllocError, Global};
+use std::{fs, io};
+
+// What makes a file one of the first version.
+fn to_first(alloc: Global) -> Result<String, AllocError> {
+    let mut statements = String::new(alloc);
+    for text in &SECOND_TO_FIRST {
+        statements.push_str(text)?;
+        statements.push_str("; ")?;
+    }
+    statements.push_str("UPDATE meta SET version = 1")?;
+    Ok(statements)
+}
+
+// The statements of a line.
+fn statements_of(alloc: Global, text: &str) -> Result<String, AllocError> {
+    let Some(statement) = text.strip_prefix("100 TIMES ") else {
+        return text.to_string(alloc);
+    };
+    let mut statements = String::new(alloc);
+    for number in 0..100u8 {
+        let digits = format!(in alloc; "{}{}", number / 10, number % 10)?;
+        statements.push_str(statement.replace(alloc, "{n}", digits.as_str())?.as_str())?;
+        statements.push_str(";")?;
+    }
+    Ok(statements)
+}
+
+// A file as it was closed, its tables, and the words of the run that is tried on it.
+#[derive(Drop)]
+struct Closed {
+    words: &'static str,
+    bytes: Vec<u8>,
+    tables: String,
+}
+
+// Makes a file by the input, and edits it.
+fn made(
+    rt: &HostRuntime,
+    words: &'static str,
+    input: &str,
+    statements: &str,
+) -> io::Result<Closed> {
+    clear(rt);
+    let _ = ran(rt, "init --file F --first 2025-01", "")?;
+    let _ = ran(rt, "batch --file F", input)?;
+    let _ = edited(rt, statements);
+    Ok(Closed {
+        words,
+        bytes: fs::read(rt, PATH)?,
+        tables: tables(rt)?,
+    })
+}
+
+// What became of the file that was edited to these bytes.
+fn left(rt: &HostRuntime, closed: &Closed, edited: &[u8]) -> io::Result<&'static str> {
+    if fs::read(rt, PATH)?.as_slice() == edited {
+        return Ok("as it was edited");
+    }
+    if tables(rt)?.as_str() == closed.tables.as_str() {
+        return Ok("as before the edit");
+    }
+    Ok("another")
+}
+
+// Edits the file and makes the run: a file that is refused stays, and one that is recovered has the tables of before.
+fn play_edit(rt: &HostRuntime, tally: &mut Tally, closed: &Closed, line: &str) -> io::Result<()> {
+    let (text, want) = parted(line);
+    let statements = statements_of(rt.alloc(), text)?;
+    fs::write(rt, PATH, &closed.bytes)?;
+    let done = edited(rt, statements.as_str()).unwrap_or("not done");
+    compare(rt, tally, text, done, "done")?;
+    let edited = fs::read(rt, PATH)?;
+    let got = ran(rt, closed.words, "")?;
+    compare(rt, tally, line, got.as_str(), want)?;
+    let stays = if want.starts_with("5") {
+        "as it was edited"
+    } else {
+        "as before the edit"
+    };
+    compare(rt, tally, text, left(rt, closed, &edited)?, stays)
+}
+
+fn play_over(
+    rt: &HostRuntime,
+    tally: &mut Tally,
+    words: &'static str,
+    statements: &str,
+    lines: &str,
+) -> io::Result<()> {
+    let (input, edits) = lines.split_once('\n').unwrap_or((lines, ""));
+    let closed = made(rt, words, input, statements)?;
+    for line in edits.lines() {
+        play_edit(rt, tally, &closed, line)?;
+    }
+    clear(rt);
+    Ok(())
+}
+
+/// Plays each line on a file of its own, which is recovered.
+pub fn play(rt: &HostRuntime, tally: &mut Tally, lines: &str) -> io::Result<()> {
+    play_over(rt, tally, "recover --file F", "", lines)
+}
+
+/// Plays each line on a file of the first version of its own, which is migrated.
+pub fn play_first(rt: &HostRuntime, tally: &mut Tally, lines: &str) -> io::Result<()> {
+    let statements = to_first(rt.alloc())?;
+    play_over(rt, tally, "migrate --file F", statements.as_str(), lines)
+}

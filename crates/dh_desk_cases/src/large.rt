@@ -1,0 +1,140 @@
+//! Large offices. The lines of a block say what the program is told and what it has to print, and run it:
+//! - `tell LINE` is a line of the input, and `want LINE` one of the output. Behind `each A B` a line stands there once for each number from
+//!   A to B: `{n}` in it is the number, `{tens}` the number without its last digit, `{unit}` that digit, and `{i}` counts the lines from 1.
+//! - `letting WORDS -> STATUS` is a run. What was told since the run before is its input, and what is wanted since then its whole output.
+//! - `edit -> done` runs what was told as statements on the file, as another program would.
+//! - `note` says how a sum was reckoned.
+
+use crate::lives::edited;
+use crate::runs::{clear, ended};
+use dh_agency_test_kit::{compare, parted};
+use dh_test_kit::Tally;
+use std::alloc::{AllocError, Global};
+use std::{io, str};
+
+// What the program is told in its next run, and what it has to print then.
+#[derive(Drop)]
+struct Telling {
+    input: String,
+    want: String,
+}
+
+fn nothing(rt: &HostRuntime) -> Telling {
+    Telling {
+        input: String::new(rt.alloc()),
+        want: String::new(rt.alloc()),
+    }
+}
+
+// The line of this number, which is the i-th.
+fn numbered(alloc: Global, pattern: &str, number: u32, i: u32) -> Result<String, AllocError> {
+    let whole = format!(in alloc; "{number}")?;
+    let place = format!(in alloc; "{i}")?;
+    let tens = format!(in alloc; "{}", number / 10)?;
+    let unit = format!(in alloc; "{}", number % 10)?;
+    pattern
+        .replace(alloc, "{n}", whole.as_str())?
+        .as_str()
+        .replace(alloc, "{i}", place.as_str())?
+        .as_str()
+        .replace(alloc, "{tens}", tens.as_str())?
+        .as_str()
+        .replace(alloc, "{unit}", unit.as_str())
+}
+
+// The first and the last number behind `each`, and the pattern, where the line begins so.
+fn each_of(line: &str) -> Option<(u32, u32, &str)> {
+    let rest = line.strip_prefix("each ")?;
+    let (first, rest) = rest.split_once(' ')?;
+    let (last, pattern) = rest.split_once(' ')?;
+    Some((first.parse().ok()?, last.parse().ok()?, pattern))
+}
+
+// Adds the line, or that of each number.
+fn put(alloc: Global, text: &mut String, line: &str) -> Result<(), AllocError> {
+    let Some((first, last, pattern)) = each_of(line) else {
+        text.push_str(line)?;
+        return text.push_str("\n");
+    };
+    let mut i: u32 = 0;
+    for number in first..=last {
+        i = i.saturating_add(1);
+        text.push_str(numbered(alloc, pattern, number, i)?.as_str())?;
+        text.push_str("\n")?;
+    }
+    Ok(())
+}
+
+// The number of the first line that is another than the wanted one, and that line.
+fn first_other<'a>(got: &'a str, want: &str) -> (usize, &'a str) {
+    let mut wanted = want.lines();
+    let mut number: usize = 0;
+    for line in got.lines() {
+        number = number.saturating_add(1);
+        if !wanted.next().is_some_and(|it| it == line) {
+            return (number, line);
+        }
+    }
+    (number.saturating_add(1), "not there")
+}
+
+// The status of the run of these words, and where it prints another line than is wanted.
+fn ran(rt: &HostRuntime, words: &str, telling: &Telling) -> Result<String, AllocError> {
+    let mut reader = telling.input.as_bytes();
+    let mut out = Vec::new(rt.alloc());
+    let code = ended(rt, words, &mut reader, &mut out)?.code();
+    let got = str::from_utf8(&out).unwrap_or("no text");
+    let want = telling.want.as_str();
+    if got == want {
+        return format!(in rt.alloc(); "{code}");
+    }
+    let (number, line) = first_other(got, want);
+    format!(in rt.alloc(); "{code}, but line {number} is: {line}")
+}
+
+// What the run or the edit comes to.
+fn outcome(
+    rt: &HostRuntime,
+    telling: &Telling,
+    kind: &str,
+    words: &str,
+) -> Result<String, AllocError> {
+    match kind {
+        "letting" => ran(rt, words, telling),
+        "edit" => edited(rt, telling.input.as_str())
+            .unwrap_or("not done")
+            .to_string(rt.alloc()),
+        _ => "no kind".to_string(rt.alloc()),
+    }
+}
+
+fn play_line(
+    rt: &HostRuntime,
+    tally: &mut Tally,
+    telling: &mut Telling,
+    line: &str,
+) -> io::Result<()> {
+    let (kind, rest) = line.split_once(' ').unwrap_or((line, ""));
+    match kind {
+        "note" => return Ok(()),
+        "tell" => return Ok(put(rt.alloc(), &mut telling.input, rest)?),
+        "want" => return Ok(put(rt.alloc(), &mut telling.want, rest)?),
+        _ => {}
+    }
+    let (told, want) = parted(line);
+    let (_, words) = told.split_once(' ').unwrap_or((told, ""));
+    let got = outcome(rt, telling, kind, words)?;
+    *telling = nothing(rt);
+    compare(rt, tally, line, got.as_str(), want)
+}
+
+/// Plays the lines, one after the other, on a path where nothing is.
+pub fn play(rt: &HostRuntime, tally: &mut Tally, lines: &str) -> io::Result<()> {
+    clear(rt);
+    let mut telling = nothing(rt);
+    for line in lines.lines() {
+        play_line(rt, tally, &mut telling, line)?;
+    }
+    clear(rt);
+    Ok(())
+}
