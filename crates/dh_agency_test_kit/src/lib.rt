@@ -1,5 +1,5 @@
 //! Agencies that are told the lines of scripts, and the calls of the layers below them; their rows and books as text, and what differs
-//! of their answers: what the programs of cases over stores share. Read `told` first.
+//! of their answers: what the cases over stores share. Read `told` first.
 #![tactic(auto)]
 
 mod agencies;
