@@ -2,9 +2,9 @@
 
 use crate::disk_work::{Told, Work, found, text_on, told_on};
 use crate::disks::tables_after;
-use crate::trial_disks::{BOTH, Full, TrialDisk, name_of};
+use crate::trial_disks::{BOTH, Failure, Full, TrialDisk};
 use dh_agency_test_kit::compare;
-use dh_lives::{Measures, Stopping, Which, no_files};
+use dh_lives::{Stopping, Which, no_files};
 use dh_test_kit::Tally;
 use sqlite::Files;
 use sqlite_disk::Crash;
@@ -33,16 +33,10 @@ fn taken_up<D: TrialDisk>(
 fn play_making<D: TrialDisk>(
     rt: &HostRuntime,
     tally: &mut Tally,
-    which: Which,
-    measure: u64,
+    failure: Failure<'_>,
     tables: &str,
 ) -> io::Result<bool> {
-    let case = format!(in rt.alloc();
-        "an agency made: the {} {} {measure}",
-        name_of(which),
-        D::words()
-    )?;
-    let files = no_files::<D>(rt.alloc(), Measures::of(which, measure))?;
+    let files = no_files::<D>(rt.alloc(), failure.measures())?;
     let (told, left) = told_on(rt.alloc(), files, &[]);
     let is_told = matches!(told, Told::Acknowledged(1));
     let (is_recovered, is_made, end) = taken_up(rt.alloc(), left, tables)?;
@@ -53,8 +47,8 @@ fn play_making<D: TrialDisk>(
         (false, true) => "made again",
         (false, false) => "neither",
     };
-    compare(rt, tally, case.as_str(), got, "one of them")?;
-    compare(rt, tally, case.as_str(), end.as_str(), tables)?;
+    failure.compare::<D>(rt, tally, got, "one of them")?;
+    failure.compare::<D>(rt, tally, end.as_str(), tables)?;
     Ok(!is_told)
 }
 
@@ -68,7 +62,12 @@ fn play_makings<D: TrialDisk>(
     tables: &str,
 ) -> io::Result<()> {
     for measure in 0..MOST {
-        if !play_making::<D>(rt, tally, which, measure, tables)? {
+        let failure = Failure {
+            done: "an agency made",
+            which,
+            measure,
+        };
+        if !play_making::<D>(rt, tally, failure, tables)? {
             return Ok(());
         }
     }

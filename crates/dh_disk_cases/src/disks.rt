@@ -3,7 +3,7 @@
 use crate::disk_work::{
     Finding, Told, Work, acknowledged, found, found_in_turn, is_failure, text_on, told_on,
 };
-use crate::trial_disks::{Full, TrialDisk, name_of};
+use crate::trial_disks::{Failure, Full, TrialDisk};
 use dh_agency_test_kit::{
     all_rows, compare, compare_tables, in_memory, parted, reply_line, table_of,
 };
@@ -113,13 +113,12 @@ fn tried_again<D: TrialDisk>(
 fn play_second_failure<D: TrialDisk>(
     rt: &HostRuntime,
     tally: &mut Tally,
-    measures: Measures,
-    case: &str,
+    failure: Failure<'_>,
     promise: Promise<'_>,
     left: &mut Files<D>,
     last: &mut Option<Finding>,
 ) -> io::Result<bool> {
-    let (answer, again) = tried_again(rt.alloc(), left, measures)?;
+    let (answer, again) = tried_again(rt.alloc(), left, failure.measures())?;
     let tables = found_in_turn(rt.alloc(), again, Work::Recover, last)?;
     let answer = answer?;
     let is_ended = is_kept(promise, answer.as_str());
@@ -128,13 +127,13 @@ fn play_second_failure<D: TrialDisk>(
     } else {
         answer.as_str()
     };
-    compare(rt, tally, case, got, "as wanted")?;
+    failure.compare::<D>(rt, tally, got, "as wanted")?;
     let got = if is_kept(promise, tables.as_str()) {
         "kept"
     } else {
         tables.as_str()
     };
-    compare(rt, tally, case, got, "kept")?;
+    failure.compare::<D>(rt, tally, got, "kept")?;
     Ok(is_ended)
 }
 
@@ -149,13 +148,12 @@ fn play_second_failures<D: TrialDisk>(
 ) -> io::Result<()> {
     for turn in 0..MOST {
         let measure = turn.saturating_mul(STRIDE).saturating_add(first % STRIDE);
-        let case = format!(in rt.alloc();
-            "a recovery whose {} {} {measure}",
-            name_of(which),
-            D::words()
-        )?;
-        let measures = Measures::of(which, measure);
-        if play_second_failure(rt, tally, measures, case.as_str(), promise, left, last)? {
+        let failure = Failure {
+            done: "a recovery",
+            which,
+            measure,
+        };
+        if play_second_failure(rt, tally, failure, promise, left, last)? {
             return Ok(());
         }
     }
@@ -176,7 +174,12 @@ fn play_failure<D: TrialDisk>(
     trial: Trial<'_>,
     last: &mut Option<Finding>,
 ) -> io::Result<bool> {
-    let files = no_files::<D>(rt.alloc(), Measures::of(which, measure))?;
+    let failure = Failure {
+        done: "the lines",
+        which,
+        measure,
+    };
+    let files = no_files::<D>(rt.alloc(), failure.measures())?;
     let (told, mut left) = told_on(rt.alloc(), files, trial.lines);
     let promise = Promise {
         told,
@@ -186,13 +189,12 @@ fn play_failure<D: TrialDisk>(
         play_second_failures(rt, tally, which, measure, promise, &mut left, last)?;
     }
     let tables = found_in_turn(rt.alloc(), left, trial.work, last)?;
-    let case = format!(in rt.alloc(); "the {} {} {measure}", name_of(which), D::words())?;
     let got = if is_kept(promise, tables.as_str()) {
         "kept"
     } else {
         tables.as_str()
     };
-    compare(rt, tally, case.as_str(), got, "kept")?;
+    failure.compare::<D>(rt, tally, got, "kept")?;
     Ok(!is_whole(told, trial.lines))
 }
 

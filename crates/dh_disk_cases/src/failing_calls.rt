@@ -3,7 +3,7 @@
 
 use crate::disk_work::{Finding, Work, found, found_in_turn, is_failure, text_on};
 use crate::disks::add_told;
-use crate::trial_disks::{Full, TrialDisk, name_of};
+use crate::trial_disks::{Failure, Full, TrialDisk};
 use dh_agency_test_kit::{compare, compare_tables, parted, table_of};
 use dh_lives::{Measures, Stopping, Which, copy_of, no_files};
 use dh_test_kit::{Block, Tally, script};
@@ -79,7 +79,12 @@ fn play_failure<D: TrialDisk>(
     trial: Trial<'_>,
     last: &mut Option<Finding>,
 ) -> io::Result<bool> {
-    let files = copy_of(rt.alloc(), begun, Measures::of(which, measure))?;
+    let failure = Failure {
+        done: trial.line,
+        which,
+        measure,
+    };
+    let files = copy_of(rt.alloc(), begun, failure.measures())?;
     let (answer, mut left) = text_on(rt.alloc(), files, Work::Line(trial.line));
     let has_failed = has_failed(&mut left, which);
     let tables = found_in_turn(rt.alloc(), left, trial.work, last)?;
@@ -89,15 +94,9 @@ fn play_failure<D: TrialDisk>(
     } else {
         answer.as_str()
     };
-    let case = format!(in rt.alloc();
-        "{}: the {} {} {measure}",
-        trial.line,
-        name_of(which),
-        D::words()
-    )?;
-    compare(rt, tally, case.as_str(), got, trial.want)?;
+    failure.compare::<D>(rt, tally, got, trial.want)?;
     let got = tables_kept(trial, answer.as_str(), tables.as_str());
-    compare(rt, tally, case.as_str(), got, "kept")?;
+    failure.compare::<D>(rt, tally, got, "kept")?;
     Ok(has_failed)
 }
 

@@ -1,7 +1,8 @@
 //! Disks in memory that do their work up to a measure, and fail past it.
 
 use crate::bounded::Bounded;
-use dh_lives::{MeasuredDisk, Stopping, Which, memory};
+use dh_lives::{MeasuredDisk, Measures, Stopping, Which, memory};
+use dh_test_kit::Tally;
 use sqlite::{Error, ErrorCode};
 use sqlite_disk::{Disk, Memory};
 use std::alloc::Global;
@@ -72,5 +73,38 @@ pub fn name_of(which: Which) -> &'static str {
     match which {
         Which::Journal => "log",
         Which::Database => "file",
+    }
+}
+
+/// What is done on disks of which one fails past a measure.
+#[derive(Clone, Copy)]
+pub struct Failure<'a> {
+    pub done: &'a str,
+    pub which: Which,
+    pub measure: u64,
+}
+
+impl Failure<'_> {
+    /// The measures of both disks.
+    pub fn measures(self) -> Measures {
+        Measures::of(self.which, self.measure)
+    }
+
+    /// Counts a case of it on such disks, and prints it with its answer where that is not the one wanted.
+    pub fn compare<D: TrialDisk>(
+        self,
+        rt: &HostRuntime,
+        tally: &mut Tally,
+        got: &str,
+        want: &str,
+    ) -> io::Result<()> {
+        if tally.compare(got, want) {
+            return Ok(());
+        }
+        let (file, words) = (name_of(self.which), D::words());
+        println!(rt;
+            "{}: the {file} {words} {} -> {got}",
+            self.done, self.measure
+        )
     }
 }

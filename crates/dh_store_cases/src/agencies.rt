@@ -12,13 +12,13 @@ use std::io::{Read, Write};
 use std::{io, str};
 
 /// How a request ended: the status of its answer, or why it has none.
-pub fn end_text(alloc: Global, end: Result<StatusCode, NetFault>) -> Result<String, AllocError> {
+pub fn end_text(end: Result<StatusCode, NetFault>) -> &'static str {
     match end {
-        Ok(status) => status.as_str().to_string(alloc),
-        Err(NetFault::Closed) => "closed".to_string(alloc),
-        Err(NetFault::Input(_)) => "input failed".to_string(alloc),
-        Err(NetFault::Output(_)) => "output failed".to_string(alloc),
-        Err(NetFault::Memory { acted: _ }) => "no memory".to_string(alloc),
+        Ok(status) => status.as_str(),
+        Err(NetFault::Closed) => "closed",
+        Err(NetFault::Input(_)) => "input failed",
+        Err(NetFault::Output(_)) => "output failed",
+        Err(NetFault::Memory { acted: _ }) => "no memory",
     }
 }
 
@@ -69,16 +69,15 @@ pub struct Outcome<'a> {
 }
 
 impl Outcome<'_> {
-    pub fn text(&self, alloc: Global) -> Result<String, AllocError> {
-        let written = str::from_utf8(self.written).unwrap_or("no text");
-        format!(in alloc; "{}\n{written}\n{}", self.end, self.replies)
+    pub fn is_same(&self, other: &Outcome) -> bool {
+        self.end == other.end && self.written == other.written && self.replies == other.replies
     }
 }
 
 /// How a request ended, and what is replied to records afterwards.
 #[derive(Drop)]
 pub struct Served {
-    end: String,
+    end: &'static str,
     replies: String,
 }
 
@@ -86,7 +85,7 @@ impl Served {
     /// With what was written.
     pub fn outcome<'a>(&'a self, written: &'a [u8]) -> Outcome<'a> {
         Outcome {
-            end: self.end.as_str(),
+            end: self.end,
             written,
             replies: self.replies.as_str(),
         }
@@ -138,7 +137,7 @@ pub fn serve<R: Read, W: Write>(
     let replies = replies(alloc, &mut agency, wanted_replies);
     drop(agency.into_store());
     Ok(Served {
-        end: end_text(alloc, end)?,
+        end: end_text(end),
         replies: replies?,
     })
 }

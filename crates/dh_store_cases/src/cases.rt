@@ -1,16 +1,15 @@
-//! Cases of requests, and how what came of one is compared.
+//! Cases of requests, and how what came of one is compared. It becomes a text only where it differs.
 
 use crate::agencies::Outcome;
 use crate::blocks::Block;
-use dh_agency_test_kit::compare;
 use dh_test_kit::Tally;
 use std::{io, str};
 
-/// A request with the answer that is wanted, the block that it stands in, and the tables before it.
+/// A request with the answer that is wanted, the block and the word that it is made of, and the tables before it.
 #[derive(Drop)]
 pub struct Case<'a> {
-    pub name: String,
     pub block: &'a Block,
+    pub word: &'a str,
     pub before: &'a str,
     pub request: Vec<u8>,
     pub answer: Vec<u8>,
@@ -26,19 +25,46 @@ pub fn end_of(answer: &[u8]) -> &str {
     }
 }
 
+/// In which way a case is played, and behind how many bytes a call fails or is interrupted.
+#[derive(Clone, Copy)]
+pub struct Way {
+    pub words: &'static str,
+    pub bytes: usize,
+}
+
+impl Way {
+    /// A way in which no call fails.
+    pub fn of(words: &'static str) -> Way {
+        Way { words, bytes: 0 }
+    }
+}
+
+// Prints the case with what is said of it.
+fn tell(rt: &HostRuntime, case: &Case, way: Way, said: &str) -> io::Result<()> {
+    let (name, word) = (case.block.name.as_str(), case.word);
+    println!(rt;
+        "{name} {word}, {} behind {} bytes: {said}",
+        way.words, way.bytes
+    )
+}
+
 /// Compares what came of the case, played in this way.
 pub fn judge(
     rt: &HostRuntime,
     tally: &mut Tally,
     case: &Case,
-    way: &str,
+    way: Way,
     got: &Outcome,
     want: &Outcome,
 ) -> io::Result<()> {
-    let alloc = rt.alloc();
-    let name = format!(in alloc; "{}, {way}", case.name.as_str())?;
-    let (got, want) = (got.text(alloc)?, want.text(alloc)?);
-    compare(rt, tally, name.as_str(), got.as_str(), want.as_str())
+    let is_as_wanted = got.is_same(want);
+    tally.add(is_as_wanted);
+    if is_as_wanted {
+        return Ok(());
+    }
+    tell(rt, case, way, got.end)?;
+    let written = str::from_utf8(got.written).unwrap_or("no text");
+    println!(rt; "{written}\n{}", got.replies)
 }
 
 /// Compares the tables behind the case, played in this way.
@@ -46,10 +72,12 @@ pub fn judge_tables(
     rt: &HostRuntime,
     tally: &mut Tally,
     case: &Case,
-    way: &str,
+    way: Way,
     got: &str,
     want: &str,
 ) -> io::Result<()> {
-    let name = format!(in rt.alloc(); "{}, {way}, the tables", case.name.as_str())?;
-    compare(rt, tally, name.as_str(), got, want)
+    if tally.compare(got, want) {
+        return Ok(());
+    }
+    tell(rt, case, way, got)
 }

@@ -13,10 +13,11 @@ use dh_model::Verdict;
 use dh_rules::{answer, decide};
 use dh_runs::{Problem, plan_run};
 use dh_store::{ask, look_up};
-use dh_test_kit::{add_part, answer_text, request};
+use dh_test_kit::{answer_text, request};
 use dh_types::{Command, Question};
 use sqlite::{Alter, Connection};
 use std::alloc::{AllocError, Global};
+use std::fmt::Write;
 
 fn verdict_text(alloc: Global, verdict: &Verdict) -> Result<String, AllocError> {
     match verdict {
@@ -95,11 +96,12 @@ fn judge_text<S: Alter>(
     either_text(alloc, judged(alloc, conn, &request))
 }
 
-fn batch_of_plan(alloc: Global, batch: &BatchRows) -> Result<String, AllocError> {
+fn add_batch(text: &mut String, batch: &BatchRows) -> Result<(), AllocError> {
     let part = &batch.part;
     let charges = batch.charges.len();
-    format!(in alloc;
-        "{} {charges} of {} {}",
+    write!(
+        text,
+        " / {} {charges} of {} {}",
         part.branch, part.count, part.total
     )
 }
@@ -111,7 +113,7 @@ fn plan_text(alloc: Global, plan: Option<Plan>) -> Result<String, AllocError> {
     };
     let mut text = format!(in alloc; "{} behind {}", plan.month, plan.done)?;
     for batch in &plan.batches {
-        add_part(&mut text, batch_of_plan(alloc, batch)?.as_str())?;
+        add_batch(&mut text, batch)?;
     }
     Ok(text)
 }

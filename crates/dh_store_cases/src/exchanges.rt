@@ -1,7 +1,7 @@
 //! Requests played: read whole and byte by byte, with failures and interrupted calls, and over a listener.
 
 use crate::agencies::{Outcome, agency_behind, serve, tables_of};
-use crate::cases::{Case, end_of, judge, judge_tables};
+use crate::cases::{Case, Way, end_of, judge, judge_tables};
 use crate::failing_ends::{play_reads, play_writes};
 use crate::interrupted_ends::play_interrupted;
 use dh_http::serve_one;
@@ -30,13 +30,14 @@ fn play_read<R: Read>(
     rt: &HostRuntime,
     tally: &mut Tally,
     case: &Case,
-    way: &str,
+    words: &'static str,
     reader: &mut R,
 ) -> io::Result<()> {
     let want = answered(case);
     let mut written = Vec::new(rt.alloc());
     let served = serve(rt.alloc(), case.block, want.replies, reader, &mut written)?;
-    judge(rt, tally, case, way, &served.outcome(&written), &want)
+    let got = served.outcome(&written);
+    judge(rt, tally, case, Way::of(words), &got, &want)
 }
 
 // Reads a byte at a time, and gives how many reads that took.
@@ -63,7 +64,8 @@ fn play_tables(rt: &HostRuntime, tally: &mut Tally, case: &Case) -> io::Result<S
     let _ = serve_one(rt.alloc(), &mut agency, &mut reader, &mut written);
     let tables = tables_of(rt.alloc(), agency)?;
     if !is_done(case) {
-        judge_tables(rt, tally, case, "whole", tables.as_str(), case.before)?;
+        let way = Way::of("the tables, whole");
+        judge_tables(rt, tally, case, way, tables.as_str(), case.before)?;
     }
     Ok(tables)
 }
@@ -86,7 +88,7 @@ fn play_sent(rt: &HostRuntime, tally: &mut Tally, case: &Case) -> io::Result<()>
     let mut answer = Vec::new(rt.alloc());
     client.read_to_end(&mut answer)?;
     let got = served.outcome(&answer);
-    judge(rt, tally, case, "over a listener", &got, &want)
+    judge(rt, tally, case, Way::of("over a listener"), &got, &want)
 }
 
 /// Plays the case whole, a byte at a time, with each read and each write failing and interrupted in turn, and over a listener where its

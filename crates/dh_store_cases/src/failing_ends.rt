@@ -1,7 +1,7 @@
 //! Requests whose reader or writer fails, at each call in turn.
 
 use crate::agencies::{Outcome, agency_behind, end_text, tables_of};
-use crate::cases::{Case, end_of, judge, judge_tables};
+use crate::cases::{Case, Way, end_of, judge, judge_tables};
 use dh_agency::Agency;
 use dh_http::serve_one;
 use dh_lines::ends::{FailingReader, FailingWriter};
@@ -26,12 +26,10 @@ fn play_read<S: Alter, R: Read>(
     bytes: usize,
     reader: &mut R,
 ) -> io::Result<()> {
-    let alloc = rt.alloc();
-    let way = format!(in alloc; "failing behind {bytes} bytes")?;
-    let mut written = Vec::new(alloc);
-    let end = end_text(alloc, serve_one(alloc, agency, reader, &mut written))?;
+    let mut written = Vec::new(rt.alloc());
+    let end = end_text(serve_one(rt.alloc(), agency, reader, &mut written));
     let got = Outcome {
-        end: end.as_str(),
+        end,
         written: &written,
         replies: "",
     };
@@ -40,7 +38,11 @@ fn play_read<S: Alter, R: Read>(
         written: b"",
         replies: "",
     };
-    judge(rt, tally, case, way.as_str(), &got, &want)
+    let way = Way {
+        words: "failing",
+        bytes,
+    };
+    judge(rt, tally, case, way, &got, &want)
 }
 
 // The read behind so many bytes fails.
@@ -94,14 +96,8 @@ pub fn play_reads(rt: &HostRuntime, tally: &mut Tally, case: &Case, count: u64) 
     let played = play_each_read(rt, tally, &mut agency, case, count);
     let tables = tables_of(rt.alloc(), agency)?;
     played?;
-    judge_tables(
-        rt,
-        tally,
-        case,
-        "failing reads",
-        tables.as_str(),
-        case.before,
-    )
+    let way = Way::of("the tables, failing reads");
+    judge_tables(rt, tally, case, way, tables.as_str(), case.before)
 }
 
 // What is wanted of a writer that takes so many bytes: it has a beginning of the answer.
@@ -128,20 +124,22 @@ fn play_write_behind<S: Alter>(
     case: &Case,
     writes: usize,
 ) -> io::Result<()> {
-    let alloc = rt.alloc();
-    let way = format!(in alloc; "failing behind {writes} bytes of the answer")?;
     let mut reader = case.request.as_slice();
     let mut writer = FailingWriter {
-        inner: Vec::new(alloc),
+        inner: Vec::new(rt.alloc()),
         writes: writes as u64,
     };
-    let end = end_text(alloc, serve_one(alloc, agency, &mut reader, &mut writer))?;
+    let end = end_text(serve_one(rt.alloc(), agency, &mut reader, &mut writer));
     let got = Outcome {
-        end: end.as_str(),
+        end,
         written: &writer.inner,
         replies: "",
     };
-    judge(rt, tally, case, way.as_str(), &got, &written(case, writes))
+    let way = Way {
+        words: "failing in the answer",
+        bytes: writes,
+    };
+    judge(rt, tally, case, way, &got, &written(case, writes))
 }
 
 // Each write fails in turn, and then none, on one agency.
@@ -163,14 +161,8 @@ fn play_idle_writes(rt: &HostRuntime, tally: &mut Tally, case: &Case) -> io::Res
     let played = play_each_write(rt, tally, &mut agency, case);
     let tables = tables_of(rt.alloc(), agency)?;
     played?;
-    judge_tables(
-        rt,
-        tally,
-        case,
-        "failing writes",
-        tables.as_str(),
-        case.before,
-    )
+    let way = Way::of("the tables, failing writes");
+    judge_tables(rt, tally, case, way, tables.as_str(), case.before)
 }
 
 // The write behind so many bytes fails: the command was carried out.
@@ -185,8 +177,11 @@ fn play_write_anew(
     let played = play_write_behind(rt, tally, &mut agency, case, writes);
     let tables = tables_of(rt.alloc(), agency)?;
     played?;
-    let way = format!(in rt.alloc(); "failing behind {writes} bytes of the answer")?;
-    judge_tables(rt, tally, case, way.as_str(), tables.as_str(), after)
+    let way = Way {
+        words: "the tables, failing in the answer",
+        bytes: writes,
+    };
+    judge_tables(rt, tally, case, way, tables.as_str(), after)
 }
 
 /// Each write fails in turn, and then none: what is written is a beginning of the answer, and the tables are those behind the whole

@@ -1,7 +1,7 @@
 //! Requests of which a signal interrupts a read and a write, each call in turn: all is as if none had been interrupted.
 
 use crate::agencies::{Outcome, agency_behind, end_text, tables_of};
-use crate::cases::{Case, end_of, judge, judge_tables};
+use crate::cases::{Case, Way, end_of, judge, judge_tables};
 use crate::failing_ends::{MOST_SLOW_READS, PIECE};
 use dh_agency::Agency;
 use dh_http::{NetFault, serve_one};
@@ -49,15 +49,13 @@ fn play_behind<S: Alter>(
     is_slow: bool,
 ) -> io::Result<()> {
     let alloc = rt.alloc();
-    let way = format!(in alloc; "interrupted behind {bytes} bytes")?;
     let mut writer = InterruptedWriter {
         inner: Vec::new(alloc),
         calls: (bytes as u64).saturating_add(1),
     };
     let served = serve_interrupted(alloc, agency, &case.request, bytes, is_slow, &mut writer);
-    let end = end_text(alloc, served)?;
     let got = Outcome {
-        end: end.as_str(),
+        end: end_text(served),
         written: &writer.inner,
         replies: "",
     };
@@ -66,7 +64,11 @@ fn play_behind<S: Alter>(
         written: &case.answer,
         replies: "",
     };
-    judge(rt, tally, case, way.as_str(), &got, &want)
+    let way = Way {
+        words: "interrupted",
+        bytes,
+    };
+    judge(rt, tally, case, way, &got, &want)
 }
 
 // Each call is interrupted in turn, on one agency.
@@ -101,7 +103,8 @@ fn play_idle(
     let played = play_each(rt, tally, &mut agency, case, count, is_slow);
     let tables = tables_of(rt.alloc(), agency)?;
     played?;
-    judge_tables(rt, tally, case, "interrupted", tables.as_str(), case.before)
+    let way = Way::of("the tables, interrupted");
+    judge_tables(rt, tally, case, way, tables.as_str(), case.before)
 }
 
 // The calls behind so many bytes are interrupted: the command was carried out.
@@ -117,8 +120,11 @@ fn play_anew(
     let played = play_behind(rt, tally, &mut agency, case, bytes, is_slow);
     let tables = tables_of(rt.alloc(), agency)?;
     played?;
-    let way = format!(in rt.alloc(); "interrupted behind {bytes} bytes")?;
-    judge_tables(rt, tally, case, way.as_str(), tables.as_str(), after)
+    let way = Way {
+        words: "the tables, interrupted",
+        bytes,
+    };
+    judge_tables(rt, tally, case, way, tables.as_str(), after)
 }
 
 // A command is carried out by a new agency each time, and the calls behind each piece are interrupted; in a long request, those behind

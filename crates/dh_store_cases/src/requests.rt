@@ -24,8 +24,8 @@ fn play_word(
     let alloc = rt.alloc();
     let bytes = bytes_of(alloc, word, b"")?;
     let case = Case {
-        name: format!(in alloc; "{} {word}", block.name.as_str())?,
         block,
+        word,
         before,
         request: bytes_of(alloc, request.as_str(), &bytes)?,
         answer: bytes_of(alloc, answer.0, b"")?,
