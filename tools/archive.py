@@ -17,6 +17,7 @@ import sys
 import tarfile
 from pathlib import Path
 
+# An older Python is refused there.
 from build import TOP, Build, crates_of, toolchain
 
 # What is handed on of a library: its sum and its folder. The sum by which `rt` takes a library for its own never is.
@@ -71,6 +72,14 @@ def wanted(archive, tar, build, libraries, taken):
             taken.add(name)
 
 
+def put(name, text):
+    """Writes the file of a library. `extractall` has a filter of entries in some releases of Python 3.8 to 3.11 and not in others."""
+    path = TOP / name
+    path.parent.mkdir(parents=True, exist_ok=True)
+    with open(path, 'wb') as file:
+        shutil.copyfileobj(text, file)
+
+
 def take(archive, kit, build, libraries):
     taken = set()
     try:
@@ -79,7 +88,8 @@ def take(archive, kit, build, libraries):
             if of != kit:
                 sys.exit(f'{archive} is of the toolchain `{of}`, and `rt` on the path is of `{kit}`' if of else f'{archive} does not name its toolchain')
             print(TRUST, flush=True)
-            tar.extractall(TOP, wanted(archive, tar, build, libraries, taken), filter='data')
+            for entry in wanted(archive, tar, build, libraries, taken):
+                put(entry.name, tar.extractfile(entry))
             # Behind the last entry stands the sum of the whole.
             while tar.fileobj.read(1 << 20):
                 pass

@@ -8,6 +8,11 @@ A crate begins once those below it stand, as many at once as there are processor
 the processors it gets. What a crate made is kept in its out/rlib, so a call that was cut goes on where it stopped.
 Each crate is told on standard error as it begins and ends, and what is under way is told each minute. It ends with 0 if the program was made.
 """
+import sys
+
+if sys.version_info < (3, 8):
+    sys.exit(f'this needs Python 3.8 or later, and `python3` on the path is {sys.version.split()[0]}')
+
 import hashlib
 import math
 import os
@@ -15,7 +20,6 @@ import re
 import shutil
 import signal
 import subprocess
-import sys
 import time
 from pathlib import Path
 
@@ -43,7 +47,7 @@ class Crate:
     def subject(self):
         """What its first line says it is for."""
         first = self.texts[self.folder / self.root].decode().splitlines()[0]
-        return first.removeprefix('//! ').partition(':')[0].partition('.')[0]
+        return re.sub('^//! ', '', first).partition(':')[0].partition('.')[0]
 
 
 def crates_of(program, folder=None):
@@ -73,7 +77,8 @@ def below(crate, crates):
     found = {}
     for name in crate.used:
         if name in crates:
-            found |= below(crates[name], crates) | {name: crates[name]}
+            found.update(below(crates[name], crates))
+            found[name] = crates[name]
     return found
 
 
