@@ -1,13 +1,16 @@
 #!/usr/bin/env bash
 # Tries `./letting --from` with a toolchain that proves nothing, and an office's set-up on clean folders: `./letting --install`,
-# office/nightly-copy, the man page and the units.
+# office/nightly-copy, office/letting-serve, office/renew, the man page and the units.
 #
 #     bench/install.sh     with the program that is built in this repository; it builds none, and tries the first alone where it is not built
 #
 # - An archive of libraries, and what is built over it; each archive that is refused, with its message.
 # - Installing, and installing over a program that is serving; each call that fails, with its status and its message.
 # - A copy of a file, of one that a `batch` holds, and of one that is written all the while; a copy that is put back.
-# - Files of which no copy is kept: damaged, edited, of the first version, empty, with a journal, never at rest.
+# - Files of which no copy is kept: damaged, edited, of the first version, empty, with a journal, never at rest, beside a pipe.
+# - A file that is busy, replaced or damaged as it is to be served; files with other tables or indexes that are renewed.
+# - The units under a systemd of their own, for root: no file, stops, kills, reports, a file that is moved or replaced, copies.
+#   It has namespaces of its own and a root that it can't write, but for folders in memory.
 # - The lint of mandoc, man, systemd-analyze and shellcheck, where they are there.
 #
 # Prints each check that came otherwise, and how many there were. Ends with 0 if none did, and with 3 where the program is not built.
@@ -42,7 +45,7 @@ call() {
 
 # The names in a folder, hidden ones too.
 listed() {
-    find "$1" -mindepth 1 -printf '%P\n' | sort | paste -sd' '
+    find "$1" -mindepth 1 -printf '%P\n' | LC_ALL=C sort | paste -sd' '
 }
 
 # A toolchain whose prover and linker prove nothing, and note for which crate they were called.
@@ -106,6 +109,16 @@ handed_on() {
     made_up_kit
     made_up_checkout
     kit=$(cat kit/KIT-ID)
+    mkdir older lacking
+    printf '#!/bin/sh\necho 3.7.16\n' >older/python3
+    printf '#!/bin/sh\nexit 127\n' >lacking/python3
+    chmod 755 older/python3 lacking/python3
+    # shellcheck disable=SC2016
+    same 'an older Python' '3 letting: the first call needs Python 3.8 or later, and `python3` on the path is 3.7.16' \
+        "$(PATH=$work/older:$PATH call proving/letting init there)"
+    # shellcheck disable=SC2016
+    same 'no Python' '3 letting: the first call needs Python 3.8 or later, and there is no `python3` on the path' \
+        "$(PATH=$work/lacking:$PATH call proving/letting init there)"
     # shellcheck disable=SC2016
     same 'nothing to hand on' '1 not built of these sources: dh_low, dh_high; `./letting init ..` builds them' \
         "$(call proving/tools/archive.py make .)"
@@ -180,7 +193,7 @@ letting: --from: the program is built" "$? $(grep -v '^[0-9]* min: ' said)"
 # A repository with no more than installing looks at. A `rt` is on the path that leaves a mark, and builds nothing.
 mkdir -p repo/crates/dh_desk/src repo/crates/dh_desk/out bin
 cp "$top/letting" "$top/crates.txt" "$top/README.md" repo
-cp -r "$top/office" repo
+cp -r "$top/office" "$top/docs" repo
 echo '//! The program.' >repo/crates/dh_desk/src/main.rt
 printf '#!/bin/sh\ntouch %s/was_called\n' "$work" >bin/rt
 chmod 755 bin/rt
@@ -188,7 +201,11 @@ PATH=$work/bin:$PATH
 # shellcheck disable=SC2016
 not_built='3 letting: --install: the program is not built of these sources; `./letting init ..` or `.ci/run` builds it'
 
+parts='REFERENCE.md USER.md letting letting.1'
+put='0 letting: put letting, letting.1, USER.md and REFERENCE.md into new'
+
 installing() {
+    local name
     mkdir new
     same 'not built' "$not_built" "$(call repo/letting --install new)"
     cp "$built" repo/crates/dh_desk/out/dh_desk
@@ -204,11 +221,13 @@ installing() {
     same 'the repository' '2 letting: --install: repo is the repository, with this script in it' \
         "$(call repo/letting --install repo)"
     same 'nothing was put anywhere' '' "$(listed new)"
-    same 'installing' '0 letting: put letting and letting.1 into new' "$(umask 077; call repo/letting --install new)"
-    same 'what is there' 'letting letting.1' "$(listed new)"
-    same 'the modes' '755 644' "$(stat -c %a new/letting new/letting.1 | paste -sd' ')"
+    same 'installing' "$put" "$(umask 077; call repo/letting --install new)"
+    same 'what is there' "$parts" "$(listed new)"
+    same 'the modes' '644 644 755 644' "$(cd new && stat -c %a $parts | paste -sd' ')"
     same 'the program' 0 "$(cmp -s "$built" new/letting; echo $?)"
-    same 'the page' 0 "$(cmp -s "$top/office/letting.1" new/letting.1; echo $?)"
+    for name in office/letting.1 docs/USER.md docs/REFERENCE.md; do
+        same "$name" 0 "$(cmp -s "$top/$name" "new/${name##*/}"; echo $?)"
+    done
     mkdir -p taken/letting
     same 'a folder in its place' '3 letting: --install: taken/letting is a folder' \
         "$(call repo/letting --install taken)"
@@ -250,9 +269,9 @@ over_a_running_one() {
     pid=$!
     until grep -q port served 2>/dev/null || ! kill -0 $pid 2>/dev/null; do sleep 0.1; done
     port=$(sed -n 's/^port //p' served)
-    same 'installing over it' '0 letting: put letting and letting.1 into new' "$(call repo/letting --install new)"
+    same 'installing over it' "$put" "$(call repo/letting --install new)"
     same 'another file is there' no "$([ "$before" = "$(stat -c %i new/letting)" ] && echo yes || echo no)"
-    same 'what is there then' 'letting letting.1' "$(listed new)"
+    same 'what is there then' "$parts" "$(listed new)"
     same 'the running one answers' 200 \
         "$(python3 -c 'import sys, urllib.request as r; print(r.urlopen(sys.argv[1], timeout=60).status)' \
             "http://127.0.0.1:$port/branches")"
@@ -325,10 +344,10 @@ while_it_is_held() {
     rm -f copies/*
 }
 
-# refused NAME WHY: no copy of this file is kept. What it says begins so.
+# refused NAME WHY [STATUS]: no copy of this file is kept. What it says begins so.
 refused() {
-    local got want="3 nightly-copy: no copy of $1: $2"
-    got=$(call new/nightly-copy "$1" copies)
+    local got want="${3-3} nightly-copy: no copy of $1: $2"
+    got=$(call timeout 60 new/nightly-copy "$1" copies)
     same "$1" "$want" "${got:0:${#want}}"
     same "$1: one line" 1 "$(wc -l <<<"$got")"
     same "$1: nothing is left" '' "$(listed copies)"
@@ -354,7 +373,7 @@ unsound() {
     mkdir odd
     printf '#!/bin/sh\n/bin/cp "$@" && echo >>busy.db\n' >odd/cp
     chmod 755 odd/cp
-    PATH=$work/odd:$PATH refused busy.db 'it is being written all the time'
+    PATH=$work/odd:$PATH refused busy.db 'it is being written all the time' 75
     # A call that is broken off.
     PATH=$work/odd:$PATH new/nightly-copy busy.db copies 2>/dev/null &
     sleep 1
@@ -362,6 +381,110 @@ unsound() {
     kill $!
     wait $! 2>/dev/null
     same 'a call that is broken off' '' "$(listed copies)"
+    cp held.db beside.db
+    mkfifo beside.db-wal
+    refused beside.db "$work/beside.db-wal is no file"
+    rm beside.db-wal && mkdir beside.db-wal
+    refused beside.db "$work/beside.db-wal is no file"
+    mkfifo pipe.db
+    same 'a pipe' '2 nightly-copy: there is no file pipe.db' "$(call timeout 60 new/nightly-copy pipe.db copies)"
+}
+
+# Copies to a disk that is full, and two in one second.
+crowded() {
+    local size begun=$SECONDS
+    for size in 64k 1m; do
+        # With 1 MB there is room for the copy, but not for what a report writes.
+        mount -t tmpfs -o size=$size letting disk 2>/dev/null || {
+            echo 'not tried: a copy to a full disk'
+            return
+        }
+        [ $size = 64k ] || head -c "$((1048576 - $(stat -c %s held.db) - 4096))" /dev/zero >disk/filled
+        same "a full disk of $size" '3 nightly-copy: no copy of held.db:' \
+            "$(call new/nightly-copy held.db disk | sed 's/\(held.db:\).*/\1/')"
+        same 'that disk' '' "$(rm -f disk/filled; listed disk)"
+        umount disk
+    done
+    same 'it is told at once' yes "$([ $((SECONDS - begun)) -lt 10 ] && echo yes)"
+    new/nightly-copy held.db copies >first.said &
+    new/nightly-copy held.db copies >said
+    same 'two copies at once' 0 $?
+    wait $!
+    same 'both' '0 2' "$? $(find copies -name '*-held.db' | wc -l)"
+    rm -f copies/*
+}
+
+# What letting-serve does until a minute has passed, which are three seconds here.
+served() {
+    local pid
+    sed 's/^most_seconds=.*/most_seconds=3/' "$top/office/letting-serve" >new/letting-serve
+    chmod 755 new/letting-serve
+    same 'no words' '2 letting-serve: the words are FILE PORT COUNT [LETTING]' "$(call new/letting-serve)"
+    same 'no file' '3 letting-serve: there is no file none' "$(call new/letting-serve none 0 1)"
+    same 'bad words' '2 bad count' "$(call new/letting-serve held.db 0 0)"
+    echo 'no database, but no empty file' >odd.db
+    same 'a file that is none' '3 fault 22' "$(call new/letting-serve odd.db 0 1 | sed '/^fault 22$/d')"
+    cp held.db waited.db
+    # shellcheck disable=SC2034
+    coproc waited { exec new/letting batch --file waited.db; }
+    # shellcheck disable=SC2154
+    pid=$waited_PID
+    sleep 1
+    same 'a file that is busy for long' '3 fault 22' "$(call new/letting-serve waited.db 0 1 | sed '/^fault 22$/d')"
+    cp held.db other.db
+    (sleep 1; mv other.db waited.db) &
+    same 'a file that is replaced meanwhile' '3 fault 22
+letting-serve: waited.db was moved, replaced or removed' "$(call new/letting-serve waited.db 0 1 | sed '/^fault 22$/d')"
+    # shellcheck disable=SC1083,SC2093
+    exec {waited[1]}>&-
+    wait "$pid"
+    mkdir noted
+    echo 'another one' >noted/file
+    same 'another file than the one before' \
+        '3 letting-serve: held.db is another file than the one that was served; put yours there, and start the service' \
+        "$(RUNTIME_DIRECTORY=$work/noted call new/letting-serve held.db 0 1)"
+}
+
+# renewed NAME: the file is none of ours, and has all its rows in the one that is made of it.
+renewed() {
+    local name=$1 table
+    same "$name" '3 fault 22' "$(call new/letting report --file "$name" branches)"
+    rm -f renewed.db*
+    same "$name is renewed" '0 ' "$(call new/renew "$name" renewed.db)"
+    same "$name: the new file" "0 $(new/letting report --file held.db branches)" "$(call new/letting report --file renewed.db branches)"
+    for table in meta branch staff owner property client registration viewing inspection lease charge receipt run part branch_fee part_fee ending; do
+        [ "$(sqlite3 held.db "SELECT * FROM $table")" = "$(sqlite3 renewed.db "SELECT * FROM $table")" ] || echo "DIFFERS: $name: $table"
+    done
+}
+
+other_tables() {
+    if ! type -P sqlite3 >/dev/null; then
+        echo 'not tried: no sqlite3'
+        return
+    fi
+    cp "$top/office/renew" new
+    new/letting batch --file held.db <"$top/examples/rent-run.csv" >said
+    # As a file of the second version was made before, with other indexes.
+    cp held.db earlier.db
+    sqlite3 earlier.db 'DROP INDEX property_owner; DROP INDEX property_branch; CREATE INDEX charge_month ON charge (month)'
+    renewed earlier.db
+    cp held.db added.db
+    sqlite3 added.db 'ANALYZE; CREATE TABLE more (a)'
+    renewed added.db
+    python3 -c "
+import sqlite3
+with sqlite3.connect('held.db') as old, sqlite3.connect('dumped.db') as new:
+    new.executescript('\n'.join(old.iterdump()))"
+    renewed dumped.db
+    same 'a name that is taken' '2 renew: renewed.db is there already' "$(call new/renew added.db renewed.db)"
+    same 'a file of the first version' "3 renew: the rows can't be taken:" \
+        "$(call new/renew first.db none.db | sed 's/\(taken:\).*/\1/')"
+    cp held.db analysed.db
+    sqlite3 analysed.db 'ANALYZE'
+    same 'behind ANALYZE' '3 fault 22' "$(call new/letting report --file analysed.db branches)"
+    sqlite3 analysed.db 'DROP TABLE sqlite_stat1'
+    same 'without its table' 0 "$(new/letting report --file analysed.db branches >said; echo $?)"
+    rm -f ./*-shm
 }
 
 # lint TOOL WORD..: the words end with 0 and say nothing.
@@ -383,7 +506,188 @@ linted() {
     lint man sh -c 'LC_ALL=C.UTF-8 man --warnings -l "$1" >/dev/null' man "$top/office/letting.1"
     lint systemd-analyze systemd-analyze verify --man=no units/letting.service units/letting-copy.service \
         units/letting-copy.timer
-    lint shellcheck shellcheck -S warning "$top/letting" "$top/office/nightly-copy" "$top/bench/install.sh"
+    lint shellcheck shellcheck -S warning "$top/letting" "$top"/office/{nightly-copy,letting-serve,renew} "$top/bench/install.sh"
+}
+
+# What the systemd of `played` begins in, in namespaces of its own: ROOT is this system, which can't be written but for folders in memory, and
+# FOLDER is in it as /mnt/trial.
+contained() {
+    cat <<'SH'
+set -eu
+root=$1 folder=$2
+mount --make-rprivate /
+mount --bind / "$root"
+mount -o remount,bind,ro "$root"
+for name in tmp run var root home etc usr/local mnt dev work; do
+    [ ! -d "$root/$name" ] || mount -t tmpfs -o mode=755 tmpfs "$root/$name"
+done
+mount -t proc proc "$root/proc"
+mount --bind "$root/proc/sys" "$root/proc/sys"
+mount -o remount,bind,ro "$root/proc/sys"
+mount -t sysfs -o ro sysfs "$root/sys"
+if [ -d /sys/fs/cgroup/systemd ]; then
+    mount -t tmpfs tmpfs "$root/sys/fs/cgroup"
+    mkdir "$root/sys/fs/cgroup/systemd"
+    mount -t cgroup -o none,name=systemd cgroup "$root/sys/fs/cgroup/systemd"
+else
+    mount -t cgroup2 cgroup2 "$root/sys/fs/cgroup"
+fi
+for name in null zero full random urandom tty; do cp -a "/dev/$name" "$root/dev"; done
+ln -s pts/ptmx "$root/dev/ptmx"
+ln -s /proc/self/fd "$root/dev/fd"
+: >"$folder/console"
+ln -s /mnt/trial/console "$root/dev/console"
+mkdir -p "$root/dev/shm" "$root"/var/{lib,log,tmp,backups} "$root/mnt/trial" "$root/mnt/old" "$root/usr/local/bin"
+mount --bind "$folder" "$root/mnt/trial"
+cp -a /etc/. "$root/etc"
+rm -rf "$root"/etc/systemd/system/* "$root"/etc/tmpfiles.d/*
+cp "$folder"/units/* "$root/etc/systemd/system"
+cp "$folder"/bin/* "$root/usr/local/bin"
+echo 'letting:x:990:990::/nonexistent:/usr/sbin/nologin' >>"$root/etc/passwd"
+echo 'letting:x:990:' >>"$root/etc/group"
+install -d -o 990 -g 990 -m 700 "$root/var/lib/letting" "$root/var/backups/letting"
+for name in tmpfiles-setup tmpfiles-setup-dev sysctl udevd udev-trigger journal-flush random-seed binfmt; do
+    ln -s /dev/null "$root/etc/systemd/system/systemd-$name.service"
+done
+ip link set lo up
+cd "$root"
+pivot_root . mnt/old
+umount -l /mnt/old
+export container=trial PATH=/usr/sbin:/usr/bin:/sbin:/bin
+exec /lib/systemd/systemd --system --unit=trial.target --show-status=0 --log-target=journal
+SH
+}
+
+# What is played in it. It prints WHAT, WANTED and GOT with tabs between them.
+play() {
+    cat <<'SH'
+#!/usr/bin/env bash
+file=/var/lib/letting/office.db
+same() { printf '%s\t%s\t%s\n' "$1" "$2" "$3"; }
+office() { (cd /var/lib/letting && exec setpriv --reuid=letting --regid=letting --clear-groups "$@"); }
+state() { systemctl show -P ActiveState "$1"; }
+asked() { timeout 5 bash -c 'exec 3<>/dev/tcp/127.0.0.1/8080; printf "GET /branches HTTP/1.0\r\n\r\n" >&3; head -c 12 <&3' 2>/dev/null | cut -c10-; }
+# waited SECONDS WANTED CALL..: what the call prints, once it is as wanted, or as it is then.
+waited() {
+    local end=$((SECONDS + $1))
+    until [ "$("${@:3}")" = "$2" ] || [ $SECONDS -ge $end ]; do sleep 0.1; done
+    "${@:3}"
+}
+killed() {
+    waited 20 200 asked >/dev/null
+    pkill -9 -f 'letting serve --file'
+    sleep 0.1
+}
+copies() { find /var/backups/letting -type f | wc -l; }
+
+systemctl start letting.service
+same 'no file: the service' failed "$(waited 10 failed state letting)"
+systemctl start letting-copy.service
+same 'no file: the copy' failed "$(waited 10 failed state letting-copy)"
+same 'both are listed' 2 "$(systemctl --failed --plain --no-legend | grep -c letting)"
+office letting init --file office.db --first 2025-01 >/dev/null
+systemctl start letting.service
+same 'a file' 200 "$(waited 10 200 asked)"
+systemctl start letting-copy.service
+same 'a copy' '1 inactive' "$(copies) $(state letting-copy)"
+for count in {1..12}; do
+    systemctl stop letting.service
+    systemctl start letting.service || same "start $count" 0 $?
+done
+same 'twelve stops and starts' 200 "$(waited 10 200 asked)"
+for count in {1..8}; do killed; done
+same 'eight kills' 200 "$(waited 10 200 asked)"
+
+# Another call has the file for three seconds, and then one has it again and again.
+systemctl stop letting.service
+mkfifo -m 666 /tmp/lines
+office letting batch --file office.db </tmp/lines >/dev/null &
+exec 7>/tmp/lines
+sleep 1
+systemctl start letting.service
+sleep 3
+same 'a busy file' 'active ' "$(state letting) $(asked)"
+exec 7>&-
+wait
+same 'once it is free' '200 0' "$(waited 10 200 asked) $(systemctl show -P NRestarts letting)"
+(while [ ! -e /tmp/ended ]; do
+    office letting report --file office.db branches >/dev/null
+    sleep 0.05
+done) &
+for count in {1..10}; do killed; done
+same 'kills beside reports' 200 "$(waited 20 200 asked)"
+touch /tmp/ended
+wait
+
+killed_as() {
+    killed
+    same "$1" 'failed ' "$(waited 10 failed state letting) $(asked)"
+}
+mv $file /var/lib/letting/moved.db
+killed_as 'a file that was moved'
+mv /var/lib/letting/moved.db $file
+systemctl start letting.service
+same 'moved back' 200 "$(waited 10 200 asked)"
+mkdir /var/lib/letting/away
+mv $file* /var/lib/letting/away
+office letting init --file office.db --first 2025-02 >/dev/null
+killed_as 'a file that was replaced'
+systemctl start letting.service
+same 'the new file, once it is started' 200 "$(waited 10 200 asked)"
+killed
+same 'and started again' 200 "$(waited 10 200 asked)"
+
+# The file is written while it is copied, each time; and there is no folder.
+printf '#!/bin/sh\n/bin/cp "$@"\nsleep 0.05\n' >/usr/local/bin/cp
+chmod 755 /usr/local/bin/cp
+(while [ ! -e /tmp/at_rest ]; do touch $file; done) &
+systemctl start --no-block letting-copy.service
+sleep 1
+same 'a copy under writes' auto-restart "$(waited 60 auto-restart systemctl show -P SubState letting-copy)"
+same 'its status' '75 1' "$(systemctl show -P ExecMainStatus letting-copy) $(copies)"
+touch /tmp/at_rest
+wait
+systemctl restart letting-copy.service
+same 'once more' '2 inactive' "$(copies) $(state letting-copy)"
+mv /var/backups/letting /var/backups/away
+systemctl start letting-copy.service
+same 'no folder for the copies' 'failed 2' "$(state letting-copy) $(systemctl show -P ExecMainStatus letting-copy)"
+same 'played to the end' yes yes
+SH
+}
+
+# The units, under a systemd that this call begins and ends.
+played() {
+    local cgroup=/sys/fs/cgroup what want got
+    if [ "$(id -u)" != 0 ] || [ ! -x /lib/systemd/systemd ] || ! type -P unshare pivot_root ip setpriv pkill >/dev/null; then
+        echo 'not tried: the units under systemd'
+        return
+    fi
+    mkdir -p root trial/{units,bin}
+    cp "$top"/office/*.{service,timer} trial/units
+    cp new/letting "$top"/office/{nightly-copy,letting-serve,renew} trial/bin
+    contained >trial/contained
+    play >trial/play
+    chmod 755 trial/play
+    printf '[Unit]\nWants=trial.service\nRequires=systemd-journald.service\n' >trial/units/trial.target
+    printf '[Service]\nType=oneshot\nExecStart=/mnt/trial/play\nExecStopPost=/bin/systemctl --no-block exit\nStandardOutput=file:/mnt/trial/out\n' \
+        >trial/units/trial.service
+    printf 'StandardError=file:/mnt/trial/err\n' >>trial/units/trial.service
+    [ ! -d $cgroup/systemd ] || cgroup=$cgroup/systemd
+    cgroup=$cgroup/letting-$$
+    mkdir "$cgroup" 2>/dev/null && (
+        echo $BASHPID >"$cgroup/cgroup.procs" &&
+            exec timeout -s KILL 600 unshare --mount --pid --fork --kill-child --uts --ipc --cgroup --net bash trial/contained root trial
+    ) >trial/said 2>&1 </dev/null
+    find "$cgroup" -depth -type d -exec rmdir {} \; 2>/dev/null
+    if [ ! -s trial/out ]; then
+        echo "not tried: the units under systemd, which did not begin: $(head -1 trial/said)"
+        return
+    fi
+    while IFS=$'\t' read -r what want got; do
+        same "the units: $what" "$want" "$got"
+    done <trial/out
+    same 'the units: the last' 'played to the end' "$(tail -1 trial/out | cut -f1)"
 }
 
 handed_on
@@ -398,6 +702,10 @@ cp "$top/office/nightly-copy" new
 copying
 while_it_is_held
 unsound
+crowded
+served
+other_tables
 linted
+played
 echo "$checks checks, $wrong differ"
 [ $wrong = 0 ]
