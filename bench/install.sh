@@ -392,20 +392,24 @@ unsound() {
 
 # Copies to a disk that is full, and two in one second.
 crowded() {
-    local size begun=$SECONDS
-    for size in 64k 1m; do
-        # With 1 MB there is room for the copy, but not for what a report writes.
-        mount -t tmpfs -o size=$size letting disk 2>/dev/null || {
-            echo 'not tried: a copy to a full disk'
-            return
-        }
-        [ $size = 64k ] || head -c "$((1048576 - $(stat -c %s held.db) - 4096))" /dev/zero >disk/filled
-        same "a full disk of $size" '3 nightly-copy: no copy of held.db:' \
-            "$(call new/nightly-copy held.db disk | sed 's/\(held.db:\).*/\1/')"
-        same 'that disk' '' "$(rm -f disk/filled; listed disk)"
+    local begun=$SECONDS
+    if mount -t tmpfs -o size=64k letting disk 2>/dev/null; then
+        same 'a full disk for copies' '3 nightly-copy: no copy of held.db: cp: error writing: No space left on device' \
+            "$(LC_ALL=C call new/nightly-copy held.db disk | sed "s/ '.*'//")"
+        same 'that disk' '' "$(listed disk)"
         umount disk
-    done
-    same 'it is told at once' yes "$([ $((SECONDS - begun)) -lt 10 ] && echo yes)"
+        same 'it is told at once' yes "$([ $((SECONDS - begun)) -lt 5 ] && echo yes)"
+        # There is room for the copy, and not for what a report writes.
+        mount -t tmpfs -o size=4m letting disk
+        printf '#!/bin/sh\necho fault 22\nexit 3\n' >failing
+        chmod 755 failing
+        same 'a disk with little room' "3 nightly-copy: no copy of held.db: there is no room for it in $work/disk" \
+            "$(call new/nightly-copy held.db disk ./failing)"
+        same 'that one' '' "$(listed disk)"
+        umount disk
+    else
+        echo 'not tried: a copy to a full disk'
+    fi
     new/nightly-copy held.db copies >first.said &
     new/nightly-copy held.db copies >said
     same 'two copies at once' 0 $?
