@@ -53,7 +53,7 @@ def below(first, parent_of):
 
 def process(pid):
     """The crate that a process of the toolchain works on, for what, its processor seconds and its memory; None for another process. LLVM works for
-    the process that began it, and the program of cases runs in its crate's folder."""
+    the process that began it, and a program of cases runs in its crate's folder."""
     try:
         words = words_of(pid)
         folder = os.readlink(f'/proc/{pid}/cwd')
