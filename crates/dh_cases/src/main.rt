@@ -7,8 +7,7 @@ use std::io;
 
 fn play(rt: &HostRuntime, tally: &mut Tally, kind: &str, lines: &str) -> io::Result<()> {
     let is_kind = dh_book_cases::play(rt, tally, kind, lines)?
-        || dh_store_cases::play(rt, tally, kind, lines)?
-        || dh_disk_cases::play(rt, tally, kind, lines)?;
+        || dh_store_cases::play(rt, tally, kind, lines)?;
     if is_kind {
         return Ok(());
     }
