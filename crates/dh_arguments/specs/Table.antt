@@ -48,9 +48,10 @@ report = subcommand (codes "report") (required (option (codes "file")) ∷ free_
 abbrev pub serve : Shape
 serve = subcommand (codes "serve") (required (option (codes "file")) ∷ required (option (codes "port")) ∷ required (option (codes "count")) ∷ [])
 
--- the words are those behind the program's name, and name a subcommand
+-- the words are those behind the program's name, and name a subcommand, or ask for help or the version
 abbrev pub top : Shape
 top = record (new_shape (codes "letting")) {
+  has_version = true;
   no_binary_name = true;
   disable_help_subcommand = true;
   arg_required_else_help = true;

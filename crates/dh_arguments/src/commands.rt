@@ -52,7 +52,29 @@ macro_rules! with_replies {
     };
 }
 
-const STATUSES: &str = with_statuses!();
+// The version of the program: that of the files that it makes, and which program for such files it is. With two texts it stands between them,
+// and the exit statuses stand behind.
+macro_rules! version {
+    () => {
+        "2.2"
+    };
+    ($before:literal, $behind:literal) => {
+        with_statuses!($before, "2.2", $behind)
+    };
+}
+
+const STATUSES: &str = version!("This is letting ", ", for files of version 2.\n\n");
+
+const MAKING: &str = "Exit status:\n  \
+    0  done\n  \
+    2  bad words\n  \
+    3  a fault, or a failing output";
+
+const MENDING: &str = with_statuses!(
+    ;
+    "0  done\n  ",
+    "3  a fault, or a failing output\n  "
+);
 
 const REPLIES: &str = with_replies!();
 
@@ -123,7 +145,7 @@ fn agency_file<'a>(alloc: Global) -> Arg<'a>
         alloc,
         "file",
         "FILE",
-        "The agency's file, as --file letting.db",
+        "The agency's file, as --file office.db",
     )
 }
 
@@ -155,8 +177,8 @@ macro_rules! words {
 fn init<'a>(alloc: Global) -> Result<Command<'a>, AllocError>
     ensures { IfOk result (IsSubcommand table.init) }
 {
-    words!(alloc, "init", "Makes the file of a new agency and prints `created M`, M being its first month", STATUSES;
-        required "file" "FILE" "The file to make, as --file letting.db";
+    words!(alloc, "init", "Makes the file of a new agency and prints `created M`, M being its first month", MAKING;
+        required "file" "FILE" "The file to make, as --file office.db";
         required "first" "MONTH" "The month that the books begin with, as --first 2025-01")
 }
 
@@ -164,7 +186,7 @@ fn batch<'a>(alloc: Global) -> Result<Command<'a>, AllocError>
     ensures { IfOk result (IsSubcommand table.batch) }
 {
     words!(alloc, "batch", "Answers the lines of standard input and prints a reply line for each", LINES;
-        option "file" "FILE" "The agency's file, as --file letting.db; without it the agency is in memory";
+        option "file" "FILE" "The agency's file, as --file office.db; without it the agency is in memory";
         option "first" "MONTH" "The month that an agency in memory begins with, as --first 2025-01, which it is where not given")
 }
 
@@ -181,14 +203,14 @@ fn run<'a>(alloc: Global) -> Result<Command<'a>, AllocError>
 fn recover<'a>(alloc: Global) -> Result<Command<'a>, AllocError>
     ensures { IfOk result (IsSubcommand table.recover) }
 {
-    words!(alloc, "recover", "Brings the open rent run to its end and prints `recovered`", STATUSES;
+    words!(alloc, "recover", "Brings the open rent run to its end and prints `recovered`", MENDING;
         agency_file)
 }
 
 fn migrate<'a>(alloc: Global) -> Result<Command<'a>, AllocError>
     ensures { IfOk result (IsSubcommand table.migrate) }
 {
-    words!(alloc, "migrate", "Takes a file of the first version to the second and prints `migrated`; copy the file first, there is no way back", STATUSES;
+    words!(alloc, "migrate", "Takes a file of the first version to the second and prints `migrated`; copy the file first, there is no way back", MENDING;
         agency_file)
 }
 
@@ -215,6 +237,7 @@ fn top<'a>(alloc: Global) -> Command<'a>
 {
     Command::new(alloc, "letting")
         .about("The daily system of a property letting agency")
+        .version(version!())
         .after_help(STATUSES)
         .no_binary_name(true)
         .disable_help_subcommand(true)
