@@ -2,6 +2,7 @@
 """Plays the checks of bench/init.sh: PROGRAM WORK ROUNDS [PART..]."""
 
 import os
+import random
 import re
 import shutil
 import socket
@@ -16,6 +17,7 @@ CREATED, FAULT = (0, "created 2025-01\n"), (3, "fault 22\n")
 MADE, NONE = (0, ""), []
 LINE = "branch,B001,1 Main St,Leeds,LS1 1AA\n"
 LEEDS = "B001     Leeds\n"
+BOTH = LEEDS + "B002     York\n"
 # The calls of the system by which an `init` looks, and those by which it writes.
 LOOKS = ("openat", "statx", "fcntl", "readlink")
 WRITES = ("pwrite64", "fsync", "fdatasync", "ftruncate", "fchmod", "fchown", "fadvise64")
@@ -320,19 +322,19 @@ def change(room, kind):
 KINDS = ("moved", "removed", "replaced", "moved and back")
 
 
-def judge_changed(name, room, kind, holder, came, output):
-    want = (0, output) if kind == "moved and back" else (3, output + FAULT[1])
+def judge_changed(name, room, kind, holder, came, want, lines):
     same(name, came, want)
     if holder:
         words = [PROGRAM, "report", "--file", str(holder), "branches"]
         got = subprocess.run(words, cwd=room.at, capture_output=True, text=True, check=False)
-        same(f"{name}, the lines", (got.returncode, got.stdout), (0, LEEDS + "B002     York\n"))
+        same(f"{name}, the lines", (got.returncode, got.stdout), (0, lines))
     if kind == "replaced":
         same(f"{name}, the other file", room.file.read_bytes(), b"rent")
 
 
 def changed_under_batch():
-    for kind in KINDS:
+    """It answers on, and says at its end that the file is not where it was."""
+    for kind in KINDS * ROUNDS:
         with Room() as room:
             room.init()
             run = room.start("batch", stdin=subprocess.PIPE)
@@ -341,30 +343,62 @@ def changed_under_batch():
             output = run.stdout.readline()
             holder = change(room, kind)
             output += rest_of(run, "branch,B002,5 Oak Rd,York,YO1 1CC\n")
-            judge_changed(f"a file that is {kind} under batch", room, kind, holder, (run.returncode, output), "1 ok\n2 ok\n")
+            want = (0, "1 ok\n2 ok\n") if kind == "moved and back" else (3, "1 ok\n2 ok\nfault 22\n")
+            judge_changed(f"a file that is {kind} under batch", room, kind, holder, (run.returncode, output), want, BOTH)
 
 
 def asked(port, line):
-    """Sends the line to the server, and takes the answer."""
+    """Sends the line to the server, and gives the text that is answered, or nothing."""
     body = '["' + line.strip().replace(",", '","') + '"]'
-    with socket.create_connection(("127.0.0.1", port), timeout=20) as peer:
-        peer.sendall(f"POST /commands HTTP/1.0\r\nContent-Length: {len(body)}\r\n\r\n{body}".encode())
-        while peer.recv(4096):
-            pass
+    answer = b""
+    try:
+        with socket.create_connection(("127.0.0.1", port), timeout=20) as peer:
+            peer.sendall(f"POST /commands HTTP/1.0\r\nContent-Length: {len(body)}\r\n\r\n{body}".encode())
+            while part := peer.recv(4096):
+                answer += part
+    except ConnectionError:
+        pass
+    found = re.search(rb'"text":"([^"]*)"', answer)
+    return found[1].decode() if found else ""
 
 
 def changed_under_serve():
-    for kind in KINDS:
+    """It answers nothing more, and says so as the next request comes."""
+    for kind in KINDS * ROUNDS:
         with Room() as room:
             room.init()
             run = room.start("serve", "--port", "0", "--count", "2")
             port = int(run.stdout.readline().split()[1])
-            asked(port, LINE)
+            answers = asked(port, LINE),
             output = run.stdout.readline()
             holder = change(room, kind)
-            asked(port, "branch,B002,5 Oak Rd,York,YO1 1CC")
+            answers += asked(port, "branch,B002,5 Oak Rd,York,YO1 1CC"),
             output += rest_of(run)
-            judge_changed(f"a file that is {kind} under serve", room, kind, holder, (run.returncode, output), "200\n200\n")
+            is_back = kind == "moved and back"
+            same(f"the answers about a file that is {kind} under serve", answers, ("ok", "ok" if is_back else ""))
+            want = (0, "200\n200\n") if is_back else (3, "200\nfault 22\n")
+            judge_changed(f"a file that is {kind} under serve", room, kind, holder, (run.returncode, output), want, BOTH if is_back else LEEDS)
+
+
+def killed_under_load():
+    """A server that is killed and started again, in each round. Each receipt that was answered is there, and none twice."""
+    with Room() as room:
+        room.init()
+        room.batch((Path(__file__).parent.parent / "examples" / "one-lease.csv").read_text())
+        taken = 0
+        for _ in range(ROUNDS):
+            run = room.start("serve", "--port", "0", "--count", "1000000")
+            port = int(run.stdout.readline().split()[1])
+            timer = threading.Timer(random.uniform(0, 0.1), run.kill)
+            timer.start()
+            # One that got no answer is sent again.
+            while answer := asked(port, f"receipt,K-{taken + 1},10001,rent,0.01,2025-02-01"):
+                taken += 1
+                same("a receipt", answer.replace("already ", ""), f"receipt {taken}")
+            run.communicate(timeout=60)
+        came = room.run("report", "statement", "10001")
+        same("the receipts", (came[0], len(re.findall("^rent ", came[1], re.M))), (0, taken))
+        check("the rounds had receipts", taken >= ROUNDS, taken)
 
 
 def no_descriptors():
@@ -386,7 +420,8 @@ def no_descriptors():
 
 
 PARTS = {"four": four_at_once, "held": one_held, "fails": each_fails, "killed": each_killed, "full": full_disks, "things": things,
-         "swapped": swapped, "batch": changed_under_batch, "serve": changed_under_serve, "descriptors": no_descriptors}
+         "swapped": swapped, "batch": changed_under_batch, "serve": changed_under_serve, "load": killed_under_load,
+         "descriptors": no_descriptors}
 
 
 def main():

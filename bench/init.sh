@@ -10,7 +10,8 @@
 # - An `init` that is killed at each of its writes. What is left is an agency, or a path where `init` works, if need be behind the removal
 #   that docs/USER.md names.
 # - Things that stand at the path or at the log's: links, folders, a byte, logs.
-# - A file that is removed or replaced as `report` opens it, and one that is moved, removed or replaced under `batch` and `serve`.
+# - A file that is removed or replaced as `report` opens it, and in each round one that is moved, removed or replaced under `batch` and `serve`.
+# - A `serve` that is killed under load and started again, in each round. Each answered receipt is there, and none twice.
 # - `serve` with no descriptor left for a connection.
 #
 # Prints each check that came otherwise, and how many there were. Ends with 0 if none did. Asks for strace and, for the disks, for root.

@@ -9,6 +9,7 @@
 # - A copy of a file, of one that a `batch` holds, and of one that is written all the while; a copy that is put back.
 # - Files of which no copy is kept: damaged, edited, of the first version, empty, with a journal, never at rest, beside a pipe.
 # - A file that is busy, replaced or damaged as it is to be served; files with other tables or indexes that are renewed.
+# - A file in a lower layer, as in a container's image, for root.
 # - The units under a systemd of their own, for root: no file, stops, kills, reports, a file that is moved or replaced, copies.
 #   It has namespaces of its own and a root that it can't write, but for folders in memory.
 # - The lint of mandoc, man, systemd-analyze and shellcheck, where they are there.
@@ -19,7 +20,7 @@ cd "$(dirname "$0")/.." || exit 1
 top=$PWD
 built=$top/crates/dh_desk/out/dh_desk
 work=$(mktemp -d)
-trap 'umount "$work/disk" 2>/dev/null; rm -rf "$work"' EXIT
+trap 'umount "$work/disk" "$work/layers/seen" 2>/dev/null; rm -rf "$work"' EXIT
 # Another user runs some of it.
 chmod 755 "$work"
 cd "$work" || exit 1
@@ -623,19 +624,28 @@ same 'kills beside reports' 200 "$(waited 20 200 asked)"
 touch /tmp/ended
 wait
 
+# The service ends at its next request, or is killed before it comes.
+lost_as() {
+    same "$1" ' failed ' "$(asked) $(waited 10 failed state letting) $(asked)"
+}
 killed_as() {
-    killed
+    pkill -9 -f 'letting serve --file'
     same "$1" 'failed ' "$(waited 10 failed state letting) $(asked)"
 }
 mv $file /var/lib/letting/moved.db
-killed_as 'a file that was moved'
+lost_as 'a file that was moved'
 mv /var/lib/letting/moved.db $file
 systemctl start letting.service
 same 'moved back' 200 "$(waited 10 200 asked)"
+mv $file /var/lib/letting/moved.db
+killed_as 'a file that was moved, and a kill'
+mv /var/lib/letting/moved.db $file
+systemctl start letting.service
+same 'moved back again' 200 "$(waited 10 200 asked)"
 mkdir /var/lib/letting/away
 mv $file* /var/lib/letting/away
 office letting init --file office.db --first 2025-02 >/dev/null
-killed_as 'a file that was replaced'
+lost_as 'a file that was replaced'
 systemctl start letting.service
 same 'the new file, once it is started' 200 "$(waited 10 200 asked)"
 killed
@@ -658,6 +668,20 @@ systemctl start letting-copy.service
 same 'no folder for the copies' 'failed 2' "$(state letting-copy) $(systemctl show -P ExecMainStatus letting-copy)"
 same 'played to the end' yes yes
 SH
+}
+
+# A file in the lower of two layers: its first opening for writing copies it.
+layered() {
+    mkdir -p layers/{lower,upper,work,seen}
+    cp held.db layers/lower/office.db
+    if ! mount -t overlay -o lowerdir=layers/lower,upperdir=layers/upper,workdir=layers/work overlay layers/seen 2>/dev/null; then
+        echo 'not tried: a file in a lower layer'
+        return
+    fi
+    same 'a file in a lower layer' "$(call new/letting report --file held.db branches)" "$(call new/letting report --file layers/seen/office.db branches)"
+    same 'that was copied' "$(call new/letting report --file held.db branches)" "$(call new/letting report --file layers/seen/office.db branches)"
+    same 'the lower layer' 'office.db' "$(listed layers/lower)"
+    umount layers/seen
 }
 
 # The units, under a systemd that this call begins and ends.
@@ -709,6 +733,7 @@ unsound
 crowded
 served
 other_tables
+layered
 linted
 played
 echo "$checks checks, $wrong differ"

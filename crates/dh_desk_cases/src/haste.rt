@@ -1,7 +1,7 @@
 //! Serving in haste: over an agency in memory, whose peers have a second.
 
 use dh_agency_test_kit::in_memory;
-use dh_http::{Patience, Service, Unserved, serve};
+use dh_http::{Patience, Service, Unserved, Watch, serve};
 use dh_types::BatchCount;
 use std::alloc::AllocError;
 use std::io::Write;
@@ -13,6 +13,16 @@ pub const HASTE: Patience = Patience {
     rest_seconds: 1,
     rest_bytes: 65_536,
 };
+
+// An agency in memory has no file that could go.
+#[derive(Clone, Copy)]
+struct InMemory;
+
+impl Watch for InMemory {
+    fn is_there(&mut self) -> bool {
+        true
+    }
+}
 
 // How serving ended.
 fn end_of(outcome: Result<(), Unserved>) -> &'static str {
@@ -44,7 +54,7 @@ pub fn serve_in_haste<W: Write>(
             count,
             patience: HASTE,
         };
-        end = end_of(serve(rt, &mut agency, service, writer));
+        end = end_of(serve(rt, &mut agency, &mut InMemory, service, writer));
     }
     drop(agency.into_store());
     Ok(end)

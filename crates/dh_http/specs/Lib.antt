@@ -6,3 +6,4 @@ pub mod Printed
 pub mod Calls
 pub mod Taking
 pub mod Patience
+pub mod Watched

@@ -1,9 +1,10 @@
 //! Serving connections, one after the other.
 
-ghost use Rattle.std.specs.Prelude.{◌≡◌, ◌*◌, ℕ, List, [], ◌∷◌, Option, false, true, Err, IfErr, IfOk, IfSome, IsOk, MatchOption, MatchResult};
+ghost use Rattle.std.specs.Prelude.{◌≡◌, ◌*◌, ℕ, Bool, List, [], ◌∷◌, Option, false, true, Err, IfErr, IfOk, IfSome, IsOk, MatchOption, MatchResult};
 ghost use Rattle.std.specs.Prelude.{OnErr, OnOk};
 ghost use Rattle.dh_types.specs.Output.{Puts};
 ghost use Rattle.dh_types.specs.declared.reply.Fault.{Fault};
+ghost use Rattle.dh_types.specs.declared.reply.Fault.TheVariants.{Store};
 ghost use Rattle.dh_schema.specs.Faults.{IsFirstFault};
 ghost use Rattle.dh_agency.specs.Agency.{IsClean, LeavesItsTables, WasClean};
 ghost use Rattle.dh_requests.specs.Requests.{MayAsk, TakesRequest};
@@ -12,6 +13,7 @@ ghost use Rattle.dh_http.specs.Printed.{PrintsBehind, outcome_line};
 ghost use Rattle.dh_http.specs.Served.{LeavesServed};
 ghost use Rattle.dh_http.specs.Service.{IsTold, ServesOn, StopsWith};
 ghost use Rattle.dh_http.specs.Taking.{is_taken};
+ghost use Rattle.dh_http.specs.Watched.{IsWatched};
 
 use crate::acceptor::{accept, taken};
 use crate::exchange::serve_over;
@@ -19,6 +21,7 @@ use crate::listener::Unserved;
 use crate::patience::Patience;
 use crate::peers::{Peer, SocketPeer};
 use crate::streams::{TimedStream, end_answered};
+use crate::watch::Watch;
 use dh_agency::Agency;
 use dh_requests::Routes;
 use dh_types::text_writer::{put, put_parts};
@@ -97,21 +100,29 @@ fn serve_taken<S: Alter>(
     }
 }
 
-// Answers the next connection: the status, if it was answered. A fault where no further connection can be taken.
-fn serve_next<S: Alter>(
+// Answers the next connection: the status, if it was answered. A fault where no further connection can be taken, or where the agency's file is no
+// longer where it was as one comes: nothing is read of it then.
+fn serve_next<S: Alter, F: Watch>(
     rt: &HostRuntime,
     routes: &Routes,
     agency: &mut Agency<S>,
+    file: &mut F,
     listener: &mut TcpListener,
     patience: Patience,
 ) -> Result<Option<StatusCode>, Fault>
+    ensures seen { IfOk result (λ _. Makes (F.looks file.old) (F.looks file.new) (true ∷ [])) }
+    ensures missed { IfErr result (λ fault. (seen : Bool) × Makes (F.looks file.old) (F.looks file.new) (seen ∷ []) × (seen ≡ false → fault ≡ Store)) }
     ensures on { IfOk result (λ outcome. ServesOn S.Store agency.old agency.new (outcome ∷ [])) }
     ensures stops { IfOk result (λ outcome. StopsWith agency.old agency.new outcome) }
     ensures same { OnErr result (agency.new ≡ agency.old) }
     ensures cause { IfErr result (λ fault. IsFirstFault fault) }
     ensures was_clean { WasClean S.Store agency.old agency.new }
 {
-    serve_taken(rt, routes, agency, accept(listener), patience)
+    let outcome = accept(listener);
+    if !file.is_there() {
+        return Err(Fault::Store);
+    }
+    serve_taken(rt, routes, agency, outcome, patience)
 }
 
 // Prints the status of a connection, or that it was lost.
@@ -125,11 +136,13 @@ fn print_outcome<W: Write>(writer: &mut W, outcome: &Option<StatusCode>) -> Resu
 }
 
 /// Answers so many connections and prints the status of each, or `lost`. `Stopped` behind the one at which the agency stopped, whether its
-/// answer was lost or not, `Fault` where no further connection can be taken, `Output` where the writer failed.
-pub(crate) fn serve_connections<S: Alter, W: Write>(
+/// answer was lost or not, `Fault` where no further connection can be taken or the file is no longer where it was as one comes, `Output` where the
+/// writer failed.
+pub(crate) fn serve_connections<S: Alter, F: Watch, W: Write>(
     rt: &HostRuntime,
     routes: &Routes,
     agency: &mut Agency<S>,
+    file: &mut F,
     listener: &mut TcpListener,
     count: u32,
     patience: Patience,
@@ -137,14 +150,15 @@ pub(crate) fn serve_connections<S: Alter, W: Write>(
 ) -> Result<(), Unserved>
     requires { agency.old.is_stopped ≡ false }
     ensures served { (outcomes : List (Option ℕ)) × ServesOn S.Store agency.old agency.new outcomes
-        × PrintsBehind count [] outcomes (W.contents writer.old) (W.contents writer.new) result }
+        × PrintsBehind count [] outcomes (W.contents writer.old) (W.contents writer.new) result
+        × IsWatched (F.looks file.old) (F.looks file.new) outcomes result }
     ensures going { OnOk result (agency.new.is_stopped ≡ false) }
     ensures stopped { result ≡ Err Unserved.Stopped → agency.new.is_stopped ≡ true }
     ensures fault { (fault : Fault) → result ≡ Err (Unserved.Fault fault) → (agency.new.is_stopped ≡ false) × IsFirstFault fault }
     ensures was_clean { WasClean S.Store agency.old agency.new }
 {
     for _served in 0..count {
-        let outcome = serve_next(rt, routes, agency, listener, patience)?;
+        let outcome = serve_next(rt, routes, agency, file, listener, patience)?;
         print_outcome(writer, &outcome)?;
         if agency.is_stopped() {
             return Err(Unserved::Stopped);

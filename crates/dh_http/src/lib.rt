@@ -12,6 +12,7 @@ mod listener;
 mod patience;
 mod peers;
 mod streams;
+mod watch;
 
 pub use acceptor::{Door, accept};
 pub use connections::serve_peer;
@@ -21,3 +22,4 @@ pub use listener::{Service, Unserved, serve};
 pub use patience::Patience;
 pub use peers::Peer;
 pub use streams::TimedStream;
+pub use watch::Watch;

@@ -9,10 +9,12 @@ ghost use Rattle.dh_schema.specs.Faults.{IsFirstFault};
 ghost use Rattle.dh_agency.specs.Agency.{WasClean};
 ghost use Rattle.dh_http.specs.Printed.{PrintsServed, port_text};
 ghost use Rattle.dh_http.specs.Service.{IsOfThisMachine, ServesOn};
+ghost use Rattle.dh_http.specs.Watched.{IsWatched};
 ghost use Rattle.dh_http.specs.declared.listener.Unserved.TheVariants as unserved;
 
 use crate::connections::serve_connections;
 use crate::patience::Patience;
+use crate::watch::Watch;
 use dh_agency::Agency;
 use dh_requests::Routes;
 use dh_types::text_writer::put_parts;
@@ -42,8 +44,8 @@ pub enum Unserved {
     Output(Output),
     /// The agency has stopped, behind an answer 503 or one that was lost.
     Stopped,
-    /// No further connection can be taken: 21 where memory ran out, 22 where the system gives no further file or the listener failed. The
-    /// agency goes on.
+    /// No further connection can be taken: 21 where memory ran out, 22 where the system gives no further file or the listener failed. Or one
+    /// came, and the agency's file is no longer where it was, which is 22 too. The agency goes on.
     Fault(Fault),
 }
 
@@ -121,18 +123,20 @@ fn print_port<W: Write>(writer: &mut W, asked: u16, port: u16) -> Result<(), Out
 }
 
 /// Listens at the service's port, answers its connections one after the other, and prints the status of each, or `lost`; before them
-/// `port P` where the system picks the port. Its peers have the time of its patience. `NoListener` where the port can't be had, `Stopped` behind
-/// the connection at which the agency stopped, whether its answer was lost or not, `Fault` where no further connection can be taken,
-/// `Output` where the writer failed.
-pub fn serve<S: Alter, W: Write>(
+/// `port P` where the system picks the port. Its peers have the time of its patience. The agency's file is looked for before a request is read.
+/// `NoListener` where the port can't be had, `Stopped` behind the connection at which the agency stopped, whether its answer was lost or not,
+/// `Fault` where no further connection can be taken or the file is no longer where it was as one comes, `Output` where the writer failed.
+pub fn serve<S: Alter, F: Watch, W: Write>(
     rt: &HostRuntime,
     agency: &mut Agency<S>,
+    file: &mut F,
     service: Service,
     writer: &mut W,
 ) -> Result<(), Unserved>
     requires { agency.old.is_stopped ≡ false }
     ensures served { (outcomes : List (Option ℕ)) × ServesOn S.Store agency.old agency.new outcomes
-        × PrintsServed service outcomes (W.contents writer.old) (W.contents writer.new) result }
+        × PrintsServed service outcomes (W.contents writer.old) (W.contents writer.new) result
+        × IsWatched (F.looks file.old) (F.looks file.new) outcomes result }
     ensures going { OnOk result (agency.new.is_stopped ≡ false) }
     ensures stopped { result ≡ Err unserved.Stopped → agency.new.is_stopped ≡ true }
     ensures fault { (fault : Fault) → result ≡ Err (unserved.Fault fault) → (agency.new.is_stopped ≡ false) × IsFirstFault fault }
@@ -148,6 +152,7 @@ pub fn serve<S: Alter, W: Write>(
         rt,
         &routes,
         agency,
+        file,
         &mut listener,
         count,
         service.patience,

@@ -8,7 +8,7 @@ use Rattle.std.specs.declared.io.ErrorKind.{ErrorKind}
 use Rattle.std.specs.declared.io.ErrorKind.TheVariants.{NotFound, OutOfMemory}
 use Rattle.dh_types.specs.declared.reply.Fault.{Fault}
 use Rattle.dh_types.specs.declared.reply.Fault.TheVariants as fault
-use Rattle.dh_jobs.specs.declared.places.Identity.{Identity}
+use Rattle.dh_jobs.specs.declared.places.Sighting.{Sighting}
 
 -- want of memory is told as that, and all else as a fault of the store
 abbrev pub system_fault : ErrorKind → Fault
@@ -19,12 +19,18 @@ system_fault _ = fault.Store
 abbrev pub MayHoldTables : Metadata → Type 0
 MayHoldTables found = IsFile (file_type found) × (512 ≤ metadata_len found)
 
--- An open or a look is told so: as the file that was found, which may be a database; or as the fault that the error is; or as one of the store.
-abbrev pub IsFoundAs : Result Metadata Error → Result Identity Fault → Type 0
-IsFoundAs (Ok it) (Ok file) = MayHoldTables it
+-- A look is told so: as the file that was found, which may be a database; or as the fault that the error is; or as one of the store.
+abbrev pub IsFoundAs : Result Metadata Error → Result Metadata Fault → Type 0
+IsFoundAs (Ok it) (Ok file) = MayHoldTables it × (file ≡ it)
 IsFoundAs (Ok it) (Err why) = (¬ MayHoldTables it) × (why ≡ fault.Store)
 IsFoundAs (Err error) (Ok file) = ⊥
 IsFoundAs (Err error) (Err why) = why ≡ system_fault (error_kind error)
+
+-- An opening has the file that was seen, by its device and its number; a blank one also by when it was written last.
+pub record IsOpenedAs (seen opened : Sighting) (is_blank : Bool) : Type 0 where
+  pub device : opened.device ≡ seen.device
+  pub number : opened.number ≡ seen.number
+  pub unwritten : IsTrue is_blank → opened.written_at ≡ seen.written_at
 
 -- a descriptor of a standard stream: that of standard error is 2, and the other two have lesser ones
 abbrev pub IsOfStream : ℤ → Type 0
@@ -43,6 +49,13 @@ IsNoNews (Ok it) (Ok answer) = IsTrue answer ↔ IsEmptyLog it
 IsNoNews (Ok it) (Err same) = ⊥
 IsNoNews (Err error) (Ok answer) = (error_kind error ≡ NotFound) × (answer ≡ true)
 IsNoNews (Err error) (Err same) = (error_kind error ≢ NotFound) × (same ≡ error)
+
+-- A plain file is there, or none is. What else keeps it from being seen is handed on.
+abbrev pub IsTaken : Result Metadata Error → Result Bool Error → Type 0
+IsTaken (Ok it) (Ok answer) = IsTrue answer ↔ IsFile (file_type it)
+IsTaken (Ok it) (Err same) = ⊥
+IsTaken (Err error) (Ok answer) = (error_kind error ≡ NotFound) × (answer ≡ false)
+IsTaken (Err error) (Err same) = (error_kind error ≢ NotFound) × (same ≡ error)
 
 -- the fault that is told behind a place that was left as it was found, or not
 abbrev pub fault_behind : Bool → Fault → Fault

@@ -14,7 +14,7 @@ ghost use Rattle.dh_jobs.specs.Printed.{Closes, IsMakingEnd, IsOfLines, Prints, 
 ghost use Rattle.dh_jobs.specs.Statuses.{IsFailed};
 
 use crate::blank::Blank;
-use crate::places::{Found, Place, take_back};
+use crate::places::{Found, Opened, Place, take_back};
 use crate::printed::{heard, print_created, tell_fault};
 use crate::remains::Remains;
 use crate::status::Status;
@@ -47,21 +47,22 @@ fn open_at<S: Start>(
 }
 
 // Opens the file that was found. The path has to name it still: an opening makes a file where there is none, which is taken back.
-fn open_found<S: Start>(
+fn open_found<'a, S: Start>(
     rt: &HostRuntime,
     start: S,
-    found: &Found,
-) -> Result<Connection<FileStore<FileFrom<S>>>, (Fault, Remains<FileFrom<S>>)>
-    ensures opened { IfOk result (IsOpenedOn (image_at S.Start)) }
+    found: &Found<'a>,
+) -> Result<(Connection<FileStore<FileFrom<S>>>, Opened<'a>), (Fault, Remains<FileFrom<S>>)>
+    ensures opened { IfOk result (λ it. IsOpenedOn (image_at S.Start) it.0) }
     ensures left { IfErr result (λ e. IsLeftOf (image_at S.Start) e.1) }
     ensures cause { IfErr result (λ e. IsFirstFault e.0) }
 {
     match open_at(rt, start, found.path()) {
         Ok(conn) => {
-            if found.is_there(rt) {
-                return Ok(conn);
+            let blank = Blank::of(&conn);
+            if let Some(opened) = found.opened(rt, blank.is_some()) {
+                return Ok((conn, opened));
             }
-            if let Some(blank) = Blank::of(&conn) {
+            if let Some(blank) = blank {
                 // Fault 22 is told whether it went or not.
                 let _ = take_back(rt, found.path(), blank);
             }
@@ -135,7 +136,7 @@ fn tell_unclosed<W: Write>(cause: Fault, status: Status, writer: &mut W) -> Stat
 fn do_and_close<D: Disk + Drop, R: Read, W: Write>(
     rt: &HostRuntime,
     conn: Connection<FileStore<D>>,
-    found: &Found,
+    file: &Opened,
     job: FileJob,
     reader: &mut R,
     writer: &mut W,
@@ -144,10 +145,10 @@ fn do_and_close<D: Disk + Drop, R: Read, W: Write>(
     ensures printed { PrintsJob job (W.contents writer.old) (W.contents writer.new) result.0 }
     ensures ends { EndsOnFile conn job (R.remaining reader.old) (W.contents writer.old) (W.contents writer.new) result.0 result.1 }
 {
-    let (done, conn) = do_job(rt, conn, job, reader, writer);
+    let (done, conn) = do_job(rt, conn, file, job, reader, writer);
     match close(conn) {
         Ok(files) => {
-            if found.is_there(rt) {
+            if file.is_there(rt) {
                 return (done, Ok(files));
             }
             (tell_unclosed(Fault::Store, done, writer), Ok(files))
@@ -174,8 +175,8 @@ pub(crate) fn do_on_file<S: Start, R: Read, W: Write>(
         Err(fault) => return tell_fault(writer, fault),
     };
     match open_found(rt, start, &found) {
-        Ok(conn) => {
-            let (status, closed) = do_and_close(rt, conn, &found, job, reader, writer);
+        Ok((conn, file)) => {
+            let (status, closed) = do_and_close(rt, conn, &file, job, reader, writer);
             drop(closed);
             status
         }

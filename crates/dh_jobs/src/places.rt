@@ -3,6 +3,9 @@
 //! A path may come to name another file between any two calls of the system, so each step asks again which file it names. Only between the
 //! last look and a removal nothing can be asked: what another program puts at the path in that moment goes.
 //!
+//! An opening may give a file another time of making: in a container's image the first opening for writing copies it. So which file it is, the
+//! time among that, is noted behind our own opening, and before it the device and the number count.
+//!
 //! What the system answers is judged by functions with a clause each; beside them stands the call alone.
 
 ghost use Rattle.std.specs.Prelude.{◌≡◌, ◌≢◌, ◌↔◌, Bool, Some, IfErr, IsTrue, OnOk, false};
@@ -10,7 +13,7 @@ ghost use Rattle.std.specs.IoError.{error_kind};
 ghost use Rattle.std.specs.declared.io.ErrorKind.TheVariants.{WouldBlock};
 ghost use Rattle.dh_types.specs.declared.reply.Fault.TheVariants as fault;
 ghost use Rattle.dh_schema.specs.Faults.{IsFirstFault};
-ghost use Rattle.dh_jobs.specs.Places.{IsEmptyFile, IsFoundAs, IsNoNews, IsOfStream, MayHoldTables, fault_behind, system_fault};
+ghost use Rattle.dh_jobs.specs.Places.{IsEmptyFile, IsFoundAs, IsNoNews, IsOfStream, IsOpenedAs, IsTaken, MayHoldTables, fault_behind, system_fault};
 
 use crate::blank::Blank;
 use dh_types::Fault;
@@ -28,6 +31,9 @@ const LEAST_BYTES: u64 = 512;
 
 /// A log of so many bytes has no news: a head of 32, then 8 that begin its first entry, and one that says that none is there.
 const EMPTY_LOG_BYTES: u64 = 41;
+
+/// The path of a log is that of its file, and this.
+const LOG_SUFFIX: &str = "-wal";
 
 /// The byte that a call of `init` locks. It is the first behind the 512 that SQLite locks of a database.
 const INIT_BYTE: u64 = (1 << 30) + 512;
@@ -50,6 +56,33 @@ fn identity_of(found: &Metadata) -> Identity {
         number: found.ino(),
         made_at: found.created().ok(),
     }
+}
+
+/// What a path named before it was opened: the device and the number of a file, and when it was written last, if the file system knows that.
+#[derive(Clone, Copy, Debug, PartialEq, Eq)]
+pub struct Sighting {
+    device: u64,
+    number: u64,
+    written_at: Option<SystemTime>,
+}
+
+// As what this was seen.
+fn sighting_of(found: &Metadata) -> Sighting {
+    Sighting {
+        device: found.dev(),
+        number: found.ino(),
+        written_at: found.modified().ok(),
+    }
+}
+
+// Whether an opening has the file that was seen. A blank one it has only where that was not written since: where a file went, the opening makes a
+// blank one, which may get its number.
+fn is_opened_as(seen: Sighting, opened: Sighting, is_blank: bool) -> bool
+    ensures { IsTrue result ↔ IsOpenedAs seen opened is_blank }
+{
+    opened.device == seen.device
+        && opened.number == seen.number
+        && (!is_blank || opened.written_at == seen.written_at)
 }
 
 // Whether the file is this one.
@@ -84,20 +117,20 @@ fn may_hold_tables(found: &Metadata) -> bool
     found.is_file() && found.len() >= LEAST_BYTES
 }
 
-// The file that was found, if it may be a database.
-fn file_of(found: io::Result<Metadata>) -> Result<Identity, Fault>
+// What was found, if it may be a database.
+fn file_of(found: io::Result<Metadata>) -> Result<Metadata, Fault>
     ensures found { IsFoundAs found result }
     ensures cause { IfErr result IsFirstFault }
 {
     match found {
-        Ok(found) if may_hold_tables(&found) => Ok(identity_of(&found)),
+        Ok(found) if may_hold_tables(&found) => Ok(found),
         Ok(_) => Err(Fault::Store),
         Err(error) => Err(told_as(error)),
     }
 }
 
-// The file at the path, if it may be a database.
-fn look<R: Files>(rt: &R, path: &str) -> Result<Identity, Fault>
+// What is at the path, if it may be a database.
+fn look<R: Files>(rt: &R, path: &str) -> Result<Metadata, Fault>
     ensures { IfErr result IsFirstFault }
 {
     file_of(fs::metadata(rt, path))
@@ -117,7 +150,7 @@ fn names<R: Files>(rt: &R, path: &str, file: Identity) -> bool {
 #[derive(Clone, Copy)]
 pub struct Found<'a> {
     path: &'a str,
-    file: Identity,
+    seen: Sighting,
 }
 
 impl<'a> Found<'a> {
@@ -126,8 +159,11 @@ impl<'a> Found<'a> {
     pub fn at<R: Files>(rt: &R, path: &'a str) -> Result<Found<'a>, Fault>
         ensures { IfErr result IsFirstFault }
     {
-        let file = look(rt, path)?;
-        Ok(Found { path, file })
+        let found = look(rt, path)?;
+        Ok(Found {
+            path,
+            seen: sighting_of(&found),
+        })
     }
 
     /// Its path.
@@ -135,6 +171,27 @@ impl<'a> Found<'a> {
         self.path
     }
 
+    /// The file as it is behind its opening, which gave a store with nothing in it or not. None where the opening had another file.
+    pub fn opened<R: Files>(&self, rt: &R, is_blank: bool) -> Option<Opened<'a>> {
+        let found = fs::metadata(rt, self.path).ok()?;
+        if !is_opened_as(self.seen, sighting_of(&found), is_blank) {
+            return None;
+        }
+        Some(Opened {
+            path: self.path,
+            file: identity_of(&found),
+        })
+    }
+}
+
+/// A file that was found, and is open.
+#[derive(Clone, Copy)]
+pub struct Opened<'a> {
+    path: &'a str,
+    file: Identity,
+}
+
+impl Opened<'_> {
     /// Whether the path still names it.
     pub fn is_there<R: Files>(&self, rt: &R) -> bool {
         names(rt, self.path, self.file)
@@ -146,7 +203,7 @@ fn real_paths<R: Files + AllocGlobal>(rt: &R, path: &str) -> Result<(PathBuf, St
     ensures { IfErr result IsFirstFault }
 {
     let real = fs::canonicalize(rt, path).map_err(told_as)?;
-    let log = format!(in rt.alloc(); "{}-wal", real.as_str()).map_err(|_| Fault::Memory)?;
+    let log = format!(in rt.alloc(); "{}{LOG_SUFFIX}", real.as_str()).map_err(|_| Fault::Memory)?;
     Ok((real, log))
 }
 
@@ -178,7 +235,7 @@ pub(crate) fn take_back<R: Files + AllocGlobal>(
 ) -> Result<(), Fault>
     ensures { IfErr result IsFirstFault }
 {
-    let file = look(rt, path)?;
+    let file = identity_of(&look(rt, path)?);
     let (real, log) = real_paths(rt, path)?;
     remove_log(rt, log.as_str());
     remove(rt, real.as_str(), file);
@@ -216,6 +273,25 @@ fn is_no_news(found: io::Result<Metadata>) -> io::Result<bool>
         Ok(found) => Ok(found.is_file() && found.len() <= EMPTY_LOG_BYTES),
         Err(error) if error.kind() == ErrorKind::NotFound => Ok(true),
         Err(error) => Err(error),
+    }
+}
+
+// Whether a plain file is there.
+fn is_taken(found: io::Result<Metadata>) -> io::Result<bool>
+    ensures { IsTaken found result }
+{
+    match found {
+        Ok(found) => Ok(found.is_file()),
+        Err(error) if error.kind() == ErrorKind::NotFound => Ok(false),
+        Err(error) => Err(error),
+    }
+}
+
+// Whether the path is that of another file's log.
+fn is_log_of_another<R: Files>(rt: &R, path: &str) -> io::Result<bool> {
+    match path.strip_suffix(LOG_SUFFIX) {
+        Some(other) => is_taken(fs::symlink_metadata(rt, other)),
+        None => Ok(false),
     }
 }
 
@@ -263,8 +339,8 @@ fn lock_init(file: &File) -> io::Result<()> {
 
 impl<'a> Place<'a> {
     /// Takes the place at this path: makes a file there, or takes an empty one. Fault 21 where memory runs out. Fault 22 where anything
-    /// else is there, where a log with news lies beside it, where another call of `init` is at it, or where no file can be made. What was
-    /// there stays as it is, and what was made is taken away; fault 22 also where that fails.
+    /// else is there, where a log with news lies beside it, where the log of another file would be there, where another call of `init` is at
+    /// it, or where no file can be made. What was there stays as it is, and what was made is taken away; fault 22 also where that fails.
     pub fn take<R: Files<File = File> + AllocGlobal>(
         rt: &R,
         path: &'a str,
@@ -284,15 +360,20 @@ impl<'a> Place<'a> {
         }
     }
 
-    // Locks the file, and sees that it is empty, that the path alone names it, and that no log has news of another.
+    // Locks the file, and sees that it is empty, that the path alone names it and is not that of another file's log, and that no log has news of
+    // another.
     fn settle<R: Files<File = File> + AllocGlobal>(&mut self, rt: &R) -> Result<(), Fault>
         ensures { IfErr result IsFirstFault }
     {
         self.keep_off_streams().map_err(told_as)?;
         self.lock().map_err(told_as)?;
-        let (_real, log) = real_paths(rt, self.path)?;
+        let (real, log) = real_paths(rt, self.path)?;
         self.log = log;
-        if !self.has_no_news(rt).map_err(told_as)? || !self.is_empty(rt).map_err(told_as)? {
+        let is_anothers = is_log_of_another(rt, real.as_str()).map_err(told_as)?;
+        if is_anothers
+            || !self.has_no_news(rt).map_err(told_as)?
+            || !self.is_empty(rt).map_err(told_as)?
+        {
             return Err(Fault::Store);
         }
         Ok(())
@@ -357,8 +438,8 @@ impl<'a> Place<'a> {
     }
 
     /// Leaves the place as it was found, behind tables that could not be made there: nothing where this call made the file, else an empty
-    /// file. The log goes first, so that none is left without its file. Where the path names another file, all stays. Whether the place is
-    /// as it was found.
+    /// file; and no log, also where one without news lay there. The log goes first, so that none is left without its file. Where the path
+    /// names another file, all stays. Whether the place is left so.
     pub fn clear<R: Files>(&self, rt: &R) -> bool {
         let Ok(found) = self.file.metadata() else {
             return false;

@@ -8,10 +8,11 @@ ghost use Rattle.dh_jobs.specs.Ends.{ServingEnds};
 ghost use Rattle.dh_jobs.specs.Leaving.{IsKept, ServingLeaves};
 ghost use Rattle.dh_jobs.specs.Printed.{IsRefusedEnd, Prints, PrintsService, TellsServed};
 
+use crate::places::Opened;
 use crate::printed::{tell_fault, tell_no_listener, tell_problem};
 use crate::status::{Failure, Status};
 use dh_agency::{NotOpened, attach};
-use dh_http::{Service, Unserved, serve};
+use dh_http::{Service, Unserved, Watch, serve};
 use sqlite::{Alter, Connection};
 use std::io::Write;
 
@@ -28,10 +29,24 @@ fn tell_served<W: Write>(outcome: Result<(), Unserved>, writer: &mut W) -> Statu
     }
 }
 
-/// Takes the tables as they are, and serves requests over them.
+// An open file, which is looked for at its path.
+#[derive(Clone, Copy)]
+struct OnDisk<'a> {
+    rt: &'a HostRuntime,
+    file: Opened<'a>,
+}
+
+impl Watch for OnDisk<'_> {
+    fn is_there(&mut self) -> bool {
+        self.file.is_there(self.rt)
+    }
+}
+
+/// Takes the tables as they are, and serves requests over them. The file is looked for before a request is read.
 pub(crate) fn answer_requests<S: Alter, W: Write>(
     rt: &HostRuntime,
     conn: Connection<S>,
+    file: &Opened,
     service: Service,
     writer: &mut W,
 ) -> (Status, Connection<S>)
@@ -46,7 +61,8 @@ pub(crate) fn answer_requests<S: Alter, W: Write>(
 {
     match attach(rt.alloc(), conn) {
         Ok(mut agency) => {
-            let outcome = serve(rt, &mut agency, service, writer);
+            let mut on_disk = OnDisk { rt, file: *file };
+            let outcome = serve(rt, &mut agency, &mut on_disk, service, writer);
             let status = tell_served(outcome, writer);
             (status, agency.into_store())
         }

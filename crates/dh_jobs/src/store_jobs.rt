@@ -17,6 +17,7 @@ ghost use Rattle.dh_jobs.specs.OnFile.{IsMade, IsUnmade};
 ghost use Rattle.dh_jobs.specs.Printed.{IsOfLines, IsRecoveryEnd, IsRefusedEnd, Prints, PrintsJob, PrintsWork};
 
 use crate::jobs::{Work, answer_lines, work_on};
+use crate::places::Opened;
 use crate::printed::{heard, print_migrated, print_recovered, tell_fault, tell_problem};
 use crate::service::answer_requests;
 use crate::status::Status;
@@ -186,6 +187,7 @@ pub(crate) fn begin<S: Alter, R: Read, W: Write>(
 pub(crate) fn do_job<S: Alter, R: Read, W: Write>(
     rt: &HostRuntime,
     conn: Connection<S>,
+    file: &Opened,
     job: FileJob,
     reader: &mut R,
     writer: &mut W,
@@ -202,6 +204,6 @@ pub(crate) fn do_job<S: Alter, R: Read, W: Write>(
         FileJob::Recover => mend(rt.alloc(), conn, writer),
         FileJob::Migrate => renew(rt.alloc(), conn, writer),
         FileJob::Work(work) => take(rt.alloc(), conn, work, reader, writer),
-        FileJob::Serve(service) => answer_requests(rt, conn, service, writer),
+        FileJob::Serve(service) => answer_requests(rt, conn, file, service, writer),
     }
 }

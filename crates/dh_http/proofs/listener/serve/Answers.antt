@@ -4,8 +4,9 @@ use Rattle.dh_types.specs.declared.reply.Fault.TheVariants.{Memory}
 use Rattle.dh_http.specs.declared.listener.Unserved.TheVariants as unserved
 use Rattle.dh_http.specs.Printed.{AreFewer, Listened, PrintsBehind, PrintsServed, Untold, port_text}
 use Rattle.dh_http.specs.Service.{ServesOn}
+use Rattle.dh_http.specs.Watched.{IsWatched}
 use Rattle.dh_http.proofs.ServingLemmas.{serves_none}
-use Rattle.dh_http.proofs.PrintedLemmas.{is_fault, is_output, is_port_text, prints_behind}
+use Rattle.dh_http.proofs.PrintedLemmas.{is_fault, is_output, is_port_text, prints_behind, unwatched}
 use Rattle.dh_http.proofs.listener.serve.Goals as goal
 
 pub returns-in_err-print_port-clause-served : goal.returns-in_err-print_port-clause-served
@@ -16,6 +17,7 @@ returns-in_err-print_port-clause-served g c =
       serves_none g.S.Store c.args.agency.now,
       Untold (port_text asked port) (is_port_text asked port) c.in_err-print_port.ensures refl c.in_err-print_port.field-0.0
           (is_output c.in_err-print_port.field-0.0 c.from_residual.result c.from_residual.ensures.1),
+      unwatched (g.F.Watch.looks c.args.file.now) c.from_residual.result,
     )
 
 pub returns-in_err-routes-clause-served : goal.returns-in_err-routes-clause-served
@@ -28,13 +30,15 @@ returns-in_err-routes-clause-served g c =
     } in
     subst (λ r.
     (outcomes : List (Option ℕ)) × ServesOn g.S.Store c.args.agency.now c.args.agency.now outcomes
-    × PrintsServed c.args.service outcomes (g.W.Write.contents c.args.writer.now) (g.W.Write.contents c.print_port.new.writer) r)
+    × PrintsServed c.args.service outcomes (g.W.Write.contents c.args.writer.now) (g.W.Write.contents c.print_port.new.writer) r
+    × IsWatched (g.F.Watch.looks c.args.file.now) (g.F.Watch.looks c.args.file.now) outcomes r)
     (sym (is_fault Memory c.from_residual-in_err-routes.result c.from_residual-in_err-routes.ensures.1)) (
       [],
       serves_none g.S.Store c.args.agency.now,
       Listened (port_text asked port) (is_port_text asked port)
           (prints_behind c.args.service.count (port_text asked port) [] _ _ _ (Err (unserved.Fault Memory)) c.in_ok-print_port.ensures
           (fewer, Appends-nil _)),
+      unwatched (g.F.Watch.looks c.args.file.now) (Err (unserved.Fault Memory)),
     )
 
 pub returns-clause-served : goal.returns-clause-served
@@ -50,4 +54,5 @@ returns-clause-served g c =
       did.1,
       Listened (port_text asked port) (is_port_text asked port)
           (prints_behind c.args.service.count (port_text asked port) did.0 _ _ _ c.serve_connections.result c.in_ok-print_port.ensures lines),
+      did.3,
     )
