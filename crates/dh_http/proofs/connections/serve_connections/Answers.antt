@@ -79,8 +79,7 @@ returns-then-is_stopped-clause-served g c =
 
 pub returns-clause-served : goal.returns-clause-served
 returns-clause-served g c =
-    let was = c.loop-served.invariant.served in
-    (
+    let was = c.loop-served.invariant.served in (
       was.outcomes,
       was.on,
       (record { count_is = omega (arith, was.count_is); going = was.going }, was.written),

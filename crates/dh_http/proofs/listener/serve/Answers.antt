@@ -2,12 +2,20 @@ use Rattle.std.proofs.Common.{[], ℕ, List, Option, Err, arith, refl, subst, sy
 use Rattle.std.proofs.KnownBytes.{Appends-nil}
 use Rattle.dh_types.specs.declared.reply.Fault.TheVariants.{Memory}
 use Rattle.dh_http.specs.declared.listener.Unserved.TheVariants as unserved
-use Rattle.dh_http.specs.Printed.{AreFewer, Listened, PrintsBehind, PrintsServed, Untold, port_text}
+use Rattle.dh_http.specs.Printed.{AreFewer, Listened, PrintsBehind, PrintsServed, Unlistened, Untold, port_text}
 use Rattle.dh_http.specs.Service.{ServesOn}
 use Rattle.dh_http.specs.Watched.{IsWatched}
 use Rattle.dh_http.proofs.ServingLemmas.{serves_none}
 use Rattle.dh_http.proofs.PrintedLemmas.{is_fault, is_output, is_port_text, prints_behind, unwatched}
 use Rattle.dh_http.proofs.listener.serve.Goals as goal
+
+pub returns-in_default-clause-served : goal.returns-in_default-clause-served
+returns-in_default-clause-served g c = (
+  [],
+  serves_none g.S.Store c.args.agency.now,
+  Unlistened refl refl refl,
+  unwatched (g.F.Watch.looks c.args.file.now) (Err unserved.NoListener),
+)
 
 pub returns-in_err-print_port-clause-served : goal.returns-in_err-print_port-clause-served
 returns-in_err-print_port-clause-served g c =
