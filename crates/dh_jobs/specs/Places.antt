@@ -1,5 +1,5 @@
 -- What is found at a path, and what is made of it.
-use Rattle.std.specs.Prelude.{◌≡◌, ◌≢◌, ◌↔◌, ◌≤◌, ◌≤ℤ◌, ℕ, ℤ, pos, Bool, true, false, IsTrue, Result, Ok, Err}
+use Rattle.std.specs.Prelude.{◌≡◌, ◌≢◌, ◌⊎◌, ◌↔◌, ◌≤◌, ◌≤ℤ◌, ℕ, ℤ, pos, Bool, true, false, IsTrue, Result, Ok, Err}
 use Rattle.std.specs.Fs.{IsFile, file_type, metadata_len}
 use Rattle.std.specs.IoError.{error_kind}
 use Rattle.std.specs.declared.fs.attrs.Metadata.{Metadata}
@@ -26,11 +26,11 @@ IsFoundAs (Ok it) (Err why) = (¬ MayHoldTables it) × (why ≡ fault.Store)
 IsFoundAs (Err error) (Ok file) = ⊥
 IsFoundAs (Err error) (Err why) = why ≡ system_fault (error_kind error)
 
--- An opening has the file that was seen, by its device and its number; a blank one also by when it was written last.
+-- An opening has the file that was seen, by its device and its number; a blank one only if it is as old, or was not written since.
 pub record IsOpenedAs (seen opened : Sighting) (is_blank : Bool) : Type 0 where
-  pub device : opened.device ≡ seen.device
-  pub number : opened.number ≡ seen.number
-  pub unwritten : IsTrue is_blank → opened.written_at ≡ seen.written_at
+  pub device : opened.file.device ≡ seen.file.device
+  pub number : opened.file.number ≡ seen.file.number
+  pub unmade : IsTrue is_blank → (opened.file.made_at ≡ seen.file.made_at) ⊎ (opened.written_at ≡ seen.written_at)
 
 -- a descriptor of a standard stream: that of standard error is 2, and the other two have lesser ones
 abbrev pub IsOfStream : ℤ → Type 0

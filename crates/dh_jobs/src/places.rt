@@ -58,31 +58,31 @@ fn identity_of(found: &Metadata) -> Identity {
     }
 }
 
-/// What a path named before it was opened: the device and the number of a file, and when it was written last, if the file system knows that.
+/// Which file a path named, and when that was written last, if the file system knows that.
 #[derive(Clone, Copy, Debug, PartialEq, Eq)]
 pub struct Sighting {
-    device: u64,
-    number: u64,
+    file: Identity,
     written_at: Option<SystemTime>,
 }
 
 // As what this was seen.
 fn sighting_of(found: &Metadata) -> Sighting {
     Sighting {
-        device: found.dev(),
-        number: found.ino(),
+        file: identity_of(found),
         written_at: found.modified().ok(),
     }
 }
 
-// Whether an opening has the file that was seen. A blank one it has only where that was not written since: where a file went, the opening makes a
-// blank one, which may get its number.
+// Whether an opening has the file that was seen. A blank one it has not where that is younger and was written since: where a file went, the opening
+// makes a blank one, which may get its number.
 fn is_opened_as(seen: Sighting, opened: Sighting, is_blank: bool) -> bool
     ensures { IsTrue result ↔ IsOpenedAs seen opened is_blank }
 {
-    opened.device == seen.device
-        && opened.number == seen.number
-        && (!is_blank || opened.written_at == seen.written_at)
+    opened.file.device == seen.file.device
+        && opened.file.number == seen.file.number
+        && (!is_blank
+            || opened.file.made_at == seen.file.made_at
+            || opened.written_at == seen.written_at)
 }
 
 // Whether the file is this one.
@@ -173,13 +173,13 @@ impl<'a> Found<'a> {
 
     /// The file as it is behind its opening, which gave a store with nothing in it or not. None where the opening had another file.
     pub fn opened<R: Files>(&self, rt: &R, is_blank: bool) -> Option<Opened<'a>> {
-        let found = fs::metadata(rt, self.path).ok()?;
-        if !is_opened_as(self.seen, sighting_of(&found), is_blank) {
+        let opened = sighting_of(&fs::metadata(rt, self.path).ok()?);
+        if !is_opened_as(self.seen, opened, is_blank) {
             return None;
         }
         Some(Opened {
             path: self.path,
-            file: identity_of(&found),
+            file: opened.file,
         })
     }
 }
