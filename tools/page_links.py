@@ -1,0 +1,43 @@
+#!/usr/bin/env python3
+"""Refuses a page that leads nowhere: a relative Markdown link, an #anchor, or a file named in backticks, with a slash in it, that is not there.
+
+Prints a line for each, and ends with 1 if there is one. A name in backticks stands at the top, below crates/, in a crate, in its src, or in
+its proofs, where `.antt` may be missing. What a check leaves in `out/` is not looked for, nor a name with a part in capitals for one to choose.
+"""
+import re
+import sys
+from pathlib import Path
+
+TOP = Path(__file__).resolve().parent.parent
+PAGES = [TOP / 'README.md', TOP / 'CONTRIBUTING.md', TOP / 'CHANGELOG.md', TOP / 'bench' / 'README.md', *sorted((TOP / 'docs').glob('*.md'))]
+BLOCK = re.compile(r'^```.*?^```$', re.M | re.S)
+
+
+def anchors_of(page):
+    """The anchors of its headings, as a reader of Markdown makes them."""
+    heads = re.findall(r'^#+ (.*)$', BLOCK.sub('', page.read_text(encoding='utf-8')), re.M)
+    return {re.sub(r'[^\w -]', '', head).lower().replace(' ', '-') for head in heads}
+
+
+def is_there(name):
+    places = ['', 'crates/', 'crates/*/', 'crates/*/src/', 'crates/*/proofs/']
+    return re.match(r'out(/|$)', name) or re.search(r'\b(NAME|MODULE|FUNCTION)\b', name) or any(
+        next(TOP.glob(place + name + end), None) for place in places for end in ('', '.antt'))
+
+
+def faults_of(page):
+    text = BLOCK.sub('', page.read_text(encoding='utf-8'))
+    for link in re.findall(r'\]\(([^)\s]+)\)', text):
+        path, _, anchor = link.partition('#')
+        target = page.parent / path if path else page
+        if not re.match(r'\w+:', link) and not (target.exists() and (not anchor or anchor in anchors_of(target))):
+            yield f'the link {link} leads nowhere'
+    for quoted in re.findall(r'`([^`]+)`', text):
+        name = re.match(r'(?:\./)?(\w[\w.-]*/[\w./-]*|\.ci/\w+)', quoted)
+        if name and not is_there(name[1].rstrip('/')):
+            yield f'there is no {name[1]}'
+
+
+found = [f'{page.relative_to(TOP)}: {fault}' for page in PAGES for fault in faults_of(page)]
+print('\n'.join(found), end='\n' if found else '')
+sys.exit(bool(found))
