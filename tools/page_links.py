@@ -33,7 +33,7 @@ def faults_of(page):
         if not re.match(r'\w+:', link) and not (target.exists() and (not anchor or anchor in anchors_of(target))):
             yield f'the link {link} leads nowhere'
     for quoted in re.findall(r'`([^`]+)`', text):
-        name = re.match(r'(?:\./)?(\w[\w.-]*/[\w./-]*|\.ci/\w+)', quoted)
+        name = re.match(r'(?:\./)?([A-Za-z_][\w.-]*/[\w./-]*|\.ci/\w+)', quoted)
         if name and not is_there(name[1].rstrip('/')):
             yield f'there is no {name[1]}'
 
