@@ -40,7 +40,7 @@ pub fn attach<S: Alter>(
 }
 
 /// Takes the tables and makes the run that they show as open to its end. The refusals and faults are those of [`attach`], and at a
-/// refusal the tables stay as they are. At a fault, and wherever a crash cuts it, sound tables are sound with the same whole books,
+/// refusal the tables stay as they are. At a fault, and after a crash as it returns, sound tables are sound with the same whole books,
 /// and the open run is moved on; tables that are not sound, or not of the second version, stay as they are.
 pub fn recover<S: Alter>(
     alloc: Global,

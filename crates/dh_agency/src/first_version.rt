@@ -23,8 +23,8 @@ use std::alloc::Global;
 /// each part gets a fee of 0, and no lease is ended early. There is no way back. Refusal 16 comes exactly where `meta` gives another
 /// version than the first, then refusal 17 exactly where the tables are not sound, as [`attach`](crate::attach) tells them, and then
 /// refusal 10 with the month where a run stands open. Fault 21 comes where memory runs out, and fault 22 where the store fails, or the
-/// tables are not ours or not those of the version that `meta` gives. At a refusal the tables stay as they are; wherever a crash cuts
-/// it, they are those before or the migrated ones.
+/// tables are not ours or not those of the version that `meta` gives. At a refusal the tables stay as they are; a crash as it returns
+/// leaves those before or the migrated ones.
 pub fn migrate<S: Alter>(
     alloc: Global,
     conn: Connection<S>,
@@ -49,7 +49,7 @@ pub fn migrate<S: Alter>(
 
 /// Takes tables of the first version and makes the run that they show as open to its end; they stay tables of the first version. The
 /// refusals and faults are those of [`recover`](crate::recover), where the first version is the one that is wanted, and at a refusal
-/// the tables stay as they are. At a fault, and wherever a crash cuts it, sound tables are sound with the same whole books, and the
+/// the tables stay as they are. At a fault, and after a crash as it returns, sound tables are sound with the same whole books, and the
 /// open run is moved on; tables that are not sound, or not of the first version, stay as they are.
 pub fn recover_1<S: Alter>(
     alloc: Global,

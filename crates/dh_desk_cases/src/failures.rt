@@ -26,8 +26,8 @@ struct Left {
     tables: String,
 }
 
-// A line of a block, the status, if one stands there, and the text that are wanted, the file as it is before, and what a run leaves for each number of records,
-// from none to all.
+// A line of a block: the call, the status that is wanted if one stands there, the text that is wanted, the file before the call, and what a
+// run leaves for each number of records, from none to all.
 #[derive(Drop)]
 struct Line<'a> {
     words: &'a str,

@@ -1,4 +1,4 @@
--- What serving connections leaves, whatever peers send and whenever a crash comes, and what is told of each connection.
+-- What a crash leaves as the serving of connections ends, whatever peers sent, and what is told of each connection.
 use Rattle.std.specs.Prelude.{◌≡◌, ℕ, Bool, true, false, ⊤, List, [], ◌∷◌, ◌++◌, Option, Some, None, IfSome, Result, Ok, Err}
 use Rattle.std.specs.Net.Addr.{ipv4_octets}
 use Rattle.std.specs.Net.Socket.{socket_ip}

@@ -1,5 +1,5 @@
 //! HTTP over an agency: one request and its answer, and the connections at a port of this machine, one after the other. Read
-//! [`serve_one`] and `specs/Requests.antt` of dh_requests first, and then [`serve`].
+//! [`serve`], which the program runs, and `specs/Requests.antt` of dh_requests first; [`serve_one`] is for cases.
 #![tactic(auto)]
 
 mod acceptor;

@@ -1,4 +1,4 @@
--- What a crash leaves of a job, at whatever moment it comes.
+-- What a crash leaves of a job as it ends, wherever it came to.
 use Rattle.std.specs.Prelude.{◌≡◌, ◌⊎◌, ◌≤◌, List, ◌++◌, length}
 use Rattle.sqlite.specs.State as conn
 use Rattle.sqlite.specs.State.{HasCleanDisk}
@@ -24,8 +24,8 @@ use Rattle.dh_jobs.specs.Statuses.{IsAnswered}
 abbrev pub IsKept : conn.State → Status → Type 0
 IsKept s status = HasCleanDisk s → IsAnswered status → LeavesItsTables s
 
--- Some records were answered, and one more at most was being answered: the whole of the tables is the machine's books after those, or
--- after that one too.
+-- Some records, which nothing here ties to the input, were answered, and one more at most was being answered: the whole of the tables is
+-- the machine's books after those, or after that one too.
 pub record LinesLeave (new : conn.State) (s : State) : Type 0 where
   pub rows : List Fields
   pub within : List Fields
@@ -43,7 +43,8 @@ pub record TakingLeaves (old new : conn.State) (it : Work) : Type 0 where
   pub worked : HasCleanDisk new → IsSound old.now.trees → WorkLeaves new (tables old) it
   pub untouched : HasCleanDisk new → ¬ IsSound old.now.trees → LeavesAsTheyWere old new
 
--- Connections were served over sound tables: the whole of the tables is the machine's books behind some of them. Other tables stay.
+-- Connections, which nothing here ties to what peers sent, were served over sound tables: the whole of the tables is the machine's books
+-- behind some of them. Other tables stay.
 pub record ServingLeaves (old new : conn.State) : Type 0 where
   pub served : HasCleanDisk new → IsSound old.now.trees → Leaves new (IsAfterSome (stand_of (tables old)))
   pub untouched : HasCleanDisk new → ¬ IsSound old.now.trees → LeavesAsTheyWere old new

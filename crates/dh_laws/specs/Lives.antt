@@ -96,7 +96,7 @@ module _ (size : ℕ) where
       × ((month : ℕ) → Follow size start (before ++ (Answered (command.Open order) (reply.Opened month), said) ∷ later ++ (Recovered, after) ∷ [])
       → (run : Run) × IsRunFor after.books order run × (month ≡ order.month))
 
-  -- a receipt or a run that was carried out and is sent again changes nothing more
+  -- a receipt or a run that was accepted with no run open, and is sent again next, changes nothing more
   abbrev pub SentAgainIsOnce : Type 0
   SentAgainIsOnce = (books : Books) (rows : Change) → 1 ≤ size → AreKeyed books → IsLawful books size
       → ((order : ReceiptOrder) → verdict_on books None (command.Receipt order) ≡ verdict.Change rows

@@ -90,8 +90,9 @@ module _ (size : ℕ) where
       (step size s (command.Run order) ≡ (s, reply.AlreadyPosted sum))
       × (step size s (command.Open order) ≡ (s, reply.AlreadyPosted sum))
 
-  -- What was carried out over lawful books and is sent again gets the reply that is kept of it: a receipt its number; a run, made
-  -- in one step or by its opening and the posting of all its batches, its sum, whether it is sent as a run or as an opening.
+  -- What was accepted over lawful books with no run open, and is sent again next, gets the reply that is kept of it: a receipt its
+  -- number; a run, made in one step or by its opening and the posting of all its batches, its sum, whether it is sent as a run or as an
+  -- opening.
   abbrev pub SentAgainIsToldTheSame : Type 0
   SentAgainIsToldTheSame = (books : Books) → 1 ≤ size → AreKeyed books → IsLawful books size
       → ((order : ReceiptOrder) (after : State) (number : ℕ) → step size (with_no_run books) (command.Receipt order) ≡ (after, reply.Receipt number)

@@ -47,7 +47,7 @@ pub fn acknowledged_runs_stay()
     ensures { (size : ℕ) → AcknowledgedRunsStay size }
 {}
 
-/// A receipt or a run that was interrupted is sent again with its key: whichever way the cut went, the books are the same.
+/// A receipt or a run that was accepted with no run open, and is sent again next, with its key: the books stay the same.
 pub fn sent_again_is_once()
     ensures { (size : ℕ) → SentAgainIsOnce size }
 {}

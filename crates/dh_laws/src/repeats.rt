@@ -24,8 +24,8 @@ pub fn repeats_get_their_reply()
     ensures { (size : ℕ) → RepeatsGetTheirReply size }
 {}
 
-/// A receipt or a run that was carried out and is sent again is told its number, or its sum, as before; so is a run that
-/// was opened and posted, and it doesn't matter whether it is sent as a run or as an opening.
+/// A receipt or a run that was accepted with no run open, and is sent again next, is told its number, or its sum, as before; so is a
+/// run that was opened and posted, and it doesn't matter whether it is sent as a run or as an opening.
 pub fn sent_again_is_told_the_same()
     ensures { (size : ℕ) → SentAgainIsToldTheSame size }
 {}

@@ -1,3 +1,4 @@
 pub mod Session
 pub mod Told
 pub mod Batch
+pub mod Reading

@@ -30,7 +30,8 @@ pub data Call : Type 0 where
   Recovered : Call
   RecoveryInterrupted : Call
 
--- From the connection as the call begins to the connection as it ends, or as the stop comes.
+-- From the connection as the call begins to the connection as it ends. Where a stop came within it, it ends in the run whose disk fails
+-- from the stop on.
 module _ (old new : State) where
   -- The call was answered: this holds of the tables before and after, and a crash now leaves the latter and nothing else.
   pub record Answers (P : machine.State → machine.State → Type 0) : Type 0 where

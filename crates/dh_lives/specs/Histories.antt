@@ -16,7 +16,8 @@ use Rattle.dh_runs.specs.Told.{reply_of}
 use Rattle.dh_lives.specs.Calls.{Call, Stepped, StepInterrupted, Resumed, ResumeInterrupted, Shown}
 use Rattle.dh_lives.specs.Calls.{ShowInterrupted, Attached, AttachInterrupted, Recovered, RecoveryInterrupted, Tells}
 
--- A call, the connection as it ended or as the stop came, and the connection that the next call finds.
+-- A call, the connection as it ended, and the one that the next call finds. Where a stop came within it, it ended in the run whose disk
+-- fails from the stop on.
 pub record Moment (S : Type 0) : Type 0 where
   pub call : Call
   pub ended : Held S

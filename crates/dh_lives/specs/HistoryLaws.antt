@@ -64,8 +64,8 @@ module _ {S : Type 0} (g : Ghosts S) where
     pub same : tables (state g found) ≡ end
     pub closed : end.open_run ≡ None
 
-  -- Whatever was called and wherever a stop came: once a recovery has come to its end, the tables that are found are the machine's
-  -- after such commands.
+  -- Whichever of these calls were made, answered or interrupted (no migration is among them): once a recovery has come to its end, the
+  -- tables that are found are the machine's after such commands.
   abbrev pub TablesAreTheMachines : Type 0
   TablesAreTheMachines = (first : Held S) (history : List (Moment S)) (last : Moment S) → EndsRecovered first history last
       → (told : List Command) × (end : machine.State)

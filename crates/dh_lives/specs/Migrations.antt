@@ -53,7 +53,8 @@ EndsWith Migrated old new = Answers old new IsMigration
 EndsWith Refused old new = Declines old new
 EndsWith Broken old new = Unit {0}
 
--- An attempt to migrate: how it came out, the connection as it ended or as the stop came, and the one that is found then.
+-- An attempt to migrate: how it came out, the connection as it ended, and the one that is found then. Where a stop came within it, it
+-- ended in the run whose disk fails from the stop on.
 pub record Attempt (S : Type 0) : Type 0 where
   pub outcome : Outcome
   pub ended : Held S
@@ -155,8 +156,8 @@ module _ {S : Type 0} (g : Ghosts S) where
   abbrev pub stand_at : Held S → machine.State
   stand_at it = state_of batch_size (tables_of g it)
 
-  -- From sound tables, whatever was called and however often a migration was tried, wherever a stop came: the tables that are found are sound,
-  -- and the machine stands at them, that was told such commands and was migrated once at most.
+  -- From sound tables, whichever calls were made and migrations tried, answered or interrupted: the tables that are found are sound, and
+  -- the machine stands at them, that was told such commands and was migrated once at most.
   abbrev pub StepsStandOverMigrations : Type 0
   StepsStandOverMigrations = (first : Held S) (steps : List (Step S)) → IsSoundIn g first → AreSteps first steps
       → (told : List Command) × StandsThrough (stand_at first) steps told (stand_at (found_behind first steps))

@@ -31,7 +31,7 @@ pub fn answers_keep_the_rules()
     invariants::steps_keep_the_law();
 }
 
-/// A receipt or a run that was accepted and is sent again is told the same, and no row moves.
+/// A receipt or a run that was accepted with no run open, and is sent again next, is told the same, and no row moves.
 pub fn sent_again_is_told_the_same()
     ensures { SentAgainIsToldTheSame }
 {

@@ -51,7 +51,7 @@ pub fn step_tells<S: Alter>(
         → IfOk result (λ reply. Tells (Stepped command.now reply) (shown_by S.Store agency.old) (shown_by S.Store agency.new)) }
     ensures cut { agency.old.is_stopped ≡ false
         → OnErr result (Tells (StepInterrupted command.now) (shown_by S.Store agency.old) (shown_by S.Store agency.new)) }
-    // At a stop within it no result is known.
+    // Whatever the result, a crash as the call returns leaves this.
     ensures stop { agency.old.is_stopped ≡ false → IsClean S.Store agency.new
         → Leaves S.Store agency.new (IsInterrupted command.now (machine S.Store agency.old)) }
     ensures line { IsEntered command.now }
@@ -74,7 +74,7 @@ pub fn resume_tells<S: Alter>(
         → IfOk result (λ it. Tells (Resumed most it) (shown_by S.Store agency.old) (shown_by S.Store agency.new)) }
     ensures cut { agency.old.is_stopped ≡ false
         → OnErr result (Tells (ResumeInterrupted most) (shown_by S.Store agency.old) (shown_by S.Store agency.new)) }
-    // At a stop within it no result is known.
+    // Whatever the result, a crash as the call returns leaves this.
     ensures stop { agency.old.is_stopped ≡ false → IsClean S.Store agency.new
         → Leaves S.Store agency.new (IsPostedInPart most (machine S.Store agency.old)) }
 {
@@ -91,7 +91,7 @@ pub fn show_tells<S: Alter>(
     ensures cut { agency.old.is_stopped ≡ false → OnErr result (Tells ShowInterrupted (shown_by S.Store agency.old) (shown_by S.Store agency.new)) }
     // The answer is the report of the tables.
     ensures said { IsClean S.Store agency.new → IfOk result (λ answer. report_of answer ≡ report (machine S.Store agency.old) question.now) }
-    // At a stop within it no result is known.
+    // Whatever the result, a crash as the call returns leaves this.
     ensures stop { agency.old.is_stopped ≡ false → IsClean S.Store agency.new
         → Leaves S.Store agency.new (λ left. left ≡ machine S.Store agency.old) }
 {
@@ -106,7 +106,7 @@ pub fn attach_tells<S: Alter>(
     requires { HasCleanDisk (state S.Store conn) → IsResting (state S.Store conn) }
     ensures taken { IfOk result (λ a. (a.is_stopped ≡ false) × Tells Attached (state S.Store conn) (shown_by S.Store a)) }
     ensures cut { IfErr result (λ e. Tells AttachInterrupted (state S.Store conn) (state S.Store e.conn)) }
-    // At a stop within it no result is known.
+    // Whatever the result, a crash as the call returns leaves this.
     ensures stop { IfOk result (λ a. Tells AttachInterrupted (state S.Store conn) (shown_by S.Store a)) }
 {
     attach(alloc, conn)
@@ -120,7 +120,7 @@ pub fn recover_tells<S: Alter>(
     requires { HasCleanDisk (state S.Store conn) → IsResting (state S.Store conn) }
     ensures mended { IfOk result (λ a. (a.is_stopped ≡ false) × Tells Recovered (state S.Store conn) (shown_by S.Store a)) }
     ensures cut { IfErr result (λ e. Tells RecoveryInterrupted (state S.Store conn) (state S.Store e.conn)) }
-    // At a stop within it no result is known.
+    // Whatever the result, a crash as the call returns leaves this.
     ensures stop { IfOk result (λ a. TakesForward (state S.Store conn) (shown_by S.Store a)) }
 {
     recover(alloc, conn)
@@ -148,7 +148,7 @@ pub fn recover_1_tells<S: Alter>(
     requires { HasCleanDisk (state S.Store conn) → IsResting (state S.Store conn) }
     ensures mended { IfOk result (λ c. Tells Recovered (state S.Store conn) (state S.Store c)) }
     ensures cut { IfErr result (λ e. Tells RecoveryInterrupted (state S.Store conn) (state S.Store e.conn)) }
-    // At a stop within it no result is known.
+    // Whatever the result, a crash as the call returns leaves this.
     ensures stop { IfOk result (λ c. TakesForward (state S.Store conn) (state S.Store c)) }
 {
     recover_1(alloc, conn)

@@ -29,9 +29,9 @@ pub fn tables_stay_without_news<S: Alter>()
     standings::nothing_new_leaves_the_tables();
 }
 
-/// Whatever was called, and wherever power was cut: once a recovery has come to its end, the tables are the machine's after a list
-/// of commands that keeps the order of the calls, holds every one that was answered, and of the others only such as were interrupted, each
-/// once at most.
+/// Whichever of these calls were made, answered or interrupted (no migration is among them): once a recovery has come to its end, the
+/// tables are the machine's after a list of commands that keeps the order of the calls, holds every one that was answered, and of the
+/// others only such as were interrupted, each once at most.
 pub fn tables_are_the_machines<S: Alter>()
     ensures { TablesAreTheMachines S.Store }
 {

@@ -47,7 +47,7 @@ abbrev pub IsMigrationProblem : Problem → Type 0
 IsMigrationProblem (problem.Refused (refusal.RunOpen month)) = ⊤
 IsMigrationProblem it = IsFirstProblem it
 
--- The tables are those before or the migrated ones, wherever a crash cuts it; tables that can't be migrated are as they were.
+-- A crash as the call returns leaves the tables before or the migrated ones; tables that can't be migrated are as they were.
 pub record MovesOn (old new : State) : Type 0 where
   pub was_clean : doubt old.is_clean ≤ doubt new.is_clean
   pub crash : HasCleanDisk new → CanBeMigrated old.now.trees → Leaves new (λ t. (t ≡ tables old) ⊎ (t ≡ migrated_state (tables old)))

@@ -59,13 +59,14 @@ pub record Steps {X : Type 0} (next : State → State) (result : Result X Fault)
   pub crash : HasCleanDisk new → Leaves new (λ t. (t ≡ tables old) ⊎ (t ≡ next (tables old)))
   pub was_clean : doubt old.is_clean ≤ doubt new.is_clean
 
--- Whatever a crash leaves is the run at one batch, at the next one, or closed where none was left: no transaction has two batches.
+-- Whatever a crash leaves as the call returns is the run at one batch, at the next one, or closed where none was left: no transaction has
+-- two batches.
 pub record LeavesOneBatch (most : ℕ) (before : State) (s : sqlite.State) : Type 0 where
   pub at : State
   pub reached : IsPostedInPart most before at
   pub left : Leaves s (λ t. (t ≡ at) ⊎ ((t ≡ next_batch at) ⊎ (IsAtItsEnd at.books at.open_run × (t ≡ closed_state at))))
 
--- Whatever a crash within a `run` leaves is the tables before, or those of its opening; or some batches on from these, it is as above.
+-- Whatever a crash leaves as a `run` returns is the tables before, or those of its opening; or some batches on from these, it is as above.
 abbrev pub LeavesOneStep : RunOrder → State → sqlite.State → Type 0
 LeavesOneStep order before s =
     let opened = begun order (change.Open (opened_run before.books order)) before in

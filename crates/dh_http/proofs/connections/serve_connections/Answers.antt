@@ -73,7 +73,8 @@ returns-then-is_stopped-clause-served g c =
     served_to_halt g.S.Store c.args.agency.now c.loop-served.agency c.serve_next.new.agency
     (g.F.Watch.looks c.args.file.now) (g.F.Watch.looks c.loop-served.file) (g.F.Watch.looks c.serve_next.new.file)
     (g.W.Write.contents c.args.writer.now) (g.W.Write.contents c.loop-served.writer) (g.W.Write.contents c.print_outcome.new.writer)
-    c.loop-served._served c.in_ok-outcome.outcome c.loop-served.invariant.served c.in_ok-outcome.ensures.on c.in_ok-outcome.ensures.seen c.args.count c.loop-served-test.true c.in_ok-print_outcome.ensures
+    c.loop-served._served c.in_ok-outcome.outcome c.loop-served.invariant.served c.in_ok-outcome.ensures.on c.in_ok-outcome.ensures.seen
+    c.args.count c.loop-served-test.true c.in_ok-print_outcome.ensures
     (halt_told c.loop-served.agency c.serve_next.new.agency c.in_ok-outcome.outcome c.in_ok-outcome.ensures.stops
     c.loop-served.invariant.live stopped)
 

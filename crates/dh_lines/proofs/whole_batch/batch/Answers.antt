@@ -5,6 +5,7 @@ use Rattle.csv.specs.Reading.{error_kind}
 use Rattle.csv.specs.Records.{fields_of}
 use Rattle.dh_agency.specs.Agency.{IsClean}
 use Rattle.dh_lines.specs.declared.watched_reader.Watching.{Watching}
+use Rattle.dh_lines.specs.Reading.{left_of}
 use Rattle.dh_lines.specs.Batch.{IsFirst, IsStoreFault, batch_fault}
 use Rattle.dh_lines.proofs.CrashLemmas.{answered_next, leaves_between, leaves_within}
 use Rattle.dh_lines.proofs.Following.{goes_on, ends, found}
@@ -18,7 +19,7 @@ loop-n-preserved g c =
     let did = c.in_ok-is_refused.ensures in
     let read = rw c.in-Ok-true.field-0-test at (c.in-Ok-true.ensures.reads inv.plain inv.ready) in
     let on = c.in-Ok-true.ensures.reads_on c.in-Ok-true.field-0-test in
-    let rem : Watching g.row.R.Denot → Option (List ℕ) = λ w. g.R.Read.remaining w.inner.now in
+    let rem : Watching g.row.R.Denot → Option (List ℕ) = λ w. left_of w.has_ended (g.R.Read.remaining w.inner.now) in
     let known : Option (List ℕ) = g.R.Read.remaining c.args.reader.now in
     let f = fields_of c.read_byte_record.new.row in
     let small : c.count_of-refused.result ≤ 1 = one_at_most c.in_ok-is_refused.is_refused c.count_of-refused.result c.count_of-refused.ensures in
@@ -46,7 +47,7 @@ pub returns-in-Ok-false-clause-ends : goal.returns-in-Ok-false-clause-ends
 returns-in-Ok-false-clause-ends g c clean =
     let inv = c.loop-n.invariant in
     let read = rw c.in-Ok-false.field-0-test at (c.in-Ok-false.ensures.reads inv.plain inv.ready) in
-    let rem : Watching g.row.R.Denot → Option (List ℕ) = λ w. g.R.Read.remaining w.inner.now in
+    let rem : Watching g.row.R.Denot → Option (List ℕ) = λ w. left_of w.has_ended (g.R.Read.remaining w.inner.now) in
     let known : Option (List ℕ) = g.R.Read.remaining c.args.reader.now in
     let all = ends rem known c.loop-n.records c.read_byte_record.new.self _ _ _ _ c.loop-n.n c.loop-n.refused
     (fields_of c.read_byte_record.new.row) inv.config read (inv.follows clean) in
@@ -101,7 +102,7 @@ returns-in_err-is_refused-clause-ends g c clean =
     let inv = c.loop-n.invariant in
     let did = c.in_err-is_refused.ensures in
     let read = rw c.in-Ok-true.field-0-test at (c.in-Ok-true.ensures.reads inv.plain inv.ready) in
-    let rem : Watching g.row.R.Denot → Option (List ℕ) = λ w. g.R.Read.remaining w.inner.now in
+    let rem : Watching g.row.R.Denot → Option (List ℕ) = λ w. left_of w.has_ended (g.R.Read.remaining w.inner.now) in
     let known : Option (List ℕ) = g.R.Read.remaining c.args.reader.now in
     let f = fields_of c.read_byte_record.new.row in
     let was : IsClean g.S.Store c.loop-n.agency = omega (arith, did.halts.was_clean, clean) in

@@ -2,6 +2,7 @@ use Rattle.std.proofs.Common.{◌≡◌, ◌≤◌, IfSome, false, true}
 use Rattle.csv.specs.Reading.{Ready, default_config, is_flexible, reader_config, reader_trim}
 use Rattle.csv.specs.declared.reader.Trim.TheVariants as trim
 use Rattle.dh_agency.specs.Agency.{IsClean, LeavesItsTables, WasClean, stand}
+use Rattle.dh_lines.specs.Reading.{left_of}
 use Rattle.dh_lines.specs.Batch.{WasAnswered}
 use Rattle.dh_lines.proofs.Following.{Follows}
 use Rattle.dh_lines.proofs.whole_batch.batch.Given as goal
@@ -19,6 +20,6 @@ invariant-loop-n g l = record {
   left : IsClean g.S.Store l.agency → LeavesItsTables g.S.Store l.initial.agency → l.agency.is_stopped ≡ false → LeavesItsTables g.S.Store l.agency;
   answered : IsClean g.S.Store l.agency → WasAnswered g.S.Store l.initial.agency l.agency;
   follows : IsClean g.S.Store l.agency → IfSome (g.R.Read.remaining l.fn.reader)
-      (Follows (λ w. g.R.Read.remaining w.inner.now) l.records (g.W.Write.contents l.initial.writer) (g.W.Write.contents l.writer)
+      (Follows (λ w. left_of w.has_ended (g.R.Read.remaining w.inner.now)) l.records (g.W.Write.contents l.initial.writer) (g.W.Write.contents l.writer)
       (stand g.S.Store l.initial.agency) (stand g.S.Store l.agency) l.n l.refused);
 }

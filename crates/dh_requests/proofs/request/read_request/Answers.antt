@@ -27,6 +27,7 @@ returns-in_err-judge-in-Found-clause-taken g c =
 
 pub returns-in_err-judge-in-Found-clause-memory : goal.returns-in_err-judge-in-Found-clause-memory
 returns-in_err-judge-in-Found-clause-memory g c e =
-    let told : c.in_err-judge-in-Found.field-0.0 ≡ Memory = handed c.from_residual-in_err-judge-in-Found.result _ _ e c.from_residual-in_err-judge-in-Found.ensures.1 in
+    let told : c.in_err-judge-in-Found.field-0.0 ≡ Memory =
+    handed c.from_residual-in_err-judge-in-Found.result _ _ e c.from_residual-in_err-judge-in-Found.ensures.1 in
     needs_memory _ _ c.read_head.new.buffer c.read_head.new.headers _ c.in-Found.head c.in-Found.is c.in_ok-read.ensures.input
     (c.in_err-judge-in-Found.ensures.memory (ap (λ x. Err x) told))
