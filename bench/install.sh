@@ -77,7 +77,7 @@ made_up_checkout() {
     local name
     mkdir -p proving/crates/dh_{low,high,desk}/src proving/tools
     cp "$top/letting" "$top/README.md" "$top/.gitignore" proving
-    cp "$top"/tools/{archive,build}.py proving/tools
+    cp "$top"/tools/{archive,build,crates}.py proving/tools
     printf 'dh_low:\ndh_high: dh_low\ndh_desk: dh_high\n' >proving/crates.txt
     for name in low/src/lib high/src/lib desk/src/main; do
         echo '//! Made up.' >"proving/crates/dh_$name.rt"

@@ -23,7 +23,8 @@ import subprocess
 import time
 from pathlib import Path
 
-TOP = Path(__file__).resolve().parent.parent
+from crates import TOP, uses_now, with_below
+
 PARTS = ('src', 'specs', 'proofs')
 MOST_JOBS = 4
 # The memory that a proof takes, with a half of that for each further process of it.
@@ -52,34 +53,16 @@ class Crate:
 
 def crates_of(program, folder=None):
     """The program with the crates of the repository below it, each behind those that it uses."""
-    folders = {}
-    uses = {}
-    for line in (TOP / 'crates.txt').read_text().splitlines():
-        name, _, used = line.partition('#')[0].partition(':')
-        if name.strip():
-            uses[name.strip()] = used.split()
+    uses, folders = uses_now(), {}
     if folder:
         uses[program], folders[program] = (folder / 'libraries').read_text().split(), folder
-    found = {}
-
-    def take(name):
-        if name in uses and name not in found:
-            for used in uses[name]:
-                take(used)
-            found[name] = Crate(name, uses[name], folders.get(name, TOP / 'crates' / name))
-
-    take(program)
-    return found
+    return {name: Crate(name, uses[name], folders.get(name, TOP / 'crates' / name)) for name in with_below(program, uses)}
 
 
 def below(crate, crates):
     """The crates of the repository that this one stands on."""
-    found = {}
-    for name in crate.used:
-        if name in crates:
-            found.update(below(crates[name], crates))
-            found[name] = crates[name]
-    return found
+    names = with_below(crate.name, {name: it.used for name, it in crates.items()})
+    return [crates[name] for name in names if name != crate.name]
 
 
 def stamps_of(crates, kit):
@@ -100,7 +83,7 @@ def words_of(what, crate, crates, kit, jobs):
     words = [kit / 'bin' / 'rattle', what, '--crate-name', crate.name, crate.root, '-L', f'dependency={kit}/rlibs']
     for name in ['std', *crate.used]:
         words += ['--extern', f'{name}={crates[name].library if name in crates else kit / "rlibs" / f"{name}.rlib"}']
-    for lower in below(crate, crates).values():
+    for lower in below(crate, crates):
         words += ['-L', f'dependency={lower.built}']
     words += ['--antt-project', kit / 'rattle' / 'logic' / 'antt-project.json', '--logic-built', kit / 'logic_built']
     return [*words, '--links', f'{crate.name}=', '--jobs', str(jobs)]

@@ -10,7 +10,8 @@ belongs into the note on the change. Nothing is listed of what is only new.
 """
 import sys
 
-from statements import Sources, behind_ghost, definitions_in, items_in, squeezed, with_below
+from crates import with_below
+from statements import Sources, behind_ghost, definitions_in, items_in, squeezed
 
 
 def shipped(sources):

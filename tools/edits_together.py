@@ -32,15 +32,15 @@ import time
 from pathlib import Path
 from typing import NamedTuple
 
-from build import TOP, Build, crates_of, toolchain, words_of
-from statements import Sources, sum_of, with_below
+from build import Build, crates_of, toolchain, words_of
+from crates import TOP, uses_now, with_below
+from edits import edits_of, groups_of, module_of
+from statements import Sources, sum_of
 
-GROUP = 12
 # What a check of a group takes of the time of the crate's proof.
 SHARE = 0.7
 TABLE = TOP / 'docs' / 'wrong-bodies.txt'
 EACH = 'each refused at a goal'
-FUNCTION = re.compile(r'^\s*(?:pub(?:\(crate\))? )?(?:const )?fn (\w+)')
 REFUSED = re.compile(r'^(?:fn|impl) (\S+?): (?:no proof|not proved)(.*)$', re.M)
 NAMED = re.compile(r'^(?:fn|impl) (\S+?): ', re.M)
 ERROR = re.compile(r'^\./((?:proofs|specs)/\S+?):\d+:\d+: error: (.*)$', re.M)
@@ -50,81 +50,6 @@ NAMES = re.compile(r'unknown|can be named|no (?:field|goal|such|clause)|not in s
 
 def read(path):
     return Path(path).read_text(encoding='utf-8')
-
-
-def read_if_there(path):
-    return read(path) if path.is_file() else ''
-
-
-class Edit:
-    """A wrong body: in each file the texts that are replaced, and the functions in which they stand."""
-
-    def __init__(self, path):
-        self.name = path.name.split('.')[0]
-        self.changes = []
-        file = old = None
-        for line in read(path).splitlines():
-            key, _, text = line.partition(':')
-            text = text[1:]
-            if key == 'file':
-                file = text
-            elif key == 'old':
-                old = text
-            elif key == 'new':
-                self.changes.append((file, old, text))
-
-    def functions(self, crate):
-        """The functions that hold what is replaced, each with its module."""
-        found = set()
-        for file, old, _ in self.changes:
-            text = read_if_there(crate / file)
-            at = text.find(old)
-            if at < 0:
-                continue
-            lines = text[:at].splitlines() + [old]
-            names = [match[1] for match in map(FUNCTION.match, lines) if match]
-            if names:
-                found.add((Path(file).stem, names[-1]))
-        return found
-
-    def replaced(self, crate):
-        """The files with its texts replaced, and those of the texts that do not stand once."""
-        files, wrong = {}, []
-        for file, old, new in self.changes:
-            text = files.get(file) or read_if_there(crate / file)
-            if text.count(old) != 1:
-                wrong.append(f'stands {text.count(old)} times: {old}')
-            files[file] = text.replace(old, new, 1)
-        return files, wrong
-
-    def made(self, crate):
-        """Replaces its texts; False where one of them does not stand once."""
-        files, wrong = self.replaced(crate)
-        if not wrong:
-            for file, text in files.items():
-                (crate / file).write_text(text, encoding='utf-8')
-        return not wrong
-
-
-def groups_of(edits, crate):
-    """Groups of edits no two of which share a function."""
-    groups = []
-    for edit in edits:
-        functions = edit.functions(crate)
-        for group, held in groups:
-            if len(group) < GROUP and functions and not functions & held:
-                group.append(edit)
-                held |= functions
-                break
-        else:
-            groups.append(([edit], set(functions)))
-    return [group for group, _ in groups]
-
-
-def module_of(file):
-    """The module that a source file has; none for the root."""
-    parts = Path(file).with_suffix('').parts[1:]
-    return '::'.join(part for part in parts if part not in ('lib', 'main', 'mod'))
 
 
 class Room:
@@ -251,17 +176,11 @@ def record(name, row):
     head, found = table()
     found[name] = row
     lines = [head, f"{'crate':<18}{'how many':>10}   {'last tried':<13}{'sum':<15}result"]
-    for crate in Sources().uses():
+    for crate in uses_now():
         if crate in found:
             count, commit, total, result = found[crate]
             lines.append(f'{crate:<18}{count:>10}   {commit:<13}{total:<15}{result}')
     TABLE.write_text('\n'.join(lines) + '\n', encoding='utf-8')
-
-
-def edits_of(name, gate=False):
-    """The wrong bodies of a crate that are kept outside the gate; with those of the gate too."""
-    folder = TOP / 'crates' / name / 'must-fail'
-    return [Edit(path) for path in sorted(folder.glob('*.edit*')) if gate or path.name.endswith('.md')]
 
 
 def stale():
@@ -292,7 +211,7 @@ def tell_stale():
 def tell_texts():
     """Says which texts of wrong bodies do not stand once."""
     count = 0
-    for name in Sources().uses():
+    for name in uses_now():
         for edit in edits_of(name, gate=True):
             for wrong in edit.replaced(TOP / 'crates' / name)[1]:
                 print(f'{name} {edit.name}: {wrong}')
@@ -342,7 +261,7 @@ def try_crate(name, only=(), gate=False):
 
 def proof_times():
     """The seconds of each crate's proof, by the table of the gate. A crate that it does not have is taken for one of the others."""
-    uses = Sources().uses()
+    uses = uses_now()
     rows = dict(re.findall(r'^(\w+) +(\d+) .*$', read(TOP / 'docs' / 'gate-times.txt'), re.M))
     known = [int(rows[name]) for name in uses if name in rows]
     return {name: int(rows.get(name, sum(known) // len(known))) for name in uses}
@@ -350,7 +269,7 @@ def proof_times():
 
 def not_built(names):
     """The libraries below these crates that have to be proved and built first."""
-    uses, crates = Sources().uses(), {}
+    uses, crates = uses_now(), {}
     for name in names:
         crates.update(crates_of(name))
     lower = {it for name in names for it in with_below(name, uses) if it != name}
@@ -390,7 +309,7 @@ def main(words):
     flags = {word for word in words if word.startswith('--')}
     words = [word for word in words if word not in flags]
     gate = '--gate' in flags
-    crates = Sources().uses()
+    crates = uses_now()
     if flags - {'--gate', '--all', '--stale', '--texts'} or bool(words) == bool(flags - {'--gate'}) or words and words[0] not in crates:
         return __doc__
     if '--all' in flags:

@@ -16,6 +16,8 @@ import sys
 import time
 from datetime import date
 
+from crates import uses_in
+
 TICK = os.sysconf('SC_CLK_TCK')
 PAGE = os.sysconf('SC_PAGE_SIZE')
 
@@ -96,7 +98,7 @@ def main():
     tried = {}
     for crate in re.findall(r'^rt: must-fail ([a-z_0-9]+)/', text, re.M):
         tried[crate] = tried.get(crate, 0) + 1
-    order = [line.split(':')[0].split()[0] for line in read(f'{top}/crates.txt').splitlines() if re.match(r'[a-z]', line)]
+    order = list(uses_in(read(f'{top}/crates.txt')))
     table = [f"{'crate':<18}{'proof, s':>10}{'wrong bodies, s':>17}{'how many':>10}{'memory of the proof, GB':>25}"]
     for crate in order:
         def took(work):

@@ -8,12 +8,11 @@ import io
 import re
 import subprocess
 import tarfile
-from pathlib import Path
 from typing import NamedTuple
 
+from crates import TOP, uses_in, with_below
 from made_errors import ENDS, TOKEN, behind
 
-TOP = Path(__file__).resolve().parent.parent
 HOLDERS = {'impl', 'trait', 'mod'}
 # What ends with its braces, and not at a semicolon.
 BRACED = {'fn', 'struct', 'enum', 'union', *HOLDERS}
@@ -44,12 +43,7 @@ class Sources:
 
     def uses(self):
         """The crates in their order, each with what it uses."""
-        found = {}
-        for line in self.text('crates.txt').splitlines():
-            name, _, used = line.partition('#')[0].partition(':')
-            if name.strip():
-                found[name.strip()] = used.split()
-        return found
+        return uses_in(self.text('crates.txt'))
 
 
 def packed(commit):
@@ -57,17 +51,6 @@ def packed(commit):
     archive = subprocess.run(['git', 'archive', commit, 'crates.txt', 'crates'], cwd=TOP, capture_output=True, check=True).stdout
     with tarfile.open(fileobj=io.BytesIO(archive)) as tar:
         return {it.name: tar.extractfile(it).read().decode() for it in tar if it.name.endswith(('.rt', '.antt', 'crates.txt')) and it.isfile()}
-
-
-def with_below(crate, uses):
-    """The crate, and the crates of the repository below it."""
-    found, left = [], [crate]
-    while left:
-        name = left.pop()
-        if name in uses and name not in found:
-            found.append(name)
-            left += uses[name]
-    return found
 
 
 def squeezed(text):
