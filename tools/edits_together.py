@@ -2,7 +2,8 @@
 """Tries the wrong bodies that are kept outside the gate, many in one check, and tells where they have to be tried anew.
 
     tools/edits_together.py [--gate] CRATE [NAME..]     those of the crate, or these alone; with --gate those that the gate tries too
-    tools/edits_together.py [--gate] --all [--stale]    those of all crates, or of the stale ones, in the order of crates.txt
+    tools/edits_together.py --new CRATE                 those that came or have another text since the row of the crate; all where its sum differs
+    tools/edits_together.py [--gate] --all [--stale]    those of all crates, or the new ones of the stale crates, in the order of crates.txt
     tools/edits_together.py --stale                     lists the stale crates, each with the reason; ends with 0 if there is none
     tools/edits_together.py --texts                     only whether each text that a wrong body replaces stands once
 
@@ -10,8 +11,8 @@ It works on a copy of the crate, over the libraries below it as tools/build.py b
 Each has to be refused at a goal of its own function, by one check of the group; one that does not show it is tried alone. Where one group has
 all, only the modules with a wrong body are checked. Prints a line for each: `refused` with the first goal or error of its function, `names`
 where a proof file names what the body took away, `no goal` where the refusal names no goal, `bad` where it does not compile, `proved` where
-nothing refused it. Ends with 0 if each was refused. Where all outside the gate were tried, it writes the row of the crate into
-docs/wrong-bodies.txt.
+nothing refused it. Ends with 0 if each was refused. Where all outside the gate were tried, or with --new the new ones, it writes the row of the
+crate into docs/wrong-bodies.txt.
 
 A row keeps a sum of what was stated as they were tried. A crate is stale where the sum is another now, or the number of its wrong bodies is, or
 not each was refused. Summed are (tools/statements.py), in no order and without comments and layout:
@@ -243,19 +244,33 @@ def try_in(work, name, edits):
     return [edit for group in groups for edit in tried(room, group)]
 
 
-def try_crate(name, only=(), gate=False):
-    """Whether each was refused. Where all outside the gate were tried, the table has the result."""
+def is_new(name, edit, commit):
+    """Whether it came, or has another text, since a commit."""
+    path = f'crates/{name}/must-fail/{edit.name}.edit.md'
+    was = subprocess.run(['git', 'show', f'{commit}:{path}'], cwd=TOP, capture_output=True, text=True, errors='replace')
+    return was.returncode != 0 or was.stdout != (TOP / path).read_text(encoding='utf-8')
+
+
+def new_ones(name):
+    """Those that are new since the row of the crate; all where what was stated then does not stand, or not each was refused."""
+    row, edits = table()[1].get(name), edits_of(name)
+    stands = row and row.result == EACH and row.total == sum_of(Sources(), name)
+    return [edit for edit in edits if not stands or is_new(name, edit, row.commit)]
+
+
+def try_crate(name, only=(), gate=False, new=False):
+    """Whether each was refused. Where all outside the gate were tried, or the new ones, the table has the result."""
     commit = subprocess.run(['git', 'rev-parse', '--short=8', 'HEAD'], cwd=TOP, capture_output=True, text=True, check=True).stdout.strip()
     total = sum_of(Sources(), name)
-    edits = [edit for edit in edits_of(name, gate) if not only or edit.name in only]
+    edits = new_ones(name) if new else [edit for edit in edits_of(name, gate) if not only or edit.name in only]
     with tempfile.TemporaryDirectory() as work:
-        left = try_in(Path(work), name, edits)
+        left = try_in(Path(work), name, edits) if edits else []
     if left is None:
         return False
     result = EACH if not left else 'not each refused: ' + ', '.join(left)
     print(f'{name}: {len(edits)} tried, {result}', flush=True)
-    if edits and not only and not gate:
-        record(name, Row(len(edits), commit, total, result))
+    if edits_of(name) and not only and not gate:
+        record(name, Row(len(edits_of(name)), commit, total, result))
     return not left
 
 
@@ -288,15 +303,15 @@ def estimate(names, gate):
     return f'some {seconds / 3600:.1f} hours of one processor{told}'
 
 
-def try_all(names, gate):
-    """Tries those of all these crates and says how far it is. Whether each was refused."""
+def try_all(names, gate, new):
+    """Tries those of all these crates, or the new ones, and says how far it is. Whether each was refused."""
     begun = time.monotonic()
-    counts = {name: len(edits_of(name, gate)) for name in names}
+    counts = {name: len(new_ones(name) if new else edits_of(name, gate)) for name in names}
     print(f'{sum(counts.values())} wrong bodies of {len(names)} crates: {estimate(names, gate)}', flush=True)
     right = True
     for done, name in enumerate(names):
         print(f'== {name} begins, with {counts[name]} wrong bodies: {so_far(done, names, begun)}', flush=True)
-        right = try_crate(name, gate=gate) and right
+        right = try_crate(name, gate=gate, new=new) and right
         print(f'== {name} ends: {so_far(done + 1, names, begun)}', flush=True)
     return right
 
@@ -310,16 +325,16 @@ def main(words):
     words = [word for word in words if word not in flags]
     gate = '--gate' in flags
     crates = uses_now()
-    if flags - {'--gate', '--all', '--stale', '--texts'} or bool(words) == bool(flags - {'--gate'}) or words and words[0] not in crates:
+    if flags - {'--gate', '--all', '--new', '--stale', '--texts'} or bool(words) == bool(flags - {'--gate', '--new'}) or words and words[0] not in crates:
         return __doc__
     if '--all' in flags:
-        names = stale() if '--stale' in flags else crates
-        return not try_all([name for name in names if edits_of(name, gate)], gate)
+        is_stale = '--stale' in flags
+        return not try_all([name for name in (stale() if is_stale else crates) if edits_of(name, gate)], gate, is_stale and not gate)
     if '--texts' in flags:
         return tell_texts()
     if '--stale' in flags:
         return tell_stale()
-    return not try_crate(words[0], words[1:], gate)
+    return not try_crate(words[0], words[1:], gate, '--new' in flags)
 
 
 if __name__ == '__main__':
