@@ -112,8 +112,9 @@ def main():
             f'{text.rstrip().splitlines()[-1]}')
     print('\n'.join([*table, told]))
     if not sys.argv[2:] and gate.returncode == 0 and all((crate, 'proof') in peaks for crate in order):
-        head = [f'tools/gate_times.py printed this of the whole run of the gate on {date.today()}:', told,
-                'docs/PERFORMANCE.md says on which machine, and what changed since.', '']
+        commit = subprocess.run(['git', 'rev-parse', '--short=8', 'HEAD'], cwd=top, capture_output=True, text=True, check=True).stdout.strip()
+        head = [f'tools/gate_times.py printed this of a whole run of the gate at {commit}, on {date.today()} with {os.cpu_count()} processors:', told,
+                'docs/PERFORMANCE.md says on which machine, and what else ran.', '']
         with open(f'{top}/docs/gate-times.txt', 'w') as out:
             out.write('\n'.join([*head, *table]) + '\n')
     return gate.returncode
