@@ -54,6 +54,10 @@ class Office:
     def has_deposit(self, n):
         return n % 3 == 0
 
+    def manager(self, n):
+        """Who manages the property: nobody."""
+        return None
+
     def length(self, n):
         """How many months it runs."""
         return 11 if self.version == 2 and n % 50 == 0 else 12
@@ -108,15 +112,25 @@ def day_of(office, n, k):
     return f"{month(k)}-{office.day(n):02}"
 
 
-def people(office):
-    """The rows that no run writes, by their tables; a table comes behind those that it refers to."""
-    branches, leases = range(office.branches), range(office.leases)
+def homes(office, properties):
+    """The rows of the branches, of the staff, of the owners and of so many properties, by their tables."""
+    branches = range(office.branches)
     yield "branch", [(f"B{b}", "1 Main St", "Leeds", "LS1 1AA") for b in branches]
     yield "staff", [(f"S{b}", "Ann Lee", "Assistant", f"B{b}") for b in branches]
     yield "owner", [(f"O{o}", "Tom Ray", "2 Low Rd Leeds", "0113 1") for o in range(office.owners)]
-    yield "property", [(f"P{n}", f"{n} Hill Rd", "Leeds", "LS2 2BB", "Flat", 3, office.rent(n), f"O{n % office.owners}", None,
-                        f"B{office.branch(n)}") for n in leases]
-    yield "client", [(f"C{n}", "Mia Fox", "0113 2", "Flat", 70000) for n in leases]
+    yield "property", [(f"P{n}", f"{n} Hill Rd", "Leeds", "LS2 2BB", "Flat", 3, office.rent(n), f"O{n % office.owners}", office.manager(n),
+                        f"B{office.branch(n)}") for n in range(properties)]
+
+
+def clients(count):
+    return [(f"C{n}", "Mia Fox", "0113 2", "Flat", 70000) for n in range(count)]
+
+
+def people(office):
+    """The rows that no run writes, by their tables; a table comes behind those that it refers to."""
+    leases = range(office.leases)
+    yield from homes(office, office.leases)
+    yield "client", clients(office.leases)
     yield "registration", [(f"C{n}", f"B{office.branch(n)}", f"S{office.branch(n)}", "2025-01-01") for n in leases]
     yield from [("viewing", []), ("inspection", [])]
     yield "lease", [(n + 1, f"C{n}", f"P{n}", day_of(office, n, 0), 12, "Cash", office.rent(n)) for n in leases]
@@ -152,30 +166,44 @@ def rows_of(office):
     return rows
 
 
-def make(path, office):
-    """The file of the office, by Python's sqlite3."""
-    with closing(made_tables(path, texts_of("SECOND" if office.version == 2 else "FIRST"))) as conn:
+def write(path, all_rows, version=2):
+    """A file of this version with these rows, by Python's sqlite3."""
+    with closing(made_tables(path, texts_of("SECOND" if version == 2 else "FIRST"))) as conn:
         conn.execute("BEGIN")
-        for table, rows in rows_of(office).items():
+        for table, rows in all_rows.items():
             if rows:
                 conn.executemany(f"INSERT INTO {table} VALUES ({', '.join('?' * len(rows[0]))})", rows)
         conn.execute("COMMIT")
 
 
+def make(path, office):
+    write(path, rows_of(office), office.version)
+
+
+def statement_lines(number, client, home, rent, entries, balance):
+    """The statement of a lease, where its entries are a word, a day and pence each."""
+    lines = [f"{number:>8} {client:8} {home:8} {money(rent):>12}"]
+    lines += [f"{word:8} {day} {money(pence):>12}" for word, day, pence in entries]
+    return [*lines, f"{'balance':8} {'':10} {money(balance):>12}"]
+
+
 def statement(office, n):
-    rent = money(office.rent(n))
-    lines = [f"{n + 1:>8} {f'C{n}':8} {f'P{n}':8} {rent:>12}"]
-    lines += [f"{'charge':8} {day_of(office, n, k)} {rent:>12}" for k in range(office.months)]
+    rent = office.rent(n)
+    entries = [("charge", day_of(office, n, k), rent) for k in range(office.months)]
     if office.has_deposit(n):
-        lines.append(f"{'deposit':8} {day_of(office, n, 0)} {money(2 * office.rent(n)):>12}")
-    lines += [f"{'rent':8} {day_of(office, n, k)} {rent:>12}" for k in range(office.paid(n))]
-    return [*lines, f"{'balance':8} {'':10} {money(office.balance(n)):>12}"]
+        entries.append(("deposit", day_of(office, n, 0), 2 * rent))
+    entries += [("rent", day_of(office, n, k), rent) for k in range(office.paid(n))]
+    return statement_lines(n + 1, f"C{n}", f"P{n}", rent, entries, office.balance(n))
+
+
+def arrears_lines(owing):
+    """What a branch is owed, where those that owe are a lease, a client and pence each."""
+    lines = [f"{number:>8} {client:8} {money(pence):>12} Mia Fox" for number, client, pence in owing]
+    return [*lines, f"{'total':8} {'':8} {money(sum(pence for _, _, pence in owing)):>12}"]
 
 
 def arrears(office, branch):
-    owing = [n for n in office.due_in(branch) if office.balance(n) > 0]
-    lines = [f"{n + 1:>8} {f'C{n}':8} {money(office.balance(n)):>12} Mia Fox" for n in owing]
-    return [*lines, f"{'total':8} {'':8} {money(sum(map(office.balance, owing))):>12}"]
+    return arrears_lines([(n + 1, f"C{n}", office.balance(n)) for n in office.due_in(branch) if office.balance(n) > 0])
 
 
 def run_report(office, k):
