@@ -7,16 +7,32 @@ For each public function of the commit: the `requires` and `ensures` that it has
 not; and whether it is gone. Then each definition of specs/ whose text differs, or that is gone. A function or a definition that stands in
 another file of its crate under its name is the same one. What is listed has to be said or implied by what stands now: the reason for each
 belongs into the note on the change. Nothing is listed of what is only new.
+
+What tools/names.txt gives another name is no difference: both are renamed by tools/rename.py before they are compared.
 """
 import sys
 
-from crates import with_below
+from crates import TOP, with_below
+from rename import applied, table_rows
 from statements import Sources, behind_ghost, definitions_in, items_in, squeezed
 
 
 def shipped(sources):
     """The crates below `dh_desk`, and itself."""
     return sorted(with_below('dh_desk', sources.uses()))
+
+
+def renamed(sources):
+    """The sources with the names that the table gives them."""
+    rows = [row for row in table_rows() if row.kind in ('', 'clause', 'module')]
+    texts = sources.packed or {str(path.relative_to(TOP)): path.read_text(encoding='utf-8') for path in [TOP / 'crates.txt', *written()]}
+    sources.packed = applied(rows, {name: text for name, text in texts.items() if '/proofs/' not in name})
+    return sources
+
+
+def written():
+    """The files with clauses and definitions."""
+    return [*(TOP / 'crates').glob('*/src/**/*.rt'), *(TOP / 'crates').glob('*/specs/**/*.antt')]
 
 
 def clauses_in(text):
@@ -91,7 +107,7 @@ def tell_definitions(crate, then, now):
 
 
 def main(words):
-    commit, then, now = words[0], Sources(words[0]), Sources()
+    commit, then, now = words[0], renamed(Sources(words[0])), renamed(Sources())
     crates = words[1:] or shipped(now)
     print('== public functions')
     functions = sum(tell_clauses(crate, then, now) for crate in crates)

@@ -2,6 +2,7 @@ pub mod Seat
 pub mod Agency
 pub mod Taken
 pub mod Told
+pub mod Requests
 pub use Rattle.dh_schema.specs.Store
 pub use Rattle.dh_laws.specs.Events
 pub use Rattle.dh_laws.specs.StateTables

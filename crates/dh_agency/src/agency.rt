@@ -7,10 +7,11 @@ ghost use Rattle.dh_types.specs.declared.command.Command.TheVariants as command;
 ghost use Rattle.dh_types.specs.Reports.{report_of};
 ghost use Rattle.dh_model.specs.Answers.{report};
 ghost use Rattle.dh_laws.specs.Batches.{IsPostedInPart};
-ghost use Rattle.dh_agency.specs.Agency.{Ends, IsClean, IsOpen, IsServed, LeavesItsTables, Leaves, ReadsAs, machine};
+ghost use Rattle.dh_agency.specs.Agency.{Ends, IsClean, IsOpen, IsServed, LeavesItsTables, Leaves, ReadsAs, machine, stand};
 ghost use Rattle.dh_agency.specs.Told.{IsInterrupted, IsAnsweredBy, reply_of};
 
 use crate::commands::carry_out;
+use dh_laws::frozen::{answers_pass_the_run, open_runs_refuse_put_off};
 use dh_runs::{RunState, post_some};
 use dh_store::look_up;
 use dh_types::{Answer, Command, Fault, Question, Reply};
@@ -102,9 +103,10 @@ impl<S: Alter> Agency<S> {
         }
     }
 
-    /// Answers the question and changes nothing. At fault 21 or 22 the agency has stopped; where it had stopped, fault 23.
+    /// Answers the question and changes nothing, by the tables as by their whole. At fault 21 or 22 the agency has stopped; where it had stopped, fault 23.
     pub fn show(&mut self, alloc: Global, question: &Question) -> Result<Answer, Fault>
         ensures said { IsClean S.Store self.new → IfOk result (λ answer. report_of answer ≡ report (machine S.Store self.old) question.now) }
+        ensures whole { IsClean S.Store self.new → IfOk result (λ answer. report_of answer ≡ report (stand S.Store self.old) question.now) }
         ensures same { IsClean S.Store self.new → OnOk result (machine S.Store self.new ≡ machine S.Store self.old) }
         ensures left { IsClean S.Store self.new → OnOk result (LeavesItsTables S.Store self.new) }
         ensures crash { IsClean S.Store self.new → self.old.is_stopped ≡ false → Leaves S.Store self.new (λ left. left ≡ machine S.Store self.old) }
@@ -115,6 +117,8 @@ impl<S: Alter> Agency<S> {
         if self.is_stopped {
             return Err(Fault::Stopped);
         }
+        answers_pass_the_run();
+        open_runs_refuse_put_off();
         match look_up(alloc, &mut self.conn, question) {
             Ok(answer) => Ok(answer),
             Err(fault) => {

@@ -6,6 +6,7 @@ mod attachment;
 mod commands;
 mod creation;
 mod first_version;
+mod requests;
 
 pub use agency::Agency;
 pub use attachment::{attach, recover};
@@ -13,3 +14,4 @@ pub use creation::{NotOpened, create};
 pub use dh_laws::{commutation, lives as laws};
 pub use dh_runs::{Problem, RunState};
 pub use first_version::{migrate, recover_1};
+pub use requests::{Response, respond};

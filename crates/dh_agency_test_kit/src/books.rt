@@ -52,7 +52,7 @@ fn add_fees(alloc: Global, text: &mut String, books: &Books) -> Result<(), Alloc
 }
 
 /// `first` or `second`.
-pub fn version_name(version: Version) -> &'static str {
+pub(crate) fn version_name(version: Version) -> &'static str {
     match version {
         Version::First => "first",
         Version::Second => "second",

@@ -121,7 +121,7 @@ fn done_or_not<S: Alter>(alloc: Global, is_done: bool, conn: Connection<S>) -> L
 /// One line over tables that were just opened: `attach` and `recover` say what they are, and so do `recover_1` and `migrate`, which are
 /// for tables of the first version. `batch` is the next batch of the open run, posted without an agency, and for every other line an
 /// agency takes the tables as they are.
-pub fn told_anew<S: Alter>(alloc: Global, mut conn: Connection<S>, line: &str) -> Lived<S>
+pub(crate) fn told_anew<S: Alter>(alloc: Global, mut conn: Connection<S>, line: &str) -> Lived<S>
     requires { HasCleanDisk (state S.Store conn) → IsResting (state S.Store conn) }
 {
     match (line, line.strip_prefix("sql,")) {

@@ -64,7 +64,7 @@ fn line<S: Alter>(alloc: Global, conn: &mut Connection<S>, words: &str) -> Resul
 }
 
 /// The fields of the record that is found by `KIND,KEY`, or `none`, or why none is looked for.
-pub fn find_text<S: Alter>(
+pub(crate) fn find_text<S: Alter>(
     alloc: Global,
     conn: &mut Connection<S>,
     words: &str,

@@ -4,10 +4,10 @@ ghost use Rattle.std.specs.Prelude.{◌≡◌, if◌then◌else◌, option_map, 
 ghost use Rattle.std.specs.FinMap as fin;
 ghost use Rattle.dh_types.specs.declared.reply.Refusal.TheVariants.{RunOpen};
 ghost use Rattle.dh_types.specs.Reports.{report_of};
-ghost use Rattle.dh_model.specs.Answers.{matching_report, report};
-ghost use Rattle.dh_model.specs.MachineLaws.{is_put_off};
+ghost use Rattle.dh_model.specs.Answers.{is_put_off, matching_report, report};
 
-use crate::{arrears, branches, matching, owner_statement, run_report, statement, vacant};
+use crate::owner_statements::owner_statement;
+use crate::{arrears, branches, matching, run_report, statement, vacant};
 use dh_books::Books;
 use dh_types::{Answer, ClientDay, Question, Refusal, field};
 use std::alloc::{AllocError, Global};
@@ -46,8 +46,9 @@ fn open_refusal(books: &Books, question: &Question) -> Option<Refusal>
     }
 }
 
-// What the books answer where no run is open.
-fn answer_passed(alloc: Global, books: Books, question: &Question) -> Result<Answer, AllocError>
+/// What the books answer where no run is open. They end here: rows that the answer lists are moved out of them. It fails where memory
+/// runs out.
+pub fn answer_passed(alloc: Global, books: Books, question: &Question) -> Result<Answer, AllocError>
     ensures { IfOk result (λ answer. report_of answer ≡ report (record books { open_run = None }) question.now) }
 {
     match *question {

@@ -1,8 +1,9 @@
 //! Clients, their registrations and viewings, and inspections.
 
 ghost use Rattle.std.specs.Prelude.{◌≡◌, [], ◌∷◌, IfOk};
-ghost use Rattle.dh_model.specs.Checks.{first_failing, names};
-ghost use Rattle.dh_model.specs.Verdicts.{client_ruling, comment_ruling, decided, inspection_ruling, register_ruling, registration_checks, viewing_ruling};
+ghost use Rattle.dh_model.specs.Checks.{first_failing};
+ghost use Rattle.dh_model.specs.Verdicts.{client_ruling, comment_ruling, decided, inspection_checks, inspection_ruling, register_ruling};
+ghost use Rattle.dh_model.specs.Verdicts.{registration_checks, viewing_checks, viewing_ruling};
 
 use crate::checks::of_branch;
 use dh_books::Books;
@@ -11,7 +12,7 @@ use dh_types::{Client, Inspection, Refusal, Registration, Reply, Viewing, Viewin
 use std::alloc::{AllocError, Global};
 
 /// What the books say of a new client: its row; that it is there already; or that its number is taken.
-pub fn decide_client(alloc: Global, books: &Books, client: &Client) -> Result<Verdict, AllocError>
+pub(crate) fn decide_client(alloc: Global, books: &Books, client: &Client) -> Result<Verdict, AllocError>
     ensures { IfOk result (λ v. v ≡ decided (client_ruling books.now.books client.now)) }
 {
     match books.client(&client.number) {
@@ -38,7 +39,7 @@ fn registration_refusal(books: &Books, registration: &Registration) -> Option<Re
 }
 
 /// What the books say of a client's registration at a branch, by a member of its staff.
-pub fn decide_register(books: &Books, registration: &Registration) -> Verdict
+pub(crate) fn decide_register(books: &Books, registration: &Registration) -> Verdict
     ensures { result ≡ decided (register_ruling books.now.books registration.now) }
 {
     match books.registration(&registration.key()) {
@@ -53,7 +54,7 @@ pub fn decide_register(books: &Books, registration: &Registration) -> Verdict
 
 // The first check that a new viewing fails.
 fn viewing_refusal(books: &Books, viewing: &Viewing) -> Option<Refusal>
-    ensures { result ≡ first_failing (names books.now.books.clients viewing.now.client 2 ∷ names books.now.books.properties viewing.now.property 3 ∷ []) }
+    ensures { result ≡ first_failing (viewing_checks books.now.books viewing.now) }
 {
     if books.client(&viewing.client).is_none() {
         Some(Refusal::Unknown(field::VIEWING_CLIENT))
@@ -65,7 +66,7 @@ fn viewing_refusal(books: &Books, viewing: &Viewing) -> Option<Refusal>
 }
 
 /// What the books say of a client's viewing of a property.
-pub fn decide_viewing(
+pub(crate) fn decide_viewing(
     alloc: Global,
     books: &Books,
     viewing: &Viewing,
@@ -83,7 +84,7 @@ pub fn decide_viewing(
 }
 
 /// What the books say of a comment on a viewing that is there.
-pub fn decide_comment(
+pub(crate) fn decide_comment(
     alloc: Global,
     books: &Books,
     comment: &ViewingComment,
@@ -105,7 +106,7 @@ pub fn decide_comment(
 
 // The first check that a new inspection fails.
 fn inspection_refusal(books: &Books, inspection: &Inspection) -> Option<Refusal>
-    ensures { result ≡ first_failing (names books.now.books.properties inspection.now.property 2 ∷ names books.now.books.staff inspection.now.staff 4 ∷ []) }
+    ensures { result ≡ first_failing (inspection_checks books.now.books inspection.now) }
 {
     if books.property(&inspection.property).is_none() {
         Some(Refusal::Unknown(field::INSPECTED_PROPERTY))
@@ -117,7 +118,7 @@ fn inspection_refusal(books: &Books, inspection: &Inspection) -> Option<Refusal>
 }
 
 /// What the books say of an inspection of a property, by a member of any staff.
-pub fn decide_inspection(
+pub(crate) fn decide_inspection(
     alloc: Global,
     books: &Books,
     inspection: &Inspection,

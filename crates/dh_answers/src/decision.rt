@@ -1,20 +1,22 @@
 //! Any command.
 
-ghost use Rattle.std.specs.Prelude.{◌≡◌, if◌then◌else◌, IfOk, Option, option_map};
-ghost use Rattle.dh_types.specs.declared.reply.Refusal.TheVariants as refusal;
+ghost use Rattle.std.specs.Prelude.{◌≡◌, if◌then◌else◌, IfOk, None, Option};
 ghost use Rattle.dh_model.specs.Books.{Books as Rows};
 ghost use Rattle.dh_model.specs.declared.open_run.OpenRun.{OpenRun as Run};
 ghost use Rattle.dh_model.specs.MachineLaws.{is_frozen};
 ghost use Rattle.dh_model.specs.Verdicts.{verdict_among, verdict_on};
 ghost use Rattle.dh_laws.specs.InOrder.{AreKeyed};
 ghost use Rattle.dh_laws.specs.Looks.{IsCutOf};
-ghost use Rattle.dh_answers.specs.Seen.{facts_of};
+ghost use Rattle.dh_answers.specs.Seen.{facts_of, put_off_by};
 
-use crate::{
-    decide_assign, decide_branch, decide_client, decide_comment, decide_end, decide_fee,
-    decide_inspection, decide_lease, decide_owner, decide_property, decide_receipt,
-    decide_register, decide_rent, decide_run, decide_staff, decide_viewing,
+use crate::clients::{
+    decide_client, decide_comment, decide_inspection, decide_register, decide_viewing,
 };
+use crate::ends::decide_end;
+use crate::leases::decide_lease;
+use crate::offices::{decide_branch, decide_fee, decide_owner, decide_staff};
+use crate::properties::{decide_assign, decide_property, decide_rent};
+use crate::receipts::{decide_receipt, decide_run};
 use dh_books::Books;
 use dh_model::{Change, OpenRun, Verdict};
 use dh_types::{Command, Refusal};
@@ -29,7 +31,7 @@ pub struct Facts {
 
 /// The refusal of a command that an open run puts off: while a run is open, branches, fees, leases and their ends, receipts and runs are refused.
 pub fn open_refusal(run: &Option<OpenRun>, command: &Command) -> Option<Refusal>
-    ensures { result ≡ (if is_frozen command.now then option_map (λ at. refusal.RunOpen at.month) run.now else None) }
+    ensures { result ≡ put_off_by run.now command.now }
 {
     match command {
         Command::Branch(_)
@@ -76,34 +78,24 @@ fn decide_passed(
     }
 }
 
-// What the books say of the command, where there are so many receipts.
-fn decide_among(
-    alloc: Global,
-    books: &Books,
-    receipts: usize,
-    command: &Command,
-) -> Result<Verdict, AllocError>
-    ensures { IfOk result (λ v. v ≡ verdict_among books.now.books receipts books.now.open_run command.now) }
-{
-    let run = books.open_run();
-    match open_refusal(&run, command) {
-        Some(refusal) => Ok(Verdict::Refused(refusal)),
-        None => decide_passed(alloc, books, receipts, command),
-    }
-}
-
 /// What the books say of the command: the first check that fails, what it was answered before, or the rows that it adds
 /// or replaces. While a run is open, branches, fees, leases and their ends, receipts and runs are refused.
 pub fn decide(alloc: Global, books: &Books, command: &Command) -> Result<Verdict, AllocError>
     ensures { IfOk result (λ v. v ≡ verdict_on books.now.books books.now.open_run command.now) }
 {
-    decide_among(alloc, books, books.receipt_count(), command)
+    let run = books.open_run();
+    match open_refusal(&run, command) {
+        Some(refusal) => Ok(Verdict::Refused(refusal)),
+        None => decide_passed(alloc, books, books.receipt_count(), command),
+    }
 }
 
-/// What books say of the command of which the facts are what it looks at. Of the open run the facts have the month alone.
+/// What books say of the command of which the facts are what it looks at, where no open run puts it off. Of an open run the facts have the
+/// month alone.
 pub fn decide_on(alloc: Global, facts: &Facts, command: &Command) -> Result<Verdict, AllocError>
+    requires { put_off_by facts.now.books.open_run command.now ≡ None }
     ensures { (books : Rows) (run : Option Run) → AreKeyed books → IsCutOf (facts_of facts.now) books run command.now
         → IfOk result (λ v. v ≡ verdict_on books run command.now) }
 {
-    decide_among(alloc, &facts.books, facts.receipts, command)
+    decide_passed(alloc, &facts.books, facts.receipts, command)
 }

@@ -38,7 +38,7 @@ fn ending_rows(books: &Books, ending: &Ending) -> Change
 
 /// What the books say of the early end of a lease: that it is there, that it runs for more months than these, and that none of the
 /// months that were run is taken back.
-pub fn decide_end(books: &Books, ending: &Ending) -> Verdict
+pub(crate) fn decide_end(books: &Books, ending: &Ending) -> Verdict
     ensures { result ≡ decided (end_ruling books.now.books ending.now) }
 {
     let Some(lease) = books.lease(&ending.lease) else {

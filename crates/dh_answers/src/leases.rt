@@ -63,7 +63,7 @@ fn signing_refusal(books: &Books, terms: &LeaseTerms, branch: &Id) -> Option<Ref
 }
 
 /// What the books say of a new lease: its terms at the rent that its property has.
-pub fn decide_lease(books: &Books, terms: &LeaseTerms) -> Verdict
+pub(crate) fn decide_lease(books: &Books, terms: &LeaseTerms) -> Verdict
     ensures { result ≡ decided (lease_ruling books.now.books terms.now) }
 {
     if let Some(there) = books.lease(&terms.number) {

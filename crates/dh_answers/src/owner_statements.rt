@@ -106,7 +106,7 @@ fn owner_charges(lines: Vec<OwnerLine>) -> Answer
 /// What the month's run charged on the owner's properties, rising by lease, each with what the branch of the property takes of it by the
 /// fee that it had as the run was opened; both sums in pence, and what is left; refused 2 with field 3 where no owner has the number, and
 /// refused 14 where the month has no run or an open one. It fails where memory runs out.
-pub fn owner_statement(
+pub(crate) fn owner_statement(
     alloc: Global,
     books: &Books,
     asked: OwnerMonth,

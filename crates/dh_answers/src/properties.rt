@@ -33,7 +33,7 @@ fn property_refusal(books: &Books, property: &Property) -> Option<Refusal>
 
 /// What the books say of a new property, which has an owner, a branch and maybe a manager of that branch, with fewer
 /// than 100 others.
-pub fn decide_property(
+pub(crate) fn decide_property(
     alloc: Global,
     books: &Books,
     property: &Property,
@@ -64,7 +64,7 @@ fn manager_refusal(books: &Books, property: &Property, member: Option<Id>) -> Op
 }
 
 /// What the books say of a property's manager, who belongs to its branch and manages fewer than 100 others.
-pub fn decide_assign(books: &Books, assignment: &Assignment) -> Verdict
+pub(crate) fn decide_assign(books: &Books, assignment: &Assignment) -> Verdict
     ensures { result ≡ decided (assign_ruling books.now.books assignment.now) }
 {
     let Some(property) = books.property(&assignment.property) else {
@@ -80,7 +80,7 @@ pub fn decide_assign(books: &Books, assignment: &Assignment) -> Verdict
 }
 
 /// What the books say of a property's rent.
-pub fn decide_rent(books: &Books, change: &RentChange) -> Verdict
+pub(crate) fn decide_rent(books: &Books, change: &RentChange) -> Verdict
     ensures { result ≡ decided (rent_ruling books.now.books change.now) }
 {
     match books.property(&change.property) {

@@ -1,8 +1,8 @@
 //! Receipts and rent runs, each accepted once for its key.
 
 ghost use Rattle.std.specs.Prelude.{◌≡◌, ◌∷◌, ◌*◌, option_copied};
-ghost use Rattle.dh_model.specs.Checks.{deposit_checks, first_failing, has_deposit, names, receipt_of_key, run_of_key};
-ghost use Rattle.dh_model.specs.Verdicts.{decided, receipt_ruling, run_verdict};
+ghost use Rattle.dh_model.specs.Checks.{first_failing, has_deposit, receipt_of_key, run_of_key};
+ghost use Rattle.dh_model.specs.Verdicts.{decided, payment_checks, receipt_ruling, run_verdict};
 
 use dh_books::Books;
 use dh_model::{Change, Verdict};
@@ -44,7 +44,7 @@ fn deposit_on(rent: Rent) -> Pence
 
 // The first check that the payment fails.
 fn payment_refusal(books: &Books, payment: &Payment) -> Option<Refusal>
-    ensures { result ≡ first_failing (names books.now.books.leases payment.now.lease 3 ∷ deposit_checks books.now.books payment.now) }
+    ensures { result ≡ first_failing (payment_checks books.now.books payment.now) }
 {
     let Some(lease) = books.lease(&payment.lease) else {
         return Some(Refusal::Unknown(field::RECEIPT_LEASE));
@@ -65,7 +65,7 @@ fn payment_refusal(books: &Books, payment: &Payment) -> Option<Refusal>
 
 /// What the books say of a payment under a key that no other receipt or run has, where there are so many receipts: its
 /// receipt, with the next number.
-pub fn decide_receipt(books: &Books, receipts: usize, order: &ReceiptOrder) -> Verdict
+pub(crate) fn decide_receipt(books: &Books, receipts: usize, order: &ReceiptOrder) -> Verdict
     ensures { result ≡ decided (receipt_ruling books.now.books receipts order.now) }
 {
     if let Some(receipt) = receipt_of_key(books, &order.key) {

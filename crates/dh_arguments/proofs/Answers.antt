@@ -9,13 +9,7 @@ use Rattle.std.proofs.lemmas.Slice.Eq.{bytes_eq-Decides}
 use Rattle.clap.proofs.WalkLemmas.{both, raw_values-rows}
 use Rattle.clap.specs.Words.{Row, Shape, Text, all_of, first_of, matched_of, raw_values, rows_of}
 use Rattle.clap.specs.declared.parser.matches.Found.{Found}
-use Rattle.dh_types.specs.declared.command.Command.{Command}
-use Rattle.dh_types.specs.declared.question.Question.{Question}
-use Rattle.dh_types.specs.declared.reply.Refusal.{Refusal}
-use Rattle.dh_fields.specs.declared.request.Request.TheVariants as request
-use Rattle.dh_fields.specs.Lines.{a_question, field, question_forms, request_of, value_among}
-use Rattle.dh_fields.specs.Readings.{WantsText, wants_text}
-use Rattle.dh_arguments.specs.Jobs.{IsShown, is_complete, is_there, question_fields}
+use Rattle.dh_arguments.specs.Jobs.{is_complete, is_there, question_fields}
 use Rattle.dh_arguments.specs.Table.{batch, init, letting, migrate, recover, report, run, serve}
 
 abbrev pub has : Text → List Row → Type 0
@@ -105,21 +99,3 @@ module _ (f : Found) (o : Option (Bor (List (Bor Text)))) (e : texts_of o ≡ op
 
   pub fields_are : (words : Bor (List (Bor Text))) → o ≡ Some words → question_fields (rows_of f) ≡ codes "show" ∷ map (λ text. text.now) words.now
   fields_are words is = ap (λ x. codes "show" ∷ unwrap_or x []) (sym same ∙ ap texts_of is)
-
--- ---- a question
-
-not_a_command : (it : Command) (r : Result Question Refusal) → Ok (request.Command it) ≡ a_question r → ⊥
-not_a_command it (Ok x) e = cc
-not_a_command it (Err x) e = cc
-
-pub asks_only : (fields : List Text) (it : Command) → IsShown fields → Ok (request.Command it) ≡ request_of fields → ⊥
-unfolding request_of field
-asks_only fields it shown e =
-    let words = shown.0 in
-    let asked : Ok (request.Command it) ≡ request_of (codes "show" ∷ words) = e ∙ ap request_of shown.1 in
-    not_a_command it (value_among question_forms 2 (codes "show" ∷ words)) asked
-
--- no memory is wanted for it
-pub wants_none : (fields : List Text) → IsShown fields → WantsText fields → ⊥
-unfolding wants_text field
-wants_none fields shown h = let wanted : wants_text (codes "show" ∷ shown.0) ≡ true = ap wants_text (sym shown.1) ∙ h in cc

@@ -14,6 +14,7 @@ use Rattle.dh_fields.specs.declared.request.Request.TheVariants as request
 use Rattle.dh_arguments.specs.Options.{first_bad, key_of, port_of, value}
 use Rattle.dh_arguments.specs.Table.{letting}
 use Rattle.dh_arguments.specs.Typed.{joined, texts_of}
+use Rattle.dh_arguments.specs.declared.words.TheConstants.{DEFAULT_MONTH}
 use Rattle.dh_arguments.specs.declared.kinds.BadWords.{BadWords}
 use Rattle.dh_arguments.specs.declared.kinds.BadWords.TheVariants as bad
 use Rattle.dh_arguments.specs.declared.kinds.Job.{Job}
@@ -24,17 +25,13 @@ use Rattle.dh_arguments.specs.declared.kinds.Job.TheVariants.{Init, Batch, Run, 
 abbrev pub Takes : List Text → Text × List Row → Type 0
 Takes words sub = (fault_of letting (joined words) ≡ []) × (subcommand_of letting (joined words) ≡ Some sub)
 
--- 2025-01, counted as 12 * year + month - 1
+-- 2025-01, where none is given
 abbrev pub usual_first : ℕ
-usual_first = 24300
+usual_first = DEFAULT_MONTH
 
 -- the fields of the line that asks with the free words
 abbrev pub question_fields : List Row → List Text
 question_fields rows = codes "show" ∷ unwrap_or (all_of (codes "word") rows) []
-
--- the fields of a line that asks with some words
-abbrev pub IsShown : List Text → Type 0
-IsShown fields = (words : List Text) × (fields ≡ codes "show" ∷ words)
 
 -- the subcommand of this name asks for the job with the values of these rows
 abbrev pub Asks : Text → List Row → Job → Type 0

@@ -6,16 +6,17 @@ ghost use Rattle.dh_arguments.specs.Jobs.{HandsOn, IsAnswer, IsBadFor, IsJobOf, 
 
 use crate::commands::letting;
 use crate::options::read_options;
-use crate::questions::{line_of, read_question};
+use crate::questions::line_of;
 use crate::typed::Words;
 use crate::{BadWords, Job};
 use clap::error::ErrorKind;
 use clap::{ArgMatches, Error};
+use dh_fields::read_question;
 use dh_types::{EntryMonth, RunOrder};
 use std::alloc::Global;
 
 /// The first month of an agency in memory where none is given: 2025-01, counted as 12 * year + month - 1.
-const DEFAULT_MONTH: u32 = 24300;
+pub(crate) const DEFAULT_MONTH: u32 = 24300;
 
 // Why the words ask for no job, where `clap` answers this.
 fn refused(error: Error) -> BadWords
@@ -33,7 +34,7 @@ fn report<'a>(alloc: Global, file: &'a str, values: &ArgMatches<'a>) -> Result<J
     ensures { IsReport file.now (question_fields (rows_of (found_of values.now))) result }
 {
     let fields = line_of(alloc, values.get_strs("word").unwrap())?;
-    match read_question(alloc, &fields) {
+    match read_question(&fields) {
         Ok(question) => Ok(Job::Report { file, question }),
         Err(refusal) => Err(BadWords::Question(refusal)),
     }

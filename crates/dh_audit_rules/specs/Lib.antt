@@ -1,7 +1,6 @@
 pub mod ClosedMonths
 pub mod Months
 pub mod Counts
-pub mod Endings
 pub mod Fees
 pub mod Receipts
 pub mod Staff

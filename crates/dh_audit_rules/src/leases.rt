@@ -2,21 +2,20 @@
 
 ghost use Rattle.std.specs.Prelude.{◌≡◌, ◌↔◌, ◌≤◌, true, map, IfOk};
 ghost use Rattle.std.specs.FinMap as fin;
-ghost use Rattle.dh_days.specs.Days.{month_of_day};
-ghost use Rattle.dh_model.specs.Rules.{EndingsInOrder, LeasesInTime, OneStartADay};
-ghost use Rattle.dh_audit_rules.specs.Endings.{IsInOrder};
+ghost use Rattle.dh_model.specs.Rules.{EndingsInOrder, IsEarly, IsInTime, LeasesInTime, OneStartADay};
 
 use crate::distinct::are_distinct;
 use dh_books::Books;
 use dh_types::{Ending, EntryDay, Id, Lease, Month};
+use dh_values::limits::{LEAST_LEASE_MONTHS, MOST_LEASE_MONTHS};
 use std::alloc::{AllocError, Global};
 
 // Whether the lease has 3 to 12 months and starts in this month or later.
 fn is_in_time(lease: &Lease, first: Month) -> bool
-    ensures { (result ≡ true) ↔ ((3 ≤ lease.now.terms.months) × (lease.now.terms.months ≤ 12) × (first ≤ month_of_day lease.now.terms.start)) }
+    ensures { (result ≡ true) ↔ IsInTime first lease.now }
 {
     let months = lease.terms.months.number();
-    3 <= months && months <= 12 && first <= lease.terms.start.day().month()
+    LEAST_LEASE_MONTHS <= months && months <= MOST_LEASE_MONTHS && first <= lease.terms.start.day().month()
 }
 
 /// Whether each lease has 3 to 12 months and starts in the first month or later.
@@ -46,12 +45,12 @@ pub fn one_start_a_day(alloc: Global, books: &Books) -> Result<bool, AllocError>
 
 // Whether the ending has three months or more, and fewer than its lease, if that is there.
 fn ending_is_in_order(books: &Books, ending: &Ending) -> bool
-    ensures { (result ≡ true) ↔ IsInOrder books.now.books ending.now }
+    ensures { (result ≡ true) ↔ IsEarly ending.now (fin.get books.now.books.leases ending.now.lease) }
 {
     let months = ending.months.number();
     match books.lease(&ending.lease) {
-        Some(lease) => 3 <= months && months < lease.terms.months.number(),
-        None => 3 <= months,
+        Some(lease) => LEAST_LEASE_MONTHS <= months && months < lease.terms.months.number(),
+        None => LEAST_LEASE_MONTHS <= months,
     }
 }
 

@@ -5,37 +5,19 @@ use Rattle.sqlite_schema.specs.declared.schema.Table.{Table}
 use Rattle.sqlite_catalog.specs.Change.{KeepsRows}
 use Rattle.sqlite.specs.State.{State}
 use Rattle.dh_ddl.specs.declared.texts.TheConstants.{FIRST, SECOND, FIRST_TO_SECOND}
-use Rattle.dh_ddl.specs.Layout.{no_schema, property_schema, inspection_schema, part_schema, ending_schema, first_schema, first_tables, later_tables, our_schema}
+use Rattle.dh_ddl.specs.Layout.{first, second, no_schema, first_schema, first_tables, later_tables, our_schema}
 use Rattle.dh_types.specs.declared.version.Version.{Version}
 use Rattle.dh_types.specs.declared.version.Version.TheVariants.{First, Second}
 use Rattle.dh_ddl.specs.Versions.{schema_of}
 use Rattle.dh_ddl.specs.Meanings.{Build}
 use Rattle.dh_ddl.specs.Making.{AreEmpty, HasEmptyTables, HasGrown, Makes}
-use Rattle.dh_ddl.proofs.MetaText.{meta_is}
-use Rattle.dh_ddl.proofs.BranchText.{branch_is}
-use Rattle.dh_ddl.proofs.StaffText.{staff_is}
-use Rattle.dh_ddl.proofs.OwnerText.{owner_is}
-use Rattle.dh_ddl.proofs.PropertyText.{property_is}
-use Rattle.dh_ddl.proofs.ClientText.{client_is}
-use Rattle.dh_ddl.proofs.RegistrationText.{registration_is}
-use Rattle.dh_ddl.proofs.ViewingText.{viewing_is}
-use Rattle.dh_ddl.proofs.InspectionText.{inspection_is}
-use Rattle.dh_ddl.proofs.LeaseText.{lease_is}
-use Rattle.dh_ddl.proofs.ChargeText.{charge_is}
-use Rattle.dh_ddl.proofs.ReceiptText.{receipt_is}
-use Rattle.dh_ddl.proofs.RunText.{run_is}
-use Rattle.dh_ddl.proofs.PartText.{part_is}
-use Rattle.dh_ddl.proofs.PropertyStaffText.{property_staff_goes, property_staff_is, later_property_staff_is}
-use Rattle.dh_ddl.proofs.PropertyOwnerText.{later_property_owner_is}
-use Rattle.dh_ddl.proofs.PropertyBranchText.{later_property_branch_is}
-use Rattle.dh_ddl.proofs.LeasePropertyText.{lease_property_goes, lease_property_is, later_lease_property_is}
-use Rattle.dh_ddl.proofs.LeaseClientText.{lease_client_goes, lease_client_is, later_lease_client_is}
-use Rattle.dh_ddl.proofs.ChargeMonthText.{charge_month_goes, charge_month_is}
-use Rattle.dh_ddl.proofs.ReceiptLeaseText.{receipt_lease_goes, receipt_lease_is, later_receipt_lease_is}
-use Rattle.dh_ddl.proofs.ViewingPropertyText.{viewing_property_goes, viewing_property_is, later_viewing_property_is}
-use Rattle.dh_ddl.proofs.BranchFeeText.{branch_fee_is}
-use Rattle.dh_ddl.proofs.PartFeeText.{part_fee_is}
-use Rattle.dh_ddl.proofs.EndingText.{ending_is}
+use Rattle.dh_ddl.proofs.TextMeanings.{meta_is, branch_is, staff_is, owner_is, property_is, client_is, registration_is, viewing_is, inspection_is, lease_is}
+use Rattle.dh_ddl.proofs.TextMeanings.{charge_is, receipt_is, run_is, part_is, branch_fee_is, part_fee_is, ending_is}
+use Rattle.dh_ddl.proofs.TextMeanings.{property_staff_is, later_property_staff_is, later_property_owner_is, later_property_branch_is, lease_property_is}
+use Rattle.dh_ddl.proofs.TextMeanings.{later_lease_property_is, lease_client_is, later_lease_client_is, charge_month_is, receipt_lease_is}
+use Rattle.dh_ddl.proofs.TextMeanings.{later_receipt_lease_is, viewing_property_is, later_viewing_property_is}
+use Rattle.dh_ddl.proofs.TextMeanings.{property_staff_goes, lease_property_goes, lease_client_goes, charge_month_goes, receipt_lease_goes}
+use Rattle.dh_ddl.proofs.TextMeanings.{viewing_property_goes}
 
 -- the texts of a version, and those that make the second of the first
 abbrev pub texts_of : Version → List (List ℕ)
@@ -61,16 +43,16 @@ later_look_texts = drop 17 (texts_of Second)
 abbrev drop_texts : List (List ℕ)
 drop_texts = take 6 later_texts
 
-from_lease : Build (drop 9 table_texts) inspection_schema part_schema
+from_lease : Build (drop 9 table_texts) (first 9 8) (first 14 12)
 from_lease = (_, inl lease_is, (_, inl charge_is, (_, inl receipt_is, (_, inl run_is, (_, inl part_is, refl)))))
 
-from_client : Build (drop 5 table_texts) property_schema part_schema
+from_client : Build (drop 5 table_texts) (first 5 4) (first 14 12)
 from_client = (_, inl client_is, (_, inl registration_is, (_, inl viewing_is, (_, inl inspection_is, from_lease))))
 
-tables_build : Build table_texts no_schema part_schema
+tables_build : Build table_texts no_schema (first 14 12)
 tables_build = (_, inl meta_is, (_, inl branch_is, (_, inl staff_is, (_, inl owner_is, (_, inl property_is, from_client)))))
 
-looks_build : Build look_texts part_schema first_schema
+looks_build : Build look_texts (first 14 12) first_schema
 looks_build = (
   _,
   inr (inl property_staff_is),
@@ -85,7 +67,7 @@ looks_build = (
   ),
 )
 
-looks_go : Build drop_texts first_schema part_schema
+looks_go : Build drop_texts first_schema (first 14 12)
 looks_go = (
   _,
   inr (inr viewing_property_goes),
@@ -100,10 +82,10 @@ looks_go = (
   ),
 )
 
-new_tables_build : Build new_texts part_schema ending_schema
+new_tables_build : Build new_texts (first 14 12) (second 17 14)
 new_tables_build = (_, inl branch_fee_is, (_, inl part_fee_is, (_, inl ending_is, refl)))
 
-later_looks_build : Build later_look_texts ending_schema our_schema
+later_looks_build : Build later_look_texts (second 17 14) our_schema
 later_looks_build = (
   _,
   inr (inl later_property_staff_is),
@@ -123,21 +105,21 @@ later_looks_build = (
 )
 
 -- what builds a schema, and what builds on it
-builds_on : (first more : List (List ℕ)) (before middle after : Schema) → Build first before middle → Build more middle after
-    → Build (first ++ more) before after
+builds_on : (front more : List (List ℕ)) (before middle after : Schema) → Build front before middle → Build more middle after
+    → Build (front ++ more) before after
 builds_on [] more before middle after is on = subst (λ s. Build more s after) (sym is) on
-builds_on (text ∷ first) more before middle after is on = (is.0, is.1, builds_on first more is.0 middle after is.2 on)
+builds_on (text ∷ front) more before middle after is on = (is.0, is.1, builds_on front more is.0 middle after is.2 on)
 
 -- the later tables, and the indexes behind them
-behind_build : Build (new_texts ++ later_look_texts) part_schema our_schema
-behind_build = builds_on new_texts later_look_texts part_schema ending_schema our_schema new_tables_build later_looks_build
+behind_build : Build (new_texts ++ later_look_texts) (first 14 12) our_schema
+behind_build = builds_on new_texts later_look_texts (first 14 12) (second 17 14) our_schema new_tables_build later_looks_build
 
 build_of : (version : Version) → Build (texts_of version) no_schema (schema_of version)
-build_of First = builds_on table_texts look_texts no_schema part_schema first_schema tables_build looks_build
-build_of Second = builds_on table_texts (new_texts ++ later_look_texts) no_schema part_schema our_schema tables_build behind_build
+build_of First = builds_on table_texts look_texts no_schema (first 14 12) first_schema tables_build looks_build
+build_of Second = builds_on table_texts (new_texts ++ later_look_texts) no_schema (first 14 12) our_schema tables_build behind_build
 
 later_build : Build later_texts first_schema our_schema
-later_build = builds_on drop_texts (new_texts ++ later_look_texts) first_schema part_schema our_schema looks_go behind_build
+later_build = builds_on drop_texts (new_texts ++ later_look_texts) first_schema (first 14 12) our_schema looks_go behind_build
 
 -- so they have made it, where there was no table
 pub made_all : {E : Type 0} (version : Version) (r : Result (Unit {0}) E) (old new : State) → old.now.schema ≡ no_schema
@@ -158,7 +140,7 @@ made_later (Ok done) old new has makes =
     let it = makes our_schema (subst (λ s. Build later_texts s our_schema) (sym has) later_build) in
     let before : old.now.schema.tables ≡ first_tables = ap (λ (s : Schema). s.tables) has in
     let all : first_tables ++ later_tables ≡ new.now.schema.tables = sym (ap (λ (s : Schema). s.tables) it.0.schema_is) in
-    let both : first_tables ++ later_tables ≡ first_tables ++ it.1.made = all ∙ it.1.behind ∙ ap (λ (first : List Table). first ++ it.1.made) before in
+    let both : first_tables ++ later_tables ≡ first_tables ++ it.1.made = all ∙ it.1.behind ∙ ap (λ (front : List Table). front ++ it.1.made) before in
     let made : later_tables ≡ it.1.made = ap (drop 14) both in
     record {
       writing = it.0;

@@ -14,7 +14,7 @@ use Rattle.dh_fields.specs.declared.request.Request.{Request}
 use Rattle.dh_fields.specs.declared.request.Request.TheVariants as request
 use Rattle.dh_fields.specs.declared.unread.Unread.{Unread}
 use Rattle.dh_fields.specs.declared.unread.Unread.TheVariants.{Memory, Field}
-use Rattle.dh_fields.specs.Lines.{Fields, a_command, a_question, command_forms, field, question_forms, request_of, value_among}
+use Rattle.dh_fields.specs.Lines.{Fields, IsShown, a_command, a_question, command_forms, field, question_forms, request_of, value_among}
 use Rattle.dh_fields.specs.Readings.{GivesUp, IsNoText, Tells, wants_among, wants_text}
 
 -- whether field 1 is `show`
@@ -71,3 +71,8 @@ module _ (fields : Fields) where
   says_nothing r e is h =
       let P : Unread → Type 0 = λ z. GivesUp z (value_among command_forms 1 fields) (wants_among command_forms 1 fields) in
       commanded_badly (shows_nothing _ refl h.1) r e is (subst P (sym h.0) (wordless command_forms 1 fields refl refl h.1))
+
+-- the line of a question is what that is
+pub question_is : (fields : Fields) → IsShown fields → (r : Result Question Refusal) → r ≡ value_among question_forms 2 fields → a_question r ≡ request_of fields
+unfolding request_of field
+question_is fields shown r is = let show : is_show fields ≡ true = ap is_show shown.1 in rw show (ap a_question is)

@@ -1,5 +1,5 @@
 -- Which request the fields of a line are.
-use Rattle.std.specs.Prelude.{ℕ, ◌+◌, Bool, if◌then◌else◌, List, [], ◌∷◌, map, drop, slice_index_or, codes, bytes_eq}
+use Rattle.std.specs.Prelude.{◌≡◌, ℕ, ◌+◌, Bool, if◌then◌else◌, List, [], ◌∷◌, map, drop, slice_index_or, codes, bytes_eq}
 use Rattle.std.specs.Prelude.{Option, Some, None, Result, Ok, Err}
 use Rattle.dh_types.specs.declared.command.Command.{Command}
 use Rattle.dh_types.specs.declared.command.Command.TheVariants as command
@@ -318,3 +318,7 @@ unfoldable pub request_of : Fields → Result Request Refusal
 request_of fields =
     if bytes_eq (field fields 1) (codes "show") then a_question (value_among question_forms 2 fields)
     else a_command (value_among command_forms 1 fields)
+
+-- the line asks with some words
+abbrev pub IsShown : Fields → Type 0
+IsShown fields = (words : Fields) × (fields ≡ codes "show" ∷ words)

@@ -13,5 +13,5 @@ mod request;
 mod unread;
 mod values;
 
-pub use reader::{read_fields, read_line};
+pub use reader::{read_fields, read_line, read_question};
 pub use request::Request;

@@ -79,7 +79,7 @@ fn read_owner_month(line: &Line) -> Result<Question, Unread>
 
 /// The question that the line is, whose first field is `show`. `Field` has the number of its first bad field, which is 2 where
 /// the question is unknown.
-pub(crate) fn read_question(line: &Line) -> Result<Question, Unread>
+pub(crate) fn read_shown(line: &Line) -> Result<Question, Unread>
     ensures { Tells result (value_among question_forms 2 line.now) false }
 {
     match line.text(2)? {

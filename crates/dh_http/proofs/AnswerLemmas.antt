@@ -10,6 +10,8 @@ use Rattle.dh_types.specs.declared.reply.Refusal.TheVariants as refusal
 use Rattle.dh_types.specs.Replies.{reply_text}
 use Rattle.dh_requests.specs.declared.asked.Turned.{Turned}
 use Rattle.dh_requests.specs.declared.asked.Turned.TheVariants as turned
+use Rattle.dh_agency.specs.Requests.{Said, Replied, Reported}
+use Rattle.dh_http.specs.Served.{said_answer}
 use Rattle.dh_http.specs.Answers.{json_answer, refusal_status, reply_answer, report_answer, turned_status}
 use Rattle.dh_http.specs.declared.answers.Content.TheVariants.{Report as Text}
 
@@ -50,3 +52,7 @@ reply_goes_on _ = λ e. absurd (omega (arith, e))
 pub report_goes_on : (it : Report) → (report_answer it).status ≢ 503
 report_goes_on (NoReport why) = refusal_goes_on why
 report_goes_on _ = λ e. absurd (omega (arith, e))
+
+pub said_goes_on : (it : Said) → (said_answer it).status ≢ 503
+said_goes_on (Replied it) = reply_goes_on it
+said_goes_on (Reported it) = report_goes_on it

@@ -9,7 +9,7 @@ use Rattle.std.specs.declared.time.Instant.{Instant}
 use Rattle.std.specs.declared.time.Duration.{Duration}
 use Rattle.std.specs.declared.io.Error.{Error}
 use Rattle.std.specs.declared.io.ErrorKind.TheVariants.{Interrupted}
-use Rattle.dh_http.specs.Calls.{AsksLeft, AsksTime, Call, EndsAnswered, EndsOutput, HasTakenIn, Makes, Reads, TakesIn, UsesInTime, left_at}
+use Rattle.dh_http.specs.Calls.{AsksLeft, AsksTime, Call, EndsAnswered, EndsOutput, HasTakenIn, Makes, Reads, TakesIn, UsesInTime, left_at, nanos}
 
 pub makes_none : {T : Type 0} (a : Option (List T)) → Makes a a []
 makes_none None = tt
@@ -59,8 +59,8 @@ used call most begun since calls left r (AsksLeft.InTime now found are at is som
 
 -- with as many seconds
 pub same_time : (call : ℕ → Result ℕ Error → Call) (s t : ℕ) (begun since : Option Instant) (calls : List Call) (r : Result ℕ Error) → s ≡ t
-    → UsesInTime call (s * 1000000000) begun since calls r → UsesInTime call (t * 1000000000) begun since calls r
-same_time call s t begun since calls r same h = subst (λ n. UsesInTime call (n * 1000000000) begun since calls r) same h
+    → UsesInTime call (nanos s) begun since calls r → UsesInTime call (nanos t) begun since calls r
+same_time call s t begun since calls r same h = subst (λ n. UsesInTime call (nanos n) begun since calls r) same h
 
 use_calls : (call : ℕ → Result ℕ Error → Call) (most : ℕ) (begun since : Option Instant) (calls : List Call) (r : Result ℕ Error)
     → UsesInTime call most begun since calls r → 0 < length calls
@@ -76,9 +76,6 @@ pub record HasTaken (a b : Option (List Call)) (most : ℕ) (begun since : Optio
   pub made : Makes a b calls
   pub many : turns ≤ length calls
   pub more : (rest : List Call) → TakesIn most since left rest → TakesIn most begun bytes (calls ++ rest)
-
-pub taken_none : (a : Option (List Call)) (most : ℕ) (begun : Option Instant) (bytes : ℕ) → HasTaken a a most begun begun bytes bytes 0
-taken_none a most begun bytes = record { calls = []; made = makes_none a; many = omega arith; more = λ rest h. h }
 
 module _ (a m b : Option (List Call)) (most : ℕ) (begun since now : Option Instant) (bytes left turns : ℕ)
     (was : HasTaken a m most begun since bytes left turns) (some : 0 < left) (calls : List Call) (made : Makes m b calls) where
@@ -131,10 +128,6 @@ taken_enough a b most begun since bytes left turns was none = (
   inl (subst (TakesIn most begun bytes) (append-nil was.calls)
       (was.more [] (subst (λ n. TakesIn most since n []) (sym none) (TakesIn.Enough since)))),
 )
-
-pub taken_long : (a b : Option (List Call)) (most : ℕ) (begun since : Option Instant) (bytes left turns : ℕ)
-    → HasTaken a b most begun since bytes left turns → 2 ^ 64 - 1 ≤ turns → (all : List Call) × Makes a b all × HasTakenIn most begun bytes all
-taken_long a b most begun since bytes left turns was long = (was.calls, was.made, inr (omega (arith, was.many, long)))
 
 -- ---- a stream ends
 

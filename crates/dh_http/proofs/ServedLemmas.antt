@@ -2,19 +2,15 @@
 use Rattle.std.proofs.Common.{◌≡◌, ◌≢◌, ◌∙◌, ◌⊎◌, [], ℕ, ap, Bool, true, false, List, Option, Some, None, IfSome, Result, Ok, Err, inl, inr, refl, subst, sym}
 use Rattle.std.specs.Prelude.{IfOk, MatchOption}
 use Rattle.sqlite.specs.Store.{Ghosts}
-use Rattle.dh_types.specs.declared.command.Command.{Command}
 use Rattle.dh_types.specs.declared.reply.Fault.{Fault}
 use Rattle.dh_types.specs.declared.reply.Fault.TheVariants as faults
 use Rattle.dh_model.specs.Books.{State}
 use Rattle.dh_schema.specs.Faults.{IsFirstFault}
 use Rattle.dh_agency.specs.Seat.{Seat}
 use Rattle.dh_agency.specs.Agency.{IsOpen, Leaves, machine, stand}
-use Rattle.dh_agency.specs.Told.{IsInterrupted}
 use Rattle.dh_agency.proofs.Standing.{leaves_more}
-use Rattle.dh_fields.specs.declared.request.Request.TheVariants.{Command as Ordered}
 use Rattle.dh_requests.specs.Requests.{MayAsk}
 use Rattle.dh_requests.specs.declared.asked.Asked.{Asked}
-use Rattle.dh_requests.specs.declared.asked.Asked.TheVariants.{Fields}
 use Rattle.dh_http.specs.declared.fault.NetFault.{NetFault}
 use Rattle.dh_http.specs.declared.fault.NetFault.TheVariants.{Closed, Input, Output, Memory}
 use Rattle.dh_http.specs.declared.answers.Response.{Response}
@@ -80,18 +76,12 @@ goes_on_made old new a b it acted (Err e) result sends says other same = subst (
 
 -- ---- what a crash leaves
 module _ {S : Type 0} (g : Ghosts S) (old new : Seat S) (May : Asked → Type 0) where
-  pub leaves_cut : (command : Command) → May (Fields (Ok (Ordered command))) → Leaves g new (IsInterrupted command (machine g old)) → LeavesServed g old new May
-  leaves_cut command may h = leaves_more g new (IsInterrupted command (machine g old)) _ cut h
+  pub leaves_asked : (asked : Asked) → May asked → Leaves g new (IsLeftBy asked (machine g old)) → LeavesServed g old new May
+  leaves_asked asked may h = leaves_more g new (IsLeftBy asked (machine g old)) _ left_by h
     where
-      cut : (left : State) → IsInterrupted command (machine g old) left → (left ≡ machine g old)
-          ⊎ ((asked : Asked) × May asked × IsLeftBy asked (machine g old) left)
-      cut left is = inr (Fields (Ok (Ordered command)), may, is)
-
-  pub leaves_same : Leaves g new (λ left. left ≡ machine g old) → LeavesServed g old new May
-  leaves_same h = leaves_more g new (λ left. left ≡ machine g old) _ same h
-    where
-      same : (left : State) → left ≡ machine g old → (left ≡ machine g old) ⊎ ((asked : Asked) × May asked × IsLeftBy asked (machine g old) left)
-      same left is = inl is
+      left_by : (left : State) → IsLeftBy asked (machine g old) left → (left ≡ machine g old)
+          ⊎ ((it : Asked) × May it × IsLeftBy it (machine g old) left)
+      left_by left is = inr (asked, may, is)
 
 -- ---- where requests may be asked otherwise too
 module _ {S : Type 0} (g : Ghosts S) (old new : Seat S) (P Q : Asked → Type 0) (f : (asked : Asked) → P asked → Q asked) where
@@ -116,11 +106,3 @@ pub may_of : (input : Option (List ℕ)) (found : Option Asked) (asked : Asked) 
     → IfSome input (λ bytes. MatchOption found (bytes ≡ []) (λ it. MayAsk bytes it)) → IfSome input (λ bytes. MayAsk bytes asked)
 may_of None found asked is h = tt
 may_of (Some bytes) found asked is h = subst (λ o. MatchOption o (bytes ≡ []) (λ it. MayAsk bytes it)) is h
-
--- a fault of this agency
-pub fault_of : {S T : Type 0} (old new : Seat S) (fault : Fault) → (old.is_stopped ≡ false → IsFirstFault fault)
-    → (old.is_stopped ≡ true → (◌≡◌ {A = Result T Fault} (Err fault) (Err faults.Stopped)) × (new ≡ old)) → IsFaultOf old fault
-fault_of {S} {T} old new fault first stopped = (first, λ dead. told (stopped dead).0)
-  where
-    told : ◌≡◌ {A = Result T Fault} (Err fault) (Err faults.Stopped) → fault ≡ faults.Stopped
-    told e = cc

@@ -14,9 +14,6 @@ pub record IsTrying {T : Type 0} (a b : Option (List (Result T Error))) (turns :
   pub count_is : length before ≡ turns
   pub interrupted : All (λ it. IsInterrupted it) before
 
-pub untried : {T : Type 0} (a : Option (List (Result T Error))) → IsTrying a a 0
-untried a = record { before = []; made = makes_none a; count_is = refl; interrupted = λ k d below. absurd (omega arith) }
-
 module _ {T : Type 0} (a m b : Option (List (Result T Error))) (turns : ℕ) (was : IsTrying a m turns) (it : Result T Error)
     (made : Makes m b (it ∷ [])) where
   -- the next try was interrupted too
@@ -35,8 +32,3 @@ module _ {T : Type 0} (a m b : Option (List (Result T Error))) (turns : ℕ) (wa
     makes_both a m b was.before (it ∷ []) was.made made,
     inl (record { before = was.before; are = refl; interrupted = was.interrupted; ends = ends }),
   )
-
--- more tries were made than are ever made
-pub tried_long : {T : Type 0} (a b : Option (List (Result T Error))) (turns : ℕ) (it : Result T Error) → IsTrying a b turns → 2 ^ 64 - 1 ≤ turns
-    → (tries : List (Result T Error)) × Makes a b tries × HasTried tries it
-tried_long a b turns it was long = (was.before, was.made, inr (omega (arith, was.count_is, long)))

@@ -1,5 +1,5 @@
 -- What is asked of a peer's stream and of the clock.
-use Rattle.std.specs.Prelude.{◌≡◌, ◌≢◌, ◌⊎◌, ℕ, ◌-◌, ◌^◌, ◌<◌, ◌≤◌, List, [], ◌∷◌, ◌++◌, length, unwrap_or, ⊤, Option, Some, None, Result, Ok, Err}
+use Rattle.std.specs.Prelude.{◌≡◌, ◌≢◌, ◌⊎◌, ℕ, ◌-◌, ◌*◌, ◌^◌, ◌<◌, ◌≤◌, List, [], ◌∷◌, ◌++◌, length, unwrap_or, ⊤, Option, Some, None, Result, Ok, Err}
 use Rattle.std.specs.Duration.{as_nanos}
 use Rattle.std.specs.IoError.{error_kind}
 use Rattle.std.specs.Time.{instant_nanos}
@@ -20,6 +20,10 @@ abbrev pub Makes : {T : Type 0} → Option (List T) → Option (List T) → List
 Makes None after calls = ⊤
 Makes (Some before) None calls = ⊥
 Makes (Some before) (Some after) calls = after ≡ before ++ calls
+
+-- the nanoseconds of so many seconds
+abbrev pub nanos : ℕ → ℕ
+nanos seconds = seconds * 1000000000
 
 -- how many of these nanoseconds, from its first use on, are left now
 abbrev pub left_at : ℕ → Option Instant → Instant → ℕ

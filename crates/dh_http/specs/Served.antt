@@ -1,62 +1,49 @@
 -- What serving a request does to an agency, and what was written.
-use Rattle.std.specs.Prelude.{◌≡◌, ◌≢◌, ◌⊎◌, ℕ, true, false, List, Option, Result, Ok, Err, ⊤}
+use Rattle.std.specs.Prelude.{◌≡◌, ◌≢◌, ◌⊎◌, ℕ, true, false, List, Option, Result, Ok, Err, IsOk}
 use Rattle.std.specs.Io.KnownBytes.{Appends}
 use Rattle.sqlite.specs.Store.{Ghosts}
 use Rattle.dh_types.specs.Output.{BreaksOff}
 use Rattle.dh_types.specs.declared.reply.Fault.{Fault}
 use Rattle.dh_types.specs.declared.reply.Fault.TheVariants as fault
-use Rattle.dh_types.specs.declared.reply.Refusal.{Refusal}
-use Rattle.dh_model.specs.Answers.{report}
 use Rattle.dh_model.specs.Books.{State}
-use Rattle.dh_model.specs.Machine.{step}
-use Rattle.dh_model.specs.Runs.{batch_size}
 use Rattle.dh_schema.specs.Faults.{IsFirstFault}
 use Rattle.dh_agency.specs.Seat.{Seat}
 use Rattle.dh_agency.specs.Agency.{IsOpen, Leaves, machine, stand}
-use Rattle.dh_agency.specs.Told.{IsInterrupted}
-use Rattle.dh_fields.specs.declared.request.Request.{Request}
-use Rattle.dh_fields.specs.declared.request.Request.TheVariants.{Command as Ordered, Question}
+use Rattle.dh_agency.specs.Requests.{IsCutIn, Said, Replied, Reported, is_order, said_to}
 use Rattle.dh_requests.specs.declared.asked.Asked.{Asked}
 use Rattle.dh_requests.specs.declared.asked.Asked.TheVariants.{Turned, Fields}
 use Rattle.dh_http.specs.declared.fault.NetFault.{NetFault}
 use Rattle.dh_http.specs.declared.fault.NetFault.TheVariants.{Closed, Input, Output, Memory}
 use Rattle.dh_reading.specs.declared.unread.Unread.{Unread}
 use Rattle.dh_reading.specs.declared.unread.Unread.TheVariants as unread
-use Rattle.dh_http.specs.Answers.{Answer, answer_text, fault_answer, refusal_answer, reply_answer, report_answer, turned_answer}
+use Rattle.dh_http.specs.Answers.{Answer, answer_text, fault_answer, reply_answer, report_answer, turned_answer}
 
 -- what a request is answered, and where the machine stands then
 pub record Served : Type 0 where
   pub state : State
   pub answer : Answer
 
-abbrev pub served_request : State → Result Request Refusal → Served
-served_request s (Ok (Ordered command)) =
-    record { state = (step batch_size s command).0; answer = reply_answer (step batch_size s command).1 }
-served_request s (Ok (Question question)) = record { state = s; answer = report_answer (report s question) }
-served_request s (Err why) = record { state = s; answer = refusal_answer why }
+abbrev pub said_answer : Said → Answer
+said_answer (Replied it) = reply_answer it
+said_answer (Reported it) = report_answer it
 
 abbrev pub served : State → Asked → Served
 served s (Turned why) = record { state = s; answer = turned_answer why }
-served s (Fields request) = served_request s request
+served s (Fields request) = record { state = (said_to s request).0; answer = said_answer (said_to s request).1 }
 
 -- the request carries out a command
 abbrev pub IsOrder : Asked → Type 0
-IsOrder (Fields (Ok (Ordered command))) = ⊤
-IsOrder (Fields (Ok (Question question))) = ⊥
-IsOrder (Fields (Err why)) = ⊥
+IsOrder (Fields request) = is_order request ≡ true
 IsOrder (Turned why) = ⊥
 
 -- it is put to the agency: a command or a question, and no request that is turned away or refused for a field
 abbrev pub IsPut : Asked → Type 0
-IsPut (Fields (Ok request)) = ⊤
-IsPut (Fields (Err why)) = ⊥
+IsPut (Fields request) = IsOk request
 IsPut (Turned why) = ⊥
 
 -- The tables that a fault leaves: those of a command that was interrupted, or the same where nothing was to be changed.
 abbrev pub IsLeftBy : Asked → State → State → Type 0
-IsLeftBy (Fields (Ok (Ordered command))) before left = IsInterrupted command before left
-IsLeftBy (Fields (Ok (Question question))) before left = left ≡ before
-IsLeftBy (Fields (Err why)) before left = left ≡ before
+IsLeftBy (Fields request) before left = IsCutIn request before left
 IsLeftBy (Turned why) before left = left ≡ before
 
 -- an agency that goes on meets a first fault, and one that has stopped says so

@@ -4,6 +4,8 @@ ghost use Rattle.std.specs.Prelude.{◌≡◌, [], false, unwrap_or, IfOk};
 ghost use Rattle.http.specs.StatusCode.{reason_phrase};
 ghost use Rattle.dh_types.specs.Output.{Puts};
 ghost use Rattle.dh_types.specs.Reports.{is_no_report, report_of};
+ghost use Rattle.dh_agency.specs.Requests.{said_in};
+ghost use Rattle.dh_http.specs.Served.{said_answer};
 ghost use Rattle.dh_http.specs.Answers.{Sends, Writes, allow_line, answer_text, body_bytes, content_line, fault_answer, head_of, json_answer};
 ghost use Rattle.dh_http.specs.Answers.{refusal_answer, refusal_status, reply_answer, report_answer, said, turned_answer, turned_status};
 
@@ -219,16 +221,16 @@ fn refusal_status(why: &Refusal) -> StatusCode
     }
 }
 
-/// The answer to what is refused.
-pub(crate) fn refused(alloc: Global, why: Refusal) -> Result<Response, NoMemory>
+// The answer to what is refused.
+fn refused(alloc: Global, why: Refusal) -> Result<Response, NoMemory>
     ensures { IfOk result (λ it. said it ≡ refusal_answer why) }
 {
     let text = why.to_string(alloc)?;
     json(alloc, refusal_status(&why), why.number(), &text)
 }
 
-/// The answer to a command that was replied to so.
-pub(crate) fn replied(alloc: Global, reply: Reply) -> Result<Response, NoMemory>
+// The answer to a command that was replied to so.
+fn replied(alloc: Global, reply: Reply) -> Result<Response, NoMemory>
     ensures { IfOk result (λ it. said it ≡ reply_answer reply) }
 {
     if let Reply::Refused(why) = reply {
@@ -253,13 +255,23 @@ fn reported(alloc: Global, answer: &Answer) -> Result<Response, NoMemory>
     })
 }
 
-/// The answer to a question that was answered so.
-pub(crate) fn shown(alloc: Global, answer: &Answer) -> Result<Response, NoMemory>
+// The answer to a question that was answered so.
+fn shown(alloc: Global, answer: &Answer) -> Result<Response, NoMemory>
     ensures { IfOk result (λ it. said it ≡ report_answer (report_of answer.now)) }
 {
     match answer {
         Answer::Refused(why) => refused(alloc, *why),
         _ => reported(alloc, answer),
+    }
+}
+
+/// The answer to a request to which the agency responded so.
+pub(crate) fn made(alloc: Global, response: &dh_agency::Response) -> Result<Response, NoMemory>
+    ensures { IfOk result (λ it. said it ≡ said_answer (said_in response.now)) }
+{
+    match response {
+        dh_agency::Response::Reply(reply) => replied(alloc, *reply),
+        dh_agency::Response::Report(answer) => shown(alloc, answer),
     }
 }
 

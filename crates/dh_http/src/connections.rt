@@ -8,7 +8,7 @@ ghost use Rattle.dh_types.specs.declared.reply.Fault.TheVariants.{Store};
 ghost use Rattle.dh_schema.specs.Faults.{IsFirstFault};
 ghost use Rattle.dh_agency.specs.Agency.{IsClean, LeavesItsTables, WasClean};
 ghost use Rattle.dh_requests.specs.Requests.{MayAsk, TakesRequest};
-ghost use Rattle.dh_http.specs.Calls.{Call, EndsAnswered, Makes};
+ghost use Rattle.dh_http.specs.Calls.{Call, EndsAnswered, Makes, nanos};
 ghost use Rattle.dh_http.specs.Printed.{PrintsBehind, outcome_line};
 ghost use Rattle.dh_http.specs.Served.{LeavesServed};
 ghost use Rattle.dh_http.specs.Service.{IsTold, ServesOn, StopsWith};
@@ -55,7 +55,7 @@ pub fn serve_peer<S: Alter, P: Peer>(
     ensures stops { StopsWith agency.old agency.new result.0 }
     ensures stopped { agency.old.is_stopped ≡ true → agency.new ≡ agency.old }
     ensures ended { MatchOption result.0 (P.calls result.1 ≡ P.calls peer) (λ _. (calls : List Call) × Makes (P.calls peer) (P.calls result.1) calls
-        × EndsAnswered (patience.rest_seconds * 1000000000) patience.rest_bytes calls) }
+        × EndsAnswered (nanos patience.rest_seconds) patience.rest_bytes calls) }
     ensures was_clean { WasClean S.Store agency.old agency.new }
 {
     match serve_over(alloc, routes, agency, reader, writer) {

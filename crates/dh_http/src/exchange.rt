@@ -2,19 +2,27 @@
 
 ghost use Rattle.std.specs.Prelude.{◌≡◌, ◌≢◌, true, false, [], Err, IfSome};
 ghost use Rattle.dh_agency.specs.Agency.{IsClean, LeavesItsTables, WasClean};
+ghost use Rattle.dh_agency.specs.Requests.{is_order};
 ghost use Rattle.dh_requests.specs.Requests.{MayAsk, TakesRequest};
 ghost use Rattle.dh_http.specs.Served.{LeavesServed, Serves, StopsBy};
 
-use crate::answers::{faulted, refused, replied, send, send_made, shown, turned};
+use crate::answers::{faulted, made, send, send_made, turned};
 use crate::fault::NetFault;
-use dh_agency::Agency;
+use dh_agency::{Agency, respond};
 use dh_fields::Request;
-use dh_laws::frozen::{answers_pass_the_run, open_runs_refuse_put_off};
 use dh_requests::{Asked, Routes, read_request};
+use dh_types::Refusal;
 use http::StatusCode;
 use sqlite::Alter;
 use std::alloc::Global;
 use std::io::{Read, Write};
+
+// Whether fields order that something is done.
+fn is_order(request: &Result<Request, Refusal>) -> bool
+    ensures { result ≡ is_order request.now }
+{
+    matches!(request, Ok(Request::Command(_)))
+}
 
 // Does what is asked for, and answers it: the status of the answer.
 fn answer<S: Alter, W: Write>(
@@ -35,24 +43,13 @@ fn answer<S: Alter, W: Write>(
 {
     match asked {
         Asked::Turned(why) => send(writer, &turned(why)),
-        Asked::Fields(Err(why)) => send_made(writer, refused(alloc, why), false),
-        Asked::Fields(Ok(Request::Command(command))) => {
-            let outcome = agency.step(alloc, &command);
-            drop(command);
-            match outcome {
-                Ok(reply) => send_made(writer, replied(alloc, reply), true),
-                Err(fault) => send(writer, &faulted(fault)),
-            }
-        }
-        Asked::Fields(Ok(Request::Question(question))) => {
-            // A question is answered alike by the tables and by their whole.
-            answers_pass_the_run();
-            open_runs_refuse_put_off();
-            match agency.show(alloc, &question) {
-                Ok(answer) => {
-                    let made = shown(alloc, &answer);
-                    drop(answer);
-                    send_made(writer, made, false)
+        Asked::Fields(request) => {
+            let acted = is_order(&request);
+            match respond(alloc, agency, request) {
+                Ok(response) => {
+                    let made = made(alloc, &response);
+                    drop(response);
+                    send_made(writer, made, acted)
                 }
                 Err(fault) => send(writer, &faulted(fault)),
             }

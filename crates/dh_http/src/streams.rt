@@ -3,7 +3,7 @@
 ghost use Rattle.std.specs.Prelude.{◌≡◌, ◌*◌, ℕ, List, Option, None};
 ghost use Rattle.std.specs.Io.{ReadsAtMost, WritesAtMost};
 ghost use Rattle.std.specs.Io.KnownBytes.{Keeps, ReadConsumes, WriteAppends};
-ghost use Rattle.dh_http.specs.Calls.{AsksLeft, Call, EndsAnswered, HasTakenIn, Makes, Reads, UsesInTime, Writes};
+ghost use Rattle.dh_http.specs.Calls.{AsksLeft, Call, EndsAnswered, HasTakenIn, Makes, Reads, UsesInTime, Writes, nanos};
 
 use crate::patience::Patience;
 use crate::peers::Peer;
@@ -53,7 +53,7 @@ impl<P: Peer> TimedStream<P> {
     // How long the next call may wait.
     fn time_left(&mut self) -> io::Result<Duration>
         ensures asks { (calls : List Call) × Makes (P.calls self.old.peer) (P.calls self.new.peer) calls
-            × AsksLeft (self.old.seconds * 1000000000) self.old.begun self.new.begun calls result }
+            × AsksLeft (nanos self.old.seconds) self.old.begun self.new.begun calls result }
         ensures seconds { self.new.seconds ≡ self.old.seconds }
         ensures unread { Keeps (P.remaining self.old.peer) (P.remaining self.new.peer) }
         ensures unsent { Keeps (P.contents self.old.peer) (P.contents self.new.peer) }
@@ -71,7 +71,7 @@ impl<P: Peer> TimedStream<P> {
     // Reads what comes, up to so many bytes. A read that a signal interrupts is made again.
     fn take_in(&mut self, bytes: usize)
         ensures { (calls : List Call) × Makes (P.calls self.old.peer) (P.calls self.new.peer) calls
-            × HasTakenIn (self.old.seconds * 1000000000) self.old.begun bytes calls }
+            × HasTakenIn (nanos self.old.seconds) self.old.begun bytes calls }
     {
         let mut buffer = [0u8; 4096];
         let mut left = bytes;
@@ -100,7 +100,7 @@ impl<P: Peer> Read for TimedStream<P> {
         ensures bound { ReadsAtMost result buf.new }
         ensures bytes { ReadConsumes (P.remaining self.old.peer) (P.remaining self.new.peer) result buf.new }
         ensures uses { (calls : List Call) × Makes (P.calls self.old.peer) (P.calls self.new.peer) calls
-            × UsesInTime (λ n r. Reads n r) (self.old.seconds * 1000000000) self.old.begun self.new.begun calls result }
+            × UsesInTime (λ n r. Reads n r) (nanos self.old.seconds) self.old.begun self.new.begun calls result }
         ensures seconds { self.new.seconds ≡ self.old.seconds }
     {
         let left = self.time_left()?;
@@ -116,7 +116,7 @@ impl<P: Peer> Write for TimedStream<P> {
         ensures bound { WritesAtMost result buf.now }
         ensures bytes { WriteAppends (P.contents self.old.peer) (P.contents self.new.peer) result buf.now }
         ensures uses { (calls : List Call) × Makes (P.calls self.old.peer) (P.calls self.new.peer) calls
-            × UsesInTime (λ n r. Writes n r) (self.old.seconds * 1000000000) self.old.begun self.new.begun calls result }
+            × UsesInTime (λ n r. Writes n r) (nanos self.old.seconds) self.old.begun self.new.begun calls result }
         ensures seconds { self.new.seconds ≡ self.old.seconds }
     {
         let left = self.time_left()?;
@@ -131,7 +131,7 @@ impl<P: Peer> Write for TimedStream<P> {
 /// Ends a stream whose answer was written: what the peer still sends is taken in, up to a limit, so that it loses nothing of the answer.
 pub(crate) fn end_answered<P: Peer>(mut peer: P, patience: Patience) -> P
     ensures { (calls : List Call) × Makes (P.calls peer) (P.calls result) calls
-        × EndsAnswered (patience.rest_seconds * 1000000000) patience.rest_bytes calls }
+        × EndsAnswered (nanos patience.rest_seconds) patience.rest_bytes calls }
 {
     if peer.end_output().is_err() {
         return peer;

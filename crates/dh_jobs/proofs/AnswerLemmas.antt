@@ -1,22 +1,13 @@
 -- Lines and questions, in the words of jobs.
 use Rattle.std.proofs.Common.{◌≡◌, ◌∙◌, ◌⊎◌, inl, inr, Bool, true, false, ℕ, Option, List, ◌++◌, Err, refl, sym, ap, subst}
 use Rattle.sqlite.specs.Store.{Ghosts}
-use Rattle.dh_types.specs.declared.question.Question.{Question}
-use Rattle.dh_types.specs.Reports.{Report, is_no_report}
-use Rattle.dh_model.specs.Answers.{report}
 use Rattle.dh_model.specs.Books.{State}
-use Rattle.dh_model.specs.Runs.{batch_size}
-use Rattle.dh_laws.specs.Asking.{AnswersPassTheRun, OpenRunsRefusePutOff}
-use Rattle.dh_laws.specs.StateTables.{IsStateInOrder}
 use Rattle.dh_agency.specs.Seat.{Seat}
 use Rattle.dh_agency.specs.Agency.{Leaves, LeavesItsTables, machine, shown_by, stand}
-use Rattle.dh_agency.proofs.Standing.{reads_in_order, report_stands}
 use Rattle.dh_lines.specs.declared.outcome.BatchFault.{BatchFault}
 use Rattle.dh_lines.specs.declared.outcome.BatchFault.TheVariants as ended
 use Rattle.dh_lines.specs.Session.{records_of}
 use Rattle.dh_lines.specs.Batch.{AreAfter, EndsSo, IsStoreFault, LeavesAnswered}
-use Rattle.dh_jobs.specs.Jobs.{report_shown}
-use Rattle.dh_jobs.specs.Texts.{report_lines}
 use Rattle.dh_jobs.specs.Ends.{AtFault, AtReading, AtUnread, AtWriting, Stops}
 use Rattle.dh_jobs.specs.Leaving.{LinesLeave}
 
@@ -58,18 +49,3 @@ lines_left g old mid new h rests same = record {
             (h.left (shown_by g mid).now.trees rests.some).1,
       );
 }
-
--- ---- a question
-
-module _ {S : Type 0} (g : Ghosts S) (old new : Seat S) (question : Question) (shown : Report) (same : machine g new ≡ machine g old)
-    (left : LeavesItsTables g new) (said : shown ≡ report (machine g old) question)
-    (passes : AnswersPassTheRun batch_size) (refuses : OpenRunsRefusePutOff) where
-  pub shown_stands : shown ≡ report (stand g old) question
-  shown_stands =
-      said ∙ report_stands passes refuses (machine g old) question (subst (λ (s : State). IsStateInOrder s) same (reads_in_order g new left))
-
-  pub shown_text : report_lines shown ≡ (report_shown (stand g old) question).text
-  shown_text = ap report_lines shown_stands
-
-  pub shown_refused : (is_refused : Bool) → is_refused ≡ is_no_report shown → (report_shown (stand g old) question).is_refused ≡ is_refused
-  shown_refused is_refused is = sym (is ∙ ap is_no_report shown_stands)

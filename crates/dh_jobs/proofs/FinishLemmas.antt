@@ -53,17 +53,6 @@ by_run : (run : Option OpenRun) (is_open : Bool) → is_open ≡ is_some run →
 by_run None is_open is = rw is refl
 by_run (Some run) is_open is = rw is refl
 
-pub refused_finishes : (old : conn.State) (a : Option (List ℕ)) (is_refused : Bool) → is_refused ≡ true → Finishes old old a a is_refused SomeRefused
-refused_finishes old a is_refused is = subst (λ b. Finishes old old a a b SomeRefused) (sym is) (inl (refl, refl, λ clean. (refl, refl)))
-
-pub asked_finishes : (old new : conn.State) (a : Option (List ℕ)) (is_refused is_open : Bool) (status : Status) → is_refused ≡ false
-    → status ≡ (if is_open then RunOpen else Done) → IsEnding false status
-    → (HasCleanDisk new → is_open ≡ is_some (store.tables old).open_run) → (HasCleanDisk new → store.tables new ≡ store.tables old)
-    → Finishes old new a a is_refused status
-asked_finishes old new a is_refused is_open status is tells kind said same =
-    subst (λ b. Finishes old new a a b status) (sym is)
-    (inl (refl, kind, λ clean. (same clean, tells ∙ sym (by_run (store.tables old).open_run is_open (said clean)))))
-
 -- ---- behind a text
 
 module _ (mid new : conn.State) (a m b : Option (List ℕ)) (is_refused : Bool) (status : Status) where
@@ -103,12 +92,3 @@ pub prints_within : (IsEnd : List ℕ → Status → Type 0) (text : List ℕ) (
     → ((last : Status) → IsEnding is_refused last → IsEnd text last) → BreaksOff a b text → Prints IsEnd a b (breaking output)
 prints_within IsEnd text is_refused a b output ends h =
     Within text (ending is_refused None) (ends _ (ending_is is_refused None)) (output, refl, h)
-
--- nothing but the end was asked for since
-pub kept_finished : (status : Status) → IsFailed status → IsAnswered status → {A : Type 0} → A
-kept_finished (Failed why) failed answered = absurd answered
-kept_finished Done failed answered = absurd failed
-kept_finished SomeRefused failed answered = absurd failed
-kept_finished (BadWords outcome) failed answered = absurd failed
-kept_finished RunOpen failed answered = absurd failed
-kept_finished FileRefused failed answered = absurd failed

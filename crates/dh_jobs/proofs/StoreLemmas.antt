@@ -206,13 +206,6 @@ module _ (a m b : Option (List ℕ)) (before after : Status) (closes : Closes m 
   job_closed (job.Serve service) (inl h) = inl (h.0, service_closed service h.0 a m b before after h.1 closes)
   job_closed (job.Serve service) (inr h) = inr (refused_closed h)
 
--- a fault that came first
-pub job_before : (it : FileJob) (a b : Option (List ℕ)) (status : Status) → TellsFault a b [] status → PrintsJob it a b status
-job_before job.Recover a b status told = inl (Before told)
-job_before job.Migrate a b status told = inl (Before told)
-job_before (job.Work it) a b status told = inr (Before told)
-job_before (job.Serve service) a b status told = inr (Before told)
-
 -- ---- the store behind an agency
 
 -- a result has one error

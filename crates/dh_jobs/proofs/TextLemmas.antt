@@ -17,11 +17,6 @@ use Rattle.dh_jobs.specs.Printed.{BreaksIn, PutsAs, Tells, TellsFault, heard}
 use Rattle.dh_jobs.specs.Statuses.{IsFailed}
 use Rattle.dh_jobs.specs.Texts.{fault_line, report_lines}
 
--- an answer that is no refusal is its report
-pub lines_is : (answer : Answer) → ((refusal : Refusal) → answer ≡ Refused refusal → ⊥) → report_lines (report_of answer) ≡ report_text (report_of answer)
-lines_is (Refused refusal) h = absurd (h refusal refl)
-lines_is _ h = refl
-
 pub puts_as : {T : Type 0} (r : Result T Output) (text : List ℕ) (wanted status : Status) (a b : Option (List ℕ)) → status ≡ heard r wanted → Puts a b r text
     → PutsAs text wanted a b status
 puts_as (Ok it) text wanted status a b is h = inl (is, h)

@@ -13,7 +13,7 @@ use Rattle.clap.specs.Words.{Row, Text, fault_of, subcommand_of}
 use Rattle.dh_types.specs.declared.reply.Fault.TheVariants as fault
 use Rattle.dh_arguments.specs.Table.{letting}
 use Rattle.dh_arguments.specs.Options.{first_bad}
-use Rattle.dh_arguments.specs.Jobs.{Asks, IsBadFor, IsJobOf}
+use Rattle.dh_arguments.specs.Jobs.{Asks, IsBadFor, IsJobOf, usual_first}
 use Rattle.dh_arguments.specs.declared.kinds.BadWords.{BadWords}
 use Rattle.dh_arguments.specs.declared.kinds.BadWords.TheVariants as bad
 use Rattle.dh_arguments.specs.declared.kinds.Job.{Job}
@@ -42,7 +42,7 @@ other_text a b other is = absurd (other (ap (λ t. slice_index t 0) is))
 
 module _ (a b input : Option (List ℕ)) (it : Status) where
   module _ {D : Type 0} (g : disk.Ghosts D) (held : Image) where
-    batch_job : (asked : Job) → Asks (codes "batch") [] asked → AskedEnds g held asked input a b it → MemoryLinesEnd a b 24300 input it
+    batch_job : (asked : Job) → Asks (codes "batch") [] asked → AskedEnds g held asked input a b it → MemoryLinesEnd a b usual_first input it
     batch_job (Init file first) asks ends = other_text (codes "batch") (codes "init") (λ is. omega (arith, is)) asks.0
     batch_job (Run file order batches) asks ends = other_text (codes "batch") (codes "run") (λ is. omega (arith, is)) asks.0
     batch_job (Recover file) asks ends = other_text (codes "batch") (codes "recover") (λ is. omega (arith, is)) asks.0
@@ -52,21 +52,21 @@ module _ (a b input : Option (List ℕ)) (it : Status) where
     batch_job (Batch file first) asks ends = by file asks.1 ends
       where
         by : (file : Option (Bor Text)) → None ≡ option_map (λ text. text.now) file → BatchEnds g held file first input a b it
-            → MemoryLinesEnd a b 24300 input it
+            → MemoryLinesEnd a b usual_first input it
         by None none ends = subst (λ m. MemoryLinesEnd a b m input it) (asks.2) ends.1
         by (Some path) none ends = cc
 
-    batch_asked : (asked : Job) → IsJobOf (codes "batch" ∷ []) asked → AskedEnds g held asked input a b it → MemoryLinesEnd a b 24300 input it
+    batch_asked : (asked : Job) → IsJobOf (codes "batch" ∷ []) asked → AskedEnds g held asked input a b it → MemoryLinesEnd a b usual_first input it
     batch_asked asked is ends =
         let same : Some (codes "batch", []) ≡ Some is.0 = sym batch_found ∙ is.1.1 in
         let here : (codes "batch", []) ≡ is.0 = cc in
         batch_job asked (subst (λ (sub : Text × List Row). Asks sub.0 sub.1 asked) (sym here) is.3) ends
 
     pub asked_ends : (words : List Text) → words ≡ codes "batch" ∷ [] → (asked : Job) → IsJobOf words asked → AskedEnds g held asked input a b it
-        → MemoryLinesEnd a b 24300 input it
+        → MemoryLinesEnd a b usual_first input it
     asked_ends words is asked job ends = batch_asked asked (subst (λ w. IsJobOf w asked) is job) ends
 
-  batch_bad : (why : BadWords) → IsBadFor (codes "batch" ∷ []) why → BadPrints why a b it → MemoryLinesEnd a b 24300 input it
+  batch_bad : (why : BadWords) → IsBadFor (codes "batch" ∷ []) why → BadPrints why a b it → MemoryLinesEnd a b usual_first input it
   batch_bad (bad.Refused error) why said = absurd (none_among (kind_of error) _ batch_taken why)
   batch_bad (bad.Value option) why said =
       let same : Some (codes "batch", []) ≡ Some why.0 = sym batch_found ∙ why.1.1 in
@@ -80,5 +80,5 @@ module _ (a b input : Option (List ℕ)) (it : Status) where
   batch_bad bad.Memory why said = inr (fault_told a b fault.Memory it tt said)
 
   pub bad_ends : (words : List Text) → words ≡ codes "batch" ∷ [] → (why : BadWords) → IsBadFor words why → BadPrints why a b it
-      → MemoryLinesEnd a b 24300 input it
+      → MemoryLinesEnd a b usual_first input it
   bad_ends words is why bad said = batch_bad why (subst (λ w. IsBadFor w why) is bad) said

@@ -14,7 +14,6 @@ use crate::open_run::has_open_run;
 use crate::printed::{print_answer, print_reply, tell_fault};
 use crate::status::{Failure, Status};
 use dh_agency::Agency;
-use dh_laws::frozen::{answers_pass_the_run, open_runs_refuse_put_off};
 use dh_lines::batch;
 use dh_types::{BatchCount, Command, Fault, Question, Reply, RunOrder};
 use sqlite::Alter;
@@ -164,9 +163,6 @@ fn report<S: Alter, W: Write>(
     ensures kept { IsKept (shown_by S.Store agency.new) result }
     ensures was_clean { WasClean S.Store agency.old agency.new }
 {
-    // A question is answered alike by the tables and by their whole.
-    answers_pass_the_run();
-    open_runs_refuse_put_off();
     match agency.show(alloc, &question) {
         Ok(answer) => {
             let outcome = print_answer(writer, &answer);

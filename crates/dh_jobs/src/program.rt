@@ -2,7 +2,7 @@
 
 ghost use Rattle.std.specs.Prelude.{◌≡◌, ℕ, List, [], ◌∷◌, MatchResult, codes, map, string_bytes};
 ghost use Rattle.sqlite_wal.specs.Files.{image_at};
-ghost use Rattle.dh_arguments.specs.Jobs.{IsBadFor};
+ghost use Rattle.dh_arguments.specs.Jobs.{IsBadFor, usual_first};
 ghost use Rattle.dh_types.specs.Output.{Puts};
 ghost use Rattle.dh_jobs.specs.Desk.{AskedEnds, BadPrints, BatchEnds, DeskEnds, IsLineOf, MessagePrints, SaysMessage, SaysNoMessage};
 ghost use Rattle.dh_jobs.specs.Desk.{said_status, unsaid_status};
@@ -177,7 +177,7 @@ pub fn desk_from<S: Start, R: Read, W: Write>(
         (map (λ word. word.now) words.now) (R.remaining reader.old) (W.contents writer.old) (W.contents writer.new) result }
     // The lines are answered in memory, from 2025-01 on.
     ensures batch { map (λ word. word.now) words.now ≡ codes "batch" ∷ []
-        → MemoryLinesEnd (W.contents writer.old) (W.contents writer.new) 24300 (R.remaining reader.old) result }
+        → MemoryLinesEnd (W.contents writer.old) (W.contents writer.new) usual_first (R.remaining reader.old) result }
     ensures bad_words { IsBad result → (why : BadWords) × IsBadFor (map (λ word. word.now) words.now) why }
 {
     let Ok(words) = Words::join(rt.alloc(), words) else {
@@ -199,7 +199,7 @@ pub fn desk<R: Read, W: Write>(
     ensures ends { DeskEnds ⟦<FileFrom<Unknown> as Disk>⟧ (image_at ⟦<Unknown as Start>⟧)
         (map (λ word. word.now) words.now) (R.remaining reader.old) (W.contents writer.old) (W.contents writer.new) result }
     ensures batch { map (λ word. word.now) words.now ≡ codes "batch" ∷ []
-        → MemoryLinesEnd (W.contents writer.old) (W.contents writer.new) 24300 (R.remaining reader.old) result }
+        → MemoryLinesEnd (W.contents writer.old) (W.contents writer.new) usual_first (R.remaining reader.old) result }
     ensures bad_words { IsBad result → (why : BadWords) × IsBadFor (map (λ word. word.now) words.now) why }
 {
     desk_from(rt, Unknown, words, reader, writer)

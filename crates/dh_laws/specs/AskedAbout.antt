@@ -8,10 +8,9 @@ use Rattle.dh_types.specs.declared.lease.Lease.{Lease}
 use Rattle.dh_types.specs.declared.question.Question.{Question}
 use Rattle.dh_types.specs.declared.question.Question.TheVariants as asked
 use Rattle.dh_model.specs.declared.open_run.OpenRun.{OpenRun}
-use Rattle.dh_model.specs.Answers.{report}
+use Rattle.dh_model.specs.Answers.{is_put_off, report}
 use Rattle.dh_model.specs.Books.{Books, empty_books}
 use Rattle.dh_model.specs.Checks.{is_same_text}
-use Rattle.dh_model.specs.MachineLaws.{is_put_off}
 use Rattle.dh_model.specs.Runs.{is_property_of, leases_of_branch}
 use Rattle.dh_model.specs.Whole.{rows_where}
 use Rattle.dh_laws.specs.InOrder.{AreKeyed}

@@ -6,9 +6,9 @@ use Rattle.dh_types.specs.declared.reply.Refusal.TheVariants as refusal
 use Rattle.dh_types.specs.Reports.{NoReport}
 use Rattle.dh_model.specs.declared.open_run.OpenRun.{OpenRun}
 use Rattle.dh_model.specs.declared.rows.Verdict.TheVariants as verdict
-use Rattle.dh_model.specs.Answers.{report}
+use Rattle.dh_model.specs.Answers.{is_put_off, report}
 use Rattle.dh_model.specs.Books.{Books, State}
-use Rattle.dh_model.specs.MachineLaws.{is_frozen, is_put_off}
+use Rattle.dh_model.specs.MachineLaws.{is_frozen}
 use Rattle.dh_model.specs.Runs.{batches}
 use Rattle.dh_model.specs.Verdicts.{verdict_on}
 use Rattle.dh_model.specs.Whole.{whole}

@@ -2,6 +2,7 @@
 use Rattle.std.specs.Prelude.{◌≡◌, ◌≤◌, ℕ, Option, Some}
 use Rattle.std.specs.declared.cmp.Ordering.{Ordering}
 use Rattle.std.specs.FinMap.{FinMap, get}
+use Rattle.dh_values.specs.declared.limits.TheConstants.{LEAST_LEASE_MONTHS}
 use Rattle.dh_types.specs.declared.command.Command.{Command}
 use Rattle.dh_types.specs.declared.command.Command.TheVariants as command
 use Rattle.dh_model.specs.declared.open_run.OpenRun.{OpenRun}
@@ -9,7 +10,7 @@ use Rattle.dh_model.specs.declared.rows.Change.{Change}
 use Rattle.dh_model.specs.declared.rows.Change.TheVariants as change
 use Rattle.dh_model.specs.Books.{Books}
 use Rattle.dh_model.specs.Kinds.{Kind, key_in, records_of}
-use Rattle.dh_model.specs.Rules.{MeetsRules}
+use Rattle.dh_model.specs.Rules.{IsLeaseLength, MeetsRules}
 use Rattle.dh_model.specs.Whole.{IsOpenAt}
 
 -- what stands under a key has it
@@ -27,8 +28,8 @@ pub record IsInOrder (size : ℕ) (books : Books) (run : Option OpenRun) : Type 
 
 -- what a line can hold of a command, as far as a rule speaks of it
 abbrev pub IsEntered : Command → Type 0
-IsEntered (command.Lease terms) = (3 ≤ terms.months) × (terms.months ≤ 12)
-IsEntered (command.End it) = 3 ≤ it.months
+IsEntered (command.Lease terms) = IsLeaseLength terms.months
+IsEntered (command.End it) = LEAST_LEASE_MONTHS ≤ it.months
 IsEntered _ = Unit {0}
 
 -- the open run after a change: an opening begins one with no batch done, all else leaves it

@@ -19,9 +19,7 @@ pub use charges::{due_in, dues};
 pub use fees::branch_fees;
 pub use parts::branch_parts;
 pub use plans::{BatchRows, BranchRun, Plan, plan_of};
-pub use posted::{
-    first_batches, open_row, posted_charges, posted_fees, posted_parts, whole, with_posted,
-};
-pub use sums::{Sum, charge_fee, fee_of_sum, part_of_sum, sum_of, sum_with};
+pub use posted::{open_row, posted_charges, posted_fees, posted_parts, whole, with_posted};
+pub use sums::{Sum, charge_fee, sum_of};
 pub use terms::{covers, end_of, overlap};
 pub use whole_run::with_run;

@@ -17,7 +17,7 @@ use dh_types::{Charge, EntryMonth, Part, PartFee, Run};
 use std::alloc::{AllocError, Global};
 
 /// The first of the charges, as many as so many batches have.
-pub fn first_batches(charges: &[Charge], count: u128) -> &[Charge]
+pub(crate) fn first_batches(charges: &[Charge], count: u128) -> &[Charge]
     ensures { result.now ≡ take (count * batch_size) charges.now }
 {
     let most = count.saturating_mul(u128::from(BATCH_SIZE));

@@ -76,7 +76,7 @@ fn with_charge(sum: Sum, charge: &Charge) -> Sum
 }
 
 /// What charges that come to the sum come to with these behind them.
-pub fn sum_with(mut sum: Sum, charges: &[Charge]) -> Sum
+pub(crate) fn sum_with(mut sum: Sum, charges: &[Charge]) -> Sum
     requires few { sum.count + length charges.now ≤ MOST_NUMBER + 1 }
     requires small { sum.total ≤ MOST_RENT * sum.count }
     requires less { sum.fees ≤ sum.total }
@@ -109,7 +109,7 @@ fn sum_alone(charges: &[Charge]) -> Sum
 }
 
 /// What the branch has of the month's run where its charges come to the sum.
-pub fn part_of_sum(month: EntryMonth, branch: Id, sum: Sum) -> Part
+pub(crate) fn part_of_sum(month: EntryMonth, branch: Id, sum: Sum) -> Part
     ensures { (charges : List Charge) → sum ≡ sum_of sum.fee charges → result ≡ part_of month branch charges }
 {
     Part {
@@ -122,7 +122,7 @@ pub fn part_of_sum(month: EntryMonth, branch: Id, sum: Sum) -> Part
 }
 
 /// What the branch takes of the month's run where its charges come to the sum.
-pub fn fee_of_sum(month: EntryMonth, branch: Id, sum: Sum) -> PartFee
+pub(crate) fn fee_of_sum(month: EntryMonth, branch: Id, sum: Sum) -> PartFee
     ensures { (charges : List Charge) → sum ≡ sum_of sum.fee charges → result ≡ part_fee_of month branch sum.fee charges }
 {
     PartFee {

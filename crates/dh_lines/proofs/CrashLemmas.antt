@@ -2,52 +2,40 @@
 use Rattle.std.proofs.Common.{◌≡◌, ◌∙◌, ◌⊎◌, inl, inr, refl, sym, ap, subst, Bool, Option, Some, Result, Ok, Err}
 use Rattle.std.proofs.Common.{ℕ, List, [], ◌∷◌, ◌++◌, arith}
 use Rattle.sqlite.specs.Store.{Ghosts}
-use Rattle.dh_types.specs.declared.command.Command as told
 use Rattle.dh_types.specs.declared.reply.Refusal.{Refusal}
 use Rattle.dh_model.specs.Books.{State}
 use Rattle.dh_model.specs.Machine.{step}
 use Rattle.dh_model.specs.Runs.{batch_size}
 use Rattle.dh_agency.specs.Seat.{Seat}
 use Rattle.dh_agency.specs.Agency.{Leaves, LeavesItsTables, machine, stand, stand_of}
-use Rattle.dh_agency.specs.Told.{IsInterrupted}
+use Rattle.dh_agency.specs.Requests.{IsCutIn}
 use Rattle.dh_agency.proofs.Standing.{leaves_more, leaves_what_holds}
-use Rattle.dh_lines.specs.declared.outcome.Halt.{Halt}
-use Rattle.dh_lines.specs.declared.outcome.Halt.TheVariants as halt
 use Rattle.dh_fields.specs.declared.request.Request.{Request}
 use Rattle.dh_fields.specs.declared.request.Request.TheVariants as request
 use Rattle.dh_fields.specs.Lines.{Fields, request_of}
-use Rattle.dh_lines.specs.Session.{Answered, answered, answered_request}
-use Rattle.dh_lines.specs.Batch.{Answers, AreAfter, IsWithin, LeavesAnswered, WasAnswered}
+use Rattle.dh_lines.specs.Session.{answered, answered_request}
+use Rattle.dh_lines.specs.Batch.{AreAfter, IsWithin, LeavesAnswered, WasAnswered}
 use Rattle.dh_lines.proofs.Following.{state-more}
 
--- a command that was interrupted is interrupted within its record
-pub cut_within : (fields : Fields) (it : told.Command) (s left : State) → request_of fields ≡ Ok (request.Command it) → IsInterrupted it s left
+-- what is cut in a request is cut within its record
+pub cut_within : (fields : Fields) (request : Result Request Refusal) (s left : State) → request ≡ request_of fields → IsCutIn request s left
     → IsWithin (stand_of s) (Some fields) left
-cut_within fields it s left asked (inl undone) = inr (fields, it, refl, asked, inl (undone.books, undone.run))
-cut_within fields it s left asked (inr done) =
+cut_within fields (Ok (request.Command it)) s left asked (inl undone) = inr (fields, it, refl, sym asked, inl (undone.books, undone.run))
+cut_within fields (Ok (request.Command it)) s left asked (inr done) =
     let stepped : (answered (stand_of s) fields).state.books ≡ (step batch_size (stand_of s) it).0.books =
-    ap (λ (r : Result Request Refusal). (answered_request (stand_of s) r).state.books) asked in
-    inr (fields, it, refl, asked, inr (done.books ∙ sym stepped, done.run))
-
-pub same_within : (fields : Fields) (s left : State) → left ≡ s → IsWithin (stand_of s) (Some fields) left
-same_within fields s left is = inl (ap stand_of is)
+    ap (λ (r : Result Request Refusal). (answered_request (stand_of s) r).state.books) (sym asked) in
+    inr (fields, it, refl, sym asked, inr (done.books ∙ sym stepped, done.run))
+cut_within fields (Ok (request.Question it)) s left asked is = inl (ap stand_of is)
+cut_within fields (Err why) s left asked is = inl (ap stand_of is)
 
 module _ {S : Type 0} (g : Ghosts S) where
-  pub answers_so : (old new : Seat S) (a b : Option (List ℕ)) (n : ℕ) (it other : Answered) (P Q : State → Type 0) (r : Result Bool Halt) → it ≡ other
-      → ((t : State) → P t → Q t) → Answers g old new a b n it P r → Answers g old new a b n other Q r
-  answers_so old new a b n it other P Q r same f h = subst (λ (z : Answered). Answers g old new a b n z Q r) same (by r h)
-    where
-      by : (r : Result Bool Halt) → Answers g old new a b n it P r → Answers g old new a b n it Q r
-      by (Ok is_refused) h = h
-      by (Err (halt.Fault fault outcome)) h = (h.0, λ is_open. f (machine g new) (h.1 is_open), h.2)
-      by (Err (halt.Unread cause outcome)) h = h
-      by (Err (halt.Input cause)) h = h
-      by (Err (halt.Output failed)) h = h
+  pub leaves_cut : (old new : Seat S) (fields : Fields) (request : Result Request Refusal) → request ≡ request_of fields
+      → Leaves g new (IsCutIn request (machine g old)) → Leaves g new (IsWithin (stand g old) (Some fields))
+  leaves_cut old new fields request asked h =
+      leaves_more g new (IsCutIn request (machine g old)) (IsWithin (stand g old) (Some fields))
+      (λ t cut. cut_within fields request (machine g old) t asked cut) h
 
   -- ---- one record after the other
-
-  pub answered_none : (old : Seat S) → WasAnswered g old old
-  answered_none old = record { rows = []; stands = refl }
 
   module _ (old mid new : Seat S) (f : Fields) (h : WasAnswered g old mid) where
     pub answered_next : stand g new ≡ (answered (stand g mid) f).state → WasAnswered g old new

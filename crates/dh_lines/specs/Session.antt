@@ -1,20 +1,17 @@
 -- The lines that the records of an input are answered, and the state after them.
-use Rattle.std.specs.Prelude.{ℕ, ◌+◌, Bool, true, List, [], ◌∷◌, ◌++◌, codes, if◌then◌else◌, Result, Ok, Err}
+use Rattle.std.specs.Prelude.{ℕ, ◌+◌, Bool, List, [], ◌∷◌, ◌++◌, codes, if◌then◌else◌, Result}
 use Rattle.std.specs.Fmt.{decimal}
 use Rattle.csv.specs.Reading.{default_config, records, strip_bom}
 use Rattle.dh_types.specs.declared.reply.Reply.{Reply}
 use Rattle.dh_types.specs.declared.reply.Refusal.{Refusal}
 use Rattle.dh_types.specs.declared.reply.Fault.{Fault}
-use Rattle.dh_types.specs.Replies.{reply_text, refusal_text, fault_text, is_refusal}
-use Rattle.dh_types.specs.Reports.{Report, NoReport, is_no_report}
+use Rattle.dh_types.specs.Replies.{reply_text, refusal_text, fault_text}
+use Rattle.dh_types.specs.Reports.{Report, NoReport}
 use Rattle.dh_model.specs.Books.{State}
-use Rattle.dh_model.specs.Answers.{report}
-use Rattle.dh_model.specs.Machine.{step}
-use Rattle.dh_model.specs.Runs.{batch_size}
+use Rattle.dh_agency.specs.Requests.{Said, Replied, Reported, said_to, says_no}
 use Rattle.dh_reports.specs.Columns.{newline}
 use Rattle.dh_reports.specs.ReportTexts.{report_text, line_count}
 use Rattle.dh_fields.specs.declared.request.Request.{Request}
-use Rattle.dh_fields.specs.declared.request.Request.TheVariants.{Command, Question}
 use Rattle.dh_fields.specs.Lines.{Fields, request_of}
 
 -- the records of an input, as csv reads them with its defaults
@@ -27,12 +24,6 @@ pub record Answered : Type 0 where
   pub text : List ℕ
   pub is_refused : Bool
 
-abbrev pub replied : State × Reply → Answered
-replied after = record { state = after.0; text = reply_text after.1 ++ newline; is_refused = is_refusal after.1 }
-
-abbrev pub refused : State → Refusal → Answered
-refused s refusal = record { state = s; text = refusal_text refusal ++ newline; is_refused = true }
-
 -- how many lines a report has, and they
 abbrev pub shown_text : Report → List ℕ
 shown_text it = codes "shown " ++ decimal (line_count it) ++ newline ++ report_text it
@@ -42,13 +33,19 @@ abbrev pub reported_text : Report → List ℕ
 reported_text (NoReport refusal) = refusal_text refusal ++ newline
 reported_text it = shown_text it
 
-abbrev pub reported : State → Report → Answered
-reported s it = record { state = s; text = reported_text it; is_refused = is_no_report it }
+-- the text of what is said
+abbrev pub said_text : Said → List ℕ
+said_text (Replied it) = reply_text it ++ newline
+said_text (Reported it) = reported_text it
+
+abbrev pub answered_as : State → Said → Answered
+answered_as s it = record { state = s; text = said_text it; is_refused = says_no it }
+
+abbrev pub replied : State × Reply → Answered
+replied after = answered_as after.0 (Replied after.1)
 
 abbrev pub answered_request : State → Result Request Refusal → Answered
-answered_request s (Ok (Command command)) = replied (step batch_size s command)
-answered_request s (Ok (Question question)) = reported s (report s question)
-answered_request s (Err refusal) = refused s refusal
+answered_request s request = answered_as (said_to s request).0 (said_to s request).1
 
 abbrev pub answered : State → Fields → Answered
 answered s fields = answered_request s (request_of fields)

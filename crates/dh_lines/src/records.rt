@@ -3,22 +3,17 @@
 ghost use Rattle.std.specs.Prelude.{◌≡◌, Some, true, false, IfErr};
 ghost use Rattle.csv.specs.Reading.{error_kind, stops_reader};
 ghost use Rattle.csv.specs.Records.{fields_of};
-ghost use Rattle.dh_model.specs.Answers.{report};
-ghost use Rattle.dh_model.specs.Machine.{step};
-ghost use Rattle.dh_model.specs.Runs.{batch_size};
-ghost use Rattle.dh_agency.specs.Agency.{IsClean, Leaves, LeavesItsTables, machine, stand};
-ghost use Rattle.dh_agency.specs.Told.{IsInterrupted};
-ghost use Rattle.dh_lines.specs.Session.{answered, replied, reported};
+ghost use Rattle.dh_agency.specs.Agency.{IsClean, Leaves, LeavesItsTables, stand};
+ghost use Rattle.dh_lines.specs.Session.{answered};
 ghost use Rattle.dh_lines.specs.Batch.{Answers, Halts, IsWithin, OnlyOfRequests, TellsFault, TellsReading, TellsUnread, batch_fault};
 
 use crate::outcome::Halt;
-use crate::replies::{put_answer_line, put_fault_line, put_refused_line, put_reply_line};
+use crate::replies::{put_fault_line, put_response_line};
 use crate::watched_reader::Input;
 use csv::{ByteRecord, Error};
-use dh_agency::Agency;
-use dh_fields::{Request, read_line};
-use dh_laws::frozen::{answers_pass_the_run, open_runs_refuse_put_off};
-use dh_types::{Command, Fault, Question};
+use dh_agency::{Agency, respond};
+use dh_fields::read_line;
+use dh_types::Fault;
 use sqlite::Alter;
 use std::alloc::Global;
 use std::io::Write;
@@ -64,58 +59,6 @@ pub fn end_by_reading<W: Write>(
     }
 }
 
-fn answer_command<S: Alter, W: Write>(
-    alloc: Global,
-    agency: &mut Agency<S>,
-    number: u64,
-    command: &Command,
-    writer: &mut W,
-) -> Result<bool, Halt>
-    ensures answers { IsClean S.Store agency.new
-        → Answers S.Store agency.old agency.new (W.contents writer.old) (W.contents writer.new) number
-        (replied (step batch_size (stand S.Store agency.old) command.now)) (IsInterrupted command.now (machine S.Store agency.old)) result }
-    ensures crash { IsClean S.Store agency.new → agency.old.is_stopped ≡ false
-        → Leaves S.Store agency.new (IsInterrupted command.now (machine S.Store agency.old)) }
-    ensures left { IsClean S.Store agency.new → agency.new.is_stopped ≡ false → LeavesItsTables S.Store agency.new }
-    ensures halts { Halts batch_fault S.Store agency.old agency.new result }
-{
-    match agency.step(alloc, command) {
-        Ok(reply) => {
-            let is_refused = reply.is_refusal();
-            put_reply_line(writer, number, reply)?;
-            Ok(is_refused)
-        }
-        Err(fault) => Err(end_by_fault(writer, number, fault)),
-    }
-}
-
-fn answer_question<S: Alter, W: Write>(
-    alloc: Global,
-    agency: &mut Agency<S>,
-    number: u64,
-    question: Question,
-    writer: &mut W,
-) -> Result<bool, Halt>
-    ensures answers { IsClean S.Store agency.new
-        → Answers S.Store agency.old agency.new (W.contents writer.old) (W.contents writer.new) number
-        (reported (stand S.Store agency.old) (report (stand S.Store agency.old) question)) (λ now. now ≡ machine S.Store agency.old) result }
-    ensures crash { IsClean S.Store agency.new → agency.old.is_stopped ≡ false → Leaves S.Store agency.new (λ left. left ≡ machine S.Store agency.old) }
-    ensures left { IsClean S.Store agency.new → agency.new.is_stopped ≡ false → LeavesItsTables S.Store agency.new }
-    ensures halts { Halts batch_fault S.Store agency.old agency.new result }
-{
-    // A question is answered alike by the tables and by their whole.
-    answers_pass_the_run();
-    open_runs_refuse_put_off();
-    match agency.show(alloc, &question) {
-        Ok(answer) => {
-            let is_refused = answer.is_refusal();
-            put_answer_line(writer, number, &answer)?;
-            Ok(is_refused)
-        }
-        Err(fault) => Err(end_by_fault(writer, number, fault)),
-    }
-}
-
 /// Answers the record: whether it was refused. At a fault of an agency that goes on nothing was done; at an `Output` what it asks for was.
 pub fn answer<S: Alter, W: Write>(
     alloc: Global,
@@ -134,18 +77,14 @@ pub fn answer<S: Alter, W: Write>(
     ensures halts { Halts batch_fault S.Store agency.old agency.new result }
 {
     match read_line(alloc, row) {
-        Ok(Ok(Request::Command(command))) => {
-            let answered = answer_command(alloc, agency, number, &command, writer);
-            drop(command);
-            answered
-        }
-        Ok(Ok(Request::Question(question))) => answer_question(
-            alloc, agency, number, question, writer,
-        ),
-        Ok(Err(refusal)) => {
-            put_refused_line(writer, number, refusal)?;
-            Ok(true)
-        }
+        Ok(request) => match respond(alloc, agency, request) {
+            Ok(response) => {
+                let is_refused = response.is_refusal();
+                put_response_line(writer, number, &response)?;
+                Ok(is_refused)
+            }
+            Err(fault) => Err(end_by_fault(writer, number, fault)),
+        },
         Err(_) => Err(end_by_fault(writer, number, Fault::Memory)),
     }
 }

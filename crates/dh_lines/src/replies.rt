@@ -7,10 +7,12 @@ ghost use Rattle.dh_types.specs.Output.{Puts};
 ghost use Rattle.dh_types.specs.Reports.{report_of};
 ghost use Rattle.dh_types.specs.Replies.{refusal_text, reply_text};
 ghost use Rattle.dh_reports.specs.Columns.{newline};
-ghost use Rattle.dh_lines.specs.Session.{fault_line, numbered, reported_text};
+ghost use Rattle.dh_agency.specs.Requests.{said_in};
+ghost use Rattle.dh_lines.specs.Session.{fault_line, numbered, reported_text, said_text};
 ghost use Rattle.dh_lines.specs.Told.{told_line, told_text};
 
 use arrayvec::ArrayVec;
+use dh_agency::Response;
 use dh_reports::{lines, write};
 use dh_types::text_writer::{put, put_parts};
 use dh_types::{Answer, Fault, Output, Refusal, Reply, put_fault, put_reply};
@@ -108,4 +110,19 @@ pub fn put_answer_line<W: Write>(writer: &mut W, number: u64, answer: &Answer) -
     }
     put_line(writer, number, &Told::Shown(lines(answer)))?;
     write(answer, writer)
+}
+
+/// Writes the line of a record that was answered so, and behind it the report if there is one. At an `Output` the writer failed, and a beginning
+/// of both was written.
+pub fn put_response_line<W: Write>(
+    writer: &mut W,
+    number: u64,
+    response: &Response,
+) -> Result<(), Output>
+    ensures { Puts (W.contents writer.old) (W.contents writer.new) result (numbered number (said_text (said_in response.now))) }
+{
+    match response {
+        Response::Reply(reply) => put_reply_line(writer, number, *reply),
+        Response::Report(answer) => put_answer_line(writer, number, answer),
+    }
 }

@@ -46,21 +46,3 @@ module _ {S : Type 0} (g : Ghosts S) (before : Held S) where
         let so = it.happened in
         found_so g it.ended found (AreTables (IsAnsweredBy told reply (tables (state g before))))
         (answered (state g before) (state g it.ended) so.clean.0 (IsAnsweredBy told reply) so.tells) so.finds so.clean.1
-
-    pub cut_found : (told : Command) → IsFoundAfter g before (StepInterrupted told) found → Finds (IsInterrupted told)
-    cut_found told it =
-        let so = it.happened in
-        found_so g it.ended found (AreTables (IsInterrupted told (tables (state g before))))
-        (broken (state g before) (state g it.ended) so.clean.0 (IsInterrupted told) so.tells) so.finds so.clean.1
-
-    pub mended_found : IsFoundAfter g before Recovered found → Finds IsRecovered
-    mended_found it =
-        let so = it.happened in
-        found_so g it.ended found (AreTables (IsRecovered (tables (state g before))))
-        (answered (state g before) (state g it.ended) so.clean.0 IsRecovered so.tells) so.finds so.clean.1
-
-    pub torn_found : IsSoundIn g before → IsFoundAfter g before RecoveryInterrupted found → Finds IsMidRecovery
-    torn_found sound it =
-        let so = it.happened in
-        found_so g it.ended found (AreTables (IsMidRecovery (tables (state g before))))
-        (torn (state g before) (state g it.ended) so.clean.0 sound so.tells) so.finds so.clean.1

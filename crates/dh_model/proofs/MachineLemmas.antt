@@ -3,7 +3,6 @@ use Rattle.std.proofs.Common.{◌≡◌, ◌∙◌, refl, sym, ap, ℕ, ◌+◌,
 use Rattle.std.proofs.lemmas.Bool.Decides.{nat_tests}
 use Rattle.dh_types.specs.declared.command.Command.{Command}
 use Rattle.dh_types.specs.declared.command.Command.TheVariants as command
-use Rattle.dh_types.specs.declared.question.Question.TheVariants as asked
 use Rattle.dh_types.specs.declared.reply.Reply.{Reply}
 use Rattle.dh_types.specs.declared.reply.Reply.TheVariants as reply
 use Rattle.dh_types.specs.declared.reply.Refusal.{Refusal}
@@ -33,11 +32,7 @@ pub frozen_refused : (size : ℕ) → FrozenAreRefused size
 frozen_refused size books run told h = ap (settled size (record { books = books; open_run = Some run }) told) (frozen_verdict books run told h)
 
 pub half_runs_not_shown : HalfRunsAreNotShown
-half_runs_not_shown books run (asked.Statement lease) h = refl
-half_runs_not_shown books run (asked.Arrears branch) h = refl
-half_runs_not_shown books run (asked.Run month) h = refl
-half_runs_not_shown books run (asked.Owner it) h = refl
-half_runs_not_shown books run _ h = cc
+half_runs_not_shown books run question h = rw h refl
 
 not_refused : (rows : Change) (why : Refusal) → accepted rows ≡ reply.Refused why → ⊥
 not_refused (change.Receipt it) why h = cc

@@ -1,5 +1,5 @@
 -- What each question is answered. A question changes nothing.
-use Rattle.std.specs.Prelude.{ℕ, ℤ, pos, ◌-ℤ◌, ◌+ℤ◌, int_lt, Bool, not, ◌&&◌, nat_eq, nat_le, if◌then◌else◌, List, map, Option, Some, None}
+use Rattle.std.specs.Prelude.{ℕ, ℤ, pos, ◌-ℤ◌, ◌+ℤ◌, int_lt, Bool, true, false, not, ◌&&◌, nat_eq, nat_le, if◌then◌else◌, List, map, Option, Some, None}
 use Rattle.std.specs.Prelude.{option_map}
 use Rattle.std.specs.List.{filter, filter_map, fold, list_any, sum_by}
 use Rattle.std.specs.Ordering.{nat_cmp}
@@ -135,16 +135,28 @@ module _ (books : Books) where
   run_report (Some run) =
       if run.is_closed then RunParts (filter (λ part. nat_eq part.month run.month) (values books.parts)) (sum_of run) else NoReport refusal.NoRun
 
--- an open run refuses what would show it half made
+  -- what books say to a question where no run is open
+  abbrev pub answer_of : Question → Report
+  answer_of asked.Branches = BranchList (values books.branches)
+  answer_of (asked.Vacant day) = VacantList (vacant day)
+  answer_of (asked.Matching it) = matching_report (get books.clients it.client) it.day
+  answer_of (asked.Statement lease) = statement (get books.leases lease)
+  answer_of (asked.Arrears branch) = arrears branch
+  answer_of (asked.Run month) = run_report (get books.runs month)
+  answer_of (asked.Owner it) = owner_report it (get books.owners it.owner) (get books.runs it.month)
+
+-- the questions whose answers would show a run half made
+abbrev pub is_put_off : Question → Bool
+is_put_off (asked.Statement lease) = true
+is_put_off (asked.Arrears branch) = true
+is_put_off (asked.Run month) = true
+is_put_off (asked.Owner it) = true
+is_put_off _ = false
+
+-- an open run refuses these
 abbrev pub unless_open : Option OpenRun → Report → Report
 unless_open None report = report
 unless_open (Some run) report = NoReport (refusal.RunOpen run.month)
 
 abbrev pub report : State → Question → Report
-report s asked.Branches = BranchList (values s.books.branches)
-report s (asked.Vacant day) = VacantList (vacant s.books day)
-report s (asked.Matching it) = matching_report s.books (get s.books.clients it.client) it.day
-report s (asked.Statement lease) = unless_open s.open_run (statement s.books (get s.books.leases lease))
-report s (asked.Arrears branch) = unless_open s.open_run (arrears s.books branch)
-report s (asked.Run month) = unless_open s.open_run (run_report s.books (get s.books.runs month))
-report s (asked.Owner it) = unless_open s.open_run (owner_report s.books it (get s.books.owners it.owner) (get s.books.runs it.month))
+report s question = if is_put_off question then unless_open s.open_run (answer_of s.books question) else answer_of s.books question

@@ -4,7 +4,6 @@ use Rattle.dh_types.specs.declared.command.Command.{Command}
 use Rattle.dh_types.specs.declared.command.Command.TheVariants as command
 use Rattle.dh_types.specs.declared.command.RunOrder.{RunOrder}
 use Rattle.dh_types.specs.declared.question.Question.{Question}
-use Rattle.dh_types.specs.declared.question.Question.TheVariants as asked
 use Rattle.dh_types.specs.declared.reply.Reply.TheVariants as reply
 use Rattle.dh_types.specs.declared.reply.Refusal.{Refusal}
 use Rattle.dh_types.specs.declared.reply.Refusal.TheVariants as refusal
@@ -16,7 +15,7 @@ use Rattle.dh_model.specs.Books.{Books, State}
 use Rattle.dh_model.specs.Runs.{batches}
 use Rattle.dh_model.specs.Verdicts.{OnRun, Frozen, on_run, opened_run, verdict_on}
 use Rattle.dh_model.specs.Machine.{step}
-use Rattle.dh_model.specs.Answers.{report}
+use Rattle.dh_model.specs.Answers.{is_put_off, report}
 
 -- what an open run puts off
 abbrev pub is_frozen_on : OnRun → Bool
@@ -29,14 +28,6 @@ is_frozen told = is_frozen_on (on_run told)
 abbrev pub is_post : Command → Bool
 is_post (command.Post count) = true
 is_post _ = false
-
--- the questions whose answers would show a run half made
-abbrev pub is_put_off : Question → Bool
-is_put_off (asked.Statement lease) = true
-is_put_off (asked.Arrears branch) = true
-is_put_off (asked.Run month) = true
-is_put_off (asked.Owner it) = true
-is_put_off _ = false
 
 module _ (size : ℕ) where
   -- while a run is open, what is frozen is refused and changes nothing

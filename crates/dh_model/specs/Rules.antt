@@ -3,6 +3,7 @@ use Rattle.std.specs.Prelude.{◌≡◌, ◌≢◌, ◌↔◌, ◌≤◌, ◌<�
 use Rattle.std.specs.declared.cmp.Ordering.{Ordering}
 use Rattle.std.specs.List.{AllPairs, IsAmong, count_by, filter}
 use Rattle.std.specs.FinMap.{FinMap, contains_key, get, len, values}
+use Rattle.dh_values.specs.declared.limits.TheConstants.{LEAST_LEASE_MONTHS, MOST_LEASE_MONTHS}
 use Rattle.dh_values.specs.declared.receipt_kind.ReceiptKind.TheVariants.{Deposit}
 use Rattle.dh_days.specs.Days.{month_of_day}
 use Rattle.dh_types.specs.declared.property.Property.{Property}
@@ -10,6 +11,7 @@ use Rattle.dh_types.specs.declared.client.Registration.{Registration}
 use Rattle.dh_types.specs.declared.viewing.Viewing.{Viewing}
 use Rattle.dh_types.specs.declared.viewing.Inspection.{Inspection}
 use Rattle.dh_types.specs.declared.lease.Lease.{Lease}
+use Rattle.dh_types.specs.declared.lease.Ending.{Ending}
 use Rattle.dh_types.specs.declared.lease.Charge.{Charge}
 use Rattle.dh_types.specs.declared.run.Run.{Run}
 use Rattle.dh_types.specs.declared.run.Part.{Part}
@@ -68,6 +70,18 @@ IsThere rows key = contains_key rows key ≡ true
 -- the lists have the same elements
 abbrev pub HaveTheSame : {X : Type 0} → List X → List X → Type 0
 HaveTheSame {X} xs ys = (x : X) → IsAmong xs x ↔ IsAmong ys x
+
+-- so many months a lease may be signed for
+abbrev pub IsLeaseLength : ℕ → Type 0
+IsLeaseLength months = (LEAST_LEASE_MONTHS ≤ months) × (months ≤ MOST_LEASE_MONTHS)
+
+-- the lease is so long, and starts in this month or later
+abbrev pub IsInTime : ℕ → Lease → Type 0
+IsInTime first lease = IsLeaseLength lease.terms.months × (first ≤ month_of_day lease.terms.start)
+
+-- the ending leaves as many months as a lease has at least, and fewer than its lease, if that is there
+abbrev pub IsEarly : Ending → Option Lease → Type 0
+IsEarly it found = (LEAST_LEASE_MONTHS ≤ it.months) × IfSome found (λ lease. it.months < lease.terms.months)
 
 module _ (books : Books) where
   pub record PropertyRefers (property : Property) : Type 0 where
@@ -144,7 +158,7 @@ module _ (books : Books) where
 
   -- 6: a lease has 3 to 12 months and starts in the first month or later
   abbrev pub LeasesInTime : Type 0
-  LeasesInTime = Each books.leases (λ lease. (3 ≤ lease.terms.months) × (lease.terms.months ≤ 12) × (books.first ≤ month_of_day lease.terms.start))
+  LeasesInTime = Each books.leases (IsInTime books.first)
 
   -- 7: a deposit is twice its lease's rent, and a lease has one at most
   pub record DepositsInOrder : Type 0 where
@@ -202,7 +216,7 @@ module _ (books : Books) where
 
   -- 12: a lease that was ended early runs three months or more, and fewer than it was signed for
   abbrev pub EndingsInOrder : Type 0
-  EndingsInOrder = Each books.endings (λ it. (3 ≤ it.months) × IfSome (get books.leases it.lease) (λ lease. it.months < lease.terms.months))
+  EndingsInOrder = Each books.endings (λ it. IsEarly it (get books.leases it.lease))
 
   module _ (size : ℕ) where
     -- so many batches of the month are in the books, and nothing else of it

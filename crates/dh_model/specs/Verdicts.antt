@@ -18,6 +18,7 @@ use Rattle.dh_types.specs.declared.viewing.Viewing.{Viewing}
 use Rattle.dh_types.specs.declared.viewing.Inspection.{Inspection}
 use Rattle.dh_types.specs.declared.lease.LeaseTerms.{LeaseTerms}
 use Rattle.dh_types.specs.declared.lease.Lease.{Lease}
+use Rattle.dh_types.specs.declared.lease.Payment.{Payment}
 use Rattle.dh_types.specs.declared.lease.Ending.{Ending}
 use Rattle.dh_types.specs.declared.fee.BranchFee.{BranchFee}
 use Rattle.dh_types.specs.declared.run.Run.{Run}
@@ -169,20 +170,22 @@ module _ (books : Books) where
   abbrev pub register_ruling : Registration → Ruling
   register_ruling it = new_row (is_same_registration it) (get books.registrations (it.client, it.branch)) (registration_checks it) (change.Register it)
 
+  abbrev pub viewing_checks : Viewing → List Check
+  viewing_checks it = names books.clients it.client VIEWING_CLIENT ∷ names books.properties it.property VIEWING_PROPERTY ∷ []
+
   abbrev pub viewing_ruling : Viewing → Ruling
-  viewing_ruling it =
-      new_row (is_same_viewing it) (get books.viewings (it.client, it.property))
-      (names books.clients it.client VIEWING_CLIENT ∷ names books.properties it.property VIEWING_PROPERTY ∷ []) (change.Viewing it)
+  viewing_ruling it = new_row (is_same_viewing it) (get books.viewings (it.client, it.property)) (viewing_checks it) (change.Viewing it)
 
   abbrev pub comment_ruling : ViewingComment → Ruling
   comment_ruling it =
       row_altered VIEWING_CLIENT (λ viewing. is_same_optional is_same_text (Some it.comment) viewing.comment) (get books.viewings (it.client, it.property)) []
       (change.Comment it)
 
+  abbrev pub inspection_checks : Inspection → List Check
+  inspection_checks it = names books.properties it.property INSPECTED_PROPERTY ∷ names books.staff it.staff INSPECTION_STAFF ∷ []
+
   abbrev pub inspection_ruling : Inspection → Ruling
-  inspection_ruling it =
-      new_row (is_same_inspection it) (get books.inspections (it.property, it.day))
-      (names books.properties it.property INSPECTED_PROPERTY ∷ names books.staff it.staff INSPECTION_STAFF ∷ []) (change.Inspection it)
+  inspection_ruling it = new_row (is_same_inspection it) (get books.inspections (it.property, it.day)) (inspection_checks it) (change.Inspection it)
 
   abbrev pub lease_checks : LeaseTerms → List Check
   lease_checks terms =
@@ -216,10 +219,12 @@ module _ (books : Books) where
   abbrev pub end_ruling : Ending → Ruling
   end_ruling it = ended it (get books.leases it.lease)
 
+  abbrev pub payment_checks : Payment → List Check
+  payment_checks payment = names books.leases payment.lease RECEIPT_LEASE ∷ deposit_checks books payment
+
   -- of a receipt, where there are so many
   abbrev pub receipt_checks : ℕ → ReceiptOrder → List Check
-  receipt_checks count order =
-      (names books.leases order.payment.lease RECEIPT_LEASE ∷ deposit_checks books order.payment) ++ unless (nat_lt count MOST_NUMBER) refusal.Full ∷ []
+  receipt_checks count order = payment_checks order.payment ++ unless (nat_lt count MOST_NUMBER) refusal.Full ∷ []
 
   -- a key of a receipt or a run is kept for good
   abbrev pub receipt_ruling : ℕ → ReceiptOrder → Ruling

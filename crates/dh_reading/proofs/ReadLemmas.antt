@@ -26,9 +26,6 @@ pub record WereInterrupted (a b : Option (List (Result ℕ Error))) (turns : ℕ
   pub all : All IsInterrupted reads
   pub many : length reads ≡ turns
 
-pub interrupted_none : (a : Option (List (Result ℕ Error))) → WereInterrupted a a 0
-interrupted_none a = record { reads = []; made = makes_none a; all = All-nil IsInterrupted; many = omega arith }
-
 pub interrupted_more : (a m b : Option (List (Result ℕ Error))) (turns : ℕ) (e : Error) → WereInterrupted a m turns → Makes m b (Err e ∷ [])
     → error_kind e ≡ Interrupted → WereInterrupted a b (turns + 1)
 interrupted_more a m b turns e so_far made kind = record {

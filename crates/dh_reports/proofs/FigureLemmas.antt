@@ -13,11 +13,3 @@ pub two_digits_put : (text mark : List ℕ) (n : ℕ) → n < 100
 two_digits_put text mark n h =
     rw (decimal_digit (n / 10) (omega arith), decimal_digit (n % 10) (omega arith))
     (append_assoc (text ++ mark) ((48 + n / 10) ∷ []) ((48 + n % 10) ∷ []) ∙ append_assoc text mark (two_digits n))
-
-pub owed_text : (z : ℤ) (p : ℕ) → p ≡ nat_abs z → lt_z z (pos 0) ≡ true → 45 ∷ pence_text p ≡ money_text z
-owed_text (pos n) p e h = absurd (grind (arith, ints))
-owed_text (negsuc n) p e h = ap (λ q. 45 ∷ pence_text q) e
-
-pub due_text : (z : ℤ) (p : ℕ) → p ≡ nat_abs z → lt_z z (pos 0) ≡ false → pence_text p ≡ money_text z
-due_text (pos n) p e h = ap pence_text e
-due_text (negsuc n) p e h = absurd (grind (arith, ints))

@@ -40,7 +40,7 @@ impl Line for Debt {
 }
 
 /// Writes the debts and their sum; at an `Output` a beginning of their lines was written.
-pub fn put_arrears<W: Write>(arrears: &Arrears, writer: &mut W) -> Result<(), Output>
+pub(crate) fn put_arrears<W: Write>(arrears: &Arrears, writer: &mut W) -> Result<(), Output>
     ensures { Puts (W.contents writer.old) (W.contents writer.new) result (arrears_text arrears.now.debts.items arrears.now.total) }
 {
     put_each(&arrears.debts, writer)?;

@@ -33,7 +33,7 @@ impl Line for OwnerLine {
 }
 
 /// Writes the lines, both sums, and what is left; at an `Output` a beginning of their lines was written.
-pub fn put_owner_statement<W: Write>(
+pub(crate) fn put_owner_statement<W: Write>(
     statement: &OwnerStatement,
     writer: &mut W,
 ) -> Result<(), Output>

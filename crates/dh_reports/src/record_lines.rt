@@ -23,7 +23,7 @@ pub trait Line {
 }
 
 /// Writes the line of each record; at an `Output` a beginning of them was written.
-pub fn put_each<L: Line, W: Write>(records: &[L], writer: &mut W) -> Result<(), Output>
+pub(crate) fn put_each<L: Line, W: Write>(records: &[L], writer: &mut W) -> Result<(), Output>
     ensures { Puts (W.contents writer.old) (W.contents writer.new) result (flat_map L.line records.now) }
 {
     for record in records {

@@ -75,7 +75,7 @@ impl Line for Lease {
 }
 
 /// Writes the lease, its charges, its receipts and its balance; at an `Output` a beginning of their lines was written.
-pub fn put_statement<W: Write>(statement: &Statement, writer: &mut W) -> Result<(), Output>
+pub(crate) fn put_statement<W: Write>(statement: &Statement, writer: &mut W) -> Result<(), Output>
     ensures { Puts (W.contents writer.old) (W.contents writer.new) result
         (statement_text statement.now.lease statement.now.charges.items statement.now.receipts.items statement.now.balance) }
 {
@@ -86,7 +86,7 @@ pub fn put_statement<W: Write>(statement: &Statement, writer: &mut W) -> Result<
 }
 
 /// How many lines the statement has: its lease's, its charges', its receipts' and its balance's.
-pub fn statement_lines(charges: &[Charge], receipts: &[Receipt]) -> usize
+pub(crate) fn statement_lines(charges: &[Charge], receipts: &[Receipt]) -> usize
     ensures { result ≡ length charges.now + length receipts.now + 2 }
 {
     charges.len() + receipts.len() + 2

@@ -30,7 +30,7 @@ pub fn put_sum<W: Write>(
 }
 
 /// Writes the word, eight spaces and both sums; at an `Output` a beginning of the line was written.
-pub fn put_sums<W: Write>(
+pub(crate) fn put_sums<W: Write>(
     writer: &mut W,
     word: &str,
     total: Balance,

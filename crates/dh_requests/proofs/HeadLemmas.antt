@@ -16,10 +16,6 @@ use Rattle.dh_requests.specs.Heads.{IsHead, IsLargeHead, IsUnfinished, IsWhole, 
 moved : (front after more : List ℕ) {input : List ℕ} → input ≡ front ++ after → input ++ more ≡ front ++ (after ++ more)
 moved front after more e = ap (λ l. l ++ more) e ∙ append_assoc front after more
 
-pub never_more : (front after : List ℕ) {input : List ℕ} → input ≡ front ++ after → NeverHasRequest front → NeverHasRequest input
-never_more front after e never more h rest x =
-    never (after ++ more) h rest (subst (λ l. ReadsRequest l h rest) (moved front after more e) x)
-
 pub crowded_more : (front after : List ℕ) {input : List ℕ} → input ≡ front ++ after → IsCrowded front → IsLargeHead input
 crowded_more front after {input} e x = record {
   none = λ h rest y.
@@ -92,16 +88,6 @@ long_more front after {input} e room {headers} {spans} {h} x big =
       );
     }
 
--- a head is there whole, within the limits
-pub found_more : (front after : List ℕ) {input : List ℕ} → input ≡ front ++ after
-    → {headers : List HeaderSpan} {spans : RequestSpans} {h : RequestHead} → IsWhole front headers spans h → spans.len ≤ HEAD_BYTES
-    → IsHead input h (drop spans.len front ++ after)
-found_more front after {input} e {headers} {spans} {h} x small = record {
-  reads = subst (λ l. ReadsRequest l h (drop spans.len front ++ after)) (sym e) (ReadsRequest-append front h (drop spans.len front) after x.at.reads);
-  bytes = subst (λ n. n ≤ HEAD_BYTES) x.at.len small;
-  few = x.few;
-}
-
 -- ---- where the reader's bytes are known
 
 pub lift : (a b : Option (List ℕ)) (front : List ℕ) (P : List ℕ → List ℕ → Type 0) → Consumes a b front
@@ -109,10 +95,3 @@ pub lift : (a b : Option (List ℕ)) (front : List ℕ) (P : List ℕ → List �
 lift None b front P x f = tt
 lift (Some xs) None front P x f = absurd x
 lift (Some xs) (Some ys) front P x f = f xs ys x
-
--- the same at the end of input
-pub lift_end : (a b : Option (List ℕ)) (front : List ℕ) (P : List ℕ → List ℕ → Type 0) → Consumes a b front → IsAtEnd b
-    → ((input after : List ℕ) → input ≡ front → P input after) → IfBoth a b P
-lift_end None b front P x end f = tt
-lift_end (Some xs) None front P x end f = absurd x
-lift_end (Some xs) (Some ys) front P x end f = f xs ys (x ∙ ap (λ l. front ++ l) end ∙ append-nil front)

@@ -115,10 +115,10 @@ pub record TakesRequest (old new : Option (List ℕ)) : Type 0 where
   pub few : (length taken ≤ ROOM) ⊎ IfSome old (λ input. (h : RequestHead) × (rest : List ℕ) × (n : ℕ) × IsHead input h rest × IsAnnounced h n
       × (length taken ≤ length (print_request h) + n))
 
--- a request of this route takes memory: a question asked by GET, or a command whose body is announced
+-- a request of this route takes memory: a command whose body is announced
 abbrev pub NeedsMemory : Route → RequestHead → Type 0
 NeedsMemory route.Commands h = (h.method ≡ codes "POST") × ((n : ℕ) × (body_length (values_in (codes "content-length") h) ≡ Bytes n))
-NeedsMemory other h = h.method ≡ codes "GET"
+NeedsMemory other h = ⊥
 
 -- the lines of a head do not turn it away, and a request of its route takes memory
 abbrev pub TakesMemory : RequestHead → Type 0

@@ -1,11 +1,11 @@
 //! Judging a request by its head.
 
-ghost use Rattle.std.specs.Prelude.{◌≡◌, ◌↔◌, ◌≢◌, ◌∷◌, ℕ, List, map, length, All, IsTrue, IfOk, OnErr, Err, codes};
+ghost use Rattle.std.specs.Prelude.{◌≡◌, ◌↔◌, ◌≢◌, ◌∷◌, ℕ, List, map, length, All, IsTrue, IfOk, Err, codes};
 ghost use Rattle.httparse.specs.Grammar.{RequestHead};
 ghost use Rattle.httparse.specs.Spans.{IsHeaderWithin};
 ghost use Rattle.dh_requests.specs.Targets.{IsTarget};
 ghost use Rattle.dh_requests.specs.Requests.{IsByMethod, IsOfHead, IsOfRoute, IsQuestionOf, NeedsMemory, TakesMemory, taken_as, turned_by_lines};
-ghost use Rattle.dh_fields.specs.Lines.{request_of};
+ghost use Rattle.dh_fields.specs.Lines.{a_question, request_of};
 ghost use Rattle.dh_requests.specs.Steps.{Behind, HoldsHead, IsHeadOf, TakesBody, TakesOrder, read_behind};
 
 use crate::asked::{Asked, Turned};
@@ -13,11 +13,11 @@ use crate::command_body::judge_command;
 use crate::header_lines::{body_length, count};
 use crate::pieces::pieces_of;
 use crate::routes::{Route, Routes};
-use dh_fields::{Request, read_fields};
+use dh_fields::{Request, read_question};
 use dh_reading::Unread;
-use dh_types::Refusal;
+use dh_types::{Question, Refusal};
 use httparse::spans::{HeaderSpan, RequestSpans};
-use std::alloc::{AllocError, Global};
+use std::alloc::Global;
 use std::io::Read;
 use std::str;
 
@@ -63,56 +63,47 @@ fn target_of<'a>(found: &Found<'a>) -> &'a str
     }
 }
 
-// The request of the question of a word, with as many pieces.
-fn read_pieces<'a>(
-    alloc: Global,
-    word: &'a [u8],
+// The question of a word, with as many pieces.
+fn read_pieces(
+    word: &[u8],
     count: usize,
-    first: &'a [u8],
-    second: &'a [u8],
-) -> Result<Result<Request, Refusal>, AllocError>
+    first: &[u8],
+    second: &[u8],
+) -> Result<Question, Refusal>
     ensures { (pieces : List (List ℕ)) → count ≡ length pieces
-        → IfOk result (λ request. request ≡ request_of (codes "show" ∷ word.now ∷ taken_as pieces first.now second.now)) }
+        → a_question result ≡ request_of (codes "show" ∷ word.now ∷ taken_as pieces first.now second.now) }
 {
     match count {
-        0 => read_fields(alloc, &[b"show", word]),
-        1 => read_fields(alloc, &[b"show", word, first]),
-        _ => read_fields(alloc, &[b"show", word, first, second]),
+        0 => read_question(&[b"show", word]),
+        1 => read_question(&[b"show", word, first]),
+        _ => read_question(&[b"show", word, first, second]),
     }
 }
 
-// The request of the question that a target asks by its route.
-fn read_question(
-    alloc: Global,
-    route: Route,
-    target: &[u8],
-) -> Result<Result<Request, Refusal>, AllocError>
+// What a target asks by its route.
+fn asked_by(route: Route, target: &[u8]) -> Asked
     requires target { IsTarget route target.now }
     requires asks { route ≢ Route.Commands }
-    ensures { IfOk result (λ request. IsQuestionOf route target.now (Asked.Fields request)) }
+    ensures { IsQuestionOf route target.now result }
 {
     let (first, second) = pieces_of(route, target);
     let (word, count) = route.words();
-    read_pieces(alloc, word.as_bytes(), count, first, second)
+    match read_pieces(word.as_bytes(), count, first, second) {
+        Ok(question) => Asked::Fields(Ok(Request::Question(question))),
+        Err(refusal) => Asked::Fields(Err(refusal)),
+    }
 }
 
-// What a request asks for whose target has the route of a question. An error comes only for want of memory.
-fn judge_question(
-    alloc: Global,
-    method: &[u8],
-    route: Route,
-    target: &[u8],
-) -> Result<Asked, AllocError>
+// What a request asks for whose target has the route of a question.
+fn judge_question(method: &[u8], route: Route, target: &[u8]) -> Asked
     requires target { IsTarget route target.now }
     requires asks { route ≢ Route.Commands }
-    ensures asks { IfOk result (λ asked. IsByMethod (codes "GET") method.now Turned.OnlyByGet asked (IsQuestionOf route target.now asked)) }
-    ensures memory { OnErr result (method.now ≡ codes "GET") }
+    ensures { IsByMethod (codes "GET") method.now Turned.OnlyByGet result (IsQuestionOf route target.now result) }
 {
     if !is_method(method, b"GET") {
-        return Ok(Asked::Turned(Turned::OnlyByGet));
+        return Asked::Turned(Turned::OnlyByGet);
     }
-    let request = read_question(alloc, route, target)?;
-    Ok(Asked::Fields(request))
+    asked_by(route, target)
 }
 
 // What a request asks for whose target is the route of commands.
@@ -150,7 +141,7 @@ fn judge_route<R: Read>(
         Route::Commands => judge_order(alloc, reader, found),
         _ => {
             let method = found.spans.method.of(found.front);
-            Ok(judge_question(alloc, method, route, target.as_bytes())?)
+            Ok(judge_question(method, route, target.as_bytes()))
         }
     }
 }

@@ -19,12 +19,6 @@ all_columns (x ∷ row) = ap (λ rest. x ∷ rest) (shifted x row 0 (length row)
 of_length : (n : ℕ) (row : Row) → length row ≡ n → columns_from row 0 n ≡ row
 of_length n row h = subst (λ k. columns_from row 0 k ≡ row) h (all_columns row)
 
-pub four_columns : (row : Row) → length row ≡ 4 → column row 0 ∷ column row 1 ∷ column row 2 ∷ column row 3 ∷ [] ≡ row
-four_columns row h = of_length 4 row h
-
-pub five_columns : (row : Row) → length row ≡ 5 → column row 0 ∷ column row 1 ∷ column row 2 ∷ column row 3 ∷ column row 4 ∷ [] ≡ row
-five_columns row h = of_length 5 row h
-
 pub six_columns : (row : Row) → length row ≡ 6
     → column row 0 ∷ column row 1 ∷ column row 2 ∷ column row 3 ∷ column row 4 ∷ column row 5 ∷ [] ≡ row
 six_columns row h = of_length 6 row h

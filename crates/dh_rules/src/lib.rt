@@ -12,11 +12,11 @@ mod runs;
 
 pub use changes::apply_change;
 pub use commands::{Told, answered, interrupted_done};
-pub use dh_answers::{Facts, answer, balance, decide, decide_on, matching, vacant};
+pub use dh_answers::{answer, balance, decide, matching, vacant};
 pub use dh_audit::audit;
 pub use dh_books::Books;
 pub use dh_leases::{batches, dues};
 pub use dh_model::BATCH_SIZE;
 pub use events::{Happening, Played, play};
 pub use machine::{Stepped, step};
-pub use recoveries::{Reach, advanced, interrupted_undone, moved, recovered, recovery_interrupted};
+pub use recoveries::{Reach, interrupted_undone, moved, recovered, recovery_interrupted};

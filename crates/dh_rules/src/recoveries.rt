@@ -24,7 +24,7 @@ pub enum Reach {
 }
 
 /// The tables with so many batches more of the open run, as far as there are; it stays open.
-pub fn advanced(alloc: Global, before: Books, count: u128) -> Result<Books, AllocError>
+pub(crate) fn advanced(alloc: Global, before: Books, count: u128) -> Result<Books, AllocError>
     ensures { IfOk result (λ after. IsStateInOrder before → IsStateInOrder after × (whole batch_size after.books ≡ whole batch_size before.books)
         × (after.open_run ≡ advanced_run (whole batch_size before.books) count before.open_run)) }
 {

@@ -95,17 +95,6 @@ module _ (plan : Plan) (s : State) (order : IsStateInOrder s) (is : IsPlanOf pla
   told_by : (b : Bool) → nat_lt plan.done all ≡ b → batch_told s.books s.open_run ≡ (if b then Posted (plan.done + 1) all else NoneLeft)
   told_by b e = ap (batch_told s.books) is.shown ∙ ap (λ (b : Bool). if b then Posted (plan.done + 1) all else NoneLeft) e
 
-  -- where the plan has no rows, no batch is left
-  module _ (none : length plan.batches.items ≡ 0) where
-    at_the_last : nat_lt plan.done all ≡ false
-    at_the_last = let count = counted plan s is in grind (arith, nat_tests, count, none)
-
-    pub none_told : NoneLeft ≡ batch_told s.books s.open_run
-    none_told = sym (told_by false at_the_last)
-
-    pub none_next : s ≡ next_batch s
-    none_next = (λ i. record { books = s.books; open_run = is.shown i }) ∙ sym (next_by false at_the_last)
-
   -- the first of its rows are the next batch
   module _ (rows : BatchRows) (some : 0 < length plan.batches.items) (at : rows ≡ slice_index_or plan.batches.items 0 rows) where
     first_batch : IsBatchAt s.books plan.month plan.done rows

@@ -93,7 +93,7 @@ fn check_rows<S: Alter>(
 }
 
 /// [`check`], which hands back the books that it loaded, without the run that they show as open.
-pub fn checked_books<S: Alter>(
+pub(crate) fn checked_books<S: Alter>(
     alloc: Global,
     conn: &mut Connection<S>,
     wanted: Version,

@@ -19,13 +19,12 @@ mod second_version;
 
 pub use batch::{Batch, post_batch};
 pub use batches::{RunState, post_some, run_all};
-pub use checks::{check, checked_books};
+pub use checks::check;
 pub use first_version::{close_run_1, post_batch_1};
 pub use laws::{migrated_books_are_in_order, migration_moves_no_balance};
 pub use migration::migrate_in;
 pub use plan::plan_run;
 pub use problem::Problem;
 pub use recovery::recover_in;
-pub use rows::put_fee;
 pub use run_end::close_run;
 pub use run_start::open_run;

@@ -11,7 +11,8 @@ ghost use Rattle.dh_runs.specs.Migrated.{migrated_state};
 ghost use Rattle.dh_runs.specs.Moved.{CanBeMigrated, IsMigrationProblem, IsNotMigrated, MovesOn, StaysAsItWas};
 
 use crate::second_version::SecondVersion;
-use crate::{Problem, checked_books};
+use crate::Problem;
+use crate::checks::checked_books;
 use dh_books::Books;
 use dh_leases::open_row;
 use dh_schema::commit;

@@ -117,7 +117,7 @@ fn put_part<S: Alter>(
 }
 
 /// Puts the fee row, in the place of the one that its part has, if it has one.
-pub fn put_fee<S: Alter>(
+pub(crate) fn put_fee<S: Alter>(
     alloc: Global,
     tx: &mut Transaction<'_, S>,
     fee: &PartFee,

@@ -10,7 +10,7 @@ ghost use Rattle.dh_schema.specs.Putting.{TurnsBooks};
 ghost use Rattle.dh_runs.specs.Taking.{HasVersion};
 ghost use Rattle.dh_runs.specs.Migrated.{HaveNoFees, as_second, migrated_state, no_fee, with_no_fees};
 
-use crate::put_fee;
+use crate::rows::put_fee;
 use dh_ddl::create_later;
 use dh_schema::Put;
 use dh_tables::set_version;

@@ -24,9 +24,6 @@ pub cast_int : (n : ℤ) → cast kind.Integer (Int n) ≡ Int n
 unfolding unary
 cast_int n = either _ (Int n)
 
-pub cast_text : (t : List ℕ) → cast kind.Text (Text t) ≡ Text t
-cast_text t = refl
-
 pub cast_rowid : (v : Value) → is_int v ≡ true → cast kind.Integer v ≡ v
 cast_rowid (Int n) h = cast_int n
 cast_rowid Null h = cc

@@ -15,16 +15,3 @@ use Rattle.dh_sql.proofs.Lists.{has_all, one_of_key}
 
 itself : (k : ℕ) → eq_by_cmp nat_cmp k k ≡ true
 itself k = ap is_eq (tied_itself nat_total k)
-
-pub apart_by_key : {X : Type 0} (it : Shape ℕ X) → ((r : Row) → IsStored it r → rowid r ≡ Int (pos (it.key (stored_in it r))))
-    → (trees : Trees) → IsKept it nat_cmp trees → AreApart (trees it.tree)
-apart_by_key it own trees kept x y hx hy tied =
-    let at_x = own x (has_all (IsStored it) (trees it.tree) x kept.values hx) in
-    let at_y = own y (has_all (IsStored it) (trees it.tree) y kept.values hy) in
-    let m = it.key (stored_in it x) in
-    let n = it.key (stored_in it y) in
-    let first : is_eq (value_cmp (rowid y) (Int (pos m))) ≡ true = subst (λ v. is_eq (value_cmp (rowid y) (Int (id_in v))) ≡ true) at_x tied in
-    let told : is_eq (value_cmp (Int (pos n)) (Int (pos m))) ≡ true = subst (λ v. is_eq (value_cmp v (Int (pos m))) ≡ true) at_y first in
-    let both = is_tie (int_cmp (pos n) (pos m)) (sym (ap is_eq (value_cmp-Int (pos n) (pos m))) ∙ told) in
-    let same : pos n ≡ pos m = int_cmp-IsAntisymmetric (pos n) (pos m) both in
-    one_of_key (eq_by_cmp nat_cmp) itself (λ r. it.key (stored_in it r)) (trees it.tree) kept.keys x y hx hy (cc)

@@ -62,11 +62,6 @@ module _ (text : List ℕ) (schema : Schema) (params : Row) (plain : IsPlain (un
         by (Ok rows) h = tt
         by (Err e) h = fails_whole text params old new e (plain_at old has) h
 
-  pub plain_commits : (old new : State) → (HasCleanDisk old → old.now.schema ≡ schema) → Survives old new (CommitsShowing text params old)
-      → Survives old new (λ _. ⊥)
-  plain_commits old new has s =
-      survives_weaker old new _ _ (λ clean db. never_commits text params old db (plain_at old (has (omega (arith, s.clean, clean))))) s
-
 module _ (text : List ℕ) (schema : Schema) (tree : ℕ) (tests project : List Term) (order : List (Term × Key)) (names : List (List ℕ)) (params : Row)
     (is : IsSelectText text schema tree tests project order names) where
   -- the rows that pass, in some order
@@ -76,14 +71,3 @@ module _ (text : List ℕ) (schema : Schema) (tree : ℕ) (tests project : List 
       let got = reads_as text params old new schema has _ is.command is.plain is.unlisted rows h in
       let found = plain_rows Null tree tests project order (overlay old.now.trees []) params rows (got.answer Null) in
       subst (λ all. IsPermutation (map (shows project params) (filter (passes_all params tests) all)) rows) (is.stored old.now.trees) found
-
-  module _ (r : Result (Vec Row Global) Error) (old new : State) where
-    pub same_ok : old.now.schema ≡ schema → IfOk r (λ rows. Shown text params old new rows.items) → OnOk r (IsUnchanged old new)
-    same_ok = plain_same text schema params is.plain r old new
-
-    pub undone_err : old.now.schema ≡ schema → IfErr r (FailsToQuery text params old new) → OnErr r (IsUnchanged old new ⊎ IsRolledBack old new)
-    undone_err = plain_undone text schema params is.plain r old new
-
-  pub commits_nothing : (old new : State) → (HasCleanDisk old → old.now.schema ≡ schema) → Survives old new (CommitsShowing text params old)
-      → Survives old new (λ _. ⊥)
-  commits_nothing = plain_commits text schema params is.plain

@@ -16,7 +16,7 @@ use Rattle.dh_types.specs.declared.property.Property.{Property}
 use Rattle.dh_types.specs.declared.answer.Debt.{Debt}
 use Rattle.dh_types.specs.Reports.{BranchArrears, NoReport}
 use Rattle.dh_model.specs.declared.open_run.OpenRun.{OpenRun}
-use Rattle.dh_model.specs.Answers.{arrears, balance, debt, owed, line_of_lease, owner_charges, owner_line, owner_lines, owner_report, report, unless_open}
+use Rattle.dh_model.specs.Answers.{answer_of, arrears, balance, debt, owed, line_of_lease, owner_charges, owner_line, owner_lines, owner_report, is_put_off, report, unless_open}
 use Rattle.dh_model.specs.Books.{Books}
 use Rattle.dh_model.specs.Checks.{is_same_text}
 use Rattle.dh_model.specs.Runs.{is_property_of, leases_of_branch}
@@ -98,15 +98,13 @@ module _ (books : Books) (branch : List ℕ) where
   arrears_alike = ap (λ leases. if contains_key whole.branches branch then BranchArrears (owing leases) (owed whole (owing leases))
       else NoReport (refusal.Unknown ASKED_ABOUT)) leases_alike
 
+answers_alike : (books : Books) (question : Question) → answer_of (answered_from books question) question ≡ answer_of (asked_about books question) question
+answers_alike books (asked.Arrears branch) = arrears_alike books branch
+answers_alike books (asked.Owner it) = owner_alike books it (get (fewer books it).owners it.owner) (get (fewer books it).runs it.month)
+answers_alike books _ = refl
+
 -- the rows that an answer is made of answer as those that the question is about
 pub answered_alike : (books : Books) (run : Option OpenRun) (question : Question)
     → report (record { books = answered_from books question; open_run = run }) question
     ≡ report (record { books = asked_about books question; open_run = run }) question
-answered_alike books run asked.Branches = refl
-answered_alike books run (asked.Vacant day) = refl
-answered_alike books run (asked.Matching it) = refl
-answered_alike books run (asked.Statement lease) = refl
-answered_alike books run (asked.Arrears branch) = ap (unless_open run) (arrears_alike books branch)
-answered_alike books run (asked.Run month) = refl
-answered_alike books run (asked.Owner it) =
-    ap (unless_open run) (owner_alike books it (get (fewer books it).owners it.owner) (get (fewer books it).runs it.month))
+answered_alike books run question = ap (λ it. if is_put_off question then unless_open run it else it) (answers_alike books question)

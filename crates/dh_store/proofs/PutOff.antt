@@ -1,30 +1,20 @@
 -- A question, and the run that is open.
 use Rattle.std.proofs.Common.{◌≡◌, sym, ap, true, Option, Some, None, option_map}
-use Rattle.std.specs.FinMap.{get}
 use Rattle.sqlite.specs.State.{State}
 use Rattle.dh_types.specs.declared.question.Question.{Question}
-use Rattle.dh_types.specs.declared.question.Question.TheVariants as asked
 use Rattle.dh_types.specs.declared.reply.Refusal.TheVariants as refusal
 use Rattle.dh_types.specs.declared.run.Run.{Run}
 use Rattle.dh_types.specs.Reports.{NoReport}
 use Rattle.dh_model.specs.declared.open_run.OpenRun.{OpenRun}
-use Rattle.dh_model.specs.Answers.{arrears, owner_report, report, run_report, statement, unless_open}
+use Rattle.dh_model.specs.Answers.{answer_of, is_put_off, report, unless_open}
 use Rattle.dh_model.specs.Books as machine
-use Rattle.dh_model.specs.MachineLaws.{is_put_off}
 use Rattle.dh_model.specs.Runs.{batch_size}
 use Rattle.dh_model.specs.Whole.{batches_shown, open_row}
 use Rattle.dh_schema.specs.Store.{tables}
 
 put_off_by : (s : machine.State) (at : OpenRun) (question : Question) → s.open_run ≡ Some at → is_put_off question ≡ true
     → report s question ≡ NoReport (refusal.RunOpen at.month)
-put_off_by s at asked.Branches is off = cc
-put_off_by s at (asked.Vacant day) is off = cc
-put_off_by s at (asked.Matching it) is off = cc
-put_off_by s at (asked.Statement lease) is off = ap (λ (run : Option OpenRun). unless_open run (statement s.books (get s.books.leases lease))) is
-put_off_by s at (asked.Arrears branch) is off = ap (λ (run : Option OpenRun). unless_open run (arrears s.books branch)) is
-put_off_by s at (asked.Owner it) is off =
-    ap (λ (run : Option OpenRun). unless_open run (owner_report s.books it (get s.books.owners it.owner) (get s.books.runs it.month))) is
-put_off_by s at (asked.Run month) is off = ap (λ (run : Option OpenRun). unless_open run (run_report s.books (get s.books.runs month))) is
+put_off_by s at question is off = rw off (ap (λ (run : Option OpenRun). unless_open run (answer_of s.books question)) is)
 
 module _ (s : State) where
   abbrev shown : Run → OpenRun

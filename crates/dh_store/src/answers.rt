@@ -14,10 +14,9 @@ ghost use Rattle.dh_types.specs.declared.lease.Charge.{Charge as charge_row};
 ghost use Rattle.dh_types.specs.declared.lease.Lease.{Lease as lease_row};
 ghost use Rattle.dh_types.specs.declared.question.Question.TheVariants as asked;
 ghost use Rattle.dh_types.specs.Reports.{report_of};
-ghost use Rattle.dh_model.specs.Answers.{report};
+ghost use Rattle.dh_model.specs.Answers.{is_put_off, report};
 ghost use Rattle.dh_model.specs.Books.{State, start};
 ghost use Rattle.dh_model.specs.Checks.{is_same_text};
-ghost use Rattle.dh_model.specs.MachineLaws.{is_put_off};
 ghost use Rattle.dh_model.specs.Whole.{rows_where};
 ghost use Rattle.dh_laws.specs.AskedAbout.{account_of, asked_about, charged_by, let_or_vacant, with_accounts};
 ghost use Rattle.dh_schema.specs.Faults.{IsFirstFault};
@@ -28,7 +27,7 @@ ghost use Rattle.dh_schema.specs.Months.{IsReadyIn, IsReadyOf};
 ghost use Rattle.dh_schema.specs.Reading.{OnlyReads};
 
 use crate::endings::held_leases;
-use dh_answers::{answer, is_put_off};
+use dh_answers::{answer_passed, is_put_off};
 use dh_books::Books;
 use dh_rows::Meta;
 use dh_schema::{
@@ -385,7 +384,7 @@ fn answer_now<S: Alter>(
 {
     let mut books = no_rows(alloc);
     gather(alloc, conn, version, question, &mut books)?;
-    Ok(answer(alloc, books, question)?)
+    Ok(answer_passed(alloc, books, question)?)
 }
 
 // The answer to a question that an open run puts off.

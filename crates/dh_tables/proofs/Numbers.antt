@@ -19,10 +19,6 @@ use Rattle.sqlite_trees.proofs.ListLemmas.{all-map, all_from_map, all_of, map-ma
 use Rattle.sqlite_rules.specs.Edit.{id_in}
 use Rattle.dh_tables.specs.Listing.{AreNumbered}
 
-pub map_push : {X Y : Type 0} (f : X → Y) (xs : List X) (x : X) → map f (xs ++ x ∷ []) ≡ map f xs ++ f x ∷ []
-map_push f [] x = refl
-map_push f (y ∷ xs) x = ap (λ ys. f y ∷ ys) (map_push f xs x)
-
 -- ---- numbers that rise
 
 is_so : (b : Bool) → T b → b ≡ true

@@ -35,7 +35,7 @@ pub trait Listed: Tabled {
 
 /// The columns of each row of the table, in some order. It changes nothing. Over a clean disk it answers that the database is
 /// corrupt only where the disk has failed.
-pub fn rows_listed<R: Listed, S: Alter>(conn: &mut Connection<S>) -> Result<Vec<Row>, Error>
+pub(crate) fn rows_listed<R: Listed, S: Alter>(conn: &mut Connection<S>) -> Result<Vec<Row>, Error>
     requires reading { HasCleanDisk (state S.Store conn.old) → HasTables R.since (state S.Store conn.old) }
     ensures rows { HasCleanDisk (state S.Store conn.new)
         → IfOk result (λ rows. IsPermutation (map R.shape.columns ((state S.Store conn.old).now.trees R.shape.tree)) rows.items) }
@@ -49,7 +49,7 @@ pub fn rows_listed<R: Listed, S: Alter>(conn: &mut Connection<S>) -> Result<Vec<
 
 /// The rowid of each row of the table, as a row of its own, in some order. It changes nothing. Over a clean disk it answers that
 /// the database is corrupt only where the disk has failed.
-pub fn rowids_listed<R: Listed, S: Alter>(conn: &mut Connection<S>) -> Result<Vec<Row>, Error>
+pub(crate) fn rowids_listed<R: Listed, S: Alter>(conn: &mut Connection<S>) -> Result<Vec<Row>, Error>
     requires reading { HasCleanDisk (state S.Store conn.old) → HasTables R.since (state S.Store conn.old) }
     ensures rows { HasCleanDisk (state S.Store conn.new)
         → IfOk result (λ rows. IsPermutation (map rowid_alone ((state S.Store conn.old).now.trees R.shape.tree)) rows.items) }

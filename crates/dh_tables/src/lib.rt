@@ -35,7 +35,7 @@ mod viewing;
 mod viewing_changes;
 mod whole_table;
 
-pub use all_rows::{Listed, rowids_listed, rows_listed};
+pub use all_rows::Listed;
 pub use amend::{Amend, update};
 pub use branch::BranchNumbered;
 pub use branch_fee::FeeOfBranch;
@@ -56,7 +56,6 @@ pub use property::{PropertiesManaged, PropertiesOfBranch, PropertiesOfOwner, Pro
 pub use receipt::{DepositsOfLease, ReceiptKeyed, ReceiptNumbered, ReceiptsOfLease};
 pub use records::gather;
 pub use registration::RegistrationAt;
-pub use rowids::are_numbered;
 pub use run::{RunKeyed, RunOf};
 pub use some_rows::fetch_more;
 pub use staff::MemberNumbered;

@@ -51,7 +51,7 @@ fn rise(numbers: &[i64]) -> bool
 }
 
 /// Whether each row shows a whole number first, and no two rows the same.
-pub fn are_numbered(alloc: Global, rows: &[Row]) -> Result<bool, AllocError>
+pub(crate) fn are_numbered(alloc: Global, rows: &[Row]) -> Result<bool, AllocError>
     ensures { IfOk result (λ numbered. (numbered ≡ true) ↔ AreNumbered rows.now) }
 {
     let Some(mut numbers) = first_numbers(alloc, rows)? else {

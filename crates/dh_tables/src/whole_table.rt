@@ -9,7 +9,9 @@ ghost use Rattle.dh_sql.specs.Shape.{IsStored};
 ghost use Rattle.dh_tables.specs.Calls.{CommitsNothing, HasFailed, HasTables, IsCorrupt, IsUndone};
 ghost use Rattle.dh_tables.specs.Listing.{AreNumbered, HasRowids, HasUniqueKeys, HasUniqueRows, IsGathered, IsLoaded};
 
-use crate::{Listed, are_numbered, gather, rowids_listed, rows_listed};
+use crate::all_rows::{rowids_listed, rows_listed};
+use crate::rowids::are_numbered;
+use crate::{Listed, gather};
 use dh_books::Books;
 use sqlite::{Alter, Connection, Error, ErrorCode};
 use std::alloc::Global;

@@ -1,7 +1,7 @@
 -- Which numbers are numbers of leases, rooms and the like, and which texts spell them.
 use Rattle.std.specs.Prelude.{ℕ, ◌≤◌, Option, List}
 use Rattle.dh_values.specs.Numbers.{numeral_of, within}
-use Rattle.dh_values.specs.declared.limits.TheConstants.{LEAST_LEASE_MONTHS, MOST_BATCHES, MOST_CHARGE_INDEX, MOST_LEASE_MONTHS, MOST_NUMBER}
+use Rattle.dh_values.specs.declared.limits.TheConstants.{LEAST_LEASE_MONTHS, MOST_BATCHES, MOST_LEASE_MONTHS, MOST_NUMBER}
 use Rattle.dh_values.specs.declared.limits.TheConstants.{MOST_FEE, MOST_ROOMS}
 
 abbrev pub IsLeaseNo : ℕ → Type 0
@@ -25,10 +25,6 @@ IsLeaseMonths n = (LEAST_LEASE_MONTHS ≤ n) × (n ≤ MOST_LEASE_MONTHS)
 
 abbrev pub lease_months_of : List ℕ → Option ℕ
 lease_months_of text = within LEAST_LEASE_MONTHS MOST_LEASE_MONTHS (numeral_of text)
-
--- which due of a lease, from 0
-abbrev pub IsChargeIndex : ℕ → Type 0
-IsChargeIndex n = n ≤ MOST_CHARGE_INDEX
 
 -- how many batches at most
 abbrev pub IsBatchCount : ℕ → Type 0

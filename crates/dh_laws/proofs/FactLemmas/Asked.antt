@@ -28,12 +28,11 @@ use Rattle.dh_types.specs.Records.{is_same_receipt_kind}
 use Rattle.dh_types.specs.Reports.{Report, BranchArrears, LeaseStatement, NoReport, RunParts}
 use Rattle.dh_types.proofs.SameValues.{numbers, texts}
 use Rattle.dh_model.specs.declared.open_run.OpenRun.{OpenRun}
-use Rattle.dh_model.specs.Answers.{arrears, balance, charges_of, debt, debts, matching_report, owed, receipts_of, report, run_report, statement, unless_open}
+use Rattle.dh_model.specs.Answers.{answer_of, arrears, balance, charges_of, debt, debts, is_put_off, matching_report, owed, receipts_of, report, run_report, statement, unless_open}
 use Rattle.dh_model.specs.Answers.{fee_of_part, line_of_lease, line_of_property, owner_charges, owner_line, owner_lines, owner_report}
 use Rattle.dh_model.specs.Books.{Books}
 use Rattle.dh_model.specs.Kinds.{Kind}
 use Rattle.dh_model.specs.Checks.{is_same_text}
-use Rattle.dh_model.specs.MachineLaws.{is_put_off}
 use Rattle.dh_model.specs.Runs.{charge_fee, is_property_of, leases_of_branch, sum_of, total_of}
 use Rattle.dh_model.specs.Whole.{rows_where}
 use Rattle.dh_model.proofs.Among.{Among, of_filter, of_passes, some_passes, in_filter}
@@ -58,6 +57,11 @@ put_off None None it e = refl
 put_off (Some at) None it e = cc
 put_off None (Some at) it e = cc
 put_off (Some at) (Some seen) it e = let month : seen.month ≡ at.month = cc in ap (λ m. NoReport (refusal.RunOpen m)) month
+
+by_run : (off : Bool) (run seen : Option OpenRun) (near far : Report) → near ≡ far → (off ≡ true → AreOfOneMonth seen run)
+    → (if off then unless_open seen near else near) ≡ (if off then unless_open run far else far)
+by_run true run seen near far is same = put_off run seen near (same refl) ∙ ap (unless_open run) is
+by_run false run seen near far is same = is
 
 -- ---- what is owed
 
@@ -327,21 +331,20 @@ module _ (books : Books) (keyed : AreKeyed books) where
         ≡ owner_report books it (get books.owners it.owner) (get books.runs it.month)
     owner_alike = ap₂ (owner_report near_owner it) owner_there run_of_month ∙ owner_reported (get books.owners it.owner) (get books.runs it.month)
 
-  answered : (run seen : Option OpenRun) (question : Question) → (is_put_off question ≡ true → AreOfOneMonth seen run)
-      → report (record { books = asked_about books question; open_run = seen }) question ≡ report (record { books = books; open_run = run }) question
-  answered run seen asked.Branches same = refl
-  answered run seen (asked.Vacant day) same = refl
-  answered run seen (asked.Matching it) same =
+  alike : (question : Question) → answer_of (asked_about books question) question ≡ answer_of books question
+  alike asked.Branches = refl
+  alike (asked.Vacant day) = refl
+  alike (asked.Matching it) =
       ap (λ (found : Option Client). matching_report books found it.day)
       (get_where text_total text_ties (λ (c : Client). is_same_text c.number it.client) (λ c. c.number) books.clients it.client (keyed Kind.Clients)
       (λ c e. same_text c.number it.client e))
-  answered run seen (asked.Statement lease) same = put_off run seen _ (same refl) ∙ ap (unless_open run) (statement_alike lease)
-  answered run seen (asked.Arrears branch) same = put_off run seen _ (same refl) ∙ ap (unless_open run) (arrears_alike branch)
-  answered run seen (asked.Run month) same = put_off run seen _ (same refl) ∙ ap (unless_open run) (run_alike month)
-  answered run seen (asked.Owner it) same = put_off run seen _ (same refl) ∙ ap (unless_open run) (owner_alike it)
+  alike (asked.Statement lease) = statement_alike lease
+  alike (asked.Arrears branch) = arrears_alike branch
+  alike (asked.Run month) = run_alike month
+  alike (asked.Owner it) = owner_alike it
 
 pub answered_by_its_rows : AnsweredByItsRows
-answered_by_its_rows books run seen question keyed same = answered books keyed run seen question same
+answered_by_its_rows books run seen question keyed same = by_run (is_put_off question) run seen _ _ (alike books keyed question) same
 
 -- ---- the leases of some properties, by the numbers of these
 

@@ -9,9 +9,8 @@ use Rattle.dh_types.specs.declared.run.Part.{Part}
 use Rattle.dh_types.specs.declared.fee.PartFee.{PartFee}
 use Rattle.dh_types.specs.declared.run.Run.{Run}
 use Rattle.dh_model.specs.declared.open_run.OpenRun.{OpenRun}
-use Rattle.dh_model.specs.Answers.{report}
+use Rattle.dh_model.specs.Answers.{is_put_off, report}
 use Rattle.dh_model.specs.Books.{Books, pair_cmp, text_cmp}
-use Rattle.dh_model.specs.MachineLaws.{is_put_off}
 use Rattle.dh_model.specs.Runs.{batches}
 use Rattle.dh_model.specs.Whole.{completed, open_row}
 use Rattle.dh_laws.specs.Asking.{AnswersPassTheRun, BatchesPassTheRun}
@@ -26,10 +25,7 @@ module _ (books : Books) (run : OpenRun) (beside : Option OpenRun) where
     answered_by_the_rest asked.Branches free = refl
     answered_by_the_rest (asked.Vacant day) free = refl
     answered_by_the_rest (asked.Matching it) free = refl
-    answered_by_the_rest (asked.Statement lease) free = cc
-    answered_by_the_rest (asked.Arrears branch) free = cc
-    answered_by_the_rest (asked.Run month) free = cc
-    answered_by_the_rest (asked.Owner it) free = cc
+    answered_by_the_rest _ free = cc
 
   -- and a run adds nothing else
   answered_alike : (size : ℕ) (question : Question) (found : Option Run) → is_put_off question ≡ false

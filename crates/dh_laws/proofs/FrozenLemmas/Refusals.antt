@@ -19,11 +19,11 @@ use Rattle.dh_model.specs.declared.open_run.OpenRun.{OpenRun}
 use Rattle.dh_model.specs.declared.rows.Change.{Change}
 use Rattle.dh_model.specs.declared.rows.Verdict.{Verdict}
 use Rattle.dh_model.specs.declared.rows.Verdict.TheVariants as verdict
-use Rattle.dh_model.specs.Answers.{arrears, matching_report, owner_report, report, run_report, statement}
+use Rattle.dh_model.specs.Answers.{arrears, is_put_off, matching_report, owner_report, report, run_report, statement}
 use Rattle.dh_model.specs.Answers as answers
 use Rattle.dh_model.specs.Books.{Books}
 use Rattle.dh_model.specs.Checks.{Check}
-use Rattle.dh_model.specs.MachineLaws.{is_frozen, is_frozen_on, is_put_off}
+use Rattle.dh_model.specs.MachineLaws.{is_frozen, is_frozen_on}
 use Rattle.dh_model.specs.Verdicts.{Finding, Free, Frozen, Known, Must, Needed, OnRun, by_run, decided, judged, on_run, ruling, told, verdict_on}
 use Rattle.dh_model.proofs.MachineLemmas.{frozen_verdict, half_runs_not_shown}
 use Rattle.dh_laws.specs.Asking.{OpenRunsRefuseFrozen, OpenRunsRefusePutOff}
@@ -122,18 +122,23 @@ module _ (month : ℕ) where
     put_off_for None otherwise answered e = absurd (answered e)
     put_off_for (Some at) otherwise answered e = let is : at.month ≡ month = cc in (at, refl, is, refl)
 
+    answered : (question : Question) → Answers (answers.answer_of books question)
+    answered asked.Branches = λ e. cc
+    answered (asked.Vacant day) = λ e. cc
+    answered (asked.Matching it) = matching_answers (get books.clients it.client) it.day
+    answered (asked.Statement lease) = statement_answers (get books.leases lease)
+    answered (asked.Arrears branch) = if_answers (contains_key books.branches branch) _ (refusal.Unknown 3) (λ e. cc) (λ e. cc)
+    answered (asked.Run asked_month) = run_answers (get books.runs asked_month)
+    answered (asked.Owner it) = owner_answers it (get books.owners it.owner) (get books.runs it.month)
+
+    by_question : (off : Bool) (run : Option OpenRun) (otherwise : Report) → Answers otherwise
+        → (if off then answers.unless_open run otherwise else otherwise) ≡ NoReport (refusal.RunOpen month) → IsOpenFor run off
+    by_question true run otherwise unlike e = put_off_for run otherwise unlike e
+    by_question false run otherwise unlike e = absurd (unlike e)
+
     not_answered : (run : Option OpenRun) (question : Question) → report (record { books = books; open_run = run }) question ≡ NoReport (refusal.RunOpen month)
         → IsOpenFor run (is_put_off question)
-    not_answered run asked.Branches e = cc
-    not_answered run (asked.Vacant day) e = cc
-    not_answered run (asked.Matching it) e = absurd (matching_answers (get books.clients it.client) it.day e)
-    not_answered run (asked.Statement lease) e = put_off_for run (statement books (get books.leases lease)) (statement_answers (get books.leases lease)) e
-    not_answered run (asked.Arrears branch) e =
-        put_off_for run (arrears books branch) (if_answers (contains_key books.branches branch) _ (refusal.Unknown 3) (λ e. cc) (λ e. cc)) e
-    not_answered run (asked.Run asked_month) e = put_off_for run (run_report books (get books.runs asked_month)) (run_answers (get books.runs asked_month)) e
-    not_answered run (asked.Owner it) e =
-        put_off_for run (owner_report books it (get books.owners it.owner) (get books.runs it.month))
-        (owner_answers it (get books.owners it.owner) (get books.runs it.month)) e
+    not_answered run question e = by_question (is_put_off question) run (answers.answer_of books question) (answered question) e
 
 pub open_runs_refuse_frozen : OpenRunsRefuseFrozen
 open_runs_refuse_frozen books run told month = (

@@ -6,6 +6,7 @@ use Rattle.std.specs.FinMap.{get, insert, values}
 use Rattle.std.proofs.lemmas.Bool.{false_from_ne_true}
 use Rattle.std.proofs.lemmas.List.{append-nil}
 use Rattle.std.proofs.lemmas.List.FromFn.{filter_of_map_range_with_len_more}
+use Rattle.dh_values.specs.declared.limits.TheConstants.{LEAST_LEASE_MONTHS}
 use Rattle.dh_days.specs.Days.{month_of_day}
 use Rattle.dh_types.specs.declared.lease.Lease.{Lease}
 use Rattle.dh_types.specs.declared.lease.Charge.{Charge}
@@ -19,7 +20,7 @@ use Rattle.dh_model.specs.Kinds.{Kind}
 use Rattle.dh_model.specs.Leases.{due, dues, dues_among, dues_of, length_of, months_in, overlap, running}
 use Rattle.dh_model.specs.Machine.{changed}
 use Rattle.dh_model.specs.Verdicts.{ending_rows}
-use Rattle.dh_model.specs.Rules.{EndingsInOrder, LeasesNeverOverlap, charges_in, parts_in}
+use Rattle.dh_model.specs.Rules.{EndingsInOrder, IsEarly, LeasesNeverOverlap, charges_in, parts_in}
 use Rattle.dh_model.specs.Runs.{dues_of_branch, is_property_of, leases_of_branch}
 use Rattle.dh_model.proofs.Among.{Among, in_filter, is_among}
 use Rattle.dh_model.proofs.DueLemmas.{falls_in}
@@ -120,13 +121,13 @@ module _ (b : Books) (keyed : AreKeyed b) (run : Option OpenRun) (it : Ending) (
       let fewer = of_found (λ (lease : Lease). was.months < lease.terms.months) (get b.leases was.lease) ends.lease rule.1 found in
       omega (arith, fewer)
 
-  pub endings_after_end : 3 ≤ it.months → EndingsInOrder b → EndingsInOrder after_end
+  pub endings_after_end : LEAST_LEASE_MONTHS ≤ it.months → EndingsInOrder b → EndingsInOrder after_end
   endings_after_end least in_order =
       let own = within_own in_order (get b.endings ends.lease.terms.number) refl in
       let shorter = ends.shorter in
       let fewer : it.months < ends.lease.terms.months = omega (arith, own, shorter) in
       each_insert nat_total nat_ties b.endings it.lease it
-      (λ ending. (3 ≤ ending.months) × IfSome (get b.leases ending.lease) (λ lease. ending.months < lease.terms.months))
+      (λ ending. IsEarly ending (get b.leases ending.lease))
       (least, subst (λ found. IfSome found (λ (lease : Lease). it.months < lease.terms.months)) (sym ends.is) fewer)
       (λ k other apart e. in_order other (is_among (values b.endings) other (of_row nat_total nat_ties b.endings k other e)))
 

@@ -3,8 +3,8 @@ use Rattle.std.proofs.Common.{◌≡◌, ◌≢◌, ◌∙◌, refl, sym, ap, su
 use Rattle.std.proofs.Common.{None, IfSome, AllPairs, is_some, arith}
 use Rattle.std.specs.FinMap.{get, insert, len, len-insert, values}
 use Rattle.std.proofs.lemmas.Bool.{false_from_ne_true, and_parts, and_from}
+use Rattle.dh_values.specs.declared.limits.TheConstants.{LEAST_LEASE_MONTHS}
 use Rattle.dh_values.specs.declared.receipt_kind.ReceiptKind.TheVariants.{Deposit}
-use Rattle.dh_days.specs.Days.{month_of_day}
 use Rattle.dh_types.specs.declared.lease.LeaseTerms.{LeaseTerms}
 use Rattle.dh_types.specs.declared.lease.Lease.{Lease}
 use Rattle.dh_types.specs.declared.lease.Ending.{Ending}
@@ -20,7 +20,7 @@ use Rattle.dh_model.specs.Checks.{is_same_text}
 use Rattle.dh_model.specs.Leases.{overlap, running, months_in}
 use Rattle.dh_model.specs.Machine.{changed}
 use Rattle.dh_model.specs.Rules.{DepositsInOrder, Each, EachTwo, EndingsInOrder, KeysInOrder, LeasesInTime, LeasesNeverOverlap, NamesWhatIsThere}
-use Rattle.dh_model.specs.Rules.{OneStartADay, RunsInOrder}
+use Rattle.dh_model.specs.Rules.{IsEarly, IsInTime, IsLeaseLength, OneStartADay, RunsInOrder}
 use Rattle.dh_model.proofs.Among.{Among, in_append, in_map, is_among}
 use Rattle.dh_model.proofs.KeyOrders.{nat_total, nat_ties}
 use Rattle.dh_model.proofs.LeaseLemmas.{overlap_goes_both_ways}
@@ -61,10 +61,7 @@ settled_alike b c same s =
           (subst (λ endings. EachTwo b.leases (λ lease other. overlap (running endings lease) (running endings other) ≡ false)) (sym same.endings) s.overlaps);
       starts = subst (λ leases. EachTwo leases (λ lease other. (is_same_text lease.terms.client other.terms.client
           && nat_eq lease.terms.start other.terms.start) ≡ false)) (sym same.leases) s.starts;
-      terms = subst (λ leases. Each leases (λ lease. (3 ≤ lease.terms.months) × (lease.terms.months ≤ 12) × (c.first ≤ month_of_day lease.terms.start)))
-          (sym same.leases)
-          (subst (λ first. Each b.leases (λ lease. (3 ≤ lease.terms.months) × (lease.terms.months ≤ 12) × (first ≤ month_of_day lease.terms.start)))
-          (sym same.first) s.terms);
+      terms = subst (λ leases. Each leases (IsInTime c.first)) (sym same.leases) (subst (λ first. Each b.leases (IsInTime first)) (sym same.first) s.terms);
       deposits = record {
         amounts = subst (λ receipts. Each receipts (λ receipt. receipt.payment.kind ≡ Deposit
             → IfSome (get c.leases receipt.payment.lease) (λ lease. receipt.payment.amount ≡ 2 * lease.rent))) (sym same.receipts)
@@ -80,10 +77,8 @@ settled_alike b c same s =
             ++ map (λ run. run.key) (values runs))) (sym same.runs) keys.keys);
         numbers = subst (λ receipts. Each receipts (λ receipt. (1 ≤ receipt.number) × (receipt.number ≤ len receipts))) (sym same.receipts) keys.numbers;
       };
-      endings = subst (λ endings. Each endings (λ it. (3 ≤ it.months) × IfSome (get c.leases it.lease) (λ lease. it.months < lease.terms.months)))
-          (sym same.endings)
-          (subst (λ leases. Each b.endings (λ it. (3 ≤ it.months) × IfSome (get leases it.lease) (λ lease. it.months < lease.terms.months)))
-          (sym same.leases) s.endings);
+      endings = subst (λ endings. Each endings (λ it. IsEarly it (get c.leases it.lease))) (sym same.endings)
+          (subst (λ leases. Each b.endings (λ it. IsEarly it (get leases it.lease))) (sym same.leases) s.endings);
     }
 
 -- ---- keys
@@ -232,7 +227,7 @@ module _ (b : Books) (keyed : AreKeyed b) (settled : AreSettled b) where
       let both = and_from (is_same_text other.terms.client lease.terms.client) (nat_eq other.terms.start lease.terms.start) client start in
       cc)
 
-  pub settled_with_lease : (run : Option OpenRun) (it : Lease) → AddsLease b run it → (3 ≤ it.terms.months) × (it.terms.months ≤ 12) → RunsInOrder b
+  pub settled_with_lease : (run : Option OpenRun) (it : Lease) → AddsLease b run it → IsLeaseLength it.terms.months → RunsInOrder b
       → NamesWhatIsThere b
       → (get b.endings it.terms.number ≡ None)
       → AreSettled (record b { leases = insert b.leases it.terms.number it })
@@ -252,8 +247,8 @@ module _ (b : Books) (keyed : AreKeyed b) (settled : AreSettled b) where
             (λ lease other. (is_same_text lease.terms.client other.terms.client && nat_eq lease.terms.start other.terms.start) ≡ false) adds.new settled.starts
             (λ k other e. let first = adds.first other (of_row nat_total nat_ties b.leases k other e) in (first, starts_back it other first));
         terms = each_insert nat_total nat_ties b.leases it.terms.number it
-            (λ lease. (3 ≤ lease.terms.months) × (lease.terms.months ≤ 12) × (b.first ≤ month_of_day lease.terms.start))
-            (limits.0, limits.1, (let from = runs.months in let later = adds.in_time in omega (arith, from, later)))
+            (IsInTime b.first)
+            (limits, (let from = runs.months in let later = adds.in_time in omega (arith, from, later)))
             (λ k other apart e. settled.terms other (is_among (values b.leases) other (of_row nat_total nat_ties b.leases k other e)));
         deposits = record {
           amounts = λ receipt a kind.
@@ -279,7 +274,7 @@ module _ (b : Books) (keyed : AreKeyed b) (settled : AreSettled b) where
       }
 
   -- a lease that is ended early
-  pub settled_with_ending : (run : Option OpenRun) (it : Ending) → EndsLease b run it → 3 ≤ it.months
+  pub settled_with_ending : (run : Option OpenRun) (it : Ending) → EndsLease b run it → LEAST_LEASE_MONTHS ≤ it.months
       → AreSettled (record b { endings = insert b.endings it.lease it })
   settled_with_ending run it ends least =
       let deposits = settled.deposits in

@@ -5,6 +5,7 @@ use Rattle.std.proofs.Common.{ltb-true, leb-true}
 use Rattle.std.proofs.lemmas.Bool.{false≢true}
 use Rattle.std.specs.Option.{is_some}
 use Rattle.std.specs.FinMap.{get, len, values}
+use Rattle.dh_values.specs.declared.limits.TheConstants.{LEAST_LEASE_MONTHS}
 use Rattle.dh_types.specs.declared.property.Property.{Property}
 use Rattle.dh_types.specs.declared.lease.LeaseTerms.{LeaseTerms}
 use Rattle.dh_types.specs.declared.lease.Lease.{Lease}
@@ -22,6 +23,7 @@ use Rattle.dh_model.specs.declared.rows.Change.TheVariants as change
 use Rattle.dh_model.specs.declared.rows.Verdict.TheVariants as verdict
 use Rattle.dh_model.specs.Books.{Books}
 use Rattle.dh_model.specs.MachineLaws.{is_post}
+use Rattle.dh_model.specs.Rules.{IsLeaseLength}
 use Rattle.dh_model.specs.Leases.{length_of, overlap, running}
 use Rattle.dh_model.specs.Checks.{is_same_text, receipt_of_key, run_of_key}
 use Rattle.dh_model.specs.Verdicts.{ending_checks, ending_rows, fee_rows, lease_checks, manager_checks, on_run, opened_run, ruling}
@@ -166,12 +168,12 @@ module _ (books : Books) (run : Option OpenRun) where
 
 -- the months of a new lease, or of its end
 abbrev pub IsLimited : Change → Type 0
-IsLimited (change.Lease lease) = (3 ≤ lease.terms.months) × (lease.terms.months ≤ 12)
-IsLimited (change.NewEnding it) = 3 ≤ it.months
-IsLimited (change.Ending it) = 3 ≤ it.months
+IsLimited (change.Lease lease) = IsLeaseLength lease.terms.months
+IsLimited (change.NewEnding it) = LEAST_LEASE_MONTHS ≤ it.months
+IsLimited (change.Ending it) = LEAST_LEASE_MONTHS ≤ it.months
 IsLimited _ = Unit {0}
 
-ending_limited : (it : Ending) (found : Option Ending) → 3 ≤ it.months → IsLimited (ending_rows it found)
+ending_limited : (it : Ending) (found : Option Ending) → LEAST_LEASE_MONTHS ≤ it.months → IsLimited (ending_rows it found)
 ending_limited it None entered = entered
 ending_limited it (Some was) entered = entered
 

@@ -1,11 +1,12 @@
 //! What the tables say of a command.
 
-ghost use Rattle.std.specs.Prelude.{◌≡◌, ◌≤◌, IsTrue, IfOk, IfErr, OnOk, OnErr};
+ghost use Rattle.std.specs.Prelude.{◌≡◌, ◌≤◌, IsTrue, None, IfOk, IfErr, OnOk, OnErr};
 ghost use Rattle.sqlite_trees.specs.View.{doubt};
 ghost use Rattle.sqlite.specs.State.{HasCleanDisk};
 ghost use Rattle.sqlite.specs.Held.{state};
 ghost use Rattle.dh_model.specs.Verdicts.{verdict_on};
 ghost use Rattle.dh_laws.specs.Looks.{month_open};
+ghost use Rattle.dh_answers.specs.Seen.{put_off_by};
 ghost use Rattle.dh_schema.specs.Faults.{IsFirstFault};
 ghost use Rattle.dh_schema.specs.Store.{IsReady, Leaves, StaysReady, tables};
 ghost use Rattle.dh_schema.specs.Months.{IsReadyIn};
@@ -21,7 +22,7 @@ use dh_types::Command;
 use sqlite::{Alter, Connection};
 use std::alloc::Global;
 
-// The verdict on the command, from the rows that it looks at. The run is the one that is open.
+// The verdict on the command, from the rows that it looks at. The run is the one that is open, and does not put it off.
 fn ask_rows<S: Alter>(
     alloc: Global,
     conn: &mut Connection<S>,
@@ -31,6 +32,7 @@ fn ask_rows<S: Alter>(
 ) -> Result<Verdict, StoreFault>
     requires ready { HasCleanDisk (state S.Store conn.old) → IsReadyIn months (state S.Store conn.old) }
     requires run { HasCleanDisk (state S.Store conn.old) → month_open run ≡ month_open (tables (state S.Store conn.old)).open_run }
+    requires passed { put_off_by run command.now ≡ None }
     ensures verdict { HasCleanDisk (state S.Store conn.new)
         → IfOk result (λ v. v ≡ verdict_on (tables (state S.Store conn.old)).books (tables (state S.Store conn.old)).open_run command.now) }
     ensures reads { OnlyReads (state S.Store conn.old) (state S.Store conn.new) result }

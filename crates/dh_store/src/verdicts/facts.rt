@@ -128,6 +128,7 @@ pub(crate) fn gather_into<S: Alter>(
     requires bare { HasCleanDisk (state S.Store conn.old) → facts.old.books ≡ bare (tables (state S.Store conn.old)) }
     ensures cut { HasCleanDisk (state S.Store conn.new)
         → OnOk result (IsCutOf (facts_of facts.new) (tables (state S.Store conn.old)).books (tables (state S.Store conn.old)).open_run command.now) }
+    ensures run { OnOk result (facts.new.books.open_run ≡ run) }
     ensures reads { OnlyReads (state S.Store conn.old) (state S.Store conn.new) result }
 {
     let version = facts.books.version();

@@ -1,7 +1,7 @@
 use Rattle.std.proofs.Common.{◌*◌, Err, Ok, Some, [], ◌∷◌, ap, refl, sym, ◌∙◌}
 use Rattle.std.proofs.lemmas.Bool.{false≢true}
 use Rattle.std.specs.Duration.{as_nanos}
-use Rattle.dh_http.specs.Calls.{AsksLeft, AsksTime}
+use Rattle.dh_http.specs.Calls.{AsksLeft, AsksTime, nanos}
 use Rattle.dh_http.proofs.CallLemmas.{is_error, left_is, some_left}
 use Rattle.dh_http.proofs.streams.TimedStream.time_left.Goals as goal
 
@@ -15,7 +15,7 @@ returns-then-is_zero-clause-asks g c =
     let now = c.in_ok-now.now in
     let begun = c.args.self.now.begun in
     let is =
-    left_is (c.args.self.now.seconds * 1000000000) begun now c.unwrap_or-begun.result (as_nanos c.from_secs.result) (as_nanos c.duration_since.result)
+    left_is (nanos c.args.self.now.seconds) begun now c.unwrap_or-begun.result (as_nanos c.from_secs.result) (as_nanos c.duration_since.result)
     (as_nanos c.saturating_sub-left.result) c.unwrap_or-begun.ensures c.from_secs.ensures c.duration_since.ensures c.saturating_sub-left.ensures in (
       AsksTime (Ok now) ∷ [],
       c.in_ok-now.ensures.made,
@@ -27,7 +27,7 @@ returns-clause-asks g c =
     let now = c.in_ok-now.now in
     let begun = c.args.self.now.begun in
     let is =
-    left_is (c.args.self.now.seconds * 1000000000) begun now c.unwrap_or-begun.result (as_nanos c.from_secs.result) (as_nanos c.duration_since.result)
+    left_is (nanos c.args.self.now.seconds) begun now c.unwrap_or-begun.result (as_nanos c.from_secs.result) (as_nanos c.duration_since.result)
     (as_nanos c.saturating_sub-left.result) c.unwrap_or-begun.ensures c.from_secs.ensures c.duration_since.ensures c.saturating_sub-left.ensures in (
       AsksTime (Ok now) ∷ [],
       c.in_ok-now.ensures.made,

@@ -29,6 +29,9 @@ pub ask_rows-requires-clause-run : goal.ask_rows-requires-clause-run
 ask_rows-requires-clause-run g c clean =
     c.in_ok-run.ensures.month clean ∙ ap (λ (t : State). month_open t.open_run) (sym (c.in_ok-run.ensures.reads.done clean).1)
 
+pub ask_rows-requires-clause-passed : goal.ask_rows-requires-clause-passed
+ask_rows-requires-clause-passed g c = sym c.open_refusal.ensures ∙ c.in-None.is
+
 pub returns-in-Some-clause-verdict : goal.returns-in-Some-clause-verdict
 returns-in-Some-clause-verdict g c clean =
     let one = state g.S.Store c.months_now.new.conn in

@@ -2,7 +2,7 @@ use Rattle.std.proofs.Common.{refl}
 use Rattle.dh_fields.proofs.Forms.{no_text, told_as, unknown}
 use Rattle.dh_fields.specs.Lines.{arrears_form, branches_form, matching_form, owner_month_form, question_forms, shown_run_form, statement_form}
 use Rattle.dh_fields.specs.Lines.{vacant_form}
-use Rattle.dh_fields.proofs.questions.read_question.Goals as goal
+use Rattle.dh_fields.proofs.questions.read_shown.Goals as goal
 
 pub returns-in_err-text : goal.returns-in_err-text
 returns-in_err-text c = no_text question_forms 2 c.args.line.now refl refl _ _ _ c.from_residual.ensures.1 c.in_err-text.ensures
