@@ -32,7 +32,7 @@ use Rattle.dh_schema.specs.Store.{IsReady, Leaves, with_change}
 use Rattle.dh_schema.specs.Tables.{IsSound, state_in}
 use Rattle.dh_schema.proofs.Keyed.{books_are_keyed, sound_tables_show_their_run}
 use Rattle.dh_schema.specs.Changes.{HasPlace, came_with_rows}
-use Rattle.dh_runs.specs.Told.{IsInterrupted, IsAnsweredBy}
+use Rattle.dh_runs.specs.Outcomes.{IsInterrupted, IsAnsweredBy}
 
 pub on_err : {A E P : Type 0} (r : Result A E) → P → OnErr r P
 on_err (Ok a) p = tt

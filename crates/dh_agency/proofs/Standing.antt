@@ -12,7 +12,7 @@ use Rattle.dh_laws.specs.InOrder.{IsInOrder}
 use Rattle.dh_laws.specs.StateTables.{IsStateInOrder}
 use Rattle.dh_laws.proofs.CommandLemmas.Whole.{own_state, shows_none}
 use Rattle.dh_schema.proofs.Crashing.{leaves_these}
-use Rattle.dh_agency.specs.Seat.{Seat}
+use Rattle.dh_agency.specs.AgencyView.{AgencyView}
 use Rattle.dh_agency.specs.Agency.{IsOpen, Leaves, LeavesItsTables, ReadsAs, machine, shown_by, stand, stand_of}
 use Rattle.dh_agency.proofs.Carried.{leaves_weaker, sound_in_order}
 
@@ -40,21 +40,21 @@ report_stands passes refuses s question in_order = by s.open_run refl
     by (Some at) is = put_off at is (is_put_off question) refl
 
 module _ {S : Type 0} (g : Ghosts S) where
-  pub leaves_what_holds : (a : Seat S) (P : State → Type 0) → LeavesItsTables g a → P (machine g a) → Leaves g a P
+  pub leaves_what_holds : (a : AgencyView S) (P : State → Type 0) → LeavesItsTables g a → P (machine g a) → Leaves g a P
   leaves_what_holds a P h p = leaves_these (shown_by g a) P h p
 
-  pub leaves_more : (a : Seat S) (P Q : State → Type 0) → ((t : State) → P t → Q t) → Leaves g a P → Leaves g a Q
+  pub leaves_more : (a : AgencyView S) (P Q : State → Type 0) → ((t : State) → P t → Q t) → Leaves g a P → Leaves g a Q
   leaves_more a P Q f h = leaves_weaker (shown_by g a) P Q f h
 
-  pub reads_in_order : (a : Seat S) → LeavesItsTables g a → IsStateInOrder (machine g a)
+  pub reads_in_order : (a : AgencyView S) → LeavesItsTables g a → IsStateInOrder (machine g a)
   reads_in_order a h = sound_in_order (shown_by g a).now.trees h.sound
 
   -- an agency begins where the machine does
-  pub begins : (a : Seat S) (first : ℕ) → LeavesItsTables g a → machine g a ≡ start first → stand g a ≡ start first
+  pub begins : (a : AgencyView S) (first : ℕ) → LeavesItsTables g a → machine g a ≡ start first → stand g a ≡ start first
   begins a first left is = stands_there (machine g a) (reads_in_order a left) (ap (λ (s : State). s.open_run) is) ∙ is
 
   -- at a fault the tables that can be read are those of a cut, or the agency had stopped before and these are its tables still
-  pub cut_or_stopped : (old new : Seat S) (P : State → Type 0) (X : Type 0) → (old.is_stopped ≡ false → IsOpen g new → ReadsAs g new P)
+  pub cut_or_stopped : (old new : AgencyView S) (P : State → Type 0) (X : Type 0) → (old.is_stopped ≡ false → IsOpen g new → ReadsAs g new P)
       → (old.is_stopped ≡ true → X × (new ≡ old)) → P (machine g old) → IsOpen g new → P (machine g new)
   cut_or_stopped old new P X halted stopped before is_open = by old.is_stopped refl
     where

@@ -1,7 +1,7 @@
-pub mod Seat
+pub mod AgencyView
 pub mod Agency
 pub mod Taken
-pub mod Told
+pub mod Outcomes
 pub mod Requests
 pub use Rattle.dh_schema.specs.Store
 pub use Rattle.dh_laws.specs.Events

@@ -15,9 +15,9 @@ use Rattle.dh_model.specs.Runs.{batch_size}
 use Rattle.dh_schema.specs.Faults.{IsFirstFault}
 use Rattle.dh_fields.specs.declared.request.Request.{Request}
 use Rattle.dh_fields.specs.declared.request.Request.TheVariants.{Command, Question}
-use Rattle.dh_agency.specs.Seat.{Seat}
+use Rattle.dh_agency.specs.AgencyView.{AgencyView}
 use Rattle.dh_agency.specs.Agency.{WasClean}
-use Rattle.dh_agency.specs.Told.{IsInterrupted}
+use Rattle.dh_agency.specs.Outcomes.{IsInterrupted}
 use Rattle.dh_agency.specs.declared.requests.Response.{Response}
 use Rattle.dh_agency.specs.declared.requests.Response.TheVariants as response
 
@@ -54,7 +54,7 @@ IsCutIn (Err why) before left = left ≡ before
 
 -- How answering ends: at a fault the agency has stopped, and else it goes on as before. Fields that are no request meet no fault, and leave
 -- it as it is, as each request does an agency that had stopped.
-pub record EndsFor {S X : Type 0} (g : Ghosts S) (old new : Seat S) (request : Result Request Refusal) (result : Result X Fault) : Type 0 where
+pub record EndsFor {S X : Type 0} (g : Ghosts S) (old new : AgencyView S) (request : Result Request Refusal) (result : Result X Fault) : Type 0 where
   pub goes_on : OnOk result (new.is_stopped ≡ old.is_stopped)
   pub stops : OnErr result (new.is_stopped ≡ true)
   pub cause : old.is_stopped ≡ false → IfErr result IsFirstFault

@@ -8,7 +8,7 @@ ghost use Rattle.dh_types.specs.Reports.{report_of};
 ghost use Rattle.dh_model.specs.Answers.{report};
 ghost use Rattle.dh_laws.specs.Batches.{IsPostedInPart};
 ghost use Rattle.dh_agency.specs.Agency.{Ends, IsClean, IsOpen, IsServed, LeavesItsTables, Leaves, ReadsAs, machine, stand};
-ghost use Rattle.dh_agency.specs.Told.{IsInterrupted, IsAnsweredBy, reply_of};
+ghost use Rattle.dh_agency.specs.Outcomes.{IsInterrupted, IsAnsweredBy, reply_of};
 
 use crate::commands::carry_out;
 use dh_laws::frozen::{answers_pass_the_run, open_runs_refuse_put_off};
@@ -30,11 +30,11 @@ impl<S: Alter> Model for Agency<S> {
     ghost use Rattle.sqlite.specs.State.{HasCleanDisk};
     ghost use Rattle.sqlite.specs.Held.{state};
     ghost use Rattle.dh_agency.specs.Agency.{IsServed};
-    ghost use Rattle.dh_agency.specs.Seat.{Seat, seat_code};
+    ghost use Rattle.dh_agency.specs.AgencyView.{AgencyView, agency_view_code};
 
-    ghost Value = { Seat S };
+    ghost Value = { AgencyView S };
 
-    ghost coded = { seat_code S.code };
+    ghost coded = { agency_view_code S.code };
 
     ghost view = { λ a. record { conn = a.conn; is_stopped = a.is_stopped } };
 

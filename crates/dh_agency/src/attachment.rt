@@ -8,7 +8,7 @@ ghost use Rattle.dh_schema.specs.Store.{tables};
 ghost use Rattle.dh_runs.specs.Taking.{CanBeTaken, IsResting, Takes};
 ghost use Rattle.dh_agency.specs.Agency.{IsClean, LeavesItsTables, machine, shown_by};
 ghost use Rattle.dh_agency.specs.Taken.{Halts, TakesAsTheyAre, TakesForward};
-ghost use Rattle.dh_agency.specs.Told.{IsRecovered};
+ghost use Rattle.dh_agency.specs.Outcomes.{IsRecovered};
 
 use crate::{Agency, NotOpened};
 use dh_runs::{Problem, check, recover_in};
@@ -26,7 +26,7 @@ pub fn attach<S: Alter>(
     conn: Connection<S>,
 ) -> Result<Agency<S>, NotOpened<Problem, S>>
     requires { HasCleanDisk (state S.Store conn) → IsResting (state S.Store conn) }
-    ensures taken { IfOk result (λ a. (a.is_stopped ≡ false) × (IsClean S.Store a → machine S.Store a ≡ tables (state S.Store conn))) }
+    ensures attached { IfOk result (λ a. (a.is_stopped ≡ false) × (IsClean S.Store a → machine S.Store a ≡ tables (state S.Store conn))) }
     ensures left { IfOk result (λ a. IsClean S.Store a → LeavesItsTables S.Store a) }
     ensures takes { MatchResult result (λ a. Takes S.Store Second conn a.conn (Ok a)) (λ e. Takes {X = Unit {0}} S.Store Second conn e.conn (Err e.cause)) }
     ensures kept { IfOk result (λ a. TakesAsTheyAre (state S.Store conn) (shown_by S.Store a)) }
@@ -47,7 +47,7 @@ pub fn recover<S: Alter>(
     conn: Connection<S>,
 ) -> Result<Agency<S>, NotOpened<Problem, S>>
     requires { HasCleanDisk (state S.Store conn) → IsResting (state S.Store conn) }
-    ensures mended { IfOk result (λ a. (a.is_stopped ≡ false) × (IsClean S.Store a → IsRecovered (tables (state S.Store conn)) (machine S.Store a))) }
+    ensures recovered { IfOk result (λ a. (a.is_stopped ≡ false) × (IsClean S.Store a → IsRecovered (tables (state S.Store conn)) (machine S.Store a))) }
     ensures left { IfOk result (λ a. IsClean S.Store a → LeavesItsTables S.Store a) }
     ensures takes { MatchResult result (λ a. Takes S.Store Second conn a.conn (Ok a)) (λ e. Takes {X = Unit {0}} S.Store Second conn e.conn (Err e.cause)) }
     ensures made { IfOk result (λ a. TakesForward (state S.Store conn) (shown_by S.Store a)) }

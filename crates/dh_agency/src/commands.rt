@@ -12,7 +12,7 @@ ghost use Rattle.dh_laws.specs.Batches.{is_plain};
 ghost use Rattle.dh_schema.specs.Faults.{IsFirstFault};
 ghost use Rattle.dh_schema.specs.Store.{IsReady, IsReadyWith, Leaves, tables};
 ghost use Rattle.dh_runs.specs.Taking.{HasVersion};
-ghost use Rattle.dh_agency.specs.Told.{IsInterrupted, IsAnsweredBy, reply_of};
+ghost use Rattle.dh_agency.specs.Outcomes.{IsInterrupted, IsAnsweredBy, reply_of};
 
 use dh_laws::entries::commands_are_entered;
 use dh_laws::facts::accepted_changes_fit;

@@ -11,7 +11,7 @@ ghost use Rattle.dh_runs.specs.Migrated.{migrated_state};
 ghost use Rattle.dh_runs.specs.Moved.{CanBeMigrated, IsMigrationProblem, IsNotMigrated, MovesOn, StaysAsItWas};
 ghost use Rattle.dh_agency.specs.Agency.{IsClean, LeavesItsTables, machine, shown_by};
 ghost use Rattle.dh_agency.specs.Taken.{Halts, TakesAsTheyAre, TakesForward};
-ghost use Rattle.dh_agency.specs.Told.{IsRecovered};
+ghost use Rattle.dh_agency.specs.Outcomes.{IsRecovered};
 
 use crate::{Agency, NotOpened};
 use dh_runs::{Problem, migrate_in, recover_in};
@@ -56,7 +56,7 @@ pub fn recover_1<S: Alter>(
     conn: Connection<S>,
 ) -> Result<Connection<S>, NotOpened<Problem, S>>
     requires { HasCleanDisk (state S.Store conn) → IsResting (state S.Store conn) }
-    ensures mended { IfOk result (λ c. HasCleanDisk (state S.Store c) → IsReadyWith (state S.Store c) (IsRecovered (tables (state S.Store conn)))) }
+    ensures recovered { IfOk result (λ c. HasCleanDisk (state S.Store c) → IsReadyWith (state S.Store c) (IsRecovered (tables (state S.Store conn)))) }
     ensures first { IfOk result (λ c. HasCleanDisk (state S.Store c) → HasVersion First (state S.Store c)) }
     ensures left { IfOk result (λ c. HasCleanDisk (state S.Store c) → store.LeavesItsTables (state S.Store c)) }
     ensures takes { MatchResult result (λ c. Takes S.Store First conn c (Ok c)) (λ e. Takes {X = Unit {0}} S.Store First conn e.conn (Err e.cause)) }

@@ -19,9 +19,7 @@ pub use batches::batch_text;
 pub use books::books_text;
 pub use calls::line_over;
 pub use differences::compare;
-pub use lives::{
-    Lived, SECOND_TO_FIRST, Telling, play_block, play_lives, problem_text, told_next,
-};
+pub use lives::{Lived, SECOND_TO_FIRST, Telling, play_block, play_lives, problem_text, told_next};
 pub use rows::{all_rows, found, rows_of};
 pub use scripts::{compare_tables, parted, play_in_memory, table_of};
 pub use sound::sound_books;

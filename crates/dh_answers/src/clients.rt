@@ -12,7 +12,11 @@ use dh_types::{Client, Inspection, Refusal, Registration, Reply, Viewing, Viewin
 use std::alloc::{AllocError, Global};
 
 /// What the books say of a new client: its row; that it is there already; or that its number is taken.
-pub(crate) fn decide_client(alloc: Global, books: &Books, client: &Client) -> Result<Verdict, AllocError>
+pub(crate) fn decide_client(
+    alloc: Global,
+    books: &Books,
+    client: &Client,
+) -> Result<Verdict, AllocError>
     ensures { IfOk result (λ v. v ≡ decided (client_ruling books.now.books client.now)) }
 {
     match books.client(&client.number) {

@@ -9,7 +9,11 @@ use dh_types::{Branch, BranchFee, Owner, Refusal, Reply, Staff, field};
 use std::alloc::{AllocError, Global};
 
 /// What the books say of a new branch: its row; that it is there already; or that its number is taken.
-pub(crate) fn decide_branch(alloc: Global, books: &Books, branch: &Branch) -> Result<Verdict, AllocError>
+pub(crate) fn decide_branch(
+    alloc: Global,
+    books: &Books,
+    branch: &Branch,
+) -> Result<Verdict, AllocError>
     ensures { IfOk result (λ v. v ≡ decided (branch_ruling books.now.books branch.now)) }
 {
     match books.branch(&branch.number) {
@@ -36,7 +40,11 @@ pub(crate) fn decide_fee(books: &Books, fee: &BranchFee) -> Verdict
 }
 
 /// What the books say of a new member of staff, who belongs to a branch that is there.
-pub(crate) fn decide_staff(alloc: Global, books: &Books, member: &Staff) -> Result<Verdict, AllocError>
+pub(crate) fn decide_staff(
+    alloc: Global,
+    books: &Books,
+    member: &Staff,
+) -> Result<Verdict, AllocError>
     ensures { IfOk result (λ v. v ≡ decided (staff_ruling books.now.books member.now)) }
 {
     match books.member(&member.number) {
@@ -50,7 +58,11 @@ pub(crate) fn decide_staff(alloc: Global, books: &Books, member: &Staff) -> Resu
 }
 
 /// What the books say of a new owner: its row; that it is there already; or that its number is taken.
-pub(crate) fn decide_owner(alloc: Global, books: &Books, owner: &Owner) -> Result<Verdict, AllocError>
+pub(crate) fn decide_owner(
+    alloc: Global,
+    books: &Books,
+    owner: &Owner,
+) -> Result<Verdict, AllocError>
     ensures { IfOk result (λ v. v ≡ decided (owner_ruling books.now.books owner.now)) }
 {
     match books.owner(&owner.number) {

@@ -4,7 +4,7 @@ use Rattle.std.proofs.Common.{List, [], ◌∷◌, Bor, length, drop, take, map,
 use Rattle.std.proofs.Common.{refl, ap, sym, subst, suc, arith, append_assoc, add-one, drop-cons, take_all, length-drop, length-take}
 use Rattle.std.proofs.lemmas.List.{drop-map, length-map, map-append}
 use Rattle.clap.specs.Words.{Text}
-use Rattle.dh_arguments.specs.Typed.{begin_with_pair, joined}
+use Rattle.dh_arguments.specs.TypedWords.{begin_with_pair, joined}
 
 -- the words that are left, behind `--` or not
 abbrev pub left : Bool → List Text → List Text

@@ -4,14 +4,14 @@ use Rattle.clap.specs.Kinds.{HasKind, IsAmong}
 use Rattle.clap.specs.Words.{App, Row, Text, fault_of, first_of, is_simple_and_free, kind_of, subcommand_of}
 use Rattle.clap.specs.declared.error.Error.{Error}
 use Rattle.dh_arguments.proofs.Complete.{simple_and_free}
-use Rattle.dh_arguments.specs.Jobs.{HandsOn, IsAnswer, IsBadFor, IsJobOf, IsReport, Takes, question_fields}
+use Rattle.dh_arguments.specs.Jobs.{HandsOn, IsAnswer, IsBadFor, IsJobOf, IsParsedAs, IsReport, question_fields}
 use Rattle.dh_arguments.specs.Options.{first_bad}
 use Rattle.dh_arguments.specs.Table.{letting}
-use Rattle.dh_arguments.specs.Typed.{joined}
-use Rattle.dh_arguments.specs.declared.kinds.BadWords.{BadWords}
-use Rattle.dh_arguments.specs.declared.kinds.BadWords.TheVariants.{Refused, Value, Question, Memory}
-use Rattle.dh_arguments.specs.declared.kinds.Job.{Job}
-use Rattle.dh_arguments.specs.declared.kinds.Job.TheVariants.{Init, Batch, Run, Recover, Migrate, Report, Serve}
+use Rattle.dh_arguments.specs.TypedWords.{joined}
+use Rattle.dh_arguments.specs.declared.jobs.BadWords.{BadWords}
+use Rattle.dh_arguments.specs.declared.jobs.BadWords.TheVariants.{Refused, Value, Question, Memory}
+use Rattle.dh_arguments.specs.declared.jobs.Job.{Job}
+use Rattle.dh_arguments.specs.declared.jobs.Job.TheVariants.{Init, Batch, Run, Recover, Migrate, Report, Serve}
 
 told : (words : List Text) (error : Error) (bad : BadWords) → HasKind (fault_of letting (joined words)) error → HandsOn error bad → IsBadFor words bad
 told words error (Refused same) (inl none) h = absurd (h.1 none)
@@ -29,11 +29,11 @@ refused_so a typed words error bad is e h =
 
 -- words that are taken
 pub taken_as : (typed words : List Text) (sub : Text × List Row) → joined typed ≡ words → fault_of letting words ≡ [] → subcommand_of letting words ≡ Some sub
-    → Takes typed sub
+    → IsParsedAs typed sub
 taken_as typed words sub is none found = (ap (fault_of letting) is ∙ none, ap (subcommand_of letting) is ∙ found)
 
 -- a subcommand
-module _ (words : List Text) (name : Text) (rows : List Row) (taken : Takes words (name, rows)) where
+module _ (words : List Text) (name : Text) (rows : List Row) (taken : IsParsedAs words (name, rows)) where
   pub answered : (r : Result Job BadWords) → IsAnswer name rows r → IfOk r (IsJobOf words)
   answered (Ok job) h = ((name, rows), taken, h.0, h.1)
   answered (Err bad) h = tt

@@ -13,17 +13,17 @@ use Rattle.dh_fields.specs.Lines.{request_of}
 use Rattle.dh_fields.specs.declared.request.Request.TheVariants as request
 use Rattle.dh_arguments.specs.Options.{first_bad, key_of, port_of, value}
 use Rattle.dh_arguments.specs.Table.{letting}
-use Rattle.dh_arguments.specs.Typed.{joined, texts_of}
+use Rattle.dh_arguments.specs.TypedWords.{joined, texts_of}
 use Rattle.dh_arguments.specs.declared.words.TheConstants.{DEFAULT_MONTH}
-use Rattle.dh_arguments.specs.declared.kinds.BadWords.{BadWords}
-use Rattle.dh_arguments.specs.declared.kinds.BadWords.TheVariants as bad
-use Rattle.dh_arguments.specs.declared.kinds.Job.{Job}
-use Rattle.dh_arguments.specs.declared.typed.Words.{Words}
-use Rattle.dh_arguments.specs.declared.kinds.Job.TheVariants.{Init, Batch, Run, Recover, Migrate, Report, Serve}
+use Rattle.dh_arguments.specs.declared.jobs.BadWords.{BadWords}
+use Rattle.dh_arguments.specs.declared.jobs.BadWords.TheVariants as bad
+use Rattle.dh_arguments.specs.declared.jobs.Job.{Job}
+use Rattle.dh_arguments.specs.declared.typed_words.Words.{Words}
+use Rattle.dh_arguments.specs.declared.jobs.Job.TheVariants.{Init, Batch, Run, Recover, Migrate, Report, Serve}
 
 -- `clap` takes the words, joined, which name this subcommand and give its options and free words these rows
-abbrev pub Takes : List Text → Text × List Row → Type 0
-Takes words sub = (fault_of letting (joined words) ≡ []) × (subcommand_of letting (joined words) ≡ Some sub)
+abbrev pub IsParsedAs : List Text → Text × List Row → Type 0
+IsParsedAs words sub = (fault_of letting (joined words) ≡ []) × (subcommand_of letting (joined words) ≡ Some sub)
 
 -- 2025-01, where none is given
 abbrev pub usual_first : ℕ
@@ -50,13 +50,13 @@ Asks name rows (Serve file port count) = (name ≡ codes "serve") × (first_of (
 
 -- the words are taken, each option's text has a value, and these values ask for the job
 abbrev pub IsJobOf : List Text → Job → Type 0
-IsJobOf words job = (sub : Text × List Row) × Takes words sub × (first_bad sub.1 ≡ None) × Asks sub.0 sub.1 job
+IsJobOf words job = (sub : Text × List Row) × IsParsedAs words sub × (first_bad sub.1 ≡ None) × Asks sub.0 sub.1 job
 
 -- Why the words ask for no job. `clap` may want memory at any words.
 abbrev pub IsBadFor : List Text → BadWords → Type 0
 IsBadFor words (bad.Refused error) = IsAmong (kind_of error) (fault_of letting (joined words))
-IsBadFor words (bad.Value option) = (sub : Text × List Row) × Takes words sub × (first_bad sub.1 ≡ Some option.now)
-IsBadFor words (bad.Question refusal) = (sub : Text × List Row) × Takes words sub × (first_bad sub.1 ≡ None) × (sub.0 ≡ codes "report")
+IsBadFor words (bad.Value option) = (sub : Text × List Row) × IsParsedAs words sub × (first_bad sub.1 ≡ Some option.now)
+IsBadFor words (bad.Question refusal) = (sub : Text × List Row) × IsParsedAs words sub × (first_bad sub.1 ≡ None) × (sub.0 ≡ codes "report")
     × (request_of (question_fields sub.1) ≡ Err refusal)
 IsBadFor words bad.Memory = ⊤
 

@@ -1,4 +1,4 @@
-pub mod Typed
+pub mod TypedWords
 pub mod Table
 pub mod Options
 pub mod Jobs

@@ -70,7 +70,7 @@ const MAKING: &str = "Exit status:\n  \
     2  bad words\n  \
     3  a fault, or a failing output";
 
-const MENDING: &str = with_statuses!(
+const RECOVERY: &str = with_statuses!(
     ;
     "0  done\n  ",
     "3  a fault, or a failing output\n  "
@@ -203,14 +203,14 @@ fn run<'a>(alloc: Global) -> Result<Command<'a>, AllocError>
 fn recover<'a>(alloc: Global) -> Result<Command<'a>, AllocError>
     ensures { IfOk result (IsSubcommand table.recover) }
 {
-    words!(alloc, "recover", "Brings the open rent run to its end and prints `recovered`", MENDING;
+    words!(alloc, "recover", "Brings the open rent run to its end and prints `recovered`", RECOVERY;
         agency_file)
 }
 
 fn migrate<'a>(alloc: Global) -> Result<Command<'a>, AllocError>
     ensures { IfOk result (IsSubcommand table.migrate) }
 {
-    words!(alloc, "migrate", "Takes a file of the first version to the second and prints `migrated`; copy the file first, there is no way back", MENDING;
+    words!(alloc, "migrate", "Takes a file of the first version to the second and prints `migrated`; copy the file first, there is no way back", RECOVERY;
         agency_file)
 }
 

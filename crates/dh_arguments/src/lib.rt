@@ -2,14 +2,14 @@
 #![tactic(auto)]
 
 mod commands;
-mod kinds;
+mod jobs;
 mod options;
 mod ports;
 mod questions;
-mod typed;
+mod typed_words;
 mod words;
 
-pub use kinds::{BadWords, Job};
+pub use jobs::{BadWords, Job};
 pub use ports::most_port_in_figures;
-pub use typed::Words;
+pub use typed_words::Words;
 pub use words::job;

@@ -7,7 +7,7 @@ ghost use Rattle.dh_arguments.specs.Jobs.{HandsOn, IsAnswer, IsBadFor, IsJobOf, 
 use crate::commands::letting;
 use crate::options::read_options;
 use crate::questions::line_of;
-use crate::typed::Words;
+use crate::typed_words::Words;
 use crate::{BadWords, Job};
 use clap::error::ErrorKind;
 use clap::{ArgMatches, Error};

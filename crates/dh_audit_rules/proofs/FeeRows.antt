@@ -18,9 +18,9 @@ use Rattle.dh_model.specs.Books.{Books}
 use Rattle.dh_model.specs.Runs.{charge_fee, fees_over, is_property_of, part_fee_of}
 use Rattle.dh_model.specs.Rules.{HasItsFee, charges_of_part, is_charged_at}
 use Rattle.dh_model.proofs.MapRows.{key_itself, same_key}
-use Rattle.dh_audit_rules.specs.declared.fees.Taken.{Taken}
+use Rattle.dh_audit_rules.specs.declared.fees.FeeSum.{FeeSum}
 use Rattle.dh_audit_rules.specs.Fees.{HasItsRow, HasMore, IsItsRow, branch_at, branch_in, branch_of, fee_by, fees_at, is_charged_under, key_cmp}
-use Rattle.dh_audit_rules.specs.Fees.{pence_at, pence_in, row_fee, so_far, taken_at, taken_of, with_charge}
+use Rattle.dh_audit_rules.specs.Fees.{fee_sum_of, fee_under, pence_at, pence_in, row_fee, so_far, with_charge}
 use Rattle.dh_audit_rules.proofs.ClosedSums.{Key}
 use Rattle.dh_model.proofs.KeyOrders.{nat_text_ties, nat_text_total}
 
@@ -35,16 +35,16 @@ module _ (books : Books) (charge : Charge) where
   At found key = nat_eq charge.month key.0 && is_charged_at books key.1 found
 
   -- the lease is not there
-  pub no_lease : fin.get books.leases charge.lease ≡ None → (key : Key) → taken_at books key charge ≡ 0
+  pub no_lease : fin.get books.leases charge.lease ≡ None → (key : Key) → fee_under books key charge ≡ 0
   no_lease none key =
       ap (λ found. cond (At found key) (fee_by (fin.get books.part_fees key) charge) 0) none
       ∙ nowhere (nat_eq charge.month key.0) (fee_by (fin.get books.part_fees key) charge)
 
   module _ (lease : Lease) (is : fin.get books.leases charge.lease ≡ Some lease) where
-    at_lease : (key : Key) → taken_at books key charge ≡ cond (At (Some lease) key) (fee_by (fin.get books.part_fees key) charge) 0
+    at_lease : (key : Key) → fee_under books key charge ≡ cond (At (Some lease) key) (fee_by (fin.get books.part_fees key) charge) 0
     at_lease key = ap (λ found. cond (At found key) (fee_by (fin.get books.part_fees key) charge) 0) is
 
-    pub no_property : fin.get books.properties lease.terms.property ≡ None → (key : Key) → taken_at books key charge ≡ 0
+    pub no_property : fin.get books.properties lease.terms.property ≡ None → (key : Key) → fee_under books key charge ≡ 0
     no_property none key =
         at_lease key
         ∙ ap (λ found. cond (nat_eq charge.month key.0 && is_property_of key.1 found) (fee_by (fin.get books.part_fees key) charge) 0) none
@@ -73,29 +73,29 @@ module _ (books : Books) (charge : Charge) where
           let here : is_own key ≡ true = ap is_own (sym same) ∙ key_itself nat_text_total nat_text_ties own in
           false≢true (sym e ∙ here))
 
-      at_property : (key : Key) → taken_at books key charge ≡ cond (is_own key) (fee_by (fin.get books.part_fees key) charge) 0
+      at_property : (key : Key) → fee_under books key charge ≡ cond (is_own key) (fee_by (fin.get books.part_fees key) charge) 0
       at_property key =
           at_lease key
           ∙ ap (λ found. cond (nat_eq charge.month key.0 && is_property_of key.1 found) (fee_by (fin.get books.part_fees key) charge) 0) owned
           ∙ ap (λ b. cond b (fee_by (fin.get books.part_fees key) charge) 0) (same_test key (is_own key) refl)
 
   no_branch_in : (lease : Lease) → fin.get books.leases charge.lease ≡ Some lease → (found : Option Property)
-      → fin.get books.properties lease.terms.property ≡ found → branch_in found ≡ None → (key : Key) → taken_at books key charge ≡ 0
+      → fin.get books.properties lease.terms.property ≡ found → branch_in found ≡ None → (key : Key) → fee_under books key charge ≡ 0
   no_branch_in lease is None at none key = no_property lease is at key
   no_branch_in lease is (Some property) at none key = absurd (let no : Some property.branch ≡ None = none in cc)
 
   no_branch_at : (found : Option Lease) → fin.get books.leases charge.lease ≡ found → branch_at books found ≡ None → (key : Key)
-      → taken_at books key charge ≡ 0
+      → fee_under books key charge ≡ 0
   no_branch_at None is none key = no_lease is key
   no_branch_at (Some lease) is none key = no_branch_in lease is (fin.get books.properties lease.terms.property) refl none key
 
   -- nothing is taken of a charge that is made at no branch
-  pub no_branch : branch_of books charge.lease ≡ None → (key : Key) → taken_at books key charge ≡ 0
+  pub no_branch : branch_of books charge.lease ≡ None → (key : Key) → fee_under books key charge ≡ 0
   no_branch = no_branch_at (fin.get books.leases charge.lease) refl
 
   module _ (branch : List ℕ) where
     abbrev Takes : List ℕ → Type 0
-    Takes branch = (key : Key) → taken_at books key charge ≡ cond (is_at (key_cmp (charge.month, branch)) key) (fee_by (fin.get books.part_fees key) charge) 0
+    Takes branch = (key : Key) → fee_under books key charge ≡ cond (is_at (key_cmp (charge.month, branch)) key) (fee_by (fin.get books.part_fees key) charge) 0
 
     a_branch_in : (lease : Lease) → fin.get books.leases charge.lease ≡ Some lease → (found : Option Property)
         → fin.get books.properties lease.terms.property ≡ found → branch_in found ≡ Some branch → Takes branch
@@ -113,28 +113,28 @@ module _ (books : Books) (charge : Charge) where
 -- ---- one charge more
 
 -- the fee row takes so many pence
-abbrev taking : Books → Key → ℕ → Taken
+abbrev taking : Books → Key → ℕ → FeeSum
 taking books key pence = record { fee = row_fee (fin.get books.part_fees key); pence = pence }
 
 -- what is taken of the charges that are done, before those that are left
-pub record IsDone (books : Books) (count : ℕ) (fees : BTreeMap Key Taken) (rest : List Charge) : Type 0 where
+pub record IsDone (books : Books) (count : ℕ) (fees : BTreeMap Key FeeSum) (rest : List Charge) : Type 0 where
   pub done : List Charge
   pub whole : done ++ rest ≡ fin.values books.charges
-  pub taken : (key : Key) → so_far books fees key ≡ taken_of books done key
+  pub taken : (key : Key) → so_far books fees key ≡ fee_sum_of books done key
   pub few : (key : Key) → fees_at books done key + 999999 * length rest ≤ 999999 * count
 
 module _ (books : Books) (count : ℕ) (charge : Charge) (rest left : List Charge) (first : left ≡ charge ∷ rest) where
-  module _ (old : BTreeMap Key Taken) (was : IsDone books count old left) where
+  module _ (old : BTreeMap Key FeeSum) (was : IsDone books count old left) where
     abbrev next : List Charge
     next = was.done ++ charge ∷ []
 
-    one_more : (key : Key) → fees_at books next key ≡ fees_at books was.done key + taken_at books key charge
-    one_more key = sum_by_push (taken_at books key) was.done charge
+    one_more : (key : Key) → fees_at books next key ≡ fees_at books was.done key + fee_under books key charge
+    one_more key = sum_by_push (fee_under books key) was.done charge
 
     next_whole : next ++ rest ≡ fin.values books.charges
     next_whole = append_assoc was.done (charge ∷ []) rest ∙ ap (λ l. was.done ++ l) (sym first) ∙ was.whole
 
-    still_few : (key : Key) → taken_at books key charge ≤ 999999 → fees_at books next key + 999999 * length rest ≤ 999999 * count
+    still_few : (key : Key) → fee_under books key charge ≤ 999999 → fees_at books next key + 999999 * length rest ≤ 999999 * count
     still_few key small =
         let had = was.few key in
         let next = one_more key in
@@ -142,7 +142,7 @@ module _ (books : Books) (count : ℕ) (charge : Charge) (rest left : List Charg
         omega (arith, had, next, fewer, small)
 
     -- nothing is taken of the charge
-    pub none_taken : ((key : Key) → taken_at books key charge ≡ 0) → IsDone books count old rest
+    pub none_taken : ((key : Key) → fee_under books key charge ≡ 0) → IsDone books count old rest
     none_taken none = record {
       done = next;
       whole = next_whole;
@@ -150,13 +150,13 @@ module _ (books : Books) (count : ℕ) (charge : Charge) (rest left : List Charg
       few = λ key. still_few key (let no = none key in omega (arith, no));
     }
 
-    module _ (own : Key) (takes : (key : Key) → taken_at books key charge ≡ cond (is_at (key_cmp own) key) (fee_by (fin.get books.part_fees key) charge) 0)
+    module _ (own : Key) (takes : (key : Key) → fee_under books key charge ≡ cond (is_at (key_cmp own) key) (fee_by (fin.get books.part_fees key) charge) 0)
         (least : charge_fee (so_far books old own).fee charge ≤ 999999) where
       abbrev fee_at_key : Key → ℕ
       fee_at_key key = fee_by (fin.get books.part_fees key) charge
 
       small : fee_at_key own ≤ 999999
-      small = subst (λ (taken : Taken). charge_fee taken.fee charge ≤ 999999) (was.taken own) least
+      small = subst (λ (taken : FeeSum). charge_fee taken.fee charge ≤ 999999) (was.taken own) least
 
       small_by : (key : Key) (b : Bool) → is_at (key_cmp own) key ≡ b → cond b (fee_at_key key) 0 ≤ 999999
       small_by key true e =
@@ -164,7 +164,7 @@ module _ (books : Books) (count : ℕ) (charge : Charge) (rest left : List Charg
           subst (λ k. fee_at_key k ≤ 999999) same small
       small_by key false e = omega arith
 
-      module _ (new : BTreeMap Key Taken) (more : HasMore books old new own charge) where
+      module _ (new : BTreeMap Key FeeSum) (more : HasMore books old new own charge) where
         next_by : (key : Key) (b : Bool) → is_at (key_cmp own) key ≡ b → cond b (with_charge (so_far books old own) charge) (so_far books old key)
             ≡ taking books key (fees_at books was.done key + cond b (fee_at_key key) 0)
         next_by key true e =
@@ -183,12 +183,12 @@ module _ (books : Books) (count : ℕ) (charge : Charge) (rest left : List Charg
           few = λ key. still_few key (let its = takes key in let few = small_by key (is_at (key_cmp own) key) refl in omega (arith, its, few));
         }
 
-module _ (books : Books) (count : ℕ) (fees : BTreeMap Key Taken) where
+module _ (books : Books) (count : ℕ) (fees : BTreeMap Key FeeSum) where
   -- each fee row has room for one charge more
   pub room : count < 2 ^ 64 → (rest : List Charge) → IsDone books count fees rest → (key : Key) → (so_far books fees key).pence + 999999 < 2 ^ 128
   room fits rest was key =
       let few = was.few key in
-      subst (λ (taken : Taken). taken.pence + 999999 < 2 ^ 128) (sym (was.taken key)) (omega (arith, few, fits))
+      subst (λ (taken : FeeSum). taken.pence + 999999 < 2 ^ 128) (sym (was.taken key)) (omega (arith, few, fits))
 
 -- ---- what a part's row sums up
 
@@ -256,17 +256,17 @@ module _ (books : Books) (part : Part) where
 
 -- ---- what was taken, by month and branch
 
-pence_or : (found : Option Taken) (none : Taken) → none.pence ≡ 0 → (unwrap_or found none).pence ≡ pence_in found
+pence_or : (found : Option FeeSum) (none : FeeSum) → none.pence ≡ 0 → (unwrap_or found none).pence ≡ pence_in found
 pence_or None none nothing = nothing
 pence_or (Some taken) none nothing = refl
 
-module _ (books : Books) (fees : BTreeMap Key Taken)
-    (taken : (key : Key) → so_far books fees key ≡ taken_of books (fin.values books.charges) key) (part : Part) where
+module _ (books : Books) (fees : BTreeMap Key FeeSum)
+    (taken : (key : Key) → so_far books fees key ≡ fee_sum_of books (fin.values books.charges) key) (part : Part) where
   abbrev at : Key
   at = (part.month, part.branch)
 
   same_pence : pence_at fees at ≡ fees_at books (fin.values books.charges) at
-  same_pence = sym (pence_or (get key_cmp fees at) (taken_of books [] at) refl) ∙ ap (λ (its : Taken). its.pence) (taken at)
+  same_pence = sym (pence_or (get key_cmp fees at) (fee_sum_of books [] at) refl) ∙ ap (λ (its : FeeSum). its.pence) (taken at)
 
   abbrev By : ℕ → Type 0
   By sum = IsSomeAnd (fin.get books.part_fees at) (IsItsRow books sum part)

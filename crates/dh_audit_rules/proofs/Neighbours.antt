@@ -21,28 +21,28 @@ use Rattle.dh_model.proofs.Among.{Among, is_among, of_map}
 use Rattle.dh_model.proofs.KeyOrders.{nat_total, pair_total, text_ties, text_total}
 use Rattle.dh_model.proofs.LeaseLemmas.{overlap_is_by_ends}
 use Rattle.dh_model.proofs.Rising.{Rises, rises_among}
-use Rattle.dh_audit_rules.specs.declared.stays.Stay.{Stay}
-use Rattle.dh_audit_rules.specs.Stays.{IsSound, makes_way, stay_key, stay_on}
+use Rattle.dh_audit_rules.specs.declared.occupancies.Occupancy.{Occupancy}
+use Rattle.dh_audit_rules.specs.Occupancies.{IsSound, makes_way, stay_key, stay_on}
 use Rattle.dh_audit_rules.proofs.Pairs.{false_from_not, pairs_from_rises, rises_from_pairs, rises_mapped, rises_unmapped}
 use Rattle.dh_audit_rules.proofs.Permuted.{pairs_permuted}
 use Rattle.dh_audit_rules.proofs.Rows.{element}
 
 -- they do not overlap
-abbrev Clear : Stay → Stay → Type 0
+abbrev Clear : Occupancy → Occupancy → Type 0
 Clear stay other = stay.property ≡ other.property → stay.start < other.end → other.start < stay.end → ⊥
 
-clear_back : (stay other : Stay) → Clear stay other → Clear other stay
+clear_back : (stay other : Occupancy) → Clear stay other → Clear other stay
 clear_back stay other clear same p q = clear (sym same) q p
 
 -- the one ends before the other starts, if they are of one property
-abbrev MakesWay : Stay → Stay → Type 0
+abbrev MakesWay : Occupancy → Occupancy → Type 0
 MakesWay stay next = stay.property ≡ next.property → stay.end ≤ next.start
 
 not_same : (b : Bool) → not b ≡ true → b ≡ true → ⊥
 not_same true h e = false≢true h
 not_same false h e = false≢true e
 
-made_way : (stay next : Stay) → makes_way stay next ≡ true → MakesWay stay next
+made_way : (stay next : Occupancy) → makes_way stay next ≡ true → MakesWay stay next
 made_way stay next h same = elim (or_cases (not (is_same_text stay.property next.property)) (nat_le stay.end next.start) h) [
   | inl other ↦ absurd (not_same (is_same_text stay.property next.property) other ((texts stay.property next.property).1 same))
   | inr ends ↦ leb-true stay.end next.start ends
@@ -57,11 +57,11 @@ not_false true h = refl
 not_false false h = absurd (false≢true (sym h))
 
 -- no way was made: they are of one property, and the next starts too early
-record Meets (stay next : Stay) : Type 0 where
+record Meets (stay next : Occupancy) : Type 0 where
   property : stay.property ≡ next.property
   early : next.start < stay.end
 
-no_way : (stay next : Stay) → makes_way stay next ≡ false → Meets stay next
+no_way : (stay next : Occupancy) → makes_way stay next ≡ false → Meets stay next
 no_way stay next h =
     let parts = both_false (not (is_same_text stay.property next.property)) (nat_le stay.end next.start) h in
     record {
@@ -70,7 +70,7 @@ no_way stay next h =
     }
 
 -- the one stands no later than the other
-abbrev InOrder : Stay → Stay → Type 0
+abbrev InOrder : Occupancy → Occupancy → Type 0
 InOrder stay other = is_lt (pair_cmp text_cmp nat_cmp (stay_key other) (stay_key stay)) ≡ false
 
 first_part : (r q : Ordering) → is_lt (ordering_then r q) ≡ false → (is_lt r ≡ false) × (r ≡ Equal → is_lt q ≡ false)
@@ -93,7 +93,7 @@ tied a b e = subst (λ b. text_cmp b a ≡ Equal) e (tied_itself text_total a)
 not_before : (m n : ℕ) → is_lt (nat_cmp n m) ≡ false → m ≤ n
 not_before m n h = grind (arith, nat_tests)
 
-module _ (a b : Stay) (h : InOrder a b) where
+module _ (a b : Occupancy) (h : InOrder a b) where
   order_of_texts : is_lt (text_cmp b.property a.property) ≡ false
   order_of_texts = (first_part (text_cmp b.property a.property) (nat_cmp b.start a.start) h).0
 
@@ -101,21 +101,21 @@ module _ (a b : Stay) (h : InOrder a b) where
   order_of_starts same =
       not_before a.start b.start ((first_part (text_cmp b.property a.property) (nat_cmp b.start a.start) h).1 (tied a.property b.property same))
 
-between : (a b c : Stay) → InOrder a b → InOrder b c → a.property ≡ c.property → a.property ≡ b.property
+between : (a b c : Occupancy) → InOrder a b → InOrder b c → a.property ≡ c.property → a.property ≡ b.property
 between a b c h k same =
     squeezed a.property b.property (order_of_texts a b h) (subst (λ text. is_lt (text_cmp text b.property) ≡ false) (sym same) (order_of_texts b c k))
 
 -- each makes way for the next
-abbrev Follow : List Stay → Type 0
+abbrev Follow : List Occupancy → Type 0
 Follow [] = Unit {0}
 Follow (x ∷ []) = Unit {0}
 Follow (x ∷ (y ∷ ys)) = MakesWay x y × Follow (y ∷ ys)
 
-rest_follow : (x : Stay) (xs : List Stay) → Follow (x ∷ xs) → Follow xs
+rest_follow : (x : Occupancy) (xs : List Occupancy) → Follow (x ∷ xs) → Follow xs
 rest_follow x [] f = tt
 rest_follow x (y ∷ ys) f = f.1
 
-first_makes_way : (x : Stay) (xs : List Stay) → Rises InOrder (x ∷ xs) → Follow (x ∷ xs) → (z : Stay) → Among xs z → MakesWay x z
+first_makes_way : (x : Occupancy) (xs : List Occupancy) → Rises InOrder (x ∷ xs) → Follow (x ∷ xs) → (z : Occupancy) → Among xs z → MakesWay x z
 first_makes_way x [] r f z a = absurd a
 first_makes_way x (y ∷ ys) r f z (inl e) = subst (MakesWay x) (sym e) f.0
 first_makes_way x (y ∷ ys) r f z (inr a) = λ same.
@@ -126,11 +126,11 @@ first_makes_way x (y ∷ ys) r f z (inr a) = λ same.
     let starts : y.start ≤ z.start = order_of_starts y z second (sym here ∙ same) in
     omega (arith, ends, starts)
 
-all_make_way : (xs : List Stay) → Rises InOrder xs → Follow xs → Rises MakesWay xs
+all_make_way : (xs : List Occupancy) → Rises InOrder xs → Follow xs → Rises MakesWay xs
 all_make_way [] r f = tt
 all_make_way (x ∷ xs) r f = (first_makes_way x xs r f, all_make_way xs r.1 (rest_follow x xs f))
 
-follow : (xs : List Stay) → AllAdjacentBelow MakesWay xs (length xs) → Follow xs
+follow : (xs : List Occupancy) → AllAdjacentBelow MakesWay xs (length xs) → Follow xs
 follow [] h = tt
 follow (x ∷ []) h = tt
 follow (x ∷ (y ∷ ys)) h = (
@@ -140,16 +140,17 @@ follow (x ∷ (y ∷ ys)) h = (
       subst (λ n. MakesWay (slice_index_or (y ∷ ys) k d) (slice_index_or (x ∷ (y ∷ ys)) n d)) next (h (suc k) d (omega (arith, within)))),
 )
 
-clear_of_way : (x y : Stay) → MakesWay x y → Clear x y
+clear_of_way : (x y : Occupancy) → MakesWay x y → Clear x y
 clear_of_way x y way same p q = let ends = way same in omega (arith, ends, q)
 
-module _ (stays : List Stay) (sound : All IsSound stays) (sorted : IsSortedByKey stay_key (pair_cmp text_cmp nat_cmp) stays) where
+module _ (stays : List Occupancy) (sound : All IsSound stays) (sorted : IsSortedByKey stay_key (pair_cmp text_cmp nat_cmp) stays) where
   in_order : AllPairs InOrder stays
   in_order = λ i j d before within.
       sorted_far (λ x y. is_lt (pair_cmp text_cmp nat_cmp (stay_key x) (stay_key y))) (ranks_by (pair_total text_total nat_total) stay_key) stays sorted i j d
       (omega (arith, before)) within
 
-  never_clear : (k : ℕ) (d : Stay) → k + 1 < length stays → makes_way (slice_index_or stays k d) (slice_index_or stays (k + 1) d) ≡ false → AllPairs Clear stays
+  never_clear : (k : ℕ) (d : Occupancy) → k + 1 < length stays → makes_way (slice_index_or stays k d) (slice_index_or stays (k + 1) d) ≡ false
+      → AllPairs Clear stays
       → ⊥
   never_clear k d within blocked clear =
       let one = slice_index_or stays k d in
@@ -199,7 +200,7 @@ module _ (endings : Endings) where
   ClearOn lease other = Clear (stay_on endings lease) (stay_on endings other)
 
   -- whether no two leases of one property cover a common day, as long as they run
-  pub stays_tell : (leases : List Lease) (stays : List Stay) (b : Bool) → IsPermutation (map (stay_on endings) leases) stays → All IsSound stays
+  pub stays_tell : (leases : List Lease) (stays : List Occupancy) (b : Bool) → IsPermutation (map (stay_on endings) leases) stays → All IsSound stays
       → IsSortedByKey stay_key (pair_cmp text_cmp nat_cmp) stays
       → IsAllAdjacentAnswer (λ stay next free. free ≡ makes_way stay next) stays b → (b ≡ true)
       ↔ AllPairs (λ lease other. overlap (running endings lease) (running endings other) ≡ false) leases

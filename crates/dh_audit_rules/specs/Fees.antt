@@ -11,7 +11,7 @@ use Rattle.dh_types.specs.declared.property.Property.{Property}
 use Rattle.dh_types.specs.declared.run.Part.{Part}
 use Rattle.dh_types.specs.declared.fee.PartFee.{PartFee}
 use Rattle.dh_model.specs.Books.{Books, pair_cmp, text_cmp}
-use Rattle.dh_audit_rules.specs.declared.fees.Taken.{Taken}
+use Rattle.dh_audit_rules.specs.declared.fees.FeeSum.{FeeSum}
 use Rattle.dh_model.specs.Runs.{charge_fee, fee_at}
 use Rattle.dh_model.specs.Rules.{is_charged_at}
 
@@ -48,36 +48,36 @@ abbrev pub is_charged_under : Books → ℕ × List ℕ → Charge → Bool
 is_charged_under books key charge = nat_eq charge.month key.0 && is_charged_at books key.1 (fin.get books.leases charge.lease)
 
 -- what the fee row of the month and the branch takes of the charge
-abbrev pub taken_at : Books → ℕ × List ℕ → Charge → ℕ
-taken_at books key charge = cond (is_charged_under books key charge) (fee_by (fin.get books.part_fees key) charge) 0
+abbrev pub fee_under : Books → ℕ × List ℕ → Charge → ℕ
+fee_under books key charge = cond (is_charged_under books key charge) (fee_by (fin.get books.part_fees key) charge) 0
 
 -- and of all charges
 abbrev pub fees_at : Books → List Charge → ℕ × List ℕ → ℕ
-fees_at books charges key = sum_by (taken_at books key) charges
+fees_at books charges key = sum_by (fee_under books key) charges
 
 -- what the fee row takes of these charges
-abbrev pub taken_of : Books → List Charge → Key → Taken
-taken_of books charges key = record { fee = row_fee (fin.get books.part_fees key); pence = fees_at books charges key }
+abbrev pub fee_sum_of : Books → List Charge → Key → FeeSum
+fee_sum_of books charges key = record { fee = row_fee (fin.get books.part_fees key); pence = fees_at books charges key }
 
 -- what the fee row takes so far; nothing yet where none is put down
-abbrev pub so_far : Books → BTreeMap Key Taken → Key → Taken
-so_far books fees key = unwrap_or (get key_cmp fees key) (taken_of books [] key)
+abbrev pub so_far : Books → BTreeMap Key FeeSum → Key → FeeSum
+so_far books fees key = unwrap_or (get key_cmp fees key) (fee_sum_of books [] key)
 
 -- with one charge more
-abbrev pub with_charge : Taken → Charge → Taken
+abbrev pub with_charge : FeeSum → Charge → FeeSum
 with_charge taken charge = record { fee = taken.fee; pence = taken.pence + charge_fee taken.fee charge }
 
 -- a charge was put under its key, and under no other
-abbrev pub HasMore : Books → BTreeMap Key Taken → BTreeMap Key Taken → Key → Charge → Type 0
+abbrev pub HasMore : Books → BTreeMap Key FeeSum → BTreeMap Key FeeSum → Key → Charge → Type 0
 HasMore books old new own charge = (key : Key)
     → so_far books new key ≡ cond (is_at (key_cmp own) key) (with_charge (so_far books old own) charge) (so_far books old key)
 
-abbrev pub pence_in : Option Taken → ℕ
+abbrev pub pence_in : Option FeeSum → ℕ
 pence_in None = 0
 pence_in (Some taken) = taken.pence
 
 -- the pence that were taken by month and branch
-abbrev pub pence_at : BTreeMap Key Taken → Key → ℕ
+abbrev pub pence_at : BTreeMap Key FeeSum → Key → ℕ
 pence_at fees key = pence_in (get key_cmp fees key)
 
 -- the row is the part's and comes to this sum; of an open run, by the present fee of the branch

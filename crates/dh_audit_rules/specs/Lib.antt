@@ -4,4 +4,4 @@ pub mod Counts
 pub mod Fees
 pub mod Receipts
 pub mod Staff
-pub mod Stays
+pub mod Occupancies

@@ -6,7 +6,7 @@ ghost use Rattle.dh_audit_rules.specs.declared.closed_dues.Due.{Due};
 ghost use Rattle.dh_audit_rules.specs.ClosedMonths.{charges_of_months, dues_of_months};
 
 use crate::closed_dues::Due;
-use crate::same::have_the_same;
+use crate::same_lists::have_the_same;
 use dh_books::Books;
 use dh_types::{Charge, EntryMonth};
 use std::alloc::{AllocError, Global};

@@ -6,7 +6,7 @@ ghost use Rattle.dh_values.specs.declared.limits.TheConstants.{MOST_RENT};
 ghost use Rattle.dh_types.specs.declared.version.Version.TheVariants.{First, Second};
 ghost use Rattle.dh_model.specs.Runs.{charge_fee, fee_at};
 ghost use Rattle.dh_model.specs.Rules.{Each, HasFees};
-ghost use Rattle.dh_audit_rules.specs.Fees.{HasItsRow, HasMore, IsItsRow, branch_of, pence_at, so_far, taken_of, with_charge};
+ghost use Rattle.dh_audit_rules.specs.Fees.{HasItsRow, HasMore, IsItsRow, branch_of, fee_sum_of, pence_at, so_far, with_charge};
 
 use dh_books::Books;
 use dh_leases::charge_fee;
@@ -16,17 +16,17 @@ use std::collections::BTreeMap;
 
 // What a fee row takes of the charges so far.
 #[derive(Clone, Copy)]
-struct Taken {
+struct FeeSum {
     fee: Fee,
     pence: u128,
 }
 
 // By month and branch, where a charge was made.
-type Fees = BTreeMap<(EntryMonth, Id), Taken>;
+type Fees = BTreeMap<(EntryMonth, Id), FeeSum>;
 
 // The lease of a charge, and the branch of its property, where both are there.
 #[derive(Clone, Copy)]
-struct Place {
+struct LeaseBranch {
     lease: LeaseNo,
     branch: Option<Id>,
 }
@@ -40,13 +40,13 @@ fn branch_of(books: &Books, lease: LeaseNo) -> Option<Id>
 }
 
 // The place of the lease: it is mostly that of the charge before.
-fn place_of(books: &Books, before: Option<Place>, lease: LeaseNo) -> Place
-    requires { IfSome before (λ place. place.branch ≡ branch_of books.now.books place.lease) }
+fn lease_branch(books: &Books, before: Option<LeaseBranch>, lease: LeaseNo) -> LeaseBranch
+    requires { IfSome before (λ latest. latest.branch ≡ branch_of books.now.books latest.lease) }
     ensures { result ≡ record { lease = lease; branch = branch_of books.now.books lease } }
 {
     match before {
-        Some(place) if place.lease == lease => place,
-        _ => Place {
+        Some(latest) if latest.lease == lease => latest,
+        _ => LeaseBranch {
             lease,
             branch: branch_of(books, lease),
         },
@@ -54,23 +54,23 @@ fn place_of(books: &Books, before: Option<Place>, lease: LeaseNo) -> Place
 }
 
 // What the fee row of the month and the branch takes before any charge. Where there is no such row, the fee is 0.
-fn nothing_taken(books: &Books, key: &(EntryMonth, Id)) -> Taken
-    ensures { result ≡ taken_of books.now.books [] key.now }
+fn no_fee_yet(books: &Books, key: &(EntryMonth, Id)) -> FeeSum
+    ensures { result ≡ fee_sum_of books.now.books [] key.now }
 {
     let fee = match books.part_fee(key) {
         Some(row) => row.fee,
         None => Fee::of_number(0),
     };
-    Taken { fee, pence: 0 }
+    FeeSum { fee, pence: 0 }
 }
 
 // What the fee row takes with one charge more.
-fn with_charge(taken: Taken, charge: &Charge) -> Taken
+fn with_charge(taken: FeeSum, charge: &Charge) -> FeeSum
     requires { taken.pence + MOST_RENT < 2 ^ 128 }
     ensures value { result ≡ with_charge taken charge.now }
     ensures small { charge_fee taken.fee charge.now ≤ MOST_RENT }
 {
-    Taken {
+    FeeSum {
         fee: taken.fee,
         pence: taken.pence + u128::from(charge_fee(taken.fee, charge)),
     }
@@ -83,9 +83,7 @@ fn add(books: &Books, fees: &mut Fees, branch: Id, charge: &Charge) -> Result<()
     ensures small { OnOk result (charge_fee (so_far books.now.books fees.old (charge.now.month, branch)).fee charge.now ≤ MOST_RENT) }
 {
     let key = (charge.month, branch);
-    let taken = fees
-        .entry(key)?
-        .or_insert_with(|| nothing_taken(books, &key));
+    let taken = fees.entry(key)?.or_insert_with(|| no_fee_yet(books, &key));
     *taken = with_charge(*taken, charge);
     Ok(())
 }
@@ -93,17 +91,17 @@ fn add(books: &Books, fees: &mut Fees, branch: Id, charge: &Charge) -> Result<()
 // What the fee rows take of the charges.
 fn fees_of(alloc: Global, books: &Books) -> Result<Fees, AllocError>
     ensures { IfOk result (λ fees. (key : ℕ × List ℕ) → so_far books.now.books fees key
-        ≡ taken_of books.now.books (fin.values books.now.books.charges) key) }
+        ≡ fee_sum_of books.now.books (fin.values books.now.books.charges) key) }
 {
     let charges = books.charges();
     // No more than this many, so that their sums fit.
     let _count = charges.len();
     let mut fees = BTreeMap::new(alloc);
-    let mut place = None;
+    let mut latest = None;
     for charge in charges {
-        let here = place_of(books, place, charge.lease);
+        let here = lease_branch(books, latest, charge.lease);
         let branch = here.branch;
-        place = Some(here);
+        latest = Some(here);
         if let Some(branch) = branch {
             add(books, &mut fees, branch, charge)?;
         }

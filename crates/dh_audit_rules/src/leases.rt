@@ -15,7 +15,9 @@ fn is_in_time(lease: &Lease, first: Month) -> bool
     ensures { (result ≡ true) ↔ IsInTime first lease.now }
 {
     let months = lease.terms.months.number();
-    LEAST_LEASE_MONTHS <= months && months <= MOST_LEASE_MONTHS && first <= lease.terms.start.day().month()
+    LEAST_LEASE_MONTHS <= months
+        && months <= MOST_LEASE_MONTHS
+        && first <= lease.terms.start.day().month()
 }
 
 /// Whether each lease has 3 to 12 months and starts in the first month or later.

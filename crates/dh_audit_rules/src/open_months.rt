@@ -5,7 +5,7 @@ ghost use Rattle.dh_model.specs.Rules.{ArePosted, Each, HaveTheSame, MonthIsOpen
 ghost use Rattle.dh_model.specs.Runs.{batch_size, batches, posted_charges, posted_parts};
 
 use crate::open_shown::batches_shown;
-use crate::same::have_the_same;
+use crate::same_lists::have_the_same;
 use dh_books::Books;
 use dh_leases::{batches, posted_charges, posted_parts};
 use dh_types::{Charge, EntryMonth, Part, Pence, Run};

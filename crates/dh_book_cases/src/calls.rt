@@ -76,14 +76,18 @@ pub(crate) fn cut_after(
 }
 
 /// A recovery that is interrupted.
-pub(crate) fn tear(alloc: Global, tables: &mut Books, reach: Reach) -> Result<(), AllocError> {
+pub(crate) fn interrupt_recovery(
+    alloc: Global,
+    tables: &mut Books,
+    reach: Reach,
+) -> Result<(), AllocError> {
     let changed = recovery_interrupted(alloc, take(alloc, tables), reach)?;
     put_back(tables, changed);
     Ok(())
 }
 
 /// A recovery that comes to its end.
-pub(crate) fn mend(alloc: Global, tables: &mut Books) -> Result<(), AllocError> {
+pub(crate) fn end_recovery(alloc: Global, tables: &mut Books) -> Result<(), AllocError> {
     let changed = recovered(alloc, take(alloc, tables))?;
     put_back(tables, changed);
     Ok(())

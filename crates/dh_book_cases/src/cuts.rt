@@ -1,7 +1,7 @@
 //! Commands that are interrupted: each in turn in each way. Beside the tables goes the machine, which is told the commands that count.
 
 use crate::blocks::parted;
-use crate::calls::{cut_after, cut_before, empty, mend, say, tear, tell};
+use crate::calls::{cut_after, cut_before, empty, end_recovery, interrupt_recovery, say, tell};
 use dh_books::Books;
 use dh_rules::Reach;
 use dh_test_kit::{Block, Tally, Unreadable, command_if_any};
@@ -63,8 +63,8 @@ fn recover(
     machine: &mut Books,
     reach: Reach,
 ) -> Result<(), AllocError> {
-    tear(alloc, tables, reach)?;
-    mend(alloc, tables)?;
+    interrupt_recovery(alloc, tables, reach)?;
+    end_recovery(alloc, tables)?;
     machine.set_open_run(None);
     Ok(())
 }

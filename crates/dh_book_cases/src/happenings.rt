@@ -50,9 +50,9 @@ fn happening(alloc: Global, words: &str) -> Result<Option<Happening>, Unreadable
     match kind {
         "undone" => undone(alloc, rest).map(Some),
         "done" => done(alloc, rest).map(Some),
-        "taken" => Ok(Some(Happening::Attached)),
-        "torn" => Ok(Some(Happening::RecoveryInterrupted(reach(rest)?))),
-        "mended" => Ok(Some(Happening::Recovered)),
+        "attached" => Ok(Some(Happening::Attached)),
+        "interrupted" => Ok(Some(Happening::RecoveryInterrupted(reach(rest)?))),
+        "recovered" => Ok(Some(Happening::Recovered)),
         _ => Ok(None),
     }
 }
@@ -106,7 +106,10 @@ fn is_command(alloc: Global, words: &str) -> bool {
 // Whether the words tell what happens and is not answered.
 fn is_unanswered(words: &str) -> bool {
     let (kind, _) = words.split_once(',').unwrap_or((words, ""));
-    matches!(kind, "undone" | "done" | "taken" | "torn" | "mended")
+    matches!(
+        kind,
+        "undone" | "done" | "attached" | "interrupted" | "recovered"
+    )
 }
 
 // Compares the reply, where the line is a command.

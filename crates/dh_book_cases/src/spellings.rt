@@ -15,7 +15,7 @@ fn answer(out: &mut String, alloc: Global, kind: &str, text: &str) -> Said {
         || days::answer(out, kind, text)?
         || records::answer(out, alloc, kind, text)?
         || replies::answer(out, alloc, kind, text)?
-        || writers::answer(out, alloc, kind, text)?;
+        || writers::show_stopped_writer(out, alloc, kind, text)?;
     if !said {
         out.push_str("no such case")?;
     }

@@ -48,7 +48,7 @@ fn show_held(out: &mut String, mut writer: Stopping) -> Said {
 }
 
 /// Answers a text such as `5 1`, five writes of a byte at most, where the kind is one of writers.
-pub fn answer(out: &mut String, alloc: Global, kind: &str, text: &str) -> Said {
+pub fn show_stopped_writer(out: &mut String, alloc: Global, kind: &str, text: &str) -> Said {
     let (writes, most) = text.split_once(' ').unwrap_or((text, ""));
     let (writes, most) = (writes.parse().unwrap_or(0), most.parse().unwrap_or(0));
     let fails = match kind {

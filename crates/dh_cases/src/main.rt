@@ -2,7 +2,7 @@
 //! cases has its kind in the first line, and the crates of cases say in `play` which kinds are theirs.
 #![tactic(auto)]
 
-use dh_test_kit::{Tally, kinds};
+use dh_test_kit::{Tally, blocks_in};
 use std::io;
 
 fn play(rt: &HostRuntime, tally: &mut Tally, kind: &str, lines: &str) -> io::Result<()> {
@@ -18,7 +18,7 @@ fn play(rt: &HostRuntime, tally: &mut Tally, kind: &str, lines: &str) -> io::Res
 fn main(rt: HostRuntime) -> io::Result<()> {
     let text = io::read_to_string(rt.alloc(), rt.reader())?;
     let mut tally = Tally::new();
-    for (kind, lines) in kinds(rt.alloc(), text.as_str())? {
+    for (kind, lines) in blocks_in(rt.alloc(), text.as_str())? {
         play(&rt, &mut tally, kind, lines)?;
     }
     println!(rt; "{tally}")

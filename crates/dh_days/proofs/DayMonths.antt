@@ -65,8 +65,8 @@ own_place d = record { first = omega arith; last = omega arith; place_is = omega
 same_place : (d last : ℕ) → number_in_month d ≤ last → day_at (month_of_day d) (min (number_in_month d) last) ≡ d
 same_place d last h = omega arith
 
-pub no_month_later : (d : ℕ) → IsDay d → plus_months d 0 ≡ d
-no_month_later d h =
+pub zero_months_later_is_the_day : (d : ℕ) → IsDay d → plus_months d 0 ≡ d
+zero_months_later_is_the_day d h =
     let same : month_of_day d + 0 ≡ month_of_day d = omega arith in
     ap (λ m. day_at m (min (number_in_month d) (days_in m))) same ∙ same_place d (days_in (month_of_day d)) h.1
 

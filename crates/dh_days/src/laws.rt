@@ -56,7 +56,7 @@ pub fn months_later_is_day()
 {}
 
 /// No month later is the day itself.
-pub fn no_month_later()
+pub fn zero_months_later_is_the_day()
     ensures { NoMonthLater }
 {}
 

@@ -13,8 +13,8 @@ use Rattle.sqlite_schema.specs.declared.schema.Action.TheVariants.{NoAction, Res
 use Rattle.sqlite_schema.specs.declared.schema.Schema.{Schema}
 use Rattle.sqlite_schema.specs.Rules.{kind_code}
 use Rattle.dh_ddl.specs.Versions.{IsOurs, of_both}
-use Rattle.dh_ddl.specs.Same.{are_binary, are_empty, are_idle, are_null, is_flag, is_place}
-use Rattle.dh_ddl.specs.Same.{is_same_column, is_same_index, is_same_order, is_same_reference, is_same_schema, is_same_table}
+use Rattle.dh_ddl.specs.SchemaEquality.{are_binary, are_empty, are_idle, are_null, is_flag, is_place}
+use Rattle.dh_ddl.specs.SchemaEquality.{is_same_column, is_same_index, is_same_order, is_same_reference, is_same_schema, is_same_table}
 
 abbrev Tells : {X : Type 0} → (X → X → Bool) → Type 0
 Tells {X} same = (a b : X) → same a b ≡ true → a ≡ b

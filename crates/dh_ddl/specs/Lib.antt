@@ -21,4 +21,4 @@ pub mod Layout
 pub mod Versions
 pub mod Making
 pub mod Meanings
-pub mod Same
+pub mod SchemaEquality

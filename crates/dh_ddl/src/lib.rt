@@ -4,7 +4,7 @@
 mod columns;
 mod creation;
 mod ours;
-mod same;
+mod schema_equality;
 pub mod texts;
 
 pub use creation::{create_all, create_later};

@@ -6,7 +6,7 @@ ghost use Rattle.sqlite.specs.Steps.{over_memory};
 ghost use Rattle.dh_ddl.specs.Versions.{IsOf, IsOurs, schema_of};
 
 use crate::creation::create_all;
-use crate::same::is_same_schema;
+use crate::schema_equality::is_same_schema;
 use dh_types::Version;
 use sqlite::{Alter, Connection, Error, MemStore};
 use sqlite_schema::schema::Schema;

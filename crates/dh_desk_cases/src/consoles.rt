@@ -1,7 +1,7 @@
 //! Blocks of a terminal. Behind `$ ` stands a call of `./letting`, with `<FILE` behind it for its input or `echo LINE | ` before it, and with
 //! `; echo $?` where its exit status is printed too. The lines up to the next call are what it prints.
 
-use crate::runs::ended;
+use crate::runs::run_program;
 use dh_agency_test_kit::compare;
 use dh_test_kit::Tally;
 use std::{fs, io, str};
@@ -66,7 +66,7 @@ fn shown(rt: &HostRuntime, call: Call<'_>) -> io::Result<Vec<u8>> {
     let input = input_of(rt, call.input)?;
     let mut reader = input.as_slice();
     let mut out = Vec::new(rt.alloc());
-    let status = ended(rt, call.words, &mut reader, &mut out)?;
+    let status = run_program(rt, call.words, &mut reader, &mut out)?;
     if call.with_status {
         let code = format!(in rt.alloc(); "{}\n", status.code())?;
         out.extend_from_slice(code.as_bytes())?;

@@ -3,7 +3,7 @@
 //! version it is so that a migration ends.
 
 use crate::lives::{edited, tables};
-use crate::runs::{PATH, clear, ran};
+use crate::runs::{PATH, clear, run_letting};
 use dh_agency_test_kit::{SECOND_TO_FIRST, compare, parted};
 use dh_test_kit::Tally;
 use std::alloc::{AllocError, Global};
@@ -50,8 +50,8 @@ fn made(
     statements: &str,
 ) -> io::Result<Closed> {
     clear(rt);
-    let _ = ran(rt, "init --file F --first 2025-01", "")?;
-    let _ = ran(rt, "batch --file F", input)?;
+    let _ = run_letting(rt, "init --file F --first 2025-01", "")?;
+    let _ = run_letting(rt, "batch --file F", input)?;
     let _ = edited(rt, statements);
     Ok(Closed {
         words,
@@ -61,7 +61,7 @@ fn made(
 }
 
 // What became of the file that was edited to these bytes.
-fn left(rt: &HostRuntime, closed: &Closed, edited: &[u8]) -> io::Result<&'static str> {
+fn fate_of_file(rt: &HostRuntime, closed: &Closed, edited: &[u8]) -> io::Result<&'static str> {
     if fs::read(rt, PATH)?.as_slice() == edited {
         return Ok("as it was edited");
     }
@@ -79,14 +79,14 @@ fn play_edit(rt: &HostRuntime, tally: &mut Tally, closed: &Closed, line: &str) -
     let done = edited(rt, statements.as_str()).unwrap_or("not done");
     compare(rt, tally, text, done, "done")?;
     let edited = fs::read(rt, PATH)?;
-    let got = ran(rt, closed.words, "")?;
+    let got = run_letting(rt, closed.words, "")?;
     compare(rt, tally, line, got.as_str(), want)?;
     let stays = if want.starts_with("5") {
         "as it was edited"
     } else {
         "as before the edit"
     };
-    compare(rt, tally, text, left(rt, closed, &edited)?, stays)
+    compare(rt, tally, text, fate_of_file(rt, closed, &edited)?, stays)
 }
 
 fn play_over(

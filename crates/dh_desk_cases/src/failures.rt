@@ -2,7 +2,7 @@
 //! and becomes a text only where it differs.
 
 use crate::lives::tables;
-use crate::runs::{LOG, PATH, clear, ended, input_of};
+use crate::runs::{LOG, PATH, clear, input_of, run_program};
 use dh_agency_test_kit::parted;
 use dh_lines::ends::{FailingReader, FailingWriter, InterruptedReader, InterruptedWriter};
 use dh_test_kit::Tally;
@@ -29,7 +29,7 @@ struct Left {
 // A line of a block: the call, the status that is wanted if one stands there, the text that is wanted, the file before the call, and what a
 // run leaves for each number of records, from none to all.
 #[derive(Drop)]
-struct Line<'a> {
+struct CallLine<'a> {
     words: &'a str,
     input: String,
     code: Option<u8>,
@@ -73,7 +73,7 @@ fn standing_tables(rt: &HostRuntime) -> io::Result<String> {
 fn run_of(rt: &HostRuntime, words: &str, input: &str) -> io::Result<Ran> {
     let mut reader = input.as_bytes();
     let mut output = Vec::new(rt.alloc());
-    let code = ended(rt, words, &mut reader, &mut output)?.code();
+    let code = run_program(rt, words, &mut reader, &mut output)?.code();
     Ok(Ran { code, output })
 }
 
@@ -111,7 +111,7 @@ fn each_left(rt: &HostRuntime, before: &[u8], words: &str, input: &str) -> io::R
 }
 
 // The line `WORDS < INPUT -> STATUS TEXT` or `WORDS -> STATUS TEXT`, over the file as it stands.
-fn line_of<'a>(rt: &HostRuntime, text: &'a str) -> io::Result<Line<'a>> {
+fn line_of<'a>(rt: &HostRuntime, text: &'a str) -> io::Result<CallLine<'a>> {
     let (told, want) = parted(text);
     let (words, input) = told.split_once(" < ").unwrap_or((told, ""));
     let (code, whole) = want.split_once(' ').unwrap_or((want, ""));
@@ -119,7 +119,7 @@ fn line_of<'a>(rt: &HostRuntime, text: &'a str) -> io::Result<Line<'a>> {
     let whole = whole.replace(rt.alloc(), "\\n", "\n")?;
     let before = kept(rt)?;
     let each = each_left(rt, &before, words, input.as_str())?;
-    Ok(Line {
+    Ok(CallLine {
         words,
         input,
         code: code.parse().ok(),
@@ -167,7 +167,7 @@ fn judge_whole(
     tally: &mut Tally,
     case: Case<'_>,
     got: Option<&Ran>,
-    line: &Line,
+    line: &CallLine,
 ) -> io::Result<()> {
     let want = (line.code, line.whole.as_str().as_bytes());
     match (line.each.last(), got) {
@@ -184,7 +184,7 @@ fn judge_whole(
 
 // Compares what fewer records leave with a beginning of the text that is wanted. Then it plays the line to its end, and compares that with
 // the whole.
-fn play_whole(rt: &HostRuntime, tally: &mut Tally, line: &Line) -> io::Result<()> {
+fn play_whole(rt: &HostRuntime, tally: &mut Tally, line: &CallLine) -> io::Result<()> {
     let whole = line.whole.as_str().as_bytes();
     for (at, left) in line.each.iter().enumerate() {
         let case = Case {
@@ -209,14 +209,14 @@ fn play_whole(rt: &HostRuntime, tally: &mut Tally, line: &Line) -> io::Result<()
     judge_whole(rt, tally, case, Some(&left.ran), line)
 }
 
-fn read_failing(rt: &HostRuntime, line: &Line, reads: usize) -> io::Result<Ran> {
+fn read_failing(rt: &HostRuntime, line: &CallLine, reads: usize) -> io::Result<Ran> {
     put_back(rt, &line.before)?;
     let mut reader = FailingReader {
         inner: line.input.as_bytes(),
         reads: reads as u64,
     };
     let mut output = Vec::new(rt.alloc());
-    let code = ended(rt, line.words, &mut reader, &mut output)?.code();
+    let code = run_program(rt, line.words, &mut reader, &mut output)?.code();
     Ok(Ran { code, output })
 }
 
@@ -224,7 +224,7 @@ fn read_failing(rt: &HostRuntime, line: &Line, reads: usize) -> io::Result<Ran> 
 fn play_read(
     rt: &HostRuntime,
     tally: &mut Tally,
-    line: &Line,
+    line: &CallLine,
     reads: usize,
     want: &Left,
 ) -> io::Result<()> {
@@ -239,19 +239,19 @@ fn play_read(
 }
 
 // Whether the call behind so many is interrupted in a run of its own.
-fn is_to_interrupt(line: &Line, calls: usize) -> bool {
+fn is_to_interrupt(line: &CallLine, calls: usize) -> bool {
     !line.words.contains("--file") || calls % FILE_STEP == 0
 }
 
 // How it ends, where the call came that was to be interrupted.
-fn read_interrupted(rt: &HostRuntime, line: &Line, reads: usize) -> io::Result<Option<Ran>> {
+fn read_interrupted(rt: &HostRuntime, line: &CallLine, reads: usize) -> io::Result<Option<Ran>> {
     put_back(rt, &line.before)?;
     let mut reader = InterruptedReader {
         inner: line.input.as_bytes(),
         calls: (reads as u64).saturating_add(1),
     };
     let mut output = Vec::new(rt.alloc());
-    let code = ended(rt, line.words, &mut reader, &mut output)?.code();
+    let code = run_program(rt, line.words, &mut reader, &mut output)?.code();
     if reader.calls > 0 {
         return Ok(None);
     }
@@ -262,7 +262,7 @@ fn read_interrupted(rt: &HostRuntime, line: &Line, reads: usize) -> io::Result<O
 fn play_interrupted_read(
     rt: &HostRuntime,
     tally: &mut Tally,
-    line: &Line,
+    line: &CallLine,
     reads: usize,
 ) -> io::Result<()> {
     let got = read_interrupted(rt, line, reads)?;
@@ -275,7 +275,7 @@ fn play_interrupted_read(
 }
 
 // Each read in turn fails, and is interrupted, also the one that would find the end.
-fn play_each_read(rt: &HostRuntime, tally: &mut Tally, line: &Line) -> io::Result<()> {
+fn play_each_read(rt: &HostRuntime, tally: &mut Tally, line: &CallLine) -> io::Result<()> {
     for reads in 0..=line.input.len() {
         let read = line.input.as_str().get(..reads).unwrap_or("");
         if let Some(want) = line.each.get(read.matches('\n').count()) {
@@ -318,14 +318,14 @@ fn answering(each: &[Left], writes: usize) -> Option<&Left> {
     None
 }
 
-fn write_failing(rt: &HostRuntime, line: &Line, writes: usize) -> io::Result<Ran> {
+fn write_failing(rt: &HostRuntime, line: &CallLine, writes: usize) -> io::Result<Ran> {
     put_back(rt, &line.before)?;
     let mut reader = line.input.as_bytes();
     let mut writer = FailingWriter {
         inner: Vec::new(rt.alloc()),
         writes: writes as u64,
     };
-    let code = ended(rt, line.words, &mut reader, &mut writer)?.code();
+    let code = run_program(rt, line.words, &mut reader, &mut writer)?.code();
     Ok(Ran {
         code,
         output: writer.inner,
@@ -337,7 +337,7 @@ fn play_write(
     rt: &HostRuntime,
     tally: &mut Tally,
     code: u8,
-    line: &Line,
+    line: &CallLine,
     writes: usize,
     want: &Left,
 ) -> io::Result<()> {
@@ -353,14 +353,14 @@ fn play_write(
 }
 
 // How it ends, where the call came that was to be interrupted.
-fn write_interrupted(rt: &HostRuntime, line: &Line, writes: usize) -> io::Result<Option<Ran>> {
+fn write_interrupted(rt: &HostRuntime, line: &CallLine, writes: usize) -> io::Result<Option<Ran>> {
     put_back(rt, &line.before)?;
     let mut reader = line.input.as_bytes();
     let mut writer = InterruptedWriter {
         inner: Vec::new(rt.alloc()),
         calls: (writes as u64).saturating_add(1),
     };
-    let code = ended(rt, line.words, &mut reader, &mut writer)?.code();
+    let code = run_program(rt, line.words, &mut reader, &mut writer)?.code();
     if writer.calls > 0 {
         return Ok(None);
     }
@@ -372,7 +372,7 @@ fn write_interrupted(rt: &HostRuntime, line: &Line, writes: usize) -> io::Result
 fn play_interrupted_write(
     rt: &HostRuntime,
     tally: &mut Tally,
-    line: &Line,
+    line: &CallLine,
     writes: usize,
 ) -> io::Result<()> {
     let got = write_interrupted(rt, line, writes)?;
@@ -389,7 +389,7 @@ fn play_each_write(
     rt: &HostRuntime,
     tally: &mut Tally,
     code: u8,
-    line: &Line,
+    line: &CallLine,
     count: usize,
 ) -> io::Result<()> {
     for writes in 0..count {

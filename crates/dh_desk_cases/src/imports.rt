@@ -3,7 +3,7 @@
 //! which each opens the run of the last record and does not end it.
 
 use crate::lives::tables;
-use crate::runs::{clear, outcome, ran};
+use crate::runs::{clear, outcome, run_letting};
 use dh_agency_test_kit::{compare, parted};
 use dh_test_kit::Tally;
 use std::alloc::{AllocError, Global};
@@ -67,7 +67,7 @@ fn play_import(
     time: Time,
 ) -> io::Result<()> {
     let import = import_of(rt, lines, before, time)?;
-    let got = ran(rt, "batch --file F", import.input.as_str())?;
+    let got = run_letting(rt, "batch --file F", import.input.as_str())?;
     // While the run is open, some are refused.
     let code = if matches!(time, Time::WhileOpen) {
         1
@@ -88,7 +88,7 @@ fn play_import(
 // Makes the file, and imports the first records.
 fn begin(rt: &HostRuntime, tally: &mut Tally, lines: &[&str]) -> io::Result<()> {
     clear(rt);
-    let made = ran(rt, "init --file F --first 2025-01", "")?;
+    let made = run_letting(rt, "init --file F --first 2025-01", "")?;
     compare(rt, tally, "init", made.as_str(), "0 created 2025-01\\n")?;
     play_import(rt, tally, lines, 0, Time::First)
 }
@@ -112,13 +112,13 @@ fn play_left_open(
     begin(rt, tally, lines.get(..firsts).unwrap_or(lines))?;
     let (told, want) = parted(opening);
     let (words, input) = told.split_once(" < ").unwrap_or((told, ""));
-    let got = ran(rt, words, input)?;
+    let got = run_letting(rt, words, input)?;
     compare(rt, tally, told, got.as_str(), want)?;
     let open = tables(rt)?;
     play_import(rt, tally, lines, lines.len(), Time::WhileOpen)?;
     let still_open = tables(rt)?;
     compare(rt, tally, told, still_open.as_str(), open.as_str())?;
-    let recovered = ran(rt, "recover --file F", "")?;
+    let recovered = run_letting(rt, "recover --file F", "")?;
     compare(rt, tally, told, recovered.as_str(), "0 recovered\\n")?;
     play_import(rt, tally, lines, lines.len(), Time::Again)?;
     Ok(tables(rt)?)

@@ -6,7 +6,7 @@
 //! - `note` says how a sum was reckoned.
 
 use crate::lives::edited;
-use crate::runs::{clear, ended};
+use crate::runs::{clear, run_program};
 use dh_agency_test_kit::{compare, parted};
 use dh_test_kit::Tally;
 use std::alloc::{AllocError, Global};
@@ -79,10 +79,10 @@ fn first_other<'a>(got: &'a str, want: &str) -> (usize, &'a str) {
 }
 
 // The status of the run of these words, and where it prints another line than is wanted.
-fn ran(rt: &HostRuntime, words: &str, telling: &Telling) -> Result<String, AllocError> {
+fn run_letting(rt: &HostRuntime, words: &str, telling: &Telling) -> Result<String, AllocError> {
     let mut reader = telling.input.as_bytes();
     let mut out = Vec::new(rt.alloc());
-    let code = ended(rt, words, &mut reader, &mut out)?.code();
+    let code = run_program(rt, words, &mut reader, &mut out)?.code();
     let got = str::from_utf8(&out).unwrap_or("no text");
     let want = telling.want.as_str();
     if got == want {
@@ -100,7 +100,7 @@ fn outcome(
     words: &str,
 ) -> Result<String, AllocError> {
     match kind {
-        "letting" => ran(rt, words, telling),
+        "letting" => run_letting(rt, words, telling),
         "edit" => edited(rt, telling.input.as_str())
             .unwrap_or("not done")
             .to_string(rt.alloc()),

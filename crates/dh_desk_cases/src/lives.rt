@@ -1,11 +1,11 @@
 //! Lives of a path. A line `letting WORDS -> STATUS TEXT` is a run, and so is `letting WORDS < INPUT -> STATUS TEXT` with an input; a run
-//! behind `crack` has a file that can't be closed, and one behind `moved`, `removed` or `replaced` a file that is so by the first line that it
+//! behind `unclosable` has a file that can't be closed, and one behind `moved`, `removed` or `replaced` a file that is so by the first line that it
 //! prints. `answer` has what else a line may be.
 
-use crate::cracks::cracked;
-use crate::moved_files::ran_while;
+use crate::moved_files::run_while_changed;
 use crate::patterns::spread;
-use crate::runs::{LOG, MOVED, PATH, clear, ran, standing};
+use crate::runs::{LOG, MOVED, PATH, clear, run_letting, standing};
+use crate::unclosable_files::run_unclosable;
 use dh_agency_test_kit::{all_rows, compare, parted, rows_of};
 use dh_test_kit::Tally;
 use sqlite::Connection;
@@ -35,7 +35,7 @@ pub fn tables(rt: &HostRuntime) -> Result<String, AllocError> {
 // What the run of these words comes to.
 fn run(rt: &HostRuntime, words: &str) -> Result<String, AllocError> {
     let (words, input) = words.split_once(" < ").unwrap_or((words, ""));
-    ran(rt, words, input)
+    run_letting(rt, words, input)
 }
 
 // Makes a folder at the path or at its log's, or a link to this place, or a file with this text.
@@ -90,8 +90,8 @@ fn answer(rt: &HostRuntime, kept: &mut Vec<u8>, kind: &str, rest: &str) -> io::R
     let alloc = rt.alloc();
     match kind {
         "letting" => Ok(run(rt, rest)?),
-        "crack" => cracked(rt, rest),
-        "moved" | "removed" | "replaced" => ran_while(rt, kind, rest),
+        "unclosable" => run_unclosable(rt, rest),
+        "moved" | "removed" | "replaced" => run_while_changed(rt, kind, rest),
         "log-bytes" => Ok(format!(in alloc; "{}", fs::metadata(rt, LOG)?.len())?),
         "leads" => Ok(fs::read_link(rt, PATH)?.into_string()),
         "rows" => Ok(rows_of(tables(rt)?.as_str(), rest).to_string(alloc)?),

@@ -4,8 +4,8 @@
 //! A block of cases has its kind in the first line, and is the life of one path, which is written `F`. In texts `\n` is a line feed.
 #![tactic(auto)]
 
+mod answers_in_turn;
 mod consoles;
-mod cracks;
 mod edits;
 mod failures;
 mod forms;
@@ -23,18 +23,18 @@ mod peers;
 mod runs;
 mod second_runs;
 mod slow_peers;
-mod turns;
 mod unasked;
+mod unclosable_files;
 mod ways;
 
-use dh_test_kit::{Tally, kinds};
+use dh_test_kit::{Tally, blocks_in};
 use std::io;
 
 fn play(rt: &HostRuntime, tally: &mut Tally, kind: &str, lines: &str) -> io::Result<()> {
     match kind {
         "edited files" => edits::play(rt, tally, lines),
         "edited files of the first version" => edits::play_first(rt, tally, lines),
-        "answers in turn" => turns::play(rt, tally, lines),
+        "answers in turn" => answers_in_turn::play(rt, tally, lines),
         "an import" => imports::play(rt, tally, lines),
         "large offices" => large::play(rt, tally, lines),
         "long inputs" => many::play(rt, tally, lines),
@@ -54,7 +54,7 @@ fn play(rt: &HostRuntime, tally: &mut Tally, kind: &str, lines: &str) -> io::Res
 fn main(rt: HostRuntime) -> io::Result<()> {
     let text = io::read_to_string(rt.alloc(), rt.reader())?;
     let mut tally = Tally::new();
-    for (kind, lines) in kinds(rt.alloc(), text.as_str())? {
+    for (kind, lines) in blocks_in(rt.alloc(), text.as_str())? {
         play(&rt, &mut tally, kind, lines)?;
     }
     println!(rt; "{tally}")

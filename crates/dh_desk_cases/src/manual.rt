@@ -2,7 +2,7 @@
 //! with the answers of `NAME.out`, and `long BYTES` a line with a field of so many bytes.
 
 use crate::pages::play_page;
-use crate::runs::ended;
+use crate::runs::run_program;
 use dh_test_kit::Tally;
 use std::{fs, io, str};
 
@@ -10,7 +10,7 @@ use std::{fs, io, str};
 fn answers_to(rt: &HostRuntime, lines: &[u8]) -> io::Result<Vec<u8>> {
     let mut reader = lines;
     let mut out = Vec::new(rt.alloc());
-    let _ = ended(rt, "batch", &mut reader, &mut out)?;
+    let _ = run_program(rt, "batch", &mut reader, &mut out)?;
     Ok(out)
 }
 

@@ -1,7 +1,7 @@
 //! Long inputs. A line is `COUNT RECORD -> STATUS LINES LAST`: an agency in memory is told the record so many times, and then these are the
 //! program's status, how many lines it printed, and the last of them.
 
-use crate::runs::ended;
+use crate::runs::run_program;
 use dh_agency_test_kit::{compare, parted};
 use dh_test_kit::Tally;
 use std::alloc::{AllocError, Global};
@@ -21,7 +21,7 @@ fn repeated(alloc: Global, record: &str, count: usize) -> Result<String, AllocEr
 fn last_line(rt: &HostRuntime, input: &str) -> Result<String, AllocError> {
     let mut reader = input.as_bytes();
     let mut out = Vec::new(rt.alloc());
-    let status = ended(rt, "batch", &mut reader, &mut out)?;
+    let status = run_program(rt, "batch", &mut reader, &mut out)?;
     let text = str::from_utf8(&out).unwrap_or("no text");
     let last = text.lines().last().unwrap_or("no line");
     format!(in rt.alloc(); "{} {} {last}", status.code(), text.lines().count())

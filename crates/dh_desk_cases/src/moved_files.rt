@@ -2,7 +2,7 @@
 
 ghost use Rattle.std.specs.Prelude.{◌≡◌, Some};
 
-use crate::runs::{MOVED, PATH, ended, input_of, outcome, shown};
+use crate::runs::{MOVED, PATH, input_of, outcome, run_program, shown};
 use std::io::Write;
 use std::{fs, io};
 
@@ -52,7 +52,7 @@ impl Write for Mover<'_> {
 }
 
 /// The status and the output of a run of `WORDS < INPUT` or `WORDS`, whose file is `moved`, `removed` or `replaced`.
-pub fn ran_while(rt: &HostRuntime, kind: &str, told: &str) -> io::Result<String> {
+pub fn run_while_changed(rt: &HostRuntime, kind: &str, told: &str) -> io::Result<String> {
     let (words, input) = told.split_once(" < ").unwrap_or((told, ""));
     let input = input_of(rt.alloc(), input)?;
     let mut reader = input.as_bytes();
@@ -62,7 +62,7 @@ pub fn ran_while(rt: &HostRuntime, kind: &str, told: &str) -> io::Result<String>
         told: Vec::new(rt.alloc()),
         is_changed: false,
     };
-    let status = ended(rt, words, &mut reader, &mut mover)?;
+    let status = run_program(rt, words, &mut reader, &mut mover)?;
     let text = shown(rt.alloc(), &mover.told)?;
     Ok(outcome(rt.alloc(), status.code(), text.as_str())?)
 }

@@ -1,11 +1,11 @@
-//! Places of new files with which another program meddles. A line `take THING N over WHAT -> OUTCOME` takes the place at the path where WHAT
+//! Places of new files with which another program meddles. A line `claim THING N over WHAT -> OUTCOME` takes the place at the path where WHAT
 //! stands, `nothing` or `an empty file`. Just before call N of the file system, THING is put at the path: `a text`, `a link` or `a folder`.
 //! A line `clear THING N over WHAT -> OUTCOME` does so while a place is cleared that was taken and filled. OUTCOME says what came of it,
 //! and what stands at the path then.
 
 use crate::runs::{LOG, PATH, clear};
 use dh_agency_test_kit::{compare, parted};
-use dh_jobs::places::Place;
+use dh_jobs::paths::NewFile;
 use dh_test_kit::Tally;
 use std::alloc::{Allocator, Global};
 use std::cell::Cell;
@@ -161,26 +161,26 @@ fn found(rt: &HostRuntime) -> io::Result<String> {
 }
 
 // What comes of taking the place under this runtime.
-fn took(rt: &HostRuntime, meddler: &Meddler) -> io::Result<String> {
-    match Place::take(meddler, PATH) {
-        Ok(place) => {
-            drop(place);
-            Ok(format!(in rt.alloc(); "taken, {}", found(rt)?.as_str())?)
+fn claim_path(rt: &HostRuntime, meddler: &Meddler) -> io::Result<String> {
+    match NewFile::claim(meddler, PATH) {
+        Ok(new_file) => {
+            drop(new_file);
+            Ok(format!(in rt.alloc(); "claimed, {}", found(rt)?.as_str())?)
         }
         Err(fault) => Ok(format!(in rt.alloc(); "{fault}, {}", found(rt)?.as_str())?),
     }
 }
 
 // What comes of clearing the place under this runtime, behind bytes in the file and in its log.
-fn cleared(rt: &HostRuntime, meddler: &Meddler) -> io::Result<String> {
-    let place = match Place::take(rt, PATH) {
-        Ok(place) => place,
+fn clear_path(rt: &HostRuntime, meddler: &Meddler) -> io::Result<String> {
+    let new_file = match NewFile::claim(rt, PATH) {
+        Ok(new_file) => new_file,
         Err(fault) => return Ok(format!(in rt.alloc(); "{fault}")?),
     };
     fs::write(rt, PATH, "a page")?;
     fs::write(rt, LOG, "a log with more than the bytes of its head")?;
-    place.clear(meddler);
-    drop(place);
+    new_file.clear(meddler);
+    drop(new_file);
     found(rt)
 }
 
@@ -199,8 +199,8 @@ fn outcome(rt: &HostRuntime, words: &str) -> io::Result<String> {
         calls: Cell::new(number.parse::<u32>().unwrap_or(0)),
     };
     match does {
-        "take" => took(rt, &meddler),
-        _ => cleared(rt, &meddler),
+        "claim" => claim_path(rt, &meddler),
+        _ => clear_path(rt, &meddler),
     }
 }
 

@@ -8,7 +8,7 @@ ghost use Rattle.std.specs.Prelude.{◌≡◌, Some};
 use crate::haste::serve_in_haste;
 use crate::lives;
 use crate::patterns::spread;
-use crate::runs::{clear, ended, outcome, ran, shown};
+use crate::runs::{clear, outcome, run_letting, run_program, shown};
 use dh_agency_test_kit::{compare, parted};
 use dh_test_kit::Tally;
 use std::alloc::{AllocError, Global};
@@ -187,7 +187,7 @@ fn judged(rt: &HostRuntime, tally: &mut Tally, asks: &[Ask], caller: Caller) -> 
 fn served(rt: &HostRuntime, tally: &mut Tally, asks: &[Ask], words: &str) -> io::Result<String> {
     let mut caller = Caller::new(rt, asks);
     let mut reader: &[u8] = b"";
-    let status = ended(rt, words, &mut reader, &mut caller)?;
+    let status = run_program(rt, words, &mut reader, &mut caller)?;
     let rest = judged(rt, tally, asks, caller)?;
     Ok(outcome(rt.alloc(), status.code(), rest.as_str())?)
 }
@@ -205,7 +205,7 @@ fn refused(rt: &HostRuntime, words: &str) -> io::Result<String> {
     let listener = TcpListener::bind(rt, "127.0.0.1:0")?;
     let port = listener.local_addr()?.port();
     let words = format!(in rt.alloc(); "serve --port {port} {words}")?;
-    Ok(ran(rt, words.as_str(), "")?)
+    Ok(run_letting(rt, words.as_str(), "")?)
 }
 
 // Plays a line behind those above it, of which these requests were not sent yet.

@@ -5,7 +5,7 @@
 ghost use Rattle.std.specs.Prelude.{◌≡◌, Some};
 
 use crate::lives;
-use crate::runs::{LOG, PATH, clear, ended, input_of, outcome, ran, shown};
+use crate::runs::{LOG, PATH, clear, input_of, outcome, run_letting, run_program, shown};
 use dh_agency_test_kit::{compare, parted};
 use dh_test_kit::Tally;
 use std::io::Write;
@@ -15,7 +15,7 @@ use std::{fs, io};
 fn tried(rt: &HostRuntime, told: &str) -> io::Result<String> {
     let (words, input) = told.split_once(" < ").unwrap_or((told, ""));
     let (file, log) = (fs::read(rt, PATH)?, fs::read(rt, LOG)?);
-    let came = ran(rt, words, input)?;
+    let came = run_letting(rt, words, input)?;
     if fs::read(rt, PATH)?.as_slice() == file.as_slice()
         && fs::read(rt, LOG)?.as_slice() == log.as_slice()
     {
@@ -96,7 +96,7 @@ fn held(rt: &HostRuntime, tally: &mut Tally, seconds: &[String], told: &str) -> 
         told: Vec::new(rt.alloc()),
         came: Vec::new(rt.alloc()),
     };
-    let status = ended(rt, words, &mut reader, &mut holder)?;
+    let status = run_program(rt, words, &mut reader, &mut holder)?;
     judge(rt, tally, seconds, &holder.came)?;
     let text = shown(rt.alloc(), &holder.told)?;
     Ok(outcome(rt.alloc(), status.code(), text.as_str())?)

@@ -3,7 +3,7 @@
 use crate::forms::{answer_of, request_of};
 use crate::runs::shown;
 use dh_agency::Agency;
-use dh_agency_test_kit::reply_line as told_by_call;
+use dh_agency_test_kit::reply_line as reply_by_call;
 use dh_fields::Request;
 use dh_http::serve_one;
 use dh_lines::{batch, put_answer_line};
@@ -43,7 +43,7 @@ fn reply_in(alloc: Global, line: &[u8]) -> Result<String, AllocError> {
     text.strip_suffix("\\n").unwrap_or(text).to_string(alloc)
 }
 
-fn asked<S: Alter>(
+fn answer_to_question<S: Alter>(
     alloc: Global,
     agency: &mut Agency<S>,
     question: &Question,
@@ -58,19 +58,19 @@ fn asked<S: Alter>(
     }
 }
 
-fn called<S: Alter>(
+fn answer_by_call<S: Alter>(
     alloc: Global,
     agency: &mut Agency<S>,
     line: &str,
 ) -> Result<String, AllocError> {
     let read = request(alloc, line);
     match &read {
-        Ok(Request::Question(question)) => asked(alloc, agency, question),
-        _ => told_by_call(alloc, agency, line),
+        Ok(Request::Question(question)) => answer_to_question(alloc, agency, question),
+        _ => reply_by_call(alloc, agency, line),
     }
 }
 
-fn batched<S: Alter>(
+fn answer_by_batch<S: Alter>(
     alloc: Global,
     agency: &mut Agency<S>,
     line: &str,
@@ -85,7 +85,7 @@ fn batched<S: Alter>(
     }
 }
 
-fn served<S: Alter>(
+fn answer_by_request<S: Alter>(
     alloc: Global,
     agency: &mut Agency<S>,
     line: &str,
@@ -116,9 +116,9 @@ pub fn outcome_line<S: Alter>(
     line: &str,
 ) -> Result<String, AllocError> {
     match way_of(way, line) {
-        Way::Call => called(alloc, agency, line),
-        Way::Batch => batched(alloc, agency, line),
-        Way::Request => served(alloc, agency, line),
+        Way::Call => answer_by_call(alloc, agency, line),
+        Way::Batch => answer_by_batch(alloc, agency, line),
+        Way::Request => answer_by_request(alloc, agency, line),
     }
 }
 

@@ -15,7 +15,7 @@ mod stories;
 mod trial_disks;
 
 use dh_agency_test_kit::compare;
-use dh_test_kit::{Tally, kinds};
+use dh_test_kit::{Tally, blocks_in};
 use disk_work::Work;
 use disks::Failures;
 use series::Recoveries;
@@ -47,7 +47,7 @@ fn play(rt: &HostRuntime, tally: &mut Tally, kind: &str, lines: &str) -> io::Res
 fn main(rt: HostRuntime) -> io::Result<()> {
     let text = io::read_to_string(rt.alloc(), rt.reader())?;
     let mut tally = Tally::new();
-    for (kind, lines) in kinds(rt.alloc(), text.as_str())? {
+    for (kind, lines) in blocks_in(rt.alloc(), text.as_str())? {
         play(&rt, &mut tally, kind, lines)?;
     }
     println!(rt; "{tally}")

@@ -5,7 +5,7 @@
 
 use crate::chapters::{Mark, Stops, chapters_of, place_of};
 use crate::disk_work::{Finding, Work, found_in_turn};
-use crate::series::{compare_end, compare_whole, is_recovered, play_lives, play_stops};
+use crate::series::{are_all_recovered, compare_end, compare_whole, play_lives, play_stops};
 use crate::stories::{Story, begun, if_played, played_up_to};
 use dh_agency_test_kit::{compare, parted, rows_of};
 use dh_lives::{Measures, Rehearsed, Stop, Which, copy_of};
@@ -73,7 +73,7 @@ fn play_second(
     let Some(account) = play_lives(rt, tally, story, stops)? else {
         return Ok(None);
     };
-    if is_recovered(&account) {
+    if are_all_recovered(&account) {
         return Ok(None);
     }
     let is_moment = is_left_by_second(story.block, tables.as_str());

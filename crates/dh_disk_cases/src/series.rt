@@ -111,7 +111,7 @@ fn cut_of(account: &Account) -> Option<usize> {
 }
 
 /// Whether each recovery returned.
-pub fn is_recovered(account: &Account) -> bool {
+pub fn are_all_recovered(account: &Account) -> bool {
     for lived in &account.lives {
         if !lived.recovered {
             return false;
@@ -123,19 +123,19 @@ pub fn is_recovered(account: &Account) -> bool {
 // What a stop hits: a recovery, or a command, or nothing.
 #[derive(Clone, Copy, PartialEq, Eq)]
 struct Hit {
-    is_recovered: bool,
+    are_all_recovered: bool,
     cut: Option<usize>,
 }
 
 impl Hit {
     const NOTHING: Hit = Hit {
-        is_recovered: true,
+        are_all_recovered: true,
         cut: None,
     };
 
     fn of(account: &Account) -> Hit {
         Hit {
-            is_recovered: is_recovered(account),
+            are_all_recovered: are_all_recovered(account),
             cut: cut_of(account),
         }
     }
@@ -218,7 +218,7 @@ fn play_recoveries_of(
         let Some(account) = play_lives(rt, tally, story, stops)? else {
             return Ok(());
         };
-        let is_last = is_recovered(&account);
+        let is_last = are_all_recovered(&account);
         if is_last || after == 0 {
             compare_whole(rt, tally, story, stops, &account)?;
         }

@@ -14,7 +14,7 @@ use Rattle.dh_fields.proofs.SpelledTexts.{is_small, plain}
 use Rattle.dh_fields.specs.declared.unread.Unread.{Unread}
 use Rattle.dh_fields.specs.declared.unread.Unread.TheVariants.{Memory, Field}
 use Rattle.dh_fields.specs.Lines.{Fields, Form, field, first_bad, form_of, judged, tests_of, value_among}
-use Rattle.dh_fields.specs.Readings.{Gives, IsNoText, ReadsForm, Tells, bad_from, has_field, is_field, wants_among, wants_from}
+use Rattle.dh_fields.specs.Readings.{Gives, IsAsWanted, IsNoText, ReadsForm, bad_from, has_field, is_field, wants_among, wants_from}
 
 -- ---- the first bad field, by number
 
@@ -43,7 +43,7 @@ same_bad (test ∷ tests) fields n =
 -- ---- what was read is what is wanted
 
 told : {T : Type 0} (r : Result T Unread) (bad : Option ℕ) (is_wanted : Bool) (value : T) → Gives r bad is_wanted value
-    → Tells r (judged bad value) is_wanted
+    → IsAsWanted r (judged bad value) is_wanted
 told (Ok x) bad is_wanted value h = rw (h.0, h.1) refl
 told (Err (Field k)) bad is_wanted value h = rw h refl
 told (Err Memory) bad is_wanted value h = h
@@ -55,7 +55,7 @@ field_is fields n text is = get_or_from_slice_get ([] ∷ fields) n text [] is
 module _ {T : Type 0} (forms : List (Form T)) (n : ℕ) (fields : Fields) where
   -- the line of a word
   pub told_as : (form : Form T) (word : List ℕ) (r : Result T Unread) → slice_get ([] ∷ fields) n ≡ Some word → word ≡ form.word
-      → form_of forms form.word ≡ Some form → ReadsForm form n fields r → Tells r (value_among forms n fields) (wants_from (n + 1) form.columns fields)
+      → form_of forms form.word ≡ Some form → ReadsForm form n fields r → IsAsWanted r (value_among forms n fields) (wants_from (n + 1) form.columns fields)
   unfolding value_among
   told_as form word r is same found h =
       let bad : first_bad (n + 1) (tests_of form) (drop n fields) ≡ bad_from (n + 1) (tests_of form) fields =
@@ -69,7 +69,7 @@ module _ {T : Type 0} (forms : List (Form T)) (n : ℕ) (fields : Fields) where
 
   -- the line of a word, and whether memory is wanted for it
   pub named : (form : Form T) (word : List ℕ) (r : Result T Unread) → slice_get ([] ∷ fields) n ≡ Some word → word ≡ form.word
-      → form_of forms form.word ≡ Some form → ReadsForm form n fields r → Tells r (value_among forms n fields) (wants_among forms n fields)
+      → form_of forms form.word ≡ Some form → ReadsForm form n fields r → IsAsWanted r (value_among forms n fields) (wants_among forms n fields)
   named form word r is same found h = rw (wanted form word is same found) (told_as form word r is same found h)
 
   -- no form has the word
@@ -116,11 +116,11 @@ module _ {T : Type 0} (forms : List (Form T)) (n : ℕ) (fields : Fields) (texts
 
   -- a `?` that hands this on
   pub no_text : (is_wanted : Bool) (r : Result T Unread) (e : Unread) → IsErrAnd r (λ y. y ≡ e) → (e ≡ Field n) × IsNoText (slice_get ([] ∷ fields) n)
-      → Tells r (value_among forms n fields) is_wanted
+      → IsAsWanted r (value_among forms n fields) is_wanted
   no_text is_wanted (Ok x) e is h = absurd is
   no_text is_wanted (Err y) e is h =
       let place : y ≡ Field n = is ∙ h.0 in
-      let P : Unread → Type 0 = λ z. Tells {T = T} (Err z) (value_among forms n fields) is_wanted in
+      let P : Unread → Type 0 = λ z. IsAsWanted {T = T} (Err z) (value_among forms n fields) is_wanted in
       subst P (sym place) (wordless h.1)
 
 pub unknown : {T : Type 0} (forms : List (Form T)) (n : ℕ) (fields : Fields) (word : List ℕ) → slice_get ([] ∷ fields) n ≡ Some word → IsOther forms word

@@ -15,7 +15,7 @@ use Rattle.dh_values.proofs.Ascii.{and_left}
 use Rattle.dh_values.specs.Texts.{is_text}
 use Rattle.dh_fields.specs.declared.unread.Unread.{Unread}
 use Rattle.dh_fields.specs.declared.unread.Unread.TheVariants.{Field, Memory}
-use Rattle.dh_fields.specs.FieldKinds.{Kind, optional, plain, spelled}
+use Rattle.dh_fields.specs.FieldKinds.{FieldKind, optional, plain, spelled}
 use Rattle.dh_fields.specs.Lines.{Fields, field}
 use Rattle.dh_fields.specs.Readings.{IsNoText, Reads, ReadsWanting, StopsAt, is_field, passes}
 
@@ -47,17 +47,17 @@ no_text : (test : List ℕ → Bool) (found : Option (List ℕ)) → ((text : Li
 no_text test None texts h = refl
 no_text test (Some bytes) texts h = not_true (test bytes) (λ p. h (texts bytes p))
 
-module _ {T : Type 0} (kind : Kind T) (fields : Fields) (n : ℕ) (is_wanted : Bool) where
-  bad : is_field kind.takes fields n ≡ false → StopsAt (Field n) (if is_field kind.takes fields n then None else Some n) is_wanted
+module _ {T : Type 0} (kind : FieldKind T) (fields : Fields) (n : ℕ) (is_wanted : Bool) where
+  bad : is_field kind.accepts fields n ≡ false → StopsAt (Field n) (if is_field kind.accepts fields n then None else Some n) is_wanted
   bad h = rw h refl
 
   -- a `?` that hands on what is no text
-  pub stops : ((text : List ℕ) → kind.takes text ≡ true → IsUtf8 text) → (r : Result T Unread) (e : Unread) → IsErrAnd r (λ y. y ≡ e)
+  pub stops : ((text : List ℕ) → kind.accepts text ≡ true → IsUtf8 text) → (r : Result T Unread) (e : Unread) → IsErrAnd r (λ y. y ≡ e)
       → (e ≡ Field n) × IsNoText (slice_get ([] ∷ fields) n) → ReadsWanting is_wanted kind fields n r
   stops texts (Ok x) e is h = absurd is
   stops texts (Err y) e is h =
       let place : y ≡ Field n = is ∙ h.0 in
-      subst (λ z. ReadsWanting is_wanted kind fields n (Err z)) (sym place) (bad (no_text kind.takes _ texts h.1))
+      subst (λ z. ReadsWanting is_wanted kind fields n (Err z)) (sym place) (bad (no_text kind.accepts _ texts h.1))
 
   -- a `?` that hands on want of memory
   pub wants : (r : Result T Unread) → IsErrAnd r (λ y. y ≡ Memory) → is_wanted ≡ true → ReadsWanting is_wanted kind fields n r
@@ -69,11 +69,11 @@ module _ {T : Type 0} (kind : Kind T) (fields : Fields) (n : ℕ) (is_wanted : B
     unfolding field
     found = get_or_from_slice_get ([] ∷ fields) n text [] is
 
-    taken : (value : T) → kind.takes text ≡ true → value ≡ kind.value text → ReadsWanting is_wanted kind fields n (Ok value)
-    taken value h same = (ap (passes kind.takes) is ∙ h, same ∙ ap kind.value (sym found))
+    taken : (value : T) → kind.accepts text ≡ true → value ≡ kind.value text → ReadsWanting is_wanted kind fields n (Ok value)
+    taken value h same = (ap (passes kind.accepts) is ∙ h, same ∙ ap kind.value (sym found))
 
-    refused : (kind.takes text ≡ true → ⊥) → ReadsWanting is_wanted kind fields n (Err (Field n))
-    refused h = bad (ap (passes kind.takes) is ∙ not_true (kind.takes text) h)
+    refused : (kind.accepts text ≡ true → ⊥) → ReadsWanting is_wanted kind fields n (Err (Field n))
+    refused h = bad (ap (passes kind.accepts) is ∙ not_true (kind.accepts text) h)
 
 apart : false ≡ true → ⊥
 apart h = cc
@@ -91,7 +91,7 @@ module _ {T : Type 0} (read : List ℕ → Option T) (other : T) where
   some (Some x) h = (x, refl)
 
   -- texts that are read are text
-  pub texts : ((x : T) (text : List ℕ) → read text ≡ Some x → IsUtf8 text) → (text : List ℕ) → (spelled read other).takes text ≡ true → IsUtf8 text
+  pub texts : ((x : T) (text : List ℕ) → read text ≡ Some x → IsUtf8 text) → (text : List ℕ) → (spelled read other).accepts text ≡ true → IsUtf8 text
   texts all text h = let x = some (read text) h in all x.0 text x.1
 
   -- a value that a text spells
@@ -114,18 +114,18 @@ nothing : (text : List ℕ) → (length text == 0) ≡ true → IsUtf8 text
 nothing [] h = IsUtf8-nil
 nothing (b ∷ bs) h = absurd (none_left (length bs) (eqb-true (suc (length bs)) 0 h))
 
-pub texts_or_nothing : {T : Type 0} (kind : Kind T) → ((text : List ℕ) → kind.takes text ≡ true → IsUtf8 text)
-    → (text : List ℕ) → (optional kind).takes text ≡ true → IsUtf8 text
-texts_or_nothing kind all text h = elim (either (length text == 0) (kind.takes text) h) as (λ _. IsUtf8 text) [ inl p ↦ nothing text p | inr p ↦ all text p ]
+pub texts_or_nothing : {T : Type 0} (kind : FieldKind T) → ((text : List ℕ) → kind.accepts text ≡ true → IsUtf8 text)
+    → (text : List ℕ) → (optional kind).accepts text ≡ true → IsUtf8 text
+texts_or_nothing kind all text h = elim (either (length text == 0) (kind.accepts text) h) as (λ _. IsUtf8 text) [ inl p ↦ nothing text p | inr p ↦ all text p ]
 
-module _ {T : Type 0} (kind : Kind T) (fields : Fields) (n : ℕ) (is_wanted : Bool) (text : List ℕ) (is : slice_get ([] ∷ fields) n ≡ Some text) where
+module _ {T : Type 0} (kind : FieldKind T) (fields : Fields) (n : ℕ) (is_wanted : Bool) (text : List ℕ) (is : slice_get ([] ∷ fields) n ≡ Some text) where
   pub reads_nothing : (length text == 0) ≡ true → ReadsWanting is_wanted (optional kind) fields n (Ok None)
   reads_nothing h = taken (optional kind) fields n is_wanted text is None (rw h refl) (rw h refl)
 
-  same_test : (length text == 0) ≡ false → is_field (optional kind).takes fields n ≡ is_field kind.takes fields n
+  same_test : (length text == 0) ≡ false → is_field (optional kind).accepts fields n ≡ is_field kind.accepts fields n
   same_test h =
-      let either_way : passes (optional kind).takes (Some text) ≡ passes kind.takes (Some text) = rw h refl in
-      ap (passes (optional kind).takes) is ∙ either_way ∙ sym (ap (passes kind.takes) is)
+      let either_way : passes (optional kind).accepts (Some text) ≡ passes kind.accepts (Some text) = rw h refl in
+      ap (passes (optional kind).accepts) is ∙ either_way ∙ sym (ap (passes kind.accepts) is)
 
   pub reads_something : (length text == 0) ≡ false → (before : Bool) (value : T) → ReadsWanting before kind fields n (Ok value)
       → ReadsWanting is_wanted (optional kind) fields n (Ok (Some value))

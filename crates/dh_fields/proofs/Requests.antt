@@ -15,7 +15,7 @@ use Rattle.dh_fields.specs.declared.request.Request.TheVariants as request
 use Rattle.dh_fields.specs.declared.unread.Unread.{Unread}
 use Rattle.dh_fields.specs.declared.unread.Unread.TheVariants.{Memory, Field}
 use Rattle.dh_fields.specs.Lines.{Fields, IsShown, a_command, a_question, command_forms, field, question_forms, request_of, value_among}
-use Rattle.dh_fields.specs.Readings.{GivesUp, IsNoText, Tells, wants_among, wants_text}
+use Rattle.dh_fields.specs.Readings.{GivesUp, IsAsWanted, IsNoText, wants_among, wants_text}
 
 -- whether field 1 is `show`
 abbrev pub is_show : Fields → Bool
@@ -32,7 +32,7 @@ module _ {T : Type 0} (whole : Result Request Refusal) (part : Result T Refusal)
   gives Memory h = wants h
 
   -- a `?` that hands on what was wrong
-  handed : (r : Result Request Unread) (e : Unread) → IsErrAnd r (λ y. y ≡ e) → GivesUp e part before → Tells r whole after
+  handed : (r : Result Request Unread) (e : Unread) → IsErrAnd r (λ y. y ≡ e) → GivesUp e part before → IsAsWanted r whole after
   handed (Ok x) e is h = absurd is
   handed (Err y) e is h = subst (λ z. GivesUp z whole after) (sym is) (gives e h)
 
@@ -42,7 +42,7 @@ module _ (fields : Fields) where
   asked show it h = rw show (ap a_question h)
 
   pub asked_badly : is_show fields ≡ true → (r : Result Request Unread) (e : Unread) → IsErrAnd r (λ y. y ≡ e)
-      → GivesUp e (value_among question_forms 2 fields) false → Tells r (request_of fields) (wants_text fields)
+      → GivesUp e (value_among question_forms 2 fields) false → IsAsWanted r (request_of fields) (wants_text fields)
   unfolding request_of
   asked_badly show =
       handed (request_of fields) (value_among question_forms 2 fields) (wants_text fields) false (λ refusal h. rw show (ap a_question h)) (λ h. absurd (cc))
@@ -52,7 +52,7 @@ module _ (fields : Fields) where
   commanded show it h = rw show (ap a_command h)
 
   pub commanded_badly : is_show fields ≡ false → (r : Result Request Unread) (e : Unread) → IsErrAnd r (λ y. y ≡ e)
-      → GivesUp e (value_among command_forms 1 fields) (wants_among command_forms 1 fields) → Tells r (request_of fields) (wants_text fields)
+      → GivesUp e (value_among command_forms 1 fields) (wants_among command_forms 1 fields) → IsAsWanted r (request_of fields) (wants_text fields)
   unfolding request_of wants_text
   commanded_badly show =
       handed (request_of fields) (value_among command_forms 1 fields) (wants_text fields) (wants_among command_forms 1 fields)
@@ -67,7 +67,7 @@ module _ (fields : Fields) where
 
   -- there is no word
   pub says_nothing : (r : Result Request Unread) (e : Unread) → IsErrAnd r (λ y. y ≡ e) → (e ≡ Field 1) × IsNoText (slice_get ([] ∷ fields) 1)
-      → Tells r (request_of fields) (wants_text fields)
+      → IsAsWanted r (request_of fields) (wants_text fields)
   says_nothing r e is h =
       let P : Unread → Type 0 = λ z. GivesUp z (value_among command_forms 1 fields) (wants_among command_forms 1 fields) in
       commanded_badly (shows_nothing _ refl h.1) r e is (subst P (sym h.0) (wordless command_forms 1 fields refl refl h.1))

@@ -1,5 +1,5 @@
 pub mod FieldKinds
-pub mod Places
+pub mod FieldSources
 pub mod Lines
 pub mod Readings
 pub mod PropertyFields

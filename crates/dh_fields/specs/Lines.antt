@@ -7,7 +7,7 @@ use Rattle.dh_types.specs.declared.question.Question.{Question}
 use Rattle.dh_types.specs.declared.question.Question.TheVariants as question
 use Rattle.dh_types.specs.declared.reply.Refusal.{Refusal}
 use Rattle.dh_types.specs.declared.reply.Refusal.TheVariants.{BadLine}
-use Rattle.dh_fields.specs.FieldKinds.{Kind, amount, batch_count, comment, day, fee, id, key, lease_no, method, month, months, optional, position}
+use Rattle.dh_fields.specs.FieldKinds.{FieldKind, amount, batch_count, comment, day, fee, id, key, lease_no, method, month, months, optional, position}
 use Rattle.dh_fields.specs.FieldKinds.{property_type, receipt_kind, rent, rooms, text60}
 use Rattle.dh_fields.specs.declared.request.Request.{Request}
 use Rattle.dh_fields.specs.declared.request.Request.TheVariants as request
@@ -33,19 +33,19 @@ pub data Column : Type 0 where
   Value : (List ℕ → Bool) → Column
   Copied : (List ℕ → Bool) → (List ℕ → Bool) → Column
 
-abbrev pub value : {T : Type 0} → Kind T → Column
-value kind = Value kind.takes
+abbrev pub value : {T : Type 0} → FieldKind T → Column
+value kind = Value kind.accepts
 
-abbrev pub copied : {T : Type 0} → Kind T → Column
-copied kind = Copied kind.takes kind.takes
+abbrev pub copied : {T : Type 0} → FieldKind T → Column
+copied kind = Copied kind.accepts kind.accepts
 
-abbrev pub copied_if_any : {T : Type 0} → Kind T → Column
-copied_if_any kind = Copied (optional kind).takes kind.takes
+abbrev pub copied_if_any : {T : Type 0} → FieldKind T → Column
+copied_if_any kind = Copied (optional kind).accepts kind.accepts
 
 -- the test that its field passes
 abbrev pub test_of : Column → List ℕ → Bool
-test_of (Value takes) = takes
-test_of (Copied takes copies) = takes
+test_of (Value accepts) = accepts
+test_of (Copied accepts copies) = accepts
 
 -- A row of the table of lines: a word, the columns of the fields behind it, and what fields are that pass their tests.
 pub record Form (T : Type 0) : Type 0 where

@@ -3,12 +3,12 @@ use Rattle.std.specs.Prelude.{◌≡◌, ℕ}
 use Rattle.dh_types.specs.declared.command.Command.TheVariants as command
 use Rattle.dh_types.specs.declared.question.Question.TheVariants as question
 use Rattle.dh_types.specs.declared.field.TheConstants as place
-use Rattle.dh_fields.specs.FieldKinds.{Kind, id, lease_no, optional}
+use Rattle.dh_fields.specs.FieldKinds.{FieldKind, id, lease_no, optional}
 use Rattle.dh_fields.specs.Lines.{Fields, Form, field}
 use Rattle.dh_fields.specs.Lines as line
 
 -- fields of this form are one of these, whose part was read from field n as this kind
-abbrev pub IsReadFrom : {T X P : Type 0} → Form T → (X → T) → (X → P) → Kind P → ℕ → Type 0
+abbrev pub IsReadFrom : {T X P : Type 0} → Form T → (X → T) → (X → P) → FieldKind P → ℕ → Type 0
 IsReadFrom {X = X} form made part kind n = (fields : Fields) → (it : X) × (form.value fields ≡ made it) × (part it ≡ kind.value (field fields n))
 
 -- ---- a branch's fee

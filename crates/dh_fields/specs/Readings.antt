@@ -5,7 +5,7 @@ use Rattle.dh_types.specs.declared.reply.Refusal.{Refusal}
 use Rattle.dh_types.specs.declared.reply.Refusal.TheVariants.{BadLine}
 use Rattle.dh_fields.specs.declared.unread.Unread.{Unread}
 use Rattle.dh_fields.specs.declared.unread.Unread.TheVariants.{Memory, Field}
-use Rattle.dh_fields.specs.FieldKinds.{Kind}
+use Rattle.dh_fields.specs.FieldKinds.{FieldKind}
 use Rattle.dh_fields.specs.Lines.{Column, Fields, Form, command_forms, field, form_of, tests_of}
 use Rattle.dh_fields.specs.Lines.Column.{Value, Copied}
 
@@ -33,16 +33,16 @@ StopsAt (Field n) bad is_wanted = bad ≡ Some n
 StopsAt Memory bad is_wanted = is_wanted ≡ true
 
 -- the field of this number was read as this kind, or is bad, or memory for it ran out
-abbrev pub ReadsWanting : {T : Type 0} → Bool → Kind T → Fields → ℕ → Result T Unread → Type 0
-ReadsWanting is_wanted kind fields n (Ok value) = (is_field kind.takes fields n ≡ true) × (value ≡ kind.value (field fields n))
-ReadsWanting is_wanted kind fields n (Err stop) = StopsAt stop (if is_field kind.takes fields n then None else Some n) is_wanted
+abbrev pub ReadsWanting : {T : Type 0} → Bool → FieldKind T → Fields → ℕ → Result T Unread → Type 0
+ReadsWanting is_wanted kind fields n (Ok value) = (is_field kind.accepts fields n ≡ true) × (value ≡ kind.value (field fields n))
+ReadsWanting is_wanted kind fields n (Err stop) = StopsAt stop (if is_field kind.accepts fields n then None else Some n) is_wanted
 
 -- the same of a value, for which no memory is wanted
-abbrev pub Reads : {T : Type 0} → Kind T → Fields → ℕ → Result T Unread → Type 0
+abbrev pub Reads : {T : Type 0} → FieldKind T → Fields → ℕ → Result T Unread → Type 0
 Reads kind fields n result = ReadsWanting false kind fields n result
 
 -- the same of a text, which is copied if it is one of these
-abbrev pub Copies : {T : Type 0} → (List ℕ → Bool) → Kind T → Fields → ℕ → Result T Unread → Type 0
+abbrev pub Copies : {T : Type 0} → (List ℕ → Bool) → FieldKind T → Fields → ℕ → Result T Unread → Type 0
 Copies copies kind fields n result = ReadsWanting (is_field copies fields n) kind fields n result
 
 -- the first bad field, numbered from n
@@ -53,8 +53,8 @@ bad_from n (test ∷ tests) fields = if is_field test fields n then bad_from (n 
 -- Memory is wanted for the fields of these columns, numbered from n: the first text is a good one, and so is each field before it.
 abbrev pub wants_from : ℕ → List Column → Fields → Bool
 wants_from n [] fields = false
-wants_from n (Value takes ∷ columns) fields = wants_from (n + 1) columns fields && is_field takes fields n
-wants_from n (Copied takes copies ∷ columns) fields = is_field copies fields n
+wants_from n (Value accepts ∷ columns) fields = wants_from (n + 1) columns fields && is_field accepts fields n
+wants_from n (Copied accepts copies ∷ columns) fields = is_field copies fields n
 
 abbrev pub Gives : {T : Type 0} → Result T Unread → Option ℕ → Bool → T → Type 0
 Gives (Ok value) bad is_wanted wanted = (bad ≡ None) × (value ≡ wanted)
@@ -71,9 +71,9 @@ GivesUp (Field bad) wanted is_wanted = Err (BadLine bad) ≡ wanted
 GivesUp Memory wanted is_wanted = is_wanted ≡ true
 
 -- what was read is what is wanted
-abbrev pub Tells : {T : Type 0} → Result T Unread → Result T Refusal → Bool → Type 0
-Tells (Ok value) wanted is_wanted = Ok value ≡ wanted
-Tells (Err stop) wanted is_wanted = GivesUp stop wanted is_wanted
+abbrev pub IsAsWanted : {T : Type 0} → Result T Unread → Result T Refusal → Bool → Type 0
+IsAsWanted (Ok value) wanted is_wanted = Ok value ≡ wanted
+IsAsWanted (Err stop) wanted is_wanted = GivesUp stop wanted is_wanted
 
 -- ---- the lines for which memory is wanted
 

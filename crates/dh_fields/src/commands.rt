@@ -1,7 +1,7 @@
 //! The lines that are commands.
 
 ghost use Rattle.dh_fields.specs.Lines.{command_forms, value_among};
-ghost use Rattle.dh_fields.specs.Readings.{Tells, wants_among};
+ghost use Rattle.dh_fields.specs.Readings.{IsAsWanted, wants_among};
 
 use crate::leases::{read_end, read_lease, read_open, read_post, read_receipt, read_run};
 use crate::line::Line;
@@ -15,7 +15,7 @@ use std::alloc::Global;
 
 /// The command that the line is. `Field` has the number of its first bad field, which is 1 where its word is unknown.
 pub(crate) fn read_command(alloc: Global, line: &Line) -> Result<Command, Unread>
-    ensures { Tells result (value_among command_forms 1 line.now) (wants_among command_forms 1 line.now) }
+    ensures { IsAsWanted result (value_among command_forms 1 line.now) (wants_among command_forms 1 line.now) }
 {
     match line.text(1)? {
         "branch" => read_branch(alloc, line),

@@ -13,23 +13,23 @@ use std::str;
 /// The fields of a line.
 #[derive(Drop)]
 pub(crate) struct Line<'a> {
-    place: Place<'a>,
+    source: FieldSource<'a>,
 }
 
 // Where the fields stand.
 #[derive(Drop)]
-enum Place<'a> {
+enum FieldSource<'a> {
     Slice(&'a [&'a [u8]]),
     Record(&'a ByteRecord),
 }
 
 impl<'a> Model for Line<'a> {
     ghost use Rattle.std.specs.Prelude.{List, ℕ};
-    ghost use Rattle.dh_fields.specs.Places.{fields_in};
+    ghost use Rattle.dh_fields.specs.FieldSources.{fields_in};
 
     ghost Value = { List (List ℕ) };
 
-    ghost view = { λ l. fields_in l.place };
+    ghost view = { λ l. fields_in l.source };
 }
 
 impl<'a> Line<'a> {
@@ -38,7 +38,7 @@ impl<'a> Line<'a> {
         ensures { result ≡ map (λ f. f.now) fields.now }
     {
         Line {
-            place: Place::Slice(fields),
+            source: FieldSource::Slice(fields),
         }
     }
 
@@ -47,7 +47,7 @@ impl<'a> Line<'a> {
         ensures { result ≡ fields_of «record».now }
     {
         Line {
-            place: Place::Record(record),
+            source: FieldSource::Record(record),
         }
     }
 
@@ -57,9 +57,9 @@ impl<'a> Line<'a> {
         ensures { option_map (λ f. f.now) result ≡ slice_get ([] ∷ self.now) number }
     {
         let index = number as usize - 1;
-        match &self.place {
-            Place::Slice(fields) => fields.get(index).copied(),
-            Place::Record(record) => record.get(index),
+        match &self.source {
+            FieldSource::Slice(fields) => fields.get(index).copied(),
+            FieldSource::Record(record) => record.get(index),
         }
     }
 

@@ -3,7 +3,7 @@
 ghost use Rattle.std.specs.Prelude.{false};
 ghost use Rattle.dh_fields.specs.Lines.{arrears_form, branches_form, matching_form, question_forms, value_among};
 ghost use Rattle.dh_fields.specs.Lines.{owner_month_form, shown_run_form, statement_form, vacant_form};
-ghost use Rattle.dh_fields.specs.Readings.{ReadsForm, Tells};
+ghost use Rattle.dh_fields.specs.Readings.{IsAsWanted, ReadsForm};
 
 use crate::line::Line;
 use crate::unread::Unread;
@@ -80,7 +80,7 @@ fn read_owner_month(line: &Line) -> Result<Question, Unread>
 /// The question that the line is, whose first field is `show`. `Field` has the number of its first bad field, which is 2 where
 /// the question is unknown.
 pub(crate) fn read_shown(line: &Line) -> Result<Question, Unread>
-    ensures { Tells result (value_among question_forms 2 line.now) false }
+    ensures { IsAsWanted result (value_among question_forms 2 line.now) false }
 {
     match line.text(2)? {
         "branches" => read_branches(line),

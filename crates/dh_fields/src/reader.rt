@@ -3,7 +3,7 @@
 ghost use Rattle.std.specs.Prelude.{◌≡◌, map, bytes_eq, codes, MatchResult};
 ghost use Rattle.csv.specs.Records.{fields_of};
 ghost use Rattle.dh_fields.specs.Lines.{IsShown, a_question, field, request_of};
-ghost use Rattle.dh_fields.specs.Readings.{Tells, WantsText, wants_text};
+ghost use Rattle.dh_fields.specs.Readings.{IsAsWanted, WantsText, wants_text};
 
 use crate::Request;
 use crate::commands::read_command;
@@ -15,7 +15,7 @@ use dh_types::{Question, Refusal};
 use std::alloc::{AllocError, Global};
 
 fn read_request(alloc: Global, line: &Line) -> Result<Request, Unread>
-    ensures { Tells result (request_of line.now) (wants_text line.now) }
+    ensures { IsAsWanted result (request_of line.now) (wants_text line.now) }
 {
     if line.text(1)? == "show" {
         Ok(Request::Question(read_shown(line)?))

@@ -114,7 +114,7 @@ impl<'a> Line<'a> {
         number: u8,
     ) -> Result<Text<MOST>, Unread>
         requires { 1 ≤ number }
-        ensures { Copies (kinds.text MOST).takes (kinds.text MOST) self.now number result }
+        ensures { Copies (kinds.text MOST).accepts (kinds.text MOST) self.now number result }
     {
         Text::read(alloc, self.text(number)?)?.or(Err(Unread::Field(number)))
     }
@@ -126,7 +126,7 @@ impl<'a> Line<'a> {
         number: u8,
     ) -> Result<Option<Comment>, Unread>
         requires { 1 ≤ number }
-        ensures { Copies kinds.comment.takes (kinds.optional kinds.comment) self.now number result }
+        ensures { Copies kinds.comment.accepts (kinds.optional kinds.comment) self.now number result }
     {
         if self.text(number)?.is_empty() {
             return Ok(None);

@@ -8,8 +8,8 @@ use Rattle.dh_types.specs.declared.reply.Reply.TheVariants as reply
 use Rattle.dh_types.specs.declared.reply.Refusal.{Refusal}
 use Rattle.dh_types.specs.declared.reply.Refusal.TheVariants as refusal
 use Rattle.dh_types.specs.Replies.{reply_text}
-use Rattle.dh_requests.specs.declared.asked.Turned.{Turned}
-use Rattle.dh_requests.specs.declared.asked.Turned.TheVariants as turned
+use Rattle.dh_requests.specs.declared.judged_request.Turned.{Turned}
+use Rattle.dh_requests.specs.declared.judged_request.Turned.TheVariants as turned
 use Rattle.dh_agency.specs.Requests.{Said, Replied, Reported}
 use Rattle.dh_http.specs.Served.{said_answer}
 use Rattle.dh_http.specs.Answers.{json_answer, refusal_status, reply_answer, report_answer, turned_status}

@@ -9,7 +9,7 @@ use Rattle.std.specs.declared.time.Instant.{Instant}
 use Rattle.std.specs.declared.time.Duration.{Duration}
 use Rattle.std.specs.declared.io.Error.{Error}
 use Rattle.std.specs.declared.io.ErrorKind.TheVariants.{Interrupted}
-use Rattle.dh_http.specs.Calls.{AsksLeft, AsksTime, Call, EndsAnswered, EndsOutput, HasTakenIn, Makes, Reads, TakesIn, UsesInTime, left_at, nanos}
+use Rattle.dh_http.specs.Calls.{AsksLeft, AsksTime, Call, Drains, EndsAnswered, EndsOutput, HasDrained, Makes, Reads, UsesInTime, left_at, nanos}
 
 pub makes_none : {T : Type 0} (a : Option (List T)) → Makes a a []
 makes_none None = tt
@@ -75,7 +75,7 @@ pub record HasTaken (a b : Option (List Call)) (most : ℕ) (begun since : Optio
   pub calls : List Call
   pub made : Makes a b calls
   pub many : turns ≤ length calls
-  pub more : (rest : List Call) → TakesIn most since left rest → TakesIn most begun bytes (calls ++ rest)
+  pub more : (rest : List Call) → Drains most since left rest → Drains most begun bytes (calls ++ rest)
 
 module _ (a m b : Option (List Call)) (most : ℕ) (begun since now : Option Instant) (bytes left turns : ℕ)
     (was : HasTaken a m most begun since bytes left turns) (some : 0 < left) (calls : List Call) (made : Makes m b calls) where
@@ -85,8 +85,8 @@ module _ (a m b : Option (List Call)) (most : ℕ) (begun since now : Option Ins
   more_calls : 0 < length calls → turns + 1 ≤ length (was.calls ++ calls)
   more_calls h = omega (arith, length-append was.calls calls, was.many)
 
-  behind : (rest : List Call) → TakesIn most since left (calls ++ rest) → TakesIn most begun bytes ((was.calls ++ calls) ++ rest)
-  behind rest h = subst (TakesIn most begun bytes) (sym (append_assoc was.calls calls rest)) (was.more (calls ++ rest) h)
+  behind : (rest : List Call) → Drains most since left (calls ++ rest) → Drains most begun bytes ((was.calls ++ calls) ++ rest)
+  behind rest h = subst (Drains most begun bytes) (sym (append_assoc was.calls calls rest)) (was.more (calls ++ rest) h)
 
   -- some bytes came
   pub taken_more : (count : ℕ) → 0 < count → UsesInTime (λ n r. Reads n r) most since now calls (Ok count)
@@ -95,7 +95,7 @@ module _ (a m b : Option (List Call)) (most : ℕ) (begun since now : Option Ins
     calls = was.calls ++ calls;
     made = all_made;
     many = more_calls (use_calls (λ n r. Reads n r) most since now calls (Ok count) used);
-    more = λ rest h. behind rest (TakesIn.More since now left count calls rest some any used h);
+    more = λ rest h. behind rest (Drains.More since now left count calls rest some any used h);
   }
 
   -- a signal came
@@ -105,28 +105,28 @@ module _ (a m b : Option (List Call)) (most : ℕ) (begun since now : Option Ins
     calls = was.calls ++ calls;
     made = all_made;
     many = more_calls (use_calls (λ n r. Reads n r) most since now calls (Err e) used);
-    more = λ rest h. behind rest (TakesIn.Again since now left calls rest e some used kind h);
+    more = λ rest h. behind rest (Drains.Again since now left calls rest e some used kind h);
   }
 
   -- the input has ended
   pub taken_all : (count : ℕ) → count ≡ 0 → UsesInTime (λ n r. Reads n r) most since now calls (Ok count)
-      → (all : List Call) × Makes a b all × HasTakenIn most begun bytes all
+      → (all : List Call) × Makes a b all × HasDrained most begun bytes all
   taken_all count none used =
       let end = subst (λ n. UsesInTime (λ n r. Reads n r) most since now calls (Ok n)) none used in
-      (was.calls ++ calls, all_made, inl (was.more calls (TakesIn.Ends since now left calls some end)))
+      (was.calls ++ calls, all_made, inl (was.more calls (Drains.Ends since now left calls some end)))
 
   -- it failed
   pub taken_part : (e : Error) → UsesInTime (λ n r. Reads n r) most since now calls (Err e) → error_kind e ≢ Interrupted
-      → (all : List Call) × Makes a b all × HasTakenIn most begun bytes all
-  taken_part e used kind = (was.calls ++ calls, all_made, inl (was.more calls (TakesIn.Breaks since now left calls e some used kind)))
+      → (all : List Call) × Makes a b all × HasDrained most begun bytes all
+  taken_part e used kind = (was.calls ++ calls, all_made, inl (was.more calls (Drains.Breaks since now left calls e some used kind)))
 
 pub taken_enough : (a b : Option (List Call)) (most : ℕ) (begun since : Option Instant) (bytes left turns : ℕ)
-    → HasTaken a b most begun since bytes left turns → left ≡ 0 → (all : List Call) × Makes a b all × HasTakenIn most begun bytes all
+    → HasTaken a b most begun since bytes left turns → left ≡ 0 → (all : List Call) × Makes a b all × HasDrained most begun bytes all
 taken_enough a b most begun since bytes left turns was none = (
   was.calls,
   was.made,
-  inl (subst (TakesIn most begun bytes) (append-nil was.calls)
-      (was.more [] (subst (λ n. TakesIn most since n []) (sym none) (TakesIn.Enough since)))),
+  inl (subst (Drains most begun bytes) (append-nil was.calls)
+      (was.more [] (subst (λ n. Drains most since n []) (sym none) (Drains.Enough since)))),
 )
 
 -- ---- a stream ends
@@ -137,13 +137,13 @@ broken a b most bytes (Ok done) is made = cc
 broken a b most bytes (Err e) is made = (EndsOutput (Err e) ∷ [], made, EndsAnswered.Broken e refl)
 
 pub whole : (a m b : Option (List Call)) (most bytes all : ℕ) (begun : Option Instant) (r : Result (Unit {0}) Error) → is_err r ≡ false
-    → Makes a m (EndsOutput r ∷ []) → all ≡ most → begun ≡ None → ((rest : List Call) × Makes m b rest × HasTakenIn all begun bytes rest)
+    → Makes a m (EndsOutput r ∷ []) → all ≡ most → begun ≡ None → ((rest : List Call) × Makes m b rest × HasDrained all begun bytes rest)
     → (calls : List Call) × Makes a b calls × EndsAnswered most bytes calls
 whole a m b most bytes all begun (Ok done) is made all_is fresh taken =
     let first : List Call = EndsOutput (Ok done) ∷ [] in (
       first ++ taken.0,
       makes_both a m b first taken.0 made taken.1,
       EndsAnswered.Whole taken.0 refl
-          (subst (λ n. HasTakenIn n None bytes taken.0) all_is (subst (λ o. HasTakenIn all o bytes taken.0) fresh taken.2)),
+          (subst (λ n. HasDrained n None bytes taken.0) all_is (subst (λ o. HasDrained all o bytes taken.0) fresh taken.2)),
     )
 whole a m b most bytes all begun (Err e) is made all_is fresh taken = cc

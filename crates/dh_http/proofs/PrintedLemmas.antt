@@ -11,14 +11,14 @@ use Rattle.dh_types.specs.Output.{BreaksOff}
 use Rattle.dh_types.specs.declared.output.Output.{Output}
 use Rattle.dh_types.specs.declared.reply.Fault.{Fault}
 use Rattle.dh_types.specs.declared.reply.Fault.TheVariants.{Store}
-use Rattle.dh_agency.specs.Seat.{Seat}
+use Rattle.dh_agency.specs.AgencyView.{AgencyView}
 use Rattle.dh_http.specs.declared.listener.Unserved.{Unserved}
 use Rattle.dh_http.specs.declared.listener.Unserved.TheVariants as unserved
 use Rattle.dh_http.specs.Service.{IsHalt, ServesOn, StopsWith}
 use Rattle.dh_http.specs.Calls.{Makes}
 use Rattle.dh_http.specs.Printed.{EndsWith, GoOn, IsPortText, PrintsBehind, outcome_line, outcome_lines, port_text}
 use Rattle.dh_http.specs.Watched.{IsWatched, sights}
-use Rattle.dh_http.specs.Watched.EndsLooks.{Faulted, Served}
+use Rattle.dh_http.specs.Watched.EndsSightings.{Faulted, Served}
 use Rattle.dh_http.proofs.CallLemmas.{makes_both, makes_none}
 use Rattle.dh_http.proofs.ServingLemmas.{serves_both, serves_none}
 
@@ -35,7 +35,7 @@ going_more : (outcomes : List (Option ℕ)) (it : Option ℕ) → GoOn outcomes 
 going_more outcomes it h goes = All-push (λ (o : Option ℕ). o ≢ Some 503) outcomes it h goes
 
 -- so many connections were served, behind a look each that saw the file, none of them with answer 503, and each was told
-pub record HasServed {S : Type 0} (g : Ghosts S) (old new : Seat S) (k l : Option (List Bool)) (a b : Option (List ℕ)) (count : ℕ) : Type 0 where
+pub record HasServed {S : Type 0} (g : Ghosts S) (old new : AgencyView S) (k l : Option (List Bool)) (a b : Option (List ℕ)) (count : ℕ) : Type 0 where
   pub outcomes : List (Option ℕ)
   pub watched : Makes k l (sights outcomes)
   pub on : ServesOn g old new outcomes
@@ -43,7 +43,7 @@ pub record HasServed {S : Type 0} (g : Ghosts S) (old new : Seat S) (k l : Optio
   pub count_is : length outcomes ≡ count
   pub going : GoOn outcomes
 
-pub served_none : {S : Type 0} (g : Ghosts S) (seat : Seat S) (k : Option (List Bool)) (a : Option (List ℕ)) → HasServed g seat seat k k a a 0
+pub served_none : {S : Type 0} (g : Ghosts S) (seat : AgencyView S) (k : Option (List Bool)) (a : Option (List ℕ)) → HasServed g seat seat k k a a 0
 served_none g seat k a = record {
   outcomes = [];
   watched = makes_none k;
@@ -58,7 +58,7 @@ pub watched_none : (k l : Option (List Bool)) (outcomes : List (Option ℕ)) (r 
     → IsWatched k l outcomes r
 watched_none k l outcomes r made = record {
   last = [];
-  looks = subst (Makes k l) (sym (append-nil (sights outcomes))) made;
+  sightings = subst (Makes k l) (sym (append-nil (sights outcomes))) made;
   ends = Served;
 }
 
@@ -69,13 +69,13 @@ unwatched k r = watched_none k k [] r (makes_none k)
 -- ---- whether the agency has stopped
 
 -- no answer of an agency that goes on is 503
-pub goes_on_told : {S : Type 0} (old new : Seat S) (outcome : Option ℕ) → StopsWith old new outcome → new.is_stopped ≡ false → outcome ≢ Some 503
+pub goes_on_told : {S : Type 0} (old new : AgencyView S) (outcome : Option ℕ) → StopsWith old new outcome → new.is_stopped ≡ false → outcome ≢ Some 503
 goes_on_told old new None stops live = λ is. cc
 goes_on_told old new (Some status) (inl goes) live = λ is. goes.0 (cc)
 goes_on_told old new (Some status) (inr halts) live = λ is. false≢true (sym live ∙ halts.1)
 
 -- where an agency stops, 503 is answered, or the answer was lost
-pub halt_told : {S : Type 0} (old new : Seat S) (outcome : Option ℕ) → StopsWith old new outcome → old.is_stopped ≡ false → new.is_stopped ≡ true
+pub halt_told : {S : Type 0} (old new : AgencyView S) (outcome : Option ℕ) → StopsWith old new outcome → old.is_stopped ≡ false → new.is_stopped ≡ true
     → IsHalt outcome
 halt_told old new None stops live stopped = tt
 halt_told old new (Some status) (inl goes) live stopped = absurd (false≢true (sym live ∙ sym goes.1 ∙ stopped))
@@ -96,7 +96,7 @@ pub is_fault : (fault : Fault) (r : Result (Unit {0}) Unserved) → IsErrAnd r (
 is_fault fault (Ok done) h = absurd h
 is_fault fault (Err why) h = ap Err h
 
-module _ {S : Type 0} (g : Ghosts S) (old mid new : Seat S) (k l n : Option (List Bool)) (a m b : Option (List ℕ)) (count : ℕ) (outcome : Option ℕ)
+module _ {S : Type 0} (g : Ghosts S) (old mid new : AgencyView S) (k l n : Option (List Bool)) (a m b : Option (List ℕ)) (count : ℕ) (outcome : Option ℕ)
     (was : HasServed g old mid k l a m count) (on : ServesOn g mid new (outcome ∷ [])) (saw : Makes l n (true ∷ [])) where
   all_watched : Makes k n (sights (was.outcomes ++ outcome ∷ []))
   all_watched = subst (Makes k n) (sym (sights_more was.outcomes outcome)) (makes_both k l n (sights was.outcomes) (true ∷ []) was.watched saw)
@@ -158,7 +158,7 @@ module _ {S : Type 0} (g : Ghosts S) (old mid new : Seat S) (k l n : Option (Lis
   )
 
 -- no further connection could be taken
-pub served_to_fault : {S : Type 0} (g : Ghosts S) (old mid new : Seat S) (k l n : Option (List Bool)) (a b : Option (List ℕ)) (count most : ℕ)
+pub served_to_fault : {S : Type 0} (g : Ghosts S) (old mid new : AgencyView S) (k l n : Option (List Bool)) (a b : Option (List ℕ)) (count most : ℕ)
     (fault : Fault) → HasServed g old mid k l a b count → new ≡ mid → count < most
     → ((seen : Bool) × Makes l n (seen ∷ []) × (seen ≡ false → fault ≡ Store))
     → (outcomes : List (Option ℕ)) × ServesOn g old new outcomes × PrintsBehind most [] outcomes a b (Err (unserved.Fault fault))
@@ -169,7 +169,7 @@ served_to_fault g old mid new k l n a b count most fault was same within look = 
   (record { few = omega (arith, was.count_is, within); going = was.going }, was.written),
   record {
     last = look.0 ∷ [];
-    looks = makes_both k l n (sights was.outcomes) (look.0 ∷ []) was.watched look.1;
+    sightings = makes_both k l n (sights was.outcomes) (look.0 ∷ []) was.watched look.1;
     ends = Faulted look.0 fault refl look.2;
   },
 )

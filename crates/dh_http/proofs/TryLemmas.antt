@@ -4,7 +4,7 @@ use Rattle.std.specs.Prelude.{All}
 use Rattle.std.specs.declared.io.Error.{Error}
 use Rattle.std.proofs.lemmas.List.Elements.{All-push}
 use Rattle.dh_http.specs.Calls.{Makes}
-use Rattle.dh_http.specs.Taking.{HasTried, IsInterrupted}
+use Rattle.dh_http.specs.Accepting.{HasTried, IsInterrupted}
 use Rattle.dh_http.proofs.CallLemmas.{makes_both, makes_none}
 
 -- so far: so many tries were made, and each was interrupted

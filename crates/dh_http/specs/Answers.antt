@@ -13,8 +13,8 @@ use Rattle.dh_types.specs.Replies.{fault_text, refusal_number, refusal_text, rep
 use Rattle.dh_types.specs.Reports.{Report, NoReport}
 use Rattle.dh_reports.specs.ReportTexts.{report_text}
 use Rattle.dh_requests.specs.Texts.{reply_body}
-use Rattle.dh_requests.specs.declared.asked.Turned.{Turned}
-use Rattle.dh_requests.specs.declared.asked.Turned.TheVariants as turned
+use Rattle.dh_requests.specs.declared.judged_request.Turned.{Turned}
+use Rattle.dh_requests.specs.declared.judged_request.Turned.TheVariants as turned
 use Rattle.dh_http.specs.declared.answers.Content.{Content}
 use Rattle.dh_http.specs.declared.answers.Content.TheVariants.{Json, Report as Text, Empty}
 use Rattle.dh_http.specs.declared.answers.Body.{Body}

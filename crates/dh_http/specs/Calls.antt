@@ -47,24 +47,24 @@ pub data UsesInTime (call : ℕ → Result ℕ Error → Call) (most : ℕ) (beg
       → 0 < left_at most begun now → UsesInTime call most begun since calls result
 
 -- What comes is read: up to so many bytes, to the end of the input, or up to an error. A read that a signal interrupts is made again.
-pub data TakesIn (most : ℕ) : Option Instant → ℕ → List Call → Type 0 where
-  Enough : (begun : Option Instant) → TakesIn most begun 0 []
+pub data Drains (most : ℕ) : Option Instant → ℕ → List Call → Type 0 where
+  Enough : (begun : Option Instant) → Drains most begun 0 []
   Ends : (begun since : Option Instant) (bytes : ℕ) (calls : List Call) → 0 < bytes → UsesInTime (λ n r. Reads n r) most begun since calls (Ok 0)
-      → TakesIn most begun bytes calls
+      → Drains most begun bytes calls
   Breaks : (begun since : Option Instant) (bytes : ℕ) (calls : List Call) (e : Error) → 0 < bytes
-      → UsesInTime (λ n r. Reads n r) most begun since calls (Err e) → error_kind e ≢ Interrupted → TakesIn most begun bytes calls
+      → UsesInTime (λ n r. Reads n r) most begun since calls (Err e) → error_kind e ≢ Interrupted → Drains most begun bytes calls
   Again : (begun since : Option Instant) (bytes : ℕ) (first rest : List Call) (e : Error) → 0 < bytes
-      → UsesInTime (λ n r. Reads n r) most begun since first (Err e) → error_kind e ≡ Interrupted → TakesIn most since bytes rest
-      → TakesIn most begun bytes (first ++ rest)
+      → UsesInTime (λ n r. Reads n r) most begun since first (Err e) → error_kind e ≡ Interrupted → Drains most since bytes rest
+      → Drains most begun bytes (first ++ rest)
   More : (begun since : Option Instant) (bytes count : ℕ) (first rest : List Call) → 0 < bytes → 0 < count
-      → UsesInTime (λ n r. Reads n r) most begun since first (Ok count) → TakesIn most since (bytes - count) rest
-      → TakesIn most begun bytes (first ++ rest)
+      → UsesInTime (λ n r. Reads n r) most begun since first (Ok count) → Drains most since (bytes - count) rest
+      → Drains most begun bytes (first ++ rest)
 
 -- The same; only behind more calls than are ever made it ends before.
-abbrev pub HasTakenIn : ℕ → Option Instant → ℕ → List Call → Type 0
-HasTakenIn most begun bytes calls = TakesIn most begun bytes calls ⊎ (2 ^ 64 - 1 ≤ length calls)
+abbrev pub HasDrained : ℕ → Option Instant → ℕ → List Call → Type 0
+HasDrained most begun bytes calls = Drains most begun bytes calls ⊎ (2 ^ 64 - 1 ≤ length calls)
 
 -- A stream whose answer was written ends: its output first, and then what its peer still sends is taken in.
 pub data EndsAnswered (most bytes : ℕ) (calls : List Call) : Type 0 where
   Broken : (e : Error) → calls ≡ EndsOutput (Err e) ∷ [] → EndsAnswered most bytes calls
-  Whole : (rest : List Call) → calls ≡ EndsOutput (Ok tt) ∷ rest → HasTakenIn most None bytes rest → EndsAnswered most bytes calls
+  Whole : (rest : List Call) → calls ≡ EndsOutput (Ok tt) ∷ rest → HasDrained most None bytes rest → EndsAnswered most bytes calls

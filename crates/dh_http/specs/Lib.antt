@@ -4,6 +4,6 @@ pub mod FirstLines
 pub mod Service
 pub mod Printed
 pub mod Calls
-pub mod Taking
+pub mod Accepting
 pub mod Patience
 pub mod Watched

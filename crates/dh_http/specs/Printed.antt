@@ -82,6 +82,7 @@ PrintsBehind count text outcomes a b (Err unserved.NoListener) = ⊥
 pub data PrintsServed (service : Service) (outcomes : List (Option ℕ)) (a b : Option (List ℕ)) (result : Result (Unit {0}) Unserved) : Type 0 where
   Listened : (text : List ℕ) → IsPortText service.port text → PrintsBehind service.count text outcomes a b result
       → PrintsServed service outcomes a b result
-  Untold : (text : List ℕ) → IsPortText service.port text → BreaksOff a b text → outcomes ≡ [] → (failed : Output) → result ≡ Err (unserved.Output failed)
+  PortUnprinted : (text : List ℕ) → IsPortText service.port text → BreaksOff a b text → outcomes ≡ [] → (failed : Output)
+      → result ≡ Err (unserved.Output failed)
       → PrintsServed service outcomes a b result
   Unlistened : b ≡ a → outcomes ≡ [] → result ≡ Err unserved.NoListener → PrintsServed service outcomes a b result

@@ -12,12 +12,12 @@ sights [] = []
 sights (it ∷ rest) = true ∷ sights rest
 
 -- Behind the last connection no look was made; or one, behind which no further connection was served. A file that is not seen is a fault of the store.
-pub data EndsLooks (result : Result (Unit {0}) Unserved) : List Bool → Type 0 where
-  Served : EndsLooks result []
-  Faulted : (seen : Bool) (fault : Fault) → result ≡ Err (unserved.Fault fault) → (seen ≡ false → fault ≡ Store) → EndsLooks result (seen ∷ [])
+pub data EndsSightings (result : Result (Unit {0}) Unserved) : List Bool → Type 0 where
+  Served : EndsSightings result []
+  Faulted : (seen : Bool) (fault : Fault) → result ≡ Err (unserved.Fault fault) → (seen ≡ false → fault ≡ Store) → EndsSightings result (seen ∷ [])
 
 -- The file was seen at its path before each of these connections was served.
 pub record IsWatched (a b : Option (List Bool)) (outcomes : List (Option ℕ)) (result : Result (Unit {0}) Unserved) : Type 0 where
   pub last : List Bool
-  pub looks : Makes a b (sights outcomes ++ last)
-  pub ends : EndsLooks result last
+  pub sightings : Makes a b (sights outcomes ++ last)
+  pub ends : EndsSightings result last

@@ -5,7 +5,7 @@ ghost use Rattle.std.specs.IoError.{error_kind, raw_os_error};
 ghost use Rattle.std.specs.declared.io.Error.{Error};
 ghost use Rattle.dh_schema.specs.Faults.{IsFirstFault};
 ghost use Rattle.dh_http.specs.Calls.{Makes};
-ghost use Rattle.dh_http.specs.Taking.{HasTried, fault_of, fault_of_code, is_taken};
+ghost use Rattle.dh_http.specs.Accepting.{HasTried, accepted, fault_of, fault_of_code};
 
 use dh_types::Fault;
 use std::io;
@@ -38,7 +38,7 @@ const NO_BUFFERS: u32 = 105;
 
 // The fault that is told of an error with this number. None where the error is of the connection.
 fn fault_of_code(code: u32) -> Option<Fault>
-    ensures told { result ≡ fault_of_code code }
+    ensures value { result ≡ fault_of_code code }
     ensures first { IfSome result (λ fault. IsFirstFault fault) }
 {
     match code {
@@ -58,7 +58,7 @@ fn fault_of_code(code: u32) -> Option<Fault>
 
 // The fault that is told of an error. None where the error is of the connection.
 fn fault_of(error: &io::Error) -> Option<Fault>
-    ensures told { result ≡ fault_of (raw_os_error error.now) }
+    ensures value { result ≡ fault_of (raw_os_error error.now) }
     ensures first { IfSome result (λ fault. IsFirstFault fault) }
 {
     match error.raw_os_error() {
@@ -68,8 +68,8 @@ fn fault_of(error: &io::Error) -> Option<Fault>
 }
 
 /// What came of a call for the next connection. None where it was lost.
-pub(crate) fn taken<T>(outcome: io::Result<T>) -> Result<Option<T>, Fault>
-    ensures told { result ≡ is_taken outcome }
+pub(crate) fn accepted<T>(outcome: io::Result<T>) -> Result<Option<T>, Fault>
+    ensures value { result ≡ accepted outcome }
     ensures first { IfErr result (λ fault. IsFirstFault fault) }
 {
     match outcome {

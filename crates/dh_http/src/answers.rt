@@ -13,7 +13,7 @@ use crate::fault::NetFault;
 use arrayvec::ArrayVec;
 use dh_reports::write;
 use dh_requests::Turned;
-use dh_types::text_writer::{put, put_parts};
+use dh_types::text_writer::{put, put_pieces};
 use dh_types::{Answer, Fault, Output, Refusal, Reply};
 use http::StatusCode;
 use itoa::Buffer;
@@ -96,12 +96,12 @@ fn content_line(content: Content) -> &'static str
 }
 
 // Writes the head of an answer part by part.
-fn put_head_parts<W: Write>(writer: &mut W, it: &Response) -> Result<(), Output>
+fn put_head_in_pieces<W: Write>(writer: &mut W, it: &Response) -> Result<(), Output>
     ensures { Puts (W.contents writer.old) (W.contents writer.new) result (head_of (said it.now)) }
 {
     let length = bytes_of(&it.body).len();
     let mut digits = Buffer::new();
-    put_parts(
+    put_pieces(
         writer,
         &[
             b"HTTP/1.1 ",
@@ -124,9 +124,9 @@ fn put_head<W: Write>(writer: &mut W, it: &Response) -> Result<(), Output>
     ensures { Puts (W.contents writer.old) (W.contents writer.new) result (head_of (said it.now)) }
 {
     let mut head: Head = ArrayVec::new();
-    match put_head_parts(&mut head, it) {
+    match put_head_in_pieces(&mut head, it) {
         Ok(()) => put(writer, &head),
-        Err(_) => put_head_parts(writer, it),
+        Err(_) => put_head_in_pieces(writer, it),
     }
 }
 

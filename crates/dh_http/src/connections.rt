@@ -7,15 +7,15 @@ ghost use Rattle.dh_types.specs.declared.reply.Fault.{Fault};
 ghost use Rattle.dh_types.specs.declared.reply.Fault.TheVariants.{Store};
 ghost use Rattle.dh_schema.specs.Faults.{IsFirstFault};
 ghost use Rattle.dh_agency.specs.Agency.{IsClean, LeavesItsTables, WasClean};
-ghost use Rattle.dh_requests.specs.Requests.{MayAsk, TakesRequest};
+ghost use Rattle.dh_requests.specs.Requests.{ConsumesRequest, MayAsk};
 ghost use Rattle.dh_http.specs.Calls.{Call, EndsAnswered, Makes, nanos};
 ghost use Rattle.dh_http.specs.Printed.{PrintsBehind, outcome_line};
 ghost use Rattle.dh_http.specs.Served.{LeavesServed};
-ghost use Rattle.dh_http.specs.Service.{IsTold, ServesOn, StopsWith};
-ghost use Rattle.dh_http.specs.Taking.{is_taken};
+ghost use Rattle.dh_http.specs.Service.{IsOutcome, ServesOn, StopsWith};
+ghost use Rattle.dh_http.specs.Accepting.{accepted};
 ghost use Rattle.dh_http.specs.Watched.{IsWatched};
 
-use crate::acceptor::{accept, taken};
+use crate::acceptor::{accept, accepted};
 use crate::exchange::serve_over;
 use crate::listener::Unserved;
 use crate::patience::Patience;
@@ -24,7 +24,7 @@ use crate::streams::{TimedStream, end_answered};
 use crate::watch::Watch;
 use dh_agency::Agency;
 use dh_requests::Routes;
-use dh_types::text_writer::{put, put_parts};
+use dh_types::text_writer::{put, put_pieces};
 use dh_types::{Fault, Output};
 use http::StatusCode;
 use sqlite::Alter;
@@ -47,8 +47,8 @@ pub fn serve_peer<S: Alter, P: Peer>(
     requires request { reader.old.seconds ≡ patience.request_seconds }
     requires answer { writer.old.seconds ≡ patience.answer_seconds }
     ensures on { ServesOn S.Store agency.old agency.new (result.0 ∷ []) }
-    ensures told { IsTold S.Store agency.old agency.new (P.remaining reader.old.peer) (P.contents writer.old.peer) (P.contents writer.new.peer) result.0 }
-    ensures taken { TakesRequest (P.remaining reader.old.peer) (P.remaining reader.new.peer) }
+    ensures outcome { IsOutcome S.Store agency.old agency.new (P.remaining reader.old.peer) (P.contents writer.old.peer) (P.contents writer.new.peer) result.0 }
+    ensures consumed { ConsumesRequest (P.remaining reader.old.peer) (P.remaining reader.new.peer) }
     ensures crash { IsClean S.Store agency.new → agency.old.is_stopped ≡ false → LeavesItsTables S.Store agency.old
         → LeavesServed S.Store agency.old agency.new (λ asked. IfSome (P.remaining reader.old.peer) (λ input. MayAsk input asked)) }
     ensures left { IsClean S.Store agency.new → LeavesItsTables S.Store agency.old → agency.new.is_stopped ≡ false → LeavesItsTables S.Store agency.new }
@@ -65,21 +65,21 @@ pub fn serve_peer<S: Alter, P: Peer>(
 }
 
 // Answers what came of a call for the next connection: the status, if it was answered. A fault where no further connection can be taken.
-fn serve_taken<S: Alter>(
+fn serve_accepted<S: Alter>(
     rt: &HostRuntime,
     routes: &Routes,
     agency: &mut Agency<S>,
     outcome: io::Result<(TcpStream, SocketAddr)>,
     patience: Patience,
 ) -> Result<Option<StatusCode>, Fault>
-    ensures told { MatchResult (is_taken outcome) (λ _. IsOk result) (λ fault. result ≡ Err fault) }
+    ensures outcome { MatchResult (accepted outcome) (λ _. IsOk result) (λ fault. result ≡ Err fault) }
     ensures on { IfOk result (λ outcome. ServesOn S.Store agency.old agency.new (outcome ∷ [])) }
     ensures stops { IfOk result (λ outcome. StopsWith agency.old agency.new outcome) }
     ensures same { OnErr result (agency.new ≡ agency.old) }
     ensures cause { IfErr result (λ fault. IsFirstFault fault) }
     ensures was_clean { WasClean S.Store agency.old agency.new }
 {
-    match taken(outcome) {
+    match accepted(outcome) {
         Ok(Some((stream, _))) => {
             let peer = SocketPeer::new(rt, &stream);
             let mut reader = TimedStream::of_request(peer, patience);
@@ -110,8 +110,8 @@ fn serve_next<S: Alter, F: Watch>(
     listener: &mut TcpListener,
     patience: Patience,
 ) -> Result<Option<StatusCode>, Fault>
-    ensures seen { IfOk result (λ _. Makes (F.looks file.old) (F.looks file.new) (true ∷ [])) }
-    ensures missed { IfErr result (λ fault. (seen : Bool) × Makes (F.looks file.old) (F.looks file.new) (seen ∷ []) × (seen ≡ false → fault ≡ Store)) }
+    ensures seen { IfOk result (λ _. Makes (F.sightings file.old) (F.sightings file.new) (true ∷ [])) }
+    ensures missed { IfErr result (λ fault. (seen : Bool) × Makes (F.sightings file.old) (F.sightings file.new) (seen ∷ []) × (seen ≡ false → fault ≡ Store)) }
     ensures on { IfOk result (λ outcome. ServesOn S.Store agency.old agency.new (outcome ∷ [])) }
     ensures stops { IfOk result (λ outcome. StopsWith agency.old agency.new outcome) }
     ensures same { OnErr result (agency.new ≡ agency.old) }
@@ -122,7 +122,7 @@ fn serve_next<S: Alter, F: Watch>(
     if !file.is_there() {
         return Err(Fault::Store);
     }
-    serve_taken(rt, routes, agency, outcome, patience)
+    serve_accepted(rt, routes, agency, outcome, patience)
 }
 
 // Prints the status of a connection, or that it was lost.
@@ -130,7 +130,7 @@ fn print_outcome<W: Write>(writer: &mut W, outcome: &Option<StatusCode>) -> Resu
     ensures { Puts (W.contents writer.old) (W.contents writer.new) result (outcome_line outcome.now) }
 {
     match outcome {
-        Some(status) => put_parts(writer, &[status.as_str().as_bytes(), b"\n"]),
+        Some(status) => put_pieces(writer, &[status.as_str().as_bytes(), b"\n"]),
         None => put(writer, b"lost\n"),
     }
 }
@@ -151,7 +151,7 @@ pub(crate) fn serve_connections<S: Alter, F: Watch, W: Write>(
     requires { agency.old.is_stopped ≡ false }
     ensures served { (outcomes : List (Option ℕ)) × ServesOn S.Store agency.old agency.new outcomes
         × PrintsBehind count [] outcomes (W.contents writer.old) (W.contents writer.new) result
-        × IsWatched (F.looks file.old) (F.looks file.new) outcomes result }
+        × IsWatched (F.sightings file.old) (F.sightings file.new) outcomes result }
     ensures going { OnOk result (agency.new.is_stopped ≡ false) }
     ensures stopped { result ≡ Err Unserved.Stopped → agency.new.is_stopped ≡ true }
     ensures fault { (fault : Fault) → result ≡ Err (Unserved.Fault fault) → (agency.new.is_stopped ≡ false) × IsFirstFault fault }

@@ -3,14 +3,14 @@
 ghost use Rattle.std.specs.Prelude.{◌≡◌, ◌≢◌, true, false, [], Err, IfSome};
 ghost use Rattle.dh_agency.specs.Agency.{IsClean, LeavesItsTables, WasClean};
 ghost use Rattle.dh_agency.specs.Requests.{is_order};
-ghost use Rattle.dh_requests.specs.Requests.{MayAsk, TakesRequest};
+ghost use Rattle.dh_requests.specs.Requests.{ConsumesRequest, MayAsk};
 ghost use Rattle.dh_http.specs.Served.{LeavesServed, Serves, StopsBy};
 
 use crate::answers::{faulted, made, send, send_made, turned};
 use crate::fault::NetFault;
 use dh_agency::{Agency, respond};
 use dh_fields::Request;
-use dh_requests::{Asked, Routes, read_request};
+use dh_requests::{JudgedRequest, Routes, read_request};
 use dh_types::Refusal;
 use http::StatusCode;
 use sqlite::Alter;
@@ -28,7 +28,7 @@ fn is_order(request: &Result<Request, Refusal>) -> bool
 fn answer<S: Alter, W: Write>(
     alloc: Global,
     agency: &mut Agency<S>,
-    asked: Asked,
+    asked: JudgedRequest,
     writer: &mut W,
 ) -> Result<StatusCode, NetFault>
     ensures serves { IsClean S.Store agency.new
@@ -42,8 +42,8 @@ fn answer<S: Alter, W: Write>(
     ensures was_clean { WasClean S.Store agency.old agency.new }
 {
     match asked {
-        Asked::Turned(why) => send(writer, &turned(why)),
-        Asked::Fields(request) => {
+        JudgedRequest::Turned(why) => send(writer, &turned(why)),
+        JudgedRequest::Fields(request) => {
             let acted = is_order(&request);
             match respond(alloc, agency, request) {
                 Ok(response) => {
@@ -69,7 +69,7 @@ pub(crate) fn serve_over<S: Alter, R: Read, W: Write>(
     ensures serves { IsClean S.Store agency.new → Serves S.Store agency.old agency.new
         (λ asked. IfSome (R.remaining reader.old) (λ input. MayAsk input asked)) (W.contents writer.old) (W.contents writer.new) result }
     ensures closed { result ≡ Err NetFault.Closed → IfSome (R.remaining reader.old) (λ input. input ≡ []) }
-    ensures taken { TakesRequest (R.remaining reader.old) (R.remaining reader.new) }
+    ensures consumed { ConsumesRequest (R.remaining reader.old) (R.remaining reader.new) }
     ensures crash { IsClean S.Store agency.new → agency.old.is_stopped ≡ false → LeavesItsTables S.Store agency.old
         → LeavesServed S.Store agency.old agency.new (λ asked. IfSome (R.remaining reader.old) (λ input. MayAsk input asked)) }
     ensures left { IsClean S.Store agency.new → LeavesItsTables S.Store agency.old → agency.new.is_stopped ≡ false → LeavesItsTables S.Store agency.new }
@@ -96,7 +96,7 @@ pub fn serve_one<S: Alter, R: Read, W: Write>(
     ensures serves { IsClean S.Store agency.new → Serves S.Store agency.old agency.new
         (λ asked. IfSome (R.remaining reader.old) (λ input. MayAsk input asked)) (W.contents writer.old) (W.contents writer.new) result }
     ensures closed { result ≡ Err NetFault.Closed → IfSome (R.remaining reader.old) (λ input. input ≡ []) }
-    ensures taken { TakesRequest (R.remaining reader.old) (R.remaining reader.new) }
+    ensures consumed { ConsumesRequest (R.remaining reader.old) (R.remaining reader.new) }
     ensures crash { IsClean S.Store agency.new → agency.old.is_stopped ≡ false → LeavesItsTables S.Store agency.old
         → LeavesServed S.Store agency.old agency.new (λ asked. IfSome (R.remaining reader.old) (λ input. MayAsk input asked)) }
     ensures left { IsClean S.Store agency.new → LeavesItsTables S.Store agency.old → agency.new.is_stopped ≡ false → LeavesItsTables S.Store agency.new }

@@ -17,7 +17,7 @@ use crate::patience::Patience;
 use crate::watch::Watch;
 use dh_agency::Agency;
 use dh_requests::Routes;
-use dh_types::text_writer::put_parts;
+use dh_types::text_writer::put_pieces;
 use dh_types::{BatchCount, Fault, Output};
 use itoa::Buffer;
 use sqlite::Alter;
@@ -119,7 +119,7 @@ fn print_port<W: Write>(writer: &mut W, asked: u16, port: u16) -> Result<(), Out
         return Ok(());
     }
     let mut digits = Buffer::new();
-    put_parts(writer, &[b"port ", digits.format(port).as_bytes(), b"\n"])
+    put_pieces(writer, &[b"port ", digits.format(port).as_bytes(), b"\n"])
 }
 
 /// Listens at the service's port, answers its connections one after the other, and prints the status of each, or `lost`; before them
@@ -136,7 +136,7 @@ pub fn serve<S: Alter, F: Watch, W: Write>(
     requires { agency.old.is_stopped ≡ false }
     ensures served { (outcomes : List (Option ℕ)) × ServesOn S.Store agency.old agency.new outcomes
         × PrintsServed service outcomes (W.contents writer.old) (W.contents writer.new) result
-        × IsWatched (F.looks file.old) (F.looks file.new) outcomes result }
+        × IsWatched (F.sightings file.old) (F.sightings file.new) outcomes result }
     ensures going { OnOk result (agency.new.is_stopped ≡ false) }
     ensures stopped { result ≡ Err unserved.Stopped → agency.new.is_stopped ≡ true }
     ensures fault { (fault : Fault) → result ≡ Err (unserved.Fault fault) → (agency.new.is_stopped ≡ false) × IsFirstFault fault }

@@ -3,7 +3,7 @@
 ghost use Rattle.std.specs.Prelude.{◌≡◌, ◌*◌, ℕ, List, Option, None};
 ghost use Rattle.std.specs.Io.{ReadsAtMost, WritesAtMost};
 ghost use Rattle.std.specs.Io.KnownBytes.{Keeps, ReadConsumes, WriteAppends};
-ghost use Rattle.dh_http.specs.Calls.{AsksLeft, Call, EndsAnswered, HasTakenIn, Makes, Reads, UsesInTime, Writes, nanos};
+ghost use Rattle.dh_http.specs.Calls.{AsksLeft, Call, EndsAnswered, HasDrained, Makes, Reads, UsesInTime, Writes, nanos};
 
 use crate::patience::Patience;
 use crate::peers::Peer;
@@ -69,9 +69,9 @@ impl<P: Peer> TimedStream<P> {
     }
 
     // Reads what comes, up to so many bytes. A read that a signal interrupts is made again.
-    fn take_in(&mut self, bytes: usize)
+    fn drain(&mut self, bytes: usize)
         ensures { (calls : List Call) × Makes (P.calls self.old.peer) (P.calls self.new.peer) calls
-            × HasTakenIn (nanos self.old.seconds) self.old.begun bytes calls }
+            × HasDrained (nanos self.old.seconds) self.old.begun bytes calls }
     {
         let mut buffer = [0u8; 4096];
         let mut left = bytes;
@@ -137,7 +137,7 @@ pub(crate) fn end_answered<P: Peer>(mut peer: P, patience: Patience) -> P
         return peer;
     }
     let mut rest = TimedStream::new(peer, patience.rest_seconds);
-    rest.take_in(patience.rest_bytes);
+    rest.drain(patience.rest_bytes);
     let TimedStream {
         peer,
         seconds: _,

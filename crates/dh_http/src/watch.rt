@@ -6,9 +6,9 @@ ghost use Rattle.dh_http.specs.Calls.{Makes};
 /// Where the agency's file is looked for before a request is read.
 pub trait Watch {
     // What each look so far saw, where that is known.
-    ghost looks: { Self → Option (List Bool) } = { λ _. None };
+    ghost sightings: { Self → Option (List Bool) } = { λ _. None };
 
     /// Whether the file is where it was.
     fn is_there(&mut self) -> bool
-        ensures { Makes (looks self.old) (looks self.new) (result ∷ []) };
+        ensures { Makes (sightings self.old) (sightings self.new) (result ∷ []) };
 }

@@ -2,7 +2,7 @@
 use Rattle.std.proofs.Common.{◌≡◌, ◌∙◌, ◌⊎◌, inl, inr, Bool, true, false, ℕ, Option, List, ◌++◌, Err, refl, sym, ap, subst}
 use Rattle.sqlite.specs.Store.{Ghosts}
 use Rattle.dh_model.specs.Books.{State}
-use Rattle.dh_agency.specs.Seat.{Seat}
+use Rattle.dh_agency.specs.AgencyView.{AgencyView}
 use Rattle.dh_agency.specs.Agency.{Leaves, LeavesItsTables, machine, shown_by, stand}
 use Rattle.dh_lines.specs.declared.outcome.BatchFault.{BatchFault}
 use Rattle.dh_lines.specs.declared.outcome.BatchFault.TheVariants as ended
@@ -12,7 +12,7 @@ use Rattle.dh_jobs.specs.Ends.{AtFault, AtReading, AtUnread, AtWriting, Stops}
 use Rattle.dh_jobs.specs.Leaving.{LinesLeave}
 
 -- a batch that ended early
-pub stops : {S : Type 0} (g : Ghosts S) (old new : Seat S) (a b : Option (List ℕ)) (fault : BatchFault) (input : List ℕ)
+pub stops : {S : Type 0} (g : Ghosts S) (old new : AgencyView S) (a b : Option (List ℕ)) (fault : BatchFault) (input : List ℕ)
     → (IsStoreFault fault → new.is_stopped ≡ true) → EndsSo g old new a b (Err fault) input
     → Stops (shown_by g new) new.is_stopped a b (stand g old) (records_of input) fault
 stops g old new a b (ended.Agency fault) input store (outcome, h) =
@@ -36,7 +36,7 @@ goes_on was is before (inl same) = same ∙ before
 goes_on was is before (inr (never, stopped)) = absurd never
 
 -- what a crash leaves behind a batch, where no more than the end of the job was asked for since
-pub lines_left : {S : Type 0} (g : Ghosts S) (old mid new : Seat S) → LeavesAnswered g old mid → LeavesItsTables g mid
+pub lines_left : {S : Type 0} (g : Ghosts S) (old mid new : AgencyView S) → LeavesAnswered g old mid → LeavesItsTables g mid
     → Leaves g new (λ left. left ≡ machine g mid) → LinesLeave (shown_by g new) (stand g old)
 lines_left g old mid new h rests same = record {
   rows = h.rows;

@@ -21,7 +21,7 @@ use Rattle.dh_jobs.specs.Texts.{reply_line}
 use Rattle.dh_jobs.specs.Printed.{Behind, Prints, Whole, Within, breaking}
 use Rattle.dh_agency.specs.Agency.{stand_of}
 use Rattle.dh_jobs.specs.Jobs.{says_open, stand_in}
-use Rattle.dh_jobs.specs.Ends.{Comes, Finishes, Told, Unasked, Unheard}
+use Rattle.dh_jobs.specs.Ends.{Comes, Finishes, Unasked, Unprinted, WasPrinted}
 use Rattle.dh_jobs.proofs.TextLemmas.{same_behind, told_behind}
 
 -- ---- whether a run is open
@@ -60,7 +60,7 @@ module _ (mid new : conn.State) (a m b : Option (List ℕ)) (is_refused : Bool) 
       → Finishes mid new m b is_refused status → Comes new a b it status
   comes_finished it refused h clean stands (inl (same, kind, left)) =
       let now = left clean in
-      Told (same_behind a m b it.text same h) (ap stand_of now.0 ∙ stands)
+      WasPrinted (same_behind a m b it.text same h) (ap stand_of now.0 ∙ stands)
       (now.1 ∙ ap (λ (s : State). ending is_refused s.open_run) stands ∙ ap (λ r. ending r it.state.open_run) (sym refused))
   comes_finished it refused h clean stands (inr (told, left)) =
       Unasked (told_behind a m b it.text status h told) (λ is_open. ap stand_of (left clean is_open) ∙ stands)
@@ -81,7 +81,7 @@ module _ (mid new : conn.State) (a m b : Option (List ℕ)) (is_refused : Bool) 
 pub run_unheard : (new : conn.State) (a b : Option (List ℕ)) (told : State × Reply) (reply : Reply) (output : Output) → told ≡ (stand_in new, reply)
     → BreaksOff a b (reply_line reply) → Comes new a b (replied told) (breaking output)
 run_unheard new a b told reply output is h =
-    subst (λ it. Comes new a b (replied it) (breaking output)) (sym is) (Unheard (output, refl, h) refl)
+    subst (λ it. Comes new a b (replied it) (breaking output)) (sym is) (Unprinted (output, refl, h) refl)
 
 pub finished_alike : (old new : conn.State) (a b : Option (List ℕ)) (is_refused same : Bool) (status : Status) → is_refused ≡ same
     → Finishes old new a b is_refused status → Finishes old new a b same status

@@ -20,17 +20,17 @@ use Rattle.dh_schema.specs.Tables.{IsSound, state_in}
 use Rattle.dh_runs.specs.declared.problem.Problem.{Problem}
 use Rattle.dh_runs.specs.declared.problem.Problem.TheVariants as problem
 use Rattle.dh_runs.specs.Taking.{CanBeTaken, GivesVersion, IsFirstProblem, IsProblemOf, IsRefusedFor, LeavesAsTheyWere, ReadsAsItDid}
-use Rattle.dh_runs.specs.Told.{IsRecovered, IsMidRecovery}
+use Rattle.dh_runs.specs.Outcomes.{IsRecovered, IsMidRecovery}
 use Rattle.dh_runs.specs.Moved.{IsMigrationProblem}
 use Rattle.dh_agency.specs.Taken.{TakesAsTheyAre, TakesForward}
-use Rattle.dh_agency.specs.Seat.{Seat}
+use Rattle.dh_agency.specs.AgencyView.{AgencyView}
 use Rattle.dh_agency.specs.Agency.{IsClean, machine, shown_by, stand, stand_of}
 use Rattle.dh_lines.specs.Batch.{AreAfter}
 use Rattle.dh_http.specs.declared.listener.Service.{Service}
 use Rattle.dh_http.specs.declared.listener.Unserved.{Unserved}
 use Rattle.dh_http.specs.declared.listener.Unserved.TheVariants as unserved
-use Rattle.dh_http.specs.Printed.{Listened, PrintsServed, Unlistened, Untold, outcome_lines}
-use Rattle.dh_http.specs.Service.{AreTold, GoesOn, HasStopped, IsAfterSome, IsServing, outcomes_of}
+use Rattle.dh_http.specs.Printed.{Listened, PortUnprinted, PrintsServed, Unlistened, outcome_lines}
+use Rattle.dh_http.specs.Service.{AreOutcomes, GoesOn, HasStopped, IsAfterSome, IsServing, outcomes_of}
 use Rattle.dh_jobs.specs.Jobs.{IsRunCut, stand_in}
 use Rattle.dh_jobs.specs.Leaving.{IsKept, ServingLeaves, TakingLeaves, WorkLeaves}
 use Rattle.dh_jobs.specs.declared.jobs.Work.{Work}
@@ -43,9 +43,10 @@ use Rattle.dh_jobs.specs.Statuses.{IsAnswered, IsFailed}
 use Rattle.dh_jobs.specs.Texts.{refusal_line}
 use Rattle.dh_jobs.specs.Printed.{Before, Behind, Closes, IsMigrationEnd, IsNotMigratedEnd, IsOfLines, IsRecoveryEnd, IsRefusedEnd}
 use Rattle.dh_jobs.specs.Printed.{IsReportEnd, IsRunEnd, Prints}
-use Rattle.dh_jobs.specs.Printed.{PrintsEnd, PrintsJob, PrintsService, PrintsWork, PutsAs, Served, TellsFault, TellsNoListener, TellsProblem, TellsServed}
+use Rattle.dh_jobs.specs.Printed.{EndsByProblem, EndsBySomeFault, EndsServing, EndsWithoutListener, PrintsEnd, PrintsJob, PrintsService, PrintsWork, PutsAs}
+use Rattle.dh_jobs.specs.Printed.{Served}
 use Rattle.dh_jobs.specs.Printed.{Unclosed, Whole, Within}
-use Rattle.dh_jobs.specs.Ends.{IsNotRecovered, IsNotRecoveredFor, IsServed, LinesEnd, MendingEnds, RecoveryEnds, StandsBy, WorkEnds}
+use Rattle.dh_jobs.specs.Ends.{IsNotRecovered, IsNotRecoveredFor, IsServed, LinesEnd, RecoveryEnds, RecoveryEndsFor, StandsBy, WorkEnds}
 use Rattle.dh_jobs.proofs.TextLemmas.{broken_failed, fault_told, tells_behind, told_behind, told_failed}
 
 -- ---- what was printed
@@ -57,27 +58,27 @@ prints_as IsEnd text wanted a b status ends (inl (is, h)) = Whole text (subst (I
 prints_as IsEnd text wanted a b status ends (inr h) = Within text wanted ends h
 
 -- a problem: the file was refused, or a fault came
-pub problem_prints : (problem : Problem) (a b : Option (List ℕ)) (status : Status) → IsFirstProblem problem → TellsProblem problem a b status
+pub problem_prints : (problem : Problem) (a b : Option (List ℕ)) (status : Status) → IsFirstProblem problem → EndsByProblem problem a b status
     → Prints IsRefusedEnd a b status
 problem_prints (problem.Refused why) a b status first h = prints_as IsRefusedEnd (refusal_line why) FileRefused a b status (why, first, refl, refl) h
 problem_prints (problem.Fault fault) a b status first h = Before (fault_told a b fault status first h)
 
 -- the same of a migration
 pub not_migrated_prints : (problem : Problem) (a b : Option (List ℕ)) (status : Status) → IsMigrationProblem problem
-    → TellsProblem problem a b status
+    → EndsByProblem problem a b status
     → Prints IsNotMigratedEnd a b status
 not_migrated_prints (problem.Refused why) a b status first h =
     prints_as IsNotMigratedEnd (refusal_line why) FileRefused a b status (why, first, refl, refl) h
 not_migrated_prints (problem.Fault fault) a b status first h = Before (fault_told a b fault status first h)
 
 -- what was told is no answer
-pub unanswered : (problem : Problem) (a b : Option (List ℕ)) (status : Status) → TellsProblem problem a b status → ¬ IsAnswered status
+pub unanswered : (problem : Problem) (a b : Option (List ℕ)) (status : Status) → EndsByProblem problem a b status → ¬ IsAnswered status
 unanswered (problem.Refused why) a b status (inl h) answered = subst IsAnswered h.0 answered
 unanswered (problem.Refused why) a b status (inr h) answered = subst IsAnswered h.1 answered
 unanswered (problem.Fault fault) a b status h answered = subst IsAnswered h.failed answered
 
 -- serving that was done ended without an error
-pub served_whole : (result : Result (Unit {0}) Unserved) (a b : Option (List ℕ)) (status : Status) → TellsServed result a b status → IsAnswered status
+pub served_whole : (result : Result (Unit {0}) Unserved) (a b : Option (List ℕ)) (status : Status) → EndsServing result a b status → IsAnswered status
     → {P : Type 0} → OnOk result P → P
 served_whole (Ok done) a b status told answered h = h
 served_whole (Err unserved.NoListener) a b status told answered h = absurd (subst IsAnswered told.1 answered)
@@ -115,14 +116,14 @@ lines_closed m b before after h (inr (fine, told)) = failed_of_lines after (told
 -- how serving ended is told behind the lines of the connections
 pub serving_prints : (service : Service) (outcomes : List (Option ℕ)) (a m b : Option (List ℕ)) (result : Result (Unit {0}) Unserved) (status : Status)
     → ((fault : Fault) → result ≡ Err (unserved.Fault fault) → IsFirstFault fault)
-    → PrintsServed service outcomes a m result → TellsServed result m b status → PrintsEnd service outcomes a b result status
+    → PrintsServed service outcomes a m result → EndsServing result m b status → PrintsEnd service outcomes a b result status
 serving_prints service outcomes a m b (Ok done) status first h (same, is) = (subst (λ o. PrintsServed service outcomes a o (Ok done)) (sym same) h, is)
 serving_prints service outcomes a m b (Err unserved.NoListener) status first h told = by h
   where
     by : PrintsServed service outcomes a m (Err unserved.NoListener) → PrintsEnd service outcomes a b (Err unserved.NoListener) status
     by (Listened text port never) = absurd never
-    by (Untold text port broken none failed is) = cc
-    by (Unlistened same none is) = (none, subst (λ o. TellsNoListener o b status) same told)
+    by (PortUnprinted text port broken none failed is) = cc
+    by (Unlistened same none is) = (none, subst (λ o. EndsWithoutListener o b status) same told)
 serving_prints service outcomes a m b (Err (unserved.Output failed)) status first h (same, is) =
     (subst (λ o. PrintsServed service outcomes a o (Err (unserved.Output failed))) (sym same) h, is)
 serving_prints service outcomes a m b (Err unserved.Stopped) status first h (same, is) =
@@ -137,7 +138,7 @@ serving_prints service outcomes a m b (Err (unserved.Fault fault)) status first 
       first = first fault refl;
       told = tells_behind a m b (text ++ outcome_lines outcomes) fault status behind.1 told;
     }
-    by (Untold text port broken none failed is) = cc
+    by (PortUnprinted text port broken none failed is) = cc
     by (Unlistened same none is) = cc
 
 -- Where no connection was served the agency goes on.
@@ -145,7 +146,7 @@ no_end : {A : Type 0} (xs : List A) (y : A) (ys : List A) → [] ≡ xs ++ y ∷
 no_end [] y ys is = cc
 no_end (x ∷ xs) y ys is = cc
 
-none_stops : (s : State) (outcomes : List (Option ℕ)) (now : State) (is_stopped : Bool) → outcomes ≡ [] → AreTold s outcomes now is_stopped
+none_stops : (s : State) (outcomes : List (Option ℕ)) (now : State) (is_stopped : Bool) → outcomes ≡ [] → AreOutcomes s outcomes now is_stopped
     → is_stopped ≡ false
 none_stops s outcomes now is_stopped none (GoesOn contacts told stands going) = going
 none_stops s outcomes now is_stopped none (HasStopped contacts halt more told halts stopped) =
@@ -155,13 +156,13 @@ none_stops s outcomes now is_stopped none (HasStopped contacts halt more told ha
 module _ (service : Service) (outcomes : List (Option ℕ)) (a m b : Option (List ℕ)) (status : Status) (s now : State) (is_stopped : Bool) where
   pub stands_by : (result : Result (Unit {0}) Unserved) → OnOk result (is_stopped ≡ false) → (result ≡ Err unserved.Stopped → is_stopped ≡ true)
       → ((fault : Fault) → result ≡ Err (unserved.Fault fault) → (is_stopped ≡ false) × IsFirstFault fault)
-      → PrintsServed service outcomes a m result → AreTold s outcomes now is_stopped → TellsServed result m b status → StandsBy status is_stopped
+      → PrintsServed service outcomes a m result → AreOutcomes s outcomes now is_stopped → EndsServing result m b status → StandsBy status is_stopped
   stands_by (Ok done) going stopped fault h told (same, is) = subst (λ it. StandsBy it is_stopped) (sym is) going
   stands_by (Err unserved.NoListener) going stopped fault h told said = subst (λ it. StandsBy it is_stopped) (sym said.1) (by h)
     where
       by : PrintsServed service outcomes a m (Err unserved.NoListener) → is_stopped ≡ false
       by (Listened text port never) = absurd never
-      by (Untold text port broken none failed is) = cc
+      by (PortUnprinted text port broken none failed is) = cc
       by (Unlistened same none is) = none_stops s outcomes now is_stopped none told
   stands_by (Err (unserved.Output output)) going stopped fault h told (same, is) = subst (λ it. StandsBy it is_stopped) (sym is) tt
   stands_by (Err unserved.Stopped) going stopped fault h told (same, is) = subst (λ it. StandsBy it is_stopped) (sym is) (stopped refl)
@@ -174,9 +175,9 @@ module _ (service : Service) (outcomes : List (Option ℕ)) (a m b : Option (Lis
   failed_end unserved.Stopped h = subst IsFailed (sym h.1) tt
   failed_end (unserved.Fault fault) h = told_failed a m (h.text ++ outcome_lines outcomes) fault before h.told
 
-  unclosed : (done : Unit {0}) → PrintsServed service outcomes a m (Ok done) → TellsFault m b [] after → PrintsService service outcomes a b after
+  unclosed : (done : Unit {0}) → PrintsServed service outcomes a m (Ok done) → EndsBySomeFault m b [] after → PrintsService service outcomes a b after
   unclosed done (Listened text port h) told = Unclosed text port h.0 (told_behind a m b (text ++ outcome_lines outcomes) after h.1 told)
-  unclosed done (Untold text port broken none cause is) told = cc
+  unclosed done (PortUnprinted text port broken none cause is) told = cc
   unclosed done (Unlistened same none is) told = cc
 
   service_closed : PrintsService service outcomes a m before → Closes m b before after → PrintsService service outcomes a b after
@@ -213,7 +214,7 @@ pub same_error : {T E : Type 0} (r : Result T E) (x y : E) → r ≡ Err x → r
 same_error (Ok it) x y is other = cc
 same_error (Err e) x y is other = cc
 
-module _ {S : Type 0} (g : Ghosts S) (after : Seat S) (last : Held S) (same : last ≡ after.conn) where
+module _ {S : Type 0} (g : Ghosts S) (after : AgencyView S) (last : Held S) (same : last ≡ after.conn) where
   pub was_clean : HasCleanDisk (state g last) → IsClean g after
   was_clean clean = subst (λ (h : Held S). HasCleanDisk (state g h)) same clean
 
@@ -224,14 +225,14 @@ module _ {S : Type 0} (g : Ghosts S) (after : Seat S) (last : Held S) (same : la
   kept_behind status h = back (λ s. IsKept s status) h
 
   module _ (a b : Option (List ℕ)) (status : Status) where
-    pub work_ends : (old : Held S) (taken : Seat S) → machine g taken ≡ store.tables (state g old) → (input : Option (List ℕ)) (it : Work)
+    pub work_ends : (old : Held S) (taken : AgencyView S) → machine g taken ≡ store.tables (state g old) → (input : Option (List ℕ)) (it : Work)
         → WorkEnds (shown_by g after) after.is_stopped a b (machine g taken) input it status
         → WorkEnds (state g last) after.is_stopped a b (store.tables (state g old)) input it status
     work_ends old taken is input it h =
         subst (λ t. WorkEnds (state g last) after.is_stopped a b t input it status) is
         (back (λ new. WorkEnds new after.is_stopped a b (machine g taken) input it status) h)
 
-    pub lines_end : (s : State) (made : Seat S) → stand g made ≡ s → (input : Option (List ℕ))
+    pub lines_end : (s : State) (made : AgencyView S) → stand g made ≡ s → (input : Option (List ℕ))
         → IfSome input (λ input. LinesEnd (shown_by g after) after.is_stopped a b (stand g made) input status)
         → IfSome input (λ input. LinesEnd (state g last) after.is_stopped a b s input status)
     lines_end s made is input h =
@@ -239,7 +240,7 @@ module _ {S : Type 0} (g : Ghosts S) (after : Seat S) (last : Held S) (same : la
         (back (λ new. IfSome input (λ input. LinesEnd new after.is_stopped a b (stand g made) input status)) h)
 
   -- connections were served
-  module _ (old : Held S) (taken : Seat S) (is : machine g taken ≡ store.tables (state g old)) (outcomes : List (Option ℕ))
+  module _ (old : Held S) (taken : AgencyView S) (is : machine g taken ≡ store.tables (state g old)) (outcomes : List (Option ℕ))
       (served : IsServing g (stand g taken) outcomes after) where
     pub serving_ends : (a b : Option (List ℕ)) (service : Service) (status : Status) → StandsBy status after.is_stopped
         → PrintsService service outcomes a b status → IsServed (state g old) (state g last) a b service status
@@ -249,8 +250,8 @@ module _ {S : Type 0} (g : Ghosts S) (after : Seat S) (last : Held S) (same : la
       is_stopped = after.is_stopped;
       stands = stands;
       told =
-          subst (λ t. AreTold (stand_of t) outcomes (stand_in (state g last)) after.is_stopped) is
-          (back (λ new. AreTold (stand_of (machine g taken)) outcomes (stand_in new) after.is_stopped) served.told);
+          subst (λ t. AreOutcomes (stand_of t) outcomes (stand_in (state g last)) after.is_stopped) is
+          (back (λ new. AreOutcomes (stand_of (machine g taken)) outcomes (stand_in new) after.is_stopped) served.told);
       reads =
           subst (λ t. IsTrue (state g last).is_open → IsAfterSome (stand_of t) (store.tables (state g last))) is
           (back (λ new. IsTrue new.is_open → IsAfterSome (stand_of (machine g taken)) (store.tables new)) served.reads);
@@ -340,15 +341,15 @@ module _ (old mid new : conn.State) (turned : TakesForward old mid) (same : HasC
     };
   }
 
-  pub mended_again : (a b : Option (List ℕ)) (status : Status) → (HasCleanDisk mid → GivesVersion First old.now.trees) → HasCleanDisk new
-      → MendingEnds (CanBeTaken First) (IsProblemOf First mid.now.trees) mid new a b status → RecoveryEnds old new a b status
-  mended_again a b status gives clean (inl (can, mended, told)) =
+  pub recovered_again : (a b : Option (List ℕ)) (status : Status) → (HasCleanDisk mid → GivesVersion First old.now.trees) → HasCleanDisk new
+      → RecoveryEndsFor (CanBeTaken First) (IsProblemOf First mid.now.trees) mid new a b status → RecoveryEnds old new a b status
+  recovered_again a b status gives clean (inl (can, was_recovered, told)) =
       inl (
         inl (subst (λ (now : Database). CanBeTaken First now.trees) (now_same clean) can),
-        subst (λ (now : Database). IsRecovered (state_in now.trees) (store.tables new)) (now_same clean) mended,
+        subst (λ (now : Database). IsRecovered (state_in now.trees) (store.tables new)) (now_same clean) was_recovered,
         told,
       )
-  mended_again a b status gives clean (inr (it, left)) =
+  recovered_again a b status gives clean (inr (it, left)) =
       let cause = subst (λ (now : Database). IsProblemOf First now.trees it.problem) (now_same clean) it.cause in
       inr (
         record {

@@ -13,11 +13,12 @@ use Rattle.dh_reports.specs.ReportTexts.{report_text}
 use Rattle.dh_schema.specs.Faults.{IsFirstFault}
 use Rattle.dh_lines.specs.Batch.{PutsBehind}
 use Rattle.dh_jobs.specs.declared.status.Status.{Status}
-use Rattle.dh_jobs.specs.Printed.{BreaksIn, PutsAs, Tells, TellsFault, heard}
+use Rattle.dh_jobs.specs.Printed.{BreaksIn, EndsByFault, EndsBySomeFault, PutsAs, status_if_written}
 use Rattle.dh_jobs.specs.Statuses.{IsFailed}
 use Rattle.dh_jobs.specs.Texts.{fault_line, report_lines}
 
-pub puts_as : {T : Type 0} (r : Result T Output) (text : List ℕ) (wanted status : Status) (a b : Option (List ℕ)) → status ≡ heard r wanted → Puts a b r text
+pub puts_as : {T : Type 0} (r : Result T Output) (text : List ℕ) (wanted status : Status) (a b : Option (List ℕ)) → status ≡ status_if_written r wanted
+    → Puts a b r text
     → PutsAs text wanted a b status
 puts_as (Ok it) text wanted status a b is h = inl (is, h)
 puts_as (Err output) text wanted status a b is h = inr (output, is, h)
@@ -29,24 +30,26 @@ put_behind a m b first second (Ok it) h put = Appends-trans a m b first second h
 put_behind a m b first second (Err e) h put = (put.0, put.1, Appends-trans a m b first (take put.0 second) h put.2)
 
 -- a fault that was told, behind nothing, and behind a text
-pub fault_told : (a b : Option (List ℕ)) (fault : Fault) (status : Status) → IsFirstFault fault → Tells fault a b [] status → TellsFault a b [] status
+pub fault_told : (a b : Option (List ℕ)) (fault : Fault) (status : Status) → IsFirstFault fault → EndsByFault fault a b [] status
+    → EndsBySomeFault a b [] status
 fault_told a b fault status first h = record { fault = fault; first = first; told = h }
 
-pub tells_behind : (a m b : Option (List ℕ)) (text : List ℕ) (fault : Fault) (status : Status) → Appends a m text → Tells fault m b [] status
-    → Tells fault a b text status
+pub tells_behind : (a m b : Option (List ℕ)) (text : List ℕ) (fault : Fault) (status : Status) → Appends a m text → EndsByFault fault m b [] status
+    → EndsByFault fault a b text status
 tells_behind a m b text fault status h told = record {
   outcome = told.outcome;
   failed = told.failed;
   written = put_behind a m b text (fault_line fault) told.outcome h told.written;
 }
 
-pub told_behind : (a m b : Option (List ℕ)) (text : List ℕ) (status : Status) → Appends a m text → TellsFault m b [] status → TellsFault a b text status
+pub told_behind : (a m b : Option (List ℕ)) (text : List ℕ) (status : Status) → Appends a m text → EndsBySomeFault m b [] status
+    → EndsBySomeFault a b text status
 told_behind a m b text status h told =
     record { fault = told.fault; first = told.first; told = tells_behind a m b text told.fault status h told.told }
 
 -- ---- failures
 
-pub told_failed : (a b : Option (List ℕ)) (text : List ℕ) (fault : Fault) (status : Status) → Tells fault a b text status → IsFailed status
+pub told_failed : (a b : Option (List ℕ)) (text : List ℕ) (fault : Fault) (status : Status) → EndsByFault fault a b text status → IsFailed status
 told_failed a b text fault status told = subst IsFailed (sym told.failed) tt
 
 pub broken_failed : (text : List ℕ) (a b : Option (List ℕ)) (status : Status) → BreaksIn text a b status → IsFailed status

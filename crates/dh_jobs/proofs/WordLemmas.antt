@@ -14,10 +14,10 @@ use Rattle.dh_types.specs.declared.reply.Fault.TheVariants as fault
 use Rattle.dh_arguments.specs.Table.{letting}
 use Rattle.dh_arguments.specs.Options.{first_bad}
 use Rattle.dh_arguments.specs.Jobs.{Asks, IsBadFor, IsJobOf, usual_first}
-use Rattle.dh_arguments.specs.declared.kinds.BadWords.{BadWords}
-use Rattle.dh_arguments.specs.declared.kinds.BadWords.TheVariants as bad
-use Rattle.dh_arguments.specs.declared.kinds.Job.{Job}
-use Rattle.dh_arguments.specs.declared.kinds.Job.TheVariants.{Init, Batch, Run, Recover, Migrate, Report, Serve}
+use Rattle.dh_arguments.specs.declared.jobs.BadWords.{BadWords}
+use Rattle.dh_arguments.specs.declared.jobs.BadWords.TheVariants as bad
+use Rattle.dh_arguments.specs.declared.jobs.Job.{Job}
+use Rattle.dh_arguments.specs.declared.jobs.Job.TheVariants.{Init, Batch, Run, Recover, Migrate, Report, Serve}
 use Rattle.dh_jobs.specs.declared.status.Status.{Status}
 use Rattle.dh_jobs.specs.Desk.{AskedEnds, BadPrints, BatchEnds}
 use Rattle.dh_jobs.specs.Ends.{MemoryLinesEnd}

@@ -9,10 +9,10 @@ use Rattle.clap.specs.declared.error.kind.ErrorKind.{ErrorKind}
 use Rattle.clap.specs.declared.error.kind.ErrorKind.TheVariants.{DisplayHelp, DisplayVersion}
 use Rattle.dh_types.specs.declared.output.Output.{Output}
 use Rattle.dh_types.specs.declared.reply.Fault.TheVariants as fault
-use Rattle.dh_arguments.specs.declared.kinds.BadWords.{BadWords}
-use Rattle.dh_arguments.specs.declared.kinds.BadWords.TheVariants as bad
-use Rattle.dh_arguments.specs.declared.kinds.Job.{Job}
-use Rattle.dh_arguments.specs.declared.kinds.Job.TheVariants.{Init, Batch, Run, Recover, Migrate, Report, Serve}
+use Rattle.dh_arguments.specs.declared.jobs.BadWords.{BadWords}
+use Rattle.dh_arguments.specs.declared.jobs.BadWords.TheVariants as bad
+use Rattle.dh_arguments.specs.declared.jobs.Job.{Job}
+use Rattle.dh_arguments.specs.declared.jobs.Job.TheVariants.{Init, Batch, Run, Recover, Migrate, Report, Serve}
 use Rattle.dh_arguments.specs.Jobs.{IsBadFor, IsJobOf}
 use Rattle.dh_reports.specs.Columns.{newline}
 use Rattle.dh_http.specs.Patience.{standard_patience}
@@ -22,7 +22,7 @@ use Rattle.dh_jobs.specs.declared.status.Failure.TheVariants as failure
 use Rattle.dh_jobs.specs.declared.status.Status.{Status}
 use Rattle.dh_jobs.specs.declared.status.Status.TheVariants as status
 use Rattle.dh_jobs.specs.Texts.{fault_line, refusal_line}
-use Rattle.dh_jobs.specs.Printed.{IsOfLines, PutsBad, PutsEnding, Tells, heard}
+use Rattle.dh_jobs.specs.Printed.{EndsByFault, IsOfLines, PutsBad, PutsEnding, status_if_written}
 use Rattle.dh_jobs.specs.Ends.{MemoryLinesEnd}
 use Rattle.dh_jobs.specs.OnFile.{DoneOnFile, MadeOnFile}
 
@@ -32,8 +32,8 @@ IsLineOf text line = (trimmed : List ℕ) × IsTrimEndMatches (FindsCharSuffix 1
 
 -- How the program ends where a message was written so: help is all that was asked for, or the words are bad.
 abbrev pub said_status : ErrorKind → Result (Unit {0}) Output → Status
-said_status DisplayHelp outcome = heard outcome status.Done
-said_status DisplayVersion outcome = heard outcome status.Done
+said_status DisplayHelp outcome = status_if_written outcome status.Done
+said_status DisplayVersion outcome = status_if_written outcome status.Done
 said_status _ outcome = status.BadWords outcome
 
 -- the same where there was no memory for the message, and the line of that fault was written so
@@ -62,7 +62,7 @@ abbrev pub BadPrints : BadWords → Option (List ℕ) → Option (List ℕ) → 
 BadPrints (bad.Refused error) a b it = MessagePrints error a b it
 BadPrints (bad.Value option) a b it = PutsBad (value_line option.now) a b it
 BadPrints (bad.Question refusal) a b it = PutsBad (refusal_line refusal) a b it
-BadPrints bad.Memory a b it = Tells fault.Memory a b [] it
+BadPrints bad.Memory a b it = EndsByFault fault.Memory a b [] it
 
 -- on a disk of these ghosts, whose files held this as they were opened
 module _ {D : Type 0} (g : disk.Ghosts D) (held : Image) where

@@ -22,7 +22,7 @@ use Rattle.dh_schema.specs.Store as store
 use Rattle.dh_runs.specs.declared.problem.Problem.{Problem}
 use Rattle.dh_runs.specs.declared.problem.Problem.TheVariants as problem
 use Rattle.dh_runs.specs.Taking.{BreaksRule, CanBeTaken, IsProblemOf, IsRefusedFor}
-use Rattle.dh_runs.specs.Told.{IsRecovered}
+use Rattle.dh_runs.specs.Outcomes.{IsRecovered}
 use Rattle.dh_runs.specs.Migrated.{migrated_state}
 use Rattle.dh_runs.specs.Moved.{CanBeMigrated, IsNotMigrated, StaysAsItWas}
 use Rattle.dh_agency.specs.Taken.{TakesAsTheyAre, TakesForward}
@@ -36,7 +36,7 @@ use Rattle.dh_lines.specs.Session as session
 use Rattle.dh_lines.specs.Session.{Answered, line, lines_from, records_of, replied, state_after}
 use Rattle.dh_lines.specs.Batch.{IsFaultAt, IsWithin, PutsBehind}
 use Rattle.dh_http.specs.declared.listener.Service.{Service}
-use Rattle.dh_http.specs.Service.{AreTold, IsAfterSome}
+use Rattle.dh_http.specs.Service.{AreOutcomes, IsAfterSome}
 use Rattle.dh_jobs.specs.declared.jobs.Work.{Work}
 use Rattle.dh_jobs.specs.declared.jobs.Work.TheVariants as work
 use Rattle.dh_jobs.specs.declared.store_jobs.FileJob.{FileJob}
@@ -46,7 +46,7 @@ use Rattle.dh_jobs.specs.declared.status.Status.{Status}
 use Rattle.dh_jobs.specs.declared.status.Status.TheVariants.{Done, Failed}
 use Rattle.dh_jobs.specs.Statuses.{IsEnding, ending, status_of}
 use Rattle.dh_jobs.specs.Texts.{migrated_line, recovered_line}
-use Rattle.dh_jobs.specs.Printed.{BreaksIn, PrintsService, PutsAs, TellsFault, TellsProblem}
+use Rattle.dh_jobs.specs.Printed.{BreaksIn, EndsByProblem, EndsBySomeFault, PrintsService, PutsAs}
 use Rattle.dh_jobs.specs.Jobs.{IsRunCut, lines_answered, report_shown, run_told, stand_in}
 
 -- ---- over tables that were taken
@@ -54,13 +54,13 @@ use Rattle.dh_jobs.specs.Jobs.{IsRunCut, lines_answered, report_shown, run_told,
 -- The job came to this. Its text was printed, and the status is by what is left; or the writer failed in the text; or a fault came
 -- behind it, as the open run was asked for.
 pub data Comes (new : conn.State) (a b : Option (List ℕ)) (it : Answered) (status : Status) : Type 0 where
-  Told : Appends a b it.text → stand_in new ≡ it.state → status ≡ status_of it → Comes new a b it status
-  Unheard : BreaksIn it.text a b status → stand_in new ≡ it.state → Comes new a b it status
-  Unasked : TellsFault a b it.text status → (IsTrue new.is_open → stand_in new ≡ it.state) → Comes new a b it status
+  WasPrinted : Appends a b it.text → stand_in new ≡ it.state → status ≡ status_of it → Comes new a b it status
+  Unprinted : BreaksIn it.text a b status → stand_in new ≡ it.state → Comes new a b it status
+  Unasked : EndsBySomeFault a b it.text status → (IsTrue new.is_open → stand_in new ≡ it.state) → Comes new a b it status
 
 -- A fault came first, and was told. Of tables that can be read this holds.
 pub record Breaks (new : conn.State) (a b : Option (List ℕ)) (P : State → Type 0) (status : Status) : Type 0 where
-  pub told : TellsFault a b [] status
+  pub told : EndsBySomeFault a b [] status
   pub left : IsTrue new.is_open → P (store.tables new)
 
 -- The first records were answered, and then a fault came within the next one, whose line follows as the outcome says. The agency has stopped, at
@@ -100,7 +100,7 @@ abbrev pub Finishes : conn.State → conn.State → Option (List ℕ) → Option
 Finishes old new a b is_refused status =
     ((b ≡ a) × IsEnding is_refused status
     × (HasCleanDisk new → (store.tables new ≡ store.tables old) × (status ≡ ending is_refused (store.tables old).open_run)))
-    ⊎ (TellsFault a b [] status × (HasCleanDisk new → IsTrue new.is_open → store.tables new ≡ store.tables old))
+    ⊎ (EndsBySomeFault a b [] status × (HasCleanDisk new → IsTrue new.is_open → store.tables new ≡ store.tables old))
 
 -- a month's run over these tables
 abbrev pub RunEnds : conn.State → Option (List ℕ) → Option (List ℕ) → State → RunOrder → Option ℕ → Status → Type 0
@@ -121,7 +121,7 @@ WorkEnds new is_stopped a b t input (work.Report question) status = ReportEnds n
 pub record IsNotTaken (IsCause : Problem → Type 0) (a b : Option (List ℕ)) (status : Status) : Type 0 where
   pub problem : Problem
   pub cause : IsCause problem
-  pub told : TellsProblem problem a b status
+  pub told : EndsByProblem problem a b status
 
 -- The tables were sound and of the second version, and were worked on; or they were not taken, and are as they were.
 abbrev pub TakingEnds : conn.State → conn.State → Option (List ℕ) → Option (List ℕ) → Option (List ℕ) → Work → Status → Type 0
@@ -131,8 +131,8 @@ TakingEnds old new a b input it status =
 
 -- The open run of such tables was made to its end; or for such a cause they were not taken, or not to the end, and the open run is moved
 -- on at most.
-abbrev pub MendingEnds : (Trees → Type 0) → (Problem → Type 0) → conn.State → conn.State → Option (List ℕ) → Option (List ℕ) → Status → Type 0
-MendingEnds Can IsCause old new a b status =
+abbrev pub RecoveryEndsFor : (Trees → Type 0) → (Problem → Type 0) → conn.State → conn.State → Option (List ℕ) → Option (List ℕ) → Status → Type 0
+RecoveryEndsFor Can IsCause old new a b status =
     (Can old.now.trees × IsRecovered (store.tables old) (store.tables new) × PutsAs recovered_line Done a b status)
     ⊎ (IsNotTaken IsCause a b status × TakesForward old new)
 
@@ -153,7 +153,7 @@ IsNotRecovered trees (problem.Fault fault) = IsFirstFault fault
 
 -- the open run of tables of either version
 abbrev pub RecoveryEnds : conn.State → conn.State → Option (List ℕ) → Option (List ℕ) → Status → Type 0
-RecoveryEnds old new a b status = MendingEnds CanBeRecovered (IsNotRecovered old.now.trees) old new a b status
+RecoveryEnds old new a b status = RecoveryEndsFor CanBeRecovered (IsNotRecovered old.now.trees) old new a b status
 
 -- The tables were migrated; or they were not, and are as they were.
 abbrev pub MigrationEnds : conn.State → conn.State → Option (List ℕ) → Option (List ℕ) → Status → Type 0
@@ -164,12 +164,12 @@ MigrationEnds old new a b status =
 -- Lines are answered from the beginning with this month; or there was no agency, for a fault.
 abbrev pub NewLinesEnd : conn.State → Option (List ℕ) → Option (List ℕ) → ℕ → Option (List ℕ) → Status → Type 0
 NewLinesEnd new a b first input status =
-    ((is_stopped : Bool) × IfSome input (λ input. LinesEnd new is_stopped a b (start first) input status)) ⊎ TellsFault a b [] status
+    ((is_stopped : Bool) × IfSome input (λ input. LinesEnd new is_stopped a b (start first) input status)) ⊎ EndsBySomeFault a b [] status
 
 -- the same in memory, which leaves some tables
 abbrev pub MemoryLinesEnd : Option (List ℕ) → Option (List ℕ) → ℕ → Option (List ℕ) → Status → Type 0
 MemoryLinesEnd a b first input status =
-    ((left : Held MemStore) × NewLinesEnd (state over_memory left) a b first input status) ⊎ TellsFault a b [] status
+    ((left : Held MemStore) × NewLinesEnd (state over_memory left) a b first input status) ⊎ EndsBySomeFault a b [] status
 
 -- What the end of serving says of the agency: it has stopped where serving ended for that, and else it goes on. Nothing is said where the output
 -- failed.
@@ -186,7 +186,7 @@ pub record IsServed (old new : conn.State) (a b : Option (List ℕ)) (service : 
   pub outcomes : List (Option ℕ)
   pub printed : PrintsService service outcomes a b status
   pub is_stopped : Bool
-  pub told : AreTold (stand_of (store.tables old)) outcomes (stand_in new) is_stopped
+  pub told : AreOutcomes (stand_of (store.tables old)) outcomes (stand_in new) is_stopped
   pub stands : StandsBy status is_stopped
   pub reads : IsTrue new.is_open → IsAfterSome (stand_of (store.tables old)) (store.tables new)
 

@@ -4,7 +4,7 @@ pub mod Printed
 pub mod Jobs
 pub mod Ends
 pub mod Leaving
-pub mod Places
+pub mod Paths
 pub mod OnFile
 pub mod Desk
 pub mod Process

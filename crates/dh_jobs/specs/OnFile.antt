@@ -28,7 +28,7 @@ use Rattle.dh_jobs.specs.declared.status.Status.TheVariants.{Done}
 use Rattle.dh_jobs.specs.Statuses.{IsFailed}
 use Rattle.dh_jobs.specs.Ends.{JobEnds}
 use Rattle.dh_jobs.specs.Leaving.{IsKept, JobLeaves}
-use Rattle.dh_jobs.specs.Printed.{Closes, IsMakingEnd, Prints, PrintsJob, PutsAs, Tells, TellsFault}
+use Rattle.dh_jobs.specs.Printed.{Closes, EndsByFault, EndsBySomeFault, IsMakingEnd, Prints, PrintsJob, PutsAs}
 use Rattle.dh_jobs.specs.Texts.{created_line}
 
 -- the tables of books that begin so were made, and a crash leaves these alone
@@ -69,7 +69,7 @@ module _ {D : Type 0} {g : disk.Ghosts D} where
     pub kept : IsKept (file_state last) done
     pub closes : Closes told b done status
     pub closed_to : ClosesTo last closed
-    pub failed : ¬ IsFailed done → IfErr closed (λ it. Tells it.0 told b [] status)
+    pub failed : ¬ IsFailed done → IfErr closed (λ it. EndsByFault it.0 told b [] status)
     pub whole : ¬ IsFailed status → IsOk closed
 
   -- This connection was opened on files that held this: it reads the database in them, or an empty one where they are no database yet, whose
@@ -103,17 +103,17 @@ module _ {D : Type 0} {g : disk.Ghosts D} where
     pub last : Held (FileStore D g)
     pub was_clean : HasCleanDisk (file_state last) → HasCleanDisk (file_state old)
     pub left : Commits (file_state old) (file_state last) (λ t. t ≡ start first)
-    pub occupied : ¬ IsBlank (file_state old) → Tells fault.Store a b [] status × (last ≡ old)
+    pub occupied : ¬ IsBlank (file_state old) → EndsByFault fault.Store a b [] status × (last ≡ old)
     pub closed_to : IfSome closed (ClosesTo last)
     pub ends : (IsMade first (file_state last) × IsSomeAnd closed (λ it. IsOk it) × PutsAs (created_line first) Done a b status)
-        ⊎ (TellsFault a b [] status × (IsUnmade (file_state old) (file_state last) ⊎ IsMade first (file_state last)))
+        ⊎ (EndsBySomeFault a b [] status × (IsUnmade (file_state old) (file_state last) ⊎ IsMade first (file_state last)))
 
 -- No file was opened; or files that held this were, this is left of them, and none was used: a fault is told, and nothing else. Or over the
 -- connection to them it ended so.
 pub data FileEnds {D : Type 0} (g : disk.Ghosts D) (held : Image) {Closed : Type 0} (Ends : Held (FileStore D g) → Closed → Type 0)
     (a b : Option (List ℕ)) (status : Status) : Type 0 where
-  Unfound : TellsFault a b [] status → FileEnds g held Ends a b status
-  Unopened : (left : Remains D g) → IsLeftOf held left → TellsFault a b [] status → FileEnds g held Ends a b status
+  Unfound : EndsBySomeFault a b [] status → FileEnds g held Ends a b status
+  Unopened : (left : Remains D g) → IsLeftOf held left → EndsBySomeFault a b [] status → FileEnds g held Ends a b status
   Opened : (conn : Held (FileStore D g)) (closed : Closed) → IsOpenedOn held conn → Ends conn closed → FileEnds g held Ends a b status
 
 -- A job was done so on the files, and this is printed whatever became of the disk.

@@ -33,9 +33,9 @@ abbrev pub breaking : Output → Status
 breaking output = Failed (failure.Output output)
 
 -- the status of a text that was written so
-abbrev pub heard : {T : Type 0} → Result T Output → Status → Status
-heard (Ok it) wanted = wanted
-heard (Err output) wanted = breaking output
+abbrev pub status_if_written : {T : Type 0} → Result T Output → Status → Status
+status_if_written (Ok it) wanted = wanted
+status_if_written (Err output) wanted = breaking output
 
 -- the output failed in the text, of which a beginning was printed
 abbrev pub BreaksIn : List ℕ → Option (List ℕ) → Option (List ℕ) → Status → Type 0
@@ -54,28 +54,28 @@ abbrev pub PutsBad : List ℕ → Option (List ℕ) → Option (List ℕ) → St
 PutsBad text a b status = PutsEnding BadWords text a b status
 
 -- Behind this text this fault was told, as the outcome in the status says: its whole line, or a beginning of it.
-pub record Tells (fault : Fault) (a b : Option (List ℕ)) (text : List ℕ) (status : Status) : Type 0 where
+pub record EndsByFault (fault : Fault) (a b : Option (List ℕ)) (text : List ℕ) (status : Status) : Type 0 where
   pub outcome : Result (Unit {0}) Output
   pub failed : status ≡ Failed (failure.Fault fault outcome)
   pub written : PutsBehind a b text outcome (fault_line fault)
 
 -- Behind this text a fault was told.
-pub record TellsFault (a b : Option (List ℕ)) (text : List ℕ) (status : Status) : Type 0 where
+pub record EndsBySomeFault (a b : Option (List ℕ)) (text : List ℕ) (status : Status) : Type 0 where
   pub fault : Fault
   pub first : IsFirstFault fault
-  pub told : Tells fault a b text status
+  pub told : EndsByFault fault a b text status
 
 -- Why tables are not taken is told: the file is refused, or a fault came.
-abbrev pub TellsProblem : Problem → Option (List ℕ) → Option (List ℕ) → Status → Type 0
-TellsProblem (problem.Refused why) a b status = PutsAs (refusal_line why) FileRefused a b status
-TellsProblem (problem.Fault fault) a b status = Tells fault a b [] status
+abbrev pub EndsByProblem : Problem → Option (List ℕ) → Option (List ℕ) → Status → Type 0
+EndsByProblem (problem.Refused why) a b status = PutsAs (refusal_line why) FileRefused a b status
+EndsByProblem (problem.Fault fault) a b status = EndsByFault fault a b [] status
 
 -- A text with which the job may end was printed whole, with its status; or the job failed, within that text, behind it, or before it.
 pub data Prints (IsEnd : List ℕ → Status → Type 0) (a b : Option (List ℕ)) (status : Status) : Type 0 where
   Whole : (text : List ℕ) → IsEnd text status → Appends a b text → Prints IsEnd a b status
   Within : (text : List ℕ) (last : Status) → IsEnd text last → BreaksIn text a b status → Prints IsEnd a b status
-  Behind : (text : List ℕ) (last : Status) → IsEnd text last → TellsFault a b text status → Prints IsEnd a b status
-  Before : TellsFault a b [] status → Prints IsEnd a b status
+  Behind : (text : List ℕ) (last : Status) → IsEnd text last → EndsBySomeFault a b text status → Prints IsEnd a b status
+  Before : EndsBySomeFault a b [] status → Prints IsEnd a b status
 
 -- ---- the ends of jobs
 
@@ -112,38 +112,38 @@ PrintsWork (work.Run order batches) a b status = Prints IsRunEnd a b status
 PrintsWork (work.Report question) a b status = Prints IsReportEnd a b status
 
 -- that there is no listener is told, as the outcome in the status says
-abbrev pub TellsNoListener : Option (List ℕ) → Option (List ℕ) → Status → Type 0
-TellsNoListener a b status = (outcome : Result (Unit {0}) Output) × (status ≡ Failed (failure.NoListener outcome)) × Puts a b outcome no_listener_line
+abbrev pub EndsWithoutListener : Option (List ℕ) → Option (List ℕ) → Status → Type 0
+EndsWithoutListener a b status = (outcome : Result (Unit {0}) Output) × (status ≡ Failed (failure.NoListener outcome)) × Puts a b outcome no_listener_line
 
 -- Serving came to its end, whatever was refused; or it did not, and a want of a listener, and a fault of it, are told.
-abbrev pub TellsServed : Result (Unit {0}) Unserved → Option (List ℕ) → Option (List ℕ) → Status → Type 0
-TellsServed (Ok done) a b status = (b ≡ a) × (status ≡ Done)
-TellsServed (Err unserved.NoListener) a b status = TellsNoListener a b status
-TellsServed (Err (unserved.Output output)) a b status = (b ≡ a) × (status ≡ breaking output)
-TellsServed (Err unserved.Stopped) a b status = (b ≡ a) × (status ≡ Failed failure.Stopped)
-TellsServed (Err (unserved.Fault fault)) a b status = Tells fault a b [] status
+abbrev pub EndsServing : Result (Unit {0}) Unserved → Option (List ℕ) → Option (List ℕ) → Status → Type 0
+EndsServing (Ok done) a b status = (b ≡ a) × (status ≡ Done)
+EndsServing (Err unserved.NoListener) a b status = EndsWithoutListener a b status
+EndsServing (Err (unserved.Output output)) a b status = (b ≡ a) × (status ≡ breaking output)
+EndsServing (Err unserved.Stopped) a b status = (b ≡ a) × (status ≡ Failed failure.Stopped)
+EndsServing (Err (unserved.Fault fault)) a b status = EndsByFault fault a b [] status
 
 -- behind the lines of fewer connections than were to be served this fault was told, for which no further one could be taken
-pub record TellsUntaken (service : Service) (outcomes : List (Option ℕ)) (fault : Fault) (a b : Option (List ℕ)) (status : Status) : Type 0 where
+pub record EndsUnaccepted (service : Service) (outcomes : List (Option ℕ)) (fault : Fault) (a b : Option (List ℕ)) (status : Status) : Type 0 where
   pub text : List ℕ
   pub port : IsPortText service.port text
   pub fewer : AreFewer service.count outcomes
   pub first : IsFirstFault fault
-  pub told : Tells fault a b (text ++ outcome_lines outcomes) status
+  pub told : EndsByFault fault a b (text ++ outcome_lines outcomes) status
 
 -- the same, with the lines of the connections
 abbrev pub PrintsEnd : Service → List (Option ℕ) → Option (List ℕ) → Option (List ℕ) → Result (Unit {0}) Unserved → Status → Type 0
 PrintsEnd service outcomes a b (Ok done) status = PrintsServed service outcomes a b (Ok done) × (status ≡ Done)
-PrintsEnd service outcomes a b (Err unserved.NoListener) status = (outcomes ≡ []) × TellsNoListener a b status
+PrintsEnd service outcomes a b (Err unserved.NoListener) status = (outcomes ≡ []) × EndsWithoutListener a b status
 PrintsEnd service outcomes a b (Err (unserved.Output output)) status =
     PrintsServed service outcomes a b (Err (unserved.Output output)) × (status ≡ breaking output)
 PrintsEnd service outcomes a b (Err unserved.Stopped) status = PrintsServed service outcomes a b (Err unserved.Stopped) × (status ≡ Failed failure.Stopped)
-PrintsEnd service outcomes a b (Err (unserved.Fault fault)) status = TellsUntaken service outcomes fault a b status
+PrintsEnd service outcomes a b (Err (unserved.Fault fault)) status = EndsUnaccepted service outcomes fault a b status
 
 -- Connections were served, and these outcomes told; or all were, and a fault was told behind them, as the store was closed.
 pub data PrintsService (service : Service) (outcomes : List (Option ℕ)) (a b : Option (List ℕ)) (status : Status) : Type 0 where
   Served : (result : Result (Unit {0}) Unserved) → PrintsEnd service outcomes a b result status → PrintsService service outcomes a b status
-  Unclosed : (text : List ℕ) → IsPortText service.port text → AreAll service.count outcomes → TellsFault a b (text ++ outcome_lines outcomes) status
+  Unclosed : (text : List ℕ) → IsPortText service.port text → AreAll service.count outcomes → EndsBySomeFault a b (text ++ outcome_lines outcomes) status
       → PrintsService service outcomes a b status
 
 -- the same of a job on a file, which may be refused
@@ -156,4 +156,4 @@ PrintsJob (job.Serve service) a b status =
 
 -- A store was closed after this status: it stays, and nothing is printed; or that failed, where nothing had failed before, and is told.
 abbrev pub Closes : Option (List ℕ) → Option (List ℕ) → Status → Status → Type 0
-Closes a b before after = ((after ≡ before) × (b ≡ a)) ⊎ ((¬ IsFailed before) × TellsFault a b [] after)
+Closes a b before after = ((after ≡ before) × (b ≡ a)) ⊎ ((¬ IsFailed before) × EndsBySomeFault a b [] after)

@@ -10,12 +10,12 @@ ghost use Rattle.dh_runs.specs.Taking.{IsResting};
 ghost use Rattle.dh_schema.specs.Faults.{IsFirstFault};
 ghost use Rattle.dh_jobs.specs.Ends.{MemoryLinesEnd};
 ghost use Rattle.dh_jobs.specs.OnFile.{ClosesTo, DoneOnFile, EndsOnFile, IsLeftOf, IsOpenedOn, IsUnopenedOn, MadeOnFile, MakesOnFile};
-ghost use Rattle.dh_jobs.specs.Printed.{Closes, IsMakingEnd, IsOfLines, Prints, PrintsJob, Tells};
+ghost use Rattle.dh_jobs.specs.Printed.{Closes, EndsByFault, IsMakingEnd, IsOfLines, Prints, PrintsJob};
 ghost use Rattle.dh_jobs.specs.Statuses.{IsFailed};
 
 use crate::blank::Blank;
-use crate::places::{Found, Opened, Place, take_back};
-use crate::printed::{heard, print_created, tell_fault};
+use crate::messages::{end_by_fault, print_created, status_if_written};
+use crate::paths::{Found, NewFile, Opened, remove_blank};
 use crate::remains::Remains;
 use crate::status::Status;
 use crate::store_jobs::{FileJob, begin, do_job, make};
@@ -64,7 +64,7 @@ fn open_found<'a, S: Start>(
             }
             if let Some(blank) = blank {
                 // Fault 22 is told whether it went or not.
-                let _ = take_back(rt, found.path(), blank);
+                let _ = remove_blank(rt, found.path(), blank);
             }
             Err((Fault::Store, Remains::Astray(conn)))
         }
@@ -76,23 +76,23 @@ fn open_found<'a, S: Start>(
 fn open_new<S: Start>(
     rt: &HostRuntime,
     start: S,
-    place: &Place,
+    new_file: &NewFile,
 ) -> Result<Connection<FileStore<FileFrom<S>>>, (Fault, Remains<FileFrom<S>>)>
     ensures opened { IfOk result (IsOpenedOn (image_at S.Start)) }
     ensures left { IfErr result (λ e. IsLeftOf (image_at S.Start) e.1) }
     ensures cause { IfErr result (λ e. IsFirstFault e.0) }
 {
-    match open_at(rt, start, place.path()) {
+    match open_at(rt, start, new_file.path()) {
         Ok(conn) => {
             let Some(blank) = Blank::of(&conn) else {
                 return Err((Fault::Store, Remains::Astray(conn)));
             };
-            if place.is_there(rt) {
+            if new_file.is_there(rt) {
                 return Ok(conn);
             }
             // Fault 22 is told whether they went or not.
-            let _ = place.clear(rt);
-            let _ = take_back(rt, place.path(), blank);
+            let _ = new_file.clear(rt);
+            let _ = remove_blank(rt, new_file.path(), blank);
             Err((Fault::Store, Remains::Astray(conn)))
         }
         Err((error, left)) => {
@@ -101,7 +101,7 @@ fn open_new<S: Start>(
             let fault = if is_anothers {
                 cause
             } else {
-                place.leave(rt, cause)
+                new_file.leave(rt, cause)
             };
             Err((fault, Remains::Unopened(left)))
         }
@@ -119,16 +119,16 @@ fn close<D: Disk + Drop>(conn: Connection<FileStore<D>>) -> Result<Files<D>, (Fa
 }
 
 // The status behind a closing that failed for this. It is told, where nothing had failed before.
-fn tell_unclosed<W: Write>(cause: Fault, status: Status, writer: &mut W) -> Status
+fn end_unclosed<W: Write>(cause: Fault, status: Status, writer: &mut W) -> Status
     requires { IsFirstFault cause }
     ensures closes { Closes (W.contents writer.old) (W.contents writer.new) status result }
     ensures failed { IsFailed result }
-    ensures told { ¬ IsFailed status → Tells cause (W.contents writer.old) (W.contents writer.new) [] result }
+    ensures printed { ¬ IsFailed status → EndsByFault cause (W.contents writer.old) (W.contents writer.new) [] result }
 {
     if status.is_failed() {
         return status;
     }
-    tell_fault(writer, cause)
+    end_by_fault(writer, cause)
 }
 
 // Does the job over the store of a file, and closes it whatever came of the job, so that the file has all that was committed. The path has to
@@ -151,9 +151,9 @@ fn do_and_close<D: Disk + Drop, R: Read, W: Write>(
             if file.is_there(rt) {
                 return (done, Ok(files));
             }
-            (tell_unclosed(Fault::Store, done, writer), Ok(files))
+            (end_unclosed(Fault::Store, done, writer), Ok(files))
         }
-        Err((fault, store)) => (tell_unclosed(fault, done, writer), Err((fault, store))),
+        Err((fault, store)) => (end_unclosed(fault, done, writer), Err((fault, store))),
     }
 }
 
@@ -172,7 +172,7 @@ pub(crate) fn do_on_file<S: Start, R: Read, W: Write>(
 {
     let found = match Found::at(rt, path) {
         Ok(found) => found,
-        Err(fault) => return tell_fault(writer, fault),
+        Err(fault) => return end_by_fault(writer, fault),
     };
     match open_found(rt, start, &found) {
         Ok((conn, file)) => {
@@ -182,7 +182,7 @@ pub(crate) fn do_on_file<S: Start, R: Read, W: Write>(
         }
         Err((fault, left)) => {
             drop(left);
-            tell_fault(writer, fault)
+            end_by_fault(writer, fault)
         }
     }
 }
@@ -192,7 +192,7 @@ pub(crate) fn do_on_file<S: Start, R: Read, W: Write>(
 fn make_and_close<D: Disk + Drop, W: Write>(
     rt: &HostRuntime,
     conn: Connection<FileStore<D>>,
-    place: &Place,
+    new_file: &NewFile,
     first: EntryMonth,
     writer: &mut W,
 ) -> (Status, Option<Result<Files<D>, (Fault, FileStore<D>)>>)
@@ -202,22 +202,22 @@ fn make_and_close<D: Disk + Drop, W: Write>(
     match make(rt.alloc(), conn, first) {
         Ok(conn) => match close(conn) {
             Ok(files) => {
-                if place.is_there(rt) {
-                    let status = heard(print_created(writer, first), Status::Done);
+                if new_file.is_there(rt) {
+                    let status = status_if_written(print_created(writer, first), Status::Done);
                     return (status, Some(Ok(files)));
                 }
-                let fault = place.leave(rt, Fault::Store);
-                (tell_fault(writer, fault), Some(Ok(files)))
+                let fault = new_file.leave(rt, Fault::Store);
+                (end_by_fault(writer, fault), Some(Ok(files)))
             }
             Err((cause, store)) => {
-                let fault = place.leave(rt, cause);
-                (tell_fault(writer, fault), Some(Err((cause, store))))
+                let fault = new_file.leave(rt, cause);
+                (end_by_fault(writer, fault), Some(Err((cause, store))))
             }
         },
         Err(NotOpened { cause, conn }) => {
-            let fault = place.leave(rt, cause);
+            let fault = new_file.leave(rt, cause);
             drop(conn);
-            (tell_fault(writer, fault), None)
+            (end_by_fault(writer, fault), None)
         }
     }
 }
@@ -234,19 +234,19 @@ pub(crate) fn make_on_file<S: Start, W: Write>(
 ) -> Status
     ensures { MadeOnFile ⟦<FileFrom<S> as Disk>⟧ (image_at S.Start) first (W.contents writer.old) (W.contents writer.new) result }
 {
-    let place = match Place::take(rt, path) {
-        Ok(place) => place,
-        Err(fault) => return tell_fault(writer, fault),
+    let new_file = match NewFile::claim(rt, path) {
+        Ok(new_file) => new_file,
+        Err(fault) => return end_by_fault(writer, fault),
     };
-    match open_new(rt, start, &place) {
+    match open_new(rt, start, &new_file) {
         Ok(conn) => {
-            let (status, closed) = make_and_close(rt, conn, &place, first, writer);
+            let (status, closed) = make_and_close(rt, conn, &new_file, first, writer);
             drop(closed);
             status
         }
         Err((fault, left)) => {
             drop(left);
-            tell_fault(writer, fault)
+            end_by_fault(writer, fault)
         }
     }
 }
@@ -262,7 +262,7 @@ pub(crate) fn begin_in_memory<R: Read, W: Write>(
     ensures ends { MemoryLinesEnd (W.contents writer.old) (W.contents writer.new) first (R.remaining reader.old) result }
 {
     let Ok(conn) = Connection::open_in_memory(alloc) else {
-        return tell_fault(writer, Fault::Memory);
+        return end_by_fault(writer, Fault::Memory);
     };
     let (status, conn) = begin(alloc, conn, first, reader, writer);
     drop(conn);

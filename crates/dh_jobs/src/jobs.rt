@@ -3,15 +3,15 @@
 ghost use Rattle.std.specs.Prelude.{◌≡◌, false, IfOk, IfErr, IfSome, OnOk, OnErr};
 ghost use Rattle.dh_schema.specs.Faults.{IsFirstFault};
 ghost use Rattle.dh_agency.specs.Agency.{IsClean, IsOpen, Leaves, LeavesItsTables, WasClean, machine, shown_by, stand};
-ghost use Rattle.dh_agency.specs.Told.{IsInterrupted, IsAnsweredBy};
+ghost use Rattle.dh_agency.specs.Outcomes.{IsInterrupted, IsAnsweredBy};
 ghost use Rattle.dh_jobs.specs.Ends.{Finishes, LinesEnd, ReportEnds, RunEnds, WorkEnds};
 ghost use Rattle.dh_jobs.specs.Leaving.{IsKept, LinesLeave, WorkLeaves};
 ghost use Rattle.dh_jobs.specs.Jobs.{IsRunCut, run_told};
 ghost use Rattle.dh_jobs.specs.Printed.{IsOfLines, IsReportEnd, IsRunEnd, Prints, PrintsWork};
 ghost use Rattle.dh_jobs.specs.Statuses.{IsFailed};
 
+use crate::messages::{end_by_fault, print_answer, print_reply};
 use crate::open_run::has_open_run;
-use crate::printed::{print_answer, print_reply, tell_fault};
 use crate::status::{Failure, Status};
 use dh_agency::Agency;
 use dh_lines::batch;
@@ -50,7 +50,7 @@ fn finish<S: Alter, W: Write>(
     match has_open_run(alloc, agency) {
         Ok(true) => Status::RunOpen,
         Ok(false) => Status::Done,
-        Err(fault) => tell_fault(writer, fault),
+        Err(fault) => end_by_fault(writer, fault),
     }
 }
 
@@ -143,7 +143,7 @@ fn run<S: Alter, W: Write>(
             }
             finish(alloc, agency, reply.is_refusal(), writer)
         }
-        Err(fault) => tell_fault(writer, fault),
+        Err(fault) => end_by_fault(writer, fault),
     }
 }
 
@@ -173,7 +173,7 @@ fn report<S: Alter, W: Write>(
             }
             finish(alloc, agency, is_refused, writer)
         }
-        Err(fault) => tell_fault(writer, fault),
+        Err(fault) => end_by_fault(writer, fault),
     }
 }
 

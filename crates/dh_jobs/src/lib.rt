@@ -4,9 +4,9 @@
 mod blank;
 mod files;
 mod jobs;
+mod messages;
 mod open_run;
-pub mod places;
-mod printed;
+pub mod paths;
 mod process;
 mod program;
 mod remains;

@@ -8,7 +8,7 @@ ghost use Rattle.dh_jobs.specs.Process.{UnreadPrints, WordsEnd, behind_name};
 ghost use Rattle.dh_jobs.specs.Statuses.{status_code};
 ghost use Rattle.dh_jobs.specs.declared.status.Status.{Status};
 
-use crate::printed::tell_fault;
+use crate::messages::end_by_fault;
 use crate::program::{desk_from, refused};
 use crate::status::Status;
 use dh_types::Fault;
@@ -67,7 +67,7 @@ pub fn run_words<S: Start, R: Read, W: Write>(
 {
     match texts_of(rt.alloc(), behind_name(words)) {
         Ok(texts) => desk_from(rt, start, &texts, reader, writer),
-        Err(_) => tell_fault(writer, Fault::Memory),
+        Err(_) => end_by_fault(writer, Fault::Memory),
     }
 }
 
@@ -82,7 +82,7 @@ pub fn refuse_words<W: Write>(error: &io::Error, writer: &mut W) -> Status
             b"error: invalid UTF-8 was detected in one or more arguments\n",
         ));
     }
-    tell_fault(writer, Fault::Memory)
+    end_by_fault(writer, Fault::Memory)
 }
 
 // Does what the words ask for that `std` gives of a process, or tells why it gives none.
@@ -101,7 +101,7 @@ fn answer_process<S: Start, R: Read, W: Write>(
     match words {
         Ok(words) => match all_of(rt.alloc(), words) {
             Ok(words) => run_words(rt, start, &words, reader, writer),
-            Err(_) => tell_fault(writer, Fault::Memory),
+            Err(_) => end_by_fault(writer, Fault::Memory),
         },
         Err(error) => refuse_words(&error, writer),
     }

@@ -11,14 +11,14 @@ ghost use Rattle.dh_jobs.specs.Statuses.{IsBad};
 
 use crate::files::{begin_in_memory, do_on_file, make_on_file};
 use crate::jobs::Work;
-use crate::printed::{heard, print_fault, print_refusal, tell_fault};
+use crate::messages::{end_by_fault, print_fault, print_refusal, status_if_written};
 use crate::status::{Failure, Status};
 use crate::store_jobs::FileJob;
 use clap::Error;
 use clap::error::ErrorKind;
 use dh_arguments::{BadWords, Job, Words, job};
 use dh_http::{Patience, Service};
-use dh_types::text_writer::put_parts;
+use dh_types::text_writer::put_pieces;
 use dh_types::{EntryMonth, Fault, Output};
 use sqlite::{FileFrom, Start, Unknown};
 use sqlite_disk::Disk;
@@ -37,7 +37,10 @@ fn said(kind: ErrorKind, outcome: Result<(), Output>) -> Status
     ensures { result ≡ said_status kind outcome }
 {
     match kind {
-        ErrorKind::DisplayHelp | ErrorKind::DisplayVersion => heard(outcome, Status::Done),
+        ErrorKind::DisplayHelp | ErrorKind::DisplayVersion => status_if_written(
+            outcome,
+            Status::Done,
+        ),
         _ => refused(outcome),
     }
 }
@@ -59,7 +62,7 @@ fn put_message<W: Write>(writer: &mut W, text: &str) -> Result<(), Output>
     ensures { (line : List ℕ) × IsLineOf text.now line × Puts (W.contents writer.old) (W.contents writer.new) result line }
 {
     let message = text.trim_end_matches('\n');
-    put_parts(writer, &[message.as_bytes(), b"\n"])
+    put_pieces(writer, &[message.as_bytes(), b"\n"])
 }
 
 // Prints a message of this kind. Where there is no memory for it, that is told.
@@ -93,10 +96,10 @@ fn refuse<W: Write>(alloc: Global, bad: &BadWords, writer: &mut W) -> Status
     match bad {
         BadWords::Refused(error) => print_message(alloc, error, writer),
         BadWords::Value(option) => {
-            refused(put_parts(writer, &[b"bad ", option.as_bytes(), b"\n"]))
+            refused(put_pieces(writer, &[b"bad ", option.as_bytes(), b"\n"]))
         }
         BadWords::Question(refusal) => refused(print_refusal(writer, *refusal)),
-        BadWords::Memory => tell_fault(writer, Fault::Memory),
+        BadWords::Memory => end_by_fault(writer, Fault::Memory),
     }
 }
 
@@ -181,7 +184,7 @@ pub fn desk_from<S: Start, R: Read, W: Write>(
     ensures bad_words { IsBad result → (why : BadWords) × IsBadFor (map (λ word. word.now) words.now) why }
 {
     let Ok(words) = Words::join(rt.alloc(), words) else {
-        return tell_fault(writer, Fault::Memory);
+        return end_by_fault(writer, Fault::Memory);
     };
     match job(rt.alloc(), &words) {
         Ok(job) => do_asked(rt, start, &job, reader, writer),

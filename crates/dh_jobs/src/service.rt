@@ -6,10 +6,10 @@ ghost use Rattle.sqlite.specs.Held.{state};
 ghost use Rattle.dh_runs.specs.Taking.{IsResting};
 ghost use Rattle.dh_jobs.specs.Ends.{ServingEnds};
 ghost use Rattle.dh_jobs.specs.Leaving.{IsKept, ServingLeaves};
-ghost use Rattle.dh_jobs.specs.Printed.{IsRefusedEnd, Prints, PrintsService, TellsServed};
+ghost use Rattle.dh_jobs.specs.Printed.{EndsServing, IsRefusedEnd, Prints, PrintsService};
 
-use crate::places::Opened;
-use crate::printed::{tell_fault, tell_no_listener, tell_problem};
+use crate::messages::{end_by_fault, end_by_problem, end_without_listener};
+use crate::paths::Opened;
 use crate::status::{Failure, Status};
 use dh_agency::{NotOpened, attach};
 use dh_http::{Service, Unserved, Watch, serve};
@@ -17,15 +17,15 @@ use sqlite::{Alter, Connection};
 use std::io::Write;
 
 // How the program ends behind serving. A want of a listener, and a fault of it, are told.
-fn tell_served<W: Write>(outcome: Result<(), Unserved>, writer: &mut W) -> Status
-    ensures { TellsServed outcome (W.contents writer.old) (W.contents writer.new) result }
+fn end_serving<W: Write>(outcome: Result<(), Unserved>, writer: &mut W) -> Status
+    ensures { EndsServing outcome (W.contents writer.old) (W.contents writer.new) result }
 {
     match outcome {
         Ok(()) => Status::Done,
-        Err(Unserved::NoListener) => tell_no_listener(writer),
+        Err(Unserved::NoListener) => end_without_listener(writer),
         Err(Unserved::Output(output)) => Status::Failed(Failure::Output(output)),
         Err(Unserved::Stopped) => Status::Failed(Failure::Stopped),
-        Err(Unserved::Fault(fault)) => tell_fault(writer, fault),
+        Err(Unserved::Fault(fault)) => end_by_fault(writer, fault),
     }
 }
 
@@ -63,9 +63,9 @@ pub(crate) fn answer_requests<S: Alter, W: Write>(
         Ok(mut agency) => {
             let mut on_disk = OnDisk { rt, file: *file };
             let outcome = serve(rt, &mut agency, &mut on_disk, service, writer);
-            let status = tell_served(outcome, writer);
+            let status = end_serving(outcome, writer);
             (status, agency.into_store())
         }
-        Err(NotOpened { cause, conn }) => (tell_problem(writer, cause), conn),
+        Err(NotOpened { cause, conn }) => (end_by_problem(writer, cause), conn),
     }
 }

@@ -11,14 +11,16 @@ ghost use Rattle.dh_schema.specs.Faults.{IsFirstFault};
 ghost use Rattle.dh_schema.specs.Store.{Commits, IsBlank};
 ghost use Rattle.dh_runs.specs.declared.problem.Problem.TheVariants as problem;
 ghost use Rattle.dh_runs.specs.Taking.{CanBeTaken, IsProblemOf, IsResting};
-ghost use Rattle.dh_jobs.specs.Ends.{JobEnds, MendingEnds, MigrationEnds, NewLinesEnd, RecoveryEnds, TakingEnds};
+ghost use Rattle.dh_jobs.specs.Ends.{JobEnds, MigrationEnds, NewLinesEnd, RecoveryEnds, RecoveryEndsFor, TakingEnds};
 ghost use Rattle.dh_jobs.specs.Leaving.{IsKept, JobLeaves};
 ghost use Rattle.dh_jobs.specs.OnFile.{IsMade, IsUnmade};
 ghost use Rattle.dh_jobs.specs.Printed.{IsOfLines, IsRecoveryEnd, IsRefusedEnd, Prints, PrintsJob, PrintsWork};
 
 use crate::jobs::{Work, answer_lines, work_on};
-use crate::places::Opened;
-use crate::printed::{heard, print_migrated, print_recovered, tell_fault, tell_problem};
+use crate::messages::{
+    end_by_fault, end_by_problem, print_migrated, print_recovered, status_if_written,
+};
+use crate::paths::Opened;
 use crate::service::answer_requests;
 use crate::status::Status;
 use dh_agency::{NotOpened, Problem, attach, create, migrate, recover, recover_1};
@@ -49,27 +51,30 @@ fn is_first(cause: &Problem) -> bool
 }
 
 // Makes the open run of tables of the first version to its end.
-fn mend_first<S: Alter, W: Write>(
+fn recover_first_file<S: Alter, W: Write>(
     alloc: Global,
     conn: Connection<S>,
     writer: &mut W,
 ) -> (Status, Connection<S>)
     requires { HasCleanDisk (state S.Store conn) → IsResting (state S.Store conn) }
     ensures printed { PrintsJob FileJob.Recover (W.contents writer.old) (W.contents writer.new) result.0 }
-    ensures ends { HasCleanDisk (state S.Store result.1) → MendingEnds (CanBeTaken First) (IsProblemOf First (state S.Store conn).now.trees)
+    ensures ends { HasCleanDisk (state S.Store result.1) → RecoveryEndsFor (CanBeTaken First) (IsProblemOf First (state S.Store conn).now.trees)
         (state S.Store conn) (state S.Store result.1) (W.contents writer.old) (W.contents writer.new) result.0 }
     ensures crash { JobLeaves (state S.Store conn) (state S.Store result.1) FileJob.Recover }
     ensures kept { IsKept (state S.Store result.1) result.0 }
     ensures was_clean { HasCleanDisk (state S.Store result.1) → HasCleanDisk (state S.Store conn) }
 {
     match recover_1(alloc, conn) {
-        Ok(conn) => (heard(print_recovered(writer), Status::Done), conn),
-        Err(NotOpened { cause, conn }) => (tell_problem(writer, cause), conn),
+        Ok(conn) => (
+            status_if_written(print_recovered(writer), Status::Done),
+            conn,
+        ),
+        Err(NotOpened { cause, conn }) => (end_by_problem(writer, cause), conn),
     }
 }
 
 // Makes the open run to its end, whichever version the tables are of.
-fn mend<S: Alter, W: Write>(
+fn recover_file<S: Alter, W: Write>(
     alloc: Global,
     conn: Connection<S>,
     writer: &mut W,
@@ -84,20 +89,20 @@ fn mend<S: Alter, W: Write>(
 {
     match recover(alloc, conn) {
         Ok(agency) => (
-            heard(print_recovered(writer), Status::Done),
+            status_if_written(print_recovered(writer), Status::Done),
             agency.into_store(),
         ),
         Err(NotOpened { cause, conn }) => {
             if is_first(&cause) {
-                return mend_first(alloc, conn, writer);
+                return recover_first_file(alloc, conn, writer);
             }
-            (tell_problem(writer, cause), conn)
+            (end_by_problem(writer, cause), conn)
         }
     }
 }
 
 // Takes tables of the first version to the second.
-fn renew<S: Alter, W: Write>(
+fn migrate_file<S: Alter, W: Write>(
     alloc: Global,
     conn: Connection<S>,
     writer: &mut W,
@@ -112,10 +117,10 @@ fn renew<S: Alter, W: Write>(
 {
     match migrate(alloc, conn) {
         Ok(agency) => (
-            heard(print_migrated(writer), Status::Done),
+            status_if_written(print_migrated(writer), Status::Done),
             agency.into_store(),
         ),
-        Err(NotOpened { cause, conn }) => (tell_problem(writer, cause), conn),
+        Err(NotOpened { cause, conn }) => (end_by_problem(writer, cause), conn),
     }
 }
 
@@ -140,7 +145,7 @@ fn take<S: Alter, R: Read, W: Write>(
             let status = work_on(alloc, &mut agency, work, reader, writer);
             (status, agency.into_store())
         }
-        Err(NotOpened { cause, conn }) => (tell_problem(writer, cause), conn),
+        Err(NotOpened { cause, conn }) => (end_by_problem(writer, cause), conn),
     }
 }
 
@@ -179,7 +184,7 @@ pub(crate) fn begin<S: Alter, R: Read, W: Write>(
             let status = answer_lines(alloc, &mut agency, reader, writer);
             (status, agency.into_store())
         }
-        Err(NotOpened { cause, conn }) => (tell_fault(writer, cause), conn),
+        Err(NotOpened { cause, conn }) => (end_by_fault(writer, cause), conn),
     }
 }
 
@@ -201,8 +206,8 @@ pub(crate) fn do_job<S: Alter, R: Read, W: Write>(
     ensures was_clean { HasCleanDisk (state S.Store result.1) → HasCleanDisk (state S.Store conn) }
 {
     match job {
-        FileJob::Recover => mend(rt.alloc(), conn, writer),
-        FileJob::Migrate => renew(rt.alloc(), conn, writer),
+        FileJob::Recover => recover_file(rt.alloc(), conn, writer),
+        FileJob::Migrate => migrate_file(rt.alloc(), conn, writer),
         FileJob::Work(work) => take(rt.alloc(), conn, work, reader, writer),
         FileJob::Serve(service) => answer_requests(rt, conn, file, service, writer),
     }

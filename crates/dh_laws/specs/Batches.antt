@@ -43,9 +43,9 @@ abbrev pub closed_state : State → State
 closed_state s = record { books = whole batch_size s.books; open_run = None }
 
 -- what the open run comes to
-abbrev pub sum_told : Books → Option OpenRun → RunSum
-sum_told books None = record { month = 0; count = 0; total = 0 }
-sum_told books (Some run) = posted_sum run.month (get (whole batch_size books).runs run.month)
+abbrev pub open_run_sum : Books → Option OpenRun → RunSum
+open_run_sum books None = record { month = 0; count = 0; total = 0 }
+open_run_sum books (Some run) = posted_sum run.month (get (whole batch_size books).runs run.month)
 
 -- a `post` of so many batches was interrupted here: the whole books are the same, and the open run is moved on by so many at most
 abbrev pub IsPostedInPart : ℕ → State → State → Type 0

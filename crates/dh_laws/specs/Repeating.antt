@@ -85,20 +85,20 @@ module _ (size : ℕ) where
   RepeatsGetTheirReply = ReceiptsRepeat × RunsRepeat command.Run × RunsRepeat command.Open
 
   -- a run of the order, and an opening of it, is told that it was posted before, with this sum, and the state stays
-  abbrev pub IsToldPosted : State → RunOrder → RunSum → Type 0
-  IsToldPosted s order sum =
+  abbrev pub IsAlreadyPosted : State → RunOrder → RunSum → Type 0
+  IsAlreadyPosted s order sum =
       (step size s (command.Run order) ≡ (s, reply.AlreadyPosted sum))
       × (step size s (command.Open order) ≡ (s, reply.AlreadyPosted sum))
 
   -- What was accepted over lawful books with no run open, and is sent again next, gets the reply that is kept of it: a receipt its
   -- number; a run, made in one step or by its opening and the posting of all its batches, its sum, whether it is sent as a run or as an
   -- opening.
-  abbrev pub SentAgainIsToldTheSame : Type 0
-  SentAgainIsToldTheSame = (books : Books) → 1 ≤ size → AreKeyed books → IsLawful books size
+  abbrev pub SentAgainGetsTheSameReply : Type 0
+  SentAgainGetsTheSameReply = (books : Books) → 1 ≤ size → AreKeyed books → IsLawful books size
       → ((order : ReceiptOrder) (after : State) (number : ℕ) → step size (with_no_run books) (command.Receipt order) ≡ (after, reply.Receipt number)
       → step size after (command.Receipt order) ≡ (after, reply.AlreadyReceipt number))
       × ((order : RunOrder) (after : State) (sum : RunSum) → step size (with_no_run books) (command.Run order) ≡ (after, reply.Posted sum)
-      → IsToldPosted after order sum)
+      → IsAlreadyPosted after order sum)
       × ((order : RunOrder) (opened after : State) (month count : ℕ) (sum : RunSum)
       → step size (with_no_run books) (command.Open order) ≡ (opened, reply.Opened month)
-      → step size opened (command.Post count) ≡ (after, reply.Posted sum) → IsToldPosted after order sum)
+      → step size opened (command.Post count) ≡ (after, reply.Posted sum) → IsAlreadyPosted after order sum)

@@ -41,8 +41,8 @@ module _ (size : ℕ) where
   StandingMakesTheTables = (t : Tables) → AreWorkedOn t → tables_at (state_of size t) ≡ t
 
   -- so where the whole books and the open run are the same, the tables are
-  abbrev pub StandingTellsTheTables : Type 0
-  StandingTellsTheTables = (t other : Tables) → AreWorkedOn t → AreWorkedOn other → state_of size other ≡ state_of size t → other ≡ t
+  abbrev pub StandingDeterminesTheTables : Type 0
+  StandingDeterminesTheTables = (t other : Tables) → AreWorkedOn t → AreWorkedOn other → state_of size other ≡ state_of size t → other ≡ t
 
   -- A command that is refused, or that was carried out before, leaves the tables as they were, row for row; while a run is open too.
   abbrev pub NothingNewLeavesTheTables : Type 0

@@ -2,7 +2,7 @@
 
 ghost use Rattle.std.specs.Prelude.{ℕ};
 ghost use Rattle.dh_laws.specs.EachLife.{EachLifeKeepsABeginning};
-ghost use Rattle.dh_laws.specs.Lives.{AcknowledgedReceiptsStay, AcknowledgedRunsStay, AllLives, EmptyTablesAreShown, MendedBooksAreLawful};
+ghost use Rattle.dh_laws.specs.Lives.{AcknowledgedReceiptsStay, AcknowledgedRunsStay, AllLives, EmptyTablesAreShown, RecoveredBooksAreLawful};
 ghost use Rattle.dh_laws.specs.Lives.{MonthsAreChargedOnce, OneLifeKeepsABeginning, SentAgainIsOnce};
 
 /// Stopped before or within any write, any number of times, also within recovery: once recovery has come to its end the
@@ -28,8 +28,8 @@ pub fn each_life_keeps_a_beginning()
 {}
 
 /// Once recovery has come to its end the books are lawful.
-pub fn mended_books_are_lawful()
-    ensures { (size : ℕ) → MendedBooksAreLawful size }
+pub fn recovered_books_are_lawful()
+    ensures { (size : ℕ) → RecoveredBooksAreLawful size }
 {}
 
 /// A month is charged once or not at all, and never in part.

@@ -1,7 +1,7 @@
 //! What is found by a key, and what a command gets whose key was used. Read `repeats_get_their_reply` first.
 
 ghost use Rattle.std.specs.Prelude.{ℕ};
-ghost use Rattle.dh_laws.specs.Repeating.{KeysAreFound, KeysAreOfOne, NothingNewChangesNothing, RepeatsGetTheirReply, SentAgainIsToldTheSame};
+ghost use Rattle.dh_laws.specs.Repeating.{KeysAreFound, KeysAreOfOne, NothingNewChangesNothing, RepeatsGetTheirReply, SentAgainGetsTheSameReply};
 
 /// Something is found by a key exactly where a receipt, or a run, has it.
 pub fn keys_are_found()
@@ -26,6 +26,6 @@ pub fn repeats_get_their_reply()
 
 /// A receipt or a run that was accepted with no run open, and is sent again next, is told its number, or its sum, as before; so is a
 /// run that was opened and posted, and it doesn't matter whether it is sent as a run or as an opening.
-pub fn sent_again_is_told_the_same()
-    ensures { (size : ℕ) → SentAgainIsToldTheSame size }
+pub fn sent_again_gets_the_same_reply()
+    ensures { (size : ℕ) → SentAgainGetsTheSameReply size }
 {}

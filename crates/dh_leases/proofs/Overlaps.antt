@@ -4,7 +4,7 @@ use Rattle.std.specs.Cmp.Lexicographic.{pointwise}
 use Rattle.std.proofs.lemmas.Bool.{and_from, and_parts}
 use Rattle.std.proofs.lemmas.Bool.Decides.{same_from_decides}
 use Rattle.dh_days.specs.Days.{IsDay, plus_months}
-use Rattle.dh_days.proofs.DayMonths.{more_months_later, no_month_later}
+use Rattle.dh_days.proofs.DayMonths.{more_months_later, zero_months_later_is_the_day}
 use Rattle.dh_types.specs.declared.lease.LeaseTerms.{LeaseTerms}
 use Rattle.dh_types.proofs.SameValues.{texts}
 use Rattle.dh_model.specs.Leases.{end_of, overlap}
@@ -13,7 +13,7 @@ use Rattle.dh_model.proofs.LeaseLemmas.{overlap_is_by_ends}
 -- a start lies before the end
 pub starts_before : (start months : ℕ) → IsDay start → 1 ≤ months → start < plus_months start months
 starts_before start months is some =
-    let first = no_month_later start is in
+    let first = zero_months_later_is_the_day start is in
     let more = more_months_later start 0 months (omega arith) in
     omega (arith, first, more)
 

@@ -6,7 +6,7 @@ use Rattle.dh_types.specs.declared.reply.Refusal.{Refusal}
 use Rattle.dh_model.specs.Books.{State}
 use Rattle.dh_model.specs.Machine.{step}
 use Rattle.dh_model.specs.Runs.{batch_size}
-use Rattle.dh_agency.specs.Seat.{Seat}
+use Rattle.dh_agency.specs.AgencyView.{AgencyView}
 use Rattle.dh_agency.specs.Agency.{Leaves, LeavesItsTables, machine, stand, stand_of}
 use Rattle.dh_agency.specs.Requests.{IsCutIn}
 use Rattle.dh_agency.proofs.Standing.{leaves_more, leaves_what_holds}
@@ -29,7 +29,7 @@ cut_within fields (Ok (request.Question it)) s left asked is = inl (ap stand_of 
 cut_within fields (Err why) s left asked is = inl (ap stand_of is)
 
 module _ {S : Type 0} (g : Ghosts S) where
-  pub leaves_cut : (old new : Seat S) (fields : Fields) (request : Result Request Refusal) → request ≡ request_of fields
+  pub leaves_cut : (old new : AgencyView S) (fields : Fields) (request : Result Request Refusal) → request ≡ request_of fields
       → Leaves g new (IsCutIn request (machine g old)) → Leaves g new (IsWithin (stand g old) (Some fields))
   leaves_cut old new fields request asked h =
       leaves_more g new (IsCutIn request (machine g old)) (IsWithin (stand g old) (Some fields))
@@ -37,7 +37,7 @@ module _ {S : Type 0} (g : Ghosts S) where
 
   -- ---- one record after the other
 
-  module _ (old mid new : Seat S) (f : Fields) (h : WasAnswered g old mid) where
+  module _ (old mid new : AgencyView S) (f : Fields) (h : WasAnswered g old mid) where
     pub answered_next : stand g new ≡ (answered (stand g mid) f).state → WasAnswered g old new
     answered_next next = record {
       rows = h.rows ++ f ∷ [];
@@ -61,7 +61,7 @@ module _ {S : Type 0} (g : Ghosts S) where
       left = leaves_more g new (IsWithin (stand g mid) (Some f)) _ after left;
     }
 
-  pub leaves_between : (old new : Seat S) → WasAnswered g old new → LeavesItsTables g new → LeavesAnswered g old new
+  pub leaves_between : (old new : AgencyView S) → WasAnswered g old new → LeavesItsTables g new → LeavesAnswered g old new
   leaves_between old new h left = record {
     rows = h.rows;
     within = [];

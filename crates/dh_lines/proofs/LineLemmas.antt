@@ -10,9 +10,9 @@ use Rattle.dh_types.specs.declared.answer.Answer.TheVariants.{Refused}
 use Rattle.dh_types.specs.declared.reply.Refusal.{Refusal}
 use Rattle.dh_reports.specs.ReportTexts.{line_count, report_text}
 use Rattle.dh_reports.proofs.PartLemmas.{broke, goes_on}
-use Rattle.dh_lines.specs.declared.replies.Told.TheVariants.{Shown}
+use Rattle.dh_lines.specs.declared.replies.LineBody.TheVariants.{Shown}
 use Rattle.dh_lines.specs.Session.{numbered, reported_text, shown_text}
-use Rattle.dh_lines.specs.Told.{told_line}
+use Rattle.dh_lines.specs.LineBodies.{body_line}
 
 module _ {T E : Type 0} (r : Result T E) where
   number_is : (number : ℕ) (text : List ℕ) → (decimal number ++ 32 ∷ []) ++ text ≡ numbered number text
@@ -32,10 +32,10 @@ shown_is : (answer : Answer) → ((refusal : Refusal) → answer ≡ Refused ref
 shown_is (Refused refusal) h = absurd (h refusal refl)
 shown_is _ h = refl
 
-shown_line : (number : ℕ) (it : Report) → told_line number (Shown (line_count it)) ++ report_text it ≡ numbered number (shown_text it)
+shown_line : (number : ℕ) (it : Report) → body_line number (Shown (line_count it)) ++ report_text it ≡ numbered number (shown_text it)
 shown_line number it = simp append_assoc
 
 -- by its line, and then its report
 pub answer_is : (number : ℕ) (answer : Answer) → ((refusal : Refusal) → answer ≡ Refused refusal → ⊥)
-    → told_line number (Shown (line_count (report_of answer))) ++ report_text (report_of answer) ≡ numbered number (reported_text (report_of answer))
+    → body_line number (Shown (line_count (report_of answer))) ++ report_text (report_of answer) ≡ numbered number (reported_text (report_of answer))
 answer_is number answer h = shown_line number (report_of answer) ∙ ap (numbered number) (sym (shown_is answer h))

@@ -11,7 +11,7 @@ use Rattle.dh_types.specs.declared.reply.Fault.TheVariants as faults
 use Rattle.dh_types.specs.declared.reply.Refusal.{Refusal}
 use Rattle.dh_model.specs.Books.{State}
 use Rattle.dh_schema.specs.Faults.{IsFirstFault}
-use Rattle.dh_agency.specs.Seat.{Seat}
+use Rattle.dh_agency.specs.AgencyView.{AgencyView}
 use Rattle.dh_agency.specs.Agency.{IsOpen, machine, stand}
 use Rattle.dh_agency.specs.Requests.{Said, said_to, says_no}
 use Rattle.dh_fields.specs.declared.request.Request.{Request}
@@ -20,16 +20,16 @@ use Rattle.dh_fields.specs.Readings.{WantsText}
 use Rattle.dh_lines.specs.declared.outcome.Halt.{Halt}
 use Rattle.dh_lines.specs.declared.outcome.Halt.TheVariants as halt
 use Rattle.dh_lines.specs.Session.{Answered, answered, answered_as, fault_line, numbered, said_text}
-use Rattle.dh_lines.specs.Batch.{Answers, IsAgencyFault, IsFirst, IsStoreFault, OnlyOfRequests, TellsFault, batch_fault}
+use Rattle.dh_lines.specs.Batch.{Answers, EndsByFault, IsAgencyFault, IsFirst, IsStoreFault, OnlyOfRequests, batch_fault}
 
 -- a fault that was told
-pub fault_first : (a b : Option (List ℕ)) (n : ℕ) (fault : Fault) (h : Halt) → TellsFault a b n fault h → IsFirstFault fault → IsFirst (batch_fault h)
+pub fault_first : (a b : Option (List ℕ)) (n : ℕ) (fault : Fault) (h : Halt) → EndsByFault a b n fault h → IsFirstFault fault → IsFirst (batch_fault h)
 fault_first a b n fault (halt.Fault found outcome) told first = subst IsFirstFault (sym told.0) first
 fault_first a b n fault (halt.Unread cause outcome) told first = absurd told
 fault_first a b n fault (halt.Input cause) told first = absurd told
 fault_first a b n fault (halt.Output failed) told first = absurd told
 
-pub fault_halts : (a b : Option (List ℕ)) (n : ℕ) (fault : Fault) (h : Halt) → TellsFault a b n fault h → IsAgencyFault (batch_fault h)
+pub fault_halts : (a b : Option (List ℕ)) (n : ℕ) (fault : Fault) (h : Halt) → EndsByFault a b n fault h → IsAgencyFault (batch_fault h)
 fault_halts a b n fault (halt.Fault found outcome) told = tt
 fault_halts a b n fault (halt.Unread cause outcome) told = absurd told
 fault_halts a b n fault (halt.Input cause) told = absurd told
@@ -40,14 +40,14 @@ pub not_on : {P : Type 0} {is_stopped : Bool} → is_stopped ≡ true → is_sto
 not_on stopped on = absurd (false≢true (sym on ∙ stopped))
 
 -- want of memory is no fault of the store
-pub no_store_fault : (a b : Option (List ℕ)) (n : ℕ) (h : Halt) → TellsFault a b n faults.Memory h → ¬ IsStoreFault (batch_fault h)
+pub no_store_fault : (a b : Option (List ℕ)) (n : ℕ) (h : Halt) → EndsByFault a b n faults.Memory h → ¬ IsStoreFault (batch_fault h)
 no_store_fault a b n (halt.Fault found outcome) told is = cc (told.0)
 no_store_fault a b n (halt.Unread cause outcome) told is = is
 no_store_fault a b n (halt.Input cause) told is = is
 no_store_fault a b n (halt.Output failed) told is = is
 
 -- memory may run out for a text
-pub memory_of_text : (fields : Fields) (a b : Option (List ℕ)) (n : ℕ) (h : Halt) → TellsFault a b n faults.Memory h → WantsText fields
+pub memory_of_text : (fields : Fields) (a b : Option (List ℕ)) (n : ℕ) (h : Halt) → EndsByFault a b n faults.Memory h → WantsText fields
     → OnlyOfRequests fields h
 memory_of_text fields a b n (halt.Fault found outcome) told wants = inr (told.0, (fields, refl, wants))
 memory_of_text fields a b n (halt.Unread cause outcome) told wants = tt
@@ -68,8 +68,8 @@ pub of_output : (fields : Fields) (failed : writing.Output) (r : Result Bool Hal
 of_output fields failed (Ok value) is = tt
 of_output fields failed (Err e) is = subst (OnlyOfRequests fields) (sym is) tt
 
-module _ {S : Type 0} (g : Ghosts S) (old new : Seat S) (a b : Option (List ℕ)) (n : ℕ) where
-  pub answers_fault : (it : Answered) (P : State → Type 0) (fault : Fault) (h : Halt) → TellsFault a b n fault h → (IsOpen g new → P (machine g new))
+module _ {S : Type 0} (g : Ghosts S) (old new : AgencyView S) (a b : Option (List ℕ)) (n : ℕ) where
+  pub answers_fault : (it : Answered) (P : State → Type 0) (fault : Fault) (h : Halt) → EndsByFault a b n fault h → (IsOpen g new → P (machine g new))
       → (new.is_stopped ≡ false → machine g new ≡ machine g old)
       → Answers g old new a b n it P (Err h)
   answers_fault it P fault (halt.Fault found outcome) told reads undone =

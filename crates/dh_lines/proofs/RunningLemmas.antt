@@ -11,14 +11,14 @@ use Rattle.csv.specs.declared.reader.Reader.{Reader}
 use Rattle.sqlite.specs.Store.{Ghosts}
 use Rattle.dh_types.specs.Output.{BreaksOff, Puts}
 use Rattle.dh_model.specs.Books.{State}
-use Rattle.dh_agency.specs.Seat.{Seat}
+use Rattle.dh_agency.specs.AgencyView.{AgencyView}
 use Rattle.dh_agency.specs.Agency.{Leaves, LeavesItsTables, WasClean, machine, stand, stand_of}
 use Rattle.dh_agency.proofs.Standing.{leaves_more}
 use Rattle.dh_fields.specs.Lines.{Fields}
 use Rattle.dh_lines.specs.Session.{answered, line, records_of, state_after}
 use Rattle.dh_lines.specs.Batch.{Answers, AnsweredAll, AnsweredFirst, EndsSo, Halts, IsAgencyFault, IsAtRest, IsFirst}
 use Rattle.dh_lines.specs.Batch.{IsFaultAt, IsStoreFault, IsWithin}
-use Rattle.dh_lines.specs.Batch.{OnlyOfRequests, PutsBehind, TellsReading, TellsUnread, batch_fault}
+use Rattle.dh_lines.specs.Batch.{EndsByReading, EndsUnread, OnlyOfRequests, PutsBehind, batch_fault}
 use Rattle.dh_lines.specs.declared.watched_reader.Input.{Input}
 use Rattle.dh_lines.specs.declared.outcome.Summary.{Summary}
 use Rattle.dh_lines.specs.declared.outcome.BatchFault.{BatchFault}
@@ -37,17 +37,18 @@ puts_behind : {T E : Type 0} (a b c : Option (List ℕ)) (first second : List �
 puts_behind a b c first second (Ok it) h put = Appends-trans a b c first second h put
 puts_behind a b c first second (Err e) h broken = (broken.0, broken.1, Appends-trans a b c first (take broken.0 second) h broken.2)
 
-module _ {S : Type 0} (g : Ghosts S) (old new : Seat S) (a b : Option (List ℕ)) where
+module _ {S : Type 0} (g : Ghosts S) (old new : AgencyView S) (a b : Option (List ℕ)) where
   pub all_answered : (n r : ℕ) (input : List ℕ) → Ended a b (stand g old) (stand g new) n r input
       → AnsweredAll g old new a b (record { records = n; refused = r }) input
   all_answered n r input w = record { written = w.written; state = w.state; records = w.count; refused = w.refused }
 
-module _ {S R : Type 0} (g : Ghosts S) (old new : Seat S) (a b : Option (List ℕ)) (rem : R → Option (List ℕ)) (records : Reader R) (n r : ℕ) (input : List ℕ)
+module _ {S R : Type 0} (g : Ghosts S) (old new : AgencyView S) (a b : Option (List ℕ)) (rem : R → Option (List ℕ)) (records : Reader R) (n r : ℕ)
+    (input : List ℕ)
     (w : Follows rem records a b (stand g old) (stand g new) n r input) where
   pub first_answered : (cause : Input) → (cause.is_full ≡ true → n ≡ 2 ^ 64 - 1) → AnsweredFirst g old new a b cause input
   first_answered cause full = record { count = n; few = few (records_of input) n w.count; full = full; written = w.written; state = w.state }
 
-  left_unread : (c : Option (List ℕ)) (h : Halt) → TellsUnread b c (n + 1) h → (IsAtRest g old → LeavesItsTables g new)
+  left_unread : (c : Option (List ℕ)) (h : Halt) → EndsUnread b c (n + 1) h → (IsAtRest g old → LeavesItsTables g new)
       → EndsSo g old new a c (Err (batch_fault h)) input
   left_unread c (halt.Fault found outcome) told left = absurd told
   left_unread c (halt.Unread cause outcome) told left = (
@@ -66,14 +67,14 @@ module _ {S R : Type 0} (g : Ghosts S) (old new : Seat S) (a b : Option (List �
 
   -- the next record was not read
   pub ends_unread : {W : Type 0} (held : W → Option (List ℕ)) (one two : W) (k : ErrorKind) (noted : Option Input) (h : Halt) → b ≡ held one
-      → IfSome noted (λ cause. cause.is_full ≡ false) → TellsReading held one two (n + 1) k noted h → (IsAtRest g old → LeavesItsTables g new)
+      → IfSome noted (λ cause. cause.is_full ≡ false) → EndsByReading held one two (n + 1) k noted h → (IsAtRest g old → LeavesItsTables g new)
       → EndsSo g old new a (held two) (Err (batch_fault h)) input
   ends_unread {W} held one two k noted h is of_reader told left = by k noted of_reader told
     where
-      want : TellsUnread (held one) (held two) (n + 1) h → EndsSo g old new a (held two) (Err (batch_fault h)) input
-      want told = left_unread (held two) h (subst (λ o. TellsUnread o (held two) (n + 1) h) (sym is) told) left
+      want : EndsUnread (held one) (held two) (n + 1) h → EndsSo g old new a (held two) (Err (batch_fault h)) input
+      want told = left_unread (held two) h (subst (λ o. EndsUnread o (held two) (n + 1) h) (sym is) told) left
 
-      by : (k : ErrorKind) (noted : Option Input) → IfSome noted (λ cause. cause.is_full ≡ false) → TellsReading held one two (n + 1) k noted h
+      by : (k : ErrorKind) (noted : Option Input) → IfSome noted (λ cause. cause.is_full ≡ false) → EndsByReading held one two (n + 1) k noted h
           → EndsSo g old new a (held two) (Err (batch_fault h)) input
       by (kind.Io e) (Some cause) of_reader told =
           let same : b ≡ held two = is ∙ ap held (sym told.1) in
@@ -88,16 +89,16 @@ module _ {S R : Type 0} (g : Ghosts S) (old new : Seat S) (a b : Option (List �
 
 -- such an end comes first
 pub first_unread : {W : Type 0} (held : W → Option (List ℕ)) (one two : W) (n : ℕ) (k : ErrorKind) (noted : Option Input) (h : Halt)
-    → TellsReading held one two n k noted h → IsFirst (batch_fault h)
+    → EndsByReading held one two n k noted h → IsFirst (batch_fault h)
 first_unread {W} held one two n k noted h told = by k noted told
   where
-    memory : (h : Halt) → TellsUnread (held one) (held two) n h → IsFirst (batch_fault h)
+    memory : (h : Halt) → EndsUnread (held one) (held two) n h → IsFirst (batch_fault h)
     memory (halt.Fault found outcome) told = absurd told
     memory (halt.Unread cause outcome) told = tt
     memory (halt.Input cause) told = absurd told
     memory (halt.Output failed) told = absurd told
 
-    by : (k : ErrorKind) (noted : Option Input) → TellsReading held one two n k noted h → IsFirst (batch_fault h)
+    by : (k : ErrorKind) (noted : Option Input) → EndsByReading held one two n k noted h → IsFirst (batch_fault h)
     by (kind.Io e) (Some cause) told = subst (λ z. IsFirst (batch_fault z)) (sym told.0) tt
     by (kind.Io e) None told = memory h told
     by (kind.Utf8 pos e) noted told = absurd told
@@ -106,7 +107,7 @@ first_unread {W} held one two n k noted h told = by k noted told
     by (kind.Deserialize pos e) noted told = absurd told
     by kind.OutOfMemory noted told = memory h told
 
-no_store_memory : (a b : Option (List ℕ)) (n : ℕ) (h : Halt) → TellsUnread a b n h → ¬ IsStoreFault (batch_fault h)
+no_store_memory : (a b : Option (List ℕ)) (n : ℕ) (h : Halt) → EndsUnread a b n h → ¬ IsStoreFault (batch_fault h)
 no_store_memory a b n (halt.Fault found outcome) told is = told
 no_store_memory a b n (halt.Unread cause outcome) told is = is
 no_store_memory a b n (halt.Input cause) told is = told
@@ -114,7 +115,7 @@ no_store_memory a b n (halt.Output failed) told is = told
 
 -- no such end is a fault of the store
 pub no_store_unread : {W : Type 0} (held : W → Option (List ℕ)) (one two : W) (n : ℕ) (k : ErrorKind) (noted : Option Input) (h : Halt)
-    → TellsReading held one two n k noted h → ¬ IsStoreFault (batch_fault h)
+    → EndsByReading held one two n k noted h → ¬ IsStoreFault (batch_fault h)
 no_store_unread held one two n (kind.Io e) (Some cause) h told store = subst (λ z. IsStoreFault (batch_fault z)) told.0 store
 no_store_unread held one two n (kind.Io e) None h told store = no_store_memory (held one) (held two) n h told store
 no_store_unread held one two n (kind.Utf8 pos e) noted h told store = told
@@ -129,7 +130,8 @@ pub noted_of_reader : (has_failed : Bool) (noted : Option Input) → noted ≡ (
 noted_of_reader true noted is = subst (λ (o : Option Input). IfSome o (λ cause. cause.is_full ≡ false)) (sym is) refl
 noted_of_reader false noted is = subst (λ (o : Option Input). IfSome o (λ cause. cause.is_full ≡ false)) (sym is) tt
 
-module _ {S R : Type 0} (g : Ghosts S) (old mid new : Seat S) (a b c : Option (List ℕ)) (rem : R → Option (List ℕ)) (records : Reader R) (n r : ℕ) (f : Fields)
+module _ {S R : Type 0} (g : Ghosts S) (old mid new : AgencyView S) (a b c : Option (List ℕ)) (rem : R → Option (List ℕ)) (records : Reader R) (n r : ℕ)
+    (f : Fields)
     (input : List ℕ)
     (w : Found rem records a b (stand g old) (stand g mid) n r f input) where
   next_state : (answered (stand g mid) f).state ≡ state_after (stand g old) (take (n + 1) (records_of input))
@@ -175,7 +177,7 @@ module _ {S R : Type 0} (g : Ghosts S) (old mid new : Seat S) (a b c : Option (L
       }
 
 -- an error that a `?` hands on
-pub ends_handed : {S : Type 0} (g : Ghosts S) (old new : Seat S) (a b : Option (List ℕ)) (r : Result Summary BatchFault) (e : BatchFault) (input : List ℕ)
+pub ends_handed : {S : Type 0} (g : Ghosts S) (old new : AgencyView S) (a b : Option (List ℕ)) (r : Result Summary BatchFault) (e : BatchFault) (input : List ℕ)
     → IsErrAnd r (λ y. y ≡ e) → EndsSo g old new a b (Err e) input → EndsSo g old new a b r input
 ends_handed g old new a b (Ok s) e input is h = absurd is
 ends_handed g old new a b (Err y) e input is h = subst (λ z. EndsSo g old new a b (Err z) input) (sym is) h
@@ -190,7 +192,7 @@ still_on (inl same) h = sym same ∙ h
 still_on (inr stopped) h = cc (stopped.1, h)
 
 -- what a record's answer said of its end, said of the batch's
-pub halts_handed : {S : Type 0} (g : Ghosts S) (old mid new : Seat S) (r : Result Summary BatchFault) (e : Halt) → IsErrAnd r (λ y. y ≡ batch_fault e)
+pub halts_handed : {S : Type 0} (g : Ghosts S) (old mid new : AgencyView S) (r : Result Summary BatchFault) (e : Halt) → IsErrAnd r (λ y. y ≡ batch_fault e)
     → mid.is_stopped ≡ old.is_stopped → WasClean g old mid → (old.is_stopped ≡ true → mid ≡ old) → Halts {X = Bool} batch_fault g mid new (Err e)
     → Halts (λ it. it) g old new r
 halts_handed g old mid new (Ok s) e is same clean unmoved did = absurd is

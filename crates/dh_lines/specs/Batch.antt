@@ -16,7 +16,7 @@ use Rattle.dh_model.specs.Verdicts.{verdict_on}
 use Rattle.dh_model.specs.Whole.{whole}
 use Rattle.dh_laws.specs.Events.{RunIfDone, RunIfUndone}
 use Rattle.dh_schema.specs.Faults.{IsFirstFault}
-use Rattle.dh_agency.specs.Seat.{Seat}
+use Rattle.dh_agency.specs.AgencyView.{AgencyView}
 use Rattle.dh_agency.specs.Agency.{IsOpen, Leaves, LeavesItsTables, WasClean, machine, stand, stand_of}
 use Rattle.dh_lines.specs.declared.records.Unread.{Unread}
 use Rattle.dh_lines.specs.declared.outcome.Summary.{Summary}
@@ -61,26 +61,26 @@ IsStoreFault (ended.Input cause) = ⊥
 IsStoreFault (ended.Output failed) = ⊥
 
 -- this fault, whose line was written as the outcome of that says: the whole, or some of it
-abbrev pub TellsFault : Option (List ℕ) → Option (List ℕ) → ℕ → Fault → Halt → Type 0
-TellsFault a b n it (halt.Fault found outcome) = (found ≡ it) × Puts a b outcome (fault_line n it)
-TellsFault a b n it (halt.Unread cause outcome) = ⊥
-TellsFault a b n it (halt.Input cause) = ⊥
-TellsFault a b n it (halt.Output failed) = ⊥
+abbrev pub EndsByFault : Option (List ℕ) → Option (List ℕ) → ℕ → Fault → Halt → Type 0
+EndsByFault a b n it (halt.Fault found outcome) = (found ≡ it) × Puts a b outcome (fault_line n it)
+EndsByFault a b n it (halt.Unread cause outcome) = ⊥
+EndsByFault a b n it (halt.Input cause) = ⊥
+EndsByFault a b n it (halt.Output failed) = ⊥
 
 -- record n was not read, and the line of fault 21 was written as the outcome of that says
-abbrev pub TellsUnread : Option (List ℕ) → Option (List ℕ) → ℕ → Halt → Type 0
-TellsUnread a b n (halt.Fault found outcome) = ⊥
-TellsUnread a b n (halt.Unread cause outcome) = (cause.number ≡ n) × Puts a b outcome (fault_line n faults.Memory)
-TellsUnread a b n (halt.Input cause) = ⊥
-TellsUnread a b n (halt.Output failed) = ⊥
+abbrev pub EndsUnread : Option (List ℕ) → Option (List ℕ) → ℕ → Halt → Type 0
+EndsUnread a b n (halt.Fault found outcome) = ⊥
+EndsUnread a b n (halt.Unread cause outcome) = (cause.number ≡ n) × Puts a b outcome (fault_line n faults.Memory)
+EndsUnread a b n (halt.Input cause) = ⊥
+EndsUnread a b n (halt.Output failed) = ⊥
 
 -- A reader that was noted to fail is told as that, and nothing is written. At want of memory the record was not read, and so at an error
 -- of a reader that never failed. There is no other error.
-abbrev pub TellsReading : {W : Type 0} → (W → Option (List ℕ)) → W → W → ℕ → ErrorKind → Option Input → Halt → Type 0
-TellsReading held old new n (kind.Io error) (Some cause) it = (it ≡ halt.Input cause) × (new ≡ old)
-TellsReading held old new n (kind.Io error) None it = TellsUnread (held old) (held new) n it
-TellsReading held old new n kind.OutOfMemory noted it = TellsUnread (held old) (held new) n it
-TellsReading held old new n _ noted it = ⊥
+abbrev pub EndsByReading : {W : Type 0} → (W → Option (List ℕ)) → W → W → ℕ → ErrorKind → Option Input → Halt → Type 0
+EndsByReading held old new n (kind.Io error) (Some cause) it = (it ≡ halt.Input cause) × (new ≡ old)
+EndsByReading held old new n (kind.Io error) None it = EndsUnread (held old) (held new) n it
+EndsByReading held old new n kind.OutOfMemory noted it = EndsUnread (held old) (held new) n it
+EndsByReading held old new n _ noted it = ⊥
 
 -- ---- where the machine stands
 
@@ -119,7 +119,8 @@ OnlyOfRequests fields (halt.Output failed) = ⊤
 
 -- Record n was answered so, as far as the result says. At a fault that was told, this holds of the tables that can be read, and they are
 -- as they were where the agency goes on; where the writer failed in the answer, what was asked for was done.
-abbrev pub Answers : {S : Type 0} → Ghosts S → Seat S → Seat S → Option (List ℕ) → Option (List ℕ) → ℕ → Answered → (State → Type 0) → Result Bool Halt
+abbrev pub Answers : {S : Type 0} → Ghosts S → AgencyView S → AgencyView S → Option (List ℕ) → Option (List ℕ) → ℕ → Answered → (State → Type 0)
+    → Result Bool Halt
     → Type 0
 Answers g old new a b n it P (Ok is_refused) = Appends a b (numbered n it.text) × (stand g new ≡ it.state) × (is_refused ≡ it.is_refused)
 Answers g old new a b n it P (Err (halt.Fault fault outcome)) =
@@ -130,7 +131,7 @@ Answers g old new a b n it P (Err (halt.Output failed)) = BreaksOff a b (numbere
 
 -- How answering ends: at a fault that the agency answers it has stopped, and at any other end it is as before. An agency that had stopped stays
 -- as it is.
-pub record Halts {S X E : Type 0} (fault_of : E → BatchFault) (g : Ghosts S) (old new : Seat S) (result : Result X E) : Type 0 where
+pub record Halts {S X E : Type 0} (fault_of : E → BatchFault) (g : Ghosts S) (old new : AgencyView S) (result : Result X E) : Type 0 where
   pub cause : old.is_stopped ≡ false → IfErr result (λ it. IsFirst (fault_of it))
   pub stops : (new.is_stopped ≡ old.is_stopped) ⊎ (IsErrAnd result (λ it. IsAgencyFault (fault_of it)) × (new.is_stopped ≡ true))
   pub store : IfErr result (λ it. IsStoreFault (fault_of it) → new.is_stopped ≡ true)
@@ -140,7 +141,7 @@ pub record Halts {S X E : Type 0} (fault_of : E → BatchFault) (g : Ghosts S) (
 -- ---- all records
 
 -- an agency that goes on, of which a crash leaves its tables alone
-abbrev pub IsAtRest : {S : Type 0} → Ghosts S → Seat S → Type 0
+abbrev pub IsAtRest : {S : Type 0} → Ghosts S → AgencyView S → Type 0
 IsAtRest g a = (a.is_stopped ≡ false) × LeavesItsTables g a
 
 -- the first text whole, and the second as the outcome says
@@ -148,7 +149,7 @@ abbrev pub PutsBehind : {T E : Type 0} → Option (List ℕ) → Option (List �
 PutsBehind a b first outcome second =
     MatchResult outcome (λ _. Appends a b (first ++ second)) (λ _. (n : ℕ) × (n < length second) × Appends a b (first ++ take n second))
 
-module _ {S : Type 0} (g : Ghosts S) (old new : Seat S) where
+module _ {S : Type 0} (g : Ghosts S) (old new : AgencyView S) where
   -- some records were answered, whatever they were
   pub record WasAnswered : Type 0 where
     pub rows : List Fields

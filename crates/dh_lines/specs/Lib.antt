@@ -1,4 +1,4 @@
 pub mod Session
-pub mod Told
+pub mod LineBodies
 pub mod Batch
 pub mod Reading

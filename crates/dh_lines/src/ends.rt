@@ -40,7 +40,7 @@ impl Read for FailingReader<'_> {
 
 // Counts a call, and tells whether it is the one that is interrupted.
 fn count_down(calls: &mut u64) -> bool
-    ensures told { IsTrue result ↔ (calls.old ≡ 1) }
+    ensures value { IsTrue result ↔ (calls.old ≡ 1) }
     ensures counted { calls.new ≡ calls.old - 1 }
 {
     let is_interrupted = *calls == 1;

@@ -5,7 +5,7 @@ ghost use Rattle.csv.specs.Reading.{error_kind, stops_reader};
 ghost use Rattle.csv.specs.Records.{fields_of};
 ghost use Rattle.dh_agency.specs.Agency.{IsClean, Leaves, LeavesItsTables, stand};
 ghost use Rattle.dh_lines.specs.Session.{answered};
-ghost use Rattle.dh_lines.specs.Batch.{Answers, Halts, IsWithin, OnlyOfRequests, TellsFault, TellsReading, TellsUnread, batch_fault};
+ghost use Rattle.dh_lines.specs.Batch.{Answers, EndsByFault, EndsByReading, EndsUnread, Halts, IsWithin, OnlyOfRequests, batch_fault};
 
 use crate::outcome::Halt;
 use crate::replies::{put_fault_line, put_response_line};
@@ -28,7 +28,7 @@ pub struct Unread {
 
 // Writes the fault's line, and keeps what came of that.
 fn end_by_fault<W: Write>(writer: &mut W, number: u64, fault: Fault) -> Halt
-    ensures { TellsFault (W.contents writer.old) (W.contents writer.new) number fault result }
+    ensures { EndsByFault (W.contents writer.old) (W.contents writer.new) number fault result }
 {
     let outcome = put_fault_line(writer, number, fault);
     Halt::Fault(fault, outcome)
@@ -36,7 +36,7 @@ fn end_by_fault<W: Write>(writer: &mut W, number: u64, fault: Fault) -> Halt
 
 // Writes the line of fault 21, and keeps what came of that.
 fn end_unread<W: Write>(writer: &mut W, number: u64) -> Halt
-    ensures { TellsUnread (W.contents writer.old) (W.contents writer.new) number result }
+    ensures { EndsUnread (W.contents writer.old) (W.contents writer.new) number result }
 {
     let outcome = put_fault_line(writer, number, Fault::Memory);
     Halt::Unread(Unread { number }, outcome)
@@ -51,7 +51,7 @@ pub fn end_by_reading<W: Write>(
     failure: Option<Input>,
 ) -> Halt
     requires { stops_reader (error_kind error.now) ≡ true }
-    ensures { TellsReading W.contents writer.old writer.new number (error_kind error.now) failure result }
+    ensures { EndsByReading W.contents writer.old writer.new number (error_kind error.now) failure result }
 {
     match failure {
         Some(input) if error.is_io_error() => Halt::Input(input),

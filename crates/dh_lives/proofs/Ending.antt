@@ -139,9 +139,9 @@ module _ {S : Type 0} (g : Ghosts S) where
       let kept = keeps from it.1 (events_of g all) it.0 alive it.2 in
       (kept.0, it.1, subst (λ (told : List Command). StandBehind g from told it.1 all) kept.1 it.2, it.3, kept.2)
 
-  pub recovered_books_are_lawful : law.MendedBooksAreLawful batch_size → RecoveredBooksAreLawful g
-  recovered_books_are_lawful mended first history last ends =
-      mended (tables_of g first) (tables_of g last.found) (events_of g history) (omega arith)
+  pub recovered_books_are_lawful : law.RecoveredBooksAreLawful batch_size → RecoveredBooksAreLawful g
+  recovered_books_are_lawful was_recovered first history last ends =
+      was_recovered (tables_of g first) (tables_of g last.found) (events_of g history) (omega arith)
       (in_order first history last ends) (entered history (lined first history last ends)) (followed first history last ends)
 
   pub months_are_charged_once : law.MonthsAreChargedOnce batch_size → MonthsAreChargedOnce g

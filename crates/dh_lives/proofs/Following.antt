@@ -17,7 +17,7 @@ use Rattle.dh_schema.specs.Store.{AreTables, tables}
 use Rattle.dh_schema.specs.Tables.{IsSound, state_in, version_of_tables}
 use Rattle.dh_schema.proofs.Keyed.{sound_tables_show_their_run}
 use Rattle.dh_runs.proofs.Taken.{its_schema}
-use Rattle.dh_runs.specs.Told.{IsInterrupted, IsRecovered, IsAnsweredBy, IsMidRecovery, reply_of}
+use Rattle.dh_runs.specs.Outcomes.{IsInterrupted, IsRecovered, IsAnsweredBy, IsMidRecovery, reply_of}
 use Rattle.dh_agency.specs.Taken.{TakesAsTheyAre}
 use Rattle.dh_lives.specs.Calls.{Answers, Breaks, BreaksRecovery, Call, IsSame, Tells}
 use Rattle.dh_lives.specs.Calls.{Stepped, StepInterrupted, Resumed, ResumeInterrupted, Shown}
@@ -47,8 +47,8 @@ module _ (old new : State) (clean : HasCleanDisk new) where
   pub broken : (P : machine.State → machine.State → Type 0) → Breaks old new P → IsLeft new (Becomes P)
   broken P told = (λ up. let it = told.halted clean up in (it.0.sound, it.1), told.crash clean)
 
-  pub torn : IsSound old.now.trees → BreaksRecovery old new → IsLeft new (Becomes IsMidRecovery)
-  torn sound told = (λ up. let it = told.halted clean up sound in (it.1, it.2), told.forward.crash clean sound)
+  pub mid_recovery : IsSound old.now.trees → BreaksRecovery old new → IsLeft new (Becomes IsMidRecovery)
+  mid_recovery sound told = (λ up. let it = told.halted clean up sound in (it.1, it.2), told.forward.crash clean sound)
 
   left_be : IsSound old.now.trees → TakesAsTheyAre old new → IsLeft new (Becomes IsSame)
   left_be sound told =
@@ -76,7 +76,7 @@ module _ (old new : State) (clean : HasCleanDisk new) where
       weaker IsSame (λ before after. tabled.as_tables after ≡ tabled.as_tables before) (λ t same. ap tabled.as_tables same) (answered IsSame it)
   left_by AttachInterrupted sound it = left_be sound it
   left_by Recovered sound it = answered IsRecovered it
-  left_by RecoveryInterrupted sound it = torn sound it
+  left_by RecoveryInterrupted sound it = mid_recovery sound it
 
 module _ {S : Type 0} (g : Ghosts S) where
   -- what is read of it

@@ -42,7 +42,7 @@ use Rattle.dh_laws.specs.Repeating.{is_of_nothing_new, with_no_run}
 use Rattle.dh_laws.proofs.VerdictLemmas.Cases.{rows_are, rows_of}
 use Rattle.dh_laws.proofs.CommandLemmas.Whole.{own_state}
 use Rattle.dh_schema.specs.Tables.{IsSound, books_in, state_in, tables_in}
-use Rattle.dh_lives.specs.Answered.{AnswersKeepTheRules, AnswersMoveBalances, ChargesAreDues, SentAgainIsToldTheSame, StandAlike, added, whole_in}
+use Rattle.dh_lives.specs.Answered.{AnswersKeepTheRules, AnswersMoveBalances, ChargesAreDues, SentAgainGetsTheSameReply, StandAlike, added, whole_in}
 use Rattle.dh_lives.proofs.Ending.{sound_in_order}
 
 -- ---- what was carried out before is told as nothing new
@@ -175,8 +175,8 @@ module _ (lawful : WholeIsLawful batch_size) where
       let also : (state_in again).open_run ≡ None = ap (λ (s : State). s.open_run) alike ∙ none in
       sym (own again also) ∙ alike ∙ own after none
 
-  pub sent_again_is_told_the_same : repeated.SentAgainIsToldTheSame batch_size → SentAgainIsToldTheSame
-  sent_again_is_told_the_same again_so before after again told sound none =
+  pub sent_again_gets_the_same_reply : repeated.SentAgainGetsTheSameReply batch_size → SentAgainGetsTheSameReply
+  sent_again_gets_the_same_reply again_so before after again told sound none =
       let all = whole_lawful before sound in
       let books = whole_in before in
       let repeats = again_so books (omega arith) all.0 all.1 in

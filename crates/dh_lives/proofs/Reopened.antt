@@ -9,10 +9,10 @@ use Rattle.dh_types.specs.declared.command.Command.{Command}
 use Rattle.dh_types.specs.declared.reply.Reply.{Reply}
 use Rattle.dh_model.specs.Books as machine
 use Rattle.dh_schema.specs.Store.{AreTables, tables}
-use Rattle.dh_runs.specs.Told.{IsInterrupted, IsRecovered, IsAnsweredBy, IsMidRecovery}
+use Rattle.dh_runs.specs.Outcomes.{IsInterrupted, IsRecovered, IsAnsweredBy, IsMidRecovery}
 use Rattle.dh_lives.specs.Calls.{Call, Recovered, RecoveryInterrupted, StepInterrupted, Stepped, Tells}
 use Rattle.dh_lives.specs.Histories.{IsFoundAfter, IsOfALine, IsOpenedAnew, IsSoundIn}
-use Rattle.dh_lives.proofs.Following.{answered, broken, found_so, torn}
+use Rattle.dh_lives.proofs.Following.{answered, broken, found_so, mid_recovery}
 
 pub if_ok : {A E : Type 0} (r : Result A E) (P Q : A → Type 0) → ((a : A) → P a → Q a) → IfOk r P → IfOk r Q
 if_ok (Ok a) P Q f h = f a h

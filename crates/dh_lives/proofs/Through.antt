@@ -16,7 +16,7 @@ use Rattle.dh_model.specs.Whole.{whole}
 use Rattle.dh_laws.specs.Events as event
 use Rattle.dh_laws.specs.Events.{Event, Happens, IsShown, Tables, state_of}
 use Rattle.dh_laws.specs.Kept.{Kept, NoneLeft, AnswerCounts, UndoneIsLeftOut, DoneCounts, AttachingIsPassed, RecoveryMovesOn, RecoveryEnds}
-use Rattle.dh_laws.proofs.LifeLemmas.Tables.{mended_whole}
+use Rattle.dh_laws.proofs.LifeLemmas.Tables.{recovered_whole}
 use Rattle.dh_laws.proofs.CommandLemmas.Whole.{own_state, shows_none}
 use Rattle.dh_schema.specs.Store.{AreTables, tables}
 use Rattle.dh_schema.specs.Tables.{IsSound, state_in}
@@ -57,7 +57,7 @@ kept_on event.Attached t u events told last shown h kept =
 kept_on event.RecoveryInterrupted t u events told last shown h kept =
     (told, RecoveryMovesOn h.run (from_books u (whole batch_size t.books) events told last h.books kept))
 kept_on event.Recovered t u events told last shown h kept =
-    let books = from_books u (whole batch_size t.books) events told last (mended_whole batch_size u (whole batch_size t.books) h shown) kept in
+    let books = from_books u (whole batch_size t.books) events told last (recovered_whole batch_size u (whole batch_size t.books) h shown) kept in
     let none : u.run ≡ None = ap (λ (v : Tables). v.run) h in (
       told,
       RecoveryEnds (subst (λ (run : Option OpenRun). Kept batch_size (record { books = whole batch_size t.books; open_run = run }) events told last)
@@ -314,8 +314,8 @@ module _ {S : Type 0} (g : Ghosts S) where
       → (tables (state g last.found)).open_run ≡ None
   shut first [] last sound so is =
       let here = found_after g first last sound so.0 in
-      let mended = subst (λ c. Comes (event_of c) (tables (state g first)) (tables (state g last.found))) is here.1 in
-      ap (λ (t : Tables). t.run) mended
+      let was_recovered = subst (λ c. Comes (event_of c) (tables (state g first)) (tables (state g last.found))) is here.1 in
+      ap (λ (t : Tables). t.run) was_recovered
   shut first (Called it ∷ later) last sound so is = shut it.found later last (found_after g first it sound so.0).0 so.1 is
   shut first (Tried it ∷ later) last sound so is = shut it.found later last (leads first it it.outcome refl sound so.0).sound so.1 is
 

@@ -24,7 +24,7 @@ use Rattle.dh_laws.specs.Events.{state_of}
 use Rattle.dh_laws.specs.InOrder.{AreKeyed, IsEntered}
 use Rattle.dh_laws.specs.Repeating.{is_of_nothing_new}
 use Rattle.dh_schema.specs.Tables.{IsSound, books_in, state_in, tables_in}
-use Rattle.dh_runs.specs.Told.{IsAnsweredBy}
+use Rattle.dh_runs.specs.Outcomes.{IsAnsweredBy}
 
 abbrev pub whole_in : Trees → Books
 whole_in trees = whole batch_size (books_in trees)
@@ -61,8 +61,8 @@ abbrev pub StandAlike : Trees → Trees → Type 0
 StandAlike before after = state_of batch_size (tables_in after) ≡ state_of batch_size (tables_in before)
 
 -- sound tables with which it stands alike are the same, row for row; while a run is open too
-abbrev pub StandingTellsTheTables : Type 0
-StandingTellsTheTables = (before after : Trees) → IsSound before → IsSound after → StandAlike before after → state_in after ≡ state_in before
+abbrev pub StandingDeterminesTheTables : Type 0
+StandingDeterminesTheTables = (before after : Trees) → IsSound before → IsSound after → StandAlike before after → state_in after ≡ state_in before
 
 -- so are those before and after a command that was refused, or that was carried out before
 abbrev pub NothingNewLeavesTheTables : Type 0
@@ -70,8 +70,8 @@ NothingNewLeavesTheTables = (before after : Trees) (told : Command) (reply : Rep
     → IsAnsweredBy told reply (state_in before) (state_in after) → is_of_nothing_new reply ≡ true → state_in after ≡ state_in before
 
 -- a receipt or a run that was accepted while no run was open, and is sent again next, is told the same, and no row moves
-abbrev pub SentAgainIsToldTheSame : Type 0
-SentAgainIsToldTheSame = (before after again : Trees) (told : Reply) → IsSound before → (state_in before).open_run ≡ None
+abbrev pub SentAgainGetsTheSameReply : Type 0
+SentAgainGetsTheSameReply = (before after again : Trees) (told : Reply) → IsSound before → (state_in before).open_run ≡ None
     → ((order : ReceiptOrder) (number : ℕ) → IsAnsweredBy (command.Receipt order) (reply.Receipt number) (state_in before) (state_in after)
     → IsAnsweredBy (command.Receipt order) told (state_in after) (state_in again) → (told ≡ reply.AlreadyReceipt number) × (state_in again ≡ state_in after))
     × ((order : RunOrder) (sum : RunSum) → IsAnsweredBy (command.Run order) (reply.Posted sum) (state_in before) (state_in after)

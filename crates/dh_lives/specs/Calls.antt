@@ -9,8 +9,8 @@ use Rattle.dh_laws.specs.Batches.{IsPostedInPart}
 use Rattle.dh_schema.specs.Store.{IsReadyWith, Leaves, LeavesItsTables, tables}
 use Rattle.dh_schema.specs.Tables.{IsSound}
 use Rattle.dh_runs.specs.declared.batches.RunState.{RunState}
-use Rattle.dh_runs.specs.Told.{IsInterrupted, IsRecovered, IsAnsweredBy, reply_of}
-use Rattle.dh_agency.specs.Taken.{RestsTorn, TakesAsTheyAre, TakesForward}
+use Rattle.dh_runs.specs.Outcomes.{IsInterrupted, IsRecovered, IsAnsweredBy, reply_of}
+use Rattle.dh_agency.specs.Taken.{RestsMidRecovery, TakesAsTheyAre, TakesForward}
 
 -- A call, and how it ended. It was interrupted where a stop or a fault came within it.
 pub data Call : Type 0 where
@@ -48,7 +48,7 @@ module _ (old new : State) where
   -- else they are as they were.
   pub record BreaksRecovery : Type 0 where
     pub forward : TakesForward old new
-    pub halted : HasCleanDisk new → IsTrue new.is_open → IsSound old.now.trees → RestsTorn old new
+    pub halted : HasCleanDisk new → IsTrue new.is_open → IsSound old.now.trees → RestsMidRecovery old new
 
 abbrev pub IsSame : machine.State → machine.State → Type 0
 IsSame before after = after ≡ before

@@ -27,7 +27,7 @@ fault_of_cause (cause.Refused why) = fault.Store
 fault_of_cause (cause.Fault it) = it
 
 -- a life as it was lived, if nothing cut it, or its own stop by a fault; and otherwise what cut it
-abbrev pub life_told : Lived → Option Cause → Option Stop → Result Lived Cause
-life_told lived None stop = Ok lived
-life_told lived (Some (cause.Fault it)) (Some stop) = Ok lived
-life_told lived (Some it) stop = Err it
+abbrev pub life_lived : Lived → Option Cause → Option Stop → Result Lived Cause
+life_lived lived None stop = Ok lived
+life_lived lived (Some (cause.Fault it)) (Some stop) = Ok lived
+life_lived lived (Some it) stop = Err it

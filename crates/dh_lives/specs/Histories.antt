@@ -12,7 +12,7 @@ use Rattle.dh_laws.specs.Repeating.{is_of_nothing_new}
 use Rattle.dh_tables.specs.Calls.{HasOurTables}
 use Rattle.dh_schema.specs.Store.{tables}
 use Rattle.dh_schema.specs.Tables.{IsSound, tables_in}
-use Rattle.dh_runs.specs.Told.{reply_of}
+use Rattle.dh_runs.specs.Outcomes.{reply_of}
 use Rattle.dh_lives.specs.Calls.{Call, Stepped, StepInterrupted, Resumed, ResumeInterrupted, Shown}
 use Rattle.dh_lives.specs.Calls.{ShowInterrupted, Attached, AttachInterrupted, Recovered, RecoveryInterrupted, Tells}
 
@@ -44,17 +44,17 @@ event_of RecoveryInterrupted = Some event.RecoveryInterrupted
 
 -- Nothing new came of the call: the command was refused, or carried out before; a question was asked, or files were taken as they are,
 -- answered or interrupted.
-abbrev pub is_of_no_news : Call → Bool
-is_of_no_news (Stepped told reply) = is_of_nothing_new reply
-is_of_no_news (StepInterrupted told) = false
-is_of_no_news (Resumed most it) = is_of_nothing_new (reply_of it)
-is_of_no_news (ResumeInterrupted most) = false
-is_of_no_news Shown = true
-is_of_no_news ShowInterrupted = true
-is_of_no_news Attached = true
-is_of_no_news AttachInterrupted = true
-is_of_no_news Recovered = false
-is_of_no_news RecoveryInterrupted = false
+abbrev pub brings_nothing_new : Call → Bool
+brings_nothing_new (Stepped told reply) = is_of_nothing_new reply
+brings_nothing_new (StepInterrupted told) = false
+brings_nothing_new (Resumed most it) = is_of_nothing_new (reply_of it)
+brings_nothing_new (ResumeInterrupted most) = false
+brings_nothing_new Shown = true
+brings_nothing_new ShowInterrupted = true
+brings_nothing_new Attached = true
+brings_nothing_new AttachInterrupted = true
+brings_nothing_new Recovered = false
+brings_nothing_new RecoveryInterrupted = false
 
 abbrev pub with_event : Option Event → Tables → List (Event × Tables) → List (Event × Tables)
 with_event None found events = events
@@ -107,7 +107,7 @@ module _ {S : Type 0} (g : Ghosts S) where
   events_of (it ∷ later) = with_event (event_of it.call) (tables_of it.found) (events_of later)
 
   -- where nothing new comes of a call, the tables that are found after it are those before it, row for row
-  abbrev pub StayWithoutNews : Held S → List (Moment S) → Type 0
-  StayWithoutNews before [] = Unit {0}
-  StayWithoutNews before (it ∷ later) =
-      (is_of_no_news it.call ≡ true → tables (state g it.found) ≡ tables (state g before)) × StayWithoutNews it.found later
+  abbrev pub StayWhereNothingIsNew : Held S → List (Moment S) → Type 0
+  StayWhereNothingIsNew before [] = Unit {0}
+  StayWhereNothingIsNew before (it ∷ later) =
+      (brings_nothing_new it.call ≡ true → tables (state g it.found) ≡ tables (state g before)) × StayWhereNothingIsNew it.found later

@@ -28,7 +28,7 @@ use Rattle.dh_schema.specs.Store.{tables}
 use Rattle.dh_schema.specs.Tables.{books_in}
 use Rattle.dh_runs.specs.Taking.{GivesVersion, IsRefusedFor}
 use Rattle.dh_lives.specs.Calls.{Recovered, Stepped}
-use Rattle.dh_lives.specs.Histories.{AreFoundSound, IsHistory, IsSoundIn, Moment, StayWithoutNews, events_of, tables_of}
+use Rattle.dh_lives.specs.Histories.{AreFoundSound, IsHistory, IsSoundIn, Moment, StayWhereNothingIsNew, events_of, tables_of}
 
 module _ {S : Type 0} (g : Ghosts S) where
   -- From sound tables the calls are such events as the law of all lives speaks of, and the tables that are found after each are sound:
@@ -45,8 +45,9 @@ module _ {S : Type 0} (g : Ghosts S) where
 
   -- A refusal, a reply that a command was carried out before and a question leave the tables row for row, while a run is open too; so
   -- do files that are taken as they are, and a question that was interrupted.
-  abbrev pub TablesStayWithoutNews : Type 0
-  TablesStayWithoutNews = (first : Held S) (history : List (Moment S)) → IsSoundIn g first → IsHistory g first history → StayWithoutNews g first history
+  abbrev pub TablesStayWhereNothingIsNew : Type 0
+  TablesStayWhereNothingIsNew = (first : Held S) (history : List (Moment S)) → IsSoundIn g first → IsHistory g first history
+      → StayWhereNothingIsNew g first history
 
   -- a history from sound tables whose last call is a recovery that was answered
   pub record EndsRecovered (first : Held S) (history : List (Moment S)) (last : Moment S) : Type 0 where

@@ -2,7 +2,7 @@
 //! Read `answers_move_balances` first.
 
 ghost use Rattle.dh_lives.specs.Answered.{AnswersKeepTheRules, AnswersMoveBalances, ChargesAreDues, NothingNewLeavesTheTables};
-ghost use Rattle.dh_lives.specs.Answered.{SentAgainIsToldTheSame, StandingTellsTheTables};
+ghost use Rattle.dh_lives.specs.Answered.{SentAgainGetsTheSameReply, StandingDeterminesTheTables};
 
 use dh_laws::{balances, invariants, repeats, standings};
 
@@ -32,18 +32,18 @@ pub fn answers_keep_the_rules()
 }
 
 /// A receipt or a run that was accepted with no run open, and is sent again next, is told the same, and no row moves.
-pub fn sent_again_is_told_the_same()
-    ensures { SentAgainIsToldTheSame }
+pub fn sent_again_gets_the_same_reply()
+    ensures { SentAgainGetsTheSameReply }
 {
     invariants::whole_is_lawful();
-    repeats::sent_again_is_told_the_same();
+    repeats::sent_again_gets_the_same_reply();
 }
 
 /// Sound tables with the same whole books and the same open run are the same, row for row.
-pub fn standing_tells_the_tables()
-    ensures { StandingTellsTheTables }
+pub fn standing_determines_the_tables()
+    ensures { StandingDeterminesTheTables }
 {
-    standings::standing_tells_the_tables();
+    standings::standing_determines_the_tables();
 }
 
 /// A refusal, and a reply that the command was carried out before, leave the tables as they were, row for row; while a run is open too.

@@ -11,7 +11,7 @@ ghost use Rattle.dh_laws.specs.Batches.{IsPostedInPart};
 ghost use Rattle.dh_laws.specs.InOrder.{IsEntered};
 ghost use Rattle.dh_laws.specs.Repeating.{is_of_nothing_new};
 ghost use Rattle.dh_runs.specs.Taking.{IsResting};
-ghost use Rattle.dh_runs.specs.Told.{IsInterrupted};
+ghost use Rattle.dh_runs.specs.Outcomes.{IsInterrupted};
 ghost use Rattle.dh_agency.specs.Agency.{IsClean, Leaves, machine, shown_by};
 ghost use Rattle.dh_agency.specs.Taken.{TakesForward};
 ghost use Rattle.dh_lives.specs.Calls.{Tells};
@@ -104,7 +104,7 @@ pub fn attach_tells<S: Alter>(
     conn: Connection<S>,
 ) -> Result<Agency<S>, NotOpened<Problem, S>>
     requires { HasCleanDisk (state S.Store conn) → IsResting (state S.Store conn) }
-    ensures taken { IfOk result (λ a. (a.is_stopped ≡ false) × Tells Attached (state S.Store conn) (shown_by S.Store a)) }
+    ensures attached { IfOk result (λ a. (a.is_stopped ≡ false) × Tells Attached (state S.Store conn) (shown_by S.Store a)) }
     ensures cut { IfErr result (λ e. Tells AttachInterrupted (state S.Store conn) (state S.Store e.conn)) }
     // Whatever the result, a crash as the call returns leaves this.
     ensures stop { IfOk result (λ a. Tells AttachInterrupted (state S.Store conn) (shown_by S.Store a)) }
@@ -118,7 +118,7 @@ pub fn recover_tells<S: Alter>(
     conn: Connection<S>,
 ) -> Result<Agency<S>, NotOpened<Problem, S>>
     requires { HasCleanDisk (state S.Store conn) → IsResting (state S.Store conn) }
-    ensures mended { IfOk result (λ a. (a.is_stopped ≡ false) × Tells Recovered (state S.Store conn) (shown_by S.Store a)) }
+    ensures recovered { IfOk result (λ a. (a.is_stopped ≡ false) × Tells Recovered (state S.Store conn) (shown_by S.Store a)) }
     ensures cut { IfErr result (λ e. Tells RecoveryInterrupted (state S.Store conn) (state S.Store e.conn)) }
     // Whatever the result, a crash as the call returns leaves this.
     ensures stop { IfOk result (λ a. TakesForward (state S.Store conn) (shown_by S.Store a)) }
@@ -146,7 +146,7 @@ pub fn recover_1_tells<S: Alter>(
     conn: Connection<S>,
 ) -> Result<Connection<S>, NotOpened<Problem, S>>
     requires { HasCleanDisk (state S.Store conn) → IsResting (state S.Store conn) }
-    ensures mended { IfOk result (λ c. Tells Recovered (state S.Store conn) (state S.Store c)) }
+    ensures recovered { IfOk result (λ c. Tells Recovered (state S.Store conn) (state S.Store c)) }
     ensures cut { IfErr result (λ e. Tells RecoveryInterrupted (state S.Store conn) (state S.Store e.conn)) }
     // Whatever the result, a crash as the call returns leaves this.
     ensures stop { IfOk result (λ c. TakesForward (state S.Store conn) (state S.Store c)) }

@@ -8,7 +8,7 @@ ghost use Rattle.sqlite_trees.specs.View.{doubt};
 ghost use Rattle.dh_schema.specs.Store.{AreTables, tables};
 ghost use Rattle.dh_schema.specs.Tables.{IsSound};
 ghost use Rattle.dh_runs.specs.Taking.{IsResting};
-ghost use Rattle.dh_runs.specs.Told.{IsInterrupted, IsRecovered, IsAnsweredBy, IsMidRecovery};
+ghost use Rattle.dh_runs.specs.Outcomes.{IsInterrupted, IsRecovered, IsAnsweredBy, IsMidRecovery};
 ghost use Rattle.dh_agency.specs.Agency.{machine};
 ghost use Rattle.dh_lives.specs.Calls.{Recovered, RecoveryInterrupted, StepInterrupted, Stepped};
 ghost use Rattle.dh_lives.specs.Histories.{IsFoundAfter, IsOpenedAnew};
@@ -71,10 +71,10 @@ pub fn recovery_and_crash<S: Alter + Reopen + Drop>(
 ) -> Option<(Result<(), Problem>, Connection<S>)>
     requires { HasCleanDisk (state S.Store conn) → IsResting (state S.Store conn) }
     // No run is open.
-    ensures mended { IfSome result (λ r. HasCleanDisk (state S.Store r.1)
+    ensures recovered { IfSome result (λ r. HasCleanDisk (state S.Store r.1)
         → OnOk r.0 (AreTables (IsRecovered (tables (state S.Store conn))) (state S.Store r.1).now.trees)) }
     // The run is where it was or further.
-    ensures torn { IfSome result (λ r. HasCleanDisk (state S.Store r.1) → IsSound (state S.Store conn).now.trees
+    ensures interrupted { IfSome result (λ r. HasCleanDisk (state S.Store r.1) → IsSound (state S.Store conn).now.trees
         → OnErr r.0 (AreTables (IsMidRecovery (tables (state S.Store conn))) (state S.Store r.1).now.trees)) }
     // Either way it is a call of a history.
     ensures answered { IfSome result (λ r. HasCleanDisk (state S.Store r.1) → OnOk r.0 (IsFoundAfter S.Store conn Recovered r.1)) }

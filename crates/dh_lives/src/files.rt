@@ -92,7 +92,7 @@ fn closed<D: Disk + Drop>(conn: Connection<FileStore<D>>) -> (Option<Cause>, Fil
 }
 
 // Closes the files of work that nothing cut, and leaves those of work that was interrupted as they are.
-fn ended<D: Disk + Drop>(mut done: Done, conn: Connection<FileStore<D>>) -> (Done, Files<D>)
+fn close_work<D: Disk + Drop>(mut done: Done, conn: Connection<FileStore<D>>) -> (Done, Files<D>)
     requires { IfSome done.cause IsFirstCause }
     ensures lived { result.0.lived ≡ done.lived }
     ensures books { result.0.books ≡ done.books }
@@ -118,7 +118,7 @@ pub(crate) fn create_on<D: Disk + Drop>(
     match open_on(alloc, files, options()) {
         Ok(conn) => {
             let (done, conn) = create_over(alloc, conn, first);
-            ended(done, conn)
+            close_work(done, conn)
         }
         Err((why, left)) => (Done::nothing(alloc, Cause::Fault(why.fault())), left),
     }
@@ -137,7 +137,7 @@ pub(crate) fn live_on<D: Disk + Drop>(
     match open_on(alloc, files, options()) {
         Ok(conn) => {
             let (done, conn) = live_over(alloc, conn, commands);
-            ended(done, conn)
+            close_work(done, conn)
         }
         Err((why, left)) => (Done::nothing(alloc, Cause::Fault(why.fault())), left),
     }
@@ -151,7 +151,7 @@ pub(crate) fn load_on<D: Disk + Drop>(alloc: Global, files: Files<D>) -> (Done, 
     match open_on(alloc, files, options()) {
         Ok(mut conn) => {
             let done = load_over(alloc, &mut conn);
-            ended(done, conn)
+            close_work(done, conn)
         }
         Err((why, left)) => (Done::nothing(alloc, Cause::Fault(why.fault())), left),
     }

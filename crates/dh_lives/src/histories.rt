@@ -3,7 +3,7 @@
 
 ghost use Rattle.dh_lives.specs.HistoryLaws.{AcknowledgedReceiptsStay, AcknowledgedRunsStay, EachLifeKeepsABeginning, FromTheBeginning};
 ghost use Rattle.dh_lives.specs.HistoryLaws.{HistoriesAreEvents, MonthsAreChargedOnce, NoneIsRefused, RecoveredBooksAreLawful, TablesAreTheMachines};
-ghost use Rattle.dh_lives.specs.HistoryLaws.{TablesStayWithoutNews};
+ghost use Rattle.dh_lives.specs.HistoryLaws.{TablesStayWhereNothingIsNew};
 ghost use Rattle.dh_lives.specs.Migrations.{AnsweredAttemptsMigrate, DaysAreMigrated, FilesAreMigratedLater, RecoveredFilesAreMigrated};
 ghost use Rattle.dh_lives.specs.Migrations.{LivesGoOnOverMigrations, MachinesOverMigrations, MigrationsMoveOnce, StepsStandOverMigrations};
 
@@ -23,8 +23,8 @@ pub fn none_is_refused<S: Alter>()
 
 /// A refusal, a reply that the command was carried out before and a question leave the tables as they were, row for row; while a run is
 /// open too.
-pub fn tables_stay_without_news<S: Alter>()
-    ensures { TablesStayWithoutNews S.Store }
+pub fn tables_stay_where_nothing_is_new<S: Alter>()
+    ensures { TablesStayWhereNothingIsNew S.Store }
 {
     standings::nothing_new_leaves_the_tables();
 }
@@ -57,7 +57,7 @@ pub fn each_life_keeps_a_beginning<S: Alter>()
 pub fn recovered_books_are_lawful<S: Alter>()
     ensures { RecoveredBooksAreLawful S.Store }
 {
-    lives::mended_books_are_lawful();
+    lives::recovered_books_are_lawful();
 }
 
 /// A month is charged once or not at all, and never in part.

@@ -3,7 +3,7 @@
 ghost use Rattle.std.specs.Prelude.{◌≡◌, ◌++◌, ◌≤◌, None, [], ◌∷◌, is_some, IfSome, IsSome, IfOk, IfErr, OnOk};
 ghost use Rattle.dh_days.specs.declared.limits.TheConstants.{LAST_ENTRY_MONTH};
 ghost use Rattle.dh_schema.specs.Faults.{IsFirstFault};
-ghost use Rattle.dh_lives.specs.Causes.{IsFirstCause, fault_of_cause, life_told};
+ghost use Rattle.dh_lives.specs.Causes.{IsFirstCause, fault_of_cause, life_lived};
 ghost use Rattle.dh_lives.specs.Lives.{AreAccountsOf, IsAccountOf, ends_whole};
 
 use crate::cause::Cause;
@@ -28,7 +28,7 @@ pub struct Rehearsed {
 // The fault that a rehearsal ends with. An agency's own tables are sound, so a store that shows others is not clean.
 fn fault_of_cause(cause: Cause) -> Fault
     requires { IsFirstCause cause }
-    ensures told { result ≡ fault_of_cause cause }
+    ensures value { result ≡ fault_of_cause cause }
     ensures first { IsFirstFault result }
 {
     match cause {
@@ -94,7 +94,7 @@ fn created(alloc: Global, first: EntryMonth) -> Result<Files<Stopping>, Cause>
 // The life as it was lived, if nothing cut it but its stop, and otherwise what cut it.
 fn accounted(done: Done, stop: Option<Stop>) -> Result<Lived, Cause>
     requires { IfSome done.cause IsFirstCause }
-    ensures told { result ≡ life_told done.lived done.cause stop }
+    ensures value { result ≡ life_lived done.lived done.cause stop }
     ensures lived { IfOk result (λ lived. lived ≡ done.lived) }
     ensures whole { stop ≡ None → OnOk result (done.cause ≡ None) }
     ensures cause { IfErr result IsFirstCause }

@@ -4,7 +4,7 @@ use Rattle.std.specs.List.{IsAmong, flat_map, range_with_len}
 use Rattle.std.specs.FinMap.{values}
 use Rattle.std.proofs.lemmas.List.FromFn.{length-map-range_with_len}
 use Rattle.dh_days.specs.Days.{IsDay, plus_months}
-use Rattle.dh_days.proofs.DayMonths.{month_of_months_later, more_months_later, no_month_later}
+use Rattle.dh_days.proofs.DayMonths.{month_of_months_later, more_months_later, zero_months_later_is_the_day}
 use Rattle.dh_types.specs.declared.lease.Lease.{Lease}
 use Rattle.dh_types.specs.declared.lease.Charge.{Charge}
 use Rattle.dh_types.proofs.SameValues.{numbers}
@@ -71,9 +71,9 @@ one_due_in_a_month lease j k h = omega (arith, h)
 
 -- what months later than a day of the calendar is no earlier
 no_earlier : (start k : ℕ) → IsDay start → start ≤ plus_months start k
-no_earlier start zero is = subst (λ d. start ≤ d) (sym (no_month_later start is)) (omega arith)
+no_earlier start zero is = subst (λ d. start ≤ d) (sym (zero_months_later_is_the_day start is)) (omega arith)
 no_earlier start (suc k) is =
-    let first = no_month_later start is in
+    let first = zero_months_later_is_the_day start is in
     let more = more_months_later start 0 (suc k) (omega arith) in
     omega (arith, first, more)
 

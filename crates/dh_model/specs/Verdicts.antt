@@ -59,10 +59,10 @@ pub record Ruling : Type 0 where
   pub rows : Change
 
 -- the first that speaks
-abbrev pub told : List Finding → Verdict → Verdict
-told [] otherwise = otherwise
-told (Known is kept ∷ rest) otherwise = if is then verdict.Already kept else told rest otherwise
-told (Must holds why ∷ rest) otherwise = if holds then told rest otherwise else verdict.Refused why
+abbrev pub first_finding : List Finding → Verdict → Verdict
+first_finding [] otherwise = otherwise
+first_finding (Known is kept ∷ rest) otherwise = if is then verdict.Already kept else first_finding rest otherwise
+first_finding (Must holds why ∷ rest) otherwise = if holds then first_finding rest otherwise else verdict.Refused why
 
 -- the rows, where no check failed
 abbrev pub rows_unless : Option Refusal → Change → Verdict
@@ -73,7 +73,7 @@ abbrev pub judged : List Check → Change → Verdict
 judged checks rows = rows_unless (first_failing checks) rows
 
 abbrev pub decided : Ruling → Verdict
-decided it = told it.before (judged it.checks it.rows)
+decided it = first_finding it.before (judged it.checks it.rows)
 
 -- of a row that is put in: one that is there already is the same, or it refuses
 abbrev pub new_row : {X : Type 0} → (X → Bool) → Option X → List Check → Change → Ruling

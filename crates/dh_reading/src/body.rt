@@ -2,7 +2,7 @@
 
 ghost use Rattle.std.specs.Prelude.{◌≡◌, ◌++◌, ◌-◌, IfOk, IfSome, Err, length, vec_len};
 ghost use Rattle.dh_reading.specs.Bodies.{BodyOf, IsFilled};
-ghost use Rattle.dh_reading.specs.Known.{TakesAtMost};
+ghost use Rattle.dh_reading.specs.Known.{ConsumesAtMost};
 
 use crate::again::ReaderFailed;
 use crate::buffer::fill;
@@ -14,7 +14,7 @@ use std::io::Read;
 fn fill_from<R: Read>(reader: &mut R, body: &mut [u8], front: &[u8]) -> Result<bool, ReaderFailed>
     ensures length { length body.new ≡ length body.old }
     ensures whole { IfOk result (λ whole. IfSome (R.remaining reader.old) (λ after. IsFilled (front.now ++ after) body.new whole)) }
-    ensures taken { TakesAtMost (length body.old - length front.now) (R.remaining reader.old) (R.remaining reader.new) }
+    ensures consumed { ConsumesAtMost (length body.old - length front.now) (R.remaining reader.old) (R.remaining reader.new) }
 {
     let most = body.len();
     if front.len() >= most {
@@ -35,7 +35,7 @@ pub fn read_body<R: Read>(
 ) -> Result<Option<Vec<u8>>, Unread>
     ensures length { IfOk result (λ body. IfSome body (λ whole. vec_len whole ≡ bytes)) }
     ensures body { IfOk result (λ body. IfSome (R.remaining reader.old) (λ after. BodyOf (front.now ++ after) bytes body)) }
-    ensures taken { TakesAtMost (bytes - length front.now) (R.remaining reader.old) (R.remaining reader.new) }
+    ensures consumed { ConsumesAtMost (bytes - length front.now) (R.remaining reader.old) (R.remaining reader.new) }
     ensures memory { result ≡ Err Unread.Memory → reader.new ≡ reader.old }
 {
     let mut body = vec![in alloc; 0u8; bytes]?;

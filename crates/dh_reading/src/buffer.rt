@@ -3,7 +3,7 @@
 ghost use Rattle.std.specs.Prelude.{◌≡◌, ◌-◌, ◌≤◌, ◌<◌, IfOk, OnErr, take, length, List, ℕ, Option};
 ghost use Rattle.std.specs.Io.KnownBytes.{Consumes, IsAtEnd, Keeps};
 ghost use Rattle.dh_reading.specs.Bodies.{FillsOrEnds};
-ghost use Rattle.dh_reading.specs.Known.{TakesAtMost};
+ghost use Rattle.dh_reading.specs.Known.{ConsumesAtMost};
 
 use crate::again::{ReaderFailed, read_again};
 use std::io::Read;
@@ -20,7 +20,7 @@ pub fn read_more<R: Read>(
     ensures bytes { (start : Option (List ℕ)) → Consumes start (R.remaining reader.old) (take filled buffer.old)
         → IfOk result (λ total. Consumes start (R.remaining reader.new) (take total buffer.new)) }
     ensures end { IfOk result (λ total. total ≡ filled → IsAtEnd (R.remaining reader.new)) }
-    ensures taken { IfOk result (λ total. TakesAtMost (total - filled) (R.remaining reader.old) (R.remaining reader.new)) }
+    ensures consumed { IfOk result (λ total. ConsumesAtMost (total - filled) (R.remaining reader.old) (R.remaining reader.new)) }
     ensures err { OnErr result (Keeps (R.remaining reader.old) (R.remaining reader.new)) }
 {
     let count = read_again(reader, &mut buffer[filled..])?;
@@ -37,7 +37,7 @@ pub(crate) fn fill<R: Read>(
     ensures length { length buffer.new ≡ length buffer.old }
     ensures bytes { (start : Option (List ℕ)) → Consumes start (R.remaining reader.old) (take front buffer.old)
         → IfOk result (FillsOrEnds start (R.remaining reader.new) buffer.new) }
-    ensures taken { TakesAtMost (length buffer.old - front) (R.remaining reader.old) (R.remaining reader.new) }
+    ensures consumed { ConsumesAtMost (length buffer.old - front) (R.remaining reader.old) (R.remaining reader.new) }
 {
     let mut filled = front;
     while filled < buffer.len() {

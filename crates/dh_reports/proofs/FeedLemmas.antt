@@ -17,7 +17,7 @@ use Rattle.dh_values.specs.declared.receipt_kind.ReceiptKind.TheVariants.{Rent, 
 use Rattle.dh_values.proofs.Ascii.{and_left, and_right}
 use Rattle.dh_days.specs.Days.{day_text}
 use Rattle.dh_days.specs.Months.{month_text, two_digits}
-use Rattle.dh_reports.specs.Columns.{left, line, line_feeds, right}
+use Rattle.dh_reports.specs.Columns.{left_aligned, line, line_feeds, right_aligned}
 
 -- what a byte adds
 abbrev feed : ℕ → ℕ
@@ -43,10 +43,10 @@ pub spaces_none : (n : ℕ) → line_feeds (replicate n 32) ≡ 0
 spaces_none zero = refl
 spaces_none (suc n) = skip 32 (replicate n 32) (λ e. omega arith) ∙ spaces_none n
 
-pub left_none : (width : ℕ) (text : List ℕ) → line_feeds text ≡ 0 → line_feeds (left width text) ≡ 0
+pub left_none : (width : ℕ) (text : List ℕ) → line_feeds text ≡ 0 → line_feeds (left_aligned width text) ≡ 0
 left_none width text h = let n = width - length text in both_none text (replicate n 32) h (spaces_none n)
 
-pub right_none : (width : ℕ) (text : List ℕ) → line_feeds text ≡ 0 → line_feeds (right width text) ≡ 0
+pub right_none : (width : ℕ) (text : List ℕ) → line_feeds text ≡ 0 → line_feeds (right_aligned width text) ≡ 0
 right_none width text h = let n = width - length text in both_none (replicate n 32) text (spaces_none n) h
 
 -- no text of the list has one

@@ -16,7 +16,7 @@ use Rattle.dh_types.specs.declared.run.Part.{Part}
 use Rattle.dh_types.specs.declared.run.RunSum.{RunSum}
 use Rattle.dh_types.specs.declared.answer.Debt.{Debt}
 use Rattle.dh_types.specs.declared.answer.OwnerLine.{OwnerLine}
-use Rattle.dh_reports.specs.Columns.{left, line_feeds, right}
+use Rattle.dh_reports.specs.Columns.{left_aligned, line_feeds, right_aligned}
 use Rattle.dh_reports.specs.ReportTexts.{arrears_text, branch_line, charge_line, count_line, debt_line, entry_line, lease_line, name_text, part_line}
 use Rattle.dh_reports.specs.ReportTexts.{owner_line, owner_text, property_line, receipt_line, run_text, statement_text, sum_line, sums_line}
 use Rattle.dh_reports.proofs.FeedLemmas.{code_none, day_none, decimal_none, joined, left_none, money_none, month_none, one_line, pence_none}
@@ -24,13 +24,14 @@ use Rattle.dh_reports.proofs.FeedLemmas.{property_type_none, receipt_kind_none, 
 
 pub branch_feeds : (branch : Branch) → is_id branch.number ≡ true → is_text 60 branch.city ≡ true → line_feeds (branch_line branch) ≡ 1
 branch_feeds branch number city =
-    one_line (left 8 branch.number ∷ branch.city ∷ []) (left_none 8 branch.number (code_none branch.number number), (text_none 60 branch.city city, tt))
+    one_line (left_aligned 8 branch.number ∷ branch.city ∷ []) (left_none 8 branch.number (code_none branch.number number), (text_none 60 branch.city city, tt))
 
 pub property_feeds : (property : Property) → is_id property.number ≡ true → is_text 60 property.city ≡ true → line_feeds (property_line property) ≡ 1
 property_feeds property number city =
     let kind = property_type_text property.property_type in
     one_line
-    (left 8 property.number ∷ left 5 kind ∷ right 2 (decimal property.rooms) ∷ right 12 (pence_text property.rent) ∷ property.city ∷ []) (
+    (left_aligned 8 property.number ∷ left_aligned 5 kind ∷ right_aligned 2 (decimal property.rooms) ∷ right_aligned 12 (pence_text property.rent)
+    ∷ property.city ∷ []) (
       left_none 8 property.number (code_none property.number number),
       (
         left_none 5 kind (property_type_none property.property_type),
@@ -47,7 +48,8 @@ property_feeds property number city =
 pub lease_feeds : (lease : Lease) → is_id lease.terms.client ≡ true → is_id lease.terms.property ≡ true → line_feeds (lease_line lease) ≡ 1
 lease_feeds lease client property =
     one_line
-    (right 8 (decimal lease.terms.number) ∷ left 8 lease.terms.client ∷ left 8 lease.terms.property ∷ right 12 (pence_text lease.rent) ∷ []) (
+    (right_aligned 8 (decimal lease.terms.number) ∷ left_aligned 8 lease.terms.client ∷ left_aligned 8 lease.terms.property
+    ∷ right_aligned 12 (pence_text lease.rent) ∷ []) (
       right_none 8 (decimal lease.terms.number) (decimal_none lease.terms.number),
       (
         left_none 8 lease.terms.client (code_none lease.terms.client client),
@@ -57,7 +59,7 @@ lease_feeds lease client property =
 
 entry_feeds : (word : List ℕ) (day amount : ℕ) → line_feeds word ≡ 0 → line_feeds (entry_line word day amount) ≡ 1
 entry_feeds word day amount h =
-    one_line (left 8 word ∷ day_text day ∷ right 12 (pence_text amount) ∷ [])
+    one_line (left_aligned 8 word ∷ day_text day ∷ right_aligned 12 (pence_text amount) ∷ [])
     (left_none 8 word h, (day_none day, (right_none 12 (pence_text amount) (pence_none amount), tt)))
 
 pub charge_feeds : (charge : Charge) → line_feeds (charge_line charge) ≡ 1
@@ -69,7 +71,7 @@ receipt_feeds receipt =
 
 sum_feeds : (word : List ℕ) (width : ℕ) (money : ℤ) → line_feeds word ≡ 0 → line_feeds (sum_line word width money) ≡ 1
 sum_feeds word width money h =
-    one_line (left 8 word ∷ replicate width 32 ∷ right 12 (money_text money) ∷ [])
+    one_line (left_aligned 8 word ∷ replicate width 32 ∷ right_aligned 12 (money_text money) ∷ [])
     (left_none 8 word h, (spaces_none width, (right_none 12 (money_text money) (money_none money), tt)))
 
 -- the client has no name in the books, or one that is a text
@@ -83,7 +85,7 @@ name_none (Some name) h = text_none 60 name h
 
 pub debt_feeds : (debt : Debt) → is_id debt.client ≡ true → IsName debt.name → line_feeds (debt_line debt) ≡ 1
 debt_feeds debt client name =
-    one_line (right 8 (decimal debt.lease) ∷ left 8 debt.client ∷ right 12 (money_text debt.balance) ∷ name_text debt.name ∷ []) (
+    one_line (right_aligned 8 (decimal debt.lease) ∷ left_aligned 8 debt.client ∷ right_aligned 12 (money_text debt.balance) ∷ name_text debt.name ∷ []) (
       right_none 8 (decimal debt.lease) (decimal_none debt.lease),
       (
         left_none 8 debt.client (code_none debt.client client),
@@ -93,7 +95,7 @@ debt_feeds debt client name =
 
 count_feeds : (name : List ℕ) (count total : ℕ) → line_feeds name ≡ 0 → line_feeds (count_line name count total) ≡ 1
 count_feeds name count total h =
-    one_line (left 8 name ∷ right 8 (decimal count) ∷ right 12 (pence_text total) ∷ [])
+    one_line (left_aligned 8 name ∷ right_aligned 8 (decimal count) ∷ right_aligned 12 (pence_text total) ∷ [])
     (left_none 8 name h, (right_none 8 (decimal count) (decimal_none count), (right_none 12 (pence_text total) (pence_none total), tt)))
 
 pub part_feeds : (part : Part) → is_id part.branch ≡ true → line_feeds (part_line part) ≡ 1
@@ -132,7 +134,8 @@ run_feeds parts sum each =
 
 pub owner_feeds : (it : OwnerLine) → is_id it.property ≡ true → line_feeds (owner_line it) ≡ 1
 owner_feeds it property =
-    one_line (right 8 (decimal it.lease) ∷ left 8 it.property ∷ right 12 (pence_text it.amount) ∷ right 12 (pence_text it.fee) ∷ []) (
+    one_line
+    (right_aligned 8 (decimal it.lease) ∷ left_aligned 8 it.property ∷ right_aligned 12 (pence_text it.amount) ∷ right_aligned 12 (pence_text it.fee) ∷ []) (
       right_none 8 (decimal it.lease) (decimal_none it.lease),
       (
         left_none 8 it.property (code_none it.property property),
@@ -142,7 +145,7 @@ owner_feeds it property =
 
 sums_feeds : (word : List ℕ) (total fees : ℤ) → line_feeds word ≡ 0 → line_feeds (sums_line word total fees) ≡ 1
 sums_feeds word total fees h =
-    one_line (left 8 word ∷ replicate 8 32 ∷ right 12 (money_text total) ∷ right 12 (money_text fees) ∷ [])
+    one_line (left_aligned 8 word ∷ replicate 8 32 ∷ right_aligned 12 (money_text total) ∷ right_aligned 12 (money_text fees) ∷ [])
     (left_none 8 word h, (spaces_none 8, (right_none 12 (money_text total) (money_none total), (right_none 12 (money_text fees) (money_none fees), tt))))
 
 pub owner_text_feeds : (lines : List OwnerLine) (total fees payable : ℤ) → line_feeds (flat_map owner_line lines) ≡ length lines

@@ -4,12 +4,12 @@ use Rattle.std.specs.List.{count_by, join_with_byte}
 use Rattle.dh_reports.specs.declared.columns.Column.{Column}
 
 -- left-aligned in so many columns; what is longer is not cut
-abbrev pub left : ℕ → List ℕ → List ℕ
-left width text = text ++ replicate (width - length text) 32
+abbrev pub left_aligned : ℕ → List ℕ → List ℕ
+left_aligned width text = text ++ replicate (width - length text) 32
 
 -- right-aligned; what is longer is not cut
-abbrev pub right : ℕ → List ℕ → List ℕ
-right width text = replicate (width - length text) 32 ++ text
+abbrev pub right_aligned : ℕ → List ℕ → List ℕ
+right_aligned width text = replicate (width - length text) 32 ++ text
 
 -- the end of a line
 abbrev pub newline : List ℕ

@@ -16,26 +16,28 @@ use Rattle.dh_types.specs.declared.run.RunSum.{RunSum}
 use Rattle.dh_types.specs.declared.answer.Debt.{Debt}
 use Rattle.dh_types.specs.declared.answer.OwnerLine.{OwnerLine}
 use Rattle.dh_types.specs.Reports.{Report, BranchList, VacantList, MatchingList, LeaseStatement, BranchArrears, RunParts, OwnerCharges, NoReport}
-use Rattle.dh_reports.specs.Columns.{left, line, right}
+use Rattle.dh_reports.specs.Columns.{left_aligned, line, right_aligned}
 
 -- the number in 8 columns, the city
 abbrev pub branch_line : Branch → List ℕ
-branch_line branch = line (left 8 branch.number ∷ branch.city ∷ [])
+branch_line branch = line (left_aligned 8 branch.number ∷ branch.city ∷ [])
 
 -- the number in 8 columns, the type in 5, the rooms in 2, the rent in 12, the city
 abbrev pub property_line : Property → List ℕ
 property_line property =
-    line (left 8 property.number ∷ left 5 (property_type_text property.property_type) ∷ right 2 (decimal property.rooms)
-    ∷ right 12 (pence_text property.rent) ∷ property.city ∷ [])
+    line (left_aligned 8 property.number ∷ left_aligned 5 (property_type_text property.property_type) ∷ right_aligned 2 (decimal property.rooms)
+    ∷ right_aligned 12 (pence_text property.rent) ∷ property.city ∷ [])
 
 -- the number, the client and the property in 8 columns each, the lease's rent in 12
 abbrev pub lease_line : Lease → List ℕ
 lease_line lease =
-    line (right 8 (decimal lease.terms.number) ∷ left 8 lease.terms.client ∷ left 8 lease.terms.property ∷ right 12 (pence_text lease.rent) ∷ [])
+    line
+    (right_aligned 8 (decimal lease.terms.number) ∷ left_aligned 8 lease.terms.client ∷ left_aligned 8 lease.terms.property
+    ∷ right_aligned 12 (pence_text lease.rent) ∷ [])
 
 -- what was charged or paid on a day: a word in 8 columns, the day, the amount in 12
 abbrev pub entry_line : List ℕ → ℕ → ℕ → List ℕ
-entry_line word day amount = line (left 8 word ∷ day_text day ∷ right 12 (pence_text amount) ∷ [])
+entry_line word day amount = line (left_aligned 8 word ∷ day_text day ∷ right_aligned 12 (pence_text amount) ∷ [])
 
 abbrev pub charge_line : Charge → List ℕ
 charge_line charge = entry_line (codes "charge") charge.day charge.amount
@@ -45,7 +47,7 @@ receipt_line receipt = entry_line (receipt_kind_text receipt.payment.kind) recei
 
 -- a word in 8 columns, so many spaces where other lines have a column, the money in 12
 abbrev pub sum_line : List ℕ → ℕ → ℤ → List ℕ
-sum_line word width money = line (left 8 word ∷ replicate width 32 ∷ right 12 (money_text money) ∷ [])
+sum_line word width money = line (left_aligned 8 word ∷ replicate width 32 ∷ right_aligned 12 (money_text money) ∷ [])
 
 abbrev pub statement_text : Lease → List Charge → List Receipt → ℤ → List ℕ
 statement_text lease charges receipts balance =
@@ -59,14 +61,14 @@ name_text (Some name) = name
 -- the lease and the client in 8 columns each, the balance in 12, the client's name
 abbrev pub debt_line : Debt → List ℕ
 debt_line debt =
-    line (right 8 (decimal debt.lease) ∷ left 8 debt.client ∷ right 12 (money_text debt.balance) ∷ name_text debt.name ∷ [])
+    line (right_aligned 8 (decimal debt.lease) ∷ left_aligned 8 debt.client ∷ right_aligned 12 (money_text debt.balance) ∷ name_text debt.name ∷ [])
 
 abbrev pub arrears_text : List Debt → ℤ → List ℕ
 arrears_text debts total = flat_map debt_line debts ++ sum_line (codes "total") 8 total
 
 -- a branch or a month, and a count, in 8 columns each, the total in 12
 abbrev pub count_line : List ℕ → ℕ → ℕ → List ℕ
-count_line name count total = line (left 8 name ∷ right 8 (decimal count) ∷ right 12 (pence_text total) ∷ [])
+count_line name count total = line (left_aligned 8 name ∷ right_aligned 8 (decimal count) ∷ right_aligned 12 (pence_text total) ∷ [])
 
 abbrev pub part_line : Part → List ℕ
 part_line part = count_line part.branch part.count part.total
@@ -76,11 +78,12 @@ run_text parts sum = flat_map part_line parts ++ count_line (month_text sum.mont
 
 -- the lease and the property in 8 columns each, what was charged and what the branch takes of it in 12 each
 abbrev pub owner_line : OwnerLine → List ℕ
-owner_line it = line (right 8 (decimal it.lease) ∷ left 8 it.property ∷ right 12 (pence_text it.amount) ∷ right 12 (pence_text it.fee) ∷ [])
+owner_line it =
+    line (right_aligned 8 (decimal it.lease) ∷ left_aligned 8 it.property ∷ right_aligned 12 (pence_text it.amount) ∷ right_aligned 12 (pence_text it.fee) ∷ [])
 
 -- a word in 8 columns, 8 spaces, two sums in 12 each
 abbrev pub sums_line : List ℕ → ℤ → ℤ → List ℕ
-sums_line word total fees = line (left 8 word ∷ replicate 8 32 ∷ right 12 (money_text total) ∷ right 12 (money_text fees) ∷ [])
+sums_line word total fees = line (left_aligned 8 word ∷ replicate 8 32 ∷ right_aligned 12 (money_text total) ∷ right_aligned 12 (money_text fees) ∷ [])
 
 abbrev pub owner_text : List OwnerLine → ℤ → ℤ → ℤ → List ℕ
 owner_text lines total fees payable = flat_map owner_line lines ++ sums_line (codes "total") total fees ++ sum_line (codes "payable") 8 payable

@@ -2,22 +2,25 @@
 
 ghost use Rattle.dh_reports.specs.ReportTexts.{branch_line};
 
-use crate::columns::{left, plain, put_line};
-use crate::record_lines::Line;
+use crate::columns::{left_aligned, plain, put_line};
+use crate::record_lines::ReportLine;
 use dh_types::{Branch, Output};
 use std::io::Write;
 
-impl Line for Branch {
+impl ReportLine for Branch {
     ghost line = { branch_line };
 
     fn put<W: Write>(&self, writer: &mut W) -> Result<(), Output> {
         put_line(
             writer,
-            &[left(8, self.number.as_str()), plain(self.city.as_str())],
+            &[
+                left_aligned(8, self.number.as_str()),
+                plain(self.city.as_str()),
+            ],
         )
     }
 
-    fn look(&self) {
+    fn has_one_line(&self) {
         let _number = self.number.as_str();
         let _city = self.city.as_str();
     }

@@ -2,17 +2,17 @@
 
 ghost use Rattle.std.specs.Prelude.{◌≡◌, ◌-◌, ◌≤◌, length, map, replicate};
 ghost use Rattle.dh_types.specs.Output.{Puts};
-ghost use Rattle.dh_reports.specs.Columns.{column_text, left, line, right};
+ghost use Rattle.dh_reports.specs.Columns.{column_text, left_aligned, line, right_aligned};
 
 use arrayvec::ArrayVec;
 use dh_types::Output;
-use dh_types::text_writer::{put, put_parts};
+use dh_types::text_writer::{put, put_pieces};
 use std::io::Write;
 
 const SPACES: [u8; 16] = [b' '; 16];
 
 /// A line, with room for the longest: two numbers, a sum of 42 digits and signs, and a name of 60 characters.
-type Line = ArrayVec<u8, 320>;
+type LineBuffer = ArrayVec<u8, 320>;
 
 /// A text, and the spaces that fill its column before or behind it.
 #[derive(Clone, Copy)]
@@ -42,9 +42,9 @@ pub fn plain(text: &str) -> Column<'_>
 }
 
 /// The text at the left of a column of `width` bytes; a longer one is not cut.
-pub fn left(width: usize, text: &str) -> Column<'_>
+pub fn left_aligned(width: usize, text: &str) -> Column<'_>
     requires { width ≤ 16 }
-    ensures { column_text result ≡ left width text.now }
+    ensures { column_text result ≡ left_aligned width text.now }
 {
     Column {
         before: b"",
@@ -54,9 +54,9 @@ pub fn left(width: usize, text: &str) -> Column<'_>
 }
 
 /// The text at the right of a column of `width` bytes; a longer one is not cut.
-pub fn right(width: usize, text: &str) -> Column<'_>
+pub fn right_aligned(width: usize, text: &str) -> Column<'_>
     requires { width ≤ 16 }
-    ensures { column_text result ≡ right width text.now }
+    ensures { column_text result ≡ right_aligned width text.now }
 {
     Column {
         before: padding(width, text),
@@ -71,7 +71,7 @@ fn put_columns<W: Write>(writer: &mut W, columns: &[Column<'_>]) -> Result<(), O
 {
     let mut parting: &[u8] = b"";
     for column in columns {
-        put_parts(
+        put_pieces(
             writer,
             &[parting, column.before, column.text, column.behind],
         )?;
@@ -85,7 +85,7 @@ fn put_columns<W: Write>(writer: &mut W, columns: &[Column<'_>]) -> Result<(), O
 pub fn put_line<W: Write>(writer: &mut W, columns: &[Column<'_>]) -> Result<(), Output>
     ensures { Puts (W.contents writer.old) (W.contents writer.new) result (line (map column_text columns.now)) }
 {
-    let mut line: Line = ArrayVec::new();
+    let mut line: LineBuffer = ArrayVec::new();
     match put_columns(&mut line, columns) {
         Ok(()) => put(writer, &line),
         Err(_) => put_columns(writer, columns),

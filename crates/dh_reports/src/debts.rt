@@ -4,15 +4,15 @@ ghost use Rattle.std.specs.Prelude.{◌≡◌};
 ghost use Rattle.dh_types.specs.Output.{Puts};
 ghost use Rattle.dh_reports.specs.ReportTexts.{arrears_text, debt_line, name_text};
 
-use crate::columns::{left, plain, put_line, right};
+use crate::columns::{left_aligned, plain, put_line, right_aligned};
 use crate::figures::money_text;
-use crate::record_lines::{Line, put_each};
+use crate::record_lines::{ReportLine, put_each};
 use crate::sums::put_sum;
 use dh_types::{Arrears, Debt, Output};
 use itoa::Buffer;
 use std::io::Write;
 
-impl Line for Debt {
+impl ReportLine for Debt {
     ghost line = { debt_line };
 
     fn put<W: Write>(&self, writer: &mut W) -> Result<(), Output> {
@@ -23,15 +23,15 @@ impl Line for Debt {
         put_line(
             writer,
             &[
-                right(8, Buffer::new().format(self.lease.number())),
-                left(8, self.client.as_str()),
-                right(12, money_text(self.balance).as_str()),
+                right_aligned(8, Buffer::new().format(self.lease.number())),
+                left_aligned(8, self.client.as_str()),
+                right_aligned(12, money_text(self.balance).as_str()),
                 plain(name),
             ],
         )
     }
 
-    fn look(&self) {
+    fn has_one_line(&self) {
         let _client = self.client.as_str();
         if let Some(name) = &self.name {
             let _name = name.as_str();

@@ -6,15 +6,15 @@ ghost use Rattle.dh_types.specs.Reports.{report_of};
 ghost use Rattle.dh_reports.specs.Columns.{line_feeds};
 ghost use Rattle.dh_reports.specs.ReportTexts.{line_count, report_text};
 
-use crate::record_lines::Line;
+use crate::record_lines::ReportLine;
 use dh_types::Answer;
 
 // Each record has one line.
-fn look_at_each<L: Line>(records: &[L])
+fn each_has_one_line<L: ReportLine>(records: &[L])
     ensures { line_feeds (flat_map L.line records.now) ≡ length records.now }
 {
     for record in records {
-        record.look();
+        record.has_one_line();
     }
 }
 
@@ -23,16 +23,16 @@ pub fn lines_are_line_feeds(answer: &Answer)
     ensures { line_count (report_of answer.now) ≡ line_feeds (report_text (report_of answer.now)) }
 {
     match answer {
-        Answer::Branches(branches) => look_at_each(branches),
-        Answer::Vacant(properties) | Answer::Matching(properties) => look_at_each(properties),
+        Answer::Branches(branches) => each_has_one_line(branches),
+        Answer::Vacant(properties) | Answer::Matching(properties) => each_has_one_line(properties),
         Answer::Statement(statement) => {
-            statement.lease.look();
-            look_at_each(&statement.charges);
-            look_at_each(&statement.receipts);
+            statement.lease.has_one_line();
+            each_has_one_line(&statement.charges);
+            each_has_one_line(&statement.receipts);
         }
-        Answer::Arrears(arrears) => look_at_each(&arrears.debts),
-        Answer::Run(run) => look_at_each(&run.parts),
-        Answer::Owner(statement) => look_at_each(&statement.lines),
+        Answer::Arrears(arrears) => each_has_one_line(&arrears.debts),
+        Answer::Run(run) => each_has_one_line(&run.parts),
+        Answer::Owner(statement) => each_has_one_line(&statement.lines),
         Answer::Refused(_) => (),
     }
 }

@@ -4,30 +4,30 @@ ghost use Rattle.std.specs.Prelude.{◌≡◌};
 ghost use Rattle.dh_types.specs.Output.{Puts};
 ghost use Rattle.dh_reports.specs.ReportTexts.{owner_line, owner_text};
 
-use crate::columns::{left, put_line, right};
+use crate::columns::{left_aligned, put_line, right_aligned};
 use crate::figures::pence_text;
-use crate::record_lines::{Line, put_each};
+use crate::record_lines::{ReportLine, put_each};
 use crate::sums::{put_sum, put_sums};
 use dh_types::{Output, OwnerLine, OwnerStatement};
 use itoa::Buffer;
 use std::io::Write;
 
-impl Line for OwnerLine {
+impl ReportLine for OwnerLine {
     ghost line = { owner_line };
 
     fn put<W: Write>(&self, writer: &mut W) -> Result<(), Output> {
         put_line(
             writer,
             &[
-                right(8, Buffer::new().format(self.lease.number())),
-                left(8, self.property.as_str()),
-                right(12, pence_text(u64::from(self.amount.pence())).as_str()),
-                right(12, pence_text(self.fee.pence()).as_str()),
+                right_aligned(8, Buffer::new().format(self.lease.number())),
+                left_aligned(8, self.property.as_str()),
+                right_aligned(12, pence_text(u64::from(self.amount.pence())).as_str()),
+                right_aligned(12, pence_text(self.fee.pence()).as_str()),
             ],
         )
     }
 
-    fn look(&self) {
+    fn has_one_line(&self) {
         let _property = self.property.as_str();
     }
 }

@@ -3,9 +3,9 @@
 ghost use Rattle.dh_types.specs.Output.{Puts};
 ghost use Rattle.dh_reports.specs.ReportTexts.{count_line, part_line, run_text};
 
-use crate::columns::{left, put_line, right};
+use crate::columns::{left_aligned, put_line, right_aligned};
 use crate::figures::{month_text, pence_text};
-use crate::record_lines::{Line, put_each};
+use crate::record_lines::{ReportLine, put_each};
 use dh_types::{Output, Part, Pence, RunReport};
 use itoa::Buffer;
 use std::io::Write;
@@ -17,21 +17,21 @@ fn put_count<W: Write>(writer: &mut W, name: &str, count: u32, total: Pence) -> 
     put_line(
         writer,
         &[
-            left(8, name),
-            right(8, Buffer::new().format(count)),
-            right(12, pence_text(total.pence()).as_str()),
+            left_aligned(8, name),
+            right_aligned(8, Buffer::new().format(count)),
+            right_aligned(12, pence_text(total.pence()).as_str()),
         ],
     )
 }
 
-impl Line for Part {
+impl ReportLine for Part {
     ghost line = { part_line };
 
     fn put<W: Write>(&self, writer: &mut W) -> Result<(), Output> {
         put_count(writer, self.branch.as_str(), self.count, self.total)
     }
 
-    fn look(&self) {
+    fn has_one_line(&self) {
         let _branch = self.branch.as_str();
     }
 }

@@ -4,9 +4,9 @@ ghost use Rattle.std.specs.Prelude.{◌≡◌, ◌+◌, codes, length};
 ghost use Rattle.dh_types.specs.Output.{Puts};
 ghost use Rattle.dh_reports.specs.ReportTexts.{charge_line, entry_line, lease_line, receipt_line, statement_text};
 
-use crate::columns::{left, plain, put_line, right};
+use crate::columns::{left_aligned, plain, put_line, right_aligned};
 use crate::figures::{day_text, pence_text};
-use crate::record_lines::{Line, put_each};
+use crate::record_lines::{ReportLine, put_each};
 use crate::sums::put_sum;
 use dh_types::{Charge, Day, Lease, Output, Receipt, Statement};
 use itoa::Buffer;
@@ -19,24 +19,24 @@ fn put_entry<W: Write>(writer: &mut W, word: &str, day: Day, pence: u32) -> Resu
     put_line(
         writer,
         &[
-            left(8, word),
+            left_aligned(8, word),
             plain(day_text(day).as_str()),
-            right(12, pence_text(u64::from(pence)).as_str()),
+            right_aligned(12, pence_text(u64::from(pence)).as_str()),
         ],
     )
 }
 
-impl Line for Charge {
+impl ReportLine for Charge {
     ghost line = { charge_line };
 
     fn put<W: Write>(&self, writer: &mut W) -> Result<(), Output> {
         put_entry(writer, "charge", self.day, self.amount.pence())
     }
 
-    fn look(&self) {}
+    fn has_one_line(&self) {}
 }
 
-impl Line for Receipt {
+impl ReportLine for Receipt {
     ghost line = { receipt_line };
 
     fn put<W: Write>(&self, writer: &mut W) -> Result<(), Output> {
@@ -49,10 +49,10 @@ impl Line for Receipt {
         )
     }
 
-    fn look(&self) {}
+    fn has_one_line(&self) {}
 }
 
-impl Line for Lease {
+impl ReportLine for Lease {
     ghost line = { lease_line };
 
     fn put<W: Write>(&self, writer: &mut W) -> Result<(), Output> {
@@ -60,15 +60,15 @@ impl Line for Lease {
         put_line(
             writer,
             &[
-                right(8, Buffer::new().format(terms.number.number())),
-                left(8, terms.client.as_str()),
-                left(8, terms.property.as_str()),
-                right(12, pence_text(u64::from(self.rent.pence())).as_str()),
+                right_aligned(8, Buffer::new().format(terms.number.number())),
+                left_aligned(8, terms.client.as_str()),
+                left_aligned(8, terms.property.as_str()),
+                right_aligned(12, pence_text(u64::from(self.rent.pence())).as_str()),
             ],
         )
     }
 
-    fn look(&self) {
+    fn has_one_line(&self) {
         let _client = self.terms.client.as_str();
         let _property = self.terms.property.as_str();
     }

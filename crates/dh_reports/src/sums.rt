@@ -4,7 +4,7 @@ ghost use Rattle.std.specs.Prelude.{◌≤◌};
 ghost use Rattle.dh_types.specs.Output.{Puts};
 ghost use Rattle.dh_reports.specs.ReportTexts.{sum_line, sums_line};
 
-use crate::columns::{left, put_line, right};
+use crate::columns::{left_aligned, put_line, right_aligned};
 use crate::figures::money_text;
 use dh_types::{Balance, Output};
 use std::io::Write;
@@ -22,9 +22,9 @@ pub fn put_sum<W: Write>(
     put_line(
         writer,
         &[
-            left(8, word),
-            left(width, ""),
-            right(12, money_text(money).as_str()),
+            left_aligned(8, word),
+            left_aligned(width, ""),
+            right_aligned(12, money_text(money).as_str()),
         ],
     )
 }
@@ -41,10 +41,10 @@ pub(crate) fn put_sums<W: Write>(
     put_line(
         writer,
         &[
-            left(8, word),
-            left(8, ""),
-            right(12, money_text(total).as_str()),
-            right(12, money_text(fees).as_str()),
+            left_aligned(8, word),
+            left_aligned(8, ""),
+            right_aligned(12, money_text(total).as_str()),
+            right_aligned(12, money_text(fees).as_str()),
         ],
     )
 }

@@ -10,10 +10,10 @@ use Rattle.dh_requests.specs.declared.head.HeadRead.{HeadRead}
 use Rattle.dh_requests.specs.declared.head.HeadRead.TheVariants.{Found}
 use Rattle.dh_requests.specs.declared.limits.TheConstants.{ROOM}
 use Rattle.dh_requests.specs.Heads.{HeadOf, IsHead}
-use Rattle.dh_reading.specs.Known.{IfBoth, TakesAtMost}
+use Rattle.dh_reading.specs.Known.{ConsumesAtMost, IfBoth}
 use Rattle.dh_reading.proofs.Taking.{takes_both}
-use Rattle.dh_requests.specs.Requests.{IsAnnounced, MayNeedMemory, TakesMemory, TakesRequest}
-use Rattle.dh_requests.specs.Steps.{TakesBody}
+use Rattle.dh_requests.specs.Requests.{ConsumesRequest, IsAnnounced, MayNeedMemory, WantsMemory}
+use Rattle.dh_requests.specs.Steps.{ConsumesBody}
 
 up : (a b : ℕ) → (a ≤ b) ⊎ (b < a) → (suc a ≤ suc b) ⊎ (suc b < suc a)
 up a b (inl h) = inl (omega (arith, h))
@@ -38,7 +38,7 @@ few_behind input after front taken more h n is all head body room few (inr h1) =
     inr (h, front ++ after, n, head, body, omega (arith, whole, parts, same, sum, few, h1))
 
 takes_behind : (input after front : List ℕ) (d : Option (List ℕ)) (h : RequestHead) → IsHead input h (front ++ after)
-    → TakesAtMost ROOM (Some input) (Some after) → TakesBody h front (Some after) d → TakesRequest (Some input) d
+    → ConsumesAtMost ROOM (Some input) (Some after) → ConsumesBody h front (Some after) d → ConsumesRequest (Some input) d
 takes_behind input after front d h head t (inl y) =
     let z = takes_both ROOM 0 ROOM (Some input) (Some after) d t y (omega arith) in
     record { taken = z.taken; consumed = z.consumed; few = inl z.few }
@@ -52,17 +52,17 @@ takes_behind input after front d h head t (inr y) =
 
 -- a head in a buffer, and what is read behind it
 pub takes_request : (a b d : Option (List ℕ)) (buffer : List ℕ) (headers : List HeaderSpan) (read : HeadRead) (head : Head) → read ≡ Found head
-    → TakesAtMost ROOM a b → IfBoth a b (λ input after. HeadOf input after buffer headers read)
+    → ConsumesAtMost ROOM a b → IfBoth a b (λ input after. HeadOf input after buffer headers read)
     → ((h : RequestHead) → IsRequestAt (take head.filled buffer) headers head.spans h
-    → TakesBody h (drop head.spans.len (take head.filled buffer)) b d)
-    → TakesRequest a d
+    → ConsumesBody h (drop head.spans.len (take head.filled buffer)) b d)
+    → ConsumesRequest a d
 takes_request a b d buffer headers read head is t x f =
     by a b t (subst (λ r. IfBoth a b (λ input after. HeadOf input after buffer headers r)) is x) f
   where
-    by : (a b : Option (List ℕ)) → TakesAtMost ROOM a b → IfBoth a b (λ input after. HeadOf input after buffer headers (Found head))
+    by : (a b : Option (List ℕ)) → ConsumesAtMost ROOM a b → IfBoth a b (λ input after. HeadOf input after buffer headers (Found head))
         → ((h : RequestHead) → IsRequestAt (take head.filled buffer) headers head.spans h
-        → TakesBody h (drop head.spans.len (take head.filled buffer)) b d)
-        → TakesRequest a d
+        → ConsumesBody h (drop head.spans.len (take head.filled buffer)) b d)
+        → ConsumesRequest a d
     by None b t x f = record { taken = []; consumed = tt; few = inl (omega arith) }
     by (Some input) None t x f = absurd x
     by (Some input) (Some after) t x f =
@@ -71,13 +71,13 @@ takes_request a b d buffer headers read head is t x f =
 -- memory ran out behind a head that stands in the buffer
 pub needs_memory : (a b : Option (List ℕ)) (buffer : List ℕ) (headers : List HeaderSpan) (read : HeadRead) (head : Head) → read ≡ Found head
     → IfBoth a b (λ input after. HeadOf input after buffer headers read)
-    → ((h : RequestHead) → IsRequestAt (take head.filled buffer) headers head.spans h → TakesMemory h)
+    → ((h : RequestHead) → IsRequestAt (take head.filled buffer) headers head.spans h → WantsMemory h)
     → IfSome a MayNeedMemory
 needs_memory a b buffer headers read head is x f =
     by a b (subst (λ r. IfBoth a b (λ input after. HeadOf input after buffer headers r)) is x) f
   where
     by : (a b : Option (List ℕ)) → IfBoth a b (λ input after. HeadOf input after buffer headers (Found head))
-        → ((h : RequestHead) → IsRequestAt (take head.filled buffer) headers head.spans h → TakesMemory h)
+        → ((h : RequestHead) → IsRequestAt (take head.filled buffer) headers head.spans h → WantsMemory h)
         → IfSome a MayNeedMemory
     by None b x f = tt
     by (Some input) None x f = absurd x

@@ -4,22 +4,22 @@ use Rattle.std.proofs.Common.{nat_le}
 use Rattle.std.specs.Str.Parse.{digits_value}
 use Rattle.std.proofs.lemmas.List.{take_more, map-append}
 use Rattle.std.specs.List.{filter}
-use Rattle.dh_requests.specs.HeaderLines.{Line, is_number, same_name, values_of, length_of, body_length, with_value}
+use Rattle.dh_requests.specs.HeaderLines.{HeaderLine, is_number, same_name, values_of, length_of, body_length, with_value}
 use Rattle.dh_requests.specs.declared.limits.TheConstants.{BODY_BYTES}
 use Rattle.dh_requests.specs.declared.header_lines.BodyLength.TheVariants.{Invalid, TooLarge, Bytes}
 
-pub values_push : (name : List ℕ) (lines : List Line) (l : Line)
+pub values_push : (name : List ℕ) (lines : List HeaderLine) (l : HeaderLine)
     → values_of name (lines ++ l ∷ []) ≡ values_of name lines ++ cond (same_name l.0 name) (l.1 ∷ []) []
 values_push name [] l =
-    elim (same_name l.0 name) as (λ b. map (λ (x : Line). x.1) (cond b (l ∷ []) []) ≡ cond b (l.1 ∷ []) []) [
+    elim (same_name l.0 name) as (λ b. map (λ (x : HeaderLine). x.1) (cond b (l ∷ []) []) ≡ cond b (l.1 ∷ []) []) [
       | true ↦ refl
       | false ↦ refl
     ]
 values_push name (k ∷ lines) l =
     elim (same_name k.0 name) as (λ b.
-    map (λ (x : Line). x.1)
-    (cond b (k ∷ filter (λ (x : Line). same_name x.0 name) (lines ++ l ∷ [])) (filter (λ (x : Line). same_name x.0 name) (lines ++ l ∷ [])))
-    ≡ map (λ (x : Line). x.1) (cond b (k ∷ filter (λ (x : Line). same_name x.0 name) lines) (filter (λ (x : Line). same_name x.0 name) lines))
+    map (λ (x : HeaderLine). x.1)
+    (cond b (k ∷ filter (λ (x : HeaderLine). same_name x.0 name) (lines ++ l ∷ [])) (filter (λ (x : HeaderLine). same_name x.0 name) (lines ++ l ∷ [])))
+    ≡ map (λ (x : HeaderLine). x.1) (cond b (k ∷ filter (λ (x : HeaderLine). same_name x.0 name) lines) (filter (λ (x : HeaderLine). same_name x.0 name) lines))
     ++ cond (same_name l.0 name) (l.1 ∷ []) []) [
       | true ↦ ap (λ r. k.1 ∷ r) (values_push name lines l)
       | false ↦ values_push name lines l
@@ -41,7 +41,7 @@ length_push (w ∷ []) v = settled w v
 length_push (w ∷ x ∷ rest) v = refl
 
 -- one more of the elements
-pub values_more : {X : Type 0} (f : X → Line) (name : List ℕ) (xs : List X) (i : ℕ) (d : X) → i < length xs
+pub values_more : {X : Type 0} (f : X → HeaderLine) (name : List ℕ) (xs : List X) (i : ℕ) (d : X) → i < length xs
     → values_of name (map f (take (i + 1) xs))
     ≡ values_of name (map f (take i xs)) ++ cond (same_name (f (get_or xs i d)).0 name) ((f (get_or xs i d)).1 ∷ []) []
 values_more f name xs i d h =

@@ -15,20 +15,21 @@ use Rattle.dh_requests.specs.Targets.{IsTarget}
 use Rattle.httparse.specs.Grammar.{RequestHead}
 use Rattle.dh_requests.specs.declared.routes.Route.{Route}
 use Rattle.dh_requests.specs.declared.routes.Route.TheVariants as route
-use Rattle.dh_requests.specs.declared.asked.Asked.{Asked}
-use Rattle.dh_requests.specs.declared.asked.Asked.TheVariants as asked
-use Rattle.dh_requests.specs.declared.asked.Turned.TheVariants as turned
+use Rattle.dh_requests.specs.declared.judged_request.JudgedRequest.{JudgedRequest}
+use Rattle.dh_requests.specs.declared.judged_request.JudgedRequest.TheVariants as asked
+use Rattle.dh_requests.specs.declared.judged_request.Turned.TheVariants as turned
 use Rattle.dh_requests.specs.Requests.{IsByMethod, IsOfHead, IsOfRoute, IsOfTarget, IsQuestionOf, MayAsk, is_question, turned_by_lines}
 use Rattle.dh_requests.specs.Steps.{Behind}
 
 -- the route of a question is judged by GET
-pub of_question : (asking : Route) → asking ≢ route.Commands → (h : RequestHead) (rest : List ℕ) (it : Asked)
+pub of_question : (asking : Route) → asking ≢ route.Commands → (h : RequestHead) (rest : List ℕ) (it : JudgedRequest)
     → IsByMethod (codes "GET") h.method turned.OnlyByGet it (IsQuestionOf asking h.target it) → IsOfRoute asking h rest it
 of_question route.Commands other h rest it x = absurd (other refl)
 of_question asking other h rest it x = x
 
 -- the same, where what was read of the reader is told
-pub by_question : (asking : Route) → asking ≢ route.Commands → (h : RequestHead) {method target : List ℕ} (front : List ℕ) (left : Option (List ℕ)) (it : Asked)
+pub by_question : (asking : Route) → asking ≢ route.Commands
+    → (h : RequestHead) {method target : List ℕ} (front : List ℕ) (left : Option (List ℕ)) (it : JudgedRequest)
     → method ≡ h.method → target ≡ h.target → IsByMethod (codes "GET") method turned.OnlyByGet it (IsQuestionOf asking target it)
     → Behind front left (λ rest. IsOfRoute asking h rest it)
 by_question asking other h {method} {target} front None it m t x = tt
@@ -48,10 +49,11 @@ behind_weaker front None P Q f x = tt
 behind_weaker front (Some after) P Q f x = f (front ++ after) x
 
 -- a head whose lines do not turn it away
-of_head : (h : RequestHead) (rest : List ℕ) (it : Asked) → None ≡ turned_by_lines h → IsOfTarget h rest it → IsOfHead h rest it
+of_head : (h : RequestHead) (rest : List ℕ) (it : JudgedRequest) → None ≡ turned_by_lines h → IsOfTarget h rest it → IsOfHead h rest it
 of_head h rest it none x = subst (λ o. MatchOption o (IsOfTarget h rest it) (λ why. it ≡ asked.Turned why)) none x
 
-pub found : (h : RequestHead) → None ≡ turned_by_lines h → (route : Route) → IsTarget route h.target → (it : Asked) (front : List ℕ) (left : Option (List ℕ))
+pub found : (h : RequestHead) → None ≡ turned_by_lines h → (route : Route) → IsTarget route h.target
+    → (it : JudgedRequest) (front : List ℕ) (left : Option (List ℕ))
     → Behind front left (λ rest. IsOfRoute route h rest it) → Behind front left (λ rest. IsOfHead h rest it)
 found h none route is it front left x =
     behind_weaker front left (λ rest. IsOfRoute route h rest it) (λ rest. IsOfHead h rest it) (λ rest y. of_head h rest it none (inr (route, is, y))) x
@@ -62,7 +64,7 @@ not_found h lines none front left =
     behind front left (λ rest. IsOfHead h rest (asked.Turned turned.NotFound)) (λ rest. of_head h rest (asked.Turned turned.NotFound) lines (inl (none, refl)))
 
 -- a head that stands in the buffer begins the input
-pub may_ask : (a b : Option (List ℕ)) (buffer : List ℕ) (headers : List HeaderSpan) (read : HeadRead) (head : Head) (it : Asked) → read ≡ Found head
+pub may_ask : (a b : Option (List ℕ)) (buffer : List ℕ) (headers : List HeaderSpan) (read : HeadRead) (head : Head) (it : JudgedRequest) → read ≡ Found head
     → IfBoth a b (λ input after. HeadOf input after buffer headers read)
     → ((h : RequestHead) → IsRequestAt (take head.filled buffer) headers head.spans h
     → Behind (drop head.spans.len (take head.filled buffer)) b (λ rest. IsOfHead h rest it))

@@ -13,11 +13,11 @@ abbrev pub same_name : List ℕ → List ℕ → Bool
 same_name a b = pointwise nat_eq (map to_ascii_lowercase a) (map to_ascii_lowercase b)
 
 -- a header line: its name, and its value without the white space around it
-abbrev pub Line : Type 0
-Line = List ℕ × List ℕ
+abbrev pub HeaderLine : Type 0
+HeaderLine = List ℕ × List ℕ
 
 -- the values of the lines of this name
-abbrev pub values_of : List ℕ → List Line → List (List ℕ)
+abbrev pub values_of : List ℕ → List HeaderLine → List (List ℕ)
 values_of name lines = map (λ l. l.1) (filter (λ l. same_name l.0 name) lines)
 
 abbrev pub is_number : List ℕ → Bool

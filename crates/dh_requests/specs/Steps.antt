@@ -6,18 +6,18 @@ use Rattle.serde_json.specs.declared.value.Value.{Value}
 use Rattle.httparse.specs.Grammar.{RequestHead}
 use Rattle.httparse.specs.Spans.{IsRequestAt, IsRequestWithin}
 use Rattle.dh_requests.specs.HeaderLines.{body_length}
-use Rattle.dh_reading.specs.Known.{TakesAtMost}
+use Rattle.dh_reading.specs.Known.{ConsumesAtMost}
 use Rattle.dh_requests.specs.declared.header_lines.BodyLength.{BodyLength}
 use Rattle.dh_requests.specs.declared.verdict.Found.{Found}
 use Rattle.dh_requests.specs.declared.header_lines.BodyLength.TheVariants.{Absent, Invalid, TooLarge, Bytes}
 use Rattle.dh_requests.specs.Texts.{AreTexts, list_of}
 use Rattle.dh_requests.specs.Requests.{IsAnnounced, posted, values_in}
-use Rattle.dh_requests.specs.declared.asked.Asked.{Asked}
-use Rattle.dh_requests.specs.declared.asked.Asked.TheVariants as asked
-use Rattle.dh_requests.specs.declared.asked.Turned.TheVariants as turned
+use Rattle.dh_requests.specs.declared.judged_request.JudgedRequest.{JudgedRequest}
+use Rattle.dh_requests.specs.declared.judged_request.JudgedRequest.TheVariants as asked
+use Rattle.dh_requests.specs.declared.judged_request.Turned.TheVariants as turned
 
 -- what a list of values asks for
-abbrev pub IsListed : List Value → Asked → Type 0
+abbrev pub IsListed : List Value → JudgedRequest → Type 0
 IsListed items it =
     (((texts : List (List ℕ)) → array (items_view items) ≢ list_of texts) × (it ≡ asked.Turned turned.BadRequest))
     ⊎ ((texts : List (List ℕ)) × (array (items_view items) ≡ list_of texts) × (it ≡ asked.Fields (posted texts)))
@@ -42,18 +42,18 @@ abbrev pub IsTextsOf : ℕ → List ℕ → Type 0
 IsTextsOf n rest = (n ≤ length rest) × ((texts : List (List ℕ)) × AreTexts (take n rest) texts)
 
 -- what is read behind front: as much as it lacks of the body that is announced so
-abbrev pub TakesLength : BodyLength → List ℕ → Option (List ℕ) → Option (List ℕ) → Type 0
-TakesLength Absent front old new = TakesAtMost 0 old new
-TakesLength Invalid front old new = TakesAtMost 0 old new
-TakesLength TooLarge front old new = TakesAtMost 0 old new
-TakesLength (Bytes n) front old new = TakesAtMost (n - length front) old new
+abbrev pub ConsumesLength : BodyLength → List ℕ → Option (List ℕ) → Option (List ℕ) → Type 0
+ConsumesLength Absent front old new = ConsumesAtMost 0 old new
+ConsumesLength Invalid front old new = ConsumesAtMost 0 old new
+ConsumesLength TooLarge front old new = ConsumesAtMost 0 old new
+ConsumesLength (Bytes n) front old new = ConsumesAtMost (n - length front) old new
 
 -- the same of a request to the route of commands: as much as front lacks of the body of a POST
-abbrev pub TakesOrder : RequestHead → List ℕ → Option (List ℕ) → Option (List ℕ) → Type 0
-TakesOrder h front old new =
-    TakesAtMost 0 old new
-    ⊎ ((n : ℕ) × (h.method ≡ codes "POST") × (body_length (values_in (codes "content-length") h) ≡ Bytes n) × TakesAtMost (n - length front) old new)
+abbrev pub ConsumesOrder : RequestHead → List ℕ → Option (List ℕ) → Option (List ℕ) → Type 0
+ConsumesOrder h front old new =
+    ConsumesAtMost 0 old new
+    ⊎ ((n : ℕ) × (h.method ≡ codes "POST") × (body_length (values_in (codes "content-length") h) ≡ Bytes n) × ConsumesAtMost (n - length front) old new)
 
 -- the same of any request: nothing but the body of a command
-abbrev pub TakesBody : RequestHead → List ℕ → Option (List ℕ) → Option (List ℕ) → Type 0
-TakesBody h front old new = TakesAtMost 0 old new ⊎ ((n : ℕ) × IsAnnounced h n × TakesAtMost (n - length front) old new)
+abbrev pub ConsumesBody : RequestHead → List ℕ → Option (List ℕ) → Option (List ℕ) → Type 0
+ConsumesBody h front old new = ConsumesAtMost 0 old new ⊎ ((n : ℕ) × IsAnnounced h n × ConsumesAtMost (n - length front) old new)

@@ -2,14 +2,14 @@
 
 ghost use Rattle.std.specs.Prelude.{◌≡◌, ◌≤◌, ◌-◌, ◌⊎◌, ℕ, List, length, map, IfOk, OnErr, Err};
 ghost use Rattle.json.specs.Scratch.{room};
-ghost use Rattle.dh_reading.specs.Known.{TakesAtMost};
+ghost use Rattle.dh_reading.specs.Known.{ConsumesAtMost};
 ghost use Rattle.dh_requests.specs.Texts.{AreTexts};
 ghost use Rattle.dh_requests.specs.Requests.{IsBodyOf, IsPosted, is_question, posted};
-ghost use Rattle.dh_requests.specs.Steps.{Behind, IsListed, IsTextsOf, TakesLength};
+ghost use Rattle.dh_requests.specs.Steps.{Behind, ConsumesLength, IsListed, IsTextsOf};
 
-use crate::asked::{Asked, Turned};
 use crate::body_texts::{list_in, texts_of};
 use crate::header_lines::BodyLength;
+use crate::judged_request::{JudgedRequest, Turned};
 use dh_fields::{Request, read_fields};
 use dh_reading::{Unread, read_body};
 use dh_types::Refusal;
@@ -39,24 +39,28 @@ fn request_of(alloc: Global, texts: &[&[u8]]) -> Result<Result<Request, Refusal>
 }
 
 // What the values of a posted list ask for.
-fn judge_list(alloc: Global, items: &[Value]) -> Result<Asked, AllocError>
+fn judge_list(alloc: Global, items: &[Value]) -> Result<JudgedRequest, AllocError>
     ensures asks { IfOk result (λ asked. IsListed items.now asked) }
 {
     match texts_of(alloc, items)? {
-        Some(texts) => Ok(Asked::Fields(request_of(alloc, &texts)?)),
-        None => Ok(Asked::Turned(Turned::BadRequest)),
+        Some(texts) => Ok(JudgedRequest::Fields(request_of(alloc, &texts)?)),
+        None => Ok(JudgedRequest::Turned(Turned::BadRequest)),
     }
 }
 
 // What a body asks for. An error comes only for want of memory, and of a list of texts alone.
-fn judge_body(alloc: Global, scratch: &mut Scratch, body: &[u8]) -> Result<Asked, AllocError>
+fn judge_body(
+    alloc: Global,
+    scratch: &mut Scratch,
+    body: &[u8],
+) -> Result<JudgedRequest, AllocError>
     requires { length body.now ≤ room scratch.old }
     ensures asks { IfOk result (λ asked. IsPosted body.now asked) }
     ensures memory { OnErr result ((texts : List (List ℕ)) × AreTexts body.now texts) }
 {
     match list_in(alloc, scratch, body)? {
         Some(items) => judge_list(alloc, &items),
-        None => Ok(Asked::Turned(Turned::BadRequest)),
+        None => Ok(JudgedRequest::Turned(Turned::BadRequest)),
     }
 }
 
@@ -67,16 +71,16 @@ fn read_posted<R: Read>(
     reader: &mut R,
     front: &[u8],
     bytes: u32,
-) -> Result<Asked, Unread>
+) -> Result<JudgedRequest, Unread>
     ensures asks { IfOk result (λ asked. Behind front.now (R.remaining reader.old) (λ rest. IsBodyOf (BodyLength.Bytes bytes) rest asked)) }
-    ensures taken { TakesAtMost (bytes - length front.now) (R.remaining reader.old) (R.remaining reader.new) }
+    ensures consumed { ConsumesAtMost (bytes - length front.now) (R.remaining reader.old) (R.remaining reader.new) }
     ensures memory { result ≡ Err Unread.Memory → (reader.new ≡ reader.old) ⊎ Behind front.now (R.remaining reader.old) (IsTextsOf bytes) }
 {
     let mut scratch = Scratch::new(alloc);
     scratch.reserve(bytes as usize)?;
     match read_body(alloc, reader, front, bytes as usize)? {
         Some(body) => Ok(judge_body(alloc, &mut scratch, &body)?),
-        None => Ok(Asked::Turned(Turned::BadRequest)),
+        None => Ok(JudgedRequest::Turned(Turned::BadRequest)),
     }
 }
 
@@ -86,15 +90,15 @@ pub(crate) fn judge_command<R: Read>(
     reader: &mut R,
     front: &[u8],
     length: BodyLength,
-) -> Result<Asked, Unread>
+) -> Result<JudgedRequest, Unread>
     ensures asks { IfOk result (λ asked. Behind front.now (R.remaining reader.old) (λ rest. IsBodyOf length rest asked)) }
-    ensures taken { TakesLength length front.now (R.remaining reader.old) (R.remaining reader.new) }
+    ensures consumed { ConsumesLength length front.now (R.remaining reader.old) (R.remaining reader.new) }
     ensures memory { result ≡ Err Unread.Memory → (n : ℕ) × (length ≡ BodyLength.Bytes n) }
 {
     match length {
-        BodyLength::Absent => Ok(Asked::Turned(Turned::NoLength)),
-        BodyLength::Invalid => Ok(Asked::Turned(Turned::BadRequest)),
-        BodyLength::TooLarge => Ok(Asked::Turned(Turned::BodyTooLarge)),
+        BodyLength::Absent => Ok(JudgedRequest::Turned(Turned::NoLength)),
+        BodyLength::Invalid => Ok(JudgedRequest::Turned(Turned::BadRequest)),
+        BodyLength::TooLarge => Ok(JudgedRequest::Turned(Turned::BodyTooLarge)),
         BodyLength::Bytes(bytes) => read_posted(alloc, reader, front, bytes),
     }
 }

@@ -3,7 +3,7 @@
 ghost use Rattle.std.specs.Prelude.{◌≡◌, ◌≤◌, ◌<◌, IfOk, length, List, ℕ};
 ghost use Rattle.httparse.specs.Grammar.{RequestHead};
 ghost use Rattle.dh_requests.specs.Heads.{HeadOf, JudgedAs, IfFound, IsInBuffer, IsHead, IsBadHead, IsLargeHead};
-ghost use Rattle.dh_reading.specs.Known.{IfBoth, TakesAtMost};
+ghost use Rattle.dh_reading.specs.Known.{ConsumesAtMost, IfBoth};
 
 use crate::limits::{HEAD_BYTES, HEADER_LINES, ROOM};
 use dh_reading::{ReaderFailed, read_more};
@@ -65,7 +65,7 @@ pub(crate) fn read_head<R: Read>(
     ensures found { IfOk result (λ read. IfFound read (IsInBuffer buffer.new headers.new)) }
     ensures input { IfOk result (λ read. IfBoth (R.remaining reader.old) (R.remaining reader.new)
         (λ input after. HeadOf input after buffer.new headers.new read)) }
-    ensures taken { TakesAtMost ROOM (R.remaining reader.old) (R.remaining reader.new) }
+    ensures consumed { ConsumesAtMost ROOM (R.remaining reader.old) (R.remaining reader.new) }
 {
     let mut filled = 0usize;
     while filled < ROOM {

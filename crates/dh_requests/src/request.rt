@@ -1,10 +1,10 @@
 //! Reading a request.
 
 ghost use Rattle.std.specs.Prelude.{◌≡◌, [], IfOk, IfSome, Err, MatchOption};
-ghost use Rattle.dh_requests.specs.Requests.{MayAsk, MayNeedMemory, TakesRequest};
+ghost use Rattle.dh_requests.specs.Requests.{ConsumesRequest, MayAsk, MayNeedMemory};
 
-use crate::asked::{Asked, Turned};
 use crate::head::{HeadRead, read_head};
+use crate::judged_request::{JudgedRequest, Turned};
 use crate::limits::{HEADER_LINES, ROOM};
 use crate::routes::Routes;
 use crate::verdict::{Found, judge};
@@ -19,9 +19,9 @@ pub fn read_request<R: Read>(
     alloc: Global,
     routes: &Routes,
     reader: &mut R,
-) -> Result<Option<Asked>, Unread>
+) -> Result<Option<JudgedRequest>, Unread>
     ensures asks { IfOk result (λ found. IfSome (R.remaining reader.old) (λ input. MatchOption found (input ≡ []) (λ asked. MayAsk input asked))) }
-    ensures taken { TakesRequest (R.remaining reader.old) (R.remaining reader.new) }
+    ensures consumed { ConsumesRequest (R.remaining reader.old) (R.remaining reader.new) }
     ensures memory { result ≡ Err Unread.Memory → IfSome (R.remaining reader.old) MayNeedMemory }
 {
     let mut buffer = [0u8; ROOM];
@@ -36,8 +36,8 @@ pub fn read_request<R: Read>(
             };
             Ok(Some(judge(alloc, routes, reader, &found)?))
         }
-        HeadRead::Bad => Ok(Some(Asked::Turned(Turned::BadRequest))),
-        HeadRead::Large => Ok(Some(Asked::Turned(Turned::HeadTooLarge))),
+        HeadRead::Bad => Ok(Some(JudgedRequest::Turned(Turned::BadRequest))),
+        HeadRead::Large => Ok(Some(JudgedRequest::Turned(Turned::HeadTooLarge))),
         HeadRead::Closed => Ok(None),
     }
 }

@@ -4,13 +4,13 @@ ghost use Rattle.std.specs.Prelude.{◌≡◌, ◌↔◌, ◌≢◌, ◌∷◌, 
 ghost use Rattle.httparse.specs.Grammar.{RequestHead};
 ghost use Rattle.httparse.specs.Spans.{IsHeaderWithin};
 ghost use Rattle.dh_requests.specs.Targets.{IsTarget};
-ghost use Rattle.dh_requests.specs.Requests.{IsByMethod, IsOfHead, IsOfRoute, IsQuestionOf, NeedsMemory, TakesMemory, taken_as, turned_by_lines};
+ghost use Rattle.dh_requests.specs.Requests.{IsByMethod, IsOfHead, IsOfRoute, IsQuestionOf, NeedsMemory, WantsMemory, taken_as, turned_by_lines};
 ghost use Rattle.dh_fields.specs.Lines.{a_question, request_of};
-ghost use Rattle.dh_requests.specs.Steps.{Behind, HoldsHead, IsHeadOf, TakesBody, TakesOrder, read_behind};
+ghost use Rattle.dh_requests.specs.Steps.{Behind, ConsumesBody, ConsumesOrder, HoldsHead, IsHeadOf, read_behind};
 
-use crate::asked::{Asked, Turned};
 use crate::command_body::judge_command;
 use crate::header_lines::{body_length, count};
+use crate::judged_request::{JudgedRequest, Turned};
 use crate::pieces::pieces_of;
 use crate::routes::{Route, Routes};
 use dh_fields::{Request, read_question};
@@ -64,12 +64,7 @@ fn target_of<'a>(found: &Found<'a>) -> &'a str
 }
 
 // The question of a word, with as many pieces.
-fn read_pieces(
-    word: &[u8],
-    count: usize,
-    first: &[u8],
-    second: &[u8],
-) -> Result<Question, Refusal>
+fn read_pieces(word: &[u8], count: usize, first: &[u8], second: &[u8]) -> Result<Question, Refusal>
     ensures { (pieces : List (List ℕ)) → count ≡ length pieces
         → a_question result ≡ request_of (codes "show" ∷ word.now ∷ taken_as pieces first.now second.now) }
 {
@@ -81,7 +76,7 @@ fn read_pieces(
 }
 
 // What a target asks by its route.
-fn asked_by(route: Route, target: &[u8]) -> Asked
+fn asked_by(route: Route, target: &[u8]) -> JudgedRequest
     requires target { IsTarget route target.now }
     requires asks { route ≢ Route.Commands }
     ensures { IsQuestionOf route target.now result }
@@ -89,33 +84,37 @@ fn asked_by(route: Route, target: &[u8]) -> Asked
     let (first, second) = pieces_of(route, target);
     let (word, count) = route.words();
     match read_pieces(word.as_bytes(), count, first, second) {
-        Ok(question) => Asked::Fields(Ok(Request::Question(question))),
-        Err(refusal) => Asked::Fields(Err(refusal)),
+        Ok(question) => JudgedRequest::Fields(Ok(Request::Question(question))),
+        Err(refusal) => JudgedRequest::Fields(Err(refusal)),
     }
 }
 
 // What a request asks for whose target has the route of a question.
-fn judge_question(method: &[u8], route: Route, target: &[u8]) -> Asked
+fn judge_question(method: &[u8], route: Route, target: &[u8]) -> JudgedRequest
     requires target { IsTarget route target.now }
     requires asks { route ≢ Route.Commands }
     ensures { IsByMethod (codes "GET") method.now Turned.OnlyByGet result (IsQuestionOf route target.now result) }
 {
     if !is_method(method, b"GET") {
-        return Asked::Turned(Turned::OnlyByGet);
+        return JudgedRequest::Turned(Turned::OnlyByGet);
     }
     asked_by(route, target)
 }
 
 // What a request asks for whose target is the route of commands.
-fn judge_order<R: Read>(alloc: Global, reader: &mut R, found: &Found) -> Result<Asked, Unread>
+fn judge_order<R: Read>(
+    alloc: Global,
+    reader: &mut R,
+    found: &Found,
+) -> Result<JudgedRequest, Unread>
     requires { HoldsHead found.now }
     ensures asks { (h : RequestHead) → IsHeadOf found.now h
         → IfOk result (λ asked. Behind (read_behind found.now) (R.remaining reader.old) (λ rest. IsOfRoute Route.Commands h rest asked)) }
-    ensures taken { (h : RequestHead) → IsHeadOf found.now h → TakesOrder h (read_behind found.now) (R.remaining reader.old) (R.remaining reader.new) }
+    ensures consumed { (h : RequestHead) → IsHeadOf found.now h → ConsumesOrder h (read_behind found.now) (R.remaining reader.old) (R.remaining reader.new) }
     ensures memory { result ≡ Err Unread.Memory → (h : RequestHead) → IsHeadOf found.now h → NeedsMemory Route.Commands h }
 {
     if !is_method(found.spans.method.of(found.front), b"POST") {
-        return Ok(Asked::Turned(Turned::OnlyByPost));
+        return Ok(JudgedRequest::Turned(Turned::OnlyByPost));
     }
     let length = body_length(found.front, &found.headers[..found.spans.headers]);
     judge_command(alloc, reader, &found.front[found.spans.len..], length)
@@ -128,13 +127,13 @@ fn judge_route<R: Read>(
     found: &Found,
     route: Route,
     target: &str,
-) -> Result<Asked, Unread>
+) -> Result<JudgedRequest, Unread>
     requires within { HoldsHead found.now }
     requires target { IsTarget route target.now }
     ensures asks { (h : RequestHead) → IsHeadOf found.now h → target.now ≡ h.target
         → IfOk result (λ asked. Behind (read_behind found.now) (R.remaining reader.old) (λ rest. IsOfRoute route h rest asked)) }
-    ensures taken { (h : RequestHead) → IsHeadOf found.now h → target.now ≡ h.target
-        → TakesBody h (read_behind found.now) (R.remaining reader.old) (R.remaining reader.new) }
+    ensures consumed { (h : RequestHead) → IsHeadOf found.now h → target.now ≡ h.target
+        → ConsumesBody h (read_behind found.now) (R.remaining reader.old) (R.remaining reader.new) }
     ensures memory { result ≡ Err Unread.Memory → (h : RequestHead) → IsHeadOf found.now h → target.now ≡ h.target → NeedsMemory route h }
 {
     match route {
@@ -152,21 +151,21 @@ pub(crate) fn judge<R: Read>(
     routes: &Routes,
     reader: &mut R,
     found: &Found,
-) -> Result<Asked, Unread>
+) -> Result<JudgedRequest, Unread>
     requires at { (h : RequestHead) × IsHeadOf found.now h }
     requires within { HoldsHead found.now }
     ensures asks { (h : RequestHead) → IsHeadOf found.now h
         → IfOk result (λ asked. Behind (read_behind found.now) (R.remaining reader.old) (λ rest. IsOfHead h rest asked)) }
-    ensures taken { (h : RequestHead) → IsHeadOf found.now h → TakesBody h (read_behind found.now) (R.remaining reader.old) (R.remaining reader.new) }
-    ensures memory { result ≡ Err Unread.Memory → (h : RequestHead) → IsHeadOf found.now h → TakesMemory h }
+    ensures consumed { (h : RequestHead) → IsHeadOf found.now h → ConsumesBody h (read_behind found.now) (R.remaining reader.old) (R.remaining reader.new) }
+    ensures memory { result ≡ Err Unread.Memory → (h : RequestHead) → IsHeadOf found.now h → WantsMemory h }
 {
     match turned_by_lines(found) {
-        Some(why) => Ok(Asked::Turned(why)),
+        Some(why) => Ok(JudgedRequest::Turned(why)),
         None => {
             let target = target_of(found);
             match routes.of(target) {
                 Some(route) => judge_route(alloc, reader, found, route, target),
-                None => Ok(Asked::Turned(Turned::NotFound)),
+                None => Ok(JudgedRequest::Turned(Turned::NotFound)),
             }
         }
     }

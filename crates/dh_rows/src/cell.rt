@@ -22,14 +22,14 @@ pub(crate) trait Cell: Sized {
     ghost is_cell: { Value → Bool };
 
     /// What the text has to be that `param` is given. A day takes its own text.
-    ghost takes: { Self → List ℕ → Type 0 } = { λ _ _. Unit {0} };
+    ghost wants: { Self → List ℕ → Type 0 } = { λ _ _. Unit {0} };
 
     /// What the caller has to know of a field whose type holds more than the column keeps.
     ghost can_keep: { Self → Type 0 } = { λ _. Unit {0} };
 
     /// The field as a parameter of a statement, given the text of the record's day.
     fn param<'a>(&'a self, day: &'a [u8]) -> ValueRef<'a>
-        requires { takes self.now day.now }
+        requires { wants self.now day.now }
         ensures value { bound_value (owned result) ≡ cell self.now }
         ensures grammar { can_keep self.now → is_cell (cell self.now) ≡ true };
 

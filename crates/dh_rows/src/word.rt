@@ -227,7 +227,7 @@ impl Cell for EntryDay {
 
     ghost is_cell = { is_day_cell };
 
-    ghost takes = { λ day text. text ≡ day_text day };
+    ghost wants = { λ day text. text ≡ day_text day };
 
     fn param<'a>(&'a self, text: &'a [u8]) -> ValueRef<'a> {
         // The call tells that it is a day.
@@ -250,7 +250,7 @@ impl Cell for Day {
 
     ghost is_cell = { is_due_day_cell };
 
-    ghost takes = { λ day text. text ≡ day_text day };
+    ghost wants = { λ day text. text ≡ day_text day };
 
     ghost can_keep = { λ day. month_of_day day ≤ LAST_ENTRY_MONTH };
 

@@ -134,10 +134,10 @@ Moves before far after =
     IsStateInOrder before → IsStateInOrder after × (whole batch_size after.books ≡ whole batch_size before.books)
     × (after.open_run ≡ moved_run (whole batch_size before.books) far before.open_run)
 
-pub torn_so_far : (before after : State) (far : Reach) → Moves before far after → IsStateInOrder before
+pub interrupted_so_far : (before after : State) (far : Reach) → Moves before far after → IsStateInOrder before
     → IsMidRecovery batch_size (as_tables before) (as_tables after)
     × IsStateInOrder after
-torn_so_far before after far moves order =
+interrupted_so_far before after far moves order =
     let made = whole batch_size before.books in
     let led = moves order in
     let on = moved_on made far before.open_run (within_whole batch_size before.books before.open_run order) in

@@ -8,7 +8,7 @@ use Rattle.dh_model.specs.Books.{Books, State}
 use Rattle.dh_model.specs.Runs.{batch_size}
 use Rattle.dh_laws.specs.Events.{Event, Answered, Interrupted, Attached, RecoveryInterrupted, Recovered, Tables, state_of}
 use Rattle.dh_laws.specs.Kept.{Kept, NoneLeft, AnswerCounts, UndoneIsLeftOut, DoneCounts, AttachingIsPassed, RecoveryMovesOn, RecoveryEnds}
-use Rattle.dh_laws.proofs.LifeLemmas.Tables.{mended_whole}
+use Rattle.dh_laws.proofs.LifeLemmas.Tables.{recovered_whole}
 use Rattle.dh_laws.specs.StateTables.{IsStateInOrder, as_tables}
 use Rattle.dh_rules.specs.declared.events.Happening.{Happening}
 use Rattle.dh_rules.specs.declared.events.Happening.TheVariants as happening
@@ -61,11 +61,11 @@ one_more happening.Attached happenings None replies before middle after o step p
 }
 one_more (happening.RecoveryInterrupted reach) happenings None replies before middle after o step p = record {
   events = (RecoveryInterrupted, as_tables middle) ∷ p.events;
-  follow = (o.shown, step.torn, p.follow);
+  follow = (o.shown, step.interrupted, p.follow);
   are = (step, p.are);
   answers = p.answers;
   ends = p.ends;
-  kept = RecoveryMovesOn step.torn.run (subst (λ (b : Books). KeptFrom happenings middle after p.events b) step.torn.books p.kept);
+  kept = RecoveryMovesOn step.interrupted.run (subst (λ (b : Books). KeptFrom happenings middle after p.events b) step.interrupted.books p.kept);
 }
 one_more happening.Recovered happenings None replies before middle after o step p = record {
   events = (Recovered, as_tables middle) ∷ p.events;
@@ -74,7 +74,7 @@ one_more happening.Recovered happenings None replies before middle after o step 
   answers = p.answers;
   ends = p.ends;
   kept =
-      let whole = mended_whole batch_size (as_tables middle) _ step o.shown in
+      let whole = recovered_whole batch_size (as_tables middle) _ step o.shown in
       let none = ap (λ (t : Tables). t.run) step in
       RecoveryEnds
       (subst (λ (s : State). Kept batch_size s p.events (counted happenings) (state_of batch_size (as_tables after)))

@@ -26,8 +26,8 @@ pub record IsDoneTo (told : Command) (standing : Option ℕ) (before after : Sta
   pub stands : Stands before standing told after
 
 -- the recovery was interrupted when it had come as far as named
-pub record IsTornAt (reach : Reach) (before after : State) : Type 0 where
-  pub torn : IsMidRecovery batch_size (as_tables before) (as_tables after)
+pub record IsInterruptedAt (reach : Reach) (before after : State) : Type 0 where
+  pub interrupted : IsMidRecovery batch_size (as_tables before) (as_tables after)
   pub run : after.open_run ≡ moved_run (whole batch_size before.books) reach before.open_run
 
 -- what one happening makes of the tables, with the reply where it was answered
@@ -37,7 +37,7 @@ IsStep (happening.Answered told) None before after = ⊥
 IsStep (happening.Undone told reach) None before after = IsUndoneTo told reach before after
 IsStep (happening.Done told standing) None before after = IsDoneTo told standing before after
 IsStep happening.Attached None before after = Happens batch_size Attached (as_tables before) (as_tables after)
-IsStep (happening.RecoveryInterrupted reach) None before after = IsTornAt reach before after
+IsStep (happening.RecoveryInterrupted reach) None before after = IsInterruptedAt reach before after
 IsStep happening.Recovered None before after = Happens batch_size Recovered (as_tables before) (as_tables after)
 IsStep _ (Some reply) before after = ⊥
 

@@ -22,7 +22,7 @@ use std::alloc::{AllocError, Global};
 
 /// The tables after a command, and the reply.
 #[derive(Drop)]
-pub struct Told {
+pub struct Outcome {
     pub tables: Books,
     pub reply: Reply,
 }
@@ -40,20 +40,20 @@ fn begun(mut tables: Books, order: &RunOrder, rows: Change) -> Result<Books, All
 }
 
 // `open` over tables without an open run.
-fn told_opening(before: Books, order: &RunOrder) -> Result<Told, AllocError>
+fn tell_opening(before: Books, order: &RunOrder) -> Result<Outcome, AllocError>
     requires { before.open_run ≡ None }
     ensures { IfOk result (λ it. IsStateInOrder before → IsTold batch_size (command.Open order.now) it.reply before it.tables) }
 {
     match decide_run(&before, order) {
-        Verdict::Change(rows) => Ok(Told {
+        Verdict::Change(rows) => Ok(Outcome {
             tables: begun(before, order, rows)?,
             reply: Reply::Opened(order.month),
         }),
-        Verdict::Already(reply) => Ok(Told {
+        Verdict::Already(reply) => Ok(Outcome {
             tables: before,
             reply,
         }),
-        Verdict::Refused(why) => Ok(Told {
+        Verdict::Refused(why) => Ok(Outcome {
             tables: before,
             reply: Reply::Refused(why),
         }),
@@ -61,26 +61,26 @@ fn told_opening(before: Books, order: &RunOrder) -> Result<Told, AllocError>
 }
 
 // Any other command over tables without an open run: these are whole books, and the machine's step is theirs.
-fn told_over_whole(alloc: Global, before: Books, command: &Command) -> Result<Told, AllocError>
+fn tell_over_whole(alloc: Global, before: Books, command: &Command) -> Result<Outcome, AllocError>
     requires run { before.open_run ≡ None }
     requires command { is_opening command.now ≡ false }
     ensures { IfOk result (λ it. IsStateInOrder before → IsTold batch_size command.now it.reply before it.tables) }
 {
     commands_are_entered(command);
     let stepped = step(alloc, before, command)?;
-    Ok(Told {
+    Ok(Outcome {
         tables: stepped.books,
         reply: stepped.reply,
     })
 }
 
 // So many batches of the open run. Where they are all that are left, the machine closes it over the whole books.
-fn told_post(
+fn tell_post(
     alloc: Global,
     before: Books,
     count: BatchCount,
     run: OpenRun,
-) -> Result<Told, AllocError>
+) -> Result<Outcome, AllocError>
     requires { before.open_run ≡ Some run }
     ensures { IfOk result (λ it. IsStateInOrder before → IsTold batch_size (command.Post count) it.reply before it.tables) }
 {
@@ -92,12 +92,12 @@ fn told_post(
         let command = Command::Post(count);
         let stepped = step(alloc, whole, &command)?;
         drop(command);
-        return Ok(Told {
+        return Ok(Outcome {
             tables: stepped.books,
             reply: stepped.reply,
         });
     }
-    Ok(Told {
+    Ok(Outcome {
         tables: advanced(alloc, before, more)?,
         reply: Reply::Progress(Progress {
             month: run.month,
@@ -108,7 +108,11 @@ fn told_post(
 }
 
 // Any other command while a run is open: it is judged as over the whole books, and its rows pass the run.
-fn told_meanwhile(alloc: Global, mut before: Books, command: &Command) -> Result<Told, AllocError>
+fn tell_meanwhile(
+    alloc: Global,
+    mut before: Books,
+    command: &Command,
+) -> Result<Outcome, AllocError>
     requires run { IsSome before.open_run }
     requires command { is_post command.now ≡ false }
     ensures { IfOk result (λ it. IsStateInOrder before → IsTold batch_size command.now it.reply before it.tables) }
@@ -119,16 +123,16 @@ fn told_meanwhile(alloc: Global, mut before: Books, command: &Command) -> Result
         Verdict::Change(rows) => {
             let reply = rows.reply();
             apply_change(&mut before, rows)?;
-            Ok(Told {
+            Ok(Outcome {
                 tables: before,
                 reply,
             })
         }
-        Verdict::Already(reply) => Ok(Told {
+        Verdict::Already(reply) => Ok(Outcome {
             tables: before,
             reply,
         }),
-        Verdict::Refused(why) => Ok(Told {
+        Verdict::Refused(why) => Ok(Outcome {
             tables: before,
             reply: Reply::Refused(why),
         }),
@@ -136,18 +140,18 @@ fn told_meanwhile(alloc: Global, mut before: Books, command: &Command) -> Result
 }
 
 /// What an answered command makes of the tables: the reply is the machine's over the whole books.
-pub fn answered(alloc: Global, before: Books, command: &Command) -> Result<Told, AllocError>
+pub fn answered(alloc: Global, before: Books, command: &Command) -> Result<Outcome, AllocError>
     ensures { IfOk result (λ it. IsStateInOrder before →
         Happens batch_size (Answered command.now it.reply) (as_tables before) (as_tables it.tables) × IsStateInOrder it.tables) }
 {
     match before.open_run() {
         None => match command {
-            Command::Open(order) => told_opening(before, order),
-            _ => told_over_whole(alloc, before, command),
+            Command::Open(order) => tell_opening(before, order),
+            _ => tell_over_whole(alloc, before, command),
         },
         Some(run) => match command {
-            Command::Post(count) => told_post(alloc, before, *count, run),
-            _ => told_meanwhile(alloc, before, command),
+            Command::Post(count) => tell_post(alloc, before, *count, run),
+            _ => tell_meanwhile(alloc, before, command),
         },
     }
 }

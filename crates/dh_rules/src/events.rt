@@ -36,40 +36,40 @@ pub struct Played {
 
 // The tables after a happening, and the reply where it is an answer.
 #[derive(Drop)]
-struct Left {
+struct Happened {
     tables: Books,
     reply: Option<Reply>,
 }
 
 // What one happening makes of the tables.
-fn happen(alloc: Global, before: Books, happening: &Happening) -> Result<Left, AllocError>
+fn happen(alloc: Global, before: Books, happening: &Happening) -> Result<Happened, AllocError>
     ensures { IfOk result (λ it. IsStateInOrder before → IsStep happening.now it.reply before it.tables × IsStateInOrder it.tables) }
 {
     match happening {
         Happening::Answered(command) => {
             let told = answered(alloc, before, command)?;
-            Ok(Left {
+            Ok(Happened {
                 tables: told.tables,
                 reply: Some(told.reply),
             })
         }
-        Happening::Undone(command, reach) => Ok(Left {
+        Happening::Undone(command, reach) => Ok(Happened {
             tables: interrupted_undone(alloc, before, command, *reach)?,
             reply: None,
         }),
-        Happening::Done(command, standing) => Ok(Left {
+        Happening::Done(command, standing) => Ok(Happened {
             tables: interrupted_done(alloc, before, command, *standing)?,
             reply: None,
         }),
-        Happening::Attached => Ok(Left {
+        Happening::Attached => Ok(Happened {
             tables: before,
             reply: None,
         }),
-        Happening::RecoveryInterrupted(reach) => Ok(Left {
+        Happening::RecoveryInterrupted(reach) => Ok(Happened {
             tables: recovery_interrupted(alloc, before, *reach)?,
             reply: None,
         }),
-        Happening::Recovered => Ok(Left {
+        Happening::Recovered => Ok(Happened {
             tables: recovered(alloc, before)?,
             reply: None,
         }),

@@ -11,7 +11,7 @@ mod recoveries;
 mod runs;
 
 pub use changes::apply_change;
-pub use commands::{Told, answered, interrupted_done};
+pub use commands::{Outcome, answered, interrupted_done};
 pub use dh_answers::{answer, balance, decide, matching, vacant};
 pub use dh_audit::audit;
 pub use dh_books::Books;

@@ -21,7 +21,7 @@ use Rattle.dh_laws.proofs.StandingLemmas.Batches.{same_in_part}
 use Rattle.dh_schema.specs.Store.{Leaves}
 use Rattle.dh_runs.specs.declared.batches.RunState.{RunState}
 use Rattle.dh_runs.specs.declared.batches.RunState.TheVariants as run
-use Rattle.dh_runs.specs.Told.{IsInterrupted, IsAnsweredBy, IsMidRecovery, reply_of}
+use Rattle.dh_runs.specs.Outcomes.{IsInterrupted, IsAnsweredBy, IsMidRecovery, reply_of}
 use Rattle.dh_runs.proofs.Along.{either, leaves_weaker}
 
 pub on_err : {A E P : Type 0} (r : Result A E) → P → OnErr r P

@@ -15,7 +15,7 @@ use Rattle.dh_model.specs.Runs.{batch_size, batches, closed_run}
 use Rattle.dh_model.specs.Whole.{whole}
 use Rattle.dh_model.proofs.KeyOrders.{nat_ties, nat_total}
 use Rattle.dh_model.proofs.MapRows.{get_new, inside}
-use Rattle.dh_laws.specs.Batches.{IsAtItsEnd, IsUnderWay, closed_state, sum_told}
+use Rattle.dh_laws.specs.Batches.{IsAtItsEnd, IsUnderWay, closed_state, open_run_sum}
 use Rattle.dh_laws.specs.InOrder.{IsInOrder}
 use Rattle.dh_laws.specs.Posting.{closed}
 use Rattle.dh_laws.specs.StateTables as office
@@ -61,9 +61,9 @@ module _ (books : Books) (sum : RunSum) (is : IsSumOfOpen sum books) where
   closed_is_whole run end order = ap (λ (it : RunSum). with_run it.month (with_sum it row) books) is.2 ∙ whole_of run end order
 
   -- and the sum is what the run is told to come to
-  pub sum_is_told : (run : Option OpenRun) → IsAtItsEnd books run → IsInOrder batch_size books run → sum ≡ sum_told books run
-  sum_is_told None end order = absurd end
-  sum_is_told (Some run) end order =
+  pub sum_is_open_run_sum : (run : Option OpenRun) → IsAtItsEnd books run → IsInOrder batch_size books run → sum ≡ open_run_sum books run
+  sum_is_open_run_sum None end order = absurd end
+  sum_is_open_run_sum (Some run) end order =
       let own_row = closed_run row.month row.key (charges_in books row.month) in
       let same : order.shown.0 ≡ row = inside order.shown.0 row (sym order.shown.1 ∙ is.1) in
       let own : run.month ≡ row.month = sym order.shown.2 ∙ ap (λ (it : Run). it.month) same in

@@ -14,7 +14,7 @@ use Rattle.dh_laws.proofs.MonthLemmas.Shown.{all_closed}
 use Rattle.dh_schema.specs.Store.{IsReady, tables}
 use Rattle.dh_runs.specs.declared.problem.Problem.{Problem}
 use Rattle.dh_runs.specs.declared.problem.Problem.TheVariants as problem
-use Rattle.dh_runs.specs.Problems.{IsNotTaken}
+use Rattle.dh_runs.specs.Problems.{IsNotRead}
 use Rattle.dh_runs.specs.Taking.{Sorts, Takes}
 use Rattle.dh_runs.proofs.ClosedRun.{ready_in_order}
 use Rattle.dh_runs.specs.Migrated.{migrated_state}
@@ -31,7 +31,7 @@ order_after s ready none =
 
 -- a fault says nothing of tables that were taken
 pub fault_sorts : {S X Y : Type 0} (g : Ghosts S) (old mid new : Held S) (y : Y) (result : Result X Problem) → Takes g First old mid (Ok y)
-    → IsNotTaken result → Sorts g First CanBeMigrated IsNotMigrated IsMigrationProblem old new result
+    → IsNotRead result → Sorts g First CanBeMigrated IsNotMigrated IsMigrationProblem old new result
 fault_sorts g old mid new y (Err (problem.Fault fault)) takes told = record {
   taken = λ clean. tt;
   refused = λ clean. told;

@@ -23,7 +23,7 @@ use Rattle.dh_leases.specs.declared.plans.Plan.{Plan}
 use Rattle.dh_leases.specs.Plans.{AreNew, HasItsPart, IsPlanOf, begins_at, stage, with_batch_rows}
 use Rattle.dh_leases.proofs.Leading.{IsBatchAt, batch_at, counted}
 use Rattle.dh_runs.specs.declared.batch.Batch.TheVariants.{Posted, NoneLeft}
-use Rattle.dh_runs.specs.Batches.{batch_told}
+use Rattle.dh_runs.specs.Batches.{posted_batch}
 
 -- with the batches that are done, books are as they were
 pub own_stage : (books : Books) (run : OpenRun) → IsInOrder batch_size books (Some run) → with_posted batch_size books run.month run.done ≡ books
@@ -92,8 +92,8 @@ module _ (plan : Plan) (s : State) (order : IsStateInOrder s) (is : IsPlanOf pla
   next_by : (b : Bool) → nat_lt plan.done all ≡ b → next_batch s ≡ (if b then with_batch s.books run else record { books = s.books; open_run = Some run })
   next_by b e = ap (next_of s.books) is.shown ∙ ap (λ (b : Bool). if b then with_batch s.books run else record { books = s.books; open_run = Some run }) e
 
-  told_by : (b : Bool) → nat_lt plan.done all ≡ b → batch_told s.books s.open_run ≡ (if b then Posted (plan.done + 1) all else NoneLeft)
-  told_by b e = ap (batch_told s.books) is.shown ∙ ap (λ (b : Bool). if b then Posted (plan.done + 1) all else NoneLeft) e
+  told_by : (b : Bool) → nat_lt plan.done all ≡ b → posted_batch s.books s.open_run ≡ (if b then Posted (plan.done + 1) all else NoneLeft)
+  told_by b e = ap (posted_batch s.books) is.shown ∙ ap (λ (b : Bool). if b then Posted (plan.done + 1) all else NoneLeft) e
 
   -- the first of its rows are the next batch
   module _ (rows : BatchRows) (some : 0 < length plan.batches.items) (at : rows ≡ slice_index_or plan.batches.items 0 rows) where
@@ -103,7 +103,7 @@ module _ (plan : Plan) (s : State) (order : IsStateInOrder s) (is : IsPlanOf pla
     before_the_last : nat_lt plan.done all ≡ true
     before_the_last = let count = counted plan s is in grind (arith, nat_tests, count, some)
 
-    pub posted_told : Posted (plan.done + 1) (plan.done + length plan.batches.items) ≡ batch_told s.books s.open_run
+    pub posted_told : Posted (plan.done + 1) (plan.done + length plan.batches.items) ≡ posted_batch s.books s.open_run
     posted_told = ap (λ (of : ℕ). Posted (plan.done + 1) of) (counted plan s is) ∙ sym (told_by true before_the_last)
 
     to_first : with_batch_rows rows s ≡ stage s.books plan.month (plan.done + 1)

@@ -14,7 +14,7 @@ use Rattle.dh_laws.specs.Events.{state_of}
 use Rattle.dh_laws.specs.StateTables.{as_tables}
 use Rattle.dh_runs.specs.declared.batches.RunState.{RunState}
 use Rattle.dh_runs.specs.declared.batches.RunState.TheVariants as run
-use Rattle.dh_runs.specs.Told.{IsAnsweredBy, reply_of}
+use Rattle.dh_runs.specs.Outcomes.{IsAnsweredBy, reply_of}
 
 abbrev ended : Books → OpenRun → State × Reply
 ended books at = (record { books = books; open_run = None }, reply.Posted (posted_sum at.month (get books.runs at.month)))

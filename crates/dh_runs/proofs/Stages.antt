@@ -18,7 +18,7 @@ use Rattle.dh_leases.specs.declared.plans.Plan.{Plan}
 use Rattle.dh_leases.specs.Plans.{AreNew, HasItsPart, IsPlanOf, begins_at, stage, with_batch_rows}
 use Rattle.dh_leases.proofs.Leading.{IsBatchAt, batch_at, counted}
 use Rattle.dh_schema.specs.Store.{IsReady, Leaves, tables}
-use Rattle.dh_runs.specs.Told.{LeavesOneBatch}
+use Rattle.dh_runs.specs.Outcomes.{LeavesOneBatch}
 use Rattle.dh_runs.proofs.Along.{Along, either, ends, in_order, leaves_weaker}
 use Rattle.dh_runs.proofs.NextRows.{first_stage, stage_behind}
 

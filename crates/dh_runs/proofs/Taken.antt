@@ -16,7 +16,7 @@ use Rattle.dh_model.specs.Runs.{batch_size}
 use Rattle.dh_laws.specs.Events.{Recovered}
 use Rattle.dh_laws.specs.StateTables.{as_tables}
 use Rattle.dh_laws.proofs.InvariantLemmas.Versions.{the_version_stays}
-use Rattle.dh_laws.proofs.CommandLemmas.Carried.{part_torn}
+use Rattle.dh_laws.proofs.CommandLemmas.Carried.{part_is_mid_recovery}
 use Rattle.dh_laws.proofs.StandingLemmas.Batches.{same_in_part}
 use Rattle.dh_ddl.specs.Versions.{each_is_ours, schema_of}
 use Rattle.dh_tables.specs.Calls.{HasOurTables}
@@ -25,10 +25,10 @@ use Rattle.dh_schema.specs.Tables.{IsSound, state_in, version_of_tables}
 use Rattle.dh_schema.proofs.ReadTables.{version_given}
 use Rattle.dh_runs.specs.declared.problem.Problem.{Problem}
 use Rattle.dh_runs.specs.declared.problem.Problem.TheVariants as problem
-use Rattle.dh_runs.specs.Taken.{Halts, RestsTorn, TakesForward}
+use Rattle.dh_runs.specs.Taken.{Halts, RestsMidRecovery, TakesForward}
 use Rattle.dh_runs.specs.Taking.{CanBeTaken, GivesVersion, HasTablesOfAnother, HasVersion, IsFirstProblem, IsOfVersion, IsProblemOf, ReadsAsItDid}
 use Rattle.dh_runs.specs.Taking.{Takes, TakesAsTheyAre}
-use Rattle.dh_runs.specs.Told.{IsRecovered, IsMidRecovery}
+use Rattle.dh_runs.specs.Outcomes.{IsRecovered, IsMidRecovery}
 
 -- sound tables are listed by the schema of their version, and a list tells one schema
 pub its_schema : (d : Database) → IsDatabase d → IsSound d.trees → d.schema ≡ schema_of (version_of_tables d.trees)
@@ -36,24 +36,24 @@ its_schema d lists sound =
     lists_once (d.trees catalog_tree) d.schema (schema_of (version_of_tables d.trees)) lists.lists sound.in_order.listed.lists
 
 -- a recovery that was stopped before its first batch
-same_is_torn : (s t : machine.State) → t ≡ s → IsMidRecovery s t
-same_is_torn s t is = part_torn 0 s t (same_in_part 0 s t is)
+same_is_mid_recovery : (s t : machine.State) → t ≡ s → IsMidRecovery s t
+same_is_mid_recovery s t is = part_is_mid_recovery 0 s t (same_in_part 0 s t is)
 
-pub left_torn : (old : State) → IsSound old.now.trees → (left : Trees) → left ≡ old.now.trees → AreTables (IsMidRecovery (tables old)) left
-left_torn old sound left is = (subst IsSound (sym is) sound, same_is_torn (tables old) (state_in left) (ap state_in is))
+pub left_mid_recovery : (old : State) → IsSound old.now.trees → (left : Trees) → left ≡ old.now.trees → AreTables (IsMidRecovery (tables old)) left
+left_mid_recovery old sound left is = (subst IsSound (sym is) sound, same_is_mid_recovery (tables old) (state_in left) (ap state_in is))
 
 module _ (old new : State) where
   pub same_tables : ReadsAsItDid old new → tables new ≡ tables old
   same_tables it = ap (λ (d : Database). state_in d.trees) it.1
 
-  pub rests_torn : IsSound old.now.trees → ReadsAsItDid old new → RestsTorn old new
-  rests_torn sound it =
+  pub rests_mid_recovery : IsSound old.now.trees → ReadsAsItDid old new → RestsMidRecovery old new
+  rests_mid_recovery sound it =
       let trees : old.now.trees ≡ new.now.trees = ap (λ (d : Database). d.trees) (sym it.1) in
-      (it.0, subst IsSound trees sound, same_is_torn (tables old) (tables new) (same_tables it))
+      (it.0, subst IsSound trees sound, same_is_mid_recovery (tables old) (tables new) (same_tables it))
 
-  pub torn_still : IsDatabase old.now → IsSound old.now.trees → ReadsAsItDid old new → IsReadyWith new (IsMidRecovery (tables old))
-  torn_still lists sound it =
-      let rests = rests_torn sound it in
+  pub still_mid_recovery : IsDatabase old.now → IsSound old.now.trees → ReadsAsItDid old new → IsReadyWith new (IsMidRecovery (tables old))
+  still_mid_recovery lists sound it =
+      let rests = rests_mid_recovery sound it in
       let its = its_schema new.now (subst IsDatabase (sym it.1) lists) rests.1 in (
         record {
           is_open = it.0.is_open;
@@ -66,7 +66,7 @@ module _ (old new : State) where
         rests.2,
       )
 
-  pub ready_rests : IsReadyWith new (IsMidRecovery (tables old)) → RestsTorn old new
+  pub ready_rests : IsReadyWith new (IsMidRecovery (tables old)) → RestsMidRecovery old new
   ready_rests it = (
     record { is_open = it.0.is_open; autocommit = it.0.autocommit; settled = it.0.settled },
     it.0.sound,
@@ -130,8 +130,9 @@ rows_taken g wanted old mid new (Err e) ours given never first was sound refused
     }
 
 -- they stay so where a recovery came to its end
-pub version_mended : (version : Version) (mid new : State) → HasVersion version mid → IsRecovered (tables mid) (tables new) → HasVersion version new
-version_mended version mid new was mended = the_version_stays batch_size Recovered (as_tables (tables mid)) (as_tables (tables new)) mended ∙ was
+pub version_recovered : (version : Version) (mid new : State) → HasVersion version mid → IsRecovered (tables mid) (tables new) → HasVersion version new
+version_recovered version mid new was was_recovered = the_version_stays batch_size Recovered (as_tables (tables mid)) (as_tables (tables new)) was_recovered
+    ∙ was
 
 -- ---- a recovery
 
@@ -139,14 +140,14 @@ version_mended version mid new was mended = the_version_stays batch_size Recover
 pub left_forward : (old new : State) → TakesAsTheyAre old new → TakesForward old new
 left_forward old new kept = record {
   was_clean = kept.was_clean;
-  crash = λ clean sound left may. left_torn old sound left (kept.crash clean left may);
+  crash = λ clean sound left may. left_mid_recovery old sound left (kept.crash clean left may);
   untouched = λ wrong. kept;
 }
 
 pub left_halted : (old new : State) → (HasCleanDisk new → IsDatabase old.now) → TakesAsTheyAre old new → Halts old new
 left_halted old new lists kept = record {
-  ready = λ clean up ours sound. torn_still old new (lists clean) sound (kept.same clean up);
-  resting = λ clean up sound. rests_torn old new sound (kept.same clean up);
+  ready = λ clean up ours sound. still_mid_recovery old new (lists clean) sound (kept.same clean up);
+  resting = λ clean up sound. rests_mid_recovery old new sound (kept.same clean up);
 }
 
 -- of those that were, and then moved on

@@ -17,8 +17,8 @@ abbrev pub CanBePosted : Plan → Type 0
 CanBePosted plan = HasRoom plan.done × All FallsInTime plan.batches.items
 
 -- that one more is done, where one was left
-abbrev pub batch_told : Books → Option OpenRun → Batch
-batch_told books None = NoneLeft
-batch_told books (Some run) =
+abbrev pub posted_batch : Books → Option OpenRun → Batch
+posted_batch books None = NoneLeft
+posted_batch books (Some run) =
     let all = batches batch_size books run.month in
     if nat_lt run.done all then Posted (run.done + 1) all else NoneLeft

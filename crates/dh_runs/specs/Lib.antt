@@ -5,7 +5,7 @@ pub mod Putting
 pub use Rattle.dh_types.specs.Records
 pub use Rattle.dh_types.specs.Reports
 pub use Rattle.dh_types.specs.Replies
-pub mod Told
+pub mod Outcomes
 pub mod Taking
 pub mod Taken
 pub mod Problems

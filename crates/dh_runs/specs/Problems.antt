@@ -27,6 +27,6 @@ IsFoundIn books (problem.Refused why) = IsBroken books why
 IsFoundIn books (problem.Fault fault) = IsFirstFault fault
 
 -- so tables are answered that are not ours, and not read
-abbrev pub IsNotTaken : {X : Type 0} → Result X Problem → Type 0
-IsNotTaken (Err (problem.Fault fault)) = IsFirstFault fault
-IsNotTaken _ = ⊥
+abbrev pub IsNotRead : {X : Type 0} → Result X Problem → Type 0
+IsNotRead (Err (problem.Fault fault)) = IsFirstFault fault
+IsNotRead _ = ⊥

@@ -6,7 +6,7 @@ use Rattle.dh_tables.specs.Calls.{HasOurTables}
 use Rattle.dh_schema.specs.Store.{IsReadyWith, Leaves, tables}
 use Rattle.dh_schema.specs.Tables.{IsSound}
 use Rattle.dh_runs.specs.Taking.{IsResting, TakesAsTheyAre}
-use Rattle.dh_runs.specs.Told.{IsMidRecovery}
+use Rattle.dh_runs.specs.Outcomes.{IsMidRecovery}
 
 -- The open run was made to its end, or to some batch of it; tables that are not sound are as they were.
 pub record TakesForward (old new : State) : Type 0 where
@@ -15,10 +15,10 @@ pub record TakesForward (old new : State) : Type 0 where
   pub untouched : ¬ IsSound old.now.trees → TakesAsTheyAre old new
 
 -- no transaction is open, and the tables are sound, with the open run moved on
-abbrev pub RestsTorn : State → State → Type 0
-RestsTorn old new = IsResting new × IsSound new.now.trees × IsMidRecovery (tables old) (tables new)
+abbrev pub RestsMidRecovery : State → State → Type 0
+RestsMidRecovery old new = IsResting new × IsSound new.now.trees × IsMidRecovery (tables old) (tables new)
 
 -- What is read of sound tables at a problem, while the store is open.
 pub record Halts (old new : State) : Type 0 where
   pub ready : HasCleanDisk new → IsTrue new.is_open → HasOurTables old → IsSound old.now.trees → IsReadyWith new (IsMidRecovery (tables old))
-  pub resting : HasCleanDisk new → IsTrue new.is_open → IsSound old.now.trees → RestsTorn old new
+  pub resting : HasCleanDisk new → IsTrue new.is_open → IsSound old.now.trees → RestsMidRecovery old new

@@ -19,7 +19,7 @@ use Rattle.dh_schema.specs.Tables.{HasValues, IsSound, books_in, state_in}
 use Rattle.dh_schema.specs.Version.{GivesAnother, only_version}
 use Rattle.dh_runs.specs.declared.problem.Problem.{Problem}
 use Rattle.dh_runs.specs.declared.problem.Problem.TheVariants as problem
-use Rattle.dh_runs.specs.Problems.{IsNotTaken}
+use Rattle.dh_runs.specs.Problems.{IsNotRead}
 
 -- Open, between transactions, with the tables that were committed last, sound or not.
 pub record IsResting (s : State) : Type 0 where
@@ -102,9 +102,9 @@ pub record Sorts {S X : Type 0} (g : Ghosts S) (wanted : Version) (CanBe : Trees
   -- those of another version are as they were
   pub of_version : HasCleanDisk (state g new) → IfErr result (λ problem. IsOfVersion problem → ReadsAsItDid (state g old) (state g new))
   -- tables that are not ours are not touched
-  pub others : ¬ HasOurTables (state g old) → IsNotTaken result × (new ≡ old)
+  pub others : ¬ HasOurTables (state g old) → IsNotRead result × (new ≡ old)
   -- nor are they refused where meta gives this version and they are those of another
-  pub another : HasCleanDisk (state g new) → HasTablesOfAnother wanted (state g old) → IsNotTaken result
+  pub another : HasCleanDisk (state g new) → HasTablesOfAnother wanted (state g old) → IsNotRead result
 
 -- sound tables of this version are wanted
 abbrev pub Takes : {S X : Type 0} → Ghosts S → Version → Held S → Held S → Result X Problem → Type 0

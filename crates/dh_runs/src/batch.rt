@@ -8,7 +8,7 @@ ghost use Rattle.dh_laws.specs.Batches.{IsUnderWay, next_batch};
 ghost use Rattle.dh_leases.specs.Plans.{IsPlanOf};
 ghost use Rattle.dh_schema.specs.Faults.{IsFirstFault};
 ghost use Rattle.dh_schema.specs.Store.{IsReady, IsReadyWith, Leaves, StaysReady, tables};
-ghost use Rattle.dh_runs.specs.Batches.{CanBePosted, batch_told};
+ghost use Rattle.dh_runs.specs.Batches.{CanBePosted, posted_batch};
 
 use crate::plan::plan_run;
 use crate::rows::PostedRows;
@@ -35,8 +35,8 @@ fn post_first<S: Alter>(
     requires ready { HasCleanDisk (state S.Store conn.old) → IsReady (state S.Store conn.old) }
     requires plan { HasCleanDisk (state S.Store conn.old) → IsPlanOf plan.now (tables (state S.Store conn.old)) }
     requires postable { CanBePosted plan.now }
-    ensures told { HasCleanDisk (state S.Store conn.new)
-        → IfOk result (λ it. it ≡ batch_told (tables (state S.Store conn.old)).books (tables (state S.Store conn.old)).open_run) }
+    ensures value { HasCleanDisk (state S.Store conn.new)
+        → IfOk result (λ it. it ≡ posted_batch (tables (state S.Store conn.old)).books (tables (state S.Store conn.old)).open_run) }
     ensures done { HasCleanDisk (state S.Store conn.new)
         → OnOk result (IsReadyWith (state S.Store conn.new) (λ t. t ≡ next_batch (tables (state S.Store conn.old)))) }
     ensures undone { HasCleanDisk (state S.Store conn.new) → IsTrue (state S.Store conn.new).is_open
@@ -60,8 +60,8 @@ fn post_first<S: Alter>(
 pub fn post_batch<S: Alter>(alloc: Global, conn: &mut Connection<S>) -> Result<Batch, StoreFault>
     requires ready { HasCleanDisk (state S.Store conn.old) → IsReady (state S.Store conn.old) }
     requires run { HasCleanDisk (state S.Store conn.old) → IsUnderWay (tables (state S.Store conn.old)).open_run }
-    ensures told { HasCleanDisk (state S.Store conn.new)
-        → IfOk result (λ it. it ≡ batch_told (tables (state S.Store conn.old)).books (tables (state S.Store conn.old)).open_run) }
+    ensures value { HasCleanDisk (state S.Store conn.new)
+        → IfOk result (λ it. it ≡ posted_batch (tables (state S.Store conn.old)).books (tables (state S.Store conn.old)).open_run) }
     ensures done { HasCleanDisk (state S.Store conn.new)
         → OnOk result (IsReadyWith (state S.Store conn.new) (λ t. t ≡ next_batch (tables (state S.Store conn.old)))) }
     ensures undone { HasCleanDisk (state S.Store conn.new) → IsTrue (state S.Store conn.new).is_open

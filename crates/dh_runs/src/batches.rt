@@ -14,7 +14,7 @@ ghost use Rattle.dh_leases.specs.Plans.{IsPlanOf};
 ghost use Rattle.dh_schema.specs.Faults.{IsFirstFault};
 ghost use Rattle.dh_schema.specs.Store.{IsReady, IsReadyWith, Leaves, tables};
 ghost use Rattle.dh_runs.specs.Batches.{CanBePosted};
-ghost use Rattle.dh_runs.specs.Told.{IsAtEnd, IsInterrupted, IsAnsweredBy, LeavesOneBatch, LeavesOneStep, reply_of};
+ghost use Rattle.dh_runs.specs.Outcomes.{IsAtEnd, IsInterrupted, IsAnsweredBy, LeavesOneBatch, LeavesOneStep, reply_of};
 
 use crate::plan::plan_run;
 use crate::rows::PostedRows;

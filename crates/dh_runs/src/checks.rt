@@ -10,7 +10,7 @@ ghost use Rattle.dh_ddl.specs.Versions.{schema_of};
 ghost use Rattle.dh_tables.specs.Calls.{HasOurTables};
 ghost use Rattle.dh_schema.specs.Store.{HasItsSchema, IsReady, tables};
 ghost use Rattle.dh_schema.specs.Tables.{IsSound, books_in};
-ghost use Rattle.dh_runs.specs.Problems.{IsFoundIn, IsNotTaken};
+ghost use Rattle.dh_runs.specs.Problems.{IsFoundIn, IsNotRead};
 ghost use Rattle.dh_runs.specs.Taking.{GivesVersion, HasTablesOfAnother, HasVersion, IsFirstProblem, IsOfVersion, IsProblemOf, IsResting, LeavesAsTheyWere};
 ghost use Rattle.dh_runs.specs.Taking.{ReadsAsItDid, Takes, TakesAsTheyAre};
 
@@ -40,8 +40,8 @@ fn check_version<S: Alter>(
     ensures still { HasCleanDisk (state S.Store conn.new) → OnOk result (IsTrue (state S.Store conn.new).is_open) }
     ensures still_open { HasCleanDisk (state S.Store conn.new)
         → IfErr result (λ problem. IsOfVersion problem → IsTrue (state S.Store conn.new).is_open) }
-    ensures others { ¬ HasOurTables (state S.Store conn.old) → IsNotTaken result × (conn.new ≡ conn.old) }
-    ensures another { HasCleanDisk (state S.Store conn.new) → HasTablesOfAnother wanted (state S.Store conn.old) → IsNotTaken result }
+    ensures others { ¬ HasOurTables (state S.Store conn.old) → IsNotRead result × (conn.new ≡ conn.old) }
+    ensures another { HasCleanDisk (state S.Store conn.new) → HasTablesOfAnother wanted (state S.Store conn.old) → IsNotRead result }
     ensures same { HasCleanDisk (state S.Store conn.new) → IsTrue (state S.Store conn.new).is_open
         → ReadsAsItDid (state S.Store conn.old) (state S.Store conn.new) }
     ensures crash { HasCleanDisk (state S.Store conn.new) → LeavesAsTheyWere (state S.Store conn.old) (state S.Store conn.new) }

@@ -4,11 +4,11 @@ ghost use Rattle.std.specs.Prelude.{◌≡◌, IfOk};
 ghost use Rattle.sqlite.specs.State.{HasCleanDisk};
 ghost use Rattle.sqlite.specs.Held.{state};
 ghost use Rattle.dh_types.specs.declared.version.Version.TheVariants.{First};
-ghost use Rattle.dh_laws.specs.Batches.{IsAtItsEnd, IsUnderWay, closed_state, next_batch, sum_told};
+ghost use Rattle.dh_laws.specs.Batches.{IsAtItsEnd, IsUnderWay, closed_state, next_batch, open_run_sum};
 ghost use Rattle.dh_schema.specs.Store.{IsReady, tables};
-ghost use Rattle.dh_runs.specs.Batches.{batch_told};
+ghost use Rattle.dh_runs.specs.Batches.{posted_batch};
 ghost use Rattle.dh_runs.specs.Taking.{HasVersion};
-ghost use Rattle.dh_runs.specs.Told.{Steps};
+ghost use Rattle.dh_runs.specs.Outcomes.{Steps};
 
 use crate::batch::{Batch, post_batch};
 use crate::run_end::close_run;
@@ -22,8 +22,8 @@ pub fn post_batch_1<S: Alter>(alloc: Global, conn: &mut Connection<S>) -> Result
     requires ready { HasCleanDisk (state S.Store conn.old) → IsReady (state S.Store conn.old) }
     requires run { HasCleanDisk (state S.Store conn.old) → IsUnderWay (tables (state S.Store conn.old)).open_run }
     requires first { HasCleanDisk (state S.Store conn.old) → HasVersion First (state S.Store conn.old) }
-    ensures told { HasCleanDisk (state S.Store conn.new)
-        → IfOk result (λ it. it ≡ batch_told (tables (state S.Store conn.old)).books (tables (state S.Store conn.old)).open_run) }
+    ensures value { HasCleanDisk (state S.Store conn.new)
+        → IfOk result (λ it. it ≡ posted_batch (tables (state S.Store conn.old)).books (tables (state S.Store conn.old)).open_run) }
     ensures steps { Steps next_batch result (state S.Store conn.old) (state S.Store conn.new) }
 {
     post_batch(alloc, conn)
@@ -34,8 +34,8 @@ pub fn close_run_1<S: Alter>(alloc: Global, conn: &mut Connection<S>) -> Result<
     requires ready { HasCleanDisk (state S.Store conn.old) → IsReady (state S.Store conn.old) }
     requires end { HasCleanDisk (state S.Store conn.old) → IsAtItsEnd (tables (state S.Store conn.old)).books (tables (state S.Store conn.old)).open_run }
     requires first { HasCleanDisk (state S.Store conn.old) → HasVersion First (state S.Store conn.old) }
-    ensures told { HasCleanDisk (state S.Store conn.new)
-        → IfOk result (λ sum. sum ≡ sum_told (tables (state S.Store conn.old)).books (tables (state S.Store conn.old)).open_run) }
+    ensures value { HasCleanDisk (state S.Store conn.new)
+        → IfOk result (λ sum. sum ≡ open_run_sum (tables (state S.Store conn.old)).books (tables (state S.Store conn.old)).open_run) }
     ensures steps { Steps closed_state result (state S.Store conn.old) (state S.Store conn.new) }
 {
     close_run(alloc, conn)

@@ -10,9 +10,9 @@ ghost use Rattle.dh_runs.specs.Taking.{IsResting, Sorts};
 ghost use Rattle.dh_runs.specs.Migrated.{migrated_state};
 ghost use Rattle.dh_runs.specs.Moved.{CanBeMigrated, IsMigrationProblem, IsNotMigrated, MovesOn, StaysAsItWas};
 
-use crate::second_version::SecondVersion;
 use crate::Problem;
 use crate::checks::checked_books;
+use crate::second_version::SecondVersion;
 use dh_books::Books;
 use dh_leases::open_row;
 use dh_schema::commit;

@@ -31,7 +31,7 @@ use std::alloc::Global;
 
 // The batches that the parts of the books stand for: each those that its charges take.
 fn batches_done(books: &Books) -> u128
-    ensures told { result ≡ sum_by (λ part. batches_for batch_size part.count) (fin.values books.now.books.parts) }
+    ensures value { result ≡ sum_by (λ part. batches_for batch_size part.count) (fin.values books.now.books.parts) }
     ensures room { HasRoom result }
 {
     let parts = books.parts();
@@ -51,7 +51,7 @@ fn done_in<S: Alter>(
     month: EntryMonth,
 ) -> Result<u128, StoreFault>
     requires { HasCleanDisk (state S.Store conn.old) → IsReady (state S.Store conn.old) }
-    ensures told { HasCleanDisk (state S.Store conn.new)
+    ensures value { HasCleanDisk (state S.Store conn.new)
         → IfOk result (λ done. done ≡ batches_shown batch_size (tables (state S.Store conn.old)).books month) }
     ensures room { IfOk result HasRoom }
     ensures reads { OnlyReads (state S.Store conn.old) (state S.Store conn.new) result }
@@ -68,7 +68,7 @@ fn run_now<S: Alter>(
     months: Meta,
 ) -> Result<Option<OpenRun>, StoreFault>
     requires { HasCleanDisk (state S.Store conn.old) → IsReadyIn months (state S.Store conn.old) }
-    ensures told { HasCleanDisk (state S.Store conn.new) → IfOk result (λ run. run ≡ (tables (state S.Store conn.old)).open_run) }
+    ensures value { HasCleanDisk (state S.Store conn.new) → IfOk result (λ run. run ≡ (tables (state S.Store conn.old)).open_run) }
     ensures room { IfOk result (λ run. IfSome run (λ it. HasRoom it.done)) }
     ensures reads { OnlyReads (state S.Store conn.old) (state S.Store conn.new) result }
 {
@@ -92,7 +92,7 @@ fn look_at_branches<S: Alter>(
     requires ready { HasCleanDisk (state S.Store conn.old) → IsReadyOf version (state S.Store conn.old) }
     requires branches { HasCleanDisk (state S.Store conn.old) → books.old.books.branches ≡ fin.empty }
     requires fees { HasCleanDisk (state S.Store conn.old) → books.old.books.branch_fees ≡ fin.empty }
-    ensures taken { HasCleanDisk (state S.Store conn.new) → OnOk result (books.new ≡ with_branches (tables (state S.Store conn.old)).books books.old) }
+    ensures gathered { HasCleanDisk (state S.Store conn.new) → OnOk result (books.new ≡ with_branches (tables (state S.Store conn.old)).books books.old) }
     ensures reads { OnlyReads (state S.Store conn.old) (state S.Store conn.new) result }
 {
     look_at_all::<Branch, S>(alloc, conn, books)?;
@@ -106,7 +106,7 @@ fn books_of_leases<S: Alter>(
     version: Version,
 ) -> Result<Books, StoreFault>
     requires { HasCleanDisk (state S.Store conn.old) → IsReadyOf version (state S.Store conn.old) }
-    ensures taken { HasCleanDisk (state S.Store conn.new) → IfOk result (λ books. HaveTheLeases books.books (tables (state S.Store conn.old)).books) }
+    ensures gathered { HasCleanDisk (state S.Store conn.new) → IfOk result (λ books. HaveTheLeases books.books (tables (state S.Store conn.old)).books) }
     ensures reads { OnlyReads (state S.Store conn.old) (state S.Store conn.new) result }
 {
     let mut books = no_rows_of(alloc, version);
@@ -125,7 +125,7 @@ fn plan_open<S: Alter>(
     requires ready { HasCleanDisk (state S.Store conn.old) → IsReadyOf version (state S.Store conn.old) }
     requires run { HasCleanDisk (state S.Store conn.old) → (tables (state S.Store conn.old)).open_run ≡ Some run }
     requires room { HasRoom run.done }
-    ensures told { HasCleanDisk (state S.Store conn.new) → IfOk result (λ plan. IsPlanOf plan (tables (state S.Store conn.old))) }
+    ensures value { HasCleanDisk (state S.Store conn.new) → IfOk result (λ plan. IsPlanOf plan (tables (state S.Store conn.old))) }
     ensures postable { IfOk result CanBePosted }
     ensures reads { OnlyReads (state S.Store conn.old) (state S.Store conn.new) result }
 {
@@ -140,7 +140,7 @@ pub fn plan_run<S: Alter>(
     conn: &mut Connection<S>,
 ) -> Result<Option<Plan>, StoreFault>
     requires { HasCleanDisk (state S.Store conn.old) → IsReady (state S.Store conn.old) }
-    ensures told { HasCleanDisk (state S.Store conn.new) → IfOk result (IsPlanned (tables (state S.Store conn.old))) }
+    ensures value { HasCleanDisk (state S.Store conn.new) → IfOk result (IsPlanned (tables (state S.Store conn.old))) }
     ensures postable { IfOk result (λ plan. IfSome plan CanBePosted) }
     ensures done { HasCleanDisk (state S.Store conn.new) → OnOk result (StaysReady (state S.Store conn.old) (state S.Store conn.new)) }
     ensures undone { HasCleanDisk (state S.Store conn.new) → IsTrue (state S.Store conn.new).is_open

@@ -8,7 +8,7 @@ ghost use Rattle.dh_schema.specs.Faults.{IsFirstFault};
 ghost use Rattle.dh_schema.specs.Store.{IsReady, IsReadyWith, Leaves, tables};
 ghost use Rattle.dh_runs.specs.Taken.{Halts, TakesForward};
 ghost use Rattle.dh_runs.specs.Taking.{CanBeTaken, HasVersion, IsResting, Takes, TakesAsTheyAre};
-ghost use Rattle.dh_runs.specs.Told.{IsRecovered, IsMidRecovery};
+ghost use Rattle.dh_runs.specs.Outcomes.{IsRecovered, IsMidRecovery};
 
 use crate::batches::{RunState, post_some};
 use crate::checks::check;
@@ -21,7 +21,7 @@ use std::alloc::Global;
 // Makes the open run to its end, where one is open.
 fn finish<S: Alter>(alloc: Global, conn: &mut Connection<S>) -> Result<(), StoreFault>
     requires { HasCleanDisk (state S.Store conn.old) → IsReady (state S.Store conn.old) }
-    ensures mended { HasCleanDisk (state S.Store conn.new)
+    ensures recovered { HasCleanDisk (state S.Store conn.new)
         → OnOk result (IsReadyWith (state S.Store conn.new) (IsRecovered (tables (state S.Store conn.old)))) }
     ensures crash { HasCleanDisk (state S.Store conn.new) → Leaves (state S.Store conn.new) (IsMidRecovery (tables (state S.Store conn.old))) }
     ensures halted { HasCleanDisk (state S.Store conn.new) → IsTrue (state S.Store conn.new).is_open
@@ -46,7 +46,7 @@ pub fn recover_in<S: Alter>(
     wanted: Version,
 ) -> Result<(), Problem>
     requires { HasCleanDisk (state S.Store conn.old) → IsResting (state S.Store conn.old) }
-    ensures mended { HasCleanDisk (state S.Store conn.new)
+    ensures recovered { HasCleanDisk (state S.Store conn.new)
         → OnOk result (IsReadyWith (state S.Store conn.new) (IsRecovered (tables (state S.Store conn.old)))) }
     ensures version { HasCleanDisk (state S.Store conn.new) → OnOk result (HasVersion wanted (state S.Store conn.new)) }
     ensures takes { Takes S.Store wanted conn.old conn.new result }

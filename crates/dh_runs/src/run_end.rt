@@ -7,7 +7,7 @@ ghost use Rattle.sqlite.specs.Held.{state};
 ghost use Rattle.sqlite_trees.specs.View.{doubt};
 ghost use Rattle.dh_model.specs.Rules.{parts_in};
 ghost use Rattle.dh_model.specs.Runs.{batch_size, batches};
-ghost use Rattle.dh_laws.specs.Batches.{IsAtItsEnd, IsUnderWay, closed_state, sum_told};
+ghost use Rattle.dh_laws.specs.Batches.{IsAtItsEnd, IsUnderWay, closed_state, open_run_sum};
 ghost use Rattle.dh_laws.specs.StateTables.{IsStateInOrder};
 ghost use Rattle.dh_schema.specs.Faults.{IsFirstFault};
 ghost use Rattle.dh_schema.specs.Store.{IsReady, IsReadyWith, Leaves, StaysReady, tables};
@@ -54,7 +54,7 @@ fn month_sum<S: Alter>(
     requires end { HasCleanDisk (state S.Store conn.old)
         → (tables (state S.Store conn.old)).open_run
         ≡ Some (record { month = month; done = batches batch_size (tables (state S.Store conn.old)).books month }) }
-    ensures told { HasCleanDisk (state S.Store conn.new)
+    ensures value { HasCleanDisk (state S.Store conn.new)
         → IfOk result (λ sum. sum ≡ sum_of_parts month (parts_in (tables (state S.Store conn.old)).books month)) }
     ensures reads { OnlyReads (state S.Store conn.old) (state S.Store conn.new) result }
 {
@@ -94,8 +94,8 @@ pub(crate) fn close_month<S: Alter>(
     requires end { HasCleanDisk (state S.Store conn.old)
         → (tables (state S.Store conn.old)).open_run
         ≡ Some (record { month = month; done = batches batch_size (tables (state S.Store conn.old)).books month }) }
-    ensures told { HasCleanDisk (state S.Store conn.new)
-        → IfOk result (λ sum. sum ≡ sum_told (tables (state S.Store conn.old)).books (tables (state S.Store conn.old)).open_run) }
+    ensures value { HasCleanDisk (state S.Store conn.new)
+        → IfOk result (λ sum. sum ≡ open_run_sum (tables (state S.Store conn.old)).books (tables (state S.Store conn.old)).open_run) }
     ensures done { HasCleanDisk (state S.Store conn.new)
         → OnOk result (IsReadyWith (state S.Store conn.new) (λ t. t ≡ closed_state (tables (state S.Store conn.old)))) }
     ensures undone { HasCleanDisk (state S.Store conn.new) → IsTrue (state S.Store conn.new).is_open
@@ -114,7 +114,7 @@ pub(crate) fn close_month<S: Alter>(
 fn open_month<S: Alter>(alloc: Global, conn: &mut Connection<S>) -> Result<EntryMonth, StoreFault>
     requires ready { HasCleanDisk (state S.Store conn.old) → IsReady (state S.Store conn.old) }
     requires run { HasCleanDisk (state S.Store conn.old) → IsUnderWay (tables (state S.Store conn.old)).open_run }
-    ensures told { HasCleanDisk (state S.Store conn.new) → IfOk result (IsOpenMonth (tables (state S.Store conn.old)).books) }
+    ensures value { HasCleanDisk (state S.Store conn.new) → IfOk result (IsOpenMonth (tables (state S.Store conn.old)).books) }
     ensures reads { OnlyReads (state S.Store conn.old) (state S.Store conn.new) result }
 {
     let months = months_now(alloc, conn)?;
@@ -128,8 +128,8 @@ fn open_month<S: Alter>(alloc: Global, conn: &mut Connection<S>) -> Result<Entry
 pub fn close_run<S: Alter>(alloc: Global, conn: &mut Connection<S>) -> Result<RunSum, StoreFault>
     requires ready { HasCleanDisk (state S.Store conn.old) → IsReady (state S.Store conn.old) }
     requires end { HasCleanDisk (state S.Store conn.old) → IsAtItsEnd (tables (state S.Store conn.old)).books (tables (state S.Store conn.old)).open_run }
-    ensures told { HasCleanDisk (state S.Store conn.new)
-        → IfOk result (λ sum. sum ≡ sum_told (tables (state S.Store conn.old)).books (tables (state S.Store conn.old)).open_run) }
+    ensures value { HasCleanDisk (state S.Store conn.new)
+        → IfOk result (λ sum. sum ≡ open_run_sum (tables (state S.Store conn.old)).books (tables (state S.Store conn.old)).open_run) }
     ensures done { HasCleanDisk (state S.Store conn.new)
         → OnOk result (IsReadyWith (state S.Store conn.new) (λ t. t ≡ closed_state (tables (state S.Store conn.old)))) }
     ensures undone { HasCleanDisk (state S.Store conn.new) → IsTrue (state S.Store conn.new).is_open

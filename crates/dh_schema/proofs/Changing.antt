@@ -20,7 +20,7 @@ use Rattle.dh_sql.specs.Shape.{rows_in}
 use Rattle.dh_sql.proofs.Staying.{same_beside}
 use Rattle.dh_tables.specs.MetaTable.{AreMonths, HasMonths, SetsMonths, SetsNext, meta_columns, meta_rows}
 use Rattle.dh_model.specs.Kinds.{HasKind, Kind, came_with, order_of, record_of}
-use Rattle.dh_schema.specs.Kinds.{place_of, shape_of, shelf_of, table_of}
+use Rattle.dh_schema.specs.Kinds.{accessor_of, place_of, shape_of, table_of}
 use Rattle.dh_schema.specs.Store.{HasItsSchema}
 use Rattle.dh_schema.specs.Tables.{AreInOrder, IsTableInOrder, books_in, loaded_from, months_of, records_in, rows_since, version_of_tables}
 use Rattle.dh_schema.proofs.EachKind.{all_since, beside_meta, held_beside, held_in, listed, meta_listed, months_beside, one_kind}
@@ -91,23 +91,23 @@ module _ (k : Kind) (m : FinMap (order_of k) (record_of k)) (old new : State) (i
       (λ here. (was j here apart).rows)
 
   -- and the books have these records of its kind
-  pub books_after : loaded_from new.now.trees ≡ (shelf_of k).with (loaded_from old.now.trees) m
+  pub books_after : loaded_from new.now.trees ≡ (accessor_of k).with (loaded_from old.now.trees) m
   books_after =
       let before = loaded_from old.now.trees in
       let beside = months_beside k before m in
-      same_books (loaded_from new.now.trees) ((shelf_of k).with before m) each
+      same_books (loaded_from new.now.trees) ((accessor_of k).with before m) each
       (ap (λ (rows : List Row). (months_of (map meta_columns rows)).first) meta_stays ∙ sym beside.first)
       (ap (λ (rows : List Row). (months_of (map meta_columns rows)).next) meta_stays ∙ sym beside.next)
       (version_stays ∙ sym beside.version)
       (sym beside.open_run)
     where
-      each : (j : Kind) → (shelf_of j).held (loaded_from new.now.trees) ≡ (shelf_of j).held ((shelf_of k).with (loaded_from old.now.trees) m)
+      each : (j : Kind) → (accessor_of j).held (loaded_from new.now.trees) ≡ (accessor_of j).held ((accessor_of k).with (loaded_from old.now.trees) m)
       each j = elim (cases_Bool (nat_eq (shape_of j).tree (shape_of k).tree)) [
         | inl same ↦
             let after = loaded_from new.now.trees in
-            let with_it = (shelf_of k).with (loaded_from old.now.trees) m in
-            subst (λ kind. (shelf_of kind).held after ≡ (shelf_of kind).held with_it) (sym (one_kind j k same))
-            (held_in k new.now.trees ∙ records_are ∙ sym ((shelf_of k).held_with (loaded_from old.now.trees) m))
+            let with_it = (accessor_of k).with (loaded_from old.now.trees) m in
+            subst (λ kind. (accessor_of kind).held after ≡ (accessor_of kind).held with_it) (sym (one_kind j k same))
+            (held_in k new.now.trees ∙ records_are ∙ sym ((accessor_of k).held_with (loaded_from old.now.trees) m))
         | inr apart ↦
             held_in j new.now.trees ∙ records_stay j apart ∙ sym (held_in j old.now.trees) ∙ sym (held_beside j k (loaded_from old.now.trees) m apart)
       ]

@@ -10,7 +10,7 @@ use Rattle.dh_types.specs.declared.version.Version.TheVariants.{First, Second}
 use Rattle.dh_ddl.specs.Versions.{schema_of}
 use Rattle.dh_ddl.specs.MetaTable.{meta}
 use Rattle.dh_model.specs.Kinds.{HasKind, IsSince, Kind, order_of, record_of}
-use Rattle.dh_schema.specs.Kinds.{place_of, shape_of, shelf_of, table_of}
+use Rattle.dh_schema.specs.Kinds.{accessor_of, place_of, shape_of, table_of}
 use Rattle.dh_model.specs.Kinds.{Branches, Staff, Owners, Properties, Clients, Registrations, Viewings, Inspections, Leases, Charges, Receipts, Runs}
 use Rattle.dh_model.specs.Kinds.{Parts, BranchFees, PartFees, Endings}
 use Rattle.dh_schema.specs.Tables.{books_in, empty_over, loaded_from, records_in, rows_since, version_of_tables}
@@ -48,7 +48,7 @@ one_kind j k h = cc
 -- ---- the books
 
 -- books are the same where they have the same of each kind, the same months and the same version
-pub same_books : (a b : State) → ((kind : Kind) → (shelf_of kind).held a ≡ (shelf_of kind).held b) → a.books.first ≡ b.books.first
+pub same_books : (a b : State) → ((kind : Kind) → (accessor_of kind).held a ≡ (accessor_of kind).held b) → a.books.first ≡ b.books.first
     → a.books.next ≡ b.books.next → a.books.version ≡ b.books.version → a.open_run ≡ b.open_run → a ≡ b
 same_books a b held first next version run = λ i. record {
   books = record {
@@ -75,7 +75,7 @@ same_books a b held first next version run = λ i. record {
   open_run = run i;
 }
 
-pub held_in : (kind : Kind) (trees : Trees) → (shelf_of kind).held (loaded_from trees) ≡ records_in kind trees
+pub held_in : (kind : Kind) (trees : Trees) → (accessor_of kind).held (loaded_from trees) ≡ records_in kind trees
 held_in Branches trees = refl
 held_in kind trees = refl
 
@@ -84,7 +84,7 @@ module _ (old : Trees) (first next : ℕ) (version : Version) where
   abbrev but : State
   but = record { books = record (books_in old) { first = first; next = next; version = version }; open_run = None }
 
-  held_but : (kind : Kind) → records_in kind old ≡ (shelf_of kind).held but
+  held_but : (kind : Kind) → records_in kind old ≡ (accessor_of kind).held but
   held_but Branches = refl
   held_but kind = refl
 
@@ -107,13 +107,13 @@ same_since First version rows others same = same tt
 same_since Second First rows others same = refl
 same_since Second Second rows others same = same refl
 
-pub none_held : (kind : Kind) (months : Months) → (shelf_of kind).held (empty_over months) ≡ empty
+pub none_held : (kind : Kind) (months : Months) → (accessor_of kind).held (empty_over months) ≡ empty
 none_held Branches months = refl
 none_held kind months = refl
 
 -- records put in beside those of another kind leave these
 pub held_beside : (j k : Kind) (s : State) (m : FinMap (order_of k) (record_of k)) → nat_eq (shape_of j).tree (shape_of k).tree ≡ false
-    → (shelf_of j).held ((shelf_of k).with s m) ≡ (shelf_of j).held s
+    → (accessor_of j).held ((accessor_of k).with s m) ≡ (accessor_of j).held s
 held_beside Branches Branches s m h = cc
 held_beside kind Branches s m h = refl
 held_beside j k s m h = cc
@@ -125,6 +125,6 @@ pub record AreBeside (old new : State) : Type 0 where
   pub version : new.books.version ≡ old.books.version
   pub open_run : new.open_run ≡ old.open_run
 
-pub months_beside : (k : Kind) (s : State) (m : FinMap (order_of k) (record_of k)) → AreBeside s ((shelf_of k).with s m)
+pub months_beside : (k : Kind) (s : State) (m : FinMap (order_of k) (record_of k)) → AreBeside s ((accessor_of k).with s m)
 months_beside Branches s m = record { first = refl; next = refl; version = refl; open_run = refl }
 months_beside kind s m = record { first = refl; next = refl; version = refl; open_run = refl }

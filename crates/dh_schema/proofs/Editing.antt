@@ -12,7 +12,7 @@ use Rattle.dh_model.specs.Machine.{changed}
 use Rattle.dh_laws.specs.Looks.{FitsIn}
 use Rattle.dh_sql.specs.Shape.{AreApart, IsKept, rows_in}
 use Rattle.dh_tables.specs.Calls.{Adds, Amends, CommitsNothing, IsNew, IsThere as IsInTable, IsUndone, IsWritingSince, StaysInTransaction}
-use Rattle.dh_tables.specs.Kinds.{IsKind, Stored, shape_of, shelf_of}
+use Rattle.dh_tables.specs.Kinds.{IsKind, Stored, accessor_of, shape_of}
 use Rattle.dh_schema.specs.Store.{IsWriting, tables}
 use Rattle.dh_schema.specs.Tables.{books_in, loaded_from, records_in, version_of_tables}
 use Rattle.dh_schema.proofs.EachKind.{all_since}
@@ -34,7 +34,7 @@ key_is Branches it = refl
 key_is kind it = refl
 
 books_with : (kind : Kind) (s : machine.State) (rows : FinMap (order_of kind) (record_of kind))
-    → ((shelf_of kind).with s rows).books ≡ with_records kind rows s.books
+    → ((accessor_of kind).with s rows).books ≡ with_records kind rows s.books
 books_with Branches s rows = refl
 books_with kind s rows = refl
 
@@ -51,7 +51,7 @@ module _ (kind : Kind) (trees : Trees) (since : HasKind (version_of_tables trees
   found_there key it found = ap (λ (rows : FinMap (order_of kind) (record_of kind)). get rows key) rows_are ∙ found
 
   put_is : (own key : key_of kind) → own ≡ key → (it : record_of kind)
-      → ((shelf_of kind).with (loaded_from trees) (insert (rows_in (shape_of kind) trees) own it)).books
+      → ((accessor_of kind).with (loaded_from trees) (insert (rows_in (shape_of kind) trees) own it)).books
       ≡ with_records kind (insert (records_of kind (books_in trees)) key it) (books_in trees)
   put_is own key same it =
       books_with kind (loaded_from trees) (insert (rows_in (shape_of kind) trees) own it)

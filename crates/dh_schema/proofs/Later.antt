@@ -9,7 +9,7 @@ use Rattle.dh_model.specs.Books.{State}
 use Rattle.dh_model.specs.Whole.{rows_where}
 use Rattle.dh_model.proofs.MapRows.{kept_if}
 use Rattle.dh_laws.proofs.MapMerges.{get-rows_where}
-use Rattle.dh_tables.specs.Tables.{Shelf}
+use Rattle.dh_tables.specs.Tables.{Accessor}
 use Rattle.dh_schema.specs.Store.{tables}
 use Rattle.dh_schema.specs.Looked.{Brings}
 
@@ -20,17 +20,18 @@ module _ {K X : Type 0} {R : K → K → Ordering} (o : IsTotalOrder R) (anti : 
       get-rows_where o anti test m q ∙ ap (kept_if test) (ap (λ (n : FinMap R X). get n q) is ∙ get-empty R q) ∙ sym (get-empty R q))
 
   -- tables that have none bring none
-  pub none_brought : (shelf : Shelf K X R) (asks : X → Bool) (now : sqlite.State) (books : State) → (HasCleanDisk now → shelf.held (tables now) ≡ empty)
-      → Brings shelf asks (Ok tt) now books now books
-  none_brought shelf asks now books none = record {
+  pub none_brought : (accessor : Accessor K X R) (asks : X → Bool) (now : sqlite.State) (books : State)
+      → (HasCleanDisk now → accessor.held (tables now) ≡ empty)
+      → Brings accessor asks (Ok tt) now books now books
+  none_brought accessor asks now books none = record {
     first = λ t b both had clean.
         let same = both clean in
-        let kept = none_kept asks (shelf.held t) (ap shelf.held (sym same.0) ∙ none clean) in
-        (same.0, same.1 ∙ sym (shelf.with_held b) ∙ ap (shelf.with b) (had ∙ sym kept));
+        let kept = none_kept asks (accessor.held t) (ap accessor.held (sym same.0) ∙ none clean) in
+        (same.0, same.1 ∙ sym (accessor.with_held b) ∙ ap (accessor.with b) (had ∙ sym kept));
     more = λ t b test both had clean.
         let same = both clean in
-        let is_none = ap shelf.held (sym same.0) ∙ none clean in
-        let kept = none_kept test (shelf.held t) is_none in
-        let more = none_kept (λ x. test x || asks x) (shelf.held t) is_none in
-        (same.0, same.1 ∙ sym (shelf.with_held b) ∙ ap (shelf.with b) (had ∙ kept ∙ sym more));
+        let is_none = ap accessor.held (sym same.0) ∙ none clean in
+        let kept = none_kept test (accessor.held t) is_none in
+        let more = none_kept (λ x. test x || asks x) (accessor.held t) is_none in
+        (same.0, same.1 ∙ sym (accessor.with_held b) ∙ ap (accessor.with b) (had ∙ kept ∙ sym more));
   }

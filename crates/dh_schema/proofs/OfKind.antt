@@ -3,10 +3,10 @@ use Rattle.std.proofs.Common.{◌≡◌, refl}
 use Rattle.sqlite_trees.specs.Tree.{Trees}
 use Rattle.dh_model.specs.Kinds.{IsSince, Kind, Branches}
 use Rattle.dh_sql.specs.Shape.{IsKept, rows_in}
-use Rattle.dh_schema.specs.Kinds.{IsKind, Stored, shelf_of}
+use Rattle.dh_schema.specs.Kinds.{IsKind, Stored, accessor_of}
 use Rattle.dh_schema.specs.Tables.{AreInOrder, records_in, rows_since, state_in, version_of_tables}
 
-held : (kind : Kind) (trees : Trees) → (shelf_of kind).held (state_in trees) ≡ records_in kind trees
+held : (kind : Kind) (trees : Trees) → (accessor_of kind).held (state_in trees) ≡ records_in kind trees
 held Branches trees = refl
 held kind trees = refl
 
@@ -19,8 +19,8 @@ module _ (it : Stored) (is : IsKind it) where
       (λ trees order since. (order.tables is.kind since).kept)
 
   -- the books have its rows
-  pub holds : (trees : Trees) → it.shelf.held (state_in trees) ≡ rows_since it.since (version_of_tables trees) (rows_in it.shape trees)
+  pub holds : (trees : Trees) → it.accessor.held (state_in trees) ≡ rows_since it.since (version_of_tables trees) (rows_in it.shape trees)
   holds =
       is.by_kind
-      (λ s as_row of_row as_key. (trees : Trees) → s.shelf.held (state_in trees) ≡ rows_since s.since (version_of_tables trees) (rows_in s.shape trees))
+      (λ s as_row of_row as_key. (trees : Trees) → s.accessor.held (state_in trees) ≡ rows_since s.since (version_of_tables trees) (rows_in s.shape trees))
       (held is.kind)

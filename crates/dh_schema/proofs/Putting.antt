@@ -17,7 +17,7 @@ use Rattle.dh_tables.specs.MetaTable.{SetsNext}
 use Rattle.dh_tables.specs.RunTable.{run_shape}
 use Rattle.dh_tables.proofs.AmendedRecord.{becomes_there}
 use Rattle.dh_model.specs.Kinds.{HasKind, Kind, key_of, order_of, record_of}
-use Rattle.dh_schema.specs.Kinds.{shape_of, shelf_of}
+use Rattle.dh_schema.specs.Kinds.{accessor_of, shape_of}
 use Rattle.dh_model.specs.Kinds.{Runs}
 use Rattle.dh_schema.specs.Store.{IsWriting, tables}
 use Rattle.dh_schema.specs.Tables.{loaded_from, records_in, version_of_tables}
@@ -53,10 +53,10 @@ module _ (kind : Kind) (records : FinMap (order_of kind) (record_of kind)) (old 
 
   -- the books with these records are what this makes of them
   abbrev pub Means : (Books → Books) → Type 0
-  Means turned = ((shelf_of kind).with (loaded_from old.now.trees) records).books ≡ turned (tables old).books
+  Means turned = ((accessor_of kind).with (loaded_from old.now.trees) records).books ≡ turned (tables old).books
 
   pub put_in : HasKind (version_of_tables old.now.trees) kind → IsWriting old → StaysInTransaction old new → Turns → IsWriting new
-      × ((tables new).books ≡ ((shelf_of kind).with (loaded_from old.now.trees) records).books)
+      × ((tables new).books ≡ ((accessor_of kind).with (loaded_from old.now.trees) records).books)
   put_in has order on done = (
     record {
       is_open = on.is_open;

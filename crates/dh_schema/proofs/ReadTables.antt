@@ -22,7 +22,7 @@ use Rattle.dh_tables.specs.Listing.{IsLoaded}
 use Rattle.dh_tables.specs.MetaTable.{HasMonths, meta_rows}
 use Rattle.dh_schema.specs.declared.load_fault.LoadFault.{LoadFault}
 use Rattle.dh_model.specs.Kinds.{HasKind, IsSince, Kind, came_with, order_of}
-use Rattle.dh_schema.specs.Kinds.{IsKind, Stored, shape_of, shelf_of}
+use Rattle.dh_schema.specs.Kinds.{IsKind, Stored, accessor_of, shape_of}
 use Rattle.dh_model.specs.Kinds.{Branches}
 use Rattle.dh_model.specs.Kinds.{BranchFees, PartFees, Endings}
 use Rattle.dh_schema.specs.Loaded.{AllAreRecords, AreLoaded, HasNone, HasTablesOf, LacksEach, Loads, Reads, first_kinds, kinds_of, with_records}
@@ -160,7 +160,7 @@ loaded_both ks ls trees before between after first rest = record {
 -- what a call on the table of this kind has done
 abbrev ReadsKind : Kind → Result (Unit {0}) LoadFault → State → State → machine.State → machine.State → Type 0
 ReadsKind kind r old new before after =
-    Reads (IsLoaded (shape_of kind) (order_of kind) (shelf_of kind) old.now.trees before after) (¬ AreRecords kind old.now.trees) r old new
+    Reads (IsLoaded (shape_of kind) (order_of kind) (accessor_of kind) old.now.trees before after) (¬ AreRecords kind old.now.trees) r old new
 
 one_table : (kind : Kind) {r : Result (Unit {0}) LoadFault} {old new : State} {before after : machine.State} → ReadsKind kind r old new before after
     → Loads (kind ∷ []) r old new before after
@@ -180,15 +180,15 @@ module _ (it : Stored) (is : IsKind it) where
   pub type_has : (schema : Schema) → HasSince (came_with is.kind) schema → HasSince it.since schema
   type_has schema = is.by_kind (λ s as_row of_row as_key. HasSince (came_with is.kind) schema → HasSince s.since schema) (λ h. h)
 
-  pub type_lacks : (books : machine.State) → (shelf_of is.kind).held books ≡ empty → it.shelf.held books ≡ empty
-  type_lacks books = is.by_kind (λ s as_row of_row as_key. (shelf_of is.kind).held books ≡ empty → s.shelf.held books ≡ empty) (λ h. h)
+  pub type_lacks : (books : machine.State) → (accessor_of is.kind).held books ≡ empty → it.accessor.held books ≡ empty
+  type_lacks books = is.by_kind (λ s as_row of_row as_key. (accessor_of is.kind).held books ≡ empty → s.accessor.held books ≡ empty) (λ h. h)
 
   pub type_loads : {r : Result (Unit {0}) LoadFault} {old new : State} {before after : machine.State}
-      → Reads (IsLoaded it.shape it.order it.shelf old.now.trees before after) (¬ AllByRecursion (IsStored it.shape) (old.now.trees it.shape.tree)) r old new
+      → Reads (IsLoaded it.shape it.order it.accessor old.now.trees before after) (¬ AllByRecursion (IsStored it.shape) (old.now.trees it.shape.tree)) r old new
       → Loads (is.kind ∷ []) r old new before after
   type_loads {r = r} {old = old} {new = new} {before = before} {after = after} =
       is.by_kind
-      (λ s as_row of_row as_key. Reads (IsLoaded s.shape s.order s.shelf old.now.trees before after)
+      (λ s as_row of_row as_key. Reads (IsLoaded s.shape s.order s.accessor old.now.trees before after)
       (¬ AllByRecursion (IsStored s.shape) (old.now.trees s.shape.tree)) r old new → Loads (is.kind ∷ []) r old new before after)
       (one_table is.kind)
 

@@ -21,7 +21,7 @@ IsTurnedAway (Ok it) = ⊥
 IsTurnedAway (Err fault) = IsOfStore fault
 
 -- what the reading of a table comes to, where false says that a row is no record
-abbrev pub told_as : Result Bool Error → Result (Unit {0}) LoadFault
-told_as (Ok true) = Ok tt
-told_as (Ok false) = Err load.Damaged
-told_as (Err error) = Err (load.Fault (fault_of error))
+abbrev pub load_outcome : Result Bool Error → Result (Unit {0}) LoadFault
+load_outcome (Ok true) = Ok tt
+load_outcome (Ok false) = Err load.Damaged
+load_outcome (Err error) = Err (load.Fault (fault_of error))

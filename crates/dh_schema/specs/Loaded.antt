@@ -15,7 +15,7 @@ use Rattle.dh_schema.specs.declared.load_fault.LoadFault.{LoadFault}
 use Rattle.dh_schema.specs.declared.load_fault.LoadFault.TheVariants.{Damaged}
 use Rattle.dh_schema.specs.LoadFaults.{IsLoadFault}
 use Rattle.dh_model.specs.Kinds.{Kind, came_with}
-use Rattle.dh_schema.specs.Kinds.{shape_of, shelf_of}
+use Rattle.dh_schema.specs.Kinds.{accessor_of, shape_of}
 use Rattle.dh_model.specs.Kinds.{Branches, Staff, Owners, Properties, Clients, Registrations, Viewings, Inspections, Leases, Charges, Receipts, Runs}
 use Rattle.dh_model.specs.Kinds.{Parts, BranchFees, PartFees, Endings}
 use Rattle.dh_schema.specs.Tables.{AreRecords, IsTableInOrder}
@@ -38,7 +38,7 @@ kinds_of Second = first_kinds ++ later_kinds
 
 -- the books have no record of these kinds
 abbrev pub HasNone : List Kind → machine.State → Type 0
-HasNone kinds books = AllByRecursion (λ kind. (shelf_of kind).held books ≡ empty) kinds
+HasNone kinds books = AllByRecursion (λ kind. (accessor_of kind).held books ≡ empty) kinds
 
 -- the schema has the tables of these kinds
 abbrev pub HasTablesOf : List Kind → Schema → Type 0
@@ -47,13 +47,13 @@ HasTablesOf kinds schema = AllByRecursion (λ kind. HasSince (came_with kind) sc
 -- the books have no record of each of these kinds when its turn comes to be read
 abbrev pub LacksEach : List Kind → Trees → machine.State → Type 0
 LacksEach [] trees books = Unit {0}
-LacksEach (kind ∷ kinds) trees books = ((shelf_of kind).held books ≡ empty)
-    × LacksEach kinds trees ((shelf_of kind).with books (rows_in (shape_of kind) trees))
+LacksEach (kind ∷ kinds) trees books = ((accessor_of kind).held books ≡ empty)
+    × LacksEach kinds trees ((accessor_of kind).with books (rows_in (shape_of kind) trees))
 
 -- the books with the records that the tables of these kinds have
 abbrev pub with_records : List Kind → Trees → machine.State → machine.State
 with_records [] trees books = books
-with_records (kind ∷ kinds) trees books = with_records kinds trees ((shelf_of kind).with books (rows_in (shape_of kind) trees))
+with_records (kind ∷ kinds) trees books = with_records kinds trees ((accessor_of kind).with books (rows_in (shape_of kind) trees))
 
 -- each row of these kinds is a record
 abbrev pub AllAreRecords : List Kind → Trees → Type 0

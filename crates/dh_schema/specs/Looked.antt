@@ -6,7 +6,7 @@ use Rattle.sqlite.specs.State as sqlite
 use Rattle.dh_types.specs.declared.reply.Fault.{Fault}
 use Rattle.dh_model.specs.Books.{Books, State}
 use Rattle.dh_model.specs.Whole.{rows_where}
-use Rattle.dh_tables.specs.Tables.{Shelf}
+use Rattle.dh_tables.specs.Tables.{Accessor}
 use Rattle.dh_schema.specs.Store.{tables}
 
 -- these are the tables that the store shows, and these the books
@@ -15,12 +15,12 @@ AreBoth t b s books = sqlite.HasCleanDisk s → (tables s ≡ t) × (books ≡ b
 
 -- After a look at rows of one kind the store shows the same tables, and the books have what they had and the rows that were asked for:
 -- books that had none of the kind, and books that had those which a test picks out.
-pub record Brings {K X : Type 0} {R : K → K → Ordering} (shelf : Shelf K X R) (asks : X → Bool) (result : Result (Unit {0}) Fault)
+pub record Brings {K X : Type 0} {R : K → K → Ordering} (accessor : Accessor K X R) (asks : X → Bool) (result : Result (Unit {0}) Fault)
     (old : sqlite.State) (books : State) (new : sqlite.State) (after : State) : Type 0 where
-  pub first : (t b : State) → AreBoth t b old books → shelf.held b ≡ empty
-      → OnOk result (AreBoth t (shelf.with b (rows_where asks (shelf.held t))) new after)
-  pub more : (t b : State) (test : X → Bool) → AreBoth t b old books → shelf.held b ≡ rows_where test (shelf.held t)
-      → OnOk result (AreBoth t (shelf.with b (rows_where (λ x. test x || asks x) (shelf.held t))) new after)
+  pub first : (t b : State) → AreBoth t b old books → accessor.held b ≡ empty
+      → OnOk result (AreBoth t (accessor.with b (rows_where asks (accessor.held t))) new after)
+  pub more : (t b : State) (test : X → Bool) → AreBoth t b old books → accessor.held b ≡ rows_where test (accessor.held t)
+      → OnOk result (AreBoth t (accessor.with b (rows_where (λ x. test x || asks x) (accessor.held t))) new after)
 
 -- with the properties, the leases and the endings of other books
 abbrev pub with_lettings : Books → State → State

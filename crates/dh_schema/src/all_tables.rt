@@ -10,7 +10,7 @@ ghost use Rattle.dh_model.specs.Kinds.{Kind};
 ghost use Rattle.dh_ddl.specs.Versions.{schema_of};
 ghost use Rattle.dh_tables.specs.Calls.{HasTables};
 ghost use Rattle.dh_tables.specs.Listing.{IsLoaded};
-ghost use Rattle.dh_schema.specs.LoadFaults.{told_as};
+ghost use Rattle.dh_schema.specs.LoadFaults.{load_outcome};
 ghost use Rattle.dh_schema.specs.Loaded.{HasNone, HasTablesOf, LacksEach, Loads, Reads, kinds_of};
 
 use crate::load_fault::LoadFault;
@@ -26,7 +26,7 @@ use std::marker::PhantomData;
 
 // What the reading of a table comes to: damage is told as damage, and a fault as what it is.
 fn read_whole(read: Result<bool, Error>) -> Result<(), LoadFault>
-    ensures { result ≡ told_as read }
+    ensures { result ≡ load_outcome read }
 {
     match read {
         Ok(true) => Ok(()),
@@ -42,8 +42,8 @@ fn load_table<R: Listed, S: Alter>(
     books: &mut Books,
 ) -> Result<(), LoadFault>
     requires reading { HasCleanDisk (state S.Store conn.old) → HasTables R.since (state S.Store conn.old) }
-    requires none { HasCleanDisk (state S.Store conn.old) → R.shelf.held books.old ≡ fin.empty }
-    ensures { Reads (IsLoaded R.shape R.order R.shelf (state S.Store conn.old).now.trees books.old books.new)
+    requires none { HasCleanDisk (state S.Store conn.old) → R.accessor.held books.old ≡ fin.empty }
+    ensures { Reads (IsLoaded R.shape R.order R.accessor (state S.Store conn.old).now.trees books.old books.new)
         (¬ AllByRecursion (IsStored R.shape) ((state S.Store conn.old).now.trees R.shape.tree)) result
         (state S.Store conn.old) (state S.Store conn.new) }
 {

@@ -16,7 +16,7 @@ use std::marker::Model;
 
 /// What an error of the store is told as: want of memory as that, and all else as a fault of the store.
 pub fn fault_of(error: Error) -> Fault
-    ensures told { result ≡ fault_of error }
+    ensures value { result ≡ fault_of error }
     ensures first { IsFirstFault result }
 {
     match error {
@@ -50,7 +50,7 @@ impl StoreFault {
     /// The fault of a store that shows what a clean one can't.
     pub fn unclean<S: Alter>(_conn: &Connection<S>) -> StoreFault
         requires { ¬ HasCleanDisk (state S.Store _conn.now) }
-        ensures told { result ≡ Fault.Store }
+        ensures value { result ≡ Fault.Store }
         ensures first { IsFirstFault result }
     {
         StoreFault {
@@ -61,7 +61,7 @@ impl StoreFault {
     /// The fault of a file whose tables are not ours.
     pub(crate) fn foreign<S: Alter>(_conn: &Connection<S>) -> StoreFault
         requires { ¬ HasOurTables (state S.Store _conn.now) }
-        ensures told { result ≡ Fault.Store }
+        ensures value { result ≡ Fault.Store }
         ensures first { IsFirstFault result }
     {
         StoreFault {
@@ -72,7 +72,7 @@ impl StoreFault {
     /// The fault of a file in which there is an object already, or a transaction.
     pub(crate) fn occupied<S: Alter>(_conn: &Connection<S>) -> StoreFault
         requires { IsBlank (state S.Store _conn.now) → (state S.Store _conn.now).in_transaction ≡ true }
-        ensures told { result ≡ Fault.Store }
+        ensures value { result ≡ Fault.Store }
         ensures first { IsFirstFault result }
     {
         StoreFault {
@@ -83,7 +83,7 @@ impl StoreFault {
     /// The fault of a file whose tables are of another version than `meta` gives.
     pub(crate) fn of_other_version(_found: FileVersion) -> StoreFault
         requires { (_found.number ≡ pos (version_number _found.tables)) → ⊥ }
-        ensures told { result ≡ Fault.Store }
+        ensures value { result ≡ Fault.Store }
         ensures first { IsFirstFault result }
     {
         StoreFault {
@@ -93,7 +93,7 @@ impl StoreFault {
 
     /// The fault that the agency answers.
     pub fn fault(self) -> Fault
-        ensures told { result ≡ self }
+        ensures value { result ≡ self }
         ensures first { IsFirstFault result }
     {
         self.fault

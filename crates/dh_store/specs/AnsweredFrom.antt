@@ -47,8 +47,8 @@ Fills rows result old books new after = (t : State) → AreBoth t (start FIRST_M
     → OnOk result (AreBoth t (record { books = rows t.books; open_run = None }) new after)
 
 -- into books that have the properties that a test picks out, and no leases, came the leases on these properties
-abbrev pub TakesLeases : Result (Unit {0}) Fault → sqlite.State → State → sqlite.State → State → Type 0
-TakesLeases result old books new after = (t b : State) (is_its : Option Property → Bool) → AreBoth t b old books → is_its None ≡ false
+abbrev pub GathersLeases : Result (Unit {0}) Fault → sqlite.State → State → sqlite.State → State → Type 0
+GathersLeases result old books new after = (t b : State) (is_its : Option Property → Bool) → AreBoth t b old books → is_its None ≡ false
     → b.books.leases ≡ empty → b.books.properties ≡ rows_where (λ property. is_its (Some property)) t.books.properties
     → OnOk result (AreBoth t (record b {
       books = record b.books { leases = rows_where (λ lease. is_its (get t.books.properties lease.terms.property)) t.books.leases };

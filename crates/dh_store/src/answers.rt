@@ -22,7 +22,7 @@ ghost use Rattle.dh_laws.specs.AskedAbout.{account_of, asked_about, charged_by, 
 ghost use Rattle.dh_schema.specs.Faults.{IsFirstFault};
 ghost use Rattle.dh_schema.specs.Store.{IsReady, Leaves, StaysReady, tables};
 ghost use Rattle.dh_schema.specs.Looked.{AreBoth};
-ghost use Rattle.dh_store.specs.AnsweredFrom.{Fills, HasNoAccounts, TakesLeases, answered_from, charged_in, let_by};
+ghost use Rattle.dh_store.specs.AnsweredFrom.{Fills, GathersLeases, HasNoAccounts, answered_from, charged_in, let_by};
 ghost use Rattle.dh_schema.specs.Months.{IsReadyIn, IsReadyOf};
 ghost use Rattle.dh_schema.specs.Reading.{OnlyReads};
 
@@ -102,7 +102,7 @@ fn gather_leases<S: Alter>(
     books: &mut Books,
 ) -> Result<(), StoreFault>
     requires { HasCleanDisk (state S.Store conn.old) → IsReady (state S.Store conn.old) }
-    ensures taken { HasCleanDisk (state S.Store conn.new)
+    ensures gathered { HasCleanDisk (state S.Store conn.new)
         → OnOk result (books.old.books.leases ≡ fin.empty → books.new ≡ record books.old {
           books = record books.old.books {
             leases = rows_where (λ lease. list_any (is_same_text lease.terms.property) properties.now) (tables (state S.Store conn.old)).books.leases;
@@ -146,7 +146,7 @@ fn gather_accounts<S: Alter>(
     books: &mut Books,
 ) -> Result<(), StoreFault>
     requires { HasCleanDisk (state S.Store conn.old) → IsReady (state S.Store conn.old) }
-    ensures taken { HasCleanDisk (state S.Store conn.new)
+    ensures gathered { HasCleanDisk (state S.Store conn.new)
         → OnOk result (HasNoAccounts books.old.books
         → books.new ≡ record books.old { books = with_accounts (tables (state S.Store conn.old)).books books.old.books leases.now }) }
     ensures reads { OnlyReads (state S.Store conn.old) (state S.Store conn.new) result }
@@ -164,7 +164,7 @@ fn gather_let<S: Alter>(
     books: &mut Books,
 ) -> Result<(), StoreFault>
     requires { HasCleanDisk (state S.Store conn.old) → IsReady (state S.Store conn.old) }
-    ensures gathered { TakesLeases result (state S.Store conn.old) books.old (state S.Store conn.new) books.new }
+    ensures gathered { GathersLeases result (state S.Store conn.old) books.old (state S.Store conn.new) books.new }
     ensures reads { OnlyReads (state S.Store conn.old) (state S.Store conn.new) result }
 {
     let numbers = held_properties(alloc, books)?;
@@ -288,7 +288,7 @@ fn gather_charges<S: Alter>(
     requires there { HasCleanDisk (state S.Store conn.old)
         → All (λ lease. get (tables (state S.Store conn.old)).books.leases lease.terms.number ≡ Some lease) leases.now }
     requires none { HasCleanDisk (state S.Store conn.old) → books.old.books.charges ≡ fin.empty }
-    ensures taken { HasCleanDisk (state S.Store conn.new)
+    ensures gathered { HasCleanDisk (state S.Store conn.new)
         → OnOk result (books.new ≡ record books.old {
           books = record books.old.books {
             charges = rows_where (λ charge. list_any (λ lease. nat_eq charge.lease lease.terms.number) leases.now && nat_eq charge.month month)

@@ -27,7 +27,7 @@ pub(crate) fn look_at_endings_of<S: Alter>(
     books: &mut Books,
 ) -> Result<(), StoreFault>
     requires { HasCleanDisk (state S.Store conn.old) → IsReadyOf version (state S.Store conn.old) }
-    ensures taken { HasCleanDisk (state S.Store conn.new) → OnOk result (books.old.books.endings ≡ fin.empty
+    ensures gathered { HasCleanDisk (state S.Store conn.new) → OnOk result (books.old.books.endings ≡ fin.empty
         → books.new ≡ record books.old {
           books = record books.old.books {
             endings = rows_where (λ ending. list_any (λ lease. nat_eq ending.lease lease.terms.number) leases.now)

@@ -36,7 +36,7 @@ fn edit_of(case: &str) -> (&str, &str, &str) {
 }
 
 // How the tables are read, once they are made and the statements are run.
-fn read<S: Alter>(
+fn outcome_of<S: Alter>(
     alloc: Global,
     conn: &mut Connection<S>,
     texts: &[&str],
@@ -57,7 +57,7 @@ fn read<S: Alter>(
 
 fn answer(alloc: Global, texts: &[&str], rows: &str, case: &str) -> io::Result<String> {
     let mut conn = Connection::open_in_memory(alloc)?;
-    let text = read(alloc, &mut conn, texts, rows, case);
+    let text = outcome_of(alloc, &mut conn, texts, rows, case);
     drop(conn);
     Ok(text?)
 }

@@ -19,7 +19,7 @@ use Rattle.dh_sql.specs.Gathered.{put_rows}
 use Rattle.dh_sql.specs.Shape.{IsStored, Shape}
 use Rattle.dh_sql.proofs.WholeTable.{all_good, all_once, all_put, all_stored, own_rowids, whole_rowids}
 use Rattle.dh_tables.specs.Listing.{AreNumbered, HasRowids, HasUniqueKeys, IsGathered, rowid_alone}
-use Rattle.dh_tables.specs.Tables.{Shelf}
+use Rattle.dh_tables.specs.Tables.{Accessor}
 use Rattle.dh_tables.proofs.Keys.{one_a_row}
 
 count_is : {K X : Type 0} {R : K → K → Ordering} (m : FinMap R X) → length (values m) ≡ len m
@@ -47,27 +47,27 @@ module _ {K X : Type 0} (it : Shape K X) (is_row : Row → Bool) (same : (r : Ro
       damaged (all_weaker (λ row. it.is_row row ≡ true) (λ row. is_row row ≡ true) (λ row good. sym (same row) ∙ good)
       rows (all_good it trees rows perm stored))
 
-  module _ {R : K → K → Ordering} (o : IsTotalOrder R) (anti : IsAntisymmetric R) (shelf : Shelf K X R) (old new : machine.State)
-      (none : shelf.held old ≡ empty)
-      (put : new ≡ shelf.with old (put_rows it rows (shelf.held old))) where
-    all_held : new ≡ shelf.with old (put_rows it rows empty)
-    all_held = put ∙ ap (λ m. shelf.with old (put_rows it rows m)) none
+  module _ {R : K → K → Ordering} (o : IsTotalOrder R) (anti : IsAntisymmetric R) (accessor : Accessor K X R) (old new : machine.State)
+      (none : accessor.held old ≡ empty)
+      (put : new ≡ accessor.with old (put_rows it rows (accessor.held old))) where
+    all_held : new ≡ accessor.with old (put_rows it rows empty)
+    all_held = put ∙ ap (λ m. accessor.with old (put_rows it rows m)) none
 
-    all_in_books : shelf.held new ≡ put_rows it rows empty
-    all_in_books = ap shelf.held all_held ∙ shelf.held_with old (put_rows it rows empty)
+    all_in_books : accessor.held new ≡ put_rows it rows empty
+    all_in_books = ap accessor.held all_held ∙ accessor.held_with old (put_rows it rows empty)
 
     -- where no key is there twice, the books have as many records as there are rows
-    pub as_many_held : HasUniqueKeys it R trees → length (values (shelf.held new)) ≡ length rows
-    as_many_held once = count_is (shelf.held new) ∙ ap len all_in_books ∙ one_a_row o it trees rows perm once
+    pub as_many_held : HasUniqueKeys it R trees → length (values (accessor.held new)) ≡ length rows
+    as_many_held once = count_is (accessor.held new) ∙ ap len all_in_books ∙ one_a_row o it trees rows perm once
 
     -- the books have as many records as there are rows
-    pub gathered : AllByRecursion (λ row. is_row row ≡ true) rows → length (values (shelf.held new)) ≡ length rows
-        → IsGathered it R shelf trees old new
+    pub gathered : AllByRecursion (λ row. is_row row ≡ true) rows → length (values (accessor.held new)) ≡ length rows
+        → IsGathered it R accessor trees old new
     gathered good as_many =
-        let size : len (put_rows it rows (empty {R = R})) ≡ length rows = sym (ap len all_in_books) ∙ sym (count_is (shelf.held new)) ∙ as_many in
+        let size : len (put_rows it rows (empty {R = R})) ≡ length rows = sym (ap len all_in_books) ∙ sym (count_is (accessor.held new)) ∙ as_many in
         let good_here = all_weaker (λ row. is_row row ≡ true) (λ row. it.is_row row ≡ true) (λ row h. same row ∙ h) rows good in
         record {
           values = all_stored it trees rows perm good_here;
           keys = all_once it trees rows perm o anti size;
-          books = all_held ∙ ap (shelf.with old) (all_put it trees rows perm o anti size);
+          books = all_held ∙ ap (accessor.with old) (all_put it trees rows perm o anti size);
         }

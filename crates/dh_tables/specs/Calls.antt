@@ -20,7 +20,7 @@ use Rattle.dh_ddl.specs.Versions.{HasSince, IsOurs}
 use Rattle.dh_sql.specs.Changes.{Becomes}
 use Rattle.dh_sql.specs.Shape.{Shape, rows_in, rows_of}
 use Rattle.dh_tables.specs.Questions.{AsksFor}
-use Rattle.dh_tables.specs.Tables.{Shelf}
+use Rattle.dh_tables.specs.Tables.{Accessor}
 
 -- the tables are ours; of their rows nothing is known
 abbrev pub HasOurTables : State → Type 0
@@ -103,7 +103,7 @@ module _ {K X : Type 0} (it : Shape K X) (R : K → K → Ordering) where
   abbrev pub IsFound : (X → Bool) → State → Option X → Type 0
   IsFound asks s found = (key : K) → AsksFor it asks key → found ≡ get (rows_in it {R = R} s.now.trees) key
 
-  module _ (shelf : Shelf K X R) where
+  module _ (accessor : Accessor K X R) where
     -- the books have what is asked for, and beside it what they had of the table
     abbrev pub HasFetchedMore : (X → Bool) → State → machine.State → machine.State → Type 0
-    HasFetchedMore asks s old new = (test : X → Bool) → shelf.held old ≡ asked_in test s → new ≡ shelf.with old (asked_in (λ x. test x || asks x) s)
+    HasFetchedMore asks s old new = (test : X → Bool) → accessor.held old ≡ asked_in test s → new ≡ accessor.with old (asked_in (λ x. test x || asks x) s)

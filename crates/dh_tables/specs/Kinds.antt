@@ -7,8 +7,8 @@ use Rattle.dh_model.specs.Kinds.{Kind, came_with, key_of, order_of, record_of}
 use Rattle.dh_model.specs.Kinds.{Branches, Staff, Owners, Properties, Clients, Registrations, Viewings, Inspections, Leases, Charges, Receipts, Runs}
 use Rattle.dh_model.specs.Kinds.{Parts, BranchFees, PartFees, Endings}
 use Rattle.dh_sql.specs.Shape.{Shape}
-use Rattle.dh_tables.specs.Tables.{Adding, Shelf}
-pub use Rattle.dh_tables.specs.Shelves.{shelf_of}
+use Rattle.dh_tables.specs.Tables.{Accessor, Adding}
+pub use Rattle.dh_tables.specs.Accessors.{accessor_of}
 use Rattle.dh_tables.specs.BranchTable.{branch_adding, branch_shape}
 use Rattle.dh_tables.specs.StaffTable.{staff_adding, staff_shape}
 use Rattle.dh_tables.specs.OwnerTable.{owner_adding, owner_shape}
@@ -27,37 +27,37 @@ use Rattle.dh_tables.specs.PartFeeTable.{part_fee_adding, part_fee_shape}
 use Rattle.dh_tables.specs.EndingTable.{ending_adding, ending_shape}
 
 -- Its shape, and the text that adds a row at its place.
-pub record Place (K X : Type 0) : Type 0 where
+pub record TableEntry (K X : Type 0) : Type 0 where
   pub shape : Shape K X
   pub adding : Adding X
 
-abbrev pub place_in : (kind : Kind) → Place (key_of kind) (record_of kind)
-place_in Branches = record { shape = branch_shape; adding = branch_adding }
-place_in Staff = record { shape = staff_shape; adding = staff_adding }
-place_in Owners = record { shape = owner_shape; adding = owner_adding }
-place_in Properties = record { shape = property_shape; adding = property_adding }
-place_in Clients = record { shape = client_shape; adding = client_adding }
-place_in Registrations = record { shape = registration_shape; adding = registration_adding }
-place_in Viewings = record { shape = viewing_shape; adding = viewing_adding }
-place_in Inspections = record { shape = inspection_shape; adding = inspection_adding }
-place_in Leases = record { shape = lease_shape; adding = lease_adding }
-place_in Charges = record { shape = charge_shape; adding = charge_adding }
-place_in Receipts = record { shape = receipt_shape; adding = receipt_adding }
-place_in Runs = record { shape = run_shape; adding = run_adding }
-place_in Parts = record { shape = part_shape; adding = part_adding }
-place_in BranchFees = record { shape = branch_fee_shape; adding = branch_fee_adding }
-place_in PartFees = record { shape = part_fee_shape; adding = part_fee_adding }
-place_in Endings = record { shape = ending_shape; adding = ending_adding }
+abbrev pub entry_of_table : (kind : Kind) → TableEntry (key_of kind) (record_of kind)
+entry_of_table Branches = record { shape = branch_shape; adding = branch_adding }
+entry_of_table Staff = record { shape = staff_shape; adding = staff_adding }
+entry_of_table Owners = record { shape = owner_shape; adding = owner_adding }
+entry_of_table Properties = record { shape = property_shape; adding = property_adding }
+entry_of_table Clients = record { shape = client_shape; adding = client_adding }
+entry_of_table Registrations = record { shape = registration_shape; adding = registration_adding }
+entry_of_table Viewings = record { shape = viewing_shape; adding = viewing_adding }
+entry_of_table Inspections = record { shape = inspection_shape; adding = inspection_adding }
+entry_of_table Leases = record { shape = lease_shape; adding = lease_adding }
+entry_of_table Charges = record { shape = charge_shape; adding = charge_adding }
+entry_of_table Receipts = record { shape = receipt_shape; adding = receipt_adding }
+entry_of_table Runs = record { shape = run_shape; adding = run_adding }
+entry_of_table Parts = record { shape = part_shape; adding = part_adding }
+entry_of_table BranchFees = record { shape = branch_fee_shape; adding = branch_fee_adding }
+entry_of_table PartFees = record { shape = part_fee_shape; adding = part_fee_adding }
+entry_of_table Endings = record { shape = ending_shape; adding = ending_adding }
 
 abbrev pub shape_of : (kind : Kind) → Shape (key_of kind) (record_of kind)
-shape_of kind = (place_in kind).shape
+shape_of kind = (entry_of_table kind).shape
 
 -- the place of the table among those of a schema, and the table
 abbrev pub place_of : Kind → ℕ
-place_of kind = (place_in kind).adding.place
+place_of kind = (entry_of_table kind).adding.place
 
 abbrev pub table_of : Kind → Table
-table_of kind = (place_in kind).adding.table
+table_of kind = (entry_of_table kind).adding.table
 
 -- How a kind of record stands in its table and in the books.
 pub record Stored : Type 1 where
@@ -66,7 +66,7 @@ pub record Stored : Type 1 where
   pub order : Key → Key → Ordering
   pub since : Version
   pub shape : Shape Key Row
-  pub shelf : Shelf Key Row order
+  pub accessor : Accessor Key Row order
 
 abbrev pub stored : Kind → Stored
 stored kind = record {
@@ -75,7 +75,7 @@ stored kind = record {
   order = order_of kind;
   since = came_with kind;
   shape = shape_of kind;
-  shelf = shelf_of kind;
+  accessor = accessor_of kind;
 }
 
 -- It is how this kind does: what holds of each kind, and of each record and key of its, holds of it.

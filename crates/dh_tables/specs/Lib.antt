@@ -26,5 +26,5 @@ pub mod RunChanges
 pub mod FeeChanges
 pub mod Listing
 pub mod Kinds
-pub mod Shelves
+pub mod Accessors
 pub mod Commands

@@ -16,7 +16,7 @@ use Rattle.dh_sql.specs.Queries.{shows}
 use Rattle.dh_sql.specs.Shape.{AreApart, IsKept, IsStored, Shape, rows_in, stored_in}
 use Rattle.dh_sql.specs.Texts.{IsSelectText}
 use Rattle.dh_tables.specs.Commands.{Named, select_text}
-use Rattle.dh_tables.specs.Tables.{Shelf}
+use Rattle.dh_tables.specs.Tables.{Accessor}
 
 -- SELECT columns FROM table, and SELECT rowid FROM table
 abbrev pub list_text : Named → List ℕ
@@ -66,15 +66,15 @@ module _ {K X : Type 0} (it : Shape K X) (R : K → K → Ordering) (trees : Tre
     pub rowids : AreNumbered (trees it.tree)
     pub keys : HasUniqueKeys
 
-module _ {K X : Type 0} (it : Shape K X) (R : K → K → Ordering) (shelf : Shelf K X R) (trees : Trees) (old new : machine.State) where
+module _ {K X : Type 0} (it : Shape K X) (R : K → K → Ordering) (accessor : Accessor K X R) (trees : Trees) (old new : machine.State) where
   -- each row is a record, each key is there once, and the books have the records
   pub record IsGathered : Type 0 where
     pub values : AllByRecursion (IsStored it) (trees it.tree)
     pub keys : HasUniqueKeys it R trees
-    pub books : new ≡ shelf.with old (rows_in it trees)
+    pub books : new ≡ accessor.with old (rows_in it trees)
 
   -- the table is in order, and the books have its records
   pub record IsLoaded : Type 0 where
     pub kept : IsKept it R trees
     pub apart : AreApart (trees it.tree)
-    pub books : new ≡ shelf.with old (rows_in it trees)
+    pub books : new ≡ accessor.with old (rows_in it trees)

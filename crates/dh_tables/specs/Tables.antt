@@ -21,7 +21,7 @@ use Rattle.dh_sql.specs.Texts.{IsInsertText}
 use Rattle.dh_tables.specs.Commands.{Named, insert_rows_text, insert_text, put_apart}
 
 -- where the books have the records of one kind, and the books with others
-pub record Shelf (K X : Type 0) (R : K → K → Ordering) : Type 0 where
+pub record Accessor (K X : Type 0) (R : K → K → Ordering) : Type 0 where
   pub held : State → FinMap R X
   pub with : State → FinMap R X → State
   pub held_with : (s : State) (m : FinMap R X) → held (with s m) ≡ m

@@ -28,7 +28,7 @@ pub trait Listed: Tabled {
 
     /// How many records of this kind the books have.
     fn held_count(books: &Books) -> usize
-        ensures { result ≡ length (fin.values (Self.shelf.held books.now)) };
+        ensures { result ≡ length (fin.values (Self.accessor.held books.now)) };
 
     ghost is_listing: { IsListing Self.since Self.shape.tree Self.shape.columns named };
 }
@@ -49,7 +49,9 @@ pub(crate) fn rows_listed<R: Listed, S: Alter>(conn: &mut Connection<S>) -> Resu
 
 /// The rowid of each row of the table, as a row of its own, in some order. It changes nothing. Over a clean disk it answers that
 /// the database is corrupt only where the disk has failed.
-pub(crate) fn rowids_listed<R: Listed, S: Alter>(conn: &mut Connection<S>) -> Result<Vec<Row>, Error>
+pub(crate) fn rowids_listed<R: Listed, S: Alter>(
+    conn: &mut Connection<S>,
+) -> Result<Vec<Row>, Error>
     requires reading { HasCleanDisk (state S.Store conn.old) → HasTables R.since (state S.Store conn.old) }
     ensures rows { HasCleanDisk (state S.Store conn.new)
         → IfOk result (λ rows. IsPermutation (map rowid_alone ((state S.Store conn.old).now.trees R.shape.tree)) rows.items) }

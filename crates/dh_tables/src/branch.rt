@@ -13,7 +13,7 @@ impl Tabled for Branch {
     ghost use Rattle.dh_model.specs.Books.{text_cmp};
     ghost use Rattle.dh_model.specs.Kinds.{Branches};
     ghost use Rattle.dh_tables.specs.Kinds.{itself};
-    ghost use Rattle.dh_tables.specs.Shelves.{shelf_of};
+    ghost use Rattle.dh_tables.specs.Accessors.{accessor_of};
     ghost use Rattle.dh_tables.specs.BranchTable.{branch_adding, branch_is_adding, branch_shape};
 
     ghost shape = { branch_shape };
@@ -28,7 +28,7 @@ impl Tabled for Branch {
 
     ghost adding = { branch_adding };
 
-    ghost shelf = { shelf_of Branches };
+    ghost accessor = { accessor_of Branches };
 
     ghost is_kind = { itself Branches };
 

@@ -13,7 +13,7 @@ impl Tabled for BranchFee {
     ghost use Rattle.dh_model.specs.Books.{text_cmp};
     ghost use Rattle.dh_model.specs.Kinds.{BranchFees};
     ghost use Rattle.dh_tables.specs.Kinds.{itself};
-    ghost use Rattle.dh_tables.specs.Shelves.{shelf_of};
+    ghost use Rattle.dh_tables.specs.Accessors.{accessor_of};
     ghost use Rattle.dh_tables.specs.BranchFeeTable.{branch_fee_adding, branch_fee_is_adding, branch_fee_shape};
 
     ghost shape = { branch_fee_shape };
@@ -28,7 +28,7 @@ impl Tabled for BranchFee {
 
     ghost adding = { branch_fee_adding };
 
-    ghost shelf = { shelf_of BranchFees };
+    ghost accessor = { accessor_of BranchFees };
 
     ghost is_kind = { itself BranchFees };
 

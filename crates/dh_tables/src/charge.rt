@@ -14,7 +14,7 @@ impl Tabled for Charge {
     ghost use Rattle.dh_model.specs.Books.{pair_cmp};
     ghost use Rattle.dh_model.specs.Kinds.{Charges};
     ghost use Rattle.dh_tables.specs.Kinds.{itself};
-    ghost use Rattle.dh_tables.specs.Shelves.{shelf_of};
+    ghost use Rattle.dh_tables.specs.Accessors.{accessor_of};
     ghost use Rattle.dh_tables.specs.ChargeTable.{charge_adding, charge_is_adding, charge_shape};
 
     ghost shape = { charge_shape };
@@ -29,7 +29,7 @@ impl Tabled for Charge {
 
     ghost adding = { charge_adding };
 
-    ghost shelf = { shelf_of Charges };
+    ghost accessor = { accessor_of Charges };
 
     ghost is_kind = { itself Charges };
 

@@ -13,7 +13,7 @@ impl Tabled for Client {
     ghost use Rattle.dh_model.specs.Books.{text_cmp};
     ghost use Rattle.dh_model.specs.Kinds.{Clients};
     ghost use Rattle.dh_tables.specs.Kinds.{itself};
-    ghost use Rattle.dh_tables.specs.Shelves.{shelf_of};
+    ghost use Rattle.dh_tables.specs.Accessors.{accessor_of};
     ghost use Rattle.dh_tables.specs.ClientTable.{client_adding, client_is_adding, client_shape};
 
     ghost shape = { client_shape };
@@ -28,7 +28,7 @@ impl Tabled for Client {
 
     ghost adding = { client_adding };
 
-    ghost shelf = { shelf_of Clients };
+    ghost accessor = { accessor_of Clients };
 
     ghost is_kind = { itself Clients };
 

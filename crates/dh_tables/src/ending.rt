@@ -13,7 +13,7 @@ impl Tabled for Ending {
     ghost use Rattle.std.specs.Ordering.{nat_cmp};
     ghost use Rattle.dh_model.specs.Kinds.{Endings};
     ghost use Rattle.dh_tables.specs.Kinds.{itself};
-    ghost use Rattle.dh_tables.specs.Shelves.{shelf_of};
+    ghost use Rattle.dh_tables.specs.Accessors.{accessor_of};
     ghost use Rattle.dh_tables.specs.EndingTable.{ending_adding, ending_is_adding, ending_shape};
 
     ghost shape = { ending_shape };
@@ -28,7 +28,7 @@ impl Tabled for Ending {
 
     ghost adding = { ending_adding };
 
-    ghost shelf = { shelf_of Endings };
+    ghost accessor = { accessor_of Endings };
 
     ghost is_kind = { itself Endings };
 

@@ -14,7 +14,7 @@ impl Tabled for Inspection {
     ghost use Rattle.dh_model.specs.Books.{pair_cmp, text_cmp};
     ghost use Rattle.dh_model.specs.Kinds.{Inspections};
     ghost use Rattle.dh_tables.specs.Kinds.{itself};
-    ghost use Rattle.dh_tables.specs.Shelves.{shelf_of};
+    ghost use Rattle.dh_tables.specs.Accessors.{accessor_of};
     ghost use Rattle.dh_tables.specs.InspectionTable.{inspection_adding, inspection_is_adding, inspection_shape};
 
     ghost shape = { inspection_shape };
@@ -29,7 +29,7 @@ impl Tabled for Inspection {
 
     ghost adding = { inspection_adding };
 
-    ghost shelf = { shelf_of Inspections };
+    ghost accessor = { accessor_of Inspections };
 
     ghost is_kind = { itself Inspections };
 

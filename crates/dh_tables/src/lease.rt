@@ -13,7 +13,7 @@ impl Tabled for Lease {
     ghost use Rattle.std.specs.Ordering.{nat_cmp};
     ghost use Rattle.dh_model.specs.Kinds.{Leases};
     ghost use Rattle.dh_tables.specs.Kinds.{itself};
-    ghost use Rattle.dh_tables.specs.Shelves.{shelf_of};
+    ghost use Rattle.dh_tables.specs.Accessors.{accessor_of};
     ghost use Rattle.dh_tables.specs.LeaseTable.{lease_adding, lease_is_adding, lease_shape};
 
     ghost shape = { lease_shape };
@@ -28,7 +28,7 @@ impl Tabled for Lease {
 
     ghost adding = { lease_adding };
 
-    ghost shelf = { shelf_of Leases };
+    ghost accessor = { accessor_of Leases };
 
     ghost is_kind = { itself Leases };
 

@@ -13,7 +13,7 @@ impl Tabled for Owner {
     ghost use Rattle.dh_model.specs.Books.{text_cmp};
     ghost use Rattle.dh_model.specs.Kinds.{Owners};
     ghost use Rattle.dh_tables.specs.Kinds.{itself};
-    ghost use Rattle.dh_tables.specs.Shelves.{shelf_of};
+    ghost use Rattle.dh_tables.specs.Accessors.{accessor_of};
     ghost use Rattle.dh_tables.specs.OwnerTable.{owner_adding, owner_is_adding, owner_shape};
 
     ghost shape = { owner_shape };
@@ -28,7 +28,7 @@ impl Tabled for Owner {
 
     ghost adding = { owner_adding };
 
-    ghost shelf = { shelf_of Owners };
+    ghost accessor = { accessor_of Owners };
 
     ghost is_kind = { itself Owners };
 

@@ -14,7 +14,7 @@ impl Tabled for Part {
     ghost use Rattle.dh_model.specs.Books.{pair_cmp, text_cmp};
     ghost use Rattle.dh_model.specs.Kinds.{Parts};
     ghost use Rattle.dh_tables.specs.Kinds.{itself};
-    ghost use Rattle.dh_tables.specs.Shelves.{shelf_of};
+    ghost use Rattle.dh_tables.specs.Accessors.{accessor_of};
     ghost use Rattle.dh_tables.specs.PartTable.{part_adding, part_is_adding, part_shape};
 
     ghost shape = { part_shape };
@@ -29,7 +29,7 @@ impl Tabled for Part {
 
     ghost adding = { part_adding };
 
-    ghost shelf = { shelf_of Parts };
+    ghost accessor = { accessor_of Parts };
 
     ghost is_kind = { itself Parts };
 

@@ -14,7 +14,7 @@ impl Tabled for PartFee {
     ghost use Rattle.dh_model.specs.Books.{pair_cmp, text_cmp};
     ghost use Rattle.dh_model.specs.Kinds.{PartFees};
     ghost use Rattle.dh_tables.specs.Kinds.{itself};
-    ghost use Rattle.dh_tables.specs.Shelves.{shelf_of};
+    ghost use Rattle.dh_tables.specs.Accessors.{accessor_of};
     ghost use Rattle.dh_tables.specs.PartFeeTable.{part_fee_adding, part_fee_is_adding, part_fee_shape};
 
     ghost shape = { part_fee_shape };
@@ -29,7 +29,7 @@ impl Tabled for PartFee {
 
     ghost adding = { part_fee_adding };
 
-    ghost shelf = { shelf_of PartFees };
+    ghost accessor = { accessor_of PartFees };
 
     ghost is_kind = { itself PartFees };
 

@@ -13,7 +13,7 @@ impl Tabled for Property {
     ghost use Rattle.dh_model.specs.Books.{text_cmp};
     ghost use Rattle.dh_model.specs.Kinds.{Properties};
     ghost use Rattle.dh_tables.specs.Kinds.{itself};
-    ghost use Rattle.dh_tables.specs.Shelves.{shelf_of};
+    ghost use Rattle.dh_tables.specs.Accessors.{accessor_of};
     ghost use Rattle.dh_tables.specs.PropertyTable.{property_adding, property_is_adding, property_shape};
 
     ghost shape = { property_shape };
@@ -28,7 +28,7 @@ impl Tabled for Property {
 
     ghost adding = { property_adding };
 
-    ghost shelf = { shelf_of Properties };
+    ghost accessor = { accessor_of Properties };
 
     ghost is_kind = { itself Properties };
 

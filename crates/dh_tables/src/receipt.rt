@@ -13,7 +13,7 @@ impl Tabled for Receipt {
     ghost use Rattle.std.specs.Ordering.{nat_cmp};
     ghost use Rattle.dh_model.specs.Kinds.{Receipts};
     ghost use Rattle.dh_tables.specs.Kinds.{itself};
-    ghost use Rattle.dh_tables.specs.Shelves.{shelf_of};
+    ghost use Rattle.dh_tables.specs.Accessors.{accessor_of};
     ghost use Rattle.dh_tables.specs.ReceiptTable.{receipt_adding, receipt_is_adding, receipt_shape};
 
     ghost shape = { receipt_shape };
@@ -28,7 +28,7 @@ impl Tabled for Receipt {
 
     ghost adding = { receipt_adding };
 
-    ghost shelf = { shelf_of Receipts };
+    ghost accessor = { accessor_of Receipts };
 
     ghost is_kind = { itself Receipts };
 

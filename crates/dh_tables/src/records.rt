@@ -13,7 +13,7 @@ use std::alloc::{AllocError, Global};
 pub fn gather<R: Tabled>(alloc: Global, rows: &[Row], books: &mut Books) -> Result<bool, AllocError>
     ensures good { IfOk result (λ done. done ≡ true → AllByRecursion (λ row. R.is_row row ≡ true) rows.now) }
     ensures damaged { IfOk result (λ done. done ≡ false → ¬ AllByRecursion (λ row. R.is_row row ≡ true) rows.now) }
-    ensures gathered { IfOk result (λ done. done ≡ true → books.new ≡ R.shelf.with books.old (put_rows R.shape rows.now (R.shelf.held books.old))) }
+    ensures gathered { IfOk result (λ done. done ≡ true → books.new ≡ R.accessor.with books.old (put_rows R.shape rows.now (R.accessor.held books.old))) }
 {
     for row in rows {
         let Some(record) = R::from_row(alloc, row)? else {

@@ -13,7 +13,7 @@ impl Tabled for Registration {
     ghost use Rattle.dh_model.specs.Books.{pair_cmp, text_cmp};
     ghost use Rattle.dh_model.specs.Kinds.{Registrations};
     ghost use Rattle.dh_tables.specs.Kinds.{itself};
-    ghost use Rattle.dh_tables.specs.Shelves.{shelf_of};
+    ghost use Rattle.dh_tables.specs.Accessors.{accessor_of};
     ghost use Rattle.dh_tables.specs.RegistrationTable.{registration_adding, registration_is_adding, registration_shape};
 
     ghost shape = { registration_shape };
@@ -28,7 +28,7 @@ impl Tabled for Registration {
 
     ghost adding = { registration_adding };
 
-    ghost shelf = { shelf_of Registrations };
+    ghost accessor = { accessor_of Registrations };
 
     ghost is_kind = { itself Registrations };
 

@@ -13,7 +13,7 @@ impl Tabled for Run {
     ghost use Rattle.std.specs.Ordering.{nat_cmp};
     ghost use Rattle.dh_model.specs.Kinds.{Runs};
     ghost use Rattle.dh_tables.specs.Kinds.{itself};
-    ghost use Rattle.dh_tables.specs.Shelves.{shelf_of};
+    ghost use Rattle.dh_tables.specs.Accessors.{accessor_of};
     ghost use Rattle.dh_tables.specs.RunTable.{run_adding, run_is_adding, run_shape};
 
     ghost shape = { run_shape };
@@ -28,7 +28,7 @@ impl Tabled for Run {
 
     ghost adding = { run_adding };
 
-    ghost shelf = { shelf_of Runs };
+    ghost accessor = { accessor_of Runs };
 
     ghost is_kind = { itself Runs };
 

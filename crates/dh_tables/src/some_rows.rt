@@ -24,7 +24,7 @@ pub fn fetch_more<L: Look, S: Alter>(
     requires kept { HasCleanDisk (state S.Store conn.old) → IsKept L.Record.shape L.Record.order (state S.Store conn.old).now.trees }
     ensures fetched { HasCleanDisk (state S.Store conn.new)
         → IfOk result (λ done. done ≡ true
-        → HasFetchedMore L.Record.shape L.Record.order L.Record.shelf (L.asks question.now) (state S.Store conn.old) books.old books.new) }
+        → HasFetchedMore L.Record.shape L.Record.order L.Record.accessor (L.asks question.now) (state S.Store conn.old) books.old books.new) }
     ensures read { HasCleanDisk (state S.Store conn.new) → IfOk result (λ done. done ≡ true) }
     ensures same { HasCleanDisk (state S.Store conn.new) → OnOk result (IsUnchanged (state S.Store conn.old) (state S.Store conn.new)) }
     ensures undone { HasCleanDisk (state S.Store conn.new) → OnErr result (IsUndone (state S.Store conn.old) (state S.Store conn.new)) }

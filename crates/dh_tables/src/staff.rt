@@ -13,7 +13,7 @@ impl Tabled for Staff {
     ghost use Rattle.dh_model.specs.Books.{text_cmp};
     ghost use Rattle.dh_model.specs.Kinds.{Staff};
     ghost use Rattle.dh_tables.specs.Kinds.{itself};
-    ghost use Rattle.dh_tables.specs.Shelves.{shelf_of};
+    ghost use Rattle.dh_tables.specs.Accessors.{accessor_of};
     ghost use Rattle.dh_tables.specs.StaffTable.{staff_adding, staff_is_adding, staff_shape};
 
     ghost shape = { staff_shape };
@@ -28,7 +28,7 @@ impl Tabled for Staff {
 
     ghost adding = { staff_adding };
 
-    ghost shelf = { shelf_of Staff };
+    ghost accessor = { accessor_of Staff };
 
     ghost is_kind = { itself Staff };
 

@@ -9,7 +9,7 @@ ghost use Rattle.dh_types.specs.declared.version.Version.{Version};
 ghost use Rattle.dh_sql.specs.Shape.{Shape, IsKept, rows_in};
 ghost use Rattle.dh_sql.specs.Changes.{Becomes};
 ghost use Rattle.dh_tables.specs.Kinds.{IsKind};
-ghost use Rattle.dh_tables.specs.Tables.{Adding, HasShape, IsAdding, Shelf};
+ghost use Rattle.dh_tables.specs.Tables.{Accessor, Adding, HasShape, IsAdding};
 ghost use Rattle.dh_tables.specs.Calls.{Adds, CommitsNothing, StaysInTransaction, IsNew, IsUndone, IsInTransaction, IsWritingSince};
 
 use dh_books::Books;
@@ -36,10 +36,10 @@ pub trait Tabled: Record {
     ghost adding: { Adding Self };
 
     /// Where the books have records of this kind.
-    ghost shelf: { Shelf Self.Key Self order };
+    ghost accessor: { Accessor Self.Key Self order };
 
     /// The kind of record that it is.
-    ghost is_kind: { IsKind (record { Key = Self.Key; Row = Self; order = order; since = since; shape = shape; shelf = shelf }) };
+    ghost is_kind: { IsKind (record { Key = Self.Key; Row = Self; order = order; since = since; shape = shape; accessor = accessor }) };
 
     /// The text that adds a row.
     fn insert_text() -> &'static str
@@ -47,7 +47,7 @@ pub trait Tabled: Record {
 
     /// Puts the record under its key.
     fn put(self, books: &mut Books) -> Result<(), AllocError>
-        ensures { OnOk result (books.new ≡ shelf.with books.old (fin.insert (shelf.held books.old) (shape.key self) self)) };
+        ensures { OnOk result (books.new ≡ accessor.with books.old (fin.insert (accessor.held books.old) (shape.key self) self)) };
 
     ghost has_shape: { HasShape shape Self.Record.is_row Self.Record.decode Self.Record.key_of };
 

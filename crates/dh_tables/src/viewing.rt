@@ -13,7 +13,7 @@ impl Tabled for Viewing {
     ghost use Rattle.dh_model.specs.Books.{pair_cmp, text_cmp};
     ghost use Rattle.dh_model.specs.Kinds.{Viewings};
     ghost use Rattle.dh_tables.specs.Kinds.{itself};
-    ghost use Rattle.dh_tables.specs.Shelves.{shelf_of};
+    ghost use Rattle.dh_tables.specs.Accessors.{accessor_of};
     ghost use Rattle.dh_tables.specs.ViewingTable.{viewing_adding, viewing_is_adding, viewing_shape};
 
     ghost shape = { viewing_shape };
@@ -28,7 +28,7 @@ impl Tabled for Viewing {
 
     ghost adding = { viewing_adding };
 
-    ghost shelf = { shelf_of Viewings };
+    ghost accessor = { accessor_of Viewings };
 
     ghost is_kind = { itself Viewings };
 

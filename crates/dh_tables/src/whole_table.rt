@@ -41,9 +41,9 @@ pub fn gather_all<R: Listed, S: Alter>(
     books: &mut Books,
 ) -> Result<bool, Error>
     requires reading { HasCleanDisk (state S.Store conn.old) → HasTables R.since (state S.Store conn.old) }
-    requires none { HasCleanDisk (state S.Store conn.old) → R.shelf.held books.old ≡ fin.empty }
+    requires none { HasCleanDisk (state S.Store conn.old) → R.accessor.held books.old ≡ fin.empty }
     ensures gathered { HasCleanDisk (state S.Store conn.new)
-        → IfOk result (λ done. done ≡ true → IsGathered R.shape R.order R.shelf (state S.Store conn.old).now.trees books.old books.new) }
+        → IfOk result (λ done. done ≡ true → IsGathered R.shape R.order R.accessor (state S.Store conn.old).now.trees books.old books.new) }
     ensures damaged { HasCleanDisk (state S.Store conn.new)
         → IfOk result (λ done. done ≡ false → ¬ AllByRecursion (IsStored R.shape) ((state S.Store conn.old).now.trees R.shape.tree)) }
     ensures same { HasCleanDisk (state S.Store conn.new) → OnOk result (IsUnchanged (state S.Store conn.old) (state S.Store conn.new)) }
@@ -71,9 +71,9 @@ pub fn load_all<R: Listed, S: Alter>(
     books: &mut Books,
 ) -> Result<bool, Error>
     requires reading { HasCleanDisk (state S.Store conn.old) → HasTables R.since (state S.Store conn.old) }
-    requires none { HasCleanDisk (state S.Store conn.old) → R.shelf.held books.old ≡ fin.empty }
+    requires none { HasCleanDisk (state S.Store conn.old) → R.accessor.held books.old ≡ fin.empty }
     ensures loaded { HasCleanDisk (state S.Store conn.new)
-        → IfOk result (λ done. done ≡ true → IsLoaded R.shape R.order R.shelf (state S.Store conn.old).now.trees books.old books.new) }
+        → IfOk result (λ done. done ≡ true → IsLoaded R.shape R.order R.accessor (state S.Store conn.old).now.trees books.old books.new) }
     ensures damaged { HasCleanDisk (state S.Store conn.new)
         → IfOk result (λ done. done ≡ false → ¬ AllByRecursion (IsStored R.shape) ((state S.Store conn.old).now.trees R.shape.tree)) }
     ensures same { HasCleanDisk (state S.Store conn.new) → OnOk result (IsUnchanged (state S.Store conn.old) (state S.Store conn.new)) }

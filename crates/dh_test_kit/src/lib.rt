@@ -30,6 +30,6 @@ pub use lists::{add_part, all_lines, lines_of, or_none};
 pub use requests::{command, command_if_any, request, request_if_any};
 pub use row_lines::ToLine;
 pub use rows::{Row, row_of};
-pub use scripts::{Block, Manner, kinds, script};
+pub use scripts::{Block, Manner, blocks_in, script};
 pub use tally::Tally;
 pub use unreadable::{Answer, Unreadable};

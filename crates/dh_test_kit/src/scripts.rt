@@ -34,7 +34,7 @@ pub struct Block {
 }
 
 /// The blocks of a text, between which stand empty lines: the first line of each, which has its kind, and the others.
-pub fn kinds(alloc: Global, text: &str) -> Result<Vec<(&str, &str)>, AllocError> {
+pub fn blocks_in(alloc: Global, text: &str) -> Result<Vec<(&str, &str)>, AllocError> {
     let mut blocks = Vec::new(alloc);
     for block in text.split("\n\n") {
         blocks.push(block.split_once('\n').unwrap_or((block, "")))?;

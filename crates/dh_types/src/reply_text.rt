@@ -8,7 +8,7 @@ ghost use Rattle.dh_types.specs.Replies.{fault_text, progress_text, refusal_text
 
 use crate::output::Output;
 use crate::reply::Progress;
-use crate::text_writer::{put, put_parts};
+use crate::text_writer::{put, put_pieces};
 use crate::words::{Value, words_of_fault, words_of_refusal, words_of_reply};
 use crate::{Fault, Month, Pence, Refusal, Reply, RunSum};
 use std::io::Write;
@@ -39,7 +39,7 @@ pub fn put_month<W: Write>(writer: &mut W, lead: &[u8], month: Month) -> Result<
 {
     let mut digits = itoa::Buffer::new();
     let year = digits.format(month.number() / 12).as_bytes();
-    put_parts(writer, &[lead, year, &month_behind(month)])
+    put_pieces(writer, &[lead, year, &month_behind(month)])
 }
 
 // Writes the lead and then the money.
@@ -48,7 +48,7 @@ fn put_money<W: Write>(writer: &mut W, lead: &[u8], money: Pence) -> Result<(), 
 {
     let mut digits = itoa::Buffer::new();
     let pounds = digits.format(money.pence() / 100).as_bytes();
-    put_parts(writer, &[lead, pounds, &pence_behind(money)])
+    put_pieces(writer, &[lead, pounds, &pence_behind(money)])
 }
 
 // Writes the lead and then how far the run is.
@@ -62,7 +62,7 @@ fn put_progress<W: Write>(writer: &mut W, lead: &[u8], run: Progress) -> Result<
     let done = dones.format(run.done).as_bytes();
     let mut ofs = itoa::Buffer::new();
     let of = ofs.format(run.of).as_bytes();
-    put_parts(
+    put_pieces(
         writer,
         &[lead, year, &month_behind(month), b" ", done, b" of ", of],
     )
@@ -79,7 +79,7 @@ fn put_sum<W: Write>(writer: &mut W, lead: &[u8], sum: RunSum) -> Result<(), Out
     let count = counts.format(sum.count).as_bytes();
     let mut all_pounds = itoa::Buffer::new();
     let pounds = all_pounds.format(sum.total.pence() / 100).as_bytes();
-    put_parts(
+    put_pieces(
         writer,
         &[
             lead,
@@ -101,8 +101,8 @@ fn put_value<W: Write>(writer: &mut W, lead: &[u8], value: Value) -> Result<(), 
     let mut digits = itoa::Buffer::new();
     match value {
         Value::Nothing => put(writer, lead),
-        Value::Number(number) => put_parts(writer, &[lead, digits.format(number).as_bytes()]),
-        Value::Signed(number) => put_parts(writer, &[lead, digits.format(number).as_bytes()]),
+        Value::Number(number) => put_pieces(writer, &[lead, digits.format(number).as_bytes()]),
+        Value::Signed(number) => put_pieces(writer, &[lead, digits.format(number).as_bytes()]),
         Value::Month(month) => put_month(writer, lead, month),
         Value::Money(money) => put_money(writer, lead, money),
         Value::Progress(run) => put_progress(writer, lead, run),

@@ -23,7 +23,7 @@ pub fn put<W: Write>(writer: &mut W, bytes: &[u8]) -> Result<(), Output>
 }
 
 /// Writes the parts, one after the other; at an `Output` a beginning of them was written, and not all.
-pub fn put_parts<W: Write>(writer: &mut W, parts: &[&[u8]]) -> Result<(), Output>
+pub fn put_pieces<W: Write>(writer: &mut W, parts: &[&[u8]]) -> Result<(), Output>
     ensures { Puts (W.contents writer.old) (W.contents writer.new) result (concat (map (λ p. p.now) parts.now)) }
 {
     for part in parts {

@@ -5,7 +5,7 @@ ghost use Rattle.std.specs.List.{list_all};
 ghost use Rattle.dh_values.specs.Texts.{is_code_byte, is_id};
 
 use crate::BadText;
-use crate::short::Short;
+use crate::short_bytes::Short;
 use std::marker::Model;
 use std::{fmt, str};
 

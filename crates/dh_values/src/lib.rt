@@ -16,7 +16,7 @@ mod pence;
 mod position;
 mod property_type;
 mod receipt_kind;
-mod short;
+mod short_bytes;
 mod text;
 
 pub use balance::Balance;

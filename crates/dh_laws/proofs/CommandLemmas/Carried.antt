@@ -58,8 +58,8 @@ moved_on books most before after (inl same) = inl same
 moved_on books most before None (inr (run, is, by)) = inr (run, is, tt)
 moved_on books most before (Some at) (inr (run, is, by)) = inr (run, is, by.0)
 
-pub part_torn : (most : ℕ) (s t : State) → IsPostedInPart most s t → Happens batch_size RecoveryInterrupted (as_tables s) (as_tables t)
-part_torn most s t h = record { books = h.books; run = moved_on (whole batch_size s.books) most s.open_run t.open_run h.run }
+pub part_is_mid_recovery : (most : ℕ) (s t : State) → IsPostedInPart most s t → Happens batch_size RecoveryInterrupted (as_tables s) (as_tables t)
+part_is_mid_recovery most s t h = record { books = h.books; run = moved_on (whole batch_size s.books) most s.open_run t.open_run h.run }
 
 -- what a `post` answers that closed the run
 abbrev ended : Books → OpenRun → State × Reply

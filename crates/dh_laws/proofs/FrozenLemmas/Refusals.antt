@@ -24,7 +24,7 @@ use Rattle.dh_model.specs.Answers as answers
 use Rattle.dh_model.specs.Books.{Books}
 use Rattle.dh_model.specs.Checks.{Check}
 use Rattle.dh_model.specs.MachineLaws.{is_frozen, is_frozen_on}
-use Rattle.dh_model.specs.Verdicts.{Finding, Free, Frozen, Known, Must, Needed, OnRun, by_run, decided, judged, on_run, ruling, told, verdict_on}
+use Rattle.dh_model.specs.Verdicts.{Finding, Free, Frozen, Known, Must, Needed, OnRun, by_run, decided, first_finding, judged, on_run, ruling, verdict_on}
 use Rattle.dh_model.proofs.MachineLemmas.{frozen_verdict, half_runs_not_shown}
 use Rattle.dh_laws.specs.Asking.{OpenRunsRefuseFrozen, OpenRunsRefusePutOff}
 
@@ -66,7 +66,7 @@ module _ (month : ℕ) where
   checks_unlike ((true, why) ∷ rest) rows is e = checks_unlike rest rows (and_parts (is_other why) _ is).1 e
   checks_unlike ((false, why) ∷ rest) rows is e = refused_unlike why (and_parts (is_other why) _ is).0 e
 
-  told_unlike : (before : List Finding) (otherwise : Verdict) → found_other before ≡ true → Unlike otherwise → Unlike (told before otherwise)
+  told_unlike : (before : List Finding) (otherwise : Verdict) → found_other before ≡ true → Unlike otherwise → Unlike (first_finding before otherwise)
   told_unlike [] otherwise is unlike e = unlike e
   told_unlike (Known true kept ∷ rest) otherwise is unlike e = cc
   told_unlike (Known false kept ∷ rest) otherwise is unlike e = told_unlike rest otherwise is unlike e

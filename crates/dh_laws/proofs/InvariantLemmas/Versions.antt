@@ -45,5 +45,5 @@ module _ (size : ℕ) where
   the_version_stays (Interrupted told) before after (inl undone) = by_whole before.books after.books undone.books
   the_version_stays (Interrupted told) before after (inr done) = by_step before after.books told done.books
   the_version_stays Attached before after is = ap (λ (t : Tables). t.books.version) is
-  the_version_stays RecoveryInterrupted before after torn = by_whole before.books after.books torn.books
+  the_version_stays RecoveryInterrupted before after interrupted = by_whole before.books after.books interrupted.books
   the_version_stays Recovered before after is = ap (λ (t : Tables). t.books.version) is ∙ whole_keeps before.books

@@ -18,8 +18,8 @@ use Rattle.dh_laws.proofs.MonthLemmas.Whole.{whole_is_lawful}
 use Rattle.dh_laws.proofs.BalanceLemmas.Charges.{charges_are_dues}
 use Rattle.dh_laws.proofs.BatchLemmas.Opening.{run_is_opening_made_whole}
 use Rattle.dh_laws.specs.Events.{Event, Answered, Interrupted, Attached, RecoveryInterrupted, Recovered, Follow, Tables, state_of}
-use Rattle.dh_laws.specs.Lives.{AreEntered, MendedBooksAreLawful, MonthsAreChargedOnce}
-use Rattle.dh_laws.proofs.LifeLemmas.Tables.{mended_whole}
+use Rattle.dh_laws.specs.Lives.{AreEntered, MonthsAreChargedOnce, RecoveredBooksAreLawful}
+use Rattle.dh_laws.proofs.LifeLemmas.Tables.{recovered_whole}
 
 module _ (size : ℕ) (pos : 1 ≤ size) where
   -- each row is under its key, the rules hold, and no run is open
@@ -44,10 +44,10 @@ module _ (size : ℕ) (pos : 1 ≤ size) where
   kept start after ((Attached, t) ∷ events) entered law f = kept t after events entered (subst (λ (u : Tables). Law (whole size u.books)) (sym f.1) law) f.2
   kept start after ((RecoveryInterrupted, t) ∷ events) entered law f = kept t after events entered (subst Law (sym f.1.books) law) f.2
   kept start after ((Recovered, t) ∷ events) entered law f =
-      kept t after events entered (subst Law (sym (mended_whole size t (whole size start.books) f.1 f.0)) law) f.2
+      kept t after events entered (subst Law (sym (recovered_whole size t (whole size start.books) f.1 f.0)) law) f.2
 
-pub mended_books_are_lawful : (size : ℕ) → MendedBooksAreLawful size
-mended_books_are_lawful size start after events pos in_order entered f =
+pub recovered_books_are_lawful : (size : ℕ) → RecoveredBooksAreLawful size
+recovered_books_are_lawful size start after events pos in_order entered f =
     kept size pos start after events entered (whole_is_lawful size start.books start.run pos in_order) f
 
 module _ (size : ℕ) (pos : 1 ≤ size) (books : Books) (keyed : AreKeyed books) (lawful : IsLawful books size) (month : ℕ) (charge : Charge) where
@@ -62,5 +62,5 @@ module _ (size : ℕ) (pos : 1 ≤ size) (books : Books) (keyed : AreKeyed books
 
 pub months_are_charged_once : (size : ℕ) → MonthsAreChargedOnce size
 months_are_charged_once size start after events month charge pos in_order entered f =
-    let law = mended_books_are_lawful size start after events pos in_order entered f in
+    let law = recovered_books_are_lawful size start after events pos in_order entered f in
     (λ h. is_of_run size pos after.books law.0 law.1 month charge h.0 h.1, λ h. is_charged size pos after.books law.0 law.1 month charge h.0 h.1)

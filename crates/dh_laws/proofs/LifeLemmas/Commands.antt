@@ -10,7 +10,7 @@ use Rattle.dh_laws.specs.Events.{Event, Answered, Interrupted, Attached, Recover
 use Rattle.dh_laws.specs.Events.{Follow, IsMovedOn, RunIfDone, RunIfUndone, Tables, state_of}
 use Rattle.dh_laws.specs.Kept.{Kept, NoneLeft, AnswerCounts, UndoneIsLeftOut, DoneCounts, AttachingIsPassed, RecoveryMovesOn, RecoveryEnds}
 use Rattle.dh_laws.specs.Lives.{AllLives}
-use Rattle.dh_laws.proofs.LifeLemmas.Tables.{mended_whole}
+use Rattle.dh_laws.proofs.LifeLemmas.Tables.{recovered_whole}
 
 module _ (size : ℕ) (after : Tables) where
   -- some commands lead from the state to these tables, with no run open
@@ -64,7 +64,7 @@ module _ (size : ℕ) (after : Tables) where
   lead start ((RecoveryInterrupted, t) ∷ events) f =
       moved_on (state_of size start) t (to_the_end events) f.1.run (moved t (whole size start.books) (to_the_end events) f.1.books (lead t events f.2))
   lead start ((Recovered, t) ∷ events) f =
-      closed (state_of size start) t (to_the_end events) (mended_whole size t (whole size start.books) f.1 f.0) (ap (λ (u : Tables). u.run) f.1)
+      closed (state_of size start) t (to_the_end events) (recovered_whole size t (whole size start.books) f.1 f.0) (ap (λ (u : Tables). u.run) f.1)
       (lead t events f.2)
 
 pub lives : (size : ℕ) → AllLives size

@@ -37,9 +37,9 @@ later_said : (it : Command) (reply : Reply) (t : Tables) (lives : List (List (Ev
 later_said it reply t [] are = tt
 later_said it reply t (life ∷ lives) are = are
 
-later_torn : (t : Tables) (lives : List (List (Event × Tables))) → AreLives (with_first (RecoveryInterrupted, t) lives) → AreLives lives
-later_torn t [] are = tt
-later_torn t (life ∷ lives) are = are
+later_interrupted : (t : Tables) (lives : List (List (Event × Tables))) → AreLives (with_first (RecoveryInterrupted, t) lives) → AreLives lives
+later_interrupted t [] are = tt
+later_interrupted t (life ∷ lives) are = are
 
 later_cut : (it : Command) (t : Tables) (lives : List (List (Event × Tables))) → AreLives (with_first (Interrupted it, t) lives) → AreLives lives
 later_cut it t [] are = tt
@@ -85,13 +85,13 @@ left_out it told t (life ∷ lives) (part ∷ parts) are is b =
 left_out it told t [] (part ∷ parts) are is b = absurd b
 left_out it told t (life ∷ lives) [] are is b = absurd b
 
-torn_first : (told : List Command) (t : Tables) (lives : List (List (Event × Tables))) (parts : List (List Command)) → told ≡ joined parts
+interrupted_first : (told : List Command) (t : Tables) (lives : List (List (Event × Tables))) (parts : List (List Command)) → told ≡ joined parts
     → AreBeginnings parts lives
     → Falls told (with_first (RecoveryInterrupted, t) lives)
-torn_first told t [] [] is b = record { parts = [] ∷ []; is = is; begin = (([], refl, omega arith), tt) }
-torn_first told t (life ∷ lives) (part ∷ parts) is b = record { parts = part ∷ parts; is = is; begin = b }
-torn_first told t [] (part ∷ parts) is b = absurd b
-torn_first told t (life ∷ lives) [] is b = absurd b
+interrupted_first told t [] [] is b = record { parts = [] ∷ []; is = is; begin = (([], refl, omega arith), tt) }
+interrupted_first told t (life ∷ lives) (part ∷ parts) is b = record { parts = part ∷ parts; is = is; begin = b }
+interrupted_first told t [] (part ∷ parts) is b = absurd b
+interrupted_first told t (life ∷ lives) [] is b = absurd b
 
 -- a life that begins
 next_life : (told : List Command) (lives : List (List (Event × Tables))) → Falls told lives → Falls told ([] ∷ lives)
@@ -112,8 +112,8 @@ module _ (size : ℕ) where
       cut_first it told t (lives_of events) f.parts f.is f.begin
   fall (AttachingIsPassed {events = events} {told = told} k) are = next_life told (lives_of events) (fall k are.1)
   fall (RecoveryMovesOn {after = t} {events = events} {told = told} run k) are =
-      let f = fall k (later_torn t (lives_of events) are) in
-      torn_first told t (lives_of events) f.parts f.is f.begin
+      let f = fall k (later_interrupted t (lives_of events) are) in
+      interrupted_first told t (lives_of events) f.parts f.is f.begin
   fall (RecoveryEnds {events = events} {told = told} k) are = next_life told (lives_of events) (fall k are.1)
 
 pub each_life_keeps_a_beginning : (size : ℕ) → EachLifeKeepsABeginning size

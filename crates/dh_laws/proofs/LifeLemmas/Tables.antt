@@ -16,8 +16,8 @@ module _ (size : ℕ) where
       ap (completed size t.books) closed
 
   -- tables that a recovery made of whole books are these
-  pub mended_whole : (t : Tables) (books : Books) → t ≡ record { books = books; run = None } → IsShown size t → whole size t.books ≡ books
-  mended_whole t books is shown = whole_itself t (ap (λ (u : Tables). u.run) is) shown ∙ ap (λ (u : Tables). u.books) is
+  pub recovered_whole : (t : Tables) (books : Books) → t ≡ record { books = books; run = None } → IsShown size t → whole size t.books ≡ books
+  recovered_whole t books is shown = whole_itself t (ap (λ (u : Tables). u.run) is) shown ∙ ap (λ (u : Tables). u.books) is
 
 pub empty_tables_are_shown : (size : ℕ) → EmptyTablesAreShown size
 empty_tables_are_shown size month =

@@ -36,8 +36,8 @@ module _ (size : ℕ) (P : Books → Type 0) (steps : StepsKeep size P) (wholes 
   cut_keeps it b a entered (inl undone) p = subst P (sym undone.books) p
   cut_keeps it b a entered (inr done) p = subst P (sym done.books) (steps (state_of size b) it entered p)
 
-  mended_keeps : (b a : Tables) → Happens size Recovered b a → Of b → Of a
-  mended_keeps b a is p = subst Of (sym is) (subst P (sym (wholes (whole size b.books) p)) p)
+  recovered_keeps : (b a : Tables) → Happens size Recovered b a → Of b → Of a
+  recovered_keeps b a is p = subst Of (sym is) (subst P (sym (wholes (whole size b.books) p)) p)
 
   -- past the events: the tables that they leave have it, and the rest follows those
   pub through : (events rest : List (Event × Tables)) (t : Tables) → AreEntered events → Follow size t (events ++ rest) → Of t → (last : Tables) × Of last
@@ -47,4 +47,4 @@ module _ (size : ℕ) (P : Books → Type 0) (steps : StepsKeep size P) (wholes 
   through ((Interrupted it, a) ∷ events) rest t e f p = through events rest a e.1 f.2 (cut_keeps it t a e.0 f.1 p)
   through ((Attached, a) ∷ events) rest t e f p = through events rest a e f.2 (subst Of (sym f.1) p)
   through ((RecoveryInterrupted, a) ∷ events) rest t e f p = through events rest a e f.2 (subst P (sym f.1.books) p)
-  through ((Recovered, a) ∷ events) rest t e f p = through events rest a e f.2 (mended_keeps t a f.1 p)
+  through ((Recovered, a) ∷ events) rest t e f p = through events rest a e f.2 (recovered_keeps t a f.1 p)

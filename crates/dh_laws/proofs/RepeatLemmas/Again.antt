@@ -21,7 +21,7 @@ use Rattle.dh_model.proofs.Among.{is_among}
 use Rattle.dh_model.proofs.KeyOrders.{nat_ties, nat_total}
 use Rattle.dh_model.proofs.MapRows.{of_row}
 use Rattle.dh_laws.specs.InOrder.{AreKeyed}
-use Rattle.dh_laws.specs.Repeating.{IsRunOf, IsToldPosted, SentAgainIsToldTheSame, with_no_run}
+use Rattle.dh_laws.specs.Repeating.{IsAlreadyPosted, IsRunOf, SentAgainGetsTheSameReply, with_no_run}
 use Rattle.dh_laws.proofs.ReceiptLemmas.Stays.{IsKept, kept_steps, told}
 use Rattle.dh_laws.proofs.ReceiptLemmas.Steps.{Has}
 use Rattle.dh_laws.proofs.RepeatLemmas.Replies.{openings_repeat, receipts_repeat, runs_repeat}
@@ -85,7 +85,7 @@ module _ (size : ℕ) where
 
     -- over the books that a run made
     run_again : (order : RunOrder) → order.month ≡ books.next → IsKept size (ran size books order.key)
-        → IsToldPosted size (with_no_run (ran size books order.key)) order (sum_of (made size (with_no_run books) order))
+        → IsAlreadyPosted size (with_no_run (ran size books order.key)) order (sum_of (made size (with_no_run books) order))
     run_again order next kept =
         let after = ran size books order.key in
         let row = made size (with_no_run books) order in
@@ -97,18 +97,18 @@ module _ (size : ℕ) where
         )
 
     posted_again : (order : RunOrder) (after : State) (sum : RunSum) → step size (with_no_run books) (command.Run order) ≡ (after, reply.Posted sum)
-        → IsToldPosted size after order sum
+        → IsAlreadyPosted size after order sum
     posted_again order after sum e =
         let was = was_posted size (with_no_run books) order sum (ap answer e) in
         let is : after ≡ with_no_run (ran size books order.key) = sym (ap state e) ∙ was.state in
         let kept : IsKept size (ran size books order.key) = subst (λ (s : State). IsKept size s.books) was.state
         (kept_steps size pos (with_no_run books) (command.Run order) tt (record { keyed = keyed; lawful = lawful })) in
-        subst (λ (s : State). IsToldPosted size s order sum) (sym is)
-        (subst (IsToldPosted size (with_no_run (ran size books order.key)) order) (sym was.sum_is) (run_again order was.month kept))
+        subst (λ (s : State). IsAlreadyPosted size s order sum) (sym is)
+        (subst (IsAlreadyPosted size (with_no_run (ran size books order.key)) order) (sym was.sum_is) (run_again order was.month kept))
 
     opened_again : (order : RunOrder) (opened after : State) (month count : ℕ) (sum : RunSum)
         → step size (with_no_run books) (command.Open order) ≡ (opened, reply.Opened month)
-        → step size opened (command.Post count) ≡ (after, reply.Posted sum) → IsToldPosted size after order sum
+        → step size opened (command.Post count) ≡ (after, reply.Posted sum) → IsAlreadyPosted size after order sum
     opened_again order opened after month count sum e f =
         let was = was_opened size (with_no_run books) order month (ap answer e) in
         let is : opened ≡ record { books = ran size books order.key; open_run = Some (record { month = order.month; done = 0 }) } =
@@ -119,9 +119,9 @@ module _ (size : ℕ) where
         (subst (λ (s : State). step size s (command.Post count) ≡ (after, reply.Posted sum)) is f) in
         let told_sum : sum ≡ sum_of (made size (with_no_run books) order) =
         all.1 ∙ ap (posted_sum order.month) (made_there size (with_no_run books) order was.next) in
-        subst (λ (s : State). IsToldPosted size s order sum) (sym all.0)
-        (subst (IsToldPosted size (with_no_run (ran size books order.key)) order) (sym told_sum) (run_again order was.next kept))
+        subst (λ (s : State). IsAlreadyPosted size s order sum) (sym all.0)
+        (subst (IsAlreadyPosted size (with_no_run (ran size books order.key)) order) (sym told_sum) (run_again order was.next kept))
 
-pub sent_again_is_told_the_same : (size : ℕ) → SentAgainIsToldTheSame size
-sent_again_is_told_the_same size books pos keyed lawful =
+pub sent_again_gets_the_same_reply : (size : ℕ) → SentAgainGetsTheSameReply size
+sent_again_gets_the_same_reply size books pos keyed lawful =
     (receipt_again size pos books keyed lawful, posted_again size pos books keyed lawful, opened_again size pos books keyed lawful)

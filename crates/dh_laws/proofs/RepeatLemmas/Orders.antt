@@ -20,7 +20,7 @@ use Rattle.dh_model.specs.Leases.{dues}
 use Rattle.dh_model.specs.Runs.{closed_run, ran}
 use Rattle.dh_model.specs.Checks.{is_same_text, receipt_of_key, run_of_key, some_is}
 use Rattle.std.specs.Option.{is_some}
-use Rattle.dh_model.specs.Verdicts.{Finding, Known, Must, judged, receipt_ruling, run_ruling, told, verdict_on}
+use Rattle.dh_model.specs.Verdicts.{Finding, Known, Must, first_finding, judged, receipt_ruling, run_ruling, verdict_on}
 use Rattle.dh_model.specs.Machine.{settled, step}
 use Rattle.dh_model.proofs.KeyOrders.{nat_ties, nat_total}
 use Rattle.dh_model.proofs.MapRows.{get_new, of_row}
@@ -38,7 +38,7 @@ module _ (size : ℕ) (s : State) (sent : Command) where
   stays_if false kept why = refl
 
   stays_there : {X : Type 0} (is_so : X → Bool) (found : Option X) (kept : Reply) (why : Refusal) (rest : List Finding) (otherwise : Verdict)
-      → (found ≡ None → ⊥) → Stays (told (Known (some_is is_so found) kept ∷ Must (not (is_some found)) why ∷ rest) otherwise)
+      → (found ≡ None → ⊥) → Stays (first_finding (Known (some_is is_so found) kept ∷ Must (not (is_some found)) why ∷ rest) otherwise)
   stays_there is_so None kept why rest otherwise there = absurd (there refl)
   stays_there is_so (Some row) kept why rest otherwise there = stays_if (is_so row) kept why
 

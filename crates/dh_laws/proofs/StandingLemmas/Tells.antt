@@ -18,7 +18,7 @@ use Rattle.dh_model.proofs.MapRows.{cases_key, get_new, get_other}
 use Rattle.dh_laws.specs.Events.{state_of}
 use Rattle.dh_laws.specs.InOrder.{AreKeyed, IsInOrder}
 use Rattle.dh_laws.specs.Repeating.{is_of_nothing_new}
-use Rattle.dh_laws.specs.Standings.{NothingNewLeavesTheTables, StandingMakesTheTables, StandingTellsTheTables, led_from, still_open, tables_at, with_open}
+use Rattle.dh_laws.specs.Standings.{NothingNewLeavesTheTables, StandingDeterminesTheTables, StandingMakesTheTables, led_from, still_open, tables_at, with_open}
 use Rattle.dh_laws.proofs.BatchLemmas.Charged.{charge_month, charges_fit, fee_month, fees_fit, part_month, parts_fit}
 use Rattle.dh_laws.proofs.BatchLemmas.Fees.{fees_posted}
 use Rattle.dh_laws.proofs.BatchLemmas.MonthRows.{others_stay, stays}
@@ -95,8 +95,8 @@ module _ (size : ℕ) where
   pub standing_makes_the_tables : StandingMakesTheTables size
   standing_makes_the_tables t order = let books = made_again t.books t.run order in λ i. record { books = books i; run = t.run }
 
-  pub standing_tells_the_tables : StandingTellsTheTables size
-  standing_tells_the_tables t other order others same =
+  pub standing_determines_the_tables : StandingDeterminesTheTables size
+  standing_determines_the_tables t other order others same =
       sym (standing_makes_the_tables other others) ∙ ap (tables_at size) same ∙ standing_makes_the_tables t order
 
   pub nothing_new_leaves_the_tables : NothingNewLeavesTheTables size
@@ -104,4 +104,4 @@ module _ (size : ℕ) where
       let from = state_of size before in
       let as_told = ap (λ (made : State × Reply). made.1) told_so in
       let stays = nothing_new_changes_nothing size from told (subst (λ r. is_of_nothing_new r ≡ true) (sym as_told) nothing) in
-      standing_tells_the_tables before after order orders (sym (ap (λ (made : State × Reply). made.0) told_so) ∙ stays)
+      standing_determines_the_tables before after order orders (sym (ap (λ (made : State × Reply). made.0) told_so) ∙ stays)

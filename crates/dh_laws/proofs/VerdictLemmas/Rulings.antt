@@ -7,7 +7,7 @@ use Rattle.dh_model.specs.declared.rows.Change.{Change}
 use Rattle.dh_model.specs.declared.rows.Verdict.{Verdict}
 use Rattle.dh_model.specs.declared.rows.Verdict.TheVariants as verdict
 use Rattle.dh_model.specs.Checks.{Check, first_failing}
-use Rattle.dh_model.specs.Verdicts.{Finding, Free, Frozen, Known, Must, Needed, OnRun, Ruling, by_run, decided, judged, rows_unless, told}
+use Rattle.dh_model.specs.Verdicts.{Finding, Free, Frozen, Known, Must, Needed, OnRun, Ruling, by_run, decided, first_finding, judged, rows_unless}
 
 -- ---- where it comes to rows
 
@@ -25,7 +25,7 @@ RunFits Free run = Unit {0}
 RunFits Frozen run = run ≡ None
 RunFits Needed run = (at : OpenRun) × (run ≡ Some at)
 
-unsaid : (before : List Finding) (otherwise : Verdict) (rows : Change) → told before otherwise ≡ verdict.Change rows → Unsaid before
+unsaid : (before : List Finding) (otherwise : Verdict) (rows : Change) → first_finding before otherwise ≡ verdict.Change rows → Unsaid before
     × (otherwise ≡ verdict.Change rows)
 unsaid [] otherwise rows h = (tt, h)
 unsaid (Known true kept ∷ rest) otherwise rows h = cc
@@ -72,7 +72,7 @@ module _ (P : Verdict → Type 0) (refused : (why : Refusal) → P (verdict.Refu
   AllKept (Known is kept ∷ rest) = P (verdict.Already kept) × AllKept rest
   AllKept (Must holds why ∷ rest) = AllKept rest
 
-  of_findings : (before : List Finding) (otherwise : Verdict) → AllKept before → P otherwise → P (told before otherwise)
+  of_findings : (before : List Finding) (otherwise : Verdict) → AllKept before → P otherwise → P (first_finding before otherwise)
   of_findings [] otherwise kept rest = rest
   of_findings (Known true reply ∷ more) otherwise kept rest = kept.0
   of_findings (Known false reply ∷ more) otherwise kept rest = of_findings more otherwise kept.1 rest

@@ -27,9 +27,9 @@ pub fn look_at_later<R: Listed, S: Alter>(
 ) -> Result<(), StoreFault>
     requires ready { HasCleanDisk (state S.Store conn.old) → IsReadyOf version (state S.Store conn.old) }
     requires later { R.since ≡ Second }
-    requires none { HasCleanDisk (state S.Store conn.old) → R.shelf.held books.old ≡ fin.empty }
-    ensures taken { HasCleanDisk (state S.Store conn.new)
-        → OnOk result (books.new ≡ R.shelf.with books.old (R.shelf.held (tables (state S.Store conn.old)))) }
+    requires none { HasCleanDisk (state S.Store conn.old) → R.accessor.held books.old ≡ fin.empty }
+    ensures gathered { HasCleanDisk (state S.Store conn.new)
+        → OnOk result (books.new ≡ R.accessor.with books.old (R.accessor.held (tables (state S.Store conn.old)))) }
     ensures reads { OnlyReads (state S.Store conn.old) (state S.Store conn.new) result }
 {
     match version {
@@ -49,7 +49,7 @@ pub fn look_later<L: Look, S: Alter>(
 ) -> Result<(), StoreFault>
     requires ready { HasCleanDisk (state S.Store conn.old) → IsReadyOf version (state S.Store conn.old) }
     requires later { L.Record.since ≡ Second }
-    ensures brought { Brings L.Record.shelf (L.asks question.now) result (state S.Store conn.old) books.old (state S.Store conn.new) books.new }
+    ensures brought { Brings L.Record.accessor (L.asks question.now) result (state S.Store conn.old) books.old (state S.Store conn.new) books.new }
     ensures reads { OnlyReads (state S.Store conn.old) (state S.Store conn.new) result }
 {
     match version {
@@ -69,7 +69,7 @@ pub fn look_at_lettings<S: Alter>(
     requires properties { HasCleanDisk (state S.Store conn.old) → books.old.books.properties ≡ fin.empty }
     requires leases { HasCleanDisk (state S.Store conn.old) → books.old.books.leases ≡ fin.empty }
     requires endings { HasCleanDisk (state S.Store conn.old) → books.old.books.endings ≡ fin.empty }
-    ensures taken { HasCleanDisk (state S.Store conn.new) → OnOk result (books.new ≡ with_lettings (tables (state S.Store conn.old)).books books.old) }
+    ensures gathered { HasCleanDisk (state S.Store conn.new) → OnOk result (books.new ≡ with_lettings (tables (state S.Store conn.old)).books books.old) }
     ensures reads { OnlyReads (state S.Store conn.old) (state S.Store conn.new) result }
 {
     look_at_all::<Property, S>(alloc, conn, books)?;

@@ -28,9 +28,9 @@ pub fn look<L: Look, S: Alter>(
 ) -> Result<(), StoreFault>
     requires ready { HasCleanDisk (state S.Store conn.old) → IsReady (state S.Store conn.old) }
     requires since { HasCleanDisk (state S.Store conn.old) → IsSince L.Record.since (version_of_tables (state S.Store conn.old).now.trees) }
-    ensures brought { Brings L.Record.shelf (L.asks question.now) result (state S.Store conn.old) books.old (state S.Store conn.new) books.new }
+    ensures brought { Brings L.Record.accessor (L.asks question.now) result (state S.Store conn.old) books.old (state S.Store conn.new) books.new }
     ensures put { HasCleanDisk (state S.Store conn.new)
-        → OnOk result (HasFetchedMore L.Record.shape L.Record.order L.Record.shelf (L.asks question.now) (state S.Store conn.old) books.old books.new) }
+        → OnOk result (HasFetchedMore L.Record.shape L.Record.order L.Record.accessor (L.asks question.now) (state S.Store conn.old) books.old books.new) }
     ensures reads { OnlyReads (state S.Store conn.old) (state S.Store conn.new) result }
 {
     match fetch_more(alloc, conn, question, books) {
@@ -48,9 +48,9 @@ pub fn look_at_all<R: Listed, S: Alter>(
 ) -> Result<(), StoreFault>
     requires ready { HasCleanDisk (state S.Store conn.old) → IsReady (state S.Store conn.old) }
     requires since { HasCleanDisk (state S.Store conn.old) → IsSince R.since (version_of_tables (state S.Store conn.old).now.trees) }
-    requires none { HasCleanDisk (state S.Store conn.old) → R.shelf.held books.old ≡ fin.empty }
-    ensures taken { HasCleanDisk (state S.Store conn.new)
-        → OnOk result (books.new ≡ R.shelf.with books.old (rows_in R.shape (state S.Store conn.old).now.trees)) }
+    requires none { HasCleanDisk (state S.Store conn.old) → R.accessor.held books.old ≡ fin.empty }
+    ensures gathered { HasCleanDisk (state S.Store conn.new)
+        → OnOk result (books.new ≡ R.accessor.with books.old (rows_in R.shape (state S.Store conn.old).now.trees)) }
     ensures reads { OnlyReads (state S.Store conn.old) (state S.Store conn.new) result }
 {
     match gather_all::<R, S>(alloc, conn, books) {

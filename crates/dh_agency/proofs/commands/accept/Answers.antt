@@ -8,7 +8,7 @@ use Rattle.dh_model.specs.Verdicts.{verdict_on}
 use Rattle.dh_schema.specs.Store.{Leaves, tables}
 use Rattle.dh_laws.proofs.CommandLemmas.Carried.{order_accepted, same_cut}
 use Rattle.dh_laws.proofs.VerdictLemmas.Cases.{other_than, plain_rows}
-use Rattle.dh_runs.specs.Told.{IsInterrupted, IsAnsweredBy}
+use Rattle.dh_runs.specs.Outcomes.{IsInterrupted, IsAnsweredBy}
 use Rattle.dh_runs.proofs.Carried.{on_err}
 use Rattle.dh_agency.proofs.Carried.{open_crash, open_said}
 use Rattle.dh_agency.proofs.commands.accept.Goals as goal

@@ -3,7 +3,7 @@ use Rattle.sqlite.specs.State.{HasCleanDisk}
 use Rattle.sqlite.specs.Held.{state}
 use Rattle.dh_model.specs.Books.{State}
 use Rattle.dh_schema.specs.Store.{IsReadyWith, Leaves, tables}
-use Rattle.dh_runs.specs.Told.{IsInterrupted, IsAnsweredBy}
+use Rattle.dh_runs.specs.Outcomes.{IsInterrupted, IsAnsweredBy}
 use Rattle.dh_laws.proofs.CommandLemmas.Carried.{same_cut}
 use Rattle.dh_agency.proofs.Carried.{on_err, refused, same_crash}
 use Rattle.dh_agency.proofs.commands.carry_out.Goals as goal

@@ -2,7 +2,7 @@ use Rattle.std.proofs.Common.{◌≡◌, ◌∙◌, Ok, ap, refl, subst, sym}
 use Rattle.dh_laws.proofs.CommandLemmas.Carried.{same_cut}
 use Rattle.dh_agency.specs.Agency.{Leaves, machine}
 use Rattle.dh_agency.specs.Requests.{IsCutIn}
-use Rattle.dh_agency.specs.Told.{IsInterrupted}
+use Rattle.dh_agency.specs.Outcomes.{IsInterrupted}
 use Rattle.dh_agency.proofs.Standing.{cut_or_stopped, leaves_what_holds}
 use Rattle.dh_agency.proofs.requests.respond.Goals as goal
 

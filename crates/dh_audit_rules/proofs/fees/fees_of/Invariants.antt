@@ -7,5 +7,5 @@ use Rattle.dh_audit_rules.proofs.fees.fees_of.Given as goal
 abbrev pub invariant-loop-charge : goal.invariant-loop-charge
 invariant-loop-charge l = record {
   done : IsDone l.books.books l._count l.fees l.charge-iterator;
-  place : IfSome l.place (λ place. place.branch ≡ branch_of l.books.books place.lease);
+  latest : IfSome l.latest (λ latest. latest.branch ≡ branch_of l.books.books latest.lease);
 }

@@ -9,7 +9,7 @@ use Rattle.dh_http.proofs.connections.serve_connections.Goals as goal
 
 pub loop-served-init : goal.loop-served-init
 loop-served-init g c = record {
-  served = served_none g.S.Store c.args.agency.now (g.F.Watch.looks c.args.file.now) (g.W.Write.contents c.args.writer.now);
+  served = served_none g.S.Store c.args.agency.now (g.F.Watch.sightings c.args.file.now) (g.W.Write.contents c.args.writer.now);
   live = c.requires;
   was_clean = search rules;
 }
@@ -21,7 +21,7 @@ loop-served-preserved g c =
     record {
       served =
           served_more g.S.Store c.args.agency.now c.loop-served.agency c.serve_next.new.agency
-          (g.F.Watch.looks c.args.file.now) (g.F.Watch.looks c.loop-served.file) (g.F.Watch.looks c.serve_next.new.file)
+          (g.F.Watch.sightings c.args.file.now) (g.F.Watch.sightings c.loop-served.file) (g.F.Watch.sightings c.serve_next.new.file)
           (g.W.Write.contents c.args.writer.now) (g.W.Write.contents c.loop-served.writer) (g.W.Write.contents c.print_outcome.new.writer)
           c.loop-served._served c.in_ok-outcome.outcome c.loop-served.invariant.served c.in_ok-outcome.ensures.on c.in_ok-outcome.ensures.seen
           c.in_ok-print_outcome.ensures goes;
@@ -34,10 +34,10 @@ returns-in_err-outcome-clause-served g c =
     subst (λ r.
     (outcomes : List (Option ℕ)) × ServesOn g.S.Store c.args.agency.now c.serve_next.new.agency outcomes
     × PrintsBehind c.args.count [] outcomes (g.W.Write.contents c.args.writer.now) (g.W.Write.contents c.loop-served.writer) r
-    × IsWatched (g.F.Watch.looks c.args.file.now) (g.F.Watch.looks c.serve_next.new.file) outcomes r)
+    × IsWatched (g.F.Watch.sightings c.args.file.now) (g.F.Watch.sightings c.serve_next.new.file) outcomes r)
     (sym (is_fault c.in_err-outcome.field-0.0 c.from_residual.result c.from_residual.ensures.1))
     (served_to_fault g.S.Store c.args.agency.now c.loop-served.agency c.serve_next.new.agency
-    (g.F.Watch.looks c.args.file.now) (g.F.Watch.looks c.loop-served.file) (g.F.Watch.looks c.serve_next.new.file)
+    (g.F.Watch.sightings c.args.file.now) (g.F.Watch.sightings c.loop-served.file) (g.F.Watch.sightings c.serve_next.new.file)
     (g.W.Write.contents c.args.writer.now) (g.W.Write.contents c.loop-served.writer) c.loop-served._served c.args.count c.in_err-outcome.field-0.0
     c.loop-served.invariant.served c.in_err-outcome.ensures.same c.loop-served-test.true c.in_err-outcome.ensures.missed)
 
@@ -56,10 +56,10 @@ returns-in_err-print_outcome-clause-served g c =
     subst (λ r.
     (outcomes : List (Option ℕ)) × ServesOn g.S.Store c.args.agency.now c.serve_next.new.agency outcomes
     × PrintsBehind c.args.count [] outcomes (g.W.Write.contents c.args.writer.now) (g.W.Write.contents c.print_outcome.new.writer) r
-    × IsWatched (g.F.Watch.looks c.args.file.now) (g.F.Watch.looks c.serve_next.new.file) outcomes r)
+    × IsWatched (g.F.Watch.sightings c.args.file.now) (g.F.Watch.sightings c.serve_next.new.file) outcomes r)
     (sym (is_output c.in_err-print_outcome.field-0.0 c.from_residual-in_err-print_outcome.result c.from_residual-in_err-print_outcome.ensures.1))
     (served_to_break g.S.Store c.args.agency.now c.loop-served.agency c.serve_next.new.agency
-    (g.F.Watch.looks c.args.file.now) (g.F.Watch.looks c.loop-served.file) (g.F.Watch.looks c.serve_next.new.file)
+    (g.F.Watch.sightings c.args.file.now) (g.F.Watch.sightings c.loop-served.file) (g.F.Watch.sightings c.serve_next.new.file)
     (g.W.Write.contents c.args.writer.now) (g.W.Write.contents c.loop-served.writer) (g.W.Write.contents c.print_outcome.new.writer)
     c.loop-served._served c.in_ok-outcome.outcome c.loop-served.invariant.served c.in_ok-outcome.ensures.on c.in_ok-outcome.ensures.seen
     c.in_err-print_outcome.field-0.0 c.args.count c.loop-served-test.true c.in_err-print_outcome.ensures)
@@ -71,7 +71,7 @@ pub returns-then-is_stopped-clause-served : goal.returns-then-is_stopped-clause-
 returns-then-is_stopped-clause-served g c =
     let stopped : c.serve_next.new.agency.is_stopped ≡ true = sym c.is_stopped.ensures ∙ c.if-is_stopped.true in
     served_to_halt g.S.Store c.args.agency.now c.loop-served.agency c.serve_next.new.agency
-    (g.F.Watch.looks c.args.file.now) (g.F.Watch.looks c.loop-served.file) (g.F.Watch.looks c.serve_next.new.file)
+    (g.F.Watch.sightings c.args.file.now) (g.F.Watch.sightings c.loop-served.file) (g.F.Watch.sightings c.serve_next.new.file)
     (g.W.Write.contents c.args.writer.now) (g.W.Write.contents c.loop-served.writer) (g.W.Write.contents c.print_outcome.new.writer)
     c.loop-served._served c.in_ok-outcome.outcome c.loop-served.invariant.served c.in_ok-outcome.ensures.on c.in_ok-outcome.ensures.seen
     c.args.count c.loop-served-test.true c.in_ok-print_outcome.ensures
@@ -84,5 +84,5 @@ returns-clause-served g c =
       was.outcomes,
       was.on,
       (record { count_is = omega (arith, was.count_is); going = was.going }, was.written),
-      watched_none (g.F.Watch.looks c.args.file.now) (g.F.Watch.looks c.loop-served.file) was.outcomes (Ok tt) was.watched,
+      watched_none (g.F.Watch.sightings c.args.file.now) (g.F.Watch.sightings c.loop-served.file) was.outcomes (Ok tt) was.watched,
     )

@@ -14,12 +14,12 @@ returns-in-Err-clause-on g c s before was clean =
     serves_on g.S.Store s before c.args.agency.now c.serve_over.new.agency _ _ _ (Err c.in-Err.field-0) (did.serves clean) (did.crash clean)
     (did.left clean) did.stops did.stopped (was (omega (arith, did.was_clean, clean)))
 
-pub returns-in-Ok-clause-told : goal.returns-in-Ok-clause-told
-returns-in-Ok-clause-told g c =
+pub returns-in-Ok-clause-outcome : goal.returns-in-Ok-clause-outcome
+returns-in-Ok-clause-outcome g c =
     let did = c.in-Ok.ensures in
     record { end = Ok c.in-Ok.status; is = refl; serves = did.serves; closed = did.closed; stops = did.stops }
 
-pub returns-in-Err-clause-told : goal.returns-in-Err-clause-told
-returns-in-Err-clause-told g c =
+pub returns-in-Err-clause-outcome : goal.returns-in-Err-clause-outcome
+returns-in-Err-clause-outcome g c =
     let did = c.in-Err.ensures in
     record { end = Err c.in-Err.field-0; is = refl; serves = did.serves; closed = did.closed; stops = did.stops }

@@ -1,7 +1,7 @@
 use Rattle.std.proofs.Common.{◌≡◌, ◌∙◌, Err, Ok, Result, IsOk, OnErr, ap, refl, sym, true, false}
 use Rattle.std.proofs.lemmas.Bool.{false≢true}
 use Rattle.dh_agency.specs.Requests.{said_in}
-use Rattle.dh_requests.specs.declared.asked.Asked.TheVariants as asked
+use Rattle.dh_requests.specs.declared.judged_request.JudgedRequest.TheVariants as asked
 use Rattle.dh_http.specs.Answers.{Answer, said}
 use Rattle.dh_http.specs.Served.{said_answer}
 use Rattle.dh_http.proofs.AnswerLemmas.{said_goes_on, turned_goes_on}

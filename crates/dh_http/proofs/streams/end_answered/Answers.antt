@@ -11,8 +11,8 @@ returns-then-is_err g c =
 pub returns : goal.returns
 returns g c =
     let first = c.new-rest.ensures in
-    let taken = c.take_in.ensures in
-    whole (g.P.Peer.calls c.args.peer) (g.P.Peer.calls c.end_output.new.self) (g.P.Peer.calls c.take_in.new.self.peer)
+    let taken = c.drain.ensures in
+    whole (g.P.Peer.calls c.args.peer) (g.P.Peer.calls c.end_output.new.self) (g.P.Peer.calls c.drain.new.self.peer)
     (nanos c.args.patience.rest_seconds) c.args.patience.rest_bytes (nanos c.new-rest.result.seconds) c.new-rest.result.begun
     c.end_output.result (sym c.if-is_err.ensures.value) c.end_output.ensures (ap nanos first.seconds) first.begun
-    (taken.0, subst (λ peer. Makes (g.P.Peer.calls peer) (g.P.Peer.calls c.take_in.new.self.peer) taken.0) first.peer taken.1, taken.2)
+    (taken.0, subst (λ peer. Makes (g.P.Peer.calls peer) (g.P.Peer.calls c.drain.new.self.peer) taken.0) first.peer taken.1, taken.2)

@@ -19,7 +19,7 @@ returns-then-is_there-clause-ends g c = record {
 
 pub returns-else-is_there-clause-printed : goal.returns-else-is_there-clause-printed
 returns-else-is_there-clause-printed g c =
-    job_closed _ _ _ c.do_job-done.result.0 c.tell_unclosed.result c.tell_unclosed.ensures.closes c.args.job c.do_job-done.ensures.printed
+    job_closed _ _ _ c.do_job-done.result.0 c.end_unclosed.result c.end_unclosed.ensures.closes c.args.job c.do_job-done.ensures.printed
 
 pub returns-else-is_there-clause-ends : goal.returns-else-is_there-clause-ends
 returns-else-is_there-clause-ends g c = record {
@@ -30,7 +30,7 @@ returns-else-is_there-clause-ends g c = record {
   ends = c.do_job-done.ensures.ends;
   left = c.do_job-done.ensures.crash;
   kept = c.do_job-done.ensures.kept;
-  closes = c.tell_unclosed.ensures.closes;
+  closes = c.end_unclosed.ensures.closes;
   closed_to = c.in-Ok.ensures;
   failed = λ fine. tt;
   whole = λ fine. refl;
@@ -38,7 +38,7 @@ returns-else-is_there-clause-ends g c = record {
 
 pub returns-in-Err-clause-printed : goal.returns-in-Err-clause-printed
 returns-in-Err-clause-printed g c =
-    job_closed _ _ _ c.do_job-done.result.0 c.tell_unclosed-in-Err.result c.tell_unclosed-in-Err.ensures.closes c.args.job c.do_job-done.ensures.printed
+    job_closed _ _ _ c.do_job-done.result.0 c.end_unclosed-in-Err.result c.end_unclosed-in-Err.ensures.closes c.args.job c.do_job-done.ensures.printed
 
 pub returns-in-Err-clause-ends : goal.returns-in-Err-clause-ends
 returns-in-Err-clause-ends g c = record {
@@ -49,8 +49,8 @@ returns-in-Err-clause-ends g c = record {
   ends = c.do_job-done.ensures.ends;
   left = c.do_job-done.ensures.crash;
   kept = c.do_job-done.ensures.kept;
-  closes = c.tell_unclosed-in-Err.ensures.closes;
+  closes = c.end_unclosed-in-Err.ensures.closes;
   closed_to = c.in-Err.ensures;
-  failed = c.tell_unclosed-in-Err.ensures.told;
-  whole = λ fine. absurd (fine c.tell_unclosed-in-Err.ensures.failed);
+  failed = c.end_unclosed-in-Err.ensures.printed;
+  whole = λ fine. absurd (fine c.end_unclosed-in-Err.ensures.failed);
 }

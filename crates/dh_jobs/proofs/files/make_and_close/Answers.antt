@@ -4,7 +4,7 @@ use Rattle.sqlite.specs.State.{HasCleanDisk}
 use Rattle.dh_model.specs.Books.{start}
 use Rattle.dh_schema.specs.Store.{Commits}
 use Rattle.dh_jobs.specs.declared.status.Status.TheVariants.{Done}
-use Rattle.dh_jobs.specs.Printed.{Before, IsMakingEnd, Tells}
+use Rattle.dh_jobs.specs.Printed.{Before, EndsByFault, IsMakingEnd}
 use Rattle.dh_jobs.specs.Texts.{created_line}
 use Rattle.dh_jobs.proofs.StoreLemmas.{prints_as, same_error}
 use Rattle.dh_jobs.proofs.TextLemmas.{fault_told, puts_as}
@@ -12,8 +12,9 @@ use Rattle.dh_jobs.proofs.files.make_and_close.Goals as goal
 
 pub returns-then-is_there-clause-printed : goal.returns-then-is_there-clause-printed
 returns-then-is_there-clause-printed g c =
-    prints_as (IsMakingEnd c.args.first) (created_line c.args.first) Done _ _ c.heard-status.result (refl, refl)
-    (puts_as c.print_created.result (created_line c.args.first) Done c.heard-status.result _ _ c.heard-status.ensures c.print_created.ensures)
+    prints_as (IsMakingEnd c.args.first) (created_line c.args.first) Done _ _ c.status_if_written-status.result (refl, refl)
+    (puts_as c.print_created.result (created_line c.args.first) Done c.status_if_written-status.result _ _ c.status_if_written-status.ensures
+    c.print_created.ensures)
 
 -- a disk that is clean behind a change was clean before it
 still_clean : (old new : conn.State) (first : ℕ) → Commits old new (λ s. s ≡ start first) → HasCleanDisk new → HasCleanDisk old
@@ -30,13 +31,14 @@ returns-then-is_there-clause-ends g c = record {
       inl (
         c.in-Ok.ensures.made,
         refl,
-        puts_as c.print_created.result (created_line c.args.first) Done c.heard-status.result _ _ c.heard-status.ensures c.print_created.ensures,
+        puts_as c.print_created.result (created_line c.args.first) Done c.status_if_written-status.result _ _ c.status_if_written-status.ensures
+            c.print_created.ensures,
       );
 }
 
 pub returns-else-is_there-clause-printed : goal.returns-else-is_there-clause-printed
 returns-else-is_there-clause-printed g c =
-    Before (fault_told _ _ c.leave-fault.result c.tell_fault.result (c.leave-fault.ensures.first tt) c.tell_fault.ensures)
+    Before (fault_told _ _ c.leave-fault.result c.end_by_fault.result (c.leave-fault.ensures.first tt) c.end_by_fault.ensures)
 
 pub returns-else-is_there-clause-ends : goal.returns-else-is_there-clause-ends
 returns-else-is_there-clause-ends g c = record {
@@ -47,7 +49,7 @@ returns-else-is_there-clause-ends g c = record {
   closed_to = c.in-Ok-close.ensures;
   ends =
       inr (
-        fault_told _ _ c.leave-fault.result c.tell_fault.result (c.leave-fault.ensures.first tt) c.tell_fault.ensures,
+        fault_told _ _ c.leave-fault.result c.end_by_fault.result (c.leave-fault.ensures.first tt) c.end_by_fault.ensures,
         inr c.in-Ok.ensures.made,
       );
 }
@@ -55,7 +57,7 @@ returns-else-is_there-clause-ends g c = record {
 pub returns-in-Err-close-clause-printed : goal.returns-in-Err-close-clause-printed
 returns-in-Err-close-clause-printed g c =
     let first = c.leave-fault-in-Err-close.ensures.first c.in-Err-close.ensures.first in
-    Before (fault_told _ _ c.leave-fault-in-Err-close.result c.tell_fault-in-Err-close.result first c.tell_fault-in-Err-close.ensures)
+    Before (fault_told _ _ c.leave-fault-in-Err-close.result c.end_by_fault-in-Err-close.result first c.end_by_fault-in-Err-close.ensures)
 
 pub returns-in-Err-close-clause-ends : goal.returns-in-Err-close-clause-ends
 returns-in-Err-close-clause-ends g c =
@@ -68,7 +70,7 @@ returns-in-Err-close-clause-ends g c =
       closed_to = c.in-Err-close.ensures;
       ends =
           inr (
-            fault_told _ _ c.leave-fault-in-Err-close.result c.tell_fault-in-Err-close.result first c.tell_fault-in-Err-close.ensures,
+            fault_told _ _ c.leave-fault-in-Err-close.result c.end_by_fault-in-Err-close.result first c.end_by_fault-in-Err-close.ensures,
             inr c.in-Ok.ensures.made,
           );
     }
@@ -76,7 +78,7 @@ returns-in-Err-close-clause-ends g c =
 pub returns-in-Err-clause-printed : goal.returns-in-Err-clause-printed
 returns-in-Err-clause-printed g c =
     let first = c.leave-fault-in-Err.ensures.first c.in-Err.ensures.cause in
-    Before (fault_told _ _ c.leave-fault-in-Err.result c.tell_fault-in-Err.result first c.tell_fault-in-Err.ensures)
+    Before (fault_told _ _ c.leave-fault-in-Err.result c.end_by_fault-in-Err.result first c.end_by_fault-in-Err.ensures)
 
 pub returns-in-Err-clause-ends : goal.returns-in-Err-clause-ends
 returns-in-Err-clause-ends g c =
@@ -88,15 +90,16 @@ returns-in-Err-clause-ends g c =
       occupied = λ wrong.
           let is = same_error _ c.in-Err.field-0 _ refl (c.in-Err.ensures.occupied wrong) in (
             subst
-                (λ f. Tells f (g.W.Write.contents c.args.writer.now) (g.W.Write.contents c.tell_fault-in-Err.new.writer) [] c.tell_fault-in-Err.result)
+                (λ f. EndsByFault f (g.W.Write.contents c.args.writer.now) (g.W.Write.contents c.end_by_fault-in-Err.new.writer) []
+                c.end_by_fault-in-Err.result)
                 (c.leave-fault-in-Err.ensures.store (ap (λ e. e.cause) is))
-                c.tell_fault-in-Err.ensures,
+                c.end_by_fault-in-Err.ensures,
             ap (λ e. e.conn) is,
           );
       closed_to = tt;
       ends =
           inr (
-            fault_told _ _ c.leave-fault-in-Err.result c.tell_fault-in-Err.result first c.tell_fault-in-Err.ensures,
+            fault_told _ _ c.leave-fault-in-Err.result c.end_by_fault-in-Err.result first c.end_by_fault-in-Err.ensures,
             inl c.in-Err.ensures.undone,
           );
     }

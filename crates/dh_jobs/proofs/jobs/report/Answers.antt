@@ -3,7 +3,7 @@ use Rattle.std.specs.Io.KnownBytes.{Appends}
 use Rattle.dh_types.specs.Output.{BreaksOff}
 use Rattle.dh_types.specs.Reports.{report_of, is_no_report}
 use Rattle.dh_agency.specs.Agency.{IsClean, shown_by, stand, stand_of}
-use Rattle.dh_jobs.specs.Ends.{Unheard}
+use Rattle.dh_jobs.specs.Ends.{Unprinted}
 use Rattle.dh_jobs.specs.Jobs.{report_shown}
 use Rattle.dh_jobs.specs.Printed.{IsReportEnd}
 use Rattle.dh_jobs.specs.Texts.{report_lines}
@@ -19,7 +19,7 @@ returns-in-Err-outcome-clause-printed g c =
 pub returns-in-Err-outcome-clause-ends : goal.returns-in-Err-outcome-clause-ends
 returns-in-Err-outcome-clause-ends g c clean =
     let said = c.in-Ok.ensures in
-    inl (Unheard (c.in-Err-outcome.output, refl, subst (BreaksOff _ _) (ap report_lines (said.whole clean)) c.in-Err-outcome.ensures)
+    inl (Unprinted (c.in-Err-outcome.output, refl, subst (BreaksOff _ _) (ap report_lines (said.whole clean)) c.in-Err-outcome.ensures)
     (ap stand_of (said.same clean)))
 
 pub returns-in_default-clause-printed : goal.returns-in_default-clause-printed

@@ -12,7 +12,7 @@ returns-in-Ok-all_of g c =
     (ap (map string_bytes) (is ∙ c.in-Ok-all_of.ensures)) c.run_words.ensures)
 
 pub returns-in-Err-all_of : goal.returns-in-Err-all_of
-returns-in-Err-all_of g c = rw c.in-Ok.is (inr (fault_told _ _ fault.Memory c.tell_fault.result tt c.tell_fault.ensures))
+returns-in-Err-all_of g c = rw c.in-Ok.is (inr (fault_told _ _ fault.Memory c.end_by_fault.result tt c.end_by_fault.ensures))
 
 pub returns-in-Err : goal.returns-in-Err
 returns-in-Err g c = rw c.in-Err.is c.refuse_words.ensures

@@ -7,9 +7,10 @@ use Rattle.dh_jobs.proofs.program.refuse.Goals as goal
 pub returns-in-Value : goal.returns-in-Value
 returns-in-Value g c =
     let put =
-    subst (λ text. Puts (g.W.Write.contents c.args.writer.now) (g.W.Write.contents c.put_parts.new.writer) c.put_parts.result (codes "bad " ++ text ++ newline))
-    c.as_bytes.ensures.value c.put_parts.ensures in
-    rw c.in-Value.is (c.put_parts.result, c.refused.ensures, put)
+    subst
+    (λ text. Puts (g.W.Write.contents c.args.writer.now) (g.W.Write.contents c.put_pieces.new.writer) c.put_pieces.result (codes "bad " ++ text ++ newline))
+    c.as_bytes.ensures.value c.put_pieces.ensures in
+    rw c.in-Value.is (c.put_pieces.result, c.refused.ensures, put)
 
 pub returns-in-Question : goal.returns-in-Question
 returns-in-Question g c = rw c.in-Question.is (c.print_refusal.result, c.refused-in-Question.ensures, c.print_refusal.ensures)

@@ -6,25 +6,27 @@ use Rattle.dh_jobs.proofs.store_jobs.do_job.Goals as goal
 
 pub returns-in-Recover-clause-printed : goal.returns-in-Recover-clause-printed
 returns-in-Recover-clause-printed g c =
-    subst (λ job. PrintsJob job (g.W.Write.contents c.args.writer.now) (g.W.Write.contents c.mend.new.writer) c.mend.result.0) (sym c.in-Recover.is)
-    c.mend.ensures.printed
+    subst (λ job. PrintsJob job (g.W.Write.contents c.args.writer.now) (g.W.Write.contents c.recover_file.new.writer) c.recover_file.result.0)
+    (sym c.in-Recover.is)
+    c.recover_file.ensures.printed
 
 pub returns-in-Recover-clause-ends : goal.returns-in-Recover-clause-ends
 returns-in-Recover-clause-ends g c clean =
-    subst (λ job. JobEnds (state g.S.Store c.args.conn) (state g.S.Store c.mend.result.1) (g.W.Write.contents c.args.writer.now)
-    (g.W.Write.contents c.mend.new.writer) (g.R.Read.remaining c.args.reader.now) job c.mend.result.0)
-    (sym c.in-Recover.is) (c.mend.ensures.ends clean)
+    subst (λ job. JobEnds (state g.S.Store c.args.conn) (state g.S.Store c.recover_file.result.1) (g.W.Write.contents c.args.writer.now)
+    (g.W.Write.contents c.recover_file.new.writer) (g.R.Read.remaining c.args.reader.now) job c.recover_file.result.0)
+    (sym c.in-Recover.is) (c.recover_file.ensures.ends clean)
 
 pub returns-in-Migrate-clause-printed : goal.returns-in-Migrate-clause-printed
 returns-in-Migrate-clause-printed g c =
-    subst (λ job. PrintsJob job (g.W.Write.contents c.args.writer.now) (g.W.Write.contents c.renew.new.writer) c.renew.result.0) (sym c.in-Migrate.is)
-    c.renew.ensures.printed
+    subst (λ job. PrintsJob job (g.W.Write.contents c.args.writer.now) (g.W.Write.contents c.migrate_file.new.writer) c.migrate_file.result.0)
+    (sym c.in-Migrate.is)
+    c.migrate_file.ensures.printed
 
 pub returns-in-Migrate-clause-ends : goal.returns-in-Migrate-clause-ends
 returns-in-Migrate-clause-ends g c clean =
-    subst (λ job. JobEnds (state g.S.Store c.args.conn) (state g.S.Store c.renew.result.1) (g.W.Write.contents c.args.writer.now)
-    (g.W.Write.contents c.renew.new.writer) (g.R.Read.remaining c.args.reader.now) job c.renew.result.0)
-    (sym c.in-Migrate.is) (c.renew.ensures.ends clean)
+    subst (λ job. JobEnds (state g.S.Store c.args.conn) (state g.S.Store c.migrate_file.result.1) (g.W.Write.contents c.args.writer.now)
+    (g.W.Write.contents c.migrate_file.new.writer) (g.R.Read.remaining c.args.reader.now) job c.migrate_file.result.0)
+    (sym c.in-Migrate.is) (c.migrate_file.ensures.ends clean)
 
 pub returns-in-Work-clause-printed : goal.returns-in-Work-clause-printed
 returns-in-Work-clause-printed g c =

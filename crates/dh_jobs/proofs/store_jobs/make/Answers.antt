@@ -3,14 +3,14 @@ use Rattle.sqlite.specs.Held.{Held, state}
 use Rattle.sqlite.specs.Store.{Ghosts}
 use Rattle.dh_model.specs.Books.{start}
 use Rattle.dh_schema.specs.Store.{Commits, LeavesItsTables, tables}
-use Rattle.dh_agency.specs.Seat.{Seat}
+use Rattle.dh_agency.specs.AgencyView.{AgencyView}
 use Rattle.dh_agency.specs.Agency.{IsClean, machine, shown_by}
 use Rattle.dh_jobs.specs.OnFile.{IsMade}
 use Rattle.dh_jobs.proofs.StoreLemmas.{back, was_clean}
 use Rattle.dh_jobs.proofs.store_jobs.make.Goals as goal
 
 -- an agency that was made, in the store that it hands back
-module _ {S : Type 0} (g : Ghosts S) (old last : Held S) (after : Seat S) (same : last ≡ after.conn) (first t : ℕ) (is : t ≡ first) where
+module _ {S : Type 0} (g : Ghosts S) (old last : Held S) (after : AgencyView S) (same : last ≡ after.conn) (first t : ℕ) (is : t ≡ first) where
   made : (IsClean g after → machine g after ≡ start t) → (IsClean g after → LeavesItsTables (shown_by g after)) → IsMade first (state g last)
   made stands leaves clean =
       let was = was_clean g after last same clean in

@@ -14,12 +14,13 @@ returns-in-Ok-clause-ends g c clean =
     inl (
       c.in-Ok.ensures.takes.taken first,
       after.is_stopped,
-      work_ends g.S.Store after last c.into_store.ensures _ _ c.work_on-status.result c.args.conn taken (c.in-Ok.ensures.taken.1 first) _ c.args.work
+      work_ends g.S.Store after last c.into_store.ensures _ _ c.work_on-status.result c.args.conn taken (c.in-Ok.ensures.attached.1 first) _ c.args.work
           (c.work_on-status.ensures.ends now),
     )
 
 pub returns-in-Err-clause-printed : goal.returns-in-Err-clause-printed
-returns-in-Err-clause-printed g c = inr (problem_prints c.in-Err.field-0.cause _ _ c.tell_problem.result c.in-Err.ensures.takes.cause c.tell_problem.ensures)
+returns-in-Err-clause-printed g c =
+    inr (problem_prints c.in-Err.field-0.cause _ _ c.end_by_problem.result c.in-Err.ensures.takes.cause c.end_by_problem.ensures)
 
 pub returns-in-Err-clause-crash : goal.returns-in-Err-clause-crash
 returns-in-Err-clause-crash g c = kept_leaves (state g.S.Store c.args.conn) (state g.S.Store c.in-Err.field-0.conn) c.args.work c.in-Err.ensures.crash
@@ -30,11 +31,11 @@ returns-in-Ok-clause-kept g c =
     (λ clean. c.work_on-status.ensures.kept (c.in-Ok.ensures.left (omega (arith, c.work_on-status.ensures.was_clean, clean))) clean)
 
 pub returns-in-Err-clause-kept : goal.returns-in-Err-clause-kept
-returns-in-Err-clause-kept g c clean answered = absurd (unanswered c.in-Err.field-0.cause _ _ c.tell_problem.result c.tell_problem.ensures answered)
+returns-in-Err-clause-kept g c clean answered = absurd (unanswered c.in-Err.field-0.cause _ _ c.end_by_problem.result c.end_by_problem.ensures answered)
 
 pub returns-in-Err-clause-ends : goal.returns-in-Err-clause-ends
 returns-in-Err-clause-ends g c clean =
     inr (
-      record { problem = c.in-Err.field-0.cause; cause = c.in-Err.ensures.takes.refused clean; told = c.tell_problem.ensures },
+      record { problem = c.in-Err.field-0.cause; cause = c.in-Err.ensures.takes.refused clean; told = c.end_by_problem.ensures },
       c.in-Err.ensures.crash,
     )

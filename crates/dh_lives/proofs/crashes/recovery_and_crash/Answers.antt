@@ -9,7 +9,7 @@ returns-in_ok-next_life-in-Ok-clause-answered g c clean =
     let old = c.args.conn in
     let life = c.in_ok-next_life-in-Ok in
     opened_anew g.S.Store old c.into_store.result life.field-0 life.ensures.found life.ensures.lists life.ensures.was_clean clean Recovered tt
-    (subst (λ (h : Held g.row.S.Denot). Tells Recovered (state g.S.Store old) (state g.S.Store h)) (sym c.into_store.ensures) c.in-Ok.ensures.mended.1)
+    (subst (λ (h : Held g.row.S.Denot). Tells Recovered (state g.S.Store old) (state g.S.Store h)) (sym c.into_store.ensures) c.in-Ok.ensures.recovered.1)
 
 pub returns-in_ok-next_life-in-Err-clause-broken : goal.returns-in_ok-next_life-in-Err-clause-broken
 returns-in_ok-next_life-in-Err-clause-broken g c clean =

@@ -2,7 +2,7 @@ use Rattle.std.proofs.Common.{sym, subst}
 use Rattle.sqlite.specs.Held.{Held, state}
 use Rattle.dh_types.specs.declared.reply.Reply.{Reply}
 use Rattle.dh_schema.specs.Store.{AreTables}
-use Rattle.dh_runs.specs.Told.{IsAnsweredBy}
+use Rattle.dh_runs.specs.Outcomes.{IsAnsweredBy}
 use Rattle.dh_agency.specs.Agency.{machine}
 use Rattle.dh_lives.specs.Calls.{StepInterrupted, Stepped, Tells}
 use Rattle.dh_lives.specs.Histories.{IsFoundAfter}

@@ -7,6 +7,6 @@ loop-filled-preserved g c = record {
   room = c.read_more.ensures.length ∙ c.loop-filled.invariant.room;
   within = c.in_ok-total.ensures.within.1;
   read = λ start h. c.in_ok-total.ensures.bytes start (c.loop-filled.invariant.read start h);
-  taken = takes_both _ _ _ _ _ _ c.loop-filled.invariant.taken c.in_ok-total.ensures.taken (omega (arith, c.in_ok-total.ensures.within.0));
+  consumed = takes_both _ _ _ _ _ _ c.loop-filled.invariant.consumed c.in_ok-total.ensures.consumed (omega (arith, c.in_ok-total.ensures.within.0));
   reached = omega (arith, c.in_ok-total.ensures.within.0);
 }

@@ -1,6 +1,6 @@
 use Rattle.std.proofs.Common.{◌-◌, ◌≡◌, ◌≤◌, take, length, List, ℕ, Option}
 use Rattle.std.specs.Io.KnownBytes.{Consumes}
-use Rattle.dh_reading.specs.Known.{TakesAtMost}
+use Rattle.dh_reading.specs.Known.{ConsumesAtMost}
 use Rattle.dh_reading.proofs.buffer.fill.Given as goal
 
 abbrev pub invariant-loop-filled : goal.invariant-loop-filled
@@ -9,7 +9,7 @@ invariant-loop-filled g l = record {
   within : l.filled ≤ length l.buffer;
   read : (start : Option (List ℕ)) → Consumes start (g.R.Read.remaining l.fn.reader) (take l.front l.fn.buffer)
       → Consumes start (g.R.Read.remaining l.reader) (take l.filled l.buffer);
-  taken : TakesAtMost (l.filled - l.front) (g.R.Read.remaining l.fn.reader) (g.R.Read.remaining l.reader);
+  consumed : ConsumesAtMost (l.filled - l.front) (g.R.Read.remaining l.fn.reader) (g.R.Read.remaining l.reader);
   reached : l.front ≤ l.filled;
 }
 

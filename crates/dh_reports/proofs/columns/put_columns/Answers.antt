@@ -11,14 +11,14 @@ pub loop-column-preserved : goal.loop-column-preserved
 loop-column-preserved g c =
     let here : c.loop-column.column-index < length c.args.columns.now = omega arith in
     columns-more _ _ _ _ c.loop-column.parting.now c.args.columns.now c.loop-column.column-index _ here c.loop-column.invariant
-    c.in_ok-put_parts.ensures
+    c.in_ok-put_pieces.ensures
 
-pub returns-in_err-put_parts : goal.returns-in_err-put_parts
-returns-in_err-put_parts g c =
+pub returns-in_err-put_pieces : goal.returns-in_err-put_pieces
+returns-in_err-put_pieces g c =
     let here : c.loop-column.column-index < length c.args.columns.now = omega arith in
     let p = err_from_is_err_and c.from_residual.result c.from_residual.ensures.1 in
     rw p.1 (columns-front _ _ _ _ c.loop-column.parting.now c.args.columns.now c.loop-column.column-index _ here c.loop-column.invariant
-    c.in_err-put_parts.ensures)
+    c.in_err-put_pieces.ensures)
 
 pub returns : goal.returns
 returns g c =

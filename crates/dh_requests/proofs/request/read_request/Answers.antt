@@ -15,15 +15,15 @@ returns-in_ok-judge-in-Found-clause-asks g c =
     may_ask _ _ c.read_head.new.buffer c.read_head.new.headers _ c.in-Found.head _ c.in-Found.is c.in_ok-read.ensures.input
     c.in_ok-judge-in-Found.ensures.asks
 
-pub returns-in_ok-judge-in-Found-clause-taken : goal.returns-in_ok-judge-in-Found-clause-taken
-returns-in_ok-judge-in-Found-clause-taken g c =
-    takes_request _ _ _ c.read_head.new.buffer c.read_head.new.headers _ c.in-Found.head c.in-Found.is c.in_ok-read.ensures.taken
-    c.in_ok-read.ensures.input c.in_ok-judge-in-Found.ensures.taken
+pub returns-in_ok-judge-in-Found-clause-consumed : goal.returns-in_ok-judge-in-Found-clause-consumed
+returns-in_ok-judge-in-Found-clause-consumed g c =
+    takes_request _ _ _ c.read_head.new.buffer c.read_head.new.headers _ c.in-Found.head c.in-Found.is c.in_ok-read.ensures.consumed
+    c.in_ok-read.ensures.input c.in_ok-judge-in-Found.ensures.consumed
 
-pub returns-in_err-judge-in-Found-clause-taken : goal.returns-in_err-judge-in-Found-clause-taken
-returns-in_err-judge-in-Found-clause-taken g c =
-    takes_request _ _ _ c.read_head.new.buffer c.read_head.new.headers _ c.in-Found.head c.in-Found.is c.in_ok-read.ensures.taken
-    c.in_ok-read.ensures.input c.in_err-judge-in-Found.ensures.taken
+pub returns-in_err-judge-in-Found-clause-consumed : goal.returns-in_err-judge-in-Found-clause-consumed
+returns-in_err-judge-in-Found-clause-consumed g c =
+    takes_request _ _ _ c.read_head.new.buffer c.read_head.new.headers _ c.in-Found.head c.in-Found.is c.in_ok-read.ensures.consumed
+    c.in_ok-read.ensures.input c.in_err-judge-in-Found.ensures.consumed
 
 pub returns-in_err-judge-in-Found-clause-memory : goal.returns-in_err-judge-in-Found-clause-memory
 returns-in_err-judge-in-Found-clause-memory g c e =

@@ -1,6 +1,6 @@
 use Rattle.std.proofs.Common.{◌≡◌, ◌≢◌, ◌∙◌, ◌∷◌, List, ℕ, Err, Ok, ap, codes, refl}
 use Rattle.dh_fields.specs.Lines.{request_of}
-use Rattle.dh_requests.specs.declared.asked.Asked.TheVariants as asked
+use Rattle.dh_requests.specs.declared.judged_request.JudgedRequest.TheVariants as asked
 use Rattle.dh_requests.specs.declared.routes.Route.{Route}
 use Rattle.dh_requests.specs.declared.routes.Route.TheVariants as route
 use Rattle.dh_requests.specs.Requests.{question_fields, taken_as}

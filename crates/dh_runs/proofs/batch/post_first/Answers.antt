@@ -32,8 +32,8 @@ returns-in_err-commit-clause-crash g c clean =
     let is = rows_next c.args.plan.now (tables old) (ready_in_order old (c.requires.ready early)) (c.requires.plan early) c.in-Some.rows.now first.0 first.1 in
     subst (λ (t : machine.State). Leaves new (λ it. (it ≡ tables old) ⊎ (it ≡ t))) is (c.commit.ensures.crash clean)
 
-pub returns-clause-told : goal.returns-clause-told
-returns-clause-told g c clean =
+pub returns-clause-value : goal.returns-clause-value
+returns-clause-value g c clean =
     let old = state g.S.Store c.args.conn.now in
     let early : HasCleanDisk old = omega (arith, c.commit.ensures.was_clean, clean) in
     let first = first_is _ _ _ c.deref.ensures.value c.first.ensures.value c.in-Some.is in

@@ -6,7 +6,7 @@ use Rattle.dh_model.specs.Books as machine
 use Rattle.dh_schema.specs.Store.{IsReadyWith, Leaves, tables}
 use Rattle.dh_laws.specs.Batches.{IsPostedInPart}
 use Rattle.dh_laws.proofs.StandingLemmas.Batches.{same_in_part}
-use Rattle.dh_runs.specs.Told.{IsAnsweredBy, LeavesOneBatch, reply_of}
+use Rattle.dh_runs.specs.Outcomes.{IsAnsweredBy, LeavesOneBatch, reply_of}
 use Rattle.dh_runs.proofs.Along.{leaves_weaker}
 use Rattle.dh_runs.proofs.Carried.{on_err}
 use Rattle.dh_runs.proofs.Stages.{IsOneOn}

@@ -1,6 +1,6 @@
 use Rattle.sqlite.specs.Held.{state}
 use Rattle.dh_schema.specs.Store.{tables}
-use Rattle.dh_runs.specs.Told.{IsMidRecovery}
+use Rattle.dh_runs.specs.Outcomes.{IsMidRecovery}
 use Rattle.dh_runs.proofs.Along.{leaves_weaker}
 use Rattle.dh_runs.proofs.Carried.{mid_of_part}
 use Rattle.dh_runs.proofs.recovery.finish.Goals as goal

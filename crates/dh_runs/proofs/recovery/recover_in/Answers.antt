@@ -2,7 +2,7 @@ use Rattle.std.proofs.Common.{arith}
 use Rattle.sqlite.specs.State.{HasCleanDisk}
 use Rattle.sqlite.specs.Held.{state}
 use Rattle.dh_runs.proofs.Carried.{on_err}
-use Rattle.dh_runs.proofs.Taken.{left_forward, left_halted, moved_forward, moved_halted, not_untaken, version_mended}
+use Rattle.dh_runs.proofs.Taken.{left_forward, left_halted, moved_forward, moved_halted, not_untaken, version_recovered}
 use Rattle.dh_runs.proofs.recovery.recover_in.Goals as goal
 
 pub returns-in_err-check-clause-forward : goal.returns-in_err-check-clause-forward
@@ -33,7 +33,7 @@ pub returns-clause-version : goal.returns-clause-version
 returns-clause-version g c clean =
     let mid = state g.S.Store c.check.new.conn in
     let early : HasCleanDisk mid = omega (arith, c.finish.ensures.was_clean, clean) in
-    version_mended c.args.wanted mid (state g.S.Store c.finish.new.conn) (c.in_ok-check.ensures.version early) (c.in_ok-finish.ensures.mended clean).1
+    version_recovered c.args.wanted mid (state g.S.Store c.finish.new.conn) (c.in_ok-check.ensures.version early) (c.in_ok-finish.ensures.recovered clean).1
 
 pub returns-clause-takes : goal.returns-clause-takes
 returns-clause-takes g c =

@@ -7,7 +7,7 @@ use Rattle.dh_laws.specs.Batches.{IsAtItsEnd, closed_state}
 use Rattle.dh_laws.specs.StateTables.{IsStateInOrder}
 use Rattle.dh_schema.specs.Store.{tables}
 use Rattle.dh_runs.specs.Closing.{IsSumOfOpen}
-use Rattle.dh_runs.proofs.ClosedRun.{closed_in_order, ready_in_order, sum_is_told, sum_of_open}
+use Rattle.dh_runs.proofs.ClosedRun.{closed_in_order, ready_in_order, sum_is_open_run_sum, sum_of_open}
 use Rattle.dh_runs.proofs.run_end.close_month.Goals as goal
 
 pub commit-requires-clause-order : goal.commit-requires-clause-order
@@ -27,14 +27,15 @@ commit-requires-clause-room g c mid =
     let end = c.requires.end early in
     let at_end = subst (λ (run : Option OpenRun). IsAtItsEnd (tables old).books run) (sym end) refl in
     subst (λ (t : State). IsStateInOrder t × IsAtItsEnd t.books t.open_run × IsSumOfOpen sum t.books) (sym (c.in_ok-sum.ensures.reads.done mid).1)
-    (order, at_end, sum_of_open (tables old) c.args.month sum order end (c.in_ok-sum.ensures.told mid))
+    (order, at_end, sum_of_open (tables old) c.args.month sum order end (c.in_ok-sum.ensures.value mid))
 
-pub returns-clause-told : goal.returns-clause-told
-returns-clause-told g c clean =
+pub returns-clause-value : goal.returns-clause-value
+returns-clause-value g c clean =
     let old = state g.S.Store c.args.conn.now in
     let mid : HasCleanDisk (state g.S.Store c.month_sum.new.conn) = omega (arith, c.commit.ensures.was_clean, clean) in
     let early : HasCleanDisk old = omega (arith, c.month_sum.ensures.reads.crash.clean, mid) in
     let order = ready_in_order old (c.requires.ready early) in
     let end = c.requires.end early in
     let at_end = subst (λ (run : Option OpenRun). IsAtItsEnd (tables old).books run) (sym end) refl in
-    sum_is_told (tables old).books _ (sum_of_open (tables old) c.args.month _ order end (c.in_ok-sum.ensures.told mid)) (tables old).open_run at_end order
+    sum_is_open_run_sum (tables old).books _ (sum_of_open (tables old) c.args.month _ order end (c.in_ok-sum.ensures.value mid)) (tables old).open_run at_end
+    order

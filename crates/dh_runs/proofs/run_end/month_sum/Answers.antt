@@ -10,8 +10,8 @@ use Rattle.dh_runs.proofs.OfMonth.{parts_of_month}
 use Rattle.dh_runs.proofs.SumsFit.{never_too_much}
 use Rattle.dh_runs.proofs.run_end.month_sum.Goals as goal
 
-pub returns-in-Some-clause-told : goal.returns-in-Some-clause-told
-returns-in-Some-clause-told g c clean =
+pub returns-in-Some-clause-value : goal.returns-in-Some-clause-value
+returns-in-Some-clause-value g c clean =
     let old = tables (state g.S.Store c.args.conn.now) in
     let none = ap (λ (s : machine.State). s.books.parts) c.no_rows-books.ensures in
     let taken = c.in_ok-look.ensures.brought.first old c.no_rows-books.result (λ _. (refl, refl)) none clean in

@@ -12,7 +12,7 @@ use Rattle.dh_model.specs.Books as machine
 use Rattle.dh_model.specs.Kinds.{Kind}
 use Rattle.dh_ddl.specs.Versions.{schema_of}
 use Rattle.dh_tables.specs.MetaTable.{AreFound, meta_rows}
-use Rattle.dh_schema.specs.Kinds.{shelf_of}
+use Rattle.dh_schema.specs.Kinds.{accessor_of}
 use Rattle.dh_schema.specs.Loaded.{AllAreRecords, AreLoaded, HasNone, kinds_of}
 use Rattle.dh_schema.specs.Tables.{empty_over}
 use Rattle.dh_schema.proofs.EachKind.{none_held}
@@ -28,7 +28,7 @@ pub load_records-requires-clause-none : goal.load_records-requires-clause-none
 load_records-requires-clause-none g c clean =
     let months : Months = record { version = c.version.result; first = c.first.result; next = c.next.result } in
     subst (HasNone (kinds_of c.args.version)) (sym c.new-books.ensures)
-    (all_of (λ (kind : Kind). (shelf_of kind).held (empty_over months) ≡ empty) (λ kind. none_held kind months) (kinds_of c.args.version))
+    (all_of (λ (kind : Kind). (accessor_of kind).held (empty_over months) ≡ empty) (λ kind. none_held kind months) (kinds_of c.args.version))
 
 pub returns-in_err-load_records-clause-damaged : goal.returns-in_err-load_records-clause-damaged
 returns-in_err-load_records-clause-damaged g c clean told has =

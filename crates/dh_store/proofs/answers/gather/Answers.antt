@@ -7,7 +7,7 @@ pub returns-in_ok-look_at_all-in-Branches-clause-gathered : goal.returns-in_ok-l
 returns-in_ok-look_at_all-in-Branches-clause-gathered g c t at =
     rw c.in-Branches.is
     (both_then (λ (s b : State). record b { books = record b.books { branches = s.books.branches } }) at
-    c.in_ok-look_at_all-in-Branches.ensures.reads c.in_ok-look_at_all-in-Branches.ensures.taken)
+    c.in_ok-look_at_all-in-Branches.ensures.reads c.in_ok-look_at_all-in-Branches.ensures.gathered)
 
 pub returns-in_ok-look_at_lettings-in-Vacant-clause-gathered : goal.returns-in_ok-look_at_lettings-in-Vacant-clause-gathered
 returns-in_ok-look_at_lettings-in-Vacant-clause-gathered g c t at =

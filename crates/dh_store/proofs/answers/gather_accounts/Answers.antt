@@ -35,8 +35,8 @@ loop-lease-preserved g c =
     (λ clean same held none. (c.in_ok-put_account.ensures.gathered (tables old) books so_far (λ _. (same, held none)) clean).1
     ∙ ap with_these (sym more))
 
-pub returns-clause-taken : goal.returns-clause-taken
-returns-clause-taken g c clean none =
+pub returns-clause-gathered : goal.returns-clause-gathered
+returns-clause-gathered g c clean none =
     let old = state g.S.Store c.args.conn.now in
     let books = c.args.books.now in
     let all : length c.args.leases.now ≤ c.loop-lease.lease-index = omega arith in

@@ -17,6 +17,6 @@ returns-clause-gathered g c t at clean =
     ∙ listed_leases t.books (is_property_of c.args.branch) in
     let none = subst (λ (s : State). HasNoAccounts s.books) (sym was.1) refl in (
       (c.in_ok-gather_accounts.ensures.reads.done clean).1 ∙ was.0,
-      c.in_ok-gather_accounts.ensures.taken clean none
+      c.in_ok-gather_accounts.ensures.gathered clean none
           ∙ (λ i. record (was.1 i) { books = with_accounts (was.0 i).books (was.1 i).books (leases i) }),
     )

@@ -35,7 +35,7 @@ returns-clause-gathered g c t at clean =
     let leases = c.deref.ensures.value ∙ c.in_ok-leases.ensures.leases ∙ ap (λ (s : State). values s.books.leases) was.1
     ∙ listed_leases t.books (is_owned_by c.args.it.owner) in (
       (c.in_ok-gather_charges.ensures.reads.done clean).1 ∙ was.0,
-      c.in_ok-gather_charges.ensures.taken clean ∙ (λ i. record (was.1 i) {
+      c.in_ok-gather_charges.ensures.gathered clean ∙ (λ i. record (was.1 i) {
         books = record (was.1 i).books {
           charges = rows_where (λ charge. list_any (λ lease. nat_eq charge.lease lease.terms.number) (leases i) && nat_eq charge.month c.args.it.month)
               (was.0 i).books.charges;

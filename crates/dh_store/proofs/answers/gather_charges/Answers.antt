@@ -60,8 +60,8 @@ loop-lease-preserved g c =
     along_next {Held = c.loop-lease.books ≡ charged so_far} old mid new c.loop-lease.invariant c.put_charge.ensures.reads.crash
     c.in_ok-put_charge.ensures.reads.done (λ clean same held. step clean same held ∙ ap charged (sym more))
 
-pub returns-clause-taken : goal.returns-clause-taken
-returns-clause-taken g c clean =
+pub returns-clause-gathered : goal.returns-clause-gathered
+returns-clause-gathered g c clean =
     let old = state g.S.Store c.args.conn.now in
     let start = c.args.books.now in
     let all : length c.args.leases.now ≤ c.loop-lease.lease-index = omega arith in

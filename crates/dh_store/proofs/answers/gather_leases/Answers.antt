@@ -49,8 +49,8 @@ loop-property-preserved g c =
     along_next {Held = c.args.books.now.books.leases ≡ empty → c.loop-property.books ≡ with_leases so_far} old mid new c.loop-property.invariant
     c.look.ensures.reads.crash c.in_ok-look.ensures.reads.done (λ clean same held none. step clean same (held none) ∙ ap with_leases (sym more))
 
-pub returns-clause-taken : goal.returns-clause-taken
-returns-clause-taken g c clean none =
+pub returns-clause-gathered : goal.returns-clause-gathered
+returns-clause-gathered g c clean none =
     let old = state g.S.Store c.args.conn.now in
     let all : length c.args.properties.now ≤ c.loop-property.property-index = omega arith in
     let with_leases : List (List ℕ) → State = λ numbers. record c.args.books.now {

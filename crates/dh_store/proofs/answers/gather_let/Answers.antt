@@ -28,7 +28,7 @@ returns-clause-gathered g c t b is_its at not none held clean =
     ∙ ap (map (λ (p : Property). p.number)) (values_where text_total text_ties (λ (p : Property). is_its (Some p)) t.books.properties) in
     let keyed = subst (λ (s : State). AreKeyed s.books) was.0 (books_are_keyed old.now.trees) in (
       (c.in_ok-gather_leases.ensures.reads.done clean).1 ∙ was.0,
-      c.in_ok-gather_leases.ensures.taken clean (ap (λ (s : State). s.books.leases) was.1 ∙ none)
+      c.in_ok-gather_leases.ensures.gathered clean (ap (λ (s : State). s.books.leases) was.1 ∙ none)
           ∙ (λ i. record (was.1 i) {
             books = record (was.1 i).books {
               leases = rows_where (λ (l : Lease). list_any (is_same_text l.terms.property) named) (was.0 i).books.leases;

@@ -59,8 +59,8 @@ loop-lease-preserved g c =
     c.look_later.ensures.reads.crash c.in_ok-look_later.ensures.reads.done
     (λ clean same held none. step clean same held none ∙ ap with_endings (sym more))
 
-pub returns-clause-taken : goal.returns-clause-taken
-returns-clause-taken g c clean none =
+pub returns-clause-gathered : goal.returns-clause-gathered
+returns-clause-gathered g c clean none =
     let old = state g.S.Store c.args.conn.now in
     let start = c.args.books.now in
     let all : length c.args.leases.now ≤ c.loop-lease.lease-index = omega arith in

@@ -41,13 +41,13 @@ loop-row-preserved g c =
     let good = (subst (λ o. IsSome o ↔ (g.R.Record.is_row row ≡ true)) c.in-Some.is c.in_ok-record.ensures.exact).0 refl in
     let record_is = ap T.shape.row_in (sym read) ∙ laws.has_shape.row_in_is (g.R.Record.row x) ∙ g.met.R.Record.decodes x (rw read good) in
     let old = c.args.books.now in
-    let m = put_rows T.shape rows (T.shelf.held old) in
-    let held : T.shelf.held c.loop-row.books ≡ m = ap T.shelf.held c.loop-row.invariant.0 ∙ T.shelf.held_with old m in
+    let m = put_rows T.shape rows (T.accessor.held old) in
+    let held : T.accessor.held c.loop-row.books ≡ m = ap T.accessor.held c.loop-row.invariant.0 ∙ T.accessor.held_with old m in
     let added = insert m (T.shape.key x) x in
-    let step : put_rows T.shape (take (c.loop-row.row-index + 1) c.args.rows.now) (T.shelf.held old) ≡ added =
-    ap (λ rs. put_rows T.shape rs (T.shelf.held old)) more ∙ push T.shape rows row (T.shelf.held old) ∙ ap (λ y. insert m (T.shape.key y) y) record_is in
-    let books = c.in_ok-put.ensures ∙ ap (λ n. T.shelf.with c.loop-row.books (insert n (T.shape.key x) x)) held
-    ∙ ap (λ (s : State). T.shelf.with s added) c.loop-row.invariant.0 ∙ T.shelf.with_with old m added ∙ ap (T.shelf.with old) (sym step) in
+    let step : put_rows T.shape (take (c.loop-row.row-index + 1) c.args.rows.now) (T.accessor.held old) ≡ added =
+    ap (λ rs. put_rows T.shape rs (T.accessor.held old)) more ∙ push T.shape rows row (T.accessor.held old) ∙ ap (λ y. insert m (T.shape.key y) y) record_is in
+    let books = c.in_ok-put.ensures ∙ ap (λ n. T.accessor.with c.loop-row.books (insert n (T.shape.key x) x)) held
+    ∙ ap (λ (s : State). T.accessor.with s added) c.loop-row.invariant.0 ∙ T.accessor.with_with old m added ∙ ap (T.accessor.with old) (sym step) in
     let here : g.R.Record.is_row row ≡ true = good in (
       books,
       subst (AllByRecursion (λ r. g.R.Record.is_row r ≡ true)) (sym more)

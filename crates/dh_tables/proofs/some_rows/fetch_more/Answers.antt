@@ -18,7 +18,7 @@ returns-clause-fetched g c clean done test held =
     let rows = c.in_ok-rows.rows.items in
     let all = rows_in T.shape (state g.S.Store c.args.conn.now).now.trees in
     c.in_ok-gather.ensures.gathered done
-    ∙ ap (T.shelf.with old) (ap (λ rs. put_rows T.shape rs (T.shelf.held old)) c.deref.ensures.value ∙ ap (put_rows T.shape rows) held
+    ∙ ap (T.accessor.with old) (ap (λ rs. put_rows T.shape rs (T.accessor.held old)) c.deref.ensures.value ∙ ap (put_rows T.shape rows) held
     ∙ put_beside (total T.is_kind) (ties T.is_kind) T.shape test (g.L.Look.asks c.args.question.now) all rows
     (c.in_ok-rows.ensures.distinct clean) (c.in_ok-rows.ensures.rows clean))
 

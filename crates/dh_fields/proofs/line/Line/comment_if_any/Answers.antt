@@ -12,7 +12,7 @@ returns-in_err-text c =
 
 pub returns-then-is_empty : goal.returns-then-is_empty
 returns-then-is_empty c =
-    let wanted = is_field comment.takes c.args.self.now c.args.number in
+    let wanted = is_field comment.accepts c.args.self.now c.args.number in
     reads_nothing comment c.args.self.now c.args.number wanted _ c.in_ok-text.ensures (sym c.is_empty.ensures ∙ c.if-is_empty.true)
 
 pub returns-in_err-some_text : goal.returns-in_err-some_text
@@ -23,6 +23,6 @@ returns-in_err-some_text c =
 
 pub returns : goal.returns
 returns c =
-    let wanted = is_field comment.takes c.args.self.now c.args.number in
+    let wanted = is_field comment.accepts c.args.self.now c.args.number in
     reads_something comment c.args.self.now c.args.number wanted _ c.in_ok-text.ensures (sym c.is_empty.ensures ∙ c.if-is_empty.false) wanted _
     c.in_ok-some_text.ensures

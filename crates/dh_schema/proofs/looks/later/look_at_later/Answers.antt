@@ -16,22 +16,22 @@ look_at_all-requires-clause-since g c clean =
     subst (λ since. IsSince since (version_of_tables (state g.S.Store c.args.conn.now).now.trees)) (sym c.requires.later)
     (sym (c.requires.ready clean).1 ∙ c.in-Second.is)
 
-pub returns-in-First-clause-taken : goal.returns-in-First-clause-taken
-returns-in-First-clause-taken g c clean =
+pub returns-in-First-clause-gathered : goal.returns-in-First-clause-gathered
+returns-in-First-clause-gathered g c clean =
     let old = state g.S.Store c.args.conn.now in
     let first = sym (c.requires.ready clean).1 ∙ c.in-First.is in
-    let shelf = g.R.Tabled.shelf in
+    let accessor = g.R.Tabled.accessor in
     let books = c.args.books.now in
-    let none : shelf.held (tables old) ≡ empty =
+    let none : accessor.held (tables old) ≡ empty =
     holds _ g.R.Tabled.is_kind old.now.trees ∙ (λ i. rows_since (c.requires.later i) (first i) (rows_in g.R.Tabled.shape old.now.trees)) in
-    sym (shelf.with_held books) ∙ ap (shelf.with books) (c.requires.none clean ∙ sym none)
+    sym (accessor.with_held books) ∙ ap (accessor.with books) (c.requires.none clean ∙ sym none)
 
-pub returns-in-Second-clause-taken : goal.returns-in-Second-clause-taken
-returns-in-Second-clause-taken g c clean =
+pub returns-in-Second-clause-gathered : goal.returns-in-Second-clause-gathered
+returns-in-Second-clause-gathered g c clean =
     let trees = (state g.S.Store c.args.conn.now).now.trees in
     let early : HasCleanDisk (state g.S.Store c.args.conn.now) = omega (arith, c.look_at_all.ensures.reads.crash.clean, clean) in
     let second = sym (c.requires.ready early).1 ∙ c.in-Second.is in
     let has = subst (λ since. IsSince since (version_of_tables trees)) (sym c.requires.later) second in
     let all = all_since g.R.Tabled.since (version_of_tables trees) (rows_in g.R.Tabled.shape trees) has in
-    on_ok c.look_at_all.result (λ taken. taken ∙ ap (g.R.Tabled.shelf.with c.args.books.now) (sym all ∙ sym (holds _ g.R.Tabled.is_kind trees)))
-    (c.look_at_all.ensures.taken clean)
+    on_ok c.look_at_all.result (λ taken. taken ∙ ap (g.R.Tabled.accessor.with c.args.books.now) (sym all ∙ sym (holds _ g.R.Tabled.is_kind trees)))
+    (c.look_at_all.ensures.gathered clean)

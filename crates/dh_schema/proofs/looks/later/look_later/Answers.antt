@@ -20,7 +20,7 @@ pub returns-in-First-clause-brought : goal.returns-in-First-clause-brought
 returns-in-First-clause-brought g c =
     let old = state g.S.Store c.args.conn.now in
     let T = g.L.Record.Tabled in
-    let none : HasCleanDisk old → T.shelf.held (tables old) ≡ empty = λ clean.
+    let none : HasCleanDisk old → T.accessor.held (tables old) ≡ empty = λ clean.
     let first = sym (c.requires.ready clean).1 ∙ c.in-First.is in
     holds _ T.is_kind old.now.trees ∙ (λ i. rows_since (c.requires.later i) (first i) (rows_in T.shape {R = T.order} old.now.trees)) in
-    none_brought (total T.is_kind) (ties T.is_kind) T.shelf (g.L.Look.asks c.args.question.now) old c.args.books.now none
+    none_brought (total T.is_kind) (ties T.is_kind) T.accessor (g.L.Look.asks c.args.question.now) old c.args.books.now none

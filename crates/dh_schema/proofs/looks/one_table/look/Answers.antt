@@ -28,7 +28,7 @@ returns-in-Ok-true-clause-brought g c =
     let trees = old.now.trees in
     let books = c.args.books.now in
     let after = c.fetch_more.new.books in
-    let held : HasCleanDisk old → T.shelf.held (state_in trees) ≡ rows_in T.shape {R = T.order} trees = λ early. holds _ g.L.Record.Tabled.is_kind trees
+    let held : HasCleanDisk old → T.accessor.held (state_in trees) ≡ rows_in T.shape {R = T.order} trees = λ early. holds _ g.L.Record.Tabled.is_kind trees
     ∙ all_since T.since (version_of_tables trees) (rows_in T.shape {R = T.order} trees) (c.requires.since early) in
     record {
       first = λ t b both none clean.
@@ -36,14 +36,14 @@ returns-in-Ok-true-clause-brought g c =
           let same = both early in
           let fetched = c.in-Ok-true.ensures.fetched clean c.in-Ok-true.field-0-test in (
             ap (λ (d : Database). state_in d.trees) (c.in-Ok-true.ensures.same clean).0.now_is ∙ same.0,
-            taken (total T.is_kind) (ties T.is_kind) T.shape T.shelf asks trees t b books after (held early) same.0 same.1 fetched none,
+            taken (total T.is_kind) (ties T.is_kind) T.shape T.accessor asks trees t b books after (held early) same.0 same.1 fetched none,
           );
       more = λ t b test both had clean.
           let early : HasCleanDisk old = omega (arith, c.fetch_more.ensures.crash.clean, clean) in
           let same = both early in
           let fetched = c.in-Ok-true.ensures.fetched clean c.in-Ok-true.field-0-test in (
             ap (λ (d : Database). state_in d.trees) (c.in-Ok-true.ensures.same clean).0.now_is ∙ same.0,
-            taken_more (total T.is_kind) (ties T.is_kind) T.shape T.shelf asks trees t b books after (held early) same.0 same.1 fetched test had,
+            taken_more (total T.is_kind) (ties T.is_kind) T.shape T.accessor asks trees t b books after (held early) same.0 same.1 fetched test had,
           );
     }
 

@@ -43,7 +43,7 @@ returns-clause-gathered g c t b at leases_none none =
           ∙ ap (λ (m : Endings). let s : State = record here { books = record here.books { endings = m } } in s)
           (endings_beside terms t.books.leases is_keyed t.books.endings),
     ))
-    (under _ _ _ c.look_at_endings_of.result c.look_at_endings_of.ensures.taken c.look_at_endings_of.ensures.reads.done)
+    (under _ _ _ c.look_at_endings_of.result c.look_at_endings_of.ensures.gathered c.look_at_endings_of.ensures.reads.done)
 
 pub returns-clause-reads : goal.returns-clause-reads
 returns-clause-reads g c = reads_then c.in_ok-leases.ensures.reads c.look_at_endings_of.ensures.reads

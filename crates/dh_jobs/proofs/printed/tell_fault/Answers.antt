@@ -1,5 +1,0 @@
-use Rattle.std.proofs.Common.{refl}
-use Rattle.dh_jobs.proofs.printed.tell_fault.Goals as goal
-
-pub returns : goal.returns
-returns g c = record { outcome = c.print_fault-outcome.result; failed = refl; written = c.print_fault-outcome.ensures }

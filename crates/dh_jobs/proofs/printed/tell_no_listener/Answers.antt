@@ -1,5 +1,0 @@
-use Rattle.std.proofs.Common.{refl}
-use Rattle.dh_jobs.proofs.printed.tell_no_listener.Goals as goal
-
-pub returns : goal.returns
-returns g c = (c.print_no_listener-outcome.result, refl, c.print_no_listener-outcome.ensures)

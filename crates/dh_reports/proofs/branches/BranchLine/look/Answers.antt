@@ -1,5 +1,0 @@
-use Rattle.dh_reports.proofs.ReportFeeds.{branch_feeds}
-use Rattle.dh_reports.proofs.branches.BranchLine.look.Goals as goal
-
-pub returns : goal.returns
-returns c = branch_feeds c.args.self.now c.as_str-number.ensures.code c.as_str-city.ensures.grammar

@@ -1,7 +1,0 @@
-use Rattle.std.proofs.Common.{◌≡◌, take}
-use Rattle.std.specs.List.{flat_map}
-use Rattle.dh_reports.specs.Columns.{line_feeds}
-use Rattle.dh_reports.proofs.laws.look_at_each.Given as goal
-
-abbrev pub invariant-loop-record : goal.invariant-loop-record
-invariant-loop-record g l = line_feeds (flat_map g.L.Line.line (take l.record-index l.records)) ≡ l.record-index

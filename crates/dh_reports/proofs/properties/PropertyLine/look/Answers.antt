@@ -1,5 +1,0 @@
-use Rattle.dh_reports.proofs.ReportFeeds.{property_feeds}
-use Rattle.dh_reports.proofs.properties.PropertyLine.look.Goals as goal
-
-pub returns : goal.returns
-returns c = property_feeds c.args.self.now c.as_str-number.ensures.code c.as_str-city.ensures.grammar

@@ -1,5 +1,0 @@
-use Rattle.dh_reports.proofs.ReportFeeds.{part_feeds}
-use Rattle.dh_reports.proofs.run_reports.PartLine.look.Goals as goal
-
-pub returns : goal.returns
-returns c = part_feeds c.args.self.now c.as_str-branch.ensures.code

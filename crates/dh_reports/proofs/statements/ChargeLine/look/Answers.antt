@@ -1,5 +1,0 @@
-use Rattle.dh_reports.proofs.ReportFeeds.{charge_feeds}
-use Rattle.dh_reports.proofs.statements.ChargeLine.look.Goals as goal
-
-pub returns : goal.returns
-returns c = charge_feeds c.args.self.now
