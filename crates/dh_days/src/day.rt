@@ -16,6 +16,9 @@ use jiff::civil::{self, Date};
 use std::fmt;
 use std::marker::Model;
 
+// The places that a month has.
+const PLACES_A_MONTH: u32 = 31;
+
 /// A day of the calendar from 2000-01-01 to 9999-12-31.
 /// A clause sees its place, 31 * (its month's number) + (its number in the month) - 1: a month has
 /// 31 places, and those past its last day stay empty. The order of places is that of the calendar.
@@ -87,14 +90,14 @@ impl Day {
         ensures value { IfSome result (λ d. d ≡ day_at month number) }
         ensures exact { IsSome result ↔ ((1 ≤ number) × (number ≤ days_in month)) }
     {
-        if number > 31 {
+        if number > PLACES_A_MONTH {
             return None;
         }
         let month = month.number();
         let (year, month_of_year) = (month / 12, month % 12 + 1);
         match Date::new(year as i16, month_of_year as i8, number as i8) {
             Ok(_) => Some(Day {
-                place: 31 * month + number - 1,
+                place: PLACES_A_MONTH * month + number - 1,
             }),
             Err(_) => None,
         }
@@ -105,11 +108,11 @@ impl Day {
         ensures value { IsDateOf self result }
         ensures range { IsDay self }
     {
-        let month = self.place / 31;
+        let month = self.place / PLACES_A_MONTH;
         civil::date(
             (month / 12) as i16,
             (month % 12 + 1) as i8,
-            (self.place % 31 + 1) as i8,
+            (self.place % PLACES_A_MONTH + 1) as i8,
         )
     }
 
@@ -120,7 +123,7 @@ impl Day {
     {
         let month = 12 * date.year() as u32 + date.month() as u32 - 1;
         Day {
-            place: 31 * month + date.day() as u32 - 1,
+            place: PLACES_A_MONTH * month + date.day() as u32 - 1,
         }
     }
 
@@ -129,14 +132,14 @@ impl Day {
         ensures value { result ≡ month_of_day self.now }
         ensures range { IsDay self.now }
     {
-        Month::of_number(self.place / 31)
+        Month::of_number(self.place / PLACES_A_MONTH)
     }
 
     /// Which day of its month it is, from 1.
     pub fn number_in_month(&self) -> u32
         ensures { result ≡ number_in_month self.now }
     {
-        self.place % 31 + 1
+        self.place % PLACES_A_MONTH + 1
     }
 
     /// The day with the same number n months later, or the last day of that month where it is

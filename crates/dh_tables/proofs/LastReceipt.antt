@@ -28,12 +28,12 @@ use Rattle.dh_sql.specs.Texts.{IsLastText}
 use Rattle.dh_sql.proofs.Casting.{pass_each}
 use Rattle.dh_sql.proofs.Lists.{has_all, has_among, none_with}
 use Rattle.dh_tables.specs.Cells.{is_number}
-use Rattle.dh_tables.specs.Listing.{list_text}
+use Rattle.dh_tables.specs.Listing.{select_rows_text}
 use Rattle.dh_tables.specs.Questions.{only_record}
 use Rattle.dh_tables.specs.ReceiptTable.{receipt_cells, receipt_columns, receipt_named, receipt_shape}
 
 abbrev pub last_text : List ℕ
-last_text = list_text receipt_named ++ codes " ORDER BY receipt_no DESC LIMIT 1"
+last_text = select_rows_text receipt_named ++ codes " ORDER BY receipt_no DESC LIMIT 1"
 
 pub last_is : (s : Schema) → HasSince First s → IsLastText last_text s 20 receipt_named.shown (col 1 0) receipt_named.names
 unfolding understood everything

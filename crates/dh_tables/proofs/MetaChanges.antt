@@ -21,7 +21,7 @@ use Rattle.dh_sql.proofs.Casting.{cast_int, cast_null}
 use Rattle.dh_sql.proofs.Inserting.{inserts}
 use Rattle.dh_sql.proofs.WholeTable.{shows_all}
 use Rattle.dh_sql.proofs.Staying.{others_stay}
-use Rattle.dh_tables.specs.Listing.{list_text}
+use Rattle.dh_tables.specs.Listing.{select_rows_text}
 use Rattle.dh_tables.specs.Tables.{own_rowid}
 use Rattle.dh_tables.specs.MetaTable.{AreFound, AreMonths, SetsMonths, meta_columns, meta_rows}
 use Rattle.dh_tables.proofs.MetaTexts.{meta_inserts, meta_inserts_is, meta_named, meta_shown_is}
@@ -51,9 +51,9 @@ adds_meta old new m count has empty good h =
 -- ---- the rows that are shown
 
 pub all_shown : (r : Result (Vec Row Global) Error) (old new : State) → HasSince First old.now.schema
-    → IfOk r (λ rows. Shown (list_text meta_named) [] old new rows.items) → IfOk r (λ rows. IsPermutation (meta_rows old.now.trees) rows.items)
+    → IfOk r (λ rows. Shown (select_rows_text meta_named) [] old new rows.items) → IfOk r (λ rows. IsPermutation (meta_rows old.now.trees) rows.items)
 all_shown r old new has =
-    shows_all (list_text meta_named) old.now.schema 0 meta_named.shown meta_named.names (meta_shown_is old.now.schema has) meta_columns (λ row. refl)
+    shows_all (select_rows_text meta_named) old.now.schema 0 meta_named.shown meta_named.names (meta_shown_is old.now.schema has) meta_columns (λ row. refl)
     old new refl r
 
 -- rows in another order have the same months

@@ -19,18 +19,18 @@ use Rattle.dh_tables.specs.Commands.{Named, select_text}
 use Rattle.dh_tables.specs.Tables.{Accessor}
 
 -- SELECT columns FROM table, and SELECT rowid FROM table
-abbrev pub list_text : Named → List ℕ
-list_text named = select_text named.table named.names
+abbrev pub select_rows_text : Named → List ℕ
+select_rows_text named = select_text named.table named.names
 
-abbrev pub rowid_text : Named → List ℕ
-rowid_text named = select_text named.table (codes "rowid" ∷ [])
+abbrev pub select_rowids_text : Named → List ℕ
+select_rowids_text named = select_text named.table (codes "rowid" ∷ [])
 
 -- under this schema the one shows rows, and the other rowids
 abbrev pub ListsRows : ℕ → Named → Schema → Type 0
-ListsRows tree named s = IsSelectText (list_text named) s tree [] named.shown [] named.names
+ListsRows tree named s = IsSelectText (select_rows_text named) s tree [] named.shown [] named.names
 
 abbrev pub ListsRowids : ℕ → Named → Schema → Type 0
-ListsRowids tree named s = IsSelectText (rowid_text named) s tree [] (col 1 0 ∷ []) [] (named.rowid_name ∷ [])
+ListsRowids tree named s = IsSelectText (select_rowids_text named) s tree [] (col 1 0 ∷ []) [] (named.rowid_name ∷ [])
 
 -- the texts show the columns of each row, and the rowid of each
 pub record IsListing (since : Version) (tree : ℕ) (columns : Row → Row) (named : Named) : Type 0 where

@@ -6,7 +6,7 @@ ghost use Rattle.sqlite.specs.State.{HasCleanDisk, IsUnchanged};
 ghost use Rattle.sqlite.specs.Held.{state};
 ghost use Rattle.dh_tables.specs.Calls.{CommitsNothing, HasFailed, HasTables, IsCorrupt, IsUndone};
 ghost use Rattle.dh_tables.specs.Commands.{Named};
-ghost use Rattle.dh_tables.specs.Listing.{IsListing, list_text, rowid_alone, rowid_text};
+ghost use Rattle.dh_tables.specs.Listing.{IsListing, rowid_alone, select_rowids_text, select_rows_text};
 
 use crate::Tabled;
 use crate::query::rows_shown;
@@ -18,13 +18,13 @@ pub trait Listed: Tabled {
     /// The columns by their names.
     ghost named: { Named };
 
-    /// The text that shows each row.
-    fn list_text() -> &'static str
-        ensures { result.now ≡ list_text named };
+    /// The text that selects each row.
+    fn select_rows_text() -> &'static str
+        ensures { result.now ≡ select_rows_text named };
 
-    /// The text that shows each rowid.
-    fn rowid_text() -> &'static str
-        ensures { result.now ≡ rowid_text named };
+    /// The text that selects each row.d.
+    fn select_rowids_text() -> &'static str
+        ensures { result.now ≡ select_rowids_text named };
 
     /// How many records of this kind the books have.
     fn held_count(books: &Books) -> usize
@@ -44,7 +44,7 @@ pub(crate) fn rows_listed<R: Listed, S: Alter>(conn: &mut Connection<S>) -> Resu
     ensures corrupt { HasCleanDisk (state S.Store conn.new) → IsCorrupt result → HasFailed (state S.Store conn.old) (state S.Store conn.new) }
     ensures crash { CommitsNothing (state S.Store conn.old) (state S.Store conn.new) }
 {
-    rows_shown(conn, R::list_text(), &[])
+    rows_shown(conn, R::select_rows_text(), &[])
 }
 
 /// The rowid of each row of the table, as a row of its own, in some order. It changes nothing. Over a clean disk it answers that
@@ -60,5 +60,5 @@ pub(crate) fn rowids_listed<R: Listed, S: Alter>(
     ensures corrupt { HasCleanDisk (state S.Store conn.new) → IsCorrupt result → HasFailed (state S.Store conn.old) (state S.Store conn.new) }
     ensures crash { CommitsNothing (state S.Store conn.old) (state S.Store conn.new) }
 {
-    rows_shown(conn, R::rowid_text(), &[])
+    rows_shown(conn, R::select_rowids_text(), &[])
 }

@@ -50,11 +50,11 @@ impl Listed for BranchFee {
 
     ghost named = { branch_fee_named };
 
-    fn list_text() -> &'static str {
+    fn select_rows_text() -> &'static str {
         text_of!(select, branch_fee, "")
     }
 
-    fn rowid_text() -> &'static str {
+    fn select_rowids_text() -> &'static str {
         "SELECT rowid FROM branch_fee"
     }
 

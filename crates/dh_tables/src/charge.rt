@@ -51,11 +51,11 @@ impl Listed for Charge {
 
     ghost named = { charge_named };
 
-    fn list_text() -> &'static str {
+    fn select_rows_text() -> &'static str {
         text_of!(select, charge, "")
     }
 
-    fn rowid_text() -> &'static str {
+    fn select_rowids_text() -> &'static str {
         "SELECT rowid FROM charge"
     }
 

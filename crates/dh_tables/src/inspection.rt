@@ -51,11 +51,11 @@ impl Listed for Inspection {
 
     ghost named = { inspection_named };
 
-    fn list_text() -> &'static str {
+    fn select_rows_text() -> &'static str {
         text_of!(select, inspection, "")
     }
 
-    fn rowid_text() -> &'static str {
+    fn select_rowids_text() -> &'static str {
         "SELECT rowid FROM inspection"
     }
 

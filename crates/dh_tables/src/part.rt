@@ -51,11 +51,11 @@ impl Listed for Part {
 
     ghost named = { part_named };
 
-    fn list_text() -> &'static str {
+    fn select_rows_text() -> &'static str {
         text_of!(select, part, "")
     }
 
-    fn rowid_text() -> &'static str {
+    fn select_rowids_text() -> &'static str {
         "SELECT rowid FROM part"
     }
 

@@ -51,11 +51,11 @@ impl Listed for PartFee {
 
     ghost named = { part_fee_named };
 
-    fn list_text() -> &'static str {
+    fn select_rows_text() -> &'static str {
         text_of!(select, part_fee, "")
     }
 
-    fn rowid_text() -> &'static str {
+    fn select_rowids_text() -> &'static str {
         "SELECT rowid FROM part_fee"
     }
 

@@ -50,11 +50,11 @@ impl Listed for Receipt {
 
     ghost named = { receipt_named };
 
-    fn list_text() -> &'static str {
+    fn select_rows_text() -> &'static str {
         text_of!(select, receipt, "")
     }
 
-    fn rowid_text() -> &'static str {
+    fn select_rowids_text() -> &'static str {
         "SELECT rowid FROM receipt"
     }
 

@@ -1,81 +1,25 @@
-//! Laws of the records: each function does nothing, and its clause is the law.
+//! A law of the records: the function does nothing, and its clauses are the law.
 
 ghost use Rattle.dh_types.specs.Laws.{TellsApart};
 ghost use Rattle.dh_types.specs.Records.{is_same_branch, is_same_staff, is_same_owner, is_same_property, is_same_client, is_same_registration, is_same_viewing};
 ghost use Rattle.dh_types.specs.Records.{is_same_inspection, is_same_lease_terms, is_same_lease, is_same_charge, is_same_payment, is_same_receipt};
 ghost use Rattle.dh_types.specs.Records.{is_same_run, is_same_part};
 
-/// Branches whose fields are equal are one.
-pub fn same_branches_are_equal()
-    ensures { TellsApart is_same_branch }
-{}
-
-/// Members of staff whose fields are equal are one.
-pub fn same_staff_are_equal()
-    ensures { TellsApart is_same_staff }
-{}
-
-/// Owners whose fields are equal are one.
-pub fn same_owners_are_equal()
-    ensures { TellsApart is_same_owner }
-{}
-
-/// Properties whose fields are equal are one.
-pub fn same_properties_are_equal()
-    ensures { TellsApart is_same_property }
-{}
-
-/// Clients whose fields are equal are one.
-pub fn same_clients_are_equal()
-    ensures { TellsApart is_same_client }
-{}
-
-/// Registrations whose fields are equal are one.
-pub fn same_registrations_are_equal()
-    ensures { TellsApart is_same_registration }
-{}
-
-/// Viewings whose fields are equal are one.
-pub fn same_viewings_are_equal()
-    ensures { TellsApart is_same_viewing }
-{}
-
-/// Inspections whose fields are equal are one.
-pub fn same_inspections_are_equal()
-    ensures { TellsApart is_same_inspection }
-{}
-
-/// Lease terms whose fields are equal are one.
-pub fn same_lease_terms_are_equal()
-    ensures { TellsApart is_same_lease_terms }
-{}
-
-/// Leases whose fields are equal are one.
-pub fn same_leases_are_equal()
-    ensures { TellsApart is_same_lease }
-{}
-
-/// Charges whose fields are equal are one.
-pub fn same_charges_are_equal()
-    ensures { TellsApart is_same_charge }
-{}
-
-/// Payments whose fields are equal are one.
-pub fn same_payments_are_equal()
-    ensures { TellsApart is_same_payment }
-{}
-
-/// Receipts whose fields are equal are one.
-pub fn same_receipts_are_equal()
-    ensures { TellsApart is_same_receipt }
-{}
-
-/// Runs whose fields are equal are one.
-pub fn same_runs_are_equal()
-    ensures { TellsApart is_same_run }
-{}
-
-/// Parts of runs whose fields are equal are one.
-pub fn same_parts_are_equal()
-    ensures { TellsApart is_same_part }
+/// Two records of one kind are the same exactly where they are one.
+pub fn same_records_are_equal()
+    ensures branch { TellsApart is_same_branch }
+    ensures staff { TellsApart is_same_staff }
+    ensures owner { TellsApart is_same_owner }
+    ensures property { TellsApart is_same_property }
+    ensures client { TellsApart is_same_client }
+    ensures registration { TellsApart is_same_registration }
+    ensures viewing { TellsApart is_same_viewing }
+    ensures inspection { TellsApart is_same_inspection }
+    ensures lease_terms { TellsApart is_same_lease_terms }
+    ensures lease { TellsApart is_same_lease }
+    ensures charge { TellsApart is_same_charge }
+    ensures payment { TellsApart is_same_payment }
+    ensures receipt { TellsApart is_same_receipt }
+    ensures run { TellsApart is_same_run }
+    ensures part { TellsApart is_same_part }
 {}

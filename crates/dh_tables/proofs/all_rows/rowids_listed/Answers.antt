@@ -4,7 +4,7 @@ use Rattle.sqlite.specs.State.{HasCleanDisk, Shown}
 use Rattle.sqlite.specs.Held.{state}
 use Rattle.dh_sql.proofs.WholeTable.{shows_all}
 use Rattle.dh_tables.specs.Calls.{IsQuery}
-use Rattle.dh_tables.specs.Listing.{rowid_alone, rowid_text}
+use Rattle.dh_tables.specs.Listing.{rowid_alone, select_rowids_text}
 use Rattle.dh_tables.proofs.all_rows.rowids_listed.Goals as goal
 
 pub rows_shown-requires : goal.rows_shown-requires
@@ -13,7 +13,8 @@ rows_shown-requires g c = record {
       let old = state g.S.Store c.args.conn.now in
       let names = g.R.Listed.named.rowid_name ∷ [] in
       let means = g.met.R.Listed.is_listing.selects_rowid old.now.schema (c.requires.reading clean) in
-      subst (λ (t : List ℕ). IsQuery t old) (sym c.rowid_text.ensures) (record { program = _; names = names; command = means.command; plain = means.plain });
+      subst (λ (t : List ℕ). IsQuery t old) (sym c.select_rowids_text.ensures)
+      (record { program = _; names = names; command = means.command; plain = means.plain });
 }
 
 pub returns-clause-rows : goal.returns-clause-rows
@@ -24,8 +25,8 @@ returns-clause-rows g c clean =
     let it = g.R.Tabled.shape in
     let how = g.R.Listed.named in
     let law = g.met.R.Listed.is_listing in
-    let told = subst (λ (t : List ℕ). IfOk c.rows_shown.result (λ rows. Shown t [] old new rows.items)) c.rowid_text.ensures
+    let told = subst (λ (t : List ℕ). IfOk c.rows_shown.result (λ rows. Shown t [] old new rows.items)) c.select_rowids_text.ensures
     (c.rows_shown.ensures.shown clean) in
-    shows_all (rowid_text how) old.now.schema it.tree (col 1 0 ∷ []) (how.rowid_name ∷ []) (law.selects_rowid old.now.schema (c.requires.reading early))
+    shows_all (select_rowids_text how) old.now.schema it.tree (col 1 0 ∷ []) (how.rowid_name ∷ []) (law.selects_rowid old.now.schema (c.requires.reading early))
     rowid_alone (λ r. refl)
     old new refl c.rows_shown.result told

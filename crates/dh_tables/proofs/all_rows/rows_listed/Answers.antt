@@ -3,7 +3,7 @@ use Rattle.sqlite.specs.State.{HasCleanDisk, Shown}
 use Rattle.sqlite.specs.Held.{state}
 use Rattle.dh_sql.proofs.WholeTable.{shows_all}
 use Rattle.dh_tables.specs.Calls.{IsQuery}
-use Rattle.dh_tables.specs.Listing.{list_text}
+use Rattle.dh_tables.specs.Listing.{select_rows_text}
 use Rattle.dh_tables.proofs.all_rows.rows_listed.Goals as goal
 
 pub rows_shown-requires : goal.rows_shown-requires
@@ -12,7 +12,8 @@ rows_shown-requires g c = record {
       let old = state g.S.Store c.args.conn.now in
       let names = g.R.Listed.named.names in
       let means = g.met.R.Listed.is_listing.selects old.now.schema (c.requires.reading clean) in
-      subst (λ (t : List ℕ). IsQuery t old) (sym c.list_text.ensures) (record { program = _; names = names; command = means.command; plain = means.plain });
+      subst (λ (t : List ℕ). IsQuery t old) (sym c.select_rows_text.ensures)
+      (record { program = _; names = names; command = means.command; plain = means.plain });
 }
 
 pub returns-clause-rows : goal.returns-clause-rows
@@ -23,7 +24,8 @@ returns-clause-rows g c clean =
     let it = g.R.Tabled.shape in
     let how = g.R.Listed.named in
     let law = g.met.R.Listed.is_listing in
-    let told = subst (λ (t : List ℕ). IfOk c.rows_shown.result (λ rows. Shown t [] old new rows.items)) c.list_text.ensures
+    let told = subst (λ (t : List ℕ). IfOk c.rows_shown.result (λ rows. Shown t [] old new rows.items)) c.select_rows_text.ensures
     (c.rows_shown.ensures.shown clean) in
-    shows_all (list_text how) old.now.schema it.tree how.shown how.names (law.selects old.now.schema (c.requires.reading early)) it.columns law.shows_columns
+    shows_all (select_rows_text how) old.now.schema it.tree how.shown how.names (law.selects old.now.schema (c.requires.reading early)) it.columns
+    law.shows_columns
     old new refl c.rows_shown.result told
