@@ -12,7 +12,7 @@ returns-in_ok-look_at_all-in-Branches-clause-gathered g c t at =
 pub returns-in_ok-look_at_lettings-in-Vacant-clause-gathered : goal.returns-in_ok-look_at_lettings-in-Vacant-clause-gathered
 returns-in_ok-look_at_lettings-in-Vacant-clause-gathered g c t at =
     let lettings = c.in_ok-look_at_lettings-in-Vacant.ensures in
-    rw c.in-Vacant.is (both_then (λ (s b : State). with_lettings s.books b) at lettings.reads lettings.taken)
+    rw c.in-Vacant.is (both_then (λ (s b : State). with_lettings s.books b) at lettings.reads lettings.gathered)
 
 pub returns-in-Matching-clause-gathered : goal.returns-in-Matching-clause-gathered
 returns-in-Matching-clause-gathered g c = rw c.in-Matching.is c.gather_matching.ensures.gathered
