@@ -6,10 +6,15 @@ use Rattle.dh_model.specs.Answers.{report}
 use Rattle.dh_model.specs.Runs.{batch_size}
 use Rattle.dh_schema.specs.Store as store
 use Rattle.dh_agency.specs.AgencyView.{AgencyView}
-use Rattle.dh_agency.specs.Agency.{stand}
+use Rattle.dh_agency.specs.Agency.{machine, stand}
 use Rattle.dh_agency.proofs.Carried.{sound_in_order}
 use Rattle.dh_agency.proofs.Standing.{report_stands}
 use Rattle.dh_agency.proofs.agency.Agency.show.Goals as goal
+
+pub returns-in-Ok-clause-said : goal.returns-in-Ok-clause-said
+returns-in-Ok-clause-said g c clean =
+    subst (λ (a : AgencyView g.row.S.Denot). report_of c.in-Ok.answer ≡ report (machine g.S.Store a) c.args.question.now) c.self.view_is
+    (c.in-Ok.ensures.answer clean)
 
 pub returns-in-Ok-clause-whole : goal.returns-in-Ok-clause-whole
 returns-in-Ok-clause-whole g c clean =
