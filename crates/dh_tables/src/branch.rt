@@ -33,7 +33,7 @@ impl Tabled for Branch {
     ghost is_kind = { itself Branches };
 
     fn insert_text() -> &'static str {
-        text_of!(insert, branch, "?1, ?2, ?3, ?4")
+        text_of!(insert, branch, "")
     }
 
     fn put(self, books: &mut Books) -> Result<(), AllocError> {

@@ -33,7 +33,7 @@ impl Tabled for BranchFee {
     ghost is_kind = { itself BranchFees };
 
     fn insert_text() -> &'static str {
-        text_of!(insert, branch_fee, "?1, ?2")
+        text_of!(insert, branch_fee, "")
     }
 
     fn put(self, books: &mut Books) -> Result<(), AllocError> {

@@ -34,7 +34,7 @@ impl Tabled for Charge {
     ghost is_kind = { itself Charges };
 
     fn insert_text() -> &'static str {
-        text_of!(insert, charge, "?1, ?2, ?3, ?4, ?5")
+        text_of!(insert, charge, "")
     }
 
     fn put(self, books: &mut Books) -> Result<(), AllocError> {
@@ -73,7 +73,7 @@ impl InBulk for Charge {
         text_of!(
             insert,
             charge,
-            "?1, ?2, ?3, ?4, ?5), (?6, ?7, ?8, ?9, ?10), (?11, ?12, ?13, ?14, ?15), (?16, ?17, ?18, ?19, ?20), \
+            "), (?6, ?7, ?8, ?9, ?10), (?11, ?12, ?13, ?14, ?15), (?16, ?17, ?18, ?19, ?20), \
              (?21, ?22, ?23, ?24, ?25), (?26, ?27, ?28, ?29, ?30), (?31, ?32, ?33, ?34, ?35), (?36, ?37, ?38, ?39, ?40), \
              (?41, ?42, ?43, ?44, ?45), (?46, ?47, ?48, ?49, ?50"
         )

@@ -33,7 +33,7 @@ impl Tabled for Client {
     ghost is_kind = { itself Clients };
 
     fn insert_text() -> &'static str {
-        text_of!(insert, client, "?1, ?2, ?3, ?4, ?5")
+        text_of!(insert, client, "")
     }
 
     fn put(self, books: &mut Books) -> Result<(), AllocError> {

@@ -33,7 +33,7 @@ impl Tabled for Ending {
     ghost is_kind = { itself Endings };
 
     fn insert_text() -> &'static str {
-        text_of!(insert, ending, "?1, ?2")
+        text_of!(insert, ending, "")
     }
 
     fn put(self, books: &mut Books) -> Result<(), AllocError> {

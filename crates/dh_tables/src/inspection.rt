@@ -34,7 +34,7 @@ impl Tabled for Inspection {
     ghost is_kind = { itself Inspections };
 
     fn insert_text() -> &'static str {
-        text_of!(insert, inspection, "?1, ?2, ?3, ?4")
+        text_of!(insert, inspection, "")
     }
 
     fn put(self, books: &mut Books) -> Result<(), AllocError> {

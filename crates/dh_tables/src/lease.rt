@@ -33,7 +33,7 @@ impl Tabled for Lease {
     ghost is_kind = { itself Leases };
 
     fn insert_text() -> &'static str {
-        text_of!(insert, lease, "?1, ?2, ?3, ?4, ?5, ?6, ?7")
+        text_of!(insert, lease, "")
     }
 
     fn put(self, books: &mut Books) -> Result<(), AllocError> {

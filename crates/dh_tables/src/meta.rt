@@ -40,7 +40,7 @@ pub fn insert_meta<S: Alter>(
     ensures crash { CommitsNothing (state S.Store tx.old.conn.now) (state S.Store tx.new.conn.now) }
 {
     let values = months.to_row(alloc, &[])?;
-    tx.execute(text_of!(insert, meta, "?1, ?2, ?3, ?4"), &values)?;
+    tx.execute(text_of!(insert, meta, ""), &values)?;
     Ok(())
 }
 

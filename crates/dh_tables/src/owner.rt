@@ -33,7 +33,7 @@ impl Tabled for Owner {
     ghost is_kind = { itself Owners };
 
     fn insert_text() -> &'static str {
-        text_of!(insert, owner, "?1, ?2, ?3, ?4")
+        text_of!(insert, owner, "")
     }
 
     fn put(self, books: &mut Books) -> Result<(), AllocError> {

@@ -34,7 +34,7 @@ impl Tabled for Part {
     ghost is_kind = { itself Parts };
 
     fn insert_text() -> &'static str {
-        text_of!(insert, part, "?1, ?2, ?3, ?4, ?5")
+        text_of!(insert, part, "")
     }
 
     fn put(self, books: &mut Books) -> Result<(), AllocError> {

@@ -34,7 +34,7 @@ impl Tabled for PartFee {
     ghost is_kind = { itself PartFees };
 
     fn insert_text() -> &'static str {
-        text_of!(insert, part_fee, "?1, ?2, ?3, ?4")
+        text_of!(insert, part_fee, "")
     }
 
     fn put(self, books: &mut Books) -> Result<(), AllocError> {

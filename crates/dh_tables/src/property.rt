@@ -33,7 +33,7 @@ impl Tabled for Property {
     ghost is_kind = { itself Properties };
 
     fn insert_text() -> &'static str {
-        text_of!(insert, property, "?1, ?2, ?3, ?4, ?5, ?6, ?7, ?8, ?9, ?10")
+        text_of!(insert, property, "")
     }
 
     fn put(self, books: &mut Books) -> Result<(), AllocError> {

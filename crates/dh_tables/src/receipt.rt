@@ -33,7 +33,7 @@ impl Tabled for Receipt {
     ghost is_kind = { itself Receipts };
 
     fn insert_text() -> &'static str {
-        text_of!(insert, receipt, "?1, ?2, ?3, ?4, ?5, ?6")
+        text_of!(insert, receipt, "")
     }
 
     fn put(self, books: &mut Books) -> Result<(), AllocError> {

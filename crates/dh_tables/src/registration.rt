@@ -33,7 +33,7 @@ impl Tabled for Registration {
     ghost is_kind = { itself Registrations };
 
     fn insert_text() -> &'static str {
-        text_of!(insert, registration, "?1, ?2, ?3, ?4")
+        text_of!(insert, registration, "")
     }
 
     fn put(self, books: &mut Books) -> Result<(), AllocError> {

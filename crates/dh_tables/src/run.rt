@@ -33,7 +33,7 @@ impl Tabled for Run {
     ghost is_kind = { itself Runs };
 
     fn insert_text() -> &'static str {
-        text_of!(insert, run, "?1, ?2, ?3, ?4, ?5")
+        text_of!(insert, run, "")
     }
 
     fn put(self, books: &mut Books) -> Result<(), AllocError> {

@@ -33,7 +33,7 @@ impl Tabled for Staff {
     ghost is_kind = { itself Staff };
 
     fn insert_text() -> &'static str {
-        text_of!(insert, staff, "?1, ?2, ?3, ?4")
+        text_of!(insert, staff, "")
     }
 
     fn put(self, books: &mut Books) -> Result<(), AllocError> {

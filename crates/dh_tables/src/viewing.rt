@@ -33,7 +33,7 @@ impl Tabled for Viewing {
     ghost is_kind = { itself Viewings };
 
     fn insert_text() -> &'static str {
-        text_of!(insert, viewing, "?1, ?2, ?3, ?4")
+        text_of!(insert, viewing, "")
     }
 
     fn put(self, books: &mut Books) -> Result<(), AllocError> {
