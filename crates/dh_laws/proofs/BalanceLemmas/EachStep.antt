@@ -68,7 +68,7 @@ module _ (size : ℕ) (s : State) (lease : ℕ) (keyed : AreKeyed s.books) (lawf
 
   turned_moves : (rows : Change) (a : Accepted s.books s.open_run rows) → is_plain rows ≡ true
       → Moves (verdict.Change rows) (turned s.books s.open_run rows a)
-  turned_moves (change.Receipt it) a plain = paid it a.number
+  turned_moves (change.Receipt it) a plain = paid it a.known
   turned_moves (change.Open row) a plain = cc
   turned_moves rows a plain = own
 

@@ -116,16 +116,16 @@ module _ (size : ℕ) (b : Books) where
     never e = cc
 
     changes_pass : (rows : Change) → Accepted b (Some run) rows → Pass rows
-    changes_pass (change.Branch it) a = never a.closed
-    changes_pass (change.NewFee it) a = never a.0.closed
-    changes_pass (change.Fee it) a = never a.0.closed
-    changes_pass (change.Property it) a = added_passes it names a.new
+    changes_pass (change.Branch it) a = never a.fits
+    changes_pass (change.NewFee it) a = never a.fits
+    changes_pass (change.Fee it) a = never a.fits
+    changes_pass (change.Property it) a = added_passes it names a.known
     changes_pass (change.Assign it) a = property_passes it.property (λ row. record row { staff = it.staff }) a.row a.is refl
-    changes_pass (change.Rent it) a = property_passes it.property (λ row. record row { rent = it.rent }) a.0 a.1 refl
-    changes_pass (change.Comment it) a = comment_passes it a.0 a.1
-    changes_pass (change.Lease it) a = never a.closed
-    changes_pass (change.NewEnding it) a = never a.0.closed
-    changes_pass (change.Ending it) a = never a.0.closed
+    changes_pass (change.Rent it) a = property_passes it.property (λ row. record row { rent = it.rent }) a.row a.is refl
+    changes_pass (change.Comment it) a = comment_passes it a.row a.is
+    changes_pass (change.Lease it) a = never a.fits.closed
+    changes_pass (change.NewEnding it) a = never a.fits.closed
+    changes_pass (change.Ending it) a = never a.fits.closed
     changes_pass (change.Open it) a = never a.closed
     changes_pass other a = on_whole (changed other) (λ row. refl) (open_row b)
 

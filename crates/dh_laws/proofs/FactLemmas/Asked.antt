@@ -28,7 +28,8 @@ use Rattle.dh_types.specs.Records.{is_same_receipt_kind}
 use Rattle.dh_types.specs.Reports.{Report, BranchArrears, LeaseStatement, NoReport, RunParts}
 use Rattle.dh_types.proofs.SameValues.{numbers, texts}
 use Rattle.dh_model.specs.declared.open_run.OpenRun.{OpenRun}
-use Rattle.dh_model.specs.Answers.{answer_of, arrears, balance, charges_of, debt, debts, is_put_off, matching_report, owed, receipts_of, report, run_report, statement, unless_open}
+use Rattle.dh_model.specs.Answers.{answer_of, arrears, balance, charges_of, debt, debts, is_put_off, matching_report, owed, receipts_of}
+use Rattle.dh_model.specs.Answers.{run_report, statement, unless_open}
 use Rattle.dh_model.specs.Answers.{fee_of_part, line_of_lease, line_of_property, owner_charges, owner_line, owner_lines, owner_report}
 use Rattle.dh_model.specs.Books.{Books}
 use Rattle.dh_model.specs.Kinds.{Kind}

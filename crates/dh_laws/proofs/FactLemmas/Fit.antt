@@ -3,17 +3,16 @@ use Rattle.std.proofs.Common.{◌≡◌, ◌≤◌, ◌+◌, ℕ, Option, None, 
 use Rattle.std.specs.FinMap.{get, len}
 use Rattle.dh_types.specs.declared.lease.Receipt.{Receipt}
 use Rattle.dh_model.specs.declared.open_run.OpenRun.{OpenRun}
-use Rattle.dh_model.specs.declared.rows.Change.{Change}
-use Rattle.dh_model.specs.declared.rows.Change.TheVariants as change
 use Rattle.dh_model.specs.Books.{Books}
 use Rattle.dh_model.specs.Kinds.{Kind}
+use Rattle.dh_model.specs.Edits.{Begin, CanEdit, Edit, Insert, Nothing, Replace, Update, edit_of}
 use Rattle.dh_model.specs.Rules.{KeysInOrder, RunsInOrder}
 use Rattle.dh_model.specs.Rules.Rule.{Keys, Runs}
 use Rattle.dh_model.proofs.KeyOrders.{nat_ties, nat_total}
 use Rattle.dh_model.proofs.MapRows.{each_got, there}
 use Rattle.dh_laws.specs.InOrder.{AreKeyed}
-use Rattle.dh_laws.specs.Looks.{AcceptedChangesFit, FitsIn}
-use Rattle.dh_laws.proofs.VerdictLemmas.Acceptance.{Accepted}
+use Rattle.dh_laws.specs.Looks.{AcceptedChangesFit}
+use Rattle.dh_laws.proofs.VerdictLemmas.Acceptance.{Edits, edits}
 use Rattle.dh_laws.proofs.VerdictLemmas.Cases.{accepted}
 use Rattle.dh_laws.proofs.BalanceLemmas.Dues.{none_if}
 
@@ -27,33 +26,20 @@ module _ (books : Books) (keyed : AreKeyed books) where
       omega (arith, own, within, next))
 
   -- the next month has no run
-  next_month_is_new : RunsInOrder books → (month : ℕ) → month ≡ books.next → get books.runs month ≡ None
+  pub next_month_is_new : RunsInOrder books → (month : ℕ) → month ≡ books.next → get books.runs month ≡ None
   next_month_is_new runs month next = none_if (get books.runs month) (λ row is.
       let within = (runs.run month).0 ((there nat_total nat_ties books.runs month).1 (row, is)) in
       omega (arith, within.1, next))
 
   module _ (run : Option OpenRun) (keys : KeysInOrder books) (runs : RunsInOrder books) where
-    fits : (rows : Change) → Accepted books run rows → FitsIn rows books
-    fits (change.Branch it) a = a.new
-    fits (change.NewFee it) a = a.1
-    fits (change.Fee it) a = a.1
-    fits (change.Staff it) a = a.new
-    fits (change.Owner it) a = a
-    fits (change.Property it) a = a.new
-    fits (change.Assign it) a = (a.row, a.is)
-    fits (change.Rent it) a = a
-    fits (change.Client it) a = a
-    fits (change.Register it) a = a.new
-    fits (change.Viewing it) a = a.new
-    fits (change.Comment it) a = a
-    fits (change.Inspection it) a = a.new
-    fits (change.Lease it) a = a.new
-    fits (change.NewEnding it) a = a.1
-    fits (change.Ending it) a = a.1
-    fits (change.Receipt it) a = next_number_is_new keys it.number a.number
-    fits (change.Open it) a = next_month_is_new runs it.month a.month
-    fits change.Post a = tt
+    fits : (edit : Edit) → Edits books run edit → CanEdit edit books
+    fits (Insert Kind.Receipts it) a = next_number_is_new keys it.number a.known
+    fits (Insert kind it) a = a.known
+    fits (Replace kind it) a = a.known
+    fits (Update kind key into) a = (a.row, a.is)
+    fits (Begin it) a = next_month_is_new runs it.month a.month
+    fits Nothing a = tt
 
 pub accepted_changes_fit : (size : ℕ) → AcceptedChangesFit size
 accepted_changes_fit size books run told rows in_order h =
-    fits books in_order.keyed run (in_order.rules Keys) (in_order.rules Runs) rows (accepted books run rows told h)
+    fits books in_order.keyed run (in_order.rules Keys) (in_order.rules Runs) (edit_of rows) (edits books run rows (accepted books run rows told h))

@@ -19,7 +19,6 @@ use Rattle.dh_model.specs.Books.{Books}
 use Rattle.dh_model.specs.Kinds.{Kind}
 use Rattle.dh_model.specs.Leases.{due, dues, dues_among, dues_of, length_of, months_in, overlap, running}
 use Rattle.dh_model.specs.Machine.{changed}
-use Rattle.dh_model.specs.Verdicts.{ending_rows}
 use Rattle.dh_model.specs.Rules.{EndingsInOrder, IsEarly, LeasesNeverOverlap, charges_in, parts_in}
 use Rattle.dh_model.specs.Runs.{dues_of_branch, is_property_of, leases_of_branch}
 use Rattle.dh_model.proofs.Among.{Among, in_filter, is_among}
@@ -37,7 +36,7 @@ use Rattle.dh_laws.proofs.MonthLemmas.Alike.{have_same}
 use Rattle.dh_laws.proofs.MonthLemmas.Dues.{dues_first}
 use Rattle.dh_laws.proofs.MonthLemmas.Keep.{RunInMonths, frozen_keeps}
 use Rattle.dh_laws.proofs.MonthLemmas.Open.{run_within}
-use Rattle.dh_laws.proofs.VerdictLemmas.Cases.{case_of}
+use Rattle.dh_laws.proofs.VerdictLemmas.Cases.{case_of, of_ending}
 
 -- what falls due in a month is the same, if a lease runs for more months than reach it
 module _ (month : ℕ) (lease : Lease) (m : ℕ) (late : month < month_of_day lease.terms.start + m) where
@@ -180,18 +179,13 @@ module _ (b : Books) (keyed : AreKeyed b) (run : Option OpenRun) (it : Ending) (
 
 -- ---- so it is for each end that is accepted
 
-ends : (b : Books) (run : Option OpenRun) (it : Ending) (found : Option Ending) → Accepted b run (ending_rows it found) → EndsLease b run it
-ends b run it None accepted = accepted.0
-ends b run it (Some was) accepted = accepted.0
-
-made : (b : Books) (it : Ending) (found : Option Ending) → changed (ending_rows it found) b ≡ record b { endings = insert b.endings it.lease it }
-made b it None = refl
-made b it (Some was) = refl
-
 pub ends_keep_dues : EndsKeepDues
 ends_keep_dues books run it rows month keyed accepted before =
     let found = get books.endings it.lease in
     let case = case_of books run rows (command.End it) accepted in
+    let ends = of_ending (λ said. Accepted books run said → EndsLease books run it) it found (λ none a. a.fits)
+    (λ was is a. a.fits) case.1 in
     ap (λ (said : Change). dues (changed said books) month) case.0
-    ∙ ap (λ (after : Books). dues after month) (made books it found)
-    ∙ dues_after_end books keyed run it (ends books run it found case.1) month before
+    ∙ ap (λ (after : Books). dues after month)
+    (of_ending (λ said. changed said books ≡ record books { endings = insert books.endings it.lease it }) it found (λ none. refl) (λ was is. refl))
+    ∙ dues_after_end books keyed run it ends month before

@@ -176,12 +176,12 @@ module _ (size : ℕ) (books : Books) (run : Option OpenRun) (names : NamesWhatI
   }
 
   same_fees : (rows : Change) (a : Accepted books run rows) → SameFees books (turned books run rows a)
-  same_fees (change.NewFee it) a = fees_alike (insert books.branch_fees it.branch it) a.0.closed
-  same_fees (change.Fee it) a = fees_alike (insert books.branch_fees it.branch it) a.0.closed
-  same_fees (change.Property it) a = properties_alike (insert books.properties it.number it) (new_property books it.number it names a.new)
+  same_fees (change.NewFee it) a = fees_alike (insert books.branch_fees it.branch it) a.fits
+  same_fees (change.Fee it) a = fees_alike (insert books.branch_fees it.branch it) a.fits
+  same_fees (change.Property it) a = properties_alike (insert books.properties it.number it) (new_property books it.number it names a.known)
   same_fees (change.Assign it) a = replaced_alike it.property (record a.row { staff = it.staff }) a.row a.is refl
-  same_fees (change.Rent it) a = replaced_alike it.property (record a.0 { rent = it.rent }) a.0 a.1 refl
-  same_fees (change.Lease it) a = lease_alike it a.new
+  same_fees (change.Rent it) a = replaced_alike it.property (record a.row { rent = it.rent }) a.row a.is refl
+  same_fees (change.Lease it) a = lease_alike it a.known
   same_fees (change.Open it) a = open_alike it a.month
   same_fees other a = untouched (turned books run other a) refl refl refl refl refl refl refl refl
 

@@ -24,7 +24,7 @@ use Rattle.dh_model.proofs.Among.{Among, is_among}
 use Rattle.dh_model.proofs.KeyOrders.{text_total, text_ties}
 use Rattle.dh_model.proofs.Rising.{IsBefore, Rises, rises_by}
 use Rattle.dh_laws.specs.InOrder.{AreKeyed}
-use Rattle.dh_laws.proofs.VerdictLemmas.Acceptance.{Accepted, AddsProperty, AddsStaff, Assigns, turned, turned_is}
+use Rattle.dh_laws.proofs.VerdictLemmas.Acceptance.{Accepted, Assigns, turned, turned_is}
 use Rattle.dh_laws.proofs.MapMerges.{insert_keyed, rows_rise}
 use Rattle.dh_model.proofs.MapRows.{each_put, sum_new, sum_old, there}
 use Rattle.dh_laws.proofs.VerdictLemmas.Checks.{CanManage}
@@ -173,13 +173,14 @@ module _ (books : Books) (run : Option OpenRun) (keyed : AreKeyed books) (names 
       let none : None ≡ Some row.0 = sym new ∙ row.1 in
       cc)
 
-  managers_staff : (it : Staff) → AddsStaff books run it → ManagesAtMostHundred (record books { staff = insert books.staff it.number it })
-  managers_staff it h =
-      let none = no_count (manages it.number) (values books.properties) (not_yet it h.new) in
+  managers_staff : (it : Staff) → get books.staff it.number ≡ None → ManagesAtMostHundred (record books { staff = insert books.staff it.number it })
+  managers_staff it new =
+      let none = no_count (manages it.number) (values books.properties) (not_yet it new) in
       each_put text_total text_ties books.staff it.number it (λ m. managed_by books m.number ≤ 100) rules (omega (arith, none))
 
-  managers_property : (it : Property) → AddsProperty books run it → ManagesAtMostHundred (record books { properties = insert books.properties it.number it })
-  managers_property it h member a = managed_after books keyed it.number it refl member.number it.branch h.staff (rules member a)
+  managers_property : (it : Property) → IfSome it.staff (CanManage books it.branch it.number)
+      → ManagesAtMostHundred (record books { properties = insert books.properties it.number it })
+  managers_property it can member a = managed_after books keyed it.number it refl member.number it.branch can (rules member a)
 
   managers_assigned : (it : Assignment) (h : Assigns books run it) → ManagesAtMostHundred (turned books run (change.Assign it) h)
   managers_assigned it h member a =
@@ -189,12 +190,12 @@ module _ (books : Books) (run : Option OpenRun) (keyed : AreKeyed books) (names 
 
   managers_at_rent : (it : RentChange) (h : Accepted books run (change.Rent it)) → ManagesAtMostHundred (turned books run (change.Rent it) h)
   managers_at_rent it h member a =
-      managed_the_same books keyed it.property (record h.0 { rent = it.rent }) (keyed Kind.Properties it.property h.0 h.1) member.number h.0 h.1 refl
+      managed_the_same books keyed it.property (record h.row { rent = it.rent }) (keyed Kind.Properties it.property h.row h.is) member.number h.row h.is refl
       (rules member a)
 
   few_managed : (rows : Change) (a : Accepted books run rows) → ManagesAtMostHundred (turned books run rows a)
-  few_managed (change.Staff it) h = managers_staff it h
-  few_managed (change.Property it) h = managers_property it h
+  few_managed (change.Staff it) h = managers_staff it h.known
+  few_managed (change.Property it) h = managers_property it h.fits
   few_managed (change.Assign it) h = managers_assigned it h
   few_managed (change.Rent it) h = managers_at_rent it h
   few_managed rows h = rules

@@ -9,6 +9,7 @@ use Rattle.dh_model.specs.declared.open_run.OpenRun.{OpenRun}
 use Rattle.dh_model.specs.declared.rows.Change.{Change}
 use Rattle.dh_model.specs.Books.{Books}
 use Rattle.dh_model.specs.Kinds.{Kind}
+use Rattle.dh_model.specs.Edits.{edit_of}
 use Rattle.dh_model.specs.Machine.{changed}
 use Rattle.dh_model.specs.Rules.{MeetsRules, Rule}
 use Rattle.dh_laws.specs.InOrder.{IsInOrder, run_after}
@@ -25,7 +26,7 @@ use Rattle.dh_laws.proofs.MonthLemmas.Keep.{RunInMonths}
 use Rattle.dh_laws.proofs.VerdictLemmas.Cases.{IsLimited, accepted, limited}
 
 module _ (size : ℕ) (books : Books) (run : Option OpenRun) (in_order : IsInOrder size books run) (rows : Change) (accepted : Accepted books run rows)
-    (limits : IsLimited rows) where
+    (limits : IsLimited (edit_of rows)) where
   was_settled : AreSettled books
   was_settled = let r = in_order.rules in
       record {

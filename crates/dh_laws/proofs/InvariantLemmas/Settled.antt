@@ -16,6 +16,7 @@ use Rattle.dh_model.specs.declared.rows.Change.{Change}
 use Rattle.dh_model.specs.declared.rows.Change.TheVariants as change
 use Rattle.dh_model.specs.Books.{Books}
 use Rattle.dh_model.specs.Kinds.{Kind}
+use Rattle.dh_model.specs.Edits.{edit_of}
 use Rattle.dh_model.specs.Checks.{is_same_text}
 use Rattle.dh_model.specs.Leases.{overlap, running, months_in}
 use Rattle.dh_model.specs.Machine.{changed}
@@ -32,7 +33,7 @@ use Rattle.dh_model.proofs.Pairs.{pairs_rise, rises_put, rising_pairs}
 use Rattle.dh_laws.proofs.InvariantLemmas.EarlyEnds.{endings_after_end, overlaps_after_end}
 use Rattle.dh_laws.proofs.VerdictLemmas.Cases.{IsLimited}
 use Rattle.dh_laws.proofs.VerdictLemmas.Checks.{IsNewKey}
-use Rattle.dh_laws.proofs.BalanceLemmas.Dues.{none_if}
+use Rattle.dh_laws.proofs.FactLemmas.Fit.{next_month_is_new, next_number_is_new}
 
 -- the rules of leases, endings, deposits and keys
 pub record AreSettled (books : Books) : Type 0 where
@@ -132,14 +133,9 @@ module _ (b : Books) (keyed : AreKeyed b) (settled : AreSettled b) where
       (subst (Rises (λ k other. is_same_text k other ≡ false)) (sym is) (rises_put (λ k other. is_same_text k other ≡ false) front back key rises
       (λ other a. new_key_apart key new other (subst (λ ks. Among ks other) (sym was) a))))
 
-  module _ (run : Option OpenRun) (it : Receipt) (adds : AddsReceipt b run it) where
+  module _ (run : Option OpenRun) (it : Receipt) (next : it.number ≡ len b.receipts + 1) (adds : AddsReceipt b run it) where
     fresh_receipt : get b.receipts it.number ≡ None
-    fresh_receipt = none_if (get b.receipts it.number) (λ old is.
-        let own = keyed Kind.Receipts it.number old is in
-        let keys = settled.keys in
-        let within = (keys.numbers old (is_among (values b.receipts) old (of_row nat_total nat_ties b.receipts it.number old is))).1 in
-        let number = adds.number in
-        omega (arith, own, within, number))
+    fresh_receipt = next_number_is_new b keyed settled.keys it.number next
 
     one_more_receipt : len (insert b.receipts it.number it) ≡ len b.receipts + 1
     one_more_receipt = len-insert nat_total b.receipts it.number it ∙ ap (λ found. cond (is_some found) (len b.receipts) (len b.receipts + 1)) fresh_receipt
@@ -150,7 +146,6 @@ module _ (b : Books) (keyed : AreKeyed b) (settled : AreSettled b) where
         let key_of = λ (receipt : Receipt). receipt.key in
         let keys = settled.keys in
         let more = one_more_receipt in
-        let number = adds.number in
         record {
           keys = with_key it.key adds.key (map (λ (receipt : Receipt). receipt.key) p.before) (map (λ (receipt : Receipt). receipt.key) p.after ++ run_keys)
               (map (λ (receipt : Receipt). receipt.key) (values (insert b.receipts it.number it)) ++ run_keys)
@@ -160,7 +155,7 @@ module _ (b : Books) (keyed : AreKeyed b) (settled : AreSettled b) where
               ∙ map_front (λ (receipt : Receipt). receipt.key) p.before (it ∷ p.after) run_keys);
           numbers = each_insert nat_total nat_ties b.receipts it.number it (λ receipt. (1 ≤ receipt.number)
               × (receipt.number ≤ len (insert b.receipts it.number it)))
-              (omega (arith, number), omega (arith, number, more))
+              (omega (arith, next), omega (arith, next, more))
               (λ k other apart e. let within = keys.numbers other (is_among (values b.receipts) other (of_row nat_total nat_ties b.receipts k other e)) in
               (within.0, omega (arith, within.1, more)));
         }
@@ -196,9 +191,7 @@ module _ (b : Books) (keyed : AreKeyed b) (settled : AreSettled b) where
   pub settled_with_run : (run : Option OpenRun) (it : Run) → OpensRun b run it → RunsInOrder b
       → AreSettled (record b { runs = insert b.runs it.month it; next = it.month + 1 })
   settled_with_run run it opens runs =
-      let fresh : get b.runs it.month ≡ None = none_if (get b.runs it.month) (λ old is. let within = (runs.run it.month).0 (ap is_some is) in
-      let next = opens.month in omega (arith, within.1, next)) in
-      let p = values_new nat_total nat_ties b.runs it.month it fresh in
+      let p = values_new nat_total nat_ties b.runs it.month it (next_month_is_new b keyed runs it.month opens.month) in
       let deposits = settled.deposits in
       let keys = settled.keys in
       record {
@@ -227,24 +220,24 @@ module _ (b : Books) (keyed : AreKeyed b) (settled : AreSettled b) where
       let both = and_from (is_same_text other.terms.client lease.terms.client) (nat_eq other.terms.start lease.terms.start) client start in
       cc)
 
-  pub settled_with_lease : (run : Option OpenRun) (it : Lease) → AddsLease b run it → IsLeaseLength it.terms.months → RunsInOrder b
-      → NamesWhatIsThere b
+  pub settled_with_lease : (run : Option OpenRun) (it : Lease) → get b.leases it.terms.number ≡ None → AddsLease b run it → IsLeaseLength it.terms.months
+      → RunsInOrder b → NamesWhatIsThere b
       → (get b.endings it.terms.number ≡ None)
       → AreSettled (record b { leases = insert b.leases it.terms.number it })
-  settled_with_lease run it adds limits runs names unended =
+  settled_with_lease run it new adds limits runs names unended =
       let deposits = settled.deposits in
       let keys = settled.keys in
       let number = it.terms.number in
       record {
         overlaps = each_two_insert nat_total nat_ties b.leases it.terms.number it
-            (λ lease other. overlap (running b.endings lease) (running b.endings other) ≡ false) adds.new settled.overlaps
+            (λ lease other. overlap (running b.endings lease) (running b.endings other) ≡ false) new settled.overlaps
             (λ k other e.
             let own : running b.endings it ≡ it.terms = ap (λ found. let t : LeaseTerms =
             record it.terms { months = months_in it.terms.months found } in t) unended in
             let free = ap (λ t. overlap t (running b.endings other)) own ∙ adds.free other (of_row nat_total nat_ties b.leases k other e) in
             (overlap_goes_both_ways (running b.endings other) (running b.endings it) ∙ free, free));
         starts = each_two_insert nat_total nat_ties b.leases it.terms.number it
-            (λ lease other. (is_same_text lease.terms.client other.terms.client && nat_eq lease.terms.start other.terms.start) ≡ false) adds.new settled.starts
+            (λ lease other. (is_same_text lease.terms.client other.terms.client && nat_eq lease.terms.start other.terms.start) ≡ false) new settled.starts
             (λ k other e. let first = adds.first other (of_row nat_total nat_ties b.leases k other e) in (first, starts_back it other first));
         terms = each_insert nat_total nat_ties b.leases it.terms.number it
             (IsInTime b.first)
@@ -253,7 +246,6 @@ module _ (b : Books) (keyed : AreKeyed b) (settled : AreSettled b) where
         deposits = record {
           amounts = λ receipt a kind.
               let its = (there nat_total nat_ties b.leases receipt.payment.lease).0 (names Kind.Receipts receipt a) in
-              let new = adds.new in
               let apart : receipt.payment.lease ≢ it.terms.number = λ same. let none : get b.leases receipt.payment.lease ≡ None =
               ap (get b.leases) same ∙ new in let some = its.1 in cc in
               subst (λ found. IfSome found (λ lease. receipt.payment.amount ≡ 2 * lease.rent))
@@ -263,7 +255,6 @@ module _ (b : Books) (keyed : AreKeyed b) (settled : AreSettled b) where
         keys = record { keys = keys.keys; numbers = keys.numbers };
         endings = λ ending a.
             let its = (there nat_total nat_ties b.leases ending.lease).0 (names Kind.Endings ending a) in
-            let new = adds.new in
             let apart : ending.lease ≢ it.terms.number = λ same. let none : get b.leases ending.lease ≡ None =
             ap (get b.leases) same ∙ new in let some = its.1 in cc in
             let was = settled.endings ending a in (
@@ -296,13 +287,13 @@ module _ (b : Books) (run : Option OpenRun) (keyed : AreKeyed b) (settled : AreS
   as_before c leases endings receipts same_runs first = settled_alike b c
       (record { leases = leases; endings = endings; receipts = receipts; runs = same_runs; first = first }) settled
 
-  turned_settled : (rows : Change) (a : Accepted b run rows) → IsLimited rows → AreSettled (turned b run rows a)
-  turned_settled (change.Lease it) a l = settled_with_lease b keyed settled run it a l runs names (unended it.terms.number a.new)
-  turned_settled (change.NewEnding it) a l = settled_with_ending b keyed settled run it a.0 l
-  turned_settled (change.Ending it) a l = settled_with_ending b keyed settled run it a.0 l
-  turned_settled (change.Receipt it) a l = settled_with_receipt b keyed settled run it a
+  turned_settled : (rows : Change) (a : Accepted b run rows) → IsLimited (edit_of rows) → AreSettled (turned b run rows a)
+  turned_settled (change.Lease it) a l = settled_with_lease b keyed settled run it a.known a.fits l runs names (unended it.terms.number a.known)
+  turned_settled (change.NewEnding it) a l = settled_with_ending b keyed settled run it a.fits l
+  turned_settled (change.Ending it) a l = settled_with_ending b keyed settled run it a.fits l
+  turned_settled (change.Receipt it) a l = settled_with_receipt b keyed settled run it a.known a.fits
   turned_settled (change.Open it) a l = settled_with_run b keyed settled run it a runs
   turned_settled rows a l = as_before (turned b run rows a) refl refl refl refl refl
 
-  pub keeps_settled : (rows : Change) → Accepted b run rows → IsLimited rows → AreSettled (changed rows b)
+  pub keeps_settled : (rows : Change) → Accepted b run rows → IsLimited (edit_of rows) → AreSettled (changed rows b)
   keeps_settled rows a l = subst AreSettled (turned_is b run rows a) (turned_settled rows a l)

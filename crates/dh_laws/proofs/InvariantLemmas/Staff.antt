@@ -12,7 +12,7 @@ use Rattle.dh_model.specs.Checks.{works_at}
 use Rattle.dh_model.specs.Machine.{changed}
 use Rattle.dh_model.specs.Rules.{StaffOfTheBranch}
 use Rattle.dh_model.proofs.KeyOrders.{text_total, text_ties, texts_total, texts_tie}
-use Rattle.dh_laws.proofs.VerdictLemmas.Acceptance.{Accepted, AddsStaff, Registers, turned, turned_is}
+use Rattle.dh_laws.proofs.VerdictLemmas.Acceptance.{Accepted, turned, turned_is}
 use Rattle.dh_laws.proofs.InvariantLemmas.Growth.{if_some}
 use Rattle.dh_model.proofs.MapRows.{cases_key, each_got, each_put, get_other}
 
@@ -33,10 +33,10 @@ module _ (books : Books) (run : Option OpenRun) (rules : StaffOfTheBranch books)
     | inr apart ↦ ap (works_at branch) (get_other text_total text_ties books.staff it.number it member apart) ∙ h
   ]
 
-  staff_added : (it : Staff) → AddsStaff books run it → StaffOfTheBranch (record books { staff = insert books.staff it.number it })
-  staff_added it h = record {
-    managers = λ p a. if_some p.staff (works_still it h.new p.branch) (rules.managers p a);
-    registrars = λ r a. works_still it h.new r.branch r.staff (rules.registrars r a);
+  staff_added : (it : Staff) → get books.staff it.number ≡ None → StaffOfTheBranch (record books { staff = insert books.staff it.number it })
+  staff_added it new = record {
+    managers = λ p a. if_some p.staff (works_still it new p.branch) (rules.managers p a);
+    registrars = λ r a. works_still it new r.branch r.staff (rules.registrars r a);
   }
 
   property_put : (key : List ℕ) (it : Property) → IsStaffed books it → StaffOfTheBranch (record books { properties = insert books.properties key it })
@@ -45,24 +45,24 @@ module _ (books : Books) (run : Option OpenRun) (rules : StaffOfTheBranch books)
     registrars = rules.registrars;
   }
 
-  registration_added : (it : Registration) → Registers books run it
+  registration_added : (it : Registration) → works_at it.branch (get books.staff it.staff) ≡ true
       → StaffOfTheBranch (record books { registrations = insert books.registrations (it.client, it.branch) it })
-  registration_added it h = record {
+  registration_added it of_branch = record {
     managers = rules.managers;
     registrars = each_put texts_total texts_tie books.registrations (
       it.client,
       it.branch,
-    ) it (λ r. works_at r.branch (get books.staff r.staff) ≡ true) rules.registrars h.of_branch;
+    ) it (λ r. works_at r.branch (get books.staff r.staff) ≡ true) rules.registrars of_branch;
   }
 
   staffed : (rows : Change) (a : Accepted books run rows) → StaffOfTheBranch (turned books run rows a)
-  staffed (change.Staff it) h = staff_added it h
-  staffed (change.Property it) h = property_put it.number it (if_some it.staff (λ m c. c.of_branch) h.staff)
+  staffed (change.Staff it) h = staff_added it h.known
+  staffed (change.Property it) h = property_put it.number it (if_some it.staff (λ m c. c.of_branch) h.fits)
   staffed (change.Assign it) h = property_put it.property (record h.row { staff = it.staff }) (if_some it.staff (λ m c. c.of_branch) h.staff)
   staffed (change.Rent it) h =
-      property_put it.property (record h.0 { rent = it.rent })
-      (each_got text_total text_ties books.properties (IsStaffed books) rules.managers it.property h.0 h.1)
-  staffed (change.Register it) h = registration_added it h
+      property_put it.property (record h.row { rent = it.rent })
+      (each_got text_total text_ties books.properties (IsStaffed books) rules.managers it.property h.row h.is)
+  staffed (change.Register it) h = registration_added it h.fits
   staffed rows h = record { managers = rules.managers; registrars = rules.registrars }
 
   pub keeps_branches : (rows : Change) → Accepted books run rows → StaffOfTheBranch (changed rows books)

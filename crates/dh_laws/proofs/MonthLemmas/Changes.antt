@@ -28,15 +28,15 @@ module _ (size : ℕ) (books : Books) (run : Option OpenRun) (keyed : AreKeyed b
       properties_keep size books run (insert books.properties key new) (same_property books key new row is stays) in_order
 
   turned_keeps : (rows : Change) (a : Accepted books run rows) → RunInMonths size (turned books run rows a) (run_after run rows)
-  turned_keeps (change.Branch it) a = where_closed (changed (change.Branch it) books) a.closed (branch_keeps size books it.number it names)
+  turned_keeps (change.Branch it) a = where_closed (changed (change.Branch it) books) a.fits (branch_keeps size books it.number it names)
   turned_keeps (change.Property it) a =
-      properties_keep size books run (insert books.properties it.number it) (new_property books it.number it names a.new) in_order
+      properties_keep size books run (insert books.properties it.number it) (new_property books it.number it names a.known) in_order
   turned_keeps (change.Assign it) a = replaced_keeps it.property (record a.row { staff = it.staff }) a.row a.is refl
-  turned_keeps (change.Rent it) a = replaced_keeps it.property (record a.0 { rent = it.rent }) a.0 a.1 refl
+  turned_keeps (change.Rent it) a = replaced_keeps it.property (record a.row { rent = it.rent }) a.row a.is refl
   turned_keeps (change.Lease it) a =
-      where_closed (changed (change.Lease it) books) a.closed (lease_keeps size books it.terms.number it (keyed Kind.Runs) a.new a.in_time)
-  turned_keeps (change.NewEnding it) a = where_closed (changed (change.NewEnding it) books) a.0.closed (ending_keeps books keyed run it a.0 size)
-  turned_keeps (change.Ending it) a = where_closed (changed (change.Ending it) books) a.0.closed (ending_keeps books keyed run it a.0 size)
+      where_closed (changed (change.Lease it) books) a.fits.closed (lease_keeps size books it.terms.number it (keyed Kind.Runs) a.known a.fits.in_time)
+  turned_keeps (change.NewEnding it) a = where_closed (changed (change.NewEnding it) books) a.fits.closed (ending_keeps books keyed run it a.fits size)
+  turned_keeps (change.Ending it) a = where_closed (changed (change.Ending it) books) a.fits.closed (ending_keeps books keyed run it a.fits size)
   turned_keeps (change.Open it) a =
       open_keeps size books it (keyed Kind.Runs) (subst (RunInMonths size books) a.closed in_order) a.month a.is_open a.count a.total
   turned_keeps other a =

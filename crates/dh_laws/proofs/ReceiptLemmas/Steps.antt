@@ -29,7 +29,7 @@ module _ (number : ℕ) (receipt : Receipt) where
     beside_another row next h = get_other nat_total nat_ties b.receipts row.number row number (λ e. is_not_next h (e ∙ next)) ∙ h
 
     turned_has : (run : Option OpenRun) (rows : Change) (a : Accepted b run rows) → Has b → Has (turned b run rows a)
-    turned_has run (change.Receipt row) a h = beside_another row a.number h
+    turned_has run (change.Receipt row) a h = beside_another row a.known h
     turned_has run rows a h = h
 
   pub step_has : (size : ℕ) (s : State) → AreKeyed s.books → KeysInOrder s.books → (told : Command) → Has s.books → Has (step size s told).0.books

@@ -22,33 +22,37 @@ use Rattle.dh_model.specs.declared.rows.Change.{Change}
 use Rattle.dh_model.specs.declared.rows.Change.TheVariants as change
 use Rattle.dh_model.specs.declared.rows.Verdict.TheVariants as verdict
 use Rattle.dh_model.specs.Books.{Books}
+use Rattle.dh_model.specs.Kinds.{Kind, key_of, record_of, records_of}
+use Rattle.dh_model.specs.Edits.{Edit, Insert, Replace, edit_of}
 use Rattle.dh_model.specs.MachineLaws.{is_post}
-use Rattle.dh_model.specs.Rules.{IsLeaseLength}
+use Rattle.dh_model.specs.Rules.{IsLeaseLength, Refers}
 use Rattle.dh_model.specs.Leases.{length_of, overlap, running}
 use Rattle.dh_model.specs.Checks.{is_same_text, receipt_of_key, run_of_key}
 use Rattle.dh_model.specs.Verdicts.{ending_checks, ending_rows, fee_rows, lease_checks, manager_checks, on_run, opened_run, ruling}
 use Rattle.dh_model.specs.Verdicts.{run_ruling, signed, verdict_on}
-use Rattle.dh_laws.proofs.VerdictLemmas.Checks.{can_manage, deposit_of, new_key, none_of_leases, some_property}
+use Rattle.dh_laws.proofs.VerdictLemmas.Checks.{can_manage, deposit_of, new_key, none_of_leases}
 use Rattle.dh_laws.proofs.VerdictLemmas.Rulings.{Held, Passes, RunFits, Unsaid, a_row, no_row, passes}
 use Rattle.dh_laws.specs.Batches.{is_plain}
 use Rattle.dh_laws.specs.InOrder.{IsEntered, run_after}
-use Rattle.dh_laws.proofs.VerdictLemmas.Acceptance.{Accepted, AddsLease, Assigns, EndsLease, OpensRun, SetsFee}
+use Rattle.dh_laws.proofs.VerdictLemmas.Acceptance.{Accepted, AddsLease, Alters, Assigns, EndsLease, OpensRun}
+use Rattle.dh_laws.proofs.InvariantLemmas.Growth.{if_some}
 
 -- the rows of each command, where it is accepted
 abbrev pub rows_of : Books → Command → Change
 rows_of books told = (ruling books (len books.receipts) told).rows
 
+-- the row of a fee or an end is new, or in the place of another
+of_fee : (P : Change → Type 0) (it : BranchFee) (found : Option BranchFee) → (found ≡ None → P (change.NewFee it))
+    → ((was : BranchFee) → found ≡ Some was → P (change.Fee it)) → P (fee_rows it found)
+of_fee P it None new again = new refl
+of_fee P it (Some was) new again = again was refl
+
+pub of_ending : (P : Change → Type 0) (it : Ending) (found : Option Ending) → (found ≡ None → P (change.NewEnding it))
+    → ((was : Ending) → found ≡ Some was → P (change.Ending it)) → P (ending_rows it found)
+of_ending P it None new again = new refl
+of_ending P it (Some was) new again = again was refl
+
 module _ (books : Books) (run : Option OpenRun) where
-  fee_accepted : (it : BranchFee) (found : Option BranchFee) → get books.branch_fees it.branch ≡ found → SetsFee books run it
-      → Accepted books run (fee_rows it found)
-  fee_accepted it None none set = (set, none)
-  fee_accepted it (Some was) is set = (set, (was, is))
-
-  ending_accepted : (it : Ending) (found : Option Ending) → get books.endings it.lease ≡ found → EndsLease books run it
-      → Accepted books run (ending_rows it found)
-  ending_accepted it None none ends = (ends, none)
-  ending_accepted it (Some was) is ends = (ends, (was, is))
-
   assigns : (it : Assignment) (found : Option Property) → get books.properties it.property ≡ found → is_some found ≡ true
       → Held (manager_checks books found it.staff) → Assigns books run it
   assigns it None is there checks = cc
@@ -69,22 +73,13 @@ module _ (books : Books) (run : Option OpenRun) where
     in_time = leb-true books.next (month_of_day lease.terms.start + it.months) checks.1.0;
   }
 
-  signs : (terms : LeaseTerms) → run ≡ None → get books.leases terms.number ≡ None → Held (lease_checks books terms)
-      → AddsLease books run (signed books terms (get books.properties terms.property))
-  signs terms closed new checks =
-      let row = some_property books terms.client (get books.properties terms.property) checks.1.1.0 in
-      subst (λ found. AddsLease books run (signed books terms found)) (sym row.1) (record {
-        closed = closed;
-        new = new;
-        client = checks.0;
-        row = row.0;
-        is = row.1;
-        rent = refl;
-        registered = row.2;
-        in_time = leb-true books.next (month_of_day terms.start) checks.1.1.1.0;
-        first = none_of_leases (λ l. is_same_text l.terms.client terms.client && nat_eq l.terms.start terms.start) (values books.leases) checks.1.1.1.1.0;
-        free = none_of_leases (λ l. overlap terms (running books.endings l)) (values books.leases) checks.1.1.1.1.1.0;
-      })
+  signs : (terms : LeaseTerms) → run ≡ None → Held (lease_checks books terms) → AddsLease books run (signed books terms (get books.properties terms.property))
+  signs terms closed checks = record {
+    closed = closed;
+    in_time = leb-true books.next (month_of_day terms.start) checks.1.1.1.0;
+    first = none_of_leases (λ l. is_same_text l.terms.client terms.client && nat_eq l.terms.start terms.start) (values books.leases) checks.1.1.1.1.0;
+    free = none_of_leases (λ l. overlap terms (running books.endings l)) (values books.leases) checks.1.1.1.1.1.0;
+  }
 
   opens : (order : RunOrder) → run ≡ None → Unsaid (run_ruling books order).before → Held (run_ruling books order).checks
       → OpensRun books run (opened_run books order)
@@ -97,55 +92,54 @@ module _ (books : Books) (run : Option OpenRun) where
     key = new_key books order.key (no_row (receipt_of_key books order.key) found.1.1.0) (no_row (run_of_key books order.key) found.1.0);
   }
 
+  altered : (kind : Kind) (key : key_of kind) (into : record_of kind → record_of kind) → is_some (get (records_of kind books) key) ≡ true
+      → ((row : record_of kind) → Refers books kind row → Refers books kind (into row)) → Alters books run kind key into
+  altered kind key into there refers =
+      let found = a_row (get (records_of kind books) key) there in
+      record { row = found.0; is = found.1; refers = refers found.0 }
+
   -- what is found fit of each command
   fit : (told : Command) → RunFits (on_run told) run → Unsaid (ruling books (len books.receipts) told).before
       → Held (ruling books (len books.receipts) told).checks
       → Accepted books run (rows_of books told)
-  fit (command.Branch it) closed found checks = record { closed = closed; new = no_row (get books.branches it.number) found.1.0 }
   fit (command.Fee it) closed found checks =
-      fee_accepted it (get books.branch_fees it.branch) refl (record { closed = closed; branch = found.0 })
-  fit (command.Staff it) free found checks = record { new = no_row (get books.staff it.number) found.1.0; branch = checks.0 }
-  fit (command.Owner it) free found checks = no_row (get books.owners it.number) found.1.0
-  fit (command.Property it) free found checks = record {
-    new = no_row (get books.properties it.number) found.1.0;
-    owner = checks.0;
-    branch = checks.1.1.0;
-    staff = can_manage books it.branch it.number it.staff checks.1.0 checks.1.1.1.0 checks.1.1.1.1.0;
-  }
+      of_fee (Accepted books run) it (get books.branch_fees it.branch) (λ none. record { known = none; refers = found.0; fits = closed })
+      (λ was is. record { known = (was, is); refers = found.0; fits = closed })
+  fit (command.Property it) free found checks =
+      let can = can_manage books it.branch it.number it.staff checks.1.0 checks.1.1.1.0 checks.1.1.1.1.0 in
+      record {
+        known = no_row (get books.properties it.number) found.1.0;
+        refers = record { owner = checks.0; staff = if_some it.staff (λ m c. c.there) can; branch = checks.1.1.0 };
+        fits = can;
+      }
   fit (command.Assign it) free found checks = assigns it (get books.properties it.property) refl found.0 checks
-  fit (command.Rent it) free found checks = a_row (get books.properties it.property) found.0
-  fit (command.Client it) free found checks = no_row (get books.clients it.number) found.1.0
-  fit (command.Register it) free found checks = record {
-    new = no_row (get books.registrations (it.client, it.branch)) found.1.0;
-    client = checks.0;
-    branch = checks.1.0;
-    staff = checks.1.1.0;
-    of_branch = checks.1.1.1.0;
+  fit (command.Rent it) free found checks =
+      altered Kind.Properties it.property (λ row. record row { rent = it.rent }) found.0
+      (λ row r. record { owner = r.owner; staff = r.staff; branch = r.branch })
+  fit (command.Comment it) free found checks =
+      altered Kind.Viewings (it.client, it.property) (λ row. record row { comment = Some it.comment }) found.0
+      (λ row r. record { client = r.client; property = r.property })
+  fit (command.Lease terms) closed found checks = record {
+    known = no_row (get books.leases terms.number) found.1.0;
+    refers = record { client = checks.0; property = checks.1.0; registered = checks.1.1.0 };
+    fits = signs terms closed checks;
   }
-  fit (command.Viewing it) free found checks = record {
-    new = no_row (get books.viewings (it.client, it.property)) found.1.0;
-    client = checks.0;
-    property = checks.1.0;
-  }
-  fit (command.Comment it) free found checks = a_row (get books.viewings (it.client, it.property)) found.0
-  fit (command.Inspection it) free found checks = record {
-    new = no_row (get books.inspections (it.property, it.day)) found.1.0;
-    property = checks.0;
-    staff = checks.1.0;
-  }
-  fit (command.Lease terms) closed found checks = signs terms closed (no_row (get books.leases terms.number) found.1.0) checks
   fit (command.End it) closed found checks =
-      ending_accepted it (get books.endings it.lease) refl (ends it (get books.leases it.lease) closed refl found.0 checks)
+      let fits = ends it (get books.leases it.lease) closed refl found.0 checks in
+      of_ending (Accepted books run) it (get books.endings it.lease) (λ none. record { known = none; refers = found.0; fits = fits })
+      (λ was is. record { known = (was, is); refers = found.0; fits = fits })
   fit (command.Receipt order) closed found checks = record {
-    closed = closed;
-    number = refl;
-    lease = checks.0;
-    deposit = deposit_of books order.payment (checks.1.0, (checks.1.1.0, tt));
-    key = new_key books order.key (no_row (receipt_of_key books order.key) found.1.0) (no_row (run_of_key books order.key) found.1.1.0);
+    known = refl;
+    refers = checks.0;
+    fits = record {
+      deposit = deposit_of books order.payment (checks.1.0, (checks.1.1.0, tt));
+      key = new_key books order.key (no_row (receipt_of_key books order.key) found.1.0) (no_row (run_of_key books order.key) found.1.1.0);
+    };
   }
   fit (command.Run order) closed found checks = opens order closed found checks
   fit (command.Open order) closed found checks = opens order closed found checks
-  fit (command.Post count) needed found checks = needed
+  fit (command.Post count) needed found checks = tt
+  fit told fits found checks = record { known = no_row _ found.1.0; refers = assumption; fits = assumption }
 
   module _ (rows : Change) (told : Command) (h : verdict_on books run told ≡ verdict.Change rows) where
     abbrev passed : Passes (on_run told) run (ruling books (len books.receipts) told) rows
@@ -167,29 +161,24 @@ module _ (books : Books) (run : Option OpenRun) where
 -- ---- what a line holds
 
 -- the months of a new lease, or of its end
-abbrev pub IsLimited : Change → Type 0
-IsLimited (change.Lease lease) = IsLeaseLength lease.terms.months
-IsLimited (change.NewEnding it) = LEAST_LEASE_MONTHS ≤ it.months
-IsLimited (change.Ending it) = LEAST_LEASE_MONTHS ≤ it.months
+abbrev pub IsLimited : Edit → Type 0
+IsLimited (Insert Kind.Leases lease) = IsLeaseLength lease.terms.months
+IsLimited (Insert Kind.Endings it) = LEAST_LEASE_MONTHS ≤ it.months
+IsLimited (Replace Kind.Endings it) = LEAST_LEASE_MONTHS ≤ it.months
 IsLimited _ = Unit {0}
 
-ending_limited : (it : Ending) (found : Option Ending) → LEAST_LEASE_MONTHS ≤ it.months → IsLimited (ending_rows it found)
-ending_limited it None entered = entered
-ending_limited it (Some was) entered = entered
+abbrev HasLimits : Change → Type 0
+HasLimits rows = IsLimited (edit_of rows)
 
-fee_limited : (it : BranchFee) (found : Option BranchFee) → IsLimited (fee_rows it found)
-fee_limited it None = tt
-fee_limited it (Some was) = tt
-
-entered_limited : (books : Books) (told : Command) → IsEntered told → IsLimited (rows_of books told)
+entered_limited : (books : Books) (told : Command) → IsEntered told → HasLimits (rows_of books told)
 entered_limited books (command.Lease terms) entered = entered
-entered_limited books (command.Fee it) entered = fee_limited it (get books.branch_fees it.branch)
-entered_limited books (command.End it) entered = ending_limited it (get books.endings it.lease) entered
+entered_limited books (command.Fee it) entered = of_fee HasLimits it (get books.branch_fees it.branch) (λ none. tt) (λ was is. tt)
+entered_limited books (command.End it) entered = of_ending HasLimits it (get books.endings it.lease) (λ none. entered) (λ was is. entered)
 entered_limited books _ entered = tt
 
 pub limited : (books : Books) (run : Option OpenRun) (rows : Change) (told : Command) → IsEntered told → verdict_on books run told ≡ verdict.Change rows
-    → IsLimited rows
-limited books run rows told entered h = subst IsLimited (sym (rows_are books run rows told h)) (entered_limited books told entered)
+    → IsLimited (edit_of rows)
+limited books run rows told entered h = subst HasLimits (sym (rows_are books run rows told h)) (entered_limited books told entered)
 
 -- ---- rows of no run
 
@@ -200,17 +189,9 @@ is_of_run (command.Open order) = true
 is_of_run (command.Post count) = true
 is_of_run _ = false
 
-plain_fee : (it : BranchFee) (found : Option BranchFee) → is_plain (fee_rows it found) ≡ true
-plain_fee it None = refl
-plain_fee it (Some was) = refl
-
-plain_ending : (it : Ending) (found : Option Ending) → is_plain (ending_rows it found) ≡ true
-plain_ending it None = refl
-plain_ending it (Some was) = refl
-
 plain_of : (books : Books) (told : Command) → is_of_run told ≡ false → is_plain (rows_of books told) ≡ true
-plain_of books (command.Fee it) other = plain_fee it (get books.branch_fees it.branch)
-plain_of books (command.End it) other = plain_ending it (get books.endings it.lease)
+plain_of books (command.Fee it) other = of_fee (λ rows. is_plain rows ≡ true) it (get books.branch_fees it.branch) (λ none. refl) (λ was is. refl)
+plain_of books (command.End it) other = of_ending (λ rows. is_plain rows ≡ true) it (get books.endings it.lease) (λ none. refl) (λ was is. refl)
 plain_of books (command.Run order) other = cc
 plain_of books (command.Open order) other = cc
 plain_of books (command.Post count) other = cc
