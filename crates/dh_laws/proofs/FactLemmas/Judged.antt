@@ -242,10 +242,6 @@ module _ (books : Books) (keyed : AreKeyed books) where
 
   cut_judged : (run : Option OpenRun) (told : Command) (count : ℕ) → Counts told books.receipts count
       → verdict_among (looked_at books told) count run told ≡ verdict_on books run told
-  cut_judged run (command.Branch it) count is = rw (branch_there it.number) refl
-  cut_judged run (command.Fee it) count is = rw (branch_there it.branch, fee_there it.branch) refl
-  cut_judged run (command.Staff it) count is = rw (member_there it.number, branch_there it.branch) refl
-  cut_judged run (command.Owner it) count is = rw (owner_there it.number) refl
   cut_judged run (command.Property it) count is =
       rw (
         this_there it.number it.staff,
@@ -257,24 +253,27 @@ module _ (books : Books) (keyed : AreKeyed books) where
       ) refl
   cut_judged run (command.Assign it) count is =
       rw (this_there it.property it.staff) (assigned_alike it (get books.properties it.property))
-  cut_judged run (command.Rent it) count is = rw (property_there it.property) refl
-  cut_judged run (command.Client it) count is = rw (client_there it.number) refl
-  cut_judged run (command.Register it) count is =
-      rw (registration_there it.client it.branch, client_there it.client, branch_there it.branch, member_there it.staff) refl
-  cut_judged run (command.Viewing it) count is =
-      rw (viewing_there it.client it.property, client_there it.client, property_there it.property) refl
-  cut_judged run (command.Comment it) count is = rw (viewing_there it.client it.property) refl
-  cut_judged run (command.Inspection it) count is =
-      rw (inspection_there it.property it.day, property_there it.property, member_there it.staff) refl
   cut_judged run (command.Lease it) count is =
       rw (numbered_there it, client_there it.client, registered_alike it, property_there it.property, that_day_alike it, others_alike it) refl
   cut_judged run (command.End it) count is =
       rw (lease_there it.lease) (ap (by_run Frozen run) (ended_alike it (get books.leases it.lease) refl))
   cut_judged run (command.Receipt it) count is =
       rw (is, paid_there it, run_there it.key, deposit_alike it, lease_there it.payment.lease) refl
-  cut_judged run (command.Run it) count is = rw (run_there it.key, receipt_there it.key) refl
-  cut_judged run (command.Open it) count is = rw (run_there it.key, receipt_there it.key) refl
   cut_judged run (command.Post count_of) count is = refl
+  cut_judged run told count is =
+      simp (
+        branch_there,
+        fee_there,
+        member_there,
+        owner_there,
+        property_there,
+        client_there,
+        registration_there,
+        viewing_there,
+        inspection_there,
+        run_there,
+        receipt_there,
+      )
 
 -- ---- of an open run the month alone
 
