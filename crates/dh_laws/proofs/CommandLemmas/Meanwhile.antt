@@ -1,5 +1,6 @@
 -- Commands that are told while a run is open, other than batches of it.
-use Rattle.std.proofs.Common.{◌≡◌, ◌∙◌, refl, sym, ap, subst, ℕ, ◌≤◌, true, false, Option, Some, None}
+use Rattle.std.proofs.Common.{◌≡◌, ◌∙◌, refl, sym, ap, subst, ℕ, ◌≤◌, inl, inr, true, false, not, ◌&&◌, Option, Some, None}
+use Rattle.std.proofs.lemmas.Bool.{cases_Bool}
 use Rattle.std.specs.Option.{IsSome}
 use Rattle.dh_types.specs.declared.command.Command.{Command}
 use Rattle.dh_types.specs.declared.command.Command.TheVariants as command
@@ -9,9 +10,10 @@ use Rattle.dh_model.specs.declared.rows.Change.{Change}
 use Rattle.dh_model.specs.declared.rows.Verdict.TheVariants as verdict
 use Rattle.dh_model.specs.Books.{Books, State}
 use Rattle.dh_model.specs.Machine.{accepted, carried_out, changed, settled}
-use Rattle.dh_model.specs.MachineLaws.{is_post}
+use Rattle.dh_model.specs.MachineLaws.{is_frozen, is_post}
 use Rattle.dh_model.specs.Verdicts.{verdict_on}
 use Rattle.dh_model.specs.Whole.{whole}
+use Rattle.dh_model.proofs.MachineLemmas.{frozen_verdict}
 use Rattle.dh_laws.specs.InOrder.{IsEntered, IsInOrder, run_after}
 use Rattle.dh_laws.specs.Passing.{is_free}
 use Rattle.dh_laws.proofs.InvariantLemmas.Order.{changes_keep_order}
@@ -26,9 +28,7 @@ module _ (size : ℕ) where
   carried_free : (s : State) (told : Command) (rows : Change) → is_free told ≡ true
       → carried_out size s told rows ≡ (record s { books = changed rows s.books }, accepted rows)
   carried_free s (command.Post count) rows free = cc
-  carried_free s (command.Run order) rows free = cc
-  carried_free s (command.Open order) rows free = cc
-  carried_free s _ rows free = refl
+  carried_free s _ rows free = cc
 
 module _ (size : ℕ) (books : Books) (run : OpenRun) (pos : 1 ≤ size) (in_order : IsInOrder size books (Some run)) where
   abbrev at : State
@@ -39,15 +39,11 @@ module _ (size : ℕ) (books : Books) (run : OpenRun) (pos : 1 ≤ size) (in_ord
 
   -- each command is judged as over the whole books
   pub judged_whole : (told : Command) → verdict_on (whole size books) (Some run) told ≡ verdict_on books (Some run) told
-  judged_whole (command.Branch it) = refl
-  judged_whole (command.Fee it) = refl
-  judged_whole (command.Lease it) = refl
-  judged_whole (command.End it) = refl
-  judged_whole (command.Receipt it) = refl
-  judged_whole (command.Run it) = refl
-  judged_whole (command.Open it) = refl
   judged_whole (command.Post count) = refl
-  judged_whole told = sym (alike told refl)
+  judged_whole told = elim (cases_Bool (is_frozen told)) [
+    | inl frozen ↦ frozen_verdict (whole size books) run told frozen ∙ sym (frozen_verdict books run told frozen)
+    | inr free ↦ let same = alike told (ap (λ b. not b && true) free) in cc
+  ]
 
   module _ (rows : Change) where
     -- what is frozen is not accepted
@@ -57,14 +53,8 @@ module _ (size : ℕ) (books : Books) (run : OpenRun) (pos : 1 ≤ size) (in_ord
 
     -- and opens no run
     opens_none : (told : Command) → is_free told ≡ true → run_after (Some run) (rows_of books told) ≡ Some run
-    opens_none (command.Fee it) free = cc
-    opens_none (command.End it) free = cc
-    opens_none (command.Run order) free = cc
-    opens_none (command.Open order) free = cc
-    opens_none _ free = refl
-
-    run_stays : (told : Command) → is_free told ≡ true → verdict_on books (Some run) told ≡ verdict.Change rows → run_after (Some run) rows ≡ Some run
-    run_stays told free h = ap (run_after (Some run)) (rows_are books (Some run) rows told h) ∙ opens_none told free
+    opens_none (command.Post count) free = cc
+    opens_none _ free = cc
 
     -- rows that are put while the run is open
     pub change_told : (told : Command) → is_post told ≡ false → IsEntered told → verdict_on books (Some run) told ≡ verdict.Change rows
@@ -75,7 +65,7 @@ module _ (size : ℕ) (books : Books) (run : OpenRun) (pos : 1 ≤ size) (in_ord
           ap (settled size s told) (judged_whole told ∙ h) ∙ carried_free size s told rows free
               ∙ ap (λ (b : Books). (record { books = b; open_run = Some run }, accepted rows))
               (sym (free_changes_pass_the_run size books run told rows pos in_order free h)),
-          subst (λ after. IsInOrder size (changed rows books) after) (run_stays told free h)
+          subst (λ after. IsInOrder size (changed rows books) after) (ap (run_after (Some run)) (rows_are books (Some run) rows told h) ∙ opens_none told free)
               (changes_keep_order size books (Some run) told rows pos in_order entered h),
         )
 

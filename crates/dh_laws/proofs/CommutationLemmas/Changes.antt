@@ -112,22 +112,14 @@ module _ (size : ℕ) (b : Books) where
 
   -- of an open run
   module _ (run : OpenRun) (names : NamesWhatIsThere b) where
-    never : {X : Type 0} → Some run ≡ None → X
-    never e = cc
-
     changes_pass : (rows : Change) → Accepted b (Some run) rows → Pass rows
-    changes_pass (change.Branch it) a = never a.fits
-    changes_pass (change.NewFee it) a = never a.fits
-    changes_pass (change.Fee it) a = never a.fits
     changes_pass (change.Property it) a = added_passes it names a.known
     changes_pass (change.Assign it) a = property_passes it.property (λ row. record row { staff = it.staff }) a.row a.is refl
     changes_pass (change.Rent it) a = property_passes it.property (λ row. record row { rent = it.rent }) a.row a.is refl
     changes_pass (change.Comment it) a = comment_passes it a.row a.is
-    changes_pass (change.Lease it) a = never a.fits.closed
-    changes_pass (change.NewEnding it) a = never a.fits.closed
-    changes_pass (change.Ending it) a = never a.fits.closed
-    changes_pass (change.Open it) a = never a.closed
-    changes_pass other a = on_whole (changed other) (λ row. refl) (open_row b)
+    changes_pass (change.Open it) a = cc
+    -- no other that touches what a run reads is accepted
+    changes_pass other a = on_whole (changed other) (λ row. cc) (open_row b)
 
 pub free_changes_pass_the_run : (size : ℕ) → FreeChangesPassTheRun size
 free_changes_pass_the_run size books run told rows pos in_order free is =
