@@ -3,6 +3,8 @@ use Rattle.std.proofs.Common.{◌≡◌, ◌∙◌, refl, sym, ap, ℕ, ◌+◌,
 use Rattle.std.proofs.lemmas.Bool.Decides.{nat_tests}
 use Rattle.dh_types.specs.declared.command.Command.{Command}
 use Rattle.dh_types.specs.declared.command.Command.TheVariants as command
+use Rattle.dh_types.specs.declared.reply.Progress.{Progress}
+use Rattle.dh_types.specs.declared.run.RunSum.{RunSum}
 use Rattle.dh_types.specs.declared.reply.Reply.{Reply}
 use Rattle.dh_types.specs.declared.reply.Reply.TheVariants as reply
 use Rattle.dh_types.specs.declared.reply.Refusal.{Refusal}
@@ -34,25 +36,51 @@ frozen_refused size books run told h = ap (settled size (record { books = books;
 pub half_runs_not_shown : HalfRunsAreNotShown
 half_runs_not_shown books run question h = rw h refl
 
-not_refused : (rows : Change) (why : Refusal) → accepted rows ≡ reply.Refused why → ⊥
-not_refused (change.Receipt it) why h = cc
-not_refused _ why h = cc
-
 abbrev either : Bool → State × Reply → State × Reply → State × Reply
 either b x y = if b then x else y
 
-never : (b : Bool) (x y : State × Reply) (why : Refusal) → (x.1 ≡ reply.Refused why → ⊥) → (y.1 ≡ reply.Refused why → ⊥) → (either b x y).1 ≡ reply.Refused why
-    → ⊥
-never true x y why p q h = p h
-never false x y why p q h = q h
+-- A reply that tells of nothing that was carried out leaves the state.
+module _ (size : ℕ) (P : Reply → Type 0) (no_accepted : (rows : Change) → P (accepted rows) → ⊥) (no_opened : (month : ℕ) → P (reply.Opened month) → ⊥)
+    (no_posted : (sum : RunSum) → P (reply.Posted sum) → ⊥) (no_progress : (it : Progress) → P (reply.Progress it) → ⊥) where
+  neither : (b : Bool) (x y : State × Reply) → (P x.1 → ⊥) → (P y.1 → ⊥) → P (either b x y).1 → ⊥
+  neither true x y p q = p
+  neither false x y p q = q
+
+  resumed_stays : (s : State) (count : ℕ) (run : Option OpenRun) → s.open_run ≡ run → P (resumed size s.books count run).1
+      → (resumed size s.books count run).0 ≡ s
+  resumed_stays s count None e h = λ i. record { books = s.books; open_run = sym e i }
+  resumed_stays s count (Some run) e h =
+      let all = batches size s.books run.month in
+      let sum = posted_sum run.month (get s.books.runs run.month) in
+      let part : Progress = record { month = run.month; done = run.done + count; of = all } in
+      absurd (neither (nat_le all (run.done + count)) (record { books = s.books; open_run = None }, reply.Posted sum) (
+        record { books = s.books; open_run = Some (record { month = run.month; done = run.done + count }) },
+        reply.Progress part,
+      ) (no_posted sum) (no_progress part) h)
+
+  carried_stays : (s : State) (told : Command) (rows : Change) → P (carried_out size s told rows).1 → (carried_out size s told rows).0 ≡ s
+  carried_stays s (command.Run order) (change.Open row) h = absurd (no_posted _ h)
+  carried_stays s (command.Open order) (change.Open row) h = absurd (no_opened row.month h)
+  carried_stays s (command.Post count) change.Post h = resumed_stays s count s.open_run refl h
+  carried_stays s _ rows h = absurd (no_accepted rows h)
+
+  settled_stays : (s : State) (told : Command) (v : Verdict) → P (settled size s told v).1 → (settled size s told v).0 ≡ s
+  settled_stays s told (verdict.Change rows) h = carried_stays s told rows h
+  settled_stays s told (verdict.Already kept) h = refl
+  settled_stays s told (verdict.Refused why) h = refl
+
+  pub state_stays : (s : State) (told : Command) → P (step size s told).1 → (step size s told).0 ≡ s
+  state_stays s told = settled_stays s told (verdict_on s.books s.open_run told)
+
+not_refused : (why : Refusal) (rows : Change) → accepted rows ≡ reply.Refused why → ⊥
+not_refused why (change.Receipt it) h = cc
+not_refused why _ h = cc
 
 module _ (size : ℕ) where
   carried_keeps : (s : State) (told : Command) (rows : Change) → is_frozen told ≡ false → is_post told ≡ false
       → (carried_out size s told rows).0.open_run ≡ s.open_run
-  carried_keeps s (command.Run order) rows h g = cc
-  carried_keeps s (command.Open order) rows h g = cc
   carried_keeps s (command.Post count) rows h g = cc
-  carried_keeps s _ rows h g = refl
+  carried_keeps s _ rows h g = cc
 
   either_books : (b : Bool) (x y : State × Reply) (books : Books) → x.0.books ≡ books → y.0.books ≡ books → (either b x y).0.books ≡ books
   either_books true x y books p q = p
@@ -78,36 +106,8 @@ module _ (size : ℕ) where
   pub free_keep : FreeKeepTheRun size
   free_keep s told h g = settled_keeps s told (verdict_on s.books s.open_run told) h g
 
-  posted_never : (books : Books) (count : ℕ) (run : OpenRun) (why : Refusal) → (posted size books count run).1 ≡ reply.Refused why → ⊥
-  posted_never books count run why h =
-      let all = batches size books run.month in
-      never (nat_le all (run.done + count)) (record { books = books; open_run = None }, reply.Posted (posted_sum run.month (get books.runs run.month))) (
-        record { books = books; open_run = Some (record { month = run.month; done = run.done + count }) },
-        reply.Progress (record { month = run.month; done = run.done + count; of = all }),
-      ) why
-      (λ e. cc) (λ e. cc) h
-
-  resumed_keeps : (s : State) (count : ℕ) (run : Option OpenRun) (why : Refusal) → s.open_run ≡ run → (resumed size s.books count run).1 ≡ reply.Refused why
-      → (resumed size s.books count run).0 ≡ s
-  resumed_keeps s count None why e h = λ i. record { books = s.books; open_run = sym e i }
-  resumed_keeps s count (Some run) why e h = absurd (posted_never s.books count run why h)
-
-  carried_refuses : (s : State) (told : Command) (rows : Change) (why : Refusal) → (carried_out size s told rows).1 ≡ reply.Refused why
-      → (carried_out size s told rows).0 ≡ s
-  carried_refuses s (command.Run order) (change.Open row) why h = cc
-  carried_refuses s (command.Run order) rows why h = absurd (not_refused rows why h)
-  carried_refuses s (command.Open order) (change.Open row) why h = cc
-  carried_refuses s (command.Open order) rows why h = absurd (not_refused rows why h)
-  carried_refuses s (command.Post count) change.Post why h = resumed_keeps s count s.open_run why refl h
-  carried_refuses s _ rows why h = absurd (not_refused rows why h)
-
-  settled_refuses : (s : State) (told : Command) (v : Verdict) (why : Refusal) → (settled size s told v).1 ≡ reply.Refused why → (settled size s told v).0 ≡ s
-  settled_refuses s told (verdict.Change rows) why h = carried_refuses s told rows why h
-  settled_refuses s told (verdict.Already kept) why h = refl
-  settled_refuses s told (verdict.Refused other) why h = refl
-
   pub refusals_keep : RefusalsChangeNothing size
-  refusals_keep s told why h = settled_refuses s told (verdict_on s.books s.open_run told) why h
+  refusals_keep s told why = state_stays size (λ r. r ≡ reply.Refused why) (not_refused why) (λ month e. cc) (λ sum e. cc) (λ part e. cc) s told
 
   not_reached : (m n : ℕ) → n + 1 ≤ m → nat_le m n ≡ false
   not_reached m n h = grind (arith, nat_tests)

@@ -15,7 +15,7 @@ use Rattle.dh_model.specs.declared.rows.Change.{Change}
 use Rattle.dh_model.specs.declared.rows.Change.TheVariants as change
 use Rattle.dh_model.specs.declared.rows.Verdict.TheVariants as verdict
 use Rattle.dh_model.specs.Books.{Books, State}
-use Rattle.dh_model.specs.Machine.{accepted, carried_out, changed, posted, posted_sum, settled}
+use Rattle.dh_model.specs.Machine.{accepted, changed, posted, posted_sum, settled}
 use Rattle.dh_model.specs.MachineLaws.{is_post}
 use Rattle.dh_model.specs.Runs.{batch_size, batches, ran}
 use Rattle.dh_model.specs.Verdicts.{opened_run, run_verdict, verdict_on}
@@ -29,7 +29,7 @@ use Rattle.dh_laws.specs.StateTables.{IsStateInOrder, as_tables}
 use Rattle.dh_laws.specs.Telling.{IsTold, begun, is_opening}
 use Rattle.dh_laws.specs.Batches.{IsPostedInPart, is_plain}
 use Rattle.dh_laws.proofs.CommandLemmas.Cuts.{told_done}
-use Rattle.dh_laws.proofs.CommandLemmas.Meanwhile.{judged_whole, rows_told}
+use Rattle.dh_laws.proofs.CommandLemmas.Meanwhile.{judged_whole, plain_carried, rows_told}
 use Rattle.dh_laws.proofs.BatchLemmas.Moving.{batches_of_whole}
 use Rattle.dh_laws.proofs.CommandLemmas.Runs.{none_in_order, opened_whole, opening_judged, opening_told}
 use Rattle.dh_laws.proofs.CommandLemmas.Whole.{shows_none, stepped_told, whole_itself}
@@ -159,13 +159,6 @@ module _ (s : State) (order : RunOrder) (none : s.open_run ≡ None) (in_order :
 
 -- ---- other commands
 
-plain_carried : (s : State) (told : Command) (rows : Change) → is_plain rows ≡ true
-    → carried_out batch_size s told rows ≡ (record s { books = changed rows s.books }, accepted rows)
-plain_carried s (command.Run order) (change.Open row) plain = absurd (false≢true plain)
-plain_carried s (command.Open order) (change.Open row) plain = absurd (false≢true plain)
-plain_carried s (command.Post count) change.Post plain = absurd (false≢true plain)
-plain_carried s _ rows plain = refl
-
 not_opening : (books : Books) (run : Option OpenRun) (told : Command) (rows : Change) → verdict_on books run told ≡ verdict.Change rows → is_plain rows ≡ true
     → is_opening told ≡ false
 not_opening books run (command.Open order) rows h plain = absurd (false≢true (sym (ap is_plain (case_of books run rows (command.Open order) h).0) ∙ plain))
@@ -193,7 +186,7 @@ module _ (s : State) (told : Command) (rows : Change) (in_order : IsStateInOrder
     said_of None is =
         stepped_told batch_size s (record s { books = changed rows s.books }) told (accepted rows) (omega arith) is
         (not_opening s.books s.open_run told rows h plain) in_order entered
-        (sym (ap (settled batch_size s told) h ∙ plain_carried s told rows plain))
+        (sym (ap (settled batch_size s told) h ∙ plain_carried batch_size s told rows plain))
     said_of (Some at) is =
         rows_told batch_size s (record s { books = changed rows s.books }) told rows (accepted rows) (omega arith) (subst IsSome (sym is) refl)
         (not_post s.books s.open_run told rows h plain)

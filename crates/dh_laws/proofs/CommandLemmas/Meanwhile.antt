@@ -14,21 +14,25 @@ use Rattle.dh_model.specs.MachineLaws.{is_frozen, is_post}
 use Rattle.dh_model.specs.Verdicts.{verdict_on}
 use Rattle.dh_model.specs.Whole.{whole}
 use Rattle.dh_model.proofs.MachineLemmas.{frozen_verdict}
-use Rattle.dh_laws.specs.InOrder.{IsEntered, IsInOrder, run_after}
+use Rattle.dh_laws.specs.InOrder.{IsEntered, IsInOrder}
 use Rattle.dh_laws.specs.Passing.{is_free}
 use Rattle.dh_laws.proofs.InvariantLemmas.Order.{changes_keep_order}
 use Rattle.dh_laws.proofs.CommutationLemmas.Changes.{free_changes_pass_the_run}
 use Rattle.dh_laws.proofs.CommutationLemmas.Verdicts.{free_are_judged_alike}
-use Rattle.dh_laws.proofs.VerdictLemmas.Cases.{rows_are, rows_of}
+use Rattle.dh_laws.proofs.VerdictLemmas.Cases.{is_of_run, plain_rows, run_stays}
+use Rattle.dh_laws.specs.Batches.{is_plain}
+use Rattle.dh_model.specs.declared.rows.Change.TheVariants as change
 use Rattle.dh_laws.specs.Events.{state_of}
 use Rattle.dh_laws.specs.StateTables.{as_tables}
 use Rattle.dh_laws.specs.Telling.{IsTold}
 
 module _ (size : ℕ) where
-  carried_free : (s : State) (told : Command) (rows : Change) → is_free told ≡ true
+  pub plain_carried : (s : State) (told : Command) (rows : Change) → is_plain rows ≡ true
       → carried_out size s told rows ≡ (record s { books = changed rows s.books }, accepted rows)
-  carried_free s (command.Post count) rows free = cc
-  carried_free s _ rows free = cc
+  plain_carried s (command.Run order) (change.Open row) plain = cc
+  plain_carried s (command.Open order) (change.Open row) plain = cc
+  plain_carried s (command.Post count) change.Post plain = cc
+  plain_carried s _ rows plain = refl
 
 module _ (size : ℕ) (books : Books) (run : OpenRun) (pos : 1 ≤ size) (in_order : IsInOrder size books (Some run)) where
   abbrev at : State
@@ -51,21 +55,22 @@ module _ (size : ℕ) (books : Books) (run : OpenRun) (pos : 1 ≤ size) (in_ord
     accepted_free (command.Post count) other h = cc
     accepted_free _ other h = cc
 
-    -- and opens no run
-    opens_none : (told : Command) → is_free told ≡ true → run_after (Some run) (rows_of books told) ≡ Some run
-    opens_none (command.Post count) free = cc
-    opens_none _ free = cc
+    -- and is of no run
+    not_of_run : (told : Command) → is_free told ≡ true → is_of_run told ≡ false
+    not_of_run (command.Post count) free = cc
+    not_of_run _ free = cc
 
     -- rows that are put while the run is open
     pub change_told : (told : Command) → is_post told ≡ false → IsEntered told → verdict_on books (Some run) told ≡ verdict.Change rows
         → IsTold size told (accepted rows) at (record { books = changed rows books; open_run = Some run })
     change_told told other entered h =
         let free = accepted_free told other h in
+        let plain = plain_rows books (Some run) told rows (not_of_run told free) h in
         let s = state_of size (as_tables at) in (
-          ap (settled size s told) (judged_whole told ∙ h) ∙ carried_free size s told rows free
+          ap (settled size s told) (judged_whole told ∙ h) ∙ plain_carried size s told rows plain
               ∙ ap (λ (b : Books). (record { books = b; open_run = Some run }, accepted rows))
               (sym (free_changes_pass_the_run size books run told rows pos in_order free h)),
-          subst (λ after. IsInOrder size (changed rows books) after) (ap (run_after (Some run)) (rows_are books (Some run) rows told h) ∙ opens_none told free)
+          subst (λ after. IsInOrder size (changed rows books) after) (run_stays (Some run) rows plain)
               (changes_keep_order size books (Some run) told rows pos in_order entered h),
         )
 

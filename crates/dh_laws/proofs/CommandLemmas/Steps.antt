@@ -16,7 +16,7 @@ use Rattle.dh_model.specs.Machine.{settled, step}
 use Rattle.dh_model.proofs.MachineLemmas.{resumed_books}
 use Rattle.dh_laws.specs.Batches.{is_plain}
 use Rattle.dh_laws.proofs.VerdictLemmas.Acceptance.{Accepted, turned, turned_is}
-use Rattle.dh_laws.proofs.VerdictLemmas.Cases.{accepted, case_of, plain_rows}
+use Rattle.dh_laws.proofs.VerdictLemmas.Cases.{case_of, plain_of, rows_of}
 
 -- what holds of the books after a step, under its verdict
 module _ (size : ℕ) (s : State) (P : Verdict → Books → Type 0)
@@ -28,22 +28,18 @@ module _ (size : ℕ) (s : State) (P : Verdict → Books → Type 0)
   abbrev Holds : Command → Verdict → Type 0
   Holds told v = P v (settled size s told v).0.books
 
-  carried : (told : Command) (rows : Change) → verdict_on s.books s.open_run told ≡ verdict.Change rows → Holds told (verdict.Change rows)
-  carried (command.Run order) rows e =
-      let case = case_of s.books s.open_run rows (command.Open order) e in
-      subst (λ r. Holds (command.Run order) (verdict.Change r)) (sym case.0) (runs order case.1.month)
-  carried (command.Open order) rows e =
-      let case = case_of s.books s.open_run rows (command.Open order) e in
-      subst (λ r. Holds (command.Open order) (verdict.Change r)) (sym case.0) (runs order case.1.month)
-  carried (command.Post count) rows e =
-      subst (λ r. Holds (command.Post count) (verdict.Change r)) (sym (case_of s.books s.open_run rows (command.Post count) e).0)
-      (subst (P (verdict.Change change.Post)) (sym (resumed_books size s.books count s.open_run)) posts)
-  carried told rows e =
-      let a = accepted s.books s.open_run rows told e in
-      subst (P (verdict.Change rows)) (turned_is s.books s.open_run rows a) (turns rows a (plain_rows s.books s.open_run told rows refl e))
+  carried : (told : Command) → Accepted s.books s.open_run (rows_of s.books told) → Holds told (verdict.Change (rows_of s.books told))
+  carried (command.Run order) a = runs order a.month
+  carried (command.Open order) a = runs order a.month
+  carried (command.Post count) a = subst (P (verdict.Change change.Post)) (sym (resumed_books size s.books count s.open_run)) posts
+  carried told a =
+      let rows = rows_of s.books told in
+      subst (P (verdict.Change rows)) (turned_is s.books s.open_run rows a) (turns rows a (plain_of s.books told refl))
 
   settled_holds : (told : Command) (v : Verdict) → verdict_on s.books s.open_run told ≡ v → Holds told v
-  settled_holds told (verdict.Change rows) e = carried told rows e
+  settled_holds told (verdict.Change rows) e =
+      let case = case_of s.books s.open_run rows told e in
+      subst (λ r. Holds told (verdict.Change r)) (sym case.0) (carried told case.1)
   settled_holds told (verdict.Already kept) e = already kept
   settled_holds told (verdict.Refused why) e = refused why
 

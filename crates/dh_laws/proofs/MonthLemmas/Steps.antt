@@ -24,7 +24,7 @@ use Rattle.dh_laws.specs.Keeping.{ChangesKeepOrder, StepsKeepTheLaw, WholeIsLawf
 use Rattle.dh_laws.specs.Posting.{RunIsOpeningMadeWhole}
 use Rattle.dh_laws.proofs.MonthLemmas.Shown.{none_open}
 use Rattle.dh_laws.proofs.MonthLemmas.Whole.{lawful_closed}
-use Rattle.dh_laws.proofs.VerdictLemmas.Cases.{case_of, plain_rows, run_stays}
+use Rattle.dh_laws.proofs.VerdictLemmas.Cases.{plain_of, rows_are, rows_of, run_stays}
 
 module _ (size : ℕ) (changes : ChangesKeepOrder size) (wholes : WholeIsLawful size) (runs : RunIsOpeningMadeWhole size) (s : State) (pos : 1 ≤ size)
     (keyed : AreKeyed s.books) (lawful : IsLawful s.books size) where
@@ -58,27 +58,20 @@ module _ (size : ℕ) (changes : ChangesKeepOrder size) (wholes : WholeIsLawful 
       let law = wholes (changed (change.Open row) s.books) (Some (record { month = row.month; done = 0 })) pos after in
       subst Law (runs s.books order pos in_order h) law
 
-  -- a run and its opening have the same rows
-  opening : (order : RunOrder) (rows : Change) → verdict_on s.books s.open_run (command.Open order) ≡ verdict.Change rows
-      → (rows ≡ change.Open (opened_run s.books order)) × Law (ran size s.books order.key)
-  opening order rows h =
-      let case = case_of s.books s.open_run rows (command.Open order) h in
-      let given = subst (λ r. verdict_on s.books s.open_run (command.Open order) ≡ verdict.Change r) case.0 h in
-      (case.0, ran_kept order (with_no_run s.open_run (command.Open order) (change.Open (opened_run s.books order)) refl given))
-
-  carried : (told : Command) (rows : Change) → IsEntered told → verdict_on s.books s.open_run told ≡ verdict.Change rows
-      → Law (carried_out size s told rows).0.books
-  carried (command.Run order) rows e h = let case = opening order rows h in
-      subst (λ r. Law (carried_out size s (command.Run order) r).0.books) (sym case.0) case.1
-  carried (command.Open order) rows e h = let case = opening order rows h in
-      subst (λ r. Law (carried_out size s (command.Open order) r).0.books) (sym case.0) case.1
-  carried (command.Post count) rows e h =
-      subst (λ r. Law (carried_out size s (command.Post count) r).0.books) (sym (case_of s.books s.open_run rows (command.Post count) h).0)
-      (subst Law (sym (resumed_books size s.books count s.open_run)) (keyed, lawful))
-  carried told rows e h = kept told rows e (with_no_run s.open_run told rows refl h) (plain_rows s.books s.open_run told rows refl h)
+  carried : (told : Command) → IsEntered told → verdict_on s.books s.open_run told ≡ verdict.Change (rows_of s.books told)
+      → Law (carried_out size s told (rows_of s.books told)).0.books
+  carried (command.Run order) e h = ran_kept order (with_no_run s.open_run (command.Run order) (change.Open (opened_run s.books order)) refl h)
+  carried (command.Open order) e h = ran_kept order (with_no_run s.open_run (command.Open order) (change.Open (opened_run s.books order)) refl h)
+  carried (command.Post count) e h = subst Law (sym (resumed_books size s.books count s.open_run)) (keyed, lawful)
+  carried told e h =
+      let rows = rows_of s.books told in
+      kept told rows e (with_no_run s.open_run told rows refl h) (plain_of s.books told refl)
 
   settled_kept : (told : Command) (v : Verdict) → IsEntered told → verdict_on s.books s.open_run told ≡ v → Law (settled size s told v).0.books
-  settled_kept told (verdict.Change rows) e h = carried told rows e h
+  settled_kept told (verdict.Change rows) e h =
+      let is = rows_are s.books s.open_run rows told h in
+      subst (λ r. Law (carried_out size s told r).0.books) (sym is)
+      (carried told e (subst (λ r. verdict_on s.books s.open_run told ≡ verdict.Change r) is h))
   settled_kept told (verdict.Already kept) e h = (keyed, lawful)
   settled_kept told (verdict.Refused why) e h = (keyed, lawful)
 

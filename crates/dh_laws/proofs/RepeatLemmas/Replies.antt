@@ -1,32 +1,29 @@
 -- A command whose key was used gets the reply that is kept, or a refusal, and the state stays.
-use Rattle.std.proofs.Common.{◌≡◌, refl, sym, ap, ℕ, ◌+◌, Bool, true, false, nat_eq, nat_le, Option, Some, None, if◌then◌else◌}
-use Rattle.std.specs.FinMap.{get, len}
+use Rattle.std.proofs.Common.{◌≡◌, refl, ap, ℕ, Bool, true, false, nat_eq, if◌then◌else◌}
+use Rattle.std.specs.FinMap.{len}
 use Rattle.std.proofs.lemmas.Bool.{false_from_ne_true}
 use Rattle.dh_types.specs.declared.lease.Receipt.{Receipt}
 use Rattle.dh_types.specs.declared.run.Run.{Run}
-use Rattle.dh_types.specs.declared.command.Command.{Command}
 use Rattle.dh_types.specs.declared.command.Command.TheVariants as command
 use Rattle.dh_types.specs.declared.command.ReceiptOrder.{ReceiptOrder}
 use Rattle.dh_types.specs.declared.command.RunOrder.{RunOrder}
-use Rattle.dh_types.specs.declared.reply.Reply.{Reply}
 use Rattle.dh_types.specs.declared.reply.Reply.TheVariants as reply
 use Rattle.dh_types.specs.declared.reply.Refusal.TheVariants as refusal
 use Rattle.dh_types.specs.Records.{is_same_payment}
 use Rattle.dh_types.proofs.SameRecords.{same_payment}
 use Rattle.dh_types.proofs.SameValues.{numbers}
-use Rattle.dh_model.specs.declared.open_run.OpenRun.{OpenRun}
 use Rattle.dh_model.specs.declared.rows.Change.{Change}
 use Rattle.dh_model.specs.declared.rows.Change.TheVariants as change
 use Rattle.dh_model.specs.declared.rows.Verdict.{Verdict}
 use Rattle.dh_model.specs.declared.rows.Verdict.TheVariants as verdict
-use Rattle.dh_model.specs.Books.{Books, State}
-use Rattle.dh_model.specs.Machine.{accepted, carried_out, posted_sum, resumed, settled}
+use Rattle.dh_model.specs.Books.{Books}
+use Rattle.dh_model.specs.Machine.{accepted, settled}
 use Rattle.dh_model.specs.Rules.{KeysInOrder}
-use Rattle.dh_model.specs.Runs.{batches, sum_of}
+use Rattle.dh_model.specs.Runs.{sum_of}
 use Rattle.dh_model.specs.Verdicts.{decided, receipt_ruling, run_verdict}
-use Rattle.dh_model.specs.Verdicts.{verdict_on}
 use Rattle.dh_laws.specs.Repeating.{IsReceiptOf, IsRunOf, NothingNewChangesNothing, ReceiptsRepeat, RepeatsGetTheirReply, RunsRepeat, is_of_nothing_new}
 use Rattle.dh_laws.specs.Repeating.{with_no_run}
+use Rattle.dh_model.proofs.MachineLemmas.{state_stays}
 use Rattle.dh_laws.proofs.RepeatLemmas.Keys.{no_receipt, no_run, one_receipt, one_run}
 
 -- ---- what the books say of a used key
@@ -86,41 +83,9 @@ module _ (size : ℕ) where
   accepted_is_new (change.Receipt it) h = cc
   accepted_is_new _ h = cc
 
-  either_is_new : (b : Bool) (x y : State × Reply) → (is_of_nothing_new x.1 ≡ true → ⊥) → (is_of_nothing_new y.1 ≡ true → ⊥)
-      → is_of_nothing_new (if b then x else y).1 ≡ true → ⊥
-  either_is_new true x y p q h = p h
-  either_is_new false x y p q h = q h
-
-  resumed_stays : (s : State) (count : ℕ) (run : Option OpenRun) → s.open_run ≡ run → is_of_nothing_new (resumed size s.books count run).1 ≡ true
-      → (resumed size s.books count run).0 ≡ s
-  resumed_stays s count None e h = λ i. record { books = s.books; open_run = sym e i }
-  resumed_stays s count (Some run) e h =
-      let all = batches size s.books run.month in
-      absurd (either_is_new (nat_le all (run.done + count)) (
-        record { books = s.books; open_run = None },
-        reply.Posted (posted_sum run.month (get s.books.runs run.month)),
-      ) (
-        record { books = s.books; open_run = Some (record { month = run.month; done = run.done + count }) },
-        reply.Progress (record { month = run.month; done = run.done + count; of = all }),
-      )
-      (λ new. cc) (λ new. cc) h)
-
-  carried_stays : (s : State) (told : Command) (rows : Change) → is_of_nothing_new (carried_out size s told rows).1 ≡ true
-      → (carried_out size s told rows).0 ≡ s
-  carried_stays s (command.Run order) (change.Open row) h = cc
-  carried_stays s (command.Run order) rows h = absurd (accepted_is_new rows h)
-  carried_stays s (command.Open order) (change.Open row) h = cc
-  carried_stays s (command.Open order) rows h = absurd (accepted_is_new rows h)
-  carried_stays s (command.Post count) change.Post h = resumed_stays s count s.open_run refl h
-  carried_stays s _ rows h = absurd (accepted_is_new rows h)
-
-  settled_stays : (s : State) (told : Command) (v : Verdict) → is_of_nothing_new (settled size s told v).1 ≡ true → (settled size s told v).0 ≡ s
-  settled_stays s told (verdict.Change rows) h = carried_stays s told rows h
-  settled_stays s told (verdict.Already kept) h = refl
-  settled_stays s told (verdict.Refused why) h = refl
-
   pub repeats_get_their_reply : RepeatsGetTheirReply size
   repeats_get_their_reply = (receipts_repeat, runs_repeat, openings_repeat)
 
   pub nothing_new_changes_nothing : NothingNewChangesNothing size
-  nothing_new_changes_nothing s told h = settled_stays s told (verdict_on s.books s.open_run told) h
+  nothing_new_changes_nothing s told =
+      state_stays size (λ r. is_of_nothing_new r ≡ true) accepted_is_new (λ month e. cc) (λ sum e. cc) (λ part e. cc) s told

@@ -189,7 +189,7 @@ is_of_run (command.Open order) = true
 is_of_run (command.Post count) = true
 is_of_run _ = false
 
-plain_of : (books : Books) (told : Command) → is_of_run told ≡ false → is_plain (rows_of books told) ≡ true
+pub plain_of : (books : Books) (told : Command) → is_of_run told ≡ false → is_plain (rows_of books told) ≡ true
 plain_of books (command.Fee it) other = of_fee (λ rows. is_plain rows ≡ true) it (get books.branch_fees it.branch) (λ none. refl) (λ was is. refl)
 plain_of books (command.End it) other = of_ending (λ rows. is_plain rows ≡ true) it (get books.endings it.lease) (λ none. refl) (λ was is. refl)
 plain_of books _ other = cc
