@@ -44,13 +44,10 @@ checked_other [] = true
 checked_other (check ∷ rest) = is_other check.1 && checked_other rest
 
 -- no ruling refuses for an open run
-rulings_found : (books : Books) (count : ℕ) (told : Command) → found_other (ruling books count told).before ≡ true
-rulings_found books count (command.Post most) = refl
-rulings_found books count _ = refl
-
-rulings_checked : (books : Books) (count : ℕ) (told : Command) → checked_other (ruling books count told).checks ≡ true
-rulings_checked books count (command.Post most) = refl
-rulings_checked books count _ = refl
+rulings_other : (books : Books) (count : ℕ) (told : Command)
+    → (found_other (ruling books count told).before ≡ true) × (checked_other (ruling books count told).checks ≡ true)
+rulings_other books count (command.Post most) = (refl, refl)
+rulings_other books count _ = (refl, refl)
 
 module _ (month : ℕ) where
   -- the verdict doesn't refuse for an open run
@@ -88,8 +85,8 @@ module _ (month : ℕ) where
     refused_for : (run : Option OpenRun) (told : Command) → verdict_on books run told ≡ verdict.Refused (refusal.RunOpen month) → IsOpenFor run (is_frozen told)
     refused_for run told e =
         let it = ruling books (len books.receipts) told in
-        run_refused (on_run told) run (decided it) (told_unlike it.before (judged it.checks it.rows) (rulings_found books (len books.receipts) told)
-        (checks_unlike it.checks it.rows (rulings_checked books (len books.receipts) told))) e
+        run_refused (on_run told) run (decided it) (told_unlike it.before (judged it.checks it.rows) (rulings_other books (len books.receipts) told).0
+        (checks_unlike it.checks it.rows (rulings_other books (len books.receipts) told).1)) e
 
     -- ---- reports
 
