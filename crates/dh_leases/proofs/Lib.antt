@@ -11,8 +11,7 @@ pub mod Cuts
 pub mod MonthRows
 pub mod BatchBranch
 pub mod BatchCharges
-pub mod BatchFees
-pub mod BatchParts
+pub mod BranchRows
 pub mod Counted
 pub mod Leading
 pub mod Planned

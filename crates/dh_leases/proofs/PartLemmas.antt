@@ -9,6 +9,7 @@ use Rattle.std.specs.Cmp.Lexicographic.{pointwise}
 use Rattle.std.proofs.lemmas.Bool.{cases_Bool, cases_lt, false≢true}
 use Rattle.std.proofs.lemmas.Cmp.{tied_itself}
 use Rattle.std.proofs.lemmas.List.Elements.{filter-append}
+use Rattle.std.proofs.lemmas.List.Sums.{count_by-le-length, length-filter}
 use Rattle.std.proofs.lemmas.Grind.{flat_map-append}
 use Rattle.dh_days.specs.Days.{month_of_day, plus_months}
 use Rattle.dh_types.specs.declared.property.Property.{Property}
@@ -26,14 +27,14 @@ pub at_most_one : (endings : Endings) (lease : Lease) (month : ℕ) → length (
 at_most_one endings lease month =
     let first = month_of_day lease.terms.start in
     elim (cases_lt month first) [
-      | inl early ↦ let none = ap length (none_before endings lease month early) in omega (arith, none)
+      | inl early ↦ omega (arith, ap length (none_before endings lease month early))
       | inr reached ↦ elim (cases_lt month (first + length_of endings lease)) [
         | inl within ↦
             let k = month - first in
-            let one = ap length (its_due endings lease month k k month (plus_months lease.terms.start k) (omega (arith, reached))
-            (omega (arith, reached, within)) refl refl refl) in
-            omega (arith, one)
-        | inr late ↦ let none = ap length (none_after endings lease month late) in omega (arith, none)
+            let one = its_due endings lease month k k month (plus_months lease.terms.start k) (omega (arith, reached)) (omega (arith, reached, within))
+            refl refl refl in
+            omega (arith, ap length one)
+        | inr late ↦ omega (arith, ap length (none_after endings lease month late))
       ]
     ]
 
@@ -47,20 +48,16 @@ dues_of_two endings xs ys month =
 pub no_more_dues : (endings : Endings) (leases : List Lease) (month : ℕ) → length (dues_among endings leases month) ≤ length leases
 no_more_dues endings [] month = omega arith
 no_more_dues endings (lease ∷ leases) month =
-    let one = at_most_one endings lease month in
-    let rest = no_more_dues endings leases month in
-    let all = ap length (dues_of_two endings (lease ∷ []) leases month) in
-    let both = length-append (dues_among endings (lease ∷ []) month) (dues_among endings leases month) in
-    omega (arith, one, rest, all, both)
+    omega (
+      arith,
+      at_most_one endings lease month,
+      no_more_dues endings leases month,
+      ap length (dues_of_two endings (lease ∷ []) leases month),
+      length-append (dues_among endings (lease ∷ []) month) (dues_among endings leases month),
+    )
 
-module _ {X : Type 0} (p : X → Bool) where
-  kept_or_not : (b : Bool) (x : X) (ks xs : List X) → length ks ≤ length xs → length (cond b (x ∷ ks) ks) ≤ length (x ∷ xs)
-  kept_or_not true x ks xs h = omega arith
-  kept_or_not false x ks xs h = omega arith
-
-  pub no_more_kept : (xs : List X) → length (filter p xs) ≤ length xs
-  no_more_kept [] = omega arith
-  no_more_kept (x ∷ xs) = kept_or_not (p x) x (filter p xs) xs (no_more_kept xs)
+pub no_more_kept : {X : Type 0} (p : X → Bool) (xs : List X) → length (filter p xs) ≤ length xs
+no_more_kept p xs = omega (arith, length-filter p xs, count_by-le-length p xs)
 
 -- the lease is of a property of the branch
 abbrev pub of_branch : FinMap text_cmp Property → List ℕ → Lease → Bool

@@ -14,8 +14,7 @@ use Rattle.dh_leases.specs.Plans.{AreNew, HasItsFeeRow, HasItsPart, HaveTheLease
 use Rattle.dh_leases.specs.Rows.{Rows, all_rows_left, rows_of}
 use Rattle.dh_leases.proofs.BatchBranch.{IsBatch}
 use Rattle.dh_leases.proofs.BatchCharges.{charges_led, charges_new}
-use Rattle.dh_leases.proofs.BatchFees.{fees_led, had_fee}
-use Rattle.dh_leases.proofs.BatchParts.{had_part, parts_led}
+use Rattle.dh_leases.proofs.BranchRows.{fees_led, had_fee, had_row, part_rows, row_led}
 use Rattle.dh_leases.proofs.Counted.{AreTheRest, all_counted}
 use Rattle.dh_leases.proofs.Places.{AreFrom}
 
@@ -44,8 +43,8 @@ module _ (books : Books) (month done : ℕ) (order : IsInOrder batch_size books 
     rows_begun : HasItsPart rows (stage books month number)
     rows_begun =
         let before = with_posted batch_size books month number in
-        let had = had_part batch_size books month number (omega arith) order.keyed batch.held order.rules in
-        let fed = had_fee batch_size books month number (omega arith) order.keyed batch.held order.rules in
+        let had = had_row batch_size books month number (omega arith) order.keyed batch.held (part_rows batch_size books month order.keyed order.rules) in
+        let fed = had_fee batch_size books month order.keyed order.rules number (omega arith) batch.held in
         let HadRows : Rows → Type 0 = λ r. (r.3 ≡ is_some (get before.parts (part_key r.1)))
         × IfSome r.2 (HasItsFeeRow r.3 (stage books month number)) in
         let both = subst HadRows (sym batch.is) (had, fed) in
@@ -57,9 +56,9 @@ module _ (books : Books) (month done : ℕ) (order : IsInOrder batch_size books 
         let charges = ap (λ (r : Rows). with_rows charge_key r.0 before.charges) batch.is
         ∙ charges_led batch_size books month number (omega arith) order.keyed batch.held order.rules in
         let parts = ap (λ (r : Rows). with_rows part_key (r.1 ∷ []) before.parts) batch.is
-        ∙ parts_led batch_size books month number (omega arith) order.keyed batch.held order.rules in
+        ∙ row_led batch_size books month number (omega arith) order.keyed batch.held (part_rows batch_size books month order.keyed order.rules) in
         let fees = ap (λ (r : Rows). with_rows part_fee_key (some_row r.2) before.part_fees) batch.is
-        ∙ fees_led batch_size books month number (omega arith) order.keyed batch.held order.rules in
+        ∙ fees_led batch_size books month order.keyed order.rules number (omega arith) batch.held in
         λ i. record {
           books = record books { charges = charges i; parts = parts i; part_fees = fees i };
           open_run = Some (record { month = month; done = number + 1 });

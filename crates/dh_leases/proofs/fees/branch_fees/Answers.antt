@@ -9,12 +9,8 @@ use Rattle.dh_leases.proofs.fees.branch_fees.Goals as goal
 
 pub fee_with-requires : goal.fee_with-requires
 fee_with-requires c =
-    let b = c.args.books.now.books in
-    let branch = c.in-Some.branch.now in
-    let dues = ap length (c.of_branch.ensures ∙ c.in_ok-dues.ensures.value branch) in
-    let few = few_dues b c.args.month branch in
-    let leases = c.in_ok-dues.ensures.few in
-    omega (arith, dues, few, leases)
+    let dues = c.of_branch.ensures ∙ c.in_ok-dues.ensures.value c.in-Some.branch.now in
+    omega (arith, few_dues c.args.books.now.books c.args.month _ _ dues, c.in_ok-dues.ensures.few)
 
 pub loop-branch-preserved : goal.loop-branch-preserved
 loop-branch-preserved c =

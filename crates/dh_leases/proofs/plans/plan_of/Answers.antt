@@ -15,12 +15,8 @@ use Rattle.dh_leases.proofs.plans.plan_of.Goals as goal
 
 pub put_batches-requires : goal.put_batches-requires
 put_batches-requires c =
-    let b = c.args.books.now.books in
-    let branch = c.in-Some.branch.now in
-    let dues = ap length (c.of_branch-all.ensures ∙ c.in_ok-dues.ensures.value branch) in
-    let few = few_dues b c.args.run.month branch in
-    let leases = c.in_ok-dues.ensures.few in
-    omega (arith, dues, few, leases)
+    let dues = c.of_branch-all.ensures ∙ c.in_ok-dues.ensures.value c.in-Some.branch.now in
+    omega (arith, few_dues c.args.books.now.books c.args.run.month _ _ dues, c.in_ok-dues.ensures.few)
 
 pub loop-branch-preserved : goal.loop-branch-preserved
 loop-branch-preserved c =
