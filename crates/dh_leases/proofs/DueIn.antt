@@ -62,33 +62,18 @@ module _ (endings : Endings) (lease : Lease) (month : ℕ) where
   of_one : dues_among endings (lease ∷ []) month ≡ those 0 months
   of_one = ap (filter falls) (append-nil (dues_of endings lease))
 
-  before_all : month < first → month < first + 0
-  before_all h = omega (arith, h)
-
   pub none_before : month < first → [] ≡ dues_among endings (lease ∷ []) month
-  none_before h = sym (of_one ∙ no_due 0 months (inl (before_all h)))
-
-  after_all : first + months ≤ month → first + (0 + months) ≤ month
-  after_all h = omega (arith, h)
+  none_before h = sym (of_one ∙ no_due 0 months (inl (omega (arith, h))))
 
   pub none_after : first + months ≤ month → [] ≡ dues_among endings (lease ∷ []) month
-  none_after h = sym (of_one ∙ no_due 0 months (inr (after_all h)))
-
-  at_start : (k : ℕ) → first + k ≡ month → first + (0 + k) ≡ month
-  at_start k e = omega (arith, e)
-
-  charged : (k i m d : ℕ) → i ≡ k → m ≡ first + k → d ≡ plus_months lease.terms.start k
-      → ◌≡◌ {A = Charge} (record { lease = lease.terms.number; index = i; month = m; day = d; amount = lease.rent }) (due lease k)
-  charged k i m d p q r =
-      ap (λ (x : ℕ). let c : Charge = record { lease = lease.terms.number; index = x; month = m; day = d; amount = lease.rent } in c) p
-      ∙ ap (λ (x : ℕ). let c : Charge = record { lease = lease.terms.number; index = k; month = x; day = d; amount = lease.rent } in c) q
-      ∙ ap (λ (x : ℕ). let c : Charge = record { lease = lease.terms.number; index = k; month = first + k; day = x; amount = lease.rent } in c) r
+  none_after h = sym (of_one ∙ no_due 0 months (inr (omega (arith, h))))
 
   -- the charge with these parts is what falls due
   pub its_due : (k i m d : ℕ) → first + k ≡ month → k < months → i ≡ k → m ≡ month → d ≡ plus_months lease.terms.start k
       → ◌≡◌ {A = List Charge} (record { lease = lease.terms.number; index = i; month = m; day = d; amount = lease.rent } ∷ [])
       (dues_among endings (lease ∷ []) month)
   its_due k i m d e h p q r =
+      let charge : ℕ → ℕ → ℕ → Charge = λ x y z. record { lease = lease.terms.number; index = x; month = y; day = z; amount = lease.rent } in
+      let falls_in = q ∙ sym e in
       let here : 0 + k ≡ k = omega arith in
-      ap (λ c. c ∷ []) (charged k i m d p (q ∙ sym e) r) ∙ ap (λ x. due lease x ∷ []) (sym here)
-      ∙ sym (of_one ∙ one_due 0 months k (at_start k e) h)
+      (λ j. charge (p j) (falls_in j) (r j) ∷ []) ∙ ap (λ x. due lease x ∷ []) (sym here) ∙ sym (of_one ∙ one_due 0 months k (omega (arith, e)) h)

@@ -1,6 +1,5 @@
 pub mod Overlaps
 pub mod DueIn
-pub mod BehindLemmas
 pub mod FewLemmas
 pub mod PartLemmas
 pub mod PostedLemmas

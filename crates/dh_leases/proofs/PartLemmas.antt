@@ -5,7 +5,7 @@ use Rattle.std.specs.List.{filter, flat_map}
 use Rattle.std.specs.FinMap.{FinMap, get}
 use Rattle.std.specs.BTreeMap.{is_at}
 use Rattle.std.specs.Cmp.{Equal-is}
-use Rattle.std.specs.Cmp.Lexicographic.{pointwise}
+use Rattle.std.specs.Cmp.Lexicographic.{texts_ties}
 use Rattle.std.proofs.lemmas.Bool.{cases_Bool, cases_lt, false≢true}
 use Rattle.std.proofs.lemmas.Cmp.{tied_itself}
 use Rattle.std.proofs.lemmas.List.Elements.{filter-append}
@@ -63,61 +63,43 @@ no_more_kept p xs = omega (arith, length-filter p xs, count_by-le-length p xs)
 abbrev pub of_branch : FinMap text_cmp Property → List ℕ → Lease → Bool
 of_branch properties branch lease = is_property_of branch (get properties lease.terms.property)
 
-module _ (endings : Endings) (properties : FinMap text_cmp Property) (month : ℕ) where
-  kept_last : (branch : List ℕ) (leases : List Lease) (lease : Lease) → of_branch properties branch lease ≡ true
-      → filter (of_branch properties branch) (leases ++ lease ∷ []) ≡ filter (of_branch properties branch) leases ++ lease ∷ []
-  kept_last branch leases lease e =
-      filter-append (of_branch properties branch) leases (lease ∷ []) ∙ ap (λ b. filter (of_branch properties branch) leases ++ cond b (lease ∷ []) []) e
+of_one : (endings : Endings) (month : ℕ) (lease : Lease) (keeps : Bool)
+    → dues_among endings (cond keeps (lease ∷ []) []) month ≡ cond keeps (dues_among endings (lease ∷ []) month) []
+of_one endings month lease true = refl
+of_one endings month lease false = refl
 
-  left_last : (branch : List ℕ) (leases : List Lease) (lease : Lease) → of_branch properties branch lease ≡ false
-      → filter (of_branch properties branch) (leases ++ lease ∷ []) ≡ filter (of_branch properties branch) leases
-  left_last branch leases lease e =
-      filter-append (of_branch properties branch) leases (lease ∷ [])
-      ∙ ap (λ b. filter (of_branch properties branch) leases ++ cond b (lease ∷ []) []) e
-      ∙ append-nil (filter (of_branch properties branch) leases)
+either : {X : Type 0} (b : Bool) (x : X) → cond b x x ≡ x
+either true x = refl
+either false x = refl
 
-  same_branch : (branch q : List ℕ) → is_at (text_cmp branch) q ≡ true → branch ≡ q
-  same_branch branch q e = text_ties branch q ((Equal-is (text_cmp branch q)).0 e)
+module _ (endings : Endings) (properties : FinMap text_cmp Property) (month : ℕ) (leases : List Lease) (lease : Lease) (q : List ℕ) where
+  abbrev before : List Charge
+  before = dues_among endings (filter (of_branch properties q) leases) month
 
-  other_branch : (branch q : List ℕ) → is_at (text_cmp branch) q ≡ false → pointwise nat_eq branch q ≡ false
-  other_branch branch q e = elim (cases_Bool (pointwise nat_eq branch q)) [
-    | inl same ↦
-        let is = (texts branch q).0 same in
-        let ties : is_at (text_cmp branch) q ≡ true = ap (λ k. is_at (text_cmp branch) k) (sym is) ∙ ap is_eq (tied_itself text_total branch) in
-        absurd (false≢true (sym e ∙ ties))
-    | inr differs ↦ differs
-  ]
+  abbrev after : List Charge
+  after = dues_among endings (filter (of_branch properties q) (leases ++ lease ∷ [])) month
 
-  -- the charge comes behind those of its branch
-  pub due_put : (leases : List Lease) (lease : Lease) (property : Property) (charge : Charge) (q : List ℕ) → get properties lease.terms.property ≡ Some property
-      → charge ∷ [] ≡ dues_among endings (lease ∷ []) month
-      → dues_among endings (filter (of_branch properties q) leases) month
-      ++ cond (is_at (text_cmp property.branch) q) (charge ∷ []) [] ≡ dues_among endings (filter (of_branch properties q) (leases ++ lease ∷ [])) month
-  due_put leases lease property charge q there its =
-      let dues = dues_among endings (filter (of_branch properties q) leases) month in
-      elim (cases_Bool (is_at (text_cmp property.branch) q)) [
-        | inl same ↦
-            ap (λ b. dues ++ cond b (charge ∷ []) []) same ∙ ap (λ cs. dues ++ cs) its
-            ∙ sym (dues_of_two endings (filter (of_branch properties q) leases) (lease ∷ []) month)
-            ∙ ap (λ ls. dues_among endings ls month)
-            (sym (kept_last q leases lease (ap (is_property_of q) there ∙ (texts property.branch q).1 (same_branch property.branch q same))))
-        | inr other ↦
-            ap (λ b. dues ++ cond b (charge ∷ []) []) other ∙ append-nil dues
-            ∙ ap (λ ls. dues_among endings ls month) (sym (left_last q leases lease (ap (is_property_of q) there ∙ other_branch property.branch q other)))
-      ]
+  abbrev own : List Charge
+  own = dues_among endings (lease ∷ []) month
+
+  -- its own dues come behind those of the leases before it, where it is of the branch
+  due_behind : after ≡ before ++ cond (of_branch properties q lease) own []
+  due_behind =
+      ap (λ ls. dues_among endings ls month) (filter-append (of_branch properties q) leases (lease ∷ []))
+      ∙ dues_of_two endings (filter (of_branch properties q) leases) (filter (of_branch properties q) (lease ∷ [])) month
+      ∙ ap (λ cs. before ++ cs) (of_one endings month lease (of_branch properties q lease))
+
+  pub due_put : (property : Property) (charge : Charge) → get properties lease.terms.property ≡ Some property → charge ∷ [] ≡ own
+      → before ++ cond (is_at (text_cmp property.branch) q) (charge ∷ []) [] ≡ after
+  due_put property charge there its =
+      ap (λ cs. before ++ cond (is_at (text_cmp property.branch) q) cs []) its
+      ∙ ap (λ b. before ++ cond b own []) (sym (ap (is_property_of q) there ∙ texts_ties property.branch q)) ∙ sym due_behind
 
   -- what is not due, or at no branch, changes nothing
-  pub no_due_more : (leases : List Lease) (lease : Lease) (q : List ℕ) → [] ≡ dues_among endings (lease ∷ []) month
-      → dues_among endings (filter (of_branch properties q) leases) month ≡ dues_among endings (filter (of_branch properties q) (leases ++ lease ∷ [])) month
-  no_due_more leases lease q none =
-      let dues = dues_among endings (filter (of_branch properties q) leases) month in
-      elim (cases_Bool (of_branch properties q lease)) [
-        | inl its ↦
-            sym (append-nil dues) ∙ ap (λ cs. dues ++ cs) none ∙ sym (dues_of_two endings (filter (of_branch properties q) leases) (lease ∷ []) month)
-            ∙ ap (λ ls. dues_among endings ls month) (sym (kept_last q leases lease its))
-        | inr other ↦ ap (λ ls. dues_among endings ls month) (sym (left_last q leases lease other))
-      ]
+  pub no_due_more : [] ≡ own → before ≡ after
+  no_due_more none =
+      sym (due_behind ∙ ap (λ cs. before ++ cond (of_branch properties q lease) cs []) (sym none)
+      ∙ ap (λ cs. before ++ cs) (either (of_branch properties q lease) []) ∙ append-nil before)
 
-  pub no_branch_more : (leases : List Lease) (lease : Lease) (q : List ℕ) → get properties lease.terms.property ≡ None
-      → dues_among endings (filter (of_branch properties q) leases) month ≡ dues_among endings (filter (of_branch properties q) (leases ++ lease ∷ [])) month
-  no_branch_more leases lease q none = ap (λ ls. dues_among endings ls month) (sym (left_last q leases lease (ap (is_property_of q) none)))
+  pub no_branch_more : get properties lease.terms.property ≡ None → before ≡ after
+  no_branch_more none = sym (due_behind ∙ ap (λ b. before ++ cond b own []) (ap (is_property_of q) none) ∙ append-nil before)

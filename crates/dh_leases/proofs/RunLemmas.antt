@@ -7,7 +7,7 @@ use Rattle.dh_types.specs.declared.run.Part.{Part}
 use Rattle.dh_types.specs.declared.fee.PartFee.{PartFee}
 use Rattle.dh_model.specs.Books.{Books, State, with_rows}
 use Rattle.dh_model.specs.Leases.{dues}
-use Rattle.dh_model.specs.Runs.{batches, charge_key, closed_run, dues_of_branch, fee_at, part_fee_key}
+use Rattle.dh_model.specs.Runs.{batches, begun_branches, charge_key, closed_run, dues_of_branch, fee_at, part_fee_key}
 use Rattle.dh_model.specs.Runs.{part_fee_of, part_key, part_of, posted_fees}
 use Rattle.dh_model.specs.Runs.{posted_of_branch, posted_parts, ran, since_second}
 use Rattle.dh_model.specs.BatchLaws.{AreNumbered}
@@ -19,30 +19,20 @@ module _ {X Y : Type 0} (f g : X → Y) where
   map_among [] same = refl
   map_among (x ∷ xs) same = ap (λ y. y ∷ map f xs) (same x (inl refl)) ∙ ap (λ ys. g x ∷ ys) (map_among xs (λ y a. same y (inr a)))
 
-pub all_parts : (size : ℕ) (books : Books) (month : ℕ) → 1 ≤ size → AreNumbered books
-    → map (λ branch. part_of month branch (dues_of_branch books month branch)) (keys books.branches) ≡ posted_parts size books month (batches size books month)
-all_parts size books month pos are =
+-- after the last batch each branch has begun, and has all that falls due there
+all_begun : {X : Type 0} (size : ℕ) (books : Books) (month : ℕ) → 1 ≤ size → AreNumbered books → (row : List ℕ → List Charge → X)
+    → map (λ branch. row branch (dues_of_branch books month branch)) (keys books.branches)
+    ≡ map (λ branch. row branch (posted_of_branch size books month (batches size books month) branch)) (begun_branches size books month (batches size books month))
+all_begun size books month pos are row =
     let all = last_batch_posts_all size books month pos are in
-    let done = batches size books month in
-    map_among (λ branch. part_of month branch (dues_of_branch books month branch))
-    (λ branch. part_of month branch (posted_of_branch size books month done branch)) (keys books.branches)
-    (λ branch a. ap (part_of month branch) (sym (all.0 branch (is_among (keys books.branches) branch a))))
-    ∙ ap (map (λ branch. part_of month branch (posted_of_branch size books month done branch))) (sym all.1)
+    let posted = λ (branch : List ℕ). row branch (posted_of_branch size books month (batches size books month) branch) in
+    map_among (λ branch. row branch (dues_of_branch books month branch)) posted (keys books.branches)
+    (λ branch a. ap (row branch) (sym (all.0 branch (is_among (keys books.branches) branch a))))
+    ∙ ap (map posted) (sym all.1)
 
 -- what the branch takes of a run that is done
 abbrev pub fee_of_all : Books → ℕ → List ℕ → PartFee
 fee_of_all books month branch = part_fee_of month branch (fee_at books branch) (dues_of_branch books month branch)
-
-pub all_fees : (size : ℕ) (books : Books) (month : ℕ) → 1 ≤ size → AreNumbered books
-    → since_second books.version (map (fee_of_all books month) (keys books.branches)) ≡ posted_fees size books month (batches size books month)
-all_fees size books month pos are =
-    let all = last_batch_posts_all size books month pos are in
-    let done = batches size books month in
-    let row = λ (branch : List ℕ). part_fee_of month branch (fee_at books branch) (posted_of_branch size books month done branch) in
-    ap (since_second books.version)
-    (map_among (fee_of_all books month) row (keys books.branches)
-    (λ branch a. ap (part_fee_of month branch (fee_at books branch)) (sym (all.0 branch (is_among (keys books.branches) branch a))))
-    ∙ ap (map row) (sym all.1))
 
 -- the rows put one after the other, and the next month set
 pub record Posted (s s1 s2 s3 s4 s5 : State) (charges : List Charge) (parts : List Part) (fees : List PartFee) (run : Run) (next : ℕ) : Type 0 where
@@ -77,33 +67,16 @@ module _ (s : State) where
   all_rows : (s1 s2 s3 s4 s5 : State) (charges : List Charge) (parts : List Part) (fees : List PartFee) (run : Run) (next : ℕ)
       → Posted s s1 s2 s3 s4 s5 charges parts fees run next → s5 ≡ together charges parts fees run next
   unfolding together
-  all_rows s1 s2 s3 s4 s5 charges parts fees run next h =
-      h.moved
-      ∙ ap (λ (t : State). let u : State = record t { books = record t.books { next = next } } in u) h.run_put
-      ∙ ap (λ (t : State). let u : State = record t { books = record t.books { runs = insert t.books.runs run.month run; next = next } } in u) h.feed
-      ∙ ap (λ (t : State). let u : State = record t {
-        books = record t.books {
-          part_fees = with_rows part_fee_key fees t.books.part_fees;
-          runs = insert t.books.runs run.month run;
-          next = next;
-        };
-      } in u) h.parted
-      ∙ ap (λ (t : State). let u : State = record t {
-        books = record t.books {
-          parts = with_rows part_key parts t.books.parts;
-          part_fees = with_rows part_fee_key fees t.books.part_fees;
-          runs = insert t.books.runs run.month run;
-          next = next;
-        };
-      } in u) h.charged
+  all_rows s1 s2 s3 s4 s5 charges parts fees run next h = rw (h.moved, h.run_put, h.feed, h.parted, h.charged)
 
   run_rows : (size month : ℕ) (key : List ℕ) (charges : List Charge) (parts : List Part) (fees : List PartFee) (run : Run) (next : ℕ) → 1 ≤ size
       → AreNumbered s.books → month ≡ s.books.next → OfRun size s.books month key charges parts fees run next
       → together charges parts fees run next ≡ record s { books = ran size s.books key }
   unfolding together
   run_rows size month key charges parts fees run next pos are is of =
-      let parts_are = of.parts_are ∙ all_parts size s.books month pos are in
-      let fees_are = of.fees_are ∙ all_fees size s.books month pos are in
+      let parts_are = of.parts_are ∙ all_begun size s.books month pos are (part_of month) in
+      let fees_are = of.fees_are ∙ ap (since_second s.books.version)
+      (all_begun size s.books month pos are (λ branch. part_fee_of month branch (fee_at s.books branch))) in
       (λ i. together (of.charges_are i) (parts_are i) (fees_are i) (of.run_is i) (of.next_is i))
       ∙ ap (λ m. together (dues s.books m) (posted_parts size s.books m (batches size s.books m)) (posted_fees size s.books m (batches size s.books m))
       (closed_run m key (dues s.books m)) (m + 1)) is

@@ -42,7 +42,7 @@ loop-lease-preserved c =
     let its : charge ∷ [] ≡ dues_among b.endings (lease ∷ []) c.args.month = c.in-Some-due_in.ensures
     ∙ ap (dues_among b.endings (lease ∷ [])) c.month.ensures.value in
     λ q. c.in_ok-put_behind.ensures q ∙ ap (λ cs. cs ++ cond (is_at (text_cmp property.branch) q) (charge ∷ []) []) (c.loop-lease.invariant q)
-    ∙ due_put b.endings b.properties c.args.month done lease property charge q there its
+    ∙ due_put b.endings b.properties c.args.month done lease q property charge there its
     ∙ ap (λ ls. dues_among b.endings (filter (of_branch b.properties q) ls) c.args.month) (sym one_more)
 
 pub returns-clause-value : goal.returns-clause-value
