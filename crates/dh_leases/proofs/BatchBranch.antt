@@ -29,16 +29,12 @@ module _ (size : ℕ) (books : Books) (month number : ℕ) where
   by_order : (r : Ordering) (a b : IsHeld size books month number) → text_cmp a.key b.key ≡ r → a.key ≡ b.key
   by_order Less a b e =
       let all = own_is_before (batches_of_branch size books month) text_cmp text_total (keys books.branches) a.key b.key a.of (ap is_lt e) in
-      let last = a.until in
-      let first = b.from in
-      absurd (omega (arith, all, last, first))
+      absurd (omega (arith, all, a.until, b.from))
   by_order Equal a b e = text_ties a.key b.key e
   by_order Greater a b e =
       let all = own_is_before (batches_of_branch size books month) text_cmp text_total (keys books.branches) b.key a.key b.of
       (ap is_lt (text_total.antisymm b.key a.key ∙ ap ordering_reverse e)) in
-      let last = b.until in
-      let first = a.from in
-      absurd (omega (arith, all, last, first))
+      absurd (omega (arith, all, b.until, a.from))
 
   -- a batch is of one branch
   pub one_branch : (a b : IsHeld size books month number) → a.key ≡ b.key
@@ -68,8 +64,7 @@ module _ (size : ℕ) (books : Books) (month number : ℕ) where
 
       pub posted_with : posted_of_branch size books month (number + 1) held.key ≡ take ((own_number + 1) * size) own_dues
       posted_with =
-          let from = held.from in
-          let next : number + 1 - batches_before size books month held.key ≡ own_number + 1 = omega (arith, from) in
+          let next : number + 1 - batches_before size books month held.key ≡ own_number + 1 = omega (arith, held.from) in
           first_posted size books month (number + 1) pos are held.key ∙ ap (λ n. take (n * size) own_dues) next
 
       pub posted_in_two : posted_of_branch size books month (number + 1) held.key

@@ -87,14 +87,12 @@ module _ (size : ℕ) (books : Books) (month number : ℕ) (pos : 1 ≤ size) (k
   posted_too : (x : Charge) → Among own x → Among (posted_charges size books month (number + 1)) x
   posted_too x a =
       let of = of_batch x a in
-      let is = of.1 in
-      of_posted size books month (number + 1) x (record { branch = key; of = held.of; due = of.0; early = omega (arith, is) })
+      of_posted size books month (number + 1) x (record { branch = key; of = held.of; due = of.0; early = omega (arith, of.1) })
 
   posted_still : (x : Charge) → Among (posted_charges size books month number) x → Among (posted_charges size books month (number + 1)) x
   posted_still x a =
       let p = is_posted size books month number x a in
-      let early = p.early in
-      of_posted size books month (number + 1) x (record { branch = p.branch; of = p.of; due = p.due; early = omega (arith, early) })
+      of_posted size books month (number + 1) x (record { branch = p.branch; of = p.of; due = p.due; early = omega (arith, p.early) })
 
   own_or_before : (x : Charge) → Among (posted_charges size books month (number + 1)) x → Among own x ⊎ Among (posted_charges size books month number) x
   own_or_before x a =
@@ -102,8 +100,7 @@ module _ (size : ℕ) (books : Books) (month number : ℕ) (pos : 1 ≤ size) (k
       elim (cases_lt (batch_of size books month p.branch x) number) [
         | inl less ↦ inr (of_posted size books month number x (record { branch = p.branch; of = p.of; due = p.due; early = less }))
         | inr later ↦
-            let last = p.early in
-            let is : batch_of size books month p.branch x ≡ number = omega (arith, later, last) in
+            let is : batch_of size books month p.branch x ≡ number = omega (arith, later, p.early) in
             let same = branch_of_due size books month number pos (keyed Kind.Leases) held p.branch x p.of p.due is in
             inl (is_own x (subst (λ b. Among (dues_of_branch books month b) x) same p.due) (subst (λ b. batch_of size books month b x ≡ number) same is))
       ]
@@ -112,7 +109,6 @@ module _ (size : ℕ) (books : Books) (month number : ℕ) (pos : 1 ≤ size) (k
   not_before : (x : Charge) → Among own x → (y : Charge) → Among (posted_charges size books month number) y → charge_key y ≡ charge_key x → ⊥
   not_before x a y b e =
       let of = of_batch x a in
-      let is = of.1 in
       let one = one_posted size books month (number + 1) (keyed Kind.Leases) y x (posted_still y b) (posted_too x a) e in
       let p = is_posted size books month number y b in
       let due = subst (λ z. Among (dues_of_branch books month p.branch) z) one p.due in
@@ -120,7 +116,7 @@ module _ (size : ℕ) (books : Books) (month number : ℕ) (pos : 1 ≤ size) (k
       let early : batch_of size books month p.branch y < number = p.early in
       let here : batch_of size books month key x < number =
       subst (λ b. batch_of size books month b x < number) same (subst (λ z. batch_of size books month p.branch z < number) one early) in
-      omega (arith, here, is)
+      omega (arith, here, of.1)
 
   module _ (rules : MeetsRules books size) where
     pub charges_led : with_rows charge_key own (replaced charge_key charge_month books.charges month (posted_charges size books month number))

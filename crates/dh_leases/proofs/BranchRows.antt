@@ -101,21 +101,23 @@ module _ (size : ℕ) (books : Books) (month number : ℕ) (pos : 1 ≤ size) (k
 
     is_new : (x : X) → Among (its ∷ []) x → Among (rows (number + 1)) x
     is_new x (inl e) =
-        let from = held.from in
-        subst (λ r. Among (rows (number + 1)) r) (sym (e ∙ its_is)) (are.of_branch (number + 1) own held.of (omega (arith, from)))
+        subst (λ r. Among (rows (number + 1)) r) (sym (e ∙ its_is)) (are.of_branch (number + 1) own held.of (omega (arith, held.from)))
     is_new x (inr a) = absurd a
 
     still_or_replaced : (x : X) → Among (rows number) x → Among (rows (number + 1)) x ⊎ ((y : X) × Among (its ∷ []) y × (key y ≡ key x))
     still_or_replaced x a =
         let p = are.is_of number x a in
-        let early = p.early in
         elim (cases_key text_total text_ties p.branch own) [
           | inl same ↦
-              inr (its, inl refl, are.keyed own so_far ∙ (λ i. (month, sym same i))
-              ∙ sym (ap key p.is ∙ are.keyed p.branch (posted_of_branch size books month number p.branch)))
+              inr (
+                its,
+                inl refl,
+                are.keyed own so_far ∙ (λ i. (month, sym same i))
+                    ∙ sym (ap key p.is ∙ are.keyed p.branch (posted_of_branch size books month number p.branch)),
+              )
           | inr apart ↦
               inl (subst (λ q. Among (rows (number + 1)) q) (ap (row p.branch) (sym (others_stay p.branch p.of apart)) ∙ sym p.is)
-              (are.of_branch (number + 1) p.branch p.of (omega (arith, early))))
+              (are.of_branch (number + 1) p.branch p.of (omega (arith, p.early))))
         ]
 
     new_or_before : (x : X) → Among (rows (number + 1)) x → Among (its ∷ []) x ⊎ Among (rows number) x

@@ -55,17 +55,13 @@ module _ (size : ℕ) (books : Books) (month done : ℕ) where
   counted_from a [] some is = record { batches_from = tt; count = omega arith }
   counted_from a (branch ∷ branches) some is =
       let rest = counted_from (a + own branch) branches (λ b h. some b (inr h)) is.1 in
-      let more = rest.count in
-      let its = length_left branch in
       let first : max done (before branch) ≡ max done a = ap (max done) is.0 in
-      let next : max done (a + own branch) ≡ max done a + length (left branch) = omega (arith, its, is.0) in
-      let both = length-append (left branch) (flat_map left branches) in
-      let all = sum_by-cons own branch branches in
+      let next : max done (a + own branch) ≡ max done a + length (left branch) = omega (arith, length_left branch, is.0) in
       record {
         batches_from = from_both Batch (max done a) (left branch) (flat_map left branches)
             (subst (λ n. AreFrom Batch n (left branch)) first (branch_from branch (some branch (inl (λ _. branch)))))
             (subst (λ n. AreFrom Batch n (flat_map left branches)) next rest.batches_from);
-        count = omega (arith, more, next, both, all);
+        count = omega (arith, rest.count, next, length-append (left branch) (flat_map left branches), sum_by-cons own branch branches);
       }
 
   -- the rows that are left are those of the batches from that number on, as many as there are
@@ -76,11 +72,9 @@ module _ (size : ℕ) (books : Books) (month done : ℕ) where
   pub all_counted : done ≤ batches size books month → AreTheRest (all_rows_left size books month done)
   all_counted few =
       let branches = keys books.branches in
-      let rise = branches_rise books in
-      let all = counted_from 0 branches (λ b h. h) (sums_follow own text_cmp text_total branches rise) in
-      let count = all.count in
+      let all = counted_from 0 branches (λ b h. h) (sums_follow own text_cmp text_total branches (branches_rise books)) in
       let first : max done 0 ≡ done = omega arith in
       record {
         batches_from = subst (λ n. AreFrom Batch n (all_rows_left size books month done)) first all.batches_from;
-        count = omega (arith, count, few);
+        count = omega (arith, all.count, few);
       }

@@ -12,10 +12,7 @@ use Rattle.dh_model.proofs.LeaseLemmas.{overlap_is_by_ends}
 
 -- a start lies before the end
 pub starts_before : (start months : ℕ) → IsDay start → 1 ≤ months → start < plus_months start months
-starts_before start months is some =
-    let first = zero_months_later_is_the_day start is in
-    let more = more_months_later start 0 months (omega arith) in
-    omega (arith, first, more)
+starts_before start months is some = omega (arith, zero_months_later_is_the_day start is, more_months_later start 0 months (omega arith))
 
 -- of one property, the one starts before the other's end, and the other before the one's
 abbrev pub by_ends : LeaseTerms → LeaseTerms → Bool

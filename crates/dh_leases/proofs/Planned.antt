@@ -81,9 +81,8 @@ is_plan books plan rows t order shown have =
     let rest : AreTheRest batch_size t.books plan.month plan.done (map rows_of plan.batches.items) =
     subst (AreTheRest batch_size t.books plan.month plan.done) (sym (rows ∙ same_rows_left books t.books plan.month plan.done have))
     (all_counted batch_size t.books plan.month plan.done here.shown.3.few) in
-    let count = rest.count in
-    let as_many = length-map plan.batches.items rows_of in
     record {
       shown = shown;
-      leads = lead_on t.books plan.month plan.done here plan.done plan.batches.items rest.batches_from (omega (arith, count, as_many));
+      leads = lead_on t.books plan.month plan.done here plan.done plan.batches.items rest.batches_from
+          (omega (arith, rest.count, length-map plan.batches.items rows_of));
     }

@@ -122,10 +122,7 @@ module _ (size : ℕ) (books : Books) (month done : ℕ) (pos : 1 ≤ size) (are
           ∙ sym (flat_map-append (posted_of_branch size books month done) xs (branch ∷ []))
 
       pub left_next : left - batches_for size (length charges) ≡ left_after size books month done (xs ++ branch ∷ [])
-      left_next =
-          let all_of = sum_by_push (batches_of_branch size books month) xs branch in
-          let its = ap (λ cs. batches_for size (length cs)) dues in
-          omega (arith, is, all_of, its)
+      left_next = omega (arith, is, sum_by_push (batches_of_branch size books month) xs branch, ap (λ cs. batches_for size (length cs)) dues)
 
       -- the row of a branch that has begun comes behind those of the others
       pub rows_next : {X : Type 0} (row : List ℕ → X) (rows : List X) (its : X) → rows ≡ map row (filter (has_begun size books month done) xs) → 0 < left

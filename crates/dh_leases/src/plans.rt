@@ -80,10 +80,8 @@ fn rows_with(
 ) -> Result<BatchRows, AllocError>
     ensures { IfOk result (λ rows. rows_of rows ≡ (charges.now, part, fee, has_part)) }
 {
-    let mut owned = Vec::new(alloc);
-    owned.extend_from_slice(charges)?;
     Ok(BatchRows {
-        charges: owned,
+        charges: charges.to_vec(alloc)?,
         part,
         fee,
         has_part,

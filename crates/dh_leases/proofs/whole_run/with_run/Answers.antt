@@ -8,10 +8,8 @@ use Rattle.dh_leases.proofs.whole_run.with_run.Goals as goal
 
 pub closed-run-requires : goal.closed-run-requires
 closed-run-requires c =
-    let counted = ap length (c.deref.ensures.value ∙ c.in_ok-charges.ensures) in
     let dues = no_more_dues c.args.books.books.endings (values c.args.books.books.leases) c.month.result in
-    let few = c.in_ok-parts.ensures.few in
-    omega (arith, counted, dues, few)
+    omega (arith, ap length (c.deref.ensures.value ∙ c.in_ok-charges.ensures), dues, c.in_ok-parts.ensures.few)
 
 pub returns : goal.returns
 returns c =
