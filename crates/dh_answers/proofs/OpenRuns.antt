@@ -6,24 +6,17 @@ use Rattle.dh_types.specs.Reports.{NoReport, Report}
 use Rattle.dh_model.specs.declared.open_run.OpenRun.{OpenRun}
 use Rattle.dh_model.specs.Answers.{answer_of, is_put_off, report, unless_open}
 use Rattle.dh_model.specs.Books.{State}
-use Rattle.dh_answers.proofs.FrozenCommands.{refusal_of}
-
-by_run : (run : Option OpenRun) (why : Refusal) (otherwise : Report) → refusal_of run ≡ Some why → NoReport why ≡ unless_open run otherwise
-by_run None why otherwise is = cc
-by_run (Some at) why otherwise is = cc
-
-none_open : (run : Option OpenRun) → refusal_of run ≡ None → None ≡ run
-none_open None is = refl
-none_open (Some at) is = cc
+use Rattle.dh_answers.proofs.FrozenCommands.{none_open, refusal_of}
 
 by_question : (off : Bool) (run : Option OpenRun) (why : Refusal) (otherwise : Report) → (if off then refusal_of run else None) ≡ Some why
     → NoReport why ≡ (if off then unless_open run otherwise else otherwise)
-by_question true run why otherwise is = by_run run why otherwise is
+by_question true None why otherwise is = cc
+by_question true (Some at) why otherwise is = cc
 by_question false run why otherwise is = cc
 
 none_put_off : (off : Bool) (run : Option OpenRun) (otherwise : Report) → (if off then refusal_of run else None) ≡ None
     → (if off then otherwise else otherwise) ≡ (if off then unless_open run otherwise else otherwise)
-none_put_off true run otherwise is = ap (λ r. unless_open r otherwise) (none_open run is)
+none_put_off true run otherwise is = ap (λ r. unless_open r otherwise) (none_open true run is)
 none_put_off false run otherwise is = refl
 
 module _ (s : State) (question : Question) where

@@ -1,9 +1,6 @@
 -- What a loop over leases has found so far, and what is left.
-use Rattle.std.proofs.Common.{◌≡◌, ◌∙◌, refl, sym, ap, subst, inl, inr, ℕ, ◌+◌, ◌<◌, ◌≤◌, Bool, true, false, cond, ◌&&◌, List, [], ◌∷◌, ◌++◌, map, append_assoc}
-use Rattle.std.proofs.Common.{arith}
+use Rattle.std.proofs.Common.{◌≡◌, ◌∙◌, sym, ap, Bool, true, false, cond, ◌&&◌, List, [], ◌∷◌, ◌++◌, map, append_assoc}
 use Rattle.std.specs.List.{filter}
-use Rattle.dh_model.proofs.Among.{Among}
-use Rattle.dh_model.proofs.Rising.{Lesser, Rises}
 
 module _ {X Y : Type 0} (p q : X → Bool) (f : X → Y) where
   by_both : (x : X) (xs : List X) (t b : Bool) → (t && p x) ≡ b
@@ -30,19 +27,3 @@ module _ {X Y : Type 0} (p q : X → Bool) (f : X → Y) where
   pub none_more : (x : X) (xs ys : List X) (found all : List Y) → xs ≡ x ∷ ys → (q x && p x) ≡ false → found ++ map f (filter p (filter q xs)) ≡ all → found
       ++ map f (filter p (filter q ys)) ≡ all
   none_more x xs ys found all front is so_far = sym (ap (λ zs. found ++ zs) (left x xs ys false front is)) ∙ so_far
-
-module _ {X : Type 0} (number : X → ℕ) (x : X) (xs ys : List X) (front : xs ≡ x ∷ ys) where
-  pub is_here : Among xs x
-  is_here = subst (λ zs. Among zs x) (sym front) (inl refl)
-
-  pub is_later : (y : X) → Among ys y → Among xs y
-  is_later y h = subst (λ zs. Among zs y) (sym front) (inr h)
-
-  pub rest_rises : Rises (Lesser number) xs → Rises (Lesser number) ys
-  rest_rises rises = (subst (Rises (Lesser number)) front rises).1
-
-  -- one more than are at most the first is at most each later one
-  pub above_more : Rises (Lesser number) xs → (n m : ℕ) → n ≤ number x → m ≤ n + 1 → (y : X) → Among ys y → m ≤ number y
-  above_more rises n m first step y h =
-      let later : number x < number y = (subst (Rises (Lesser number)) front rises).0 y h in
-      omega (arith, later, first, step)

@@ -1,12 +1,25 @@
-//! Checks of members of staff.
+//! Checks that several commands share.
 
-ghost use Rattle.std.specs.Prelude.{◌≡◌, [], ◌∷◌};
+ghost use Rattle.std.specs.Prelude.{◌≡◌, if◌then◌else◌, [], ◌∷◌};
 ghost use Rattle.dh_types.specs.declared.reply.Refusal.TheVariants as refusal;
+ghost use Rattle.dh_types.specs.declared.reply.Reply.TheVariants as reply;
+ghost use Rattle.dh_model.specs.declared.rows.Verdict.TheVariants as verdict;
 ghost use Rattle.dh_model.specs.Checks.{failing, first_failing, has_room, managed_besides, of_branch, unless};
 
 use dh_books::Books;
-use dh_model::MANAGED_AT_MOST;
-use dh_types::{Id, Property, Refusal};
+use dh_model::{MANAGED_AT_MOST, Verdict};
+use dh_types::{Id, Property, Refusal, Reply};
+
+/// What the books say of a row whose place is taken: by the same one, or by another.
+pub(crate) fn found_already(is_same: bool) -> Verdict
+    ensures { result ≡ (if is_same then verdict.Already reply.Already else verdict.Refused refusal.Taken) }
+{
+    if is_same {
+        Verdict::Already(Reply::Already)
+    } else {
+        Verdict::Refused(Refusal::Taken)
+    }
+}
 
 // How many properties the member of staff manages, but for this one.
 fn managed_besides(books: &Books, member: &Id, property: &Id) -> usize

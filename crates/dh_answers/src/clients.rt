@@ -5,7 +5,7 @@ ghost use Rattle.dh_model.specs.Checks.{first_failing};
 ghost use Rattle.dh_model.specs.Verdicts.{client_ruling, comment_ruling, decided, inspection_checks, inspection_ruling, register_ruling};
 ghost use Rattle.dh_model.specs.Verdicts.{registration_checks, viewing_checks, viewing_ruling};
 
-use crate::checks::of_branch;
+use crate::checks::{found_already, of_branch};
 use dh_books::Books;
 use dh_model::{Change, Verdict};
 use dh_types::{Client, Inspection, Refusal, Registration, Reply, Viewing, ViewingComment, field};
@@ -21,8 +21,7 @@ pub(crate) fn decide_client(
 {
     match books.client(&client.number) {
         None => Ok(Verdict::Change(Change::Client(client.try_clone(alloc)?))),
-        Some(there) if client == there => Ok(Verdict::Already(Reply::Already)),
-        Some(_) => Ok(Verdict::Refused(Refusal::Taken)),
+        Some(there) => Ok(found_already(client == there)),
     }
 }
 
@@ -51,8 +50,7 @@ pub(crate) fn decide_register(books: &Books, registration: &Registration) -> Ver
             Some(refusal) => Verdict::Refused(refusal),
             None => Verdict::Change(Change::Register(*registration)),
         },
-        Some(there) if registration == there => Verdict::Already(Reply::Already),
-        Some(_) => Verdict::Refused(Refusal::Taken),
+        Some(there) => found_already(registration == there),
     }
 }
 
@@ -82,8 +80,7 @@ pub(crate) fn decide_viewing(
             Some(refusal) => Ok(Verdict::Refused(refusal)),
             None => Ok(Verdict::Change(Change::Viewing(viewing.try_clone(alloc)?))),
         },
-        Some(there) if viewing == there => Ok(Verdict::Already(Reply::Already)),
-        Some(_) => Ok(Verdict::Refused(Refusal::Taken)),
+        Some(there) => Ok(found_already(viewing == there)),
     }
 }
 
@@ -134,7 +131,6 @@ pub(crate) fn decide_inspection(
             Some(refusal) => Ok(Verdict::Refused(refusal)),
             None => Ok(Verdict::Change(Change::Inspection(inspection.try_clone(alloc)?))),
         },
-        Some(there) if inspection == there => Ok(Verdict::Already(Reply::Already)),
-        Some(_) => Ok(Verdict::Refused(Refusal::Taken)),
+        Some(there) => Ok(found_already(inspection == there)),
     }
 }

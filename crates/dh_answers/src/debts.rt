@@ -61,10 +61,7 @@ fn arrears_of(alloc: Global, books: &Books, branch: &Id) -> Result<Arrears, Allo
     let mut debts = Vec::new(alloc);
     let mut total = 0i128;
     for lease in books.leases() {
-        let number = lease.key();
-        // Up to this lease there are no more debts than its number, so that their sum fits.
-        let _most = number.number();
-        let balance = accounts.balance(number);
+        let balance = accounts.balance(lease.key());
         if is_debt(books, lease, branch, balance) {
             debts.push(debt(alloc, books, lease, balance)?)?;
             total += balance.pence();

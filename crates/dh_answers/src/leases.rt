@@ -6,10 +6,11 @@ ghost use Rattle.dh_types.specs.declared.reply.Refusal.TheVariants as refusal;
 ghost use Rattle.dh_model.specs.Checks.{at_most, first_failing, in_time, least_overlapping, least_that_day, none_found, unless};
 ghost use Rattle.dh_model.specs.Verdicts.{decided, lease_ruling};
 
+use crate::checks::found_already;
 use dh_books::Books;
 use dh_leases::overlap;
 use dh_model::{Change, Verdict};
-use dh_types::{EntryDay, Id, Lease, LeaseNo, LeaseTerms, Refusal, Reply, field};
+use dh_types::{EntryDay, Id, Lease, LeaseNo, LeaseTerms, Refusal, field};
 
 // The lesser of the number and the least so far.
 fn at_most(least: Option<LeaseNo>, number: LeaseNo) -> LeaseNo
@@ -67,11 +68,7 @@ pub(crate) fn decide_lease(books: &Books, terms: &LeaseTerms) -> Verdict
     ensures { result ≡ decided (lease_ruling books.now.books terms.now) }
 {
     if let Some(there) = books.lease(&terms.number) {
-        return if *terms == there.terms {
-            Verdict::Already(Reply::Already)
-        } else {
-            Verdict::Refused(Refusal::Taken)
-        };
+        return found_already(*terms == there.terms);
     }
     if books.client(&terms.client).is_none() {
         return Verdict::Refused(Refusal::Unknown(field::LEASE_CLIENT));

@@ -3,6 +3,7 @@
 ghost use Rattle.std.specs.Prelude.{◌≡◌, IfOk};
 ghost use Rattle.dh_model.specs.Verdicts.{branch_ruling, decided, fee_ruling, owner_ruling, staff_ruling};
 
+use crate::checks::found_already;
 use dh_books::Books;
 use dh_model::{Change, Verdict};
 use dh_types::{Branch, BranchFee, Owner, Refusal, Reply, Staff, field};
@@ -18,8 +19,7 @@ pub(crate) fn decide_branch(
 {
     match books.branch(&branch.number) {
         None => Ok(Verdict::Change(Change::Branch(branch.try_clone(alloc)?))),
-        Some(there) if branch == there => Ok(Verdict::Already(Reply::Already)),
-        Some(_) => Ok(Verdict::Refused(Refusal::Taken)),
+        Some(there) => Ok(found_already(branch == there)),
     }
 }
 
@@ -52,8 +52,7 @@ pub(crate) fn decide_staff(
             Ok(Verdict::Refused(Refusal::Unknown(field::STAFF_BRANCH)))
         }
         None => Ok(Verdict::Change(Change::Staff(member.try_clone(alloc)?))),
-        Some(there) if member == there => Ok(Verdict::Already(Reply::Already)),
-        Some(_) => Ok(Verdict::Refused(Refusal::Taken)),
+        Some(there) => Ok(found_already(member == there)),
     }
 }
 
@@ -67,7 +66,6 @@ pub(crate) fn decide_owner(
 {
     match books.owner(&owner.number) {
         None => Ok(Verdict::Change(Change::Owner(owner.try_clone(alloc)?))),
-        Some(there) if owner == there => Ok(Verdict::Already(Reply::Already)),
-        Some(_) => Ok(Verdict::Refused(Refusal::Taken)),
+        Some(there) => Ok(found_already(owner == there)),
     }
 }

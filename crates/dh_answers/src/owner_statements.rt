@@ -78,8 +78,6 @@ fn sums_of(lines: &[OwnerLine]) -> (u128, u128)
     ensures fees { result.1 ≡ sum_by (λ line. line.fee) lines.now }
     ensures range { (result.0 < 2 ^ 127) × (result.1 < 2 ^ 127) }
 {
-    // No more than this many, so that the sums fit.
-    let _count = lines.len();
     let mut total = 0u128;
     let mut fees = 0u128;
     for line in lines {

@@ -4,7 +4,7 @@ ghost use Rattle.std.specs.Prelude.{◌≡◌, IfOk, Some};
 ghost use Rattle.dh_model.specs.Checks.{first_failing};
 ghost use Rattle.dh_model.specs.Verdicts.{assign_ruling, decided, manager_checks, property_checks, property_ruling, rent_ruling};
 
-use crate::checks::may_manage;
+use crate::checks::{found_already, may_manage};
 use dh_books::Books;
 use dh_model::{Change, Verdict};
 use dh_types::{Assignment, Id, Property, Refusal, RentChange, Reply, field};
@@ -45,8 +45,7 @@ pub(crate) fn decide_property(
             Some(refusal) => Ok(Verdict::Refused(refusal)),
             None => Ok(Verdict::Change(Change::Property(property.try_clone(alloc)?))),
         },
-        Some(there) if property == there => Ok(Verdict::Already(Reply::Already)),
-        Some(_) => Ok(Verdict::Refused(Refusal::Taken)),
+        Some(there) => Ok(found_already(property == there)),
     }
 }
 

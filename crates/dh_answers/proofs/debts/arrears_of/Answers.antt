@@ -1,4 +1,4 @@
-use Rattle.std.proofs.Common.{◌≡◌, ◌∙◌, ◌∷◌, ◌++◌, [], ◌&&◌, sym, ap, subst, Bool, true, false, List, ℕ, pos, int_lt, ◌+ℤ◌, ◌<ℤ◌, arith}
+use Rattle.std.proofs.Common.{◌≡◌, ◌∙◌, ◌∷◌, ◌++◌, [], ◌&&◌, sym, ap, Bool, true, false, List, ℕ, ◌<◌, pos, int_lt, ◌+ℤ◌, ◌<ℤ◌, arith, length, vec_len}
 use Rattle.std.specs.FinMap as fin
 use Rattle.std.specs.Int.Signed.{lt_z_yes}
 use Rattle.std.specs.Map.Iter.{deref}
@@ -12,9 +12,7 @@ use Rattle.dh_types.specs.declared.lease.Lease.{Lease}
 use Rattle.dh_model.specs.Answers.{balance, debt, owed}
 use Rattle.dh_model.specs.Books.{Books}
 use Rattle.dh_model.specs.Runs.{is_property_of}
-use Rattle.dh_model.proofs.BranchDues.{leases_rise, number_of}
-use Rattle.dh_model.proofs.Rising.{Lesser, Rises}
-use Rattle.dh_answers.proofs.Owing.{above_more, is_here, is_later, none_more, none_yet, one_more, rest_rises}
+use Rattle.dh_answers.proofs.Owing.{none_more, none_yet, one_more}
 use Rattle.dh_answers.proofs.debts.arrears_of.Goals as goal
 
 abbrev owes : Books → Lease → Bool
@@ -35,89 +33,47 @@ loop-lease-init c =
       total = sym (ap (owed books) c.new-debts.ensures.items);
       some = omega (arith, ints);
       range = omega (arith, ints);
-      few = omega (arith, c.new-debts.ensures.len);
-      above = λ lease h. omega (arith, c.new-debts.ensures.len);
-      rising = subst (Rises (Lesser number_of)) (sym all) (leases_rise books c.leases-lease-items.ensures.numbered);
+      few = omega (arith, c.new-debts.ensures.len, ap length all, c.leases-lease-items.ensures.few);
     }
 
 pub loop-lease-preserved-then-is_debt : goal.loop-lease-preserved-then-is_debt
 loop-lease-preserved-then-is_debt c =
     let books = c.args.books.now.books in
+    let inv = c.loop-lease.invariant in
     let lease = c.in-Some.lease.now in
     let front : c.loop-lease.lease-iterator ≡ lease ∷ c.next.new.self = rest_more deref _ _ _ _ c.in-Some.is c.next.ensures.steps in
     let worth : c.balance-balance.result ≡ balance books lease.terms.number =
-    c.balance-balance.ensures.value ∙ c.in_ok-accounts.ensures c.key-number.result ∙ ap (balance books) c.key-number.ensures in
+    c.balance-balance.ensures.value ∙ c.in_ok-accounts.ensures c.key.result ∙ ap (balance books) c.key.ensures in
     let is : (belongs books c.args.branch.now lease && int_lt (pos 0) c.balance-balance.result) ≡ true = sym c.is_debt.ensures ∙ c.if-is_debt.true in
     let more : pos 0 <ℤ c.balance-balance.result = lt_z_yes (T_from_true _ (and_parts (belongs books c.args.branch.now lease) _ is).1) in
     let sum = owed_more books c.loop-lease.debts.items c.push.new.self.items c.in_ok-debt.field-0 c.in_ok-push.ensures.items in
     let own : c.in_ok-debt.field-0.balance ≡ balance books lease.terms.number = ap (λ (d : Debt). d.balance) c.in_ok-debt.ensures in
+    let few : vec_len c.loop-lease.debts < 99999999 = omega (arith, inv.few, ap length front) in
+    let bound = c.balance-balance.ensures.range in
     record {
       debts = one_more (owes books) (belongs books c.args.branch.now) (debt books) lease _ _ _ _ _ c.in_ok-debt.field-0 front
           (ap (λ b. belongs books c.args.branch.now lease && int_lt (pos 0) b) (sym worth)
-          ∙ is) c.in_ok-push.ensures.items c.in_ok-debt.ensures c.loop-lease.invariant.debts;
-      total = omega (
-        arith,
-        ints,
-        c.loop-lease.invariant.total,
-        c.loop-lease.invariant.some,
-        c.loop-lease.invariant.range,
-        c.loop-lease.invariant.few,
-        c.pence.ensures,
-        c.balance-balance.ensures.range,
-        worth,
-        more,
-        sum,
-        own,
-      );
-      some = omega (
-        arith,
-        ints,
-        c.loop-lease.invariant.some,
-        c.loop-lease.invariant.range,
-        c.loop-lease.invariant.few,
-        c.pence.ensures,
-        c.balance-balance.ensures.range,
-        more,
-      );
-      range = omega (
-        arith,
-        ints,
-        c.loop-lease.invariant.some,
-        c.loop-lease.invariant.range,
-        c.loop-lease.invariant.few,
-        c.pence.ensures,
-        c.balance-balance.ensures.range,
-        more,
-        c.in_ok-push.ensures.len,
-      );
-      few = omega (
-        arith,
-        c.loop-lease.invariant.above lease (is_here number_of lease _ _ front),
-        c.key-number.ensures,
-        c.number-most.ensures.range,
-        c.in_ok-push.ensures.len,
-      );
-      above = above_more number_of lease _ _ front c.loop-lease.invariant.rising _ _ (c.loop-lease.invariant.above lease (is_here number_of lease _ _ front))
-          (omega (arith, c.in_ok-push.ensures.len));
-      rising = rest_rises number_of lease _ _ front c.loop-lease.invariant.rising;
+          ∙ is) c.in_ok-push.ensures.items c.in_ok-debt.ensures inv.debts;
+      total = omega (arith, ints, inv.total, inv.some, inv.range, few, c.pence.ensures, bound, worth, more, sum, own);
+      some = omega (arith, ints, inv.some, inv.range, few, c.pence.ensures, bound, more);
+      range = omega (arith, ints, inv.some, inv.range, few, c.pence.ensures, bound, more, c.in_ok-push.ensures.len);
+      few = omega (arith, inv.few, ap length front, c.in_ok-push.ensures.len);
     }
 
 pub loop-lease-preserved : goal.loop-lease-preserved
 loop-lease-preserved c =
     let books = c.args.books.now.books in
+    let inv = c.loop-lease.invariant in
     let lease = c.in-Some.lease.now in
     let front : c.loop-lease.lease-iterator ≡ lease ∷ c.next.new.self = rest_more deref _ _ _ _ c.in-Some.is c.next.ensures.steps in
     let worth : c.balance-balance.result ≡ balance books lease.terms.number =
-    c.balance-balance.ensures.value ∙ c.in_ok-accounts.ensures c.key-number.result ∙ ap (balance books) c.key-number.ensures in
+    c.balance-balance.ensures.value ∙ c.in_ok-accounts.ensures c.key.result ∙ ap (balance books) c.key.ensures in
     let is : (belongs books c.args.branch.now lease && int_lt (pos 0) c.balance-balance.result) ≡ false = sym c.is_debt.ensures ∙ c.if-is_debt.false in
-    let inv = c.loop-lease.invariant in
     record {
       debts = none_more (owes books) (belongs books c.args.branch.now) (debt books) lease _ _ _ _ front (ap (λ b. belongs books c.args.branch.now lease
           && int_lt (pos 0) b) (sym worth) ∙ is) inv.debts;
       total = inv.total;
       some = inv.some;
       range = inv.range;
-      few = inv.few;
-      above = λ other h. inv.above other (is_later number_of lease _ _ front other h);
-      rising = rest_rises number_of lease _ _ front inv.rising;
+      few = omega (arith, inv.few, ap length front);
     }

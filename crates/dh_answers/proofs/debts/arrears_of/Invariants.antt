@@ -1,12 +1,8 @@
-use Rattle.std.proofs.Common.{◌≡◌, ◌*◌, ◌^◌, ◌≤◌, pos, ◌≤ℤ◌, int_lt, map, ◌++◌, vec_len}
+use Rattle.std.proofs.Common.{◌≡◌, ◌+◌, ◌*◌, ◌^◌, ◌≤◌, pos, ◌≤ℤ◌, int_lt, length, map, ◌++◌, vec_len}
 use Rattle.std.specs.List.{filter}
 use Rattle.std.specs.FinMap as fin
-use Rattle.dh_types.specs.declared.lease.Lease.{Lease}
 use Rattle.dh_model.specs.Answers.{balance, debt, debts, owed}
 use Rattle.dh_model.specs.Runs.{is_property_of}
-use Rattle.dh_model.proofs.Among.{Among}
-use Rattle.dh_model.proofs.BranchDues.{number_of}
-use Rattle.dh_model.proofs.Rising.{Lesser, Rises}
 use Rattle.dh_answers.proofs.debts.arrears_of.Given as goal
 
 abbrev pub invariant-loop-lease : goal.invariant-loop-lease
@@ -19,7 +15,5 @@ invariant-loop-lease l = record {
   total : l.total ≡ owed l.books.books l.debts.items;
   some : pos 0 ≤ℤ l.total;
   range : l.total ≤ℤ pos (999999 * 2 ^ 64 * vec_len l.debts);
-  few : vec_len l.debts ≤ 100000000;
-  above : (lease : Lease) → Among l.lease-iterator lease → vec_len l.debts ≤ lease.terms.number;
-  rising : Rises (Lesser number_of) l.lease-iterator;
+  few : vec_len l.debts + length l.lease-iterator ≤ 99999999;
 }

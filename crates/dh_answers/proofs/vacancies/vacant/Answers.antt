@@ -1,10 +1,15 @@
-use Rattle.std.proofs.Common.{◌≡◌, ◌∙◌, ℕ, List, ◌++◌, sym, ap, map, true, rules, tests}
+use Rattle.std.proofs.Common.{◌≡◌, ◌∙◌, ℕ, List, [], ◌∷◌, ◌++◌, Bool, append_assoc, if◌then◌else◌, sym, ap, map, true, rules, tests}
 use Rattle.std.specs.List.{filter}
 use Rattle.std.proofs.lemmas.Map.Iter.{rest_more}
 use Rattle.dh_types.specs.declared.property.Property.{Property}
 use Rattle.dh_model.specs.Answers.{is_vacant}
-use Rattle.dh_answers.proofs.Kept.{kept_first}
 use Rattle.dh_answers.proofs.vacancies.vacant.Goals as goal
+
+kept_first : {X : Type 0} (keeps : X → Bool) (rows : List X) (x : X) (rest : List X) → keeps x ≡ true
+    → (rows ++ x ∷ []) ++ filter keeps rest ≡ rows ++ filter keeps (x ∷ rest)
+kept_first keeps rows x rest is =
+    append_assoc rows (x ∷ []) (filter keeps rest)
+    ∙ ap (λ l. rows ++ l) (sym (ap (λ (b : Bool). if b then x ∷ filter keeps rest else filter keeps rest) is))
 
 pub loop-property-preserved-in-Continue-branch-2 : goal.loop-property-preserved-in-Continue-branch-2
 loop-property-preserved-in-Continue-branch-2 c =
