@@ -15,9 +15,9 @@ use Rattle.dh_model.specs.Runs.{dues_of_branch, is_property_of}
 use Rattle.dh_model.proofs.DueLemmas.{falls_in}
 use Rattle.dh_leases.proofs.DueIn.{its_due}
 use Rattle.dh_audit_rules.specs.declared.closed_dues.Due.{Due}
-use Rattle.dh_audit_rules.specs.ClosedMonths.{all_dues, branch_of, charges_of_branch, charges_of_month, due_at, dues_at, is_at_branch, is_in}
+use Rattle.dh_audit_rules.specs.ClosedMonths.{all_dues, branch_in, charges_of_branch, charges_of_month, due_at, dues_at, is_at_branch, is_in}
 
-abbrev charge_of : Due → Charge
+abbrev pub charge_of : Due → Charge
 charge_of due = due.charge
 
 module _ (p : Charge → Bool) where
@@ -37,7 +37,7 @@ charges_at branch (c ∷ cs) = ap (λ ds. c ∷ ds) (charges_at branch cs)
 
 module _ (books : Books) where
   abbrev place_of : Lease → Option (List ℕ)
-  place_of lease = branch_of (get books.properties lease.terms.property)
+  place_of lease = branch_in (get books.properties lease.terms.property)
 
   charges_of_all : (leases : List Lease) → map charge_of (flat_map (dues_at books) leases) ≡ flat_map (dues_of books.endings) leases
   charges_of_all [] = refl
@@ -51,7 +51,7 @@ module _ (books : Books) where
   month_of_all month =
       charges_kept (falls_in month) (all_dues books) ∙ ap (filter (falls_in month)) (charges_of_all (values books.leases))
 
-  same_place : (branch : List ℕ) (o : Option Property) → is_at_branch branch (branch_of o) ≡ is_property_of branch o
+  same_place : (branch : List ℕ) (o : Option Property) → is_at_branch branch (branch_in o) ≡ is_property_of branch o
   same_place branch None = refl
   same_place branch (Some property) = refl
 

@@ -18,9 +18,7 @@ use Rattle.dh_model.proofs.MapRows.{inside, key_itself, same_key}
 use Rattle.dh_audit_rules.specs.declared.closed_dues.Due.{Due}
 use Rattle.dh_audit_rules.specs.declared.closed_sums.Sum.{Sum}
 use Rattle.dh_audit_rules.specs.ClosedMonths.{is_at_branch, is_in, sum_of, with_charge}
-
-abbrev charge_of : Due → Charge
-charge_of due = due.charge
+use Rattle.dh_audit_rules.proofs.ClosedDues.{charge_of}
 
 one_more : (charges : List Charge) (charge : Charge) → sum_of (charges ++ charge ∷ []) ≡ with_charge (sum_of charges) charge
 one_more charges charge =
@@ -93,10 +91,7 @@ month_tells due month = numbers due.charge.month month
 abbrev pub is_under : ℕ × List ℕ → Due → Bool
 is_under key due = is_in key.0 due && is_at_branch key.1 due.branch
 
-abbrev pub Key : Type 0
-Key = ℕ × List ℕ
-
-abbrev pub at_key : ℕ → List ℕ → Key
+abbrev pub at_key : ℕ → List ℕ → ℕ × List ℕ
 at_key month branch = (month, branch)
 
 under : (m n : ℕ) (a b : List ℕ) → (nat_eq m n && is_at_branch b (Some a)) ≡ true → at_key m a ≡ at_key n b

@@ -18,11 +18,8 @@ use Rattle.dh_audit_rules.specs.declared.closed_dues.Due.{Due}
 use Rattle.dh_audit_rules.specs.declared.closed_sums.Sum.{Sum}
 use Rattle.dh_audit_rules.specs.ClosedMonths.{DuesHaveParts, IsOf, IsSumIfOf, RunsAreSums, all_dues, charges_of_branch, charges_of_month, charges_of_months}
 use Rattle.dh_audit_rules.specs.ClosedMonths.{closed_months, dues_of_months, is_at_branch, is_in, sum_of, sum_of_part}
-use Rattle.dh_audit_rules.proofs.ClosedDues.{branch_of_all, month_of_all}
+use Rattle.dh_audit_rules.proofs.ClosedDues.{branch_of_all, charge_of, month_of_all}
 use Rattle.dh_audit_rules.proofs.ClosedSums.{at_key, branch_tells, is_under}
-
-abbrev charge_of : Due → Charge
-charge_of due = due.charge
 
 abbrev part_with : ℕ → List ℕ → Sum → Part
 part_with month branch sum = record { month = month; branch = branch; through = sum.through; count = sum.count; total = sum.total }

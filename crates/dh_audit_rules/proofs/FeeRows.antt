@@ -19,9 +19,9 @@ use Rattle.dh_model.specs.Runs.{charge_fee, fees_over, is_property_of, part_fee_
 use Rattle.dh_model.specs.Rules.{HasItsFee, charges_of_part, is_charged_at}
 use Rattle.dh_model.proofs.MapRows.{key_itself, same_key}
 use Rattle.dh_audit_rules.specs.declared.fees.FeeSum.{FeeSum}
-use Rattle.dh_audit_rules.specs.Fees.{HasItsRow, HasMore, IsItsRow, branch_at, branch_in, branch_of, fee_by, fees_at, is_charged_under, key_cmp}
+use Rattle.dh_audit_rules.specs.Fees.{HasItsRow, HasMore, IsItsRow, Key, branch_at, branch_of, fee_by, fees_at, is_charged_under, key_cmp}
 use Rattle.dh_audit_rules.specs.Fees.{fee_sum_of, fee_under, pence_at, pence_in, row_fee, so_far, with_charge}
-use Rattle.dh_audit_rules.proofs.ClosedSums.{Key}
+use Rattle.dh_audit_rules.specs.ClosedMonths.{branch_in}
 use Rattle.dh_model.proofs.KeyOrders.{nat_text_ties, nat_text_total}
 
 -- ---- what is taken of a charge

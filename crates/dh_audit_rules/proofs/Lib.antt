@@ -1,5 +1,4 @@
 pub mod ClosedDues
-pub mod ClosedSets
 pub mod ClosedSums
 pub mod ClosedWhole
 pub mod Consecutive

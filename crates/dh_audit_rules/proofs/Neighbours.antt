@@ -7,7 +7,7 @@ use Rattle.std.specs.declared.cmp.Ordering.TheVariants.{Less, Equal, Greater}
 use Rattle.std.specs.List.{All, AllAdjacentBelow, AllPairs, IsAllAdjacentAnswer}
 use Rattle.std.specs.List.Sorted.{IsPermutation, IsSortedByKey}
 use Rattle.std.specs.Ordering.{is_lt, nat_cmp, ordering_reverse, ordering_then}
-use Rattle.std.proofs.lemmas.Bool.{false≢true, or_cases}
+use Rattle.std.proofs.lemmas.Bool.{false≢true, false_from_ne_true, not_from_true, not_from_false, or_cases, or_parts, true_from_ne_false}
 use Rattle.std.proofs.lemmas.Bool.Decides.{nat_tests}
 use Rattle.std.proofs.lemmas.Cmp.{tied_itself}
 use Rattle.std.proofs.lemmas.List.Sorted.{All-permutation, IsPermutation-sym, ranks_by, sorted_far}
@@ -23,7 +23,7 @@ use Rattle.dh_model.proofs.LeaseLemmas.{overlap_is_by_ends}
 use Rattle.dh_model.proofs.Rising.{Rises, rises_among}
 use Rattle.dh_audit_rules.specs.declared.occupancies.Occupancy.{Occupancy}
 use Rattle.dh_audit_rules.specs.Occupancies.{IsSound, makes_way, stay_key, stay_on}
-use Rattle.dh_audit_rules.proofs.Pairs.{false_from_not, pairs_from_rises, rises_from_pairs, rises_mapped, rises_unmapped}
+use Rattle.dh_audit_rules.proofs.Pairs.{pairs_from_rises, rises_from_pairs, rises_mapped, rises_unmapped}
 use Rattle.dh_audit_rules.proofs.Permuted.{pairs_permuted}
 use Rattle.dh_audit_rules.proofs.Rows.{element}
 
@@ -38,23 +38,11 @@ clear_back stay other clear same p q = clear (sym same) q p
 abbrev MakesWay : Occupancy → Occupancy → Type 0
 MakesWay stay next = stay.property ≡ next.property → stay.end ≤ next.start
 
-not_same : (b : Bool) → not b ≡ true → b ≡ true → ⊥
-not_same true h e = false≢true h
-not_same false h e = false≢true e
-
 made_way : (stay next : Occupancy) → makes_way stay next ≡ true → MakesWay stay next
 made_way stay next h same = elim (or_cases (not (is_same_text stay.property next.property)) (nat_le stay.end next.start) h) [
-  | inl other ↦ absurd (not_same (is_same_text stay.property next.property) other ((texts stay.property next.property).1 same))
+  | inl other ↦ absurd (false≢true (sym (not_from_true (is_same_text stay.property next.property) ((texts stay.property next.property).1 same)) ∙ other))
   | inr ends ↦ leb-true stay.end next.start ends
 ]
-
-both_false : (a b : Bool) → (a || b) ≡ false → (a ≡ false) × (b ≡ false)
-both_false true b h = absurd (false≢true (sym h))
-both_false false b h = (refl, h)
-
-not_false : (b : Bool) → not b ≡ false → b ≡ true
-not_false true h = refl
-not_false false h = absurd (false≢true (sym h))
 
 -- no way was made: they are of one property, and the next starts too early
 record Meets (stay next : Occupancy) : Type 0 where
@@ -63,9 +51,10 @@ record Meets (stay next : Occupancy) : Type 0 where
 
 no_way : (stay next : Occupancy) → makes_way stay next ≡ false → Meets stay next
 no_way stay next h =
-    let parts = both_false (not (is_same_text stay.property next.property)) (nat_le stay.end next.start) h in
+    let same = is_same_text stay.property next.property in
+    let parts = or_parts (not same) (nat_le stay.end next.start) h in
     record {
-      property = (texts stay.property next.property).0 (not_false (is_same_text stay.property next.property) parts.0);
+      property = (texts stay.property next.property).0 (true_from_ne_false same (λ differs. false≢true (sym parts.0 ∙ not_from_false same differs)));
       early = leb-false stay.end next.start parts.1;
     }
 
@@ -184,7 +173,7 @@ module _ (endings : Endings) where
     other_runs = running endings other
 
     apart_if_clear : Clear (stay_on endings lease) (stay_on endings other) → Apart endings lease other
-    apart_if_clear clear = false_from_not (overlap runs other_runs) (λ yes.
+    apart_if_clear clear = false_from_ne_true (overlap runs other_runs) (λ yes.
         let ends = (overlap_is_by_ends runs other_runs s.day t.day s.later t.later).0 yes in
         clear ends.0 ends.1 ends.2)
 

@@ -7,7 +7,7 @@ use Rattle.std.specs.Cmp.{Equal-is, IsTotalOrder}
 use Rattle.std.specs.FinMap.{IsAntisymmetric}
 use Rattle.std.specs.List.{AllPairs, IsDistinct, filter}
 use Rattle.std.specs.Ordering.{eq_by_cmp, is_eq, nat_cmp}
-use Rattle.std.proofs.lemmas.Bool.{and_from, and_parts, false≢true}
+use Rattle.std.proofs.lemmas.Bool.{and_from, and_parts, false_from_ne_true, false≢true}
 use Rattle.std.proofs.lemmas.Cmp.{tied_itself}
 use Rattle.std.proofs.lemmas.Map.Made.{AllPairs-from_IsDistinct, IsDistinct-from_AllPairs}
 use Rattle.dh_values.specs.declared.receipt_kind.ReceiptKind.TheVariants.{Deposit}
@@ -73,10 +73,6 @@ module _ {X : Type 0} (R : X → X → Type 0) (p : X → Bool) where
   rises_filtered [] r = tt
   rises_filtered (x ∷ xs) r = kept (p x) x xs refl (rises_filtered xs r.1) r
 
-pub false_from_not : (b : Bool) → (b ≡ true → ⊥) → b ≡ false
-false_from_not true h = absurd (h refl)
-false_from_not false h = refl
-
 module _ {K : Type 0} {R : K → K → Ordering} (o : IsTotalOrder R) (ties : IsAntisymmetric R) where
   pub same_key : (a b : K) → Decides (eq_by_cmp R a b) (a ≡ b)
   same_key a b = (λ h. ties a b ((Equal-is (R a b)).0 h), λ e. subst (λ b. is_eq (R a b) ≡ true) e ((Equal-is (R a a)).1 (tied_itself o a)))
@@ -102,7 +98,7 @@ start_apart : (lease other : Lease) → start_of lease ≢ start_of other → St
 start_apart lease other differs =
     let client = is_same_text lease.terms.client other.terms.client in
     let start = nat_eq lease.terms.start other.terms.start in
-    false_from_not (client && start) (λ both.
+    false_from_ne_true (client && start) (λ both.
     let parts = and_parts client start both in
     let clients = (texts lease.terms.client other.terms.client).0 parts.0 in
     let starts = (numbers lease.terms.start other.terms.start).0 parts.1 in
@@ -169,7 +165,7 @@ pub keys_tell : (keys all : List (List ℕ)) (b : Bool) → keys ≡ all → Tel
     ↔ AllPairs (λ key other. is_same_text key other ≡ false) all
 keys_tell keys all b are tells = (
   λ yes. pairs_from_rises KeysApart all
-      (rises_among (λ a b. a ≢ b) KeysApart all (λ a b _ _ differs. false_from_not (is_same_text a b) (λ same. differs ((texts a b).0 same)))
+      (rises_among (λ a b. a ≢ b) KeysApart all (λ a b _ _ differs. false_from_ne_true (is_same_text a b) (λ same. differs ((texts a b).0 same)))
       (subst (Rises (λ a b. a ≢ b)) are (differ text_total text_ties keys (tells.0 yes)))),
   λ apart. tells.1 (of_differ text_total text_ties keys (subst (Rises (λ a b. a ≢ b)) (sym are)
       (rises_among KeysApart (λ a b. a ≢ b) all (λ a b _ _ apart same. false≢true (sym apart ∙ (texts a b).1 same)) (rises_from_pairs KeysApart all apart)))),

@@ -21,34 +21,38 @@ module _ {X : Type 0} where
   element (x ∷ xs) (suc i) h = element xs i (omega (arith, h))
 
   module _ (P : X → Type 0) (xs : List X) where
-    pub each_from_cases : (r : Bool) → MatchBool r (AllWithin P xs 0 (length xs)) ((k : ℕ) × (k < length xs) × HoldsAt (λ x. P x → ⊥) xs k) → (r ≡ true)
+    each_from_cases : (r : Bool) → MatchBool r (AllWithin P xs 0 (length xs)) ((k : ℕ) × (k < length xs) × HoldsAt (λ x. P x → ⊥) xs k) → (r ≡ true)
         ↔ ((x : X) → IsAmong xs x → P x)
     each_from_cases true h = (λ _ x is. subst P (sym is.1.1) (h is.0 x (omega arith) is.1.0), λ _. refl)
     each_from_cases false h =
         (λ e. absurd (false≢true e), λ each. let it = element xs h.0 h.1 in absurd (h.2 it.0 (subst P it.1 (each it.0 (h.0, (h.1, it.1))))))
 
-module _ {S A B F : Type 0} {steps : S → Option A → S → Type 0} {v : A → B} {g : Mut F (A × Unit {0}) Bool} {s : S} {all : List B} where
-  -- a chain's test of all items, by what the closure says of one
-  pub each_from_all : (P : B → Type 0) (u : S) (f : F) (r : Bool)
-      → (xs : List A) × (o : Option A) × (j : F) × YieldsThen steps s xs o u × FoldsTo (λ p x q. Called g p (x, tt) true q) f xs j
-      × MatchOption o (r ≡ true) (λ x. (r ≡ false) × ((h : F) × Called g j (x, tt) false h))
-      → YieldsList steps v s all
-      → ((x : A) (b : Bool) (q : F) → Called g f (x, tt) b q → (q ≡ f) × ((b ≡ true) ↔ P (v x)))
-      → (r ≡ true) ↔ ((x : B) → IsAmong all x → P x)
-  each_from_all P u f r ran yields tells =
-      each_from_cases P all r
-      (cases_from_all u f r P (λ x. P x → ⊥) ran yields
-      (λ x q called. let t = tells x true q called in (t.0, t.1.0 refl))
-      (λ x q called p. false≢true ((tells x false q called).1.1 p)))
-
 module _ {A X F : Type 0} {shows : A → X} {g : Mut F (A × Unit {0}) Bool} {s xs : List X} {P : X → Type 0} {u : List X} {f : F} {r : Bool} where
-  -- and a test of all rows of a map
+  -- a chain's test of all rows of a map, by what the closure says of one
   pub each_row : (ys : List A) × (o : Option A) × (j : F) × YieldsThen (TakesFirst shows) s ys o u × FoldsTo (λ p x q. Called g p (x, tt) true q) f ys j
       × MatchOption o (r ≡ true) (λ x. (r ≡ false) × ((h : F) × Called g j (x, tt) false h))
       → s ≡ xs
       → ((x : A) (b : Bool) (q : F) → Called g f (x, tt) b q → (q ≡ f) × ((b ≡ true) ↔ P (shows x)))
       → (r ≡ true) ↔ ((x : X) → IsAmong xs x → P x)
-  each_row ran is tells = each_from_all P u f r ran (YieldsList-from_rest xs is) tells
+  each_row ran is tells =
+      each_from_cases P xs r
+      (cases_from_all u f r P (λ x. P x → ⊥) ran (YieldsList-from_rest xs is)
+      (λ x q called. let t = tells x true q called in (t.0, t.1.0 refl))
+      (λ x q called p. false≢true ((tells x false q called).1.1 p)))
+
+-- an answer on all rows, in other words on each
+pub each_as : {X : Type 0} {P Q : X → Type 0} {r : Bool} (xs : List X) → ((x : X) → P x ↔ Q x) → ((r ≡ true) ↔ ((x : X) → IsAmong xs x → P x)) → (r ≡ true)
+    ↔ ((x : X) → IsAmong xs x → Q x)
+each_as xs same tells = (λ yes x a. (same x).0 (tells.0 yes x a), λ all. tells.1 (λ x a. (same x).1 (all x a)))
+
+-- of two answers by which a third is known, the first is yes, and the second is given
+module _ {A B C : Type 0} {a b : Bool} where
+  pub passes : (C → A × B) → (A → B → C) → ((a ≡ true) ↔ A) → ((b ≡ true) ↔ B) → a ≡ true → (b ≡ true) ↔ C
+  passes parts made first second is = (λ also. made (first.0 is) (second.0 also), λ all. second.1 (parts all).1)
+
+-- and the first is no
+pub fails : {A C : Type 0} {a : Bool} → (C → A) → ((a ≡ true) ↔ A) → a ≡ false → (a ≡ true) ↔ C
+fails part first is = (λ yes. absurd (false≢true (sym is ∙ yes)), λ all. first.1 (part all))
 
 -- the first of what is left, put at the end of what was made
 pub one_pushed : {X Y : Type 0} (f : X → Y) (x : X) (xs ys : List X) (made next all : List Y) (y : Y) → xs ≡ x ∷ ys → next ≡ made ++ y ∷ [] → y ≡ f x → made

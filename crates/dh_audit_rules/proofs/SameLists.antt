@@ -1,10 +1,10 @@
 -- Lists that have the same elements.
 use Rattle.std.proofs.Common.{◌≡◌, ◌↔◌, sym, ap, subst, ℕ, Bool, true, List, Option, Some, None}
 use Rattle.std.specs.declared.cmp.Ordering.{Ordering}
-use Rattle.std.specs.BTreeSet.{BTreeSet, IsFromIterResult, IsSubset}
+use Rattle.std.specs.BTreeSet.{BTreeSet, IsFromIterResult, IsSubset, contains}
 use Rattle.std.specs.Cmp.{IsTotalOrder}
 use Rattle.std.specs.FinMap.{IsAntisymmetric, nat_cmp-IsAntisymmetric}
-use Rattle.std.specs.List.{Contains, IsAmong}
+use Rattle.std.specs.List.{IsAmong}
 use Rattle.std.specs.Option.{option_cmp}
 use Rattle.std.specs.Ordering.{nat_cmp, ordering_then}
 use Rattle.std.proofs.lemmas.Map.Views.{btree_set_contains_from_list}
@@ -14,26 +14,23 @@ use Rattle.dh_model.specs.Books.{text_cmp}
 use Rattle.dh_model.specs.Rules.{HaveTheSame}
 use Rattle.dh_model.proofs.KeyOrders.{text_ties, both_tied}
 
-of_contains : {X : Type 0} (xs : List X) (x : X) → Contains xs x → IsAmong xs x
-of_contains xs x h = (h.0, (h.1, sym h.2))
-
-contains_among : {X : Type 0} (xs : List X) (x : X) → IsAmong xs x → Contains xs x
-contains_among xs x h = (h.0, h.1.0, sym h.1.1)
+-- a set has what is among the list that it was made of
+pub set_tells : {K : Type 0} {R : K → K → Ordering} → IsTotalOrder R → IsAntisymmetric R → (xs : List K) (s : BTreeSet K) → IsFromIterResult R xs s
+    → (q : K) → (contains R s q ≡ true) ↔ IsAmong xs q
+set_tells o ties xs s made q =
+    let tells = btree_set_contains_from_list o ties xs s made q in (
+      λ h. let at = tells.0 h in (at.0, (at.1, sym at.2)),
+      λ a. tells.1 (a.0, a.1.0, sym a.1.1),
+    )
 
 module _ {K : Type 0} {R : K → K → Ordering} (o : IsTotalOrder R) (xs ys : List K) (s t : BTreeSet K) (of_xs : IsFromIterResult R xs s)
     (of_ys : IsFromIterResult R ys t) where
   -- a set of one list is a subset of that of another if all elements of the one are among the other's
   pub subset_among : IsAntisymmetric R → IsSubset R s t → (x : K) → IsAmong xs x → IsAmong ys x
-  subset_among exact within x a =
-      let from_s = btree_set_contains_from_list o exact xs s of_xs x in
-      let from_t = btree_set_contains_from_list o exact ys t of_ys x in
-      of_contains ys x (from_t.0 (within x (from_s.1 (contains_among xs x a))))
+  subset_among exact within x a = (set_tells o exact ys t of_ys x).0 (within x ((set_tells o exact xs s of_xs x).1 a))
 
   pub subset_from_among : IsAntisymmetric R → ((x : K) → IsAmong xs x → IsAmong ys x) → IsSubset R s t
-  subset_from_among exact all x h =
-      let from_s = btree_set_contains_from_list o exact xs s of_xs x in
-      let from_t = btree_set_contains_from_list o exact ys t of_ys x in
-      from_t.1 (contains_among ys x (all x (of_contains xs x (from_s.0 h))))
+  subset_from_among exact all x h = (set_tells o exact ys t of_ys x).1 (all x ((set_tells o exact xs s of_xs x).0 h))
 
 -- what tells two lists apart tells apart those that they are
 pub as_lists : {X : Type 0} {xs ys us vs : List X} (b : Bool) → xs ≡ us → ys ≡ vs → (b ≡ true) ↔ HaveTheSame xs ys → (b ≡ true) ↔ HaveTheSame us vs

@@ -24,16 +24,16 @@ use Rattle.dh_audit_rules.specs.declared.closed_sums.Sum.{Sum}
 abbrev pub closed_months : Books → List ℕ
 closed_months books = map (λ run. run.month) (filter (λ run. run.is_closed) (fin.values books.runs))
 
-abbrev pub branch_of : Option Property → Option (List ℕ)
-branch_of None = None
-branch_of (Some property) = Some property.branch
+abbrev pub branch_in : Option Property → Option (List ℕ)
+branch_in None = None
+branch_in (Some property) = Some property.branch
 
 abbrev pub due_at : Option (List ℕ) → Charge → Due
 due_at branch charge = record { charge = charge; branch = branch }
 
 -- all that ever falls due on the lease, as long as it runs, at its property's branch
 abbrev pub dues_at : Books → Lease → List Due
-dues_at books lease = map (due_at (branch_of (fin.get books.properties lease.terms.property))) (dues_of books.endings lease)
+dues_at books lease = map (due_at (branch_in (fin.get books.properties lease.terms.property))) (dues_of books.endings lease)
 
 -- all that ever falls due
 abbrev pub all_dues : Books → List Due

@@ -7,11 +7,11 @@ use Rattle.std.specs.FinMap as fin
 use Rattle.std.specs.BTreeMap.{BTreeMap, get, is_at}
 use Rattle.dh_types.specs.declared.lease.Lease.{Lease}
 use Rattle.dh_types.specs.declared.lease.Charge.{Charge}
-use Rattle.dh_types.specs.declared.property.Property.{Property}
 use Rattle.dh_types.specs.declared.run.Part.{Part}
 use Rattle.dh_types.specs.declared.fee.PartFee.{PartFee}
 use Rattle.dh_model.specs.Books.{Books, pair_cmp, text_cmp}
 use Rattle.dh_audit_rules.specs.declared.fees.FeeSum.{FeeSum}
+use Rattle.dh_audit_rules.specs.ClosedMonths.{branch_in}
 use Rattle.dh_model.specs.Runs.{charge_fee, fee_at}
 use Rattle.dh_model.specs.Rules.{is_charged_at}
 
@@ -21,10 +21,6 @@ Key = ℕ × List ℕ
 
 abbrev pub key_cmp : Key → Key → Ordering
 key_cmp = pair_cmp nat_cmp text_cmp
-
-abbrev pub branch_in : Option Property → Option (List ℕ)
-branch_in None = None
-branch_in (Some property) = Some property.branch
 
 abbrev pub branch_at : Books → Option Lease → Option (List ℕ)
 branch_at books None = None

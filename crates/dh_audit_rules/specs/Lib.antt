@@ -3,5 +3,4 @@ pub mod Months
 pub mod Counts
 pub mod Fees
 pub mod Receipts
-pub mod Staff
 pub mod Occupancies

@@ -18,13 +18,6 @@ abbrev pub deposit_leases : Books → List ℕ
 deposit_leases books =
     map (λ receipt. receipt.payment.lease) (filter (λ receipt. is_same_receipt_kind receipt.payment.kind Deposit) (values books.receipts))
 
--- deposits are of two leases
-abbrev pub DepositsDiffer : Receipt → Receipt → Type 0
-DepositsDiffer receipt other = receipt.payment.kind ≡ Deposit → other.payment.kind ≡ Deposit → receipt.payment.lease ≢ other.payment.lease
-
 -- the keys of receipts, and then those of runs
 abbrev pub all_keys : Books → List (List ℕ)
 all_keys books = map (λ receipt. receipt.key) (values books.receipts) ++ map (λ run. run.key) (values books.runs)
-
-abbrev pub NoKeyTwice : Books → Type 0
-NoKeyTwice books = AllPairs (λ key other. is_same_text key other ≡ false) (all_keys books)

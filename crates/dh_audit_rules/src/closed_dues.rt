@@ -3,7 +3,7 @@
 ghost use Rattle.std.specs.Prelude.{◌≡◌, ◌++◌, map, IfOk, OnOk};
 ghost use Rattle.std.specs.FinMap as fin;
 ghost use Rattle.dh_model.specs.Leases.{dues_of};
-ghost use Rattle.dh_audit_rules.specs.ClosedMonths.{all_dues, branch_of, due_at};
+ghost use Rattle.dh_audit_rules.specs.ClosedMonths.{all_dues, branch_in, due_at};
 
 use dh_books::Books;
 use dh_leases::due_in;
@@ -18,8 +18,8 @@ pub(crate) struct Due {
 }
 
 // The branch of the lease's property, if that is there.
-fn branch_of(books: &Books, lease: &Lease) -> Option<Id>
-    ensures { result ≡ branch_of (fin.get books.now.books.properties lease.now.terms.property) }
+pub(crate) fn branch_of(books: &Books, lease: &Lease) -> Option<Id>
+    ensures { result ≡ branch_in (fin.get books.now.books.properties lease.now.terms.property) }
 {
     let property = books.property(&lease.terms.property)?;
     Some(property.branch)

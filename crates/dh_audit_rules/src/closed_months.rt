@@ -36,19 +36,12 @@ fn run_is_sum(run: &Run, sums: &BTreeMap<EntryMonth, Sum>) -> bool
         || u64::from(run.count) == sum.count && u128::from(run.total.pence()) == sum.total
 }
 
-// Whether each closed run is the sum of its month.
-fn runs_have_sums(books: &Books, sums: &BTreeMap<EntryMonth, Sum>) -> bool
-    ensures { (result ≡ true) ↔ RunsAreSums books.now.books (sum_at nat_cmp sums.now) }
-{
-    books.runs().all(|run| run_is_sum(run, sums))
-}
-
 // Whether each closed run sums up what falls due in its month.
 fn runs_are_sums(alloc: Global, books: &Books, dues: &[Due]) -> Result<bool, AllocError>
     ensures { IfOk result (λ holds. (holds ≡ true) ↔ RunsAreSums books.now.books (λ month. sum_of (charges_of_month dues.now month))) }
 {
     let sums = sums_of_months(alloc, dues)?;
-    Ok(runs_have_sums(books, &sums))
+    Ok(books.runs().all(|run| run_is_sum(run, &sums)))
 }
 
 /// Whether each closed month's charges are its dues, and its part rows and its run sum them up. It fails where memory runs

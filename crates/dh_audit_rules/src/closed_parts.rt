@@ -31,17 +31,6 @@ fn is_sum_if_of(
     !months.contains(&part.month) || part_is_sum(part, sums)
 }
 
-// Whether each part of these months is the sum of its month and branch.
-fn parts_have_sums(
-    books: &Books,
-    months: &BTreeSet<EntryMonth>,
-    sums: &BTreeMap<(EntryMonth, Id), Sum>,
-) -> bool
-    ensures { (result ≡ true) ↔ Each books.now.books.parts (IsSumIfOf months.now (sum_at (pair_cmp nat_cmp text_cmp) sums.now)) }
-{
-    books.parts().all(|part| is_sum_if_of(part, months, sums))
-}
-
 /// Whether each part of these months sums up what falls due in its month at its branch. It fails where memory runs out.
 pub(crate) fn parts_are_sums(
     alloc: Global,
@@ -52,7 +41,7 @@ pub(crate) fn parts_are_sums(
     ensures { IfOk result (λ holds. (holds ≡ true) ↔ Each books.now.books.parts (IsSumIfOf months.now (λ key. sum_of (charges_of_branch dues.now key)))) }
 {
     let sums = sums_of_branches(alloc, dues)?;
-    Ok(parts_have_sums(books, months, &sums))
+    Ok(books.parts().all(|part| is_sum_if_of(part, months, &sums)))
 }
 
 // Whether the branch of the due, where there is such a branch, has a part of the due's month.

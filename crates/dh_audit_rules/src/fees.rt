@@ -8,6 +8,7 @@ ghost use Rattle.dh_model.specs.Runs.{charge_fee, fee_at};
 ghost use Rattle.dh_model.specs.Rules.{Each, HasFees};
 ghost use Rattle.dh_audit_rules.specs.Fees.{HasItsRow, HasMore, IsItsRow, branch_of, fee_sum_of, pence_at, so_far, with_charge};
 
+use crate::closed_dues;
 use dh_books::Books;
 use dh_leases::charge_fee;
 use dh_types::{Charge, EntryMonth, Fee, Id, LeaseNo, Part, PartFee, Version};
@@ -34,9 +35,7 @@ struct LeaseBranch {
 fn branch_of(books: &Books, lease: LeaseNo) -> Option<Id>
     ensures { result ≡ branch_of books.now.books lease }
 {
-    let lease = books.lease(&lease)?;
-    let property = books.property(&lease.terms.property)?;
-    Some(property.branch)
+    closed_dues::branch_of(books, books.lease(&lease)?)
 }
 
 // The place of the lease: it is mostly that of the charge before.
@@ -151,26 +150,12 @@ fn has_its_row(books: &Books, fees: &Fees, part: &Part) -> bool
     }
 }
 
-// Whether each part has its fee row, by these sums.
-fn parts_have_rows(books: &Books, fees: &Fees) -> bool
-    ensures { (result ≡ true) ↔ Each books.now.books.parts (HasItsRow books.now.books (pence_at fees.now)) }
-{
-    books.parts().all(|part| has_its_row(books, fees, part))
-}
-
 // Whether each part has its fee row.
 fn parts_have_fees(alloc: Global, books: &Books) -> Result<bool, AllocError>
     ensures { IfOk result (λ holds. (holds ≡ true) ↔ HasFees books.now.books Second) }
 {
     let fees = fees_of(alloc, books)?;
-    Ok(parts_have_rows(books, &fees))
-}
-
-// Whether there is no fee row.
-fn has_no_fees(books: &Books) -> bool
-    ensures { (result ≡ true) ↔ HasFees books.now.books First }
-{
-    books.part_fees().all(|_| false)
+    Ok(books.parts().all(|part| has_its_row(books, &fees, part)))
 }
 
 /// Whether each part has its fee row: it sums up the fees of the part's charges, of an open run by the present fee of the branch. In
@@ -179,7 +164,7 @@ pub fn fees_in_order(alloc: Global, books: &Books) -> Result<bool, AllocError>
     ensures { IfOk result (λ holds. (holds ≡ true) ↔ HasFees books.now.books books.now.books.version) }
 {
     match books.version() {
-        Version::First => Ok(has_no_fees(books)),
+        Version::First => Ok(books.part_fees().all(|_| false)),
         Version::Second => parts_have_fees(alloc, books),
     }
 }

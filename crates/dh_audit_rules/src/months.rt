@@ -9,27 +9,14 @@ use crate::{closed_months_are_in_order, open_months_are_in_order};
 use dh_books::Books;
 use std::alloc::{AllocError, Global};
 
-// Whether each charge is of a month that has a run.
-fn charges_have_runs(books: &Books) -> bool
-    ensures { (result ≡ true) ↔ Each books.now.books.charges (λ charge. IsThere books.now.books.runs charge.month) }
-{
-    books
-        .charges()
-        .all(|charge| books.run(&charge.month).is_some())
-}
-
-// Whether each part row is of a run that is there.
-fn parts_have_runs(books: &Books) -> bool
-    ensures { (result ≡ true) ↔ Each books.now.books.parts (λ part. IsThere books.now.books.runs part.month) }
-{
-    books.parts().all(|part| books.run(&part.month).is_some())
-}
-
 // Whether each charge and each part row is of a month that has a run.
 fn rows_have_runs(books: &Books) -> bool
     ensures { (result ≡ true) ↔ RowsHaveRuns books.now.books }
 {
-    charges_have_runs(books) && parts_have_runs(books)
+    books
+        .charges()
+        .all(|charge| books.run(&charge.month).is_some())
+        && books.parts().all(|part| books.run(&part.month).is_some())
 }
 
 /// Whether each month is charged as its run says, and no month without a run is charged or summed up. It fails where

@@ -2,8 +2,8 @@
 
 ghost use Rattle.std.specs.Prelude.{◌≡◌, ◌↔◌, ◌≤◌, true, IfOk};
 ghost use Rattle.std.specs.FinMap as fin;
-ghost use Rattle.dh_model.specs.Rules.{DepositsInOrder, Each, EachTwo, KeysInOrder};
-ghost use Rattle.dh_audit_rules.specs.Receipts.{DepositsDiffer, IsTwiceTheRent, NoKeyTwice, all_keys, deposit_leases};
+ghost use Rattle.dh_model.specs.Rules.{DepositsInOrder, KeysInOrder};
+ghost use Rattle.dh_audit_rules.specs.Receipts.{IsTwiceTheRent, all_keys, deposit_leases};
 
 use crate::distinct::are_distinct;
 use dh_books::Books;
@@ -24,15 +24,6 @@ fn deposit_is_twice(books: &Books, receipt: &Receipt) -> bool
     }
 }
 
-// Whether each deposit is twice its lease's rent.
-fn deposits_are_twice(books: &Books) -> bool
-    ensures { (result ≡ true) ↔ Each books.now.books.receipts (IsTwiceTheRent books.now.books) }
-{
-    books
-        .receipts()
-        .all(|receipt| deposit_is_twice(books, receipt))
-}
-
 // The leases of the deposits.
 fn deposit_leases(alloc: Global, books: &Books) -> Result<Vec<LeaseNo>, AllocError>
     ensures { IfOk result (λ leases. leases.items ≡ deposit_leases books.now.books) }
@@ -44,18 +35,14 @@ fn deposit_leases(alloc: Global, books: &Books) -> Result<Vec<LeaseNo>, AllocErr
         .collect(alloc)
 }
 
-// Whether no lease has two deposits.
-fn one_deposit_each(alloc: Global, books: &Books) -> Result<bool, AllocError>
-    ensures { IfOk result (λ holds. (holds ≡ true) ↔ EachTwo books.now.books.receipts DepositsDiffer) }
-{
-    are_distinct(alloc, deposit_leases(alloc, books)?)
-}
-
 /// Whether each deposit is twice its lease's rent, and no lease has two. It fails where memory runs out.
 pub fn deposits_in_order(alloc: Global, books: &Books) -> Result<bool, AllocError>
     ensures { IfOk result (λ holds. (holds ≡ true) ↔ DepositsInOrder books.now.books) }
 {
-    Ok(deposits_are_twice(books) && one_deposit_each(alloc, books)?)
+    Ok(
+        books.receipts().all(|it| deposit_is_twice(books, it))
+            && are_distinct(alloc, deposit_leases(alloc, books)?)?,
+    )
 }
 
 // The keys of receipts, and then those of runs.
@@ -67,28 +54,15 @@ fn keys(alloc: Global, books: &Books) -> Result<Vec<Key>, AllocError>
     of_receipts.chain(of_runs).collect(alloc)
 }
 
-// Whether no key stands twice over receipts and runs.
-fn no_key_twice(alloc: Global, books: &Books) -> Result<bool, AllocError>
-    ensures { IfOk result (λ holds. (holds ≡ true) ↔ NoKeyTwice books.now.books) }
-{
-    are_distinct(alloc, keys(alloc, books)?)
-}
-
-// Whether each receipt has a number from 1 to their count.
-fn numbers_are_in_range(books: &Books) -> bool
-    ensures { (result ≡ true) ↔ Each books.now.books.receipts (λ receipt. (1 ≤ receipt.number) × (receipt.number ≤ fin.len books.now.books.receipts)) }
-{
-    let count = books.receipt_count();
-    books.receipts().all(|receipt| {
-        let number = receipt.number.number() as usize;
-        1 <= number && number <= count
-    })
-}
-
 /// Whether no key stands twice over receipts and runs, and the receipts are numbered from 1 to their count. It fails
 /// where memory runs out.
 pub fn keys_in_order(alloc: Global, books: &Books) -> Result<bool, AllocError>
     ensures { IfOk result (λ holds. (holds ≡ true) ↔ KeysInOrder books.now.books) }
 {
-    Ok(numbers_are_in_range(books) && no_key_twice(alloc, books)?)
+    let count = books.receipt_count();
+    let numbered = books.receipts().all(|receipt| {
+        let number = receipt.number.number() as usize;
+        1 <= number && number <= count
+    });
+    Ok(numbered && are_distinct(alloc, keys(alloc, books)?)?)
 }

@@ -20,19 +20,13 @@ fn months_have_runs(books: &Books) -> bool
     expected == books.next().number()
 }
 
-// Whether each run is closed that is not the last.
-fn early_runs_are_closed(books: &Books) -> bool
-    ensures { (result ≡ true) ↔ Each books.now.books.runs (λ run. run.month + 1 < books.now.books.next → run.is_closed ≡ true) }
-{
-    let next = books.next().number();
-    books
-        .runs()
-        .all(|run| run.is_closed || run.month.number() + 1 >= next)
-}
-
 /// Whether the runs are those of the months from the first to the one before the next, and all but the last are closed.
 pub fn runs_in_order(books: &Books) -> bool
     ensures { (result ≡ true) ↔ RunsInOrder books.now.books }
 {
-    months_have_runs(books) && early_runs_are_closed(books)
+    let next = books.next().number();
+    months_have_runs(books)
+        && books
+            .runs()
+            .all(|run| run.is_closed || run.month.number() + 1 >= next)
 }

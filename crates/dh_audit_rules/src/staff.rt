@@ -1,12 +1,11 @@
 //! Members of staff: whose branch they are of, and how much they manage.
 
-ghost use Rattle.std.specs.Prelude.{◌≡◌, ◌↔◌, ◌≤◌, ℕ, ◌+◌, ◌^◌, ◌<◌, true, if◌then◌else◌, List, IfOk, OnOk};
+ghost use Rattle.std.specs.Prelude.{◌≡◌, ◌↔◌, ◌≤◌, ℕ, ◌+◌, ◌^◌, ◌<◌, true, if◌then◌else◌, List, IfOk, IfSome, OnOk};
 ghost use Rattle.std.specs.FinMap as fin;
 ghost use Rattle.dh_model.specs.declared.limits.TheConstants.{MANAGED_AT_MOST};
 ghost use Rattle.dh_model.specs.Checks.{is_same_text, works_at};
 ghost use Rattle.dh_model.specs.Rules.{Each, ManagesAtMostHundred, StaffOfTheBranch, managed_by};
 ghost use Rattle.dh_audit_rules.specs.Counts.{count_at};
-ghost use Rattle.dh_audit_rules.specs.Staff.{ManagerWorksThere};
 
 use dh_books::Books;
 use dh_model::MANAGED_AT_MOST;
@@ -26,7 +25,7 @@ fn works_at(books: &Books, member: &Id, branch: &Id) -> bool
 
 // Whether the property's manager, if any, belongs to its branch.
 fn manager_works_there(books: &Books, property: &Property) -> bool
-    ensures { (result ≡ true) ↔ ManagerWorksThere books.now.books property.now }
+    ensures { (result ≡ true) ↔ IfSome property.now.staff (λ member. works_at property.now.branch (fin.get books.now.books.staff member) ≡ true) }
 {
     match &property.staff {
         Some(member) => works_at(books, member, &property.branch),
@@ -34,29 +33,14 @@ fn manager_works_there(books: &Books, property: &Property) -> bool
     }
 }
 
-// Whether each property's manager belongs to its branch.
-fn managers_work_there(books: &Books) -> bool
-    ensures { (result ≡ true) ↔ Each books.now.books.properties (ManagerWorksThere books.now.books) }
-{
-    books
-        .properties()
-        .all(|property| manager_works_there(books, property))
-}
-
-// Whether each registration was made by a member of the branch's staff.
-fn registrars_work_there(books: &Books) -> bool
-    ensures { (result ≡ true) ↔ Each books.now.books.registrations (λ it. works_at it.branch (fin.get books.now.books.staff it.staff) ≡ true) }
-{
-    books
-        .registrations()
-        .all(|it| works_at(books, &it.staff, &it.branch))
-}
-
 /// Whether each manager belongs to the property's branch, and each registrar to the registration's.
 pub fn staff_of_the_branch(books: &Books) -> bool
     ensures { (result ≡ true) ↔ StaffOfTheBranch books.now.books }
 {
-    managers_work_there(books) && registrars_work_there(books)
+    books.properties().all(|it| manager_works_there(books, it))
+        && books
+            .registrations()
+            .all(|it| works_at(books, &it.staff, &it.branch))
 }
 
 // How many properties stand under the member of staff.
@@ -92,17 +76,10 @@ fn managed(alloc: Global, books: &Books) -> Result<BTreeMap<Id, u64>, AllocError
     Ok(counts)
 }
 
-// Whether none of these is counted more often than one may manage.
-fn none_past_hundred(books: &Books, counts: &BTreeMap<Id, u64>) -> bool
-    ensures { (result ≡ true) ↔ Each books.now.books.staff (λ member. count_at counts.now member.number ≤ MANAGED_AT_MOST) }
-{
-    books.staff().all(|member| count_at(counts, &member.number) <= MANAGED_AT_MOST)
-}
-
 /// Whether no member of staff manages more properties than one may. It fails where memory runs out.
 pub fn manages_at_most_hundred(alloc: Global, books: &Books) -> Result<bool, AllocError>
     ensures { IfOk result (λ holds. (holds ≡ true) ↔ ManagesAtMostHundred books.now.books) }
 {
     let counts = managed(alloc, books)?;
-    Ok(none_past_hundred(books, &counts))
+    Ok(books.staff().all(|member| count_at(&counts, &member.number) <= MANAGED_AT_MOST))
 }

@@ -8,7 +8,7 @@ use Rattle.std.proofs.lemmas.Iterator.Consumers.{YieldsList-at, YieldsList-from_
 use Rattle.std.proofs.lemmas.Result.{IfOk-weaker}
 use Rattle.dh_model.proofs.KeyOrders.{nat_ties, nat_total}
 use Rattle.dh_audit_rules.specs.ClosedMonths.{closed_months}
-use Rattle.dh_audit_rules.proofs.ClosedSets.{set_tells}
+use Rattle.dh_audit_rules.proofs.SameLists.{set_tells}
 use Rattle.dh_audit_rules.proofs.closed_months.closed_months.Goals as goal
 
 pub returns : goal.returns

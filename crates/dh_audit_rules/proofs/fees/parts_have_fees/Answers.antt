@@ -1,9 +1,9 @@
+use Rattle.std.proofs.Common.{rules, tests}
 use Rattle.dh_audit_rules.proofs.FeeRows.{has_fee_by}
+use Rattle.dh_audit_rules.proofs.Rows.{each_as, each_row}
 use Rattle.dh_audit_rules.proofs.fees.parts_have_fees.Goals as goal
 
 pub returns : goal.returns
 returns c =
-    let by = has_fee_by c.args.books.now.books c.in_ok-fees.fees c.in_ok-fees.ensures in (
-      λ yes part a. (by part).0 (c.parts_have_rows.ensures.0 yes part a),
-      λ all. c.parts_have_rows.ensures.1 (λ part a. (by part).1 (all part a)),
-    )
+    each_as _ (has_fee_by c.args.books.now.books c.in_ok-fees.fees c.in_ok-fees.ensures)
+    (each_row c.all.ensures.ran c.parts.ensures (λ x b q k. search (rules, tests)))

@@ -1,11 +1,9 @@
-use Rattle.std.proofs.Common.{sym, subst, ℕ, ◌≤◌}
+use Rattle.std.proofs.Common.{rules, tests, sym, subst, ◌≤◌}
+use Rattle.dh_audit_rules.proofs.Rows.{each_as, each_row}
 use Rattle.dh_audit_rules.proofs.staff.manages_at_most_hundred.Goals as goal
 
-abbrev Few : ℕ → Type 0
-Few n = n ≤ 100
-
 pub returns : goal.returns
-returns c = (
-  λ few row is. subst Few (c.in_ok-counts.ensures row.number) (c.none_past_hundred.ensures.0 few row is),
-  λ few. c.none_past_hundred.ensures.1 (λ row is. subst Few (sym (c.in_ok-counts.ensures row.number)) (few row is)),
-)
+returns c =
+    each_as _
+    (λ row. let count = c.in_ok-counts.ensures row.number in (λ few. subst (λ n. n ≤ 100) count few, λ few. subst (λ n. n ≤ 100) (sym count) few))
+    (each_row c.all.ensures.ran c.staff.ensures (λ x b q k. search (rules, tests)))

@@ -1,6 +1,0 @@
-use Rattle.std.proofs.Common.{rules, tests}
-use Rattle.dh_audit_rules.proofs.Rows.{each_row}
-use Rattle.dh_audit_rules.proofs.references.staff_refer.Goals as goal
-
-pub returns : goal.returns
-returns c = each_row c.all.ensures.ran c.staff.ensures (λ x b q k. search (rules, tests))
