@@ -13,8 +13,8 @@ use Rattle.dh_model.specs.Books.{State}
 use Rattle.dh_model.specs.Machine.{step}
 use Rattle.dh_model.specs.Runs.{batch_size}
 use Rattle.dh_schema.specs.Faults.{IsFirstFault}
-use Rattle.dh_fields.specs.declared.request.Request.{Request}
-use Rattle.dh_fields.specs.declared.request.Request.TheVariants.{Command, Question}
+use Rattle.dh_types.specs.declared.request.Request.{Request}
+use Rattle.dh_types.specs.declared.request.Request.TheVariants.{Command, Question}
 use Rattle.dh_agency.specs.AgencyView.{AgencyView}
 use Rattle.dh_agency.specs.Agency.{WasClean}
 use Rattle.dh_agency.specs.Outcomes.{IsInterrupted}

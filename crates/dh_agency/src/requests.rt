@@ -5,8 +5,7 @@ ghost use Rattle.dh_agency.specs.Agency.{IsClean, IsOpen, Leaves, LeavesItsTable
 ghost use Rattle.dh_agency.specs.Requests.{EndsFor, IsCutIn, is_order, said_in, said_to, says_no};
 
 use crate::Agency;
-use dh_fields::Request;
-use dh_types::{Answer, Fault, Refusal, Reply};
+use dh_types::{Answer, Fault, Refusal, Reply, Request};
 use sqlite::Alter;
 use std::alloc::Global;
 

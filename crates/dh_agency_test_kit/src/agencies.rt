@@ -1,10 +1,9 @@
 //! Agencies that are told lines.
 
 use dh_agency::{Agency, NotOpened, create};
-use dh_fields::Request;
 use dh_runs::RunState;
 use dh_test_kit::{Unreadable, answer_text, january, request};
-use dh_types::{Command, Fault, Question, Reply};
+use dh_types::{Command, Fault, Question, Reply, Request};
 use sqlite::{Alter, Connection, MemStore};
 use std::alloc::{AllocError, Global};
 

@@ -14,14 +14,13 @@ use crate::lives::{Lived, problem_text, told_anew};
 use crate::lookups::find_text;
 use crate::tables::{books_loaded_text, install_text, load_text, version_text};
 use dh_books::Books;
-use dh_fields::Request;
 use dh_leases::Plan;
 use dh_model::{Change, Verdict};
 use dh_runs::{Problem, check, close_run, close_run_1, open_run, plan_run};
 use dh_schema::load_1;
 use dh_store::ask;
 use dh_test_kit::{january, request};
-use dh_types::{Command, Reply, RunSum, Version};
+use dh_types::{Command, Reply, Request, RunSum, Version};
 use sqlite::{Alter, Connection};
 use std::alloc::{AllocError, Global};
 

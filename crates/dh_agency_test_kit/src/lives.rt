@@ -17,10 +17,9 @@ use dh_ddl::texts::{
     DROP_VIEWING_PROPERTY, FIRST_TO_SECOND, LEASE_CLIENT, LEASE_PROPERTY, PROPERTY_STAFF,
     RECEIPT_LEASE, VIEWING_PROPERTY,
 };
-use dh_fields::Request;
 use dh_lives::crashes::{next_life, recovery_and_crash, step_and_crash};
 use dh_test_kit::{Block, Tally, request, script};
-use dh_types::{Command, Version};
+use dh_types::{Command, Request, Version};
 use sqlite::{Alter, Connection};
 use sqlite_trees::store::Reopen;
 use std::alloc::{AllocError, Global};

@@ -10,7 +10,7 @@ use Rattle.clap.specs.declared.error.kind.ErrorKind.TheVariants.{OutOfMemory}
 use Rattle.dh_values.specs.Counts.{batch_count_of}
 use Rattle.dh_days.specs.Months.{month_of}
 use Rattle.dh_fields.specs.Lines.{request_of}
-use Rattle.dh_fields.specs.declared.request.Request.TheVariants as request
+use Rattle.dh_types.specs.declared.request.Request.TheVariants as request
 use Rattle.dh_arguments.specs.Options.{first_bad, key_of, port_of, value}
 use Rattle.dh_arguments.specs.Table.{letting}
 use Rattle.dh_arguments.specs.TypedWords.{joined, texts_of}

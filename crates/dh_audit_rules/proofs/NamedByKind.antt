@@ -37,6 +37,17 @@ module _ (books : Books) where
   pub named_by_kind : (found : Bool) → ((found ≡ true) ↔ Named) → (found ≡ true) ↔ NamesWhatIsThere books
   named_by_kind found tells = (
     λ yes. by_kind (tells.0 yes),
-    λ all. tells.1 (((((((((((all Staff, all Properties), all Registrations), all Viewings), all Inspections), all Leases), all Charges), all Receipts),
-        all Parts), all BranchFees), all PartFees), all Endings),
+    λ all. tells.1 (
+      (
+        (
+          (
+            (((((((all Staff, all Properties), all Registrations), all Viewings), all Inspections), all Leases), all Charges), all Receipts),
+            all Parts,
+          ),
+          all BranchFees,
+        ),
+        all PartFees,
+      ),
+      all Endings,
+    ),
   )

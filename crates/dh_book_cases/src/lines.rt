@@ -11,11 +11,10 @@ use crate::runs::{
 };
 use crate::terms::{branch_dues, covered, due, dues_of, end, length, overlapping};
 use dh_books::Books;
-use dh_fields::Request;
 use dh_model::Verdict;
 use dh_rules::decide;
 use dh_test_kit::{Answer, Fields, Unreadable, command, request_if_any, row_of};
-use dh_types::{Command, Reply};
+use dh_types::{Command, Reply, Request};
 use std::alloc::{AllocError, Global};
 
 /// Who is told the commands.

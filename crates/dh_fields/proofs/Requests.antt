@@ -10,8 +10,8 @@ use Rattle.dh_types.specs.declared.reply.Refusal.{Refusal}
 use Rattle.dh_types.specs.declared.reply.Refusal.TheVariants.{BadLine}
 use Rattle.dh_fields.proofs.Forms.{field_is, field_is_not, not_true, wordless}
 use Rattle.dh_fields.proofs.SpelledTexts.{plain}
-use Rattle.dh_fields.specs.declared.request.Request.{Request}
-use Rattle.dh_fields.specs.declared.request.Request.TheVariants as request
+use Rattle.dh_types.specs.declared.request.Request.{Request}
+use Rattle.dh_types.specs.declared.request.Request.TheVariants as request
 use Rattle.dh_fields.specs.declared.unread.Unread.{Unread}
 use Rattle.dh_fields.specs.declared.unread.Unread.TheVariants.{Memory, Field}
 use Rattle.dh_fields.specs.Lines.{Fields, IsShown, a_command, a_question, command_forms, field, question_forms, request_of, value_among}

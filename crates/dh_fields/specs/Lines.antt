@@ -9,8 +9,8 @@ use Rattle.dh_types.specs.declared.reply.Refusal.{Refusal}
 use Rattle.dh_types.specs.declared.reply.Refusal.TheVariants.{BadLine}
 use Rattle.dh_fields.specs.FieldKinds.{FieldKind, amount, batch_count, comment, day, fee, id, key, lease_no, method, month, months, optional, position}
 use Rattle.dh_fields.specs.FieldKinds.{property_type, receipt_kind, rent, rooms, text60}
-use Rattle.dh_fields.specs.declared.request.Request.{Request}
-use Rattle.dh_fields.specs.declared.request.Request.TheVariants as request
+use Rattle.dh_types.specs.declared.request.Request.{Request}
+use Rattle.dh_types.specs.declared.request.Request.TheVariants as request
 
 -- the fields of a line
 abbrev pub Fields : Type 0

@@ -9,9 +9,7 @@ mod people;
 mod properties;
 mod questions;
 mod reader;
-mod request;
 mod unread;
 mod values;
 
 pub use reader::{read_fields, read_line, read_question};
-pub use request::Request;

@@ -5,13 +5,12 @@ ghost use Rattle.csv.specs.Records.{fields_of};
 ghost use Rattle.dh_fields.specs.Lines.{IsShown, a_question, field, request_of};
 ghost use Rattle.dh_fields.specs.Readings.{IsAsWanted, WantsText, wants_text};
 
-use crate::Request;
 use crate::commands::read_command;
 use crate::line::Line;
 use crate::questions::read_shown;
 use crate::unread::Unread;
 use csv::ByteRecord;
-use dh_types::{Question, Refusal};
+use dh_types::{Question, Refusal, Request};
 use std::alloc::{AllocError, Global};
 
 fn read_request(alloc: Global, line: &Line) -> Result<Request, Unread>

@@ -10,7 +10,7 @@ use Rattle.dh_model.specs.Whole.{whole}
 use Rattle.dh_agency.specs.AgencyView.{AgencyView}
 use Rattle.dh_agency.specs.Agency.{IsOpen, Leaves, LeavesItsTables, machine, stand, stand_of}
 use Rattle.dh_agency.proofs.Standing.{leaves_more, leaves_what_holds}
-use Rattle.dh_fields.specs.declared.request.Request.TheVariants.{Command as Ordered, Question}
+use Rattle.dh_types.specs.declared.request.Request.TheVariants.{Command as Ordered, Question}
 use Rattle.dh_requests.specs.declared.judged_request.JudgedRequest.{JudgedRequest}
 use Rattle.dh_requests.specs.declared.judged_request.JudgedRequest.TheVariants.{Turned, Fields}
 use Rattle.dh_http.specs.declared.fault.NetFault.{NetFault}

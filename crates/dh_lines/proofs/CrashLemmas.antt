@@ -10,8 +10,8 @@ use Rattle.dh_agency.specs.AgencyView.{AgencyView}
 use Rattle.dh_agency.specs.Agency.{Leaves, LeavesItsTables, machine, stand, stand_of}
 use Rattle.dh_agency.specs.Requests.{IsCutIn}
 use Rattle.dh_agency.proofs.Standing.{leaves_more, leaves_what_holds}
-use Rattle.dh_fields.specs.declared.request.Request.{Request}
-use Rattle.dh_fields.specs.declared.request.Request.TheVariants as request
+use Rattle.dh_types.specs.declared.request.Request.{Request}
+use Rattle.dh_types.specs.declared.request.Request.TheVariants as request
 use Rattle.dh_fields.specs.Lines.{Fields, request_of}
 use Rattle.dh_lines.specs.Session.{answered, answered_request}
 use Rattle.dh_lines.specs.Batch.{AreAfter, IsWithin, LeavesAnswered, WasAnswered}

@@ -14,7 +14,7 @@ use Rattle.dh_schema.specs.Faults.{IsFirstFault}
 use Rattle.dh_agency.specs.AgencyView.{AgencyView}
 use Rattle.dh_agency.specs.Agency.{IsOpen, machine, stand}
 use Rattle.dh_agency.specs.Requests.{Said, said_to, says_no}
-use Rattle.dh_fields.specs.declared.request.Request.{Request}
+use Rattle.dh_types.specs.declared.request.Request.{Request}
 use Rattle.dh_fields.specs.Lines.{Fields, request_of}
 use Rattle.dh_fields.specs.Readings.{WantsText}
 use Rattle.dh_lines.specs.declared.outcome.Halt.{Halt}

@@ -25,8 +25,8 @@ use Rattle.dh_lines.specs.declared.outcome.BatchFault.TheVariants as ended
 use Rattle.dh_lines.specs.declared.outcome.Halt.{Halt}
 use Rattle.dh_lines.specs.declared.outcome.Halt.TheVariants as halt
 use Rattle.dh_lines.specs.declared.watched_reader.Input.{Input}
-use Rattle.dh_fields.specs.declared.request.Request.{Request}
-use Rattle.dh_fields.specs.declared.request.Request.TheVariants as request
+use Rattle.dh_types.specs.declared.request.Request.{Request}
+use Rattle.dh_types.specs.declared.request.Request.TheVariants as request
 use Rattle.dh_fields.specs.Lines.{Fields, request_of}
 use Rattle.dh_fields.specs.Readings.{WantsText}
 use Rattle.dh_lines.specs.Session.{Answered, answered, fault_line, line, lines_from, numbered, records_of, refused_in, state_after}

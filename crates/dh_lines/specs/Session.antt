@@ -11,7 +11,7 @@ use Rattle.dh_model.specs.Books.{State}
 use Rattle.dh_agency.specs.Requests.{Said, Replied, Reported, said_to, says_no}
 use Rattle.dh_reports.specs.Columns.{newline}
 use Rattle.dh_reports.specs.ReportTexts.{report_text, line_count}
-use Rattle.dh_fields.specs.declared.request.Request.{Request}
+use Rattle.dh_types.specs.declared.request.Request.{Request}
 use Rattle.dh_fields.specs.Lines.{Fields, request_of}
 
 -- the records of an input, as csv reads them with its defaults

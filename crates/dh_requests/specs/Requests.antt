@@ -6,7 +6,7 @@ use Rattle.httparse.specs.Grammar.{RequestHead, print_request}
 use Rattle.httparse.specs.Spans.{name_and_value}
 use Rattle.dh_types.specs.declared.reply.Refusal.{Refusal}
 use Rattle.dh_types.specs.declared.reply.Refusal.TheVariants.{BadLine}
-use Rattle.dh_fields.specs.declared.request.Request.{Request}
+use Rattle.dh_types.specs.declared.request.Request.{Request}
 use Rattle.dh_fields.specs.Lines.{Fields, field, request_of}
 use Rattle.dh_requests.specs.Heads.{IsHead, IsBadHead, IsLargeHead}
 use Rattle.dh_requests.specs.HeaderLines.{body_length, values_of}

@@ -10,9 +10,9 @@ ghost use Rattle.dh_requests.specs.Steps.{Behind, ConsumesLength, IsListed, IsTe
 use crate::body_texts::{list_in, texts_of};
 use crate::header_lines::BodyLength;
 use crate::judged_request::{JudgedRequest, Turned};
-use dh_fields::{Request, read_fields};
+use dh_fields::read_fields;
 use dh_reading::{Unread, read_body};
-use dh_types::Refusal;
+use dh_types::{Refusal, Request};
 use json::Scratch;
 use serde_json::Value;
 use std::alloc::{AllocError, Global};

@@ -1,7 +1,6 @@
 //! What a request asks for.
 
-use dh_fields::Request;
-use dh_types::Refusal;
+use dh_types::{Refusal, Request};
 
 /// What a request asks for.
 #[derive(Drop)]

@@ -1,10 +1,9 @@
 //! The plain program over books in memory, and what differs of books.
 
 use dh_agency_test_kit::{books_text, compare, rows_of};
-use dh_fields::Request;
 use dh_rules::{Books, answer, step};
 use dh_test_kit::{Tally, Unreadable, answer_text, copy_of, january, request};
-use dh_types::{Command, Question, Version};
+use dh_types::{Command, Question, Request, Version};
 use std::alloc::{AllocError, Global};
 use std::{io, mem};
 

@@ -7,14 +7,13 @@ ghost use Rattle.dh_runs.specs.Taking.{IsResting};
 
 use dh_agency_test_kit::{Lived, line_over as told_over, problem_text, sound_books};
 use dh_books::Books;
-use dh_fields::Request;
 use dh_leases::{BatchRows, Plan, plan_of};
 use dh_model::Verdict;
 use dh_rules::{answer, decide};
 use dh_runs::{Problem, plan_run};
 use dh_store::{ask, look_up};
 use dh_test_kit::{answer_text, request};
-use dh_types::{Command, Question};
+use dh_types::{Command, Question, Request};
 use sqlite::{Alter, Connection};
 use std::alloc::{AllocError, Global};
 use std::fmt::Write;

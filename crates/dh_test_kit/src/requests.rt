@@ -1,8 +1,8 @@
 //! Lines that an agency is given, read as it reads them.
 
 use crate::Unreadable;
-use dh_fields::{Request, read_fields};
-use dh_types::{Command, Refusal};
+use dh_fields::read_fields;
+use dh_types::{Command, Refusal, Request};
 use std::alloc::{AllocError, Global};
 
 // The fields between the line's commas.

@@ -1,6 +1,6 @@
 //! What a line asks for.
 
-use dh_types::{Command, Question};
+use crate::{Command, Question};
 
 /// The command or the question that a line is.
 #[derive(Drop)]
