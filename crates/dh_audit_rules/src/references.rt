@@ -71,6 +71,7 @@ fn part_refers(books: &Books, part: &Part) -> bool
 pub fn names_what_is_there(books: &Books) -> bool
     ensures { (result ≡ true) ↔ NamesWhatIsThere books.now.books }
 {
+    // Joined by `&`: of sound books each is asked anyway, and so there is one answer to prove.
     books.staff().all(|it| books.branch(&it.branch).is_some())
         & books.properties().all(|it| property_refers(books, it))
         & books
