@@ -1,8 +1,7 @@
 //! Books as text.
 
 use dh_books::Books;
-use dh_test_kit::{ToLine, all_lines};
-use dh_types::Version;
+use dh_test_kit::{ToLine, all_lines, version_name};
 use std::alloc::{AllocError, Global};
 use std::collections::btree_map::Values;
 
@@ -49,14 +48,6 @@ fn add_accounts(alloc: Global, text: &mut String, books: &Books) -> Result<(), A
 fn add_fees(alloc: Global, text: &mut String, books: &Books) -> Result<(), AllocError> {
     add_rows(alloc, text, "branch fees", books.branch_fees())?;
     add_rows(alloc, text, "part fees", books.part_fees())
-}
-
-/// `first` or `second`.
-pub(crate) fn version_name(version: Version) -> &'static str {
-    match version {
-        Version::First => "first",
-        Version::Second => "second",
-    }
 }
 
 /// The records of the books, each kind's on a line behind its name, rising by key; `none` where there is none; and the first and the

@@ -8,9 +8,8 @@ ghost use Rattle.dh_runs.specs.Taking.{IsResting};
 
 use crate::agencies::{in_memory, reply_line, reply_text};
 use crate::batches::batch_text;
-use crate::differences::compare;
 use crate::rows::all_rows;
-use crate::scripts::{compare_tables, parted, table_of};
+use crate::scripts::{compare_tables, table_of};
 use dh_agency::{Agency, NotOpened, Problem, attach, migrate, recover, recover_1};
 use dh_ddl::texts::{
     CHARGE_MONTH, DROP_LEASE_CLIENT, DROP_LEASE_PROPERTY, DROP_PROPERTY_STAFF, DROP_RECEIPT_LEASE,
@@ -18,7 +17,7 @@ use dh_ddl::texts::{
     RECEIPT_LEASE, VIEWING_PROPERTY,
 };
 use dh_lives::crashes::{next_life, recovery_and_crash, step_and_crash};
-use dh_test_kit::{Block, Tally, request, script};
+use dh_test_kit::{Block, Tally, compare, parted, request, script};
 use dh_types::{Command, Request, Version};
 use sqlite::{Alter, Connection};
 use sqlite_trees::store::Reopen;
@@ -74,12 +73,6 @@ fn told_once<S: Alter>(
     }
 }
 
-// What the statement of another program comes to.
-fn edited<S: Alter>(alloc: Global, mut conn: Connection<S>, statement: &str) -> Lived<S> {
-    let is_done = conn.execute(statement, &[]).is_ok();
-    done_or_not(alloc, is_done, conn)
-}
-
 // Runs each of these statements, as another program would.
 fn runs_each<S: Alter>(conn: &mut Connection<S>, statements: &[&str]) -> bool {
     for statement in statements {
@@ -111,8 +104,9 @@ pub static SECOND_TO_FIRST: [&str; 16] = [
     VIEWING_PROPERTY,
 ];
 
-// What statements of another program come to.
-fn done_or_not<S: Alter>(alloc: Global, is_done: bool, conn: Connection<S>) -> Lived<S> {
+// What these statements of another program come to, and the store.
+fn edited<S: Alter>(alloc: Global, mut conn: Connection<S>, statements: &[&str]) -> Lived<S> {
+    let is_done = runs_each(&mut conn, statements);
     let done = if is_done { "done" } else { "not done" };
     (done.to_string(alloc), conn)
 }
@@ -124,15 +118,9 @@ pub(crate) fn told_anew<S: Alter>(alloc: Global, mut conn: Connection<S>, line: 
     requires { HasCleanDisk (state S.Store conn) → IsResting (state S.Store conn) }
 {
     match (line, line.strip_prefix("sql,")) {
-        (_, Some(statement)) => edited(alloc, conn, statement),
-        ("later tables", None) => {
-            let is_done = runs_each(&mut conn, &FIRST_TO_SECOND);
-            done_or_not(alloc, is_done, conn)
-        }
-        ("earlier tables", None) => {
-            let is_done = runs_each(&mut conn, &SECOND_TO_FIRST);
-            done_or_not(alloc, is_done, conn)
-        }
+        (_, Some(statement)) => edited(alloc, conn, &[statement]),
+        ("later tables", None) => edited(alloc, conn, &FIRST_TO_SECOND),
+        ("earlier tables", None) => edited(alloc, conn, &SECOND_TO_FIRST),
         ("recover", None) => given_up(alloc, recover(alloc, conn), "recovered"),
         ("attach", None) => given_up(alloc, attach(alloc, conn), "attached"),
         ("recover_1", None) => given_back(alloc, recover_1(alloc, conn)),
@@ -253,10 +241,10 @@ pub fn play_block<T: Telling, S: Alter + Reopen + Drop>(
     block: &Block,
     conn: Connection<S>,
 ) -> io::Result<()> {
-    let Some(begun) = live_before::<T, S>(rt.alloc(), conn, &block.before) else {
+    let Some(begun) = live_before::<T, S>(rt.alloc(), conn, block.before()) else {
         return compare(rt, tally, block.name.as_str(), "not opened", "opened");
     };
-    let Some(mut ended) = live_each::<T, S>(rt, tally, begun, &block.lines)? else {
+    let Some(mut ended) = live_each::<T, S>(rt, tally, begun, block.lines())? else {
         return compare(rt, tally, block.name.as_str(), "not opened", "opened");
     };
     let tables = all_rows(rt.alloc(), &mut ended);
@@ -266,10 +254,7 @@ pub fn play_block<T: Telling, S: Alter + Reopen + Drop>(
 
 /// The blocks of the script, each told to the tables of an agency in memory that are taken anew before each line.
 pub fn play_lives(rt: &HostRuntime, tally: &mut Tally, text: &str) -> io::Result<()> {
-    let Ok(blocks) = script(rt.alloc(), text) else {
-        return compare(rt, tally, "a script", "not read", "read");
-    };
-    for block in &blocks {
+    for block in &script(rt.alloc(), text)? {
         match in_memory(rt.alloc())? {
             Some(agency) => play_block::<ToAnAgency, _>(rt, tally, block, agency.into_store())?,
             None => compare(rt, tally, block.name.as_str(), "no agency", "an agency")?,

@@ -1,18 +1,12 @@
 //! Scripts that agencies are told. A line `rows,TABLE -> ..` is compared in the end, with the rows of the table.
 
 use crate::agencies::{in_memory, reply_line};
-use crate::differences::compare;
 use crate::rows::{all_rows, rows_of};
 use dh_agency::Agency;
-use dh_test_kit::{Block, Tally, script};
+use dh_test_kit::{Block, Tally, compare, parted, script};
 use sqlite::Alter;
 use std::alloc::Global;
 use std::io;
-
-/// The words of a line, and what is wanted.
-pub fn parted(line: &str) -> (&str, &str) {
-    line.split_once(" -> ").unwrap_or((line, "no arrow"))
-}
 
 /// The table whose rows the words ask for, where they do.
 pub fn table_of(words: &str) -> Option<&str> {
@@ -55,8 +49,8 @@ fn tell<S: Alter>(
     agency: &mut Agency<S>,
     block: &Block,
 ) -> io::Result<()> {
-    tell_before(rt.alloc(), agency, &block.before)?;
-    for line in &block.lines {
+    tell_before(rt.alloc(), agency, block.before())?;
+    for line in block.lines() {
         tell_line(rt, tally, agency, line.as_str())?;
     }
     Ok(())
@@ -69,7 +63,7 @@ pub fn compare_tables(
     block: &Block,
     tables: &str,
 ) -> io::Result<()> {
-    for line in &block.lines {
+    for line in block.lines() {
         let (words, want) = parted(line.as_str());
         if let Some(table) = table_of(words) {
             compare(rt, tally, words, rows_of(tables, table), want)?;
@@ -92,10 +86,7 @@ fn play(rt: &HostRuntime, tally: &mut Tally, block: &Block) -> io::Result<()> {
 
 /// The blocks of the script told to agencies in memory, to each block one of its own.
 pub fn play_in_memory(rt: &HostRuntime, tally: &mut Tally, text: &str) -> io::Result<()> {
-    let Ok(blocks) = script(rt.alloc(), text) else {
-        return compare(rt, tally, "a script", "not read", "read");
-    };
-    for block in &blocks {
+    for block in &script(rt.alloc(), text)? {
         play(rt, tally, block)?;
     }
     Ok(())

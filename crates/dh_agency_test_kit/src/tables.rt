@@ -3,7 +3,6 @@
 ghost use Rattle.std.specs.Prelude.{◌≤◌};
 ghost use Rattle.dh_days.specs.declared.limits.TheConstants.{LAST_ENTRY_MONTH};
 
-use crate::books::version_name;
 use dh_books::Books;
 use dh_schema::{FileVersion, LoadFault, install, load, version};
 use dh_types::{Month, Version};
@@ -75,7 +74,7 @@ fn fees(books: &Books) -> usize {
 // What stands behind a text of books or tables of this version: nothing of the second.
 fn of_the_version(alloc: Global, version: Version) -> Result<String, AllocError> {
     match version {
-        Version::First => format!(in alloc; " of the {} version", version_name(version)),
+        Version::First => " of the first version".to_string(alloc),
         Version::Second => Ok(String::new(alloc)),
     }
 }

@@ -3,24 +3,11 @@
 use crate::calls::empty;
 use crate::cuts::play_with_cuts;
 use crate::happenings::play_list;
-use crate::lines::{Teller, answered};
+use crate::lines::{Teller, answered, replies_text};
 use dh_books::Books;
-use dh_test_kit::{Answer, Block, Manner, Tally, Unreadable, script};
-use std::alloc::{AllocError, Global};
+use dh_test_kit::{Block, Manner, Tally, parted, script};
+use std::alloc::Global;
 use std::{fs, io};
-
-/// The words of a line, and what is wanted.
-pub(crate) fn parted(line: &str) -> (&str, &str) {
-    line.split_once(" -> ").unwrap_or((line, "no arrow"))
-}
-
-/// The text that an answer comes to.
-pub(crate) fn replies_text(alloc: Global, answer: Answer) -> Result<String, AllocError> {
-    match answer {
-        Ok(text) => Ok(text),
-        Err(Unreadable) => "not read".to_string(alloc),
-    }
-}
 
 /// Notes whether the line was answered as wanted, and prints it where it was not.
 pub(crate) fn compare(
@@ -66,8 +53,8 @@ fn play_lines(
     teller: Teller,
     books: &mut Books,
 ) -> io::Result<()> {
-    play_before(rt.alloc(), teller, books, &block.before);
-    for line in &block.lines {
+    play_before(rt.alloc(), teller, books, block.before());
+    for line in block.lines() {
         play_line(rt, tally, block, teller, books, line.as_str())?;
     }
     Ok(())
@@ -86,12 +73,12 @@ fn play_in_turn(
 // Plays one line on books of its own.
 fn play_alone(rt: &HostRuntime, tally: &mut Tally, block: &Block, line: &str) -> io::Result<()> {
     let mut books = empty(rt.alloc(), block.version);
-    play_before(rt.alloc(), Teller::Machine, &mut books, &block.before);
+    play_before(rt.alloc(), Teller::Machine, &mut books, block.before());
     play_line(rt, tally, block, Teller::Machine, &mut books, line)
 }
 
 fn play_apart(rt: &HostRuntime, tally: &mut Tally, block: &Block) -> io::Result<()> {
-    for line in &block.lines {
+    for line in block.lines() {
         play_alone(rt, tally, block, line.as_str())?;
     }
     Ok(())

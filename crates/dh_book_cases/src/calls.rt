@@ -13,7 +13,7 @@ use std::alloc::{AllocError, Global};
 use std::mem;
 
 /// Books of this version that begin with 2025-01.
-pub(crate) fn empty(alloc: Global, version: Version) -> Books {
+pub fn empty(alloc: Global, version: Version) -> Books {
     Books::new(alloc, version, january(), january())
 }
 

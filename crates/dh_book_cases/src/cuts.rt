@@ -1,10 +1,9 @@
 //! Commands that are interrupted: each in turn in each way. Beside the tables goes the machine, which is told the commands that count.
 
-use crate::blocks::parted;
 use crate::calls::{cut_after, cut_before, empty, end_recovery, interrupt_recovery, say, tell};
 use dh_books::Books;
 use dh_rules::Reach;
-use dh_test_kit::{Block, Tally, Unreadable, command_if_any};
+use dh_test_kit::{Block, Tally, Unreadable, command_if_any, parted};
 use dh_types::{Command, Version};
 use std::alloc::{AllocError, Global};
 use std::io;
@@ -141,25 +140,15 @@ fn ends_alike(
     Ok(replied? && are_same(&tables, &machine))
 }
 
-fn add_commands(
-    alloc: Global,
-    commands: &mut Vec<Command>,
-    lines: &[String],
-) -> Result<(), Unreadable> {
-    for line in lines {
+// The commands of the block and of those before it.
+fn commands_of(alloc: Global, block: &Block) -> Result<Vec<Command>, Unreadable> {
+    let mut commands = Vec::new(alloc);
+    for line in &block.all {
         let (words, _) = parted(line.as_str());
         if let Some(command) = command_if_any(alloc, words)? {
             commands.push(command)?;
         }
     }
-    Ok(())
-}
-
-// The commands of the block and of those before it.
-fn commands_of(alloc: Global, block: &Block) -> Result<Vec<Command>, Unreadable> {
-    let mut commands = Vec::new(alloc);
-    add_commands(alloc, &mut commands, &block.before)?;
-    add_commands(alloc, &mut commands, &block.lines)?;
     Ok(commands)
 }
 

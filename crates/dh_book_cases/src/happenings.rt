@@ -1,11 +1,11 @@
 //! Lists of what can happen to tables, played at once.
 
-use crate::blocks::{compare, parted, replies_text};
+use crate::blocks::compare;
 use crate::calls::{empty, put_back};
-use crate::lines::{Teller, answered};
+use crate::lines::{Teller, answered, replies_text};
 use dh_books::Books;
 use dh_rules::{Happening, Reach, play};
-use dh_test_kit::{Block, Tally, Unreadable, command, command_if_any};
+use dh_test_kit::{Block, Tally, Unreadable, command, command_if_any, parted};
 use dh_types::Reply;
 use std::alloc::{AllocError, Global};
 use std::io;
@@ -57,24 +57,14 @@ fn happening(alloc: Global, words: &str) -> Result<Option<Happening>, Unreadable
     }
 }
 
-fn add_happenings(
-    alloc: Global,
-    happenings: &mut Vec<Happening>,
-    lines: &[String],
-) -> Result<(), Unreadable> {
-    for line in lines {
+fn happenings_of(alloc: Global, block: &Block) -> Result<Vec<Happening>, Unreadable> {
+    let mut happenings = Vec::new(alloc);
+    for line in &block.all {
         let (words, _) = parted(line.as_str());
         if let Some(happening) = happening(alloc, words)? {
             happenings.push(happening)?;
         }
     }
-    Ok(())
-}
-
-fn happenings_of(alloc: Global, block: &Block) -> Result<Vec<Happening>, Unreadable> {
-    let mut happenings = Vec::new(alloc);
-    add_happenings(alloc, &mut happenings, &block.before)?;
-    add_happenings(alloc, &mut happenings, &block.lines)?;
     Ok(happenings)
 }
 
@@ -154,10 +144,10 @@ fn compare_lines(
     tables: &mut Books,
     replies: &mut Iter<'_, Reply>,
 ) -> io::Result<()> {
-    for line in &block.before {
+    for line in block.before() {
         compare_reply(rt, tally, block, replies, line.as_str())?;
     }
-    for line in &block.lines {
+    for line in block.lines() {
         compare_reply(rt, tally, block, replies, line.as_str())?;
         compare_asked(rt, tally, block, tables, line.as_str())?;
     }

@@ -22,7 +22,9 @@ mod terms;
 mod values;
 mod writers;
 
+pub use calls::empty;
 use dh_test_kit::Tally;
+pub use lines::answer_line;
 use std::io;
 
 /// Plays the cases and counts them, where their kind is one of this crate; whether it is. An error where a file or the output fails.

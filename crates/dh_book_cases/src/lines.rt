@@ -153,3 +153,16 @@ pub(crate) fn answered(alloc: Global, teller: Teller, books: &mut Books, words: 
     put_rows(alloc, books, rows)?;
     answered_bare(alloc, teller, books, words)
 }
+
+/// The text that an answer comes to.
+pub(crate) fn replies_text(alloc: Global, answer: Answer) -> Result<String, AllocError> {
+    match answer {
+        Ok(text) => Ok(text),
+        Err(Unreadable) => "not read".to_string(alloc),
+    }
+}
+
+/// What the plain program answers to the line: its reply to a command, and its answer to a question.
+pub fn answer_line(alloc: Global, books: &mut Books, line: &str) -> Result<String, AllocError> {
+    replies_text(alloc, answered(alloc, Teller::Machine, books, line))
+}

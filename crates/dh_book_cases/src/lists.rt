@@ -18,22 +18,6 @@ fn all_keys<K: Ord + Display, T>(alloc: Global, keys: Keys<'_, K, T>) -> Answer 
     Ok(or_none(alloc, text)?)
 }
 
-fn other_rows(alloc: Global, books: &Books, kind: &str) -> Answer {
-    match kind {
-        "leases" => all(alloc, books.leases()),
-        "endings" => all(alloc, books.endings()),
-        "branch fees" => all(alloc, books.branch_fees()),
-        "part fees" => all(alloc, books.part_fees()),
-        "charges" => all(alloc, books.charges()),
-        "receipts" => all(alloc, books.receipts()),
-        "runs" => all(alloc, books.runs()),
-        "parts" => all(alloc, books.parts()),
-        "branch numbers" => all_keys(alloc, books.branch_numbers()),
-        "run months" => all_keys(alloc, books.run_months()),
-        _ => Err(Unreadable),
-    }
-}
-
 /// `rows,KIND`: all rows of the kind, rising by key.
 pub(crate) fn listed(alloc: Global, books: &Books, kind: &str) -> Answer {
     match kind {
@@ -45,7 +29,17 @@ pub(crate) fn listed(alloc: Global, books: &Books, kind: &str) -> Answer {
         "registrations" => all(alloc, books.registrations()),
         "viewings" => all(alloc, books.viewings()),
         "inspections" => all(alloc, books.inspections()),
-        _ => other_rows(alloc, books, kind),
+        "leases" => all(alloc, books.leases()),
+        "endings" => all(alloc, books.endings()),
+        "branch fees" => all(alloc, books.branch_fees()),
+        "part fees" => all(alloc, books.part_fees()),
+        "charges" => all(alloc, books.charges()),
+        "receipts" => all(alloc, books.receipts()),
+        "runs" => all(alloc, books.runs()),
+        "parts" => all(alloc, books.parts()),
+        "branch numbers" => all_keys(alloc, books.branch_numbers()),
+        "run months" => all_keys(alloc, books.run_months()),
+        _ => Err(Unreadable),
     }
 }
 

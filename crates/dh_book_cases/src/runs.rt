@@ -4,8 +4,7 @@ use dh_books::Books;
 use dh_leases::{branch_fees, branch_parts, posted_charges, posted_fees, posted_parts};
 use dh_model::OpenRun;
 use dh_rules::batches;
-use dh_test_kit::{Answer, Fields, Unreadable, add_part, lines_of};
-use dh_types::Version;
+use dh_test_kit::{Answer, Fields, Unreadable, add_part, lines_of, version_name};
 use std::alloc::Global;
 
 /// `batches,MONTH`: how many the run takes.
@@ -55,11 +54,7 @@ pub(crate) fn open_run(alloc: Global, books: &Books) -> Answer {
 
 /// `version`: `first` or `second`.
 pub(crate) fn version(alloc: Global, books: &Books) -> Answer {
-    let name = match books.version() {
-        Version::First => "first",
-        Version::Second => "second",
-    };
-    Ok(name.to_string(alloc)?)
+    Ok(version_name(books.version()).to_string(alloc)?)
 }
 
 /// `set open run,MONTH,DONE`

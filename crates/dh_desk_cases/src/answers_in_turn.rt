@@ -1,16 +1,15 @@
 //! Answers in turn. Behind the lines of a life, a line `in turn WORDS < INPUT -> STATUS TEXT` is a run whose reader gives a line of the input
 //! a read, and each only once all is written that is wanted before its answer: an answer that is kept back makes the reader fail.
 
-ghost use Rattle.std.specs.Prelude.{◌≡◌, Some};
+ghost use Rattle.std.specs.Prelude.{◌≡◌};
 
 use crate::lives;
-use crate::runs::{clear, input_of, outcome, run_program, shown};
-use dh_agency_test_kit::{compare, parted};
-use dh_test_kit::Tally;
+use crate::runs::{Deed, Follower, clear, compare_told, input_of, outcome, run_program};
+use dh_test_kit::{Tally, parted, spelled};
 use std::alloc::{AllocError, Global};
 use std::cell::Cell;
 use std::io;
-use std::io::{ErrorKind, Read, Write};
+use std::io::{ErrorKind, Read};
 
 // How many bytes of the wanted text stand before the answer to the record of this number.
 fn before(alloc: Global, wanted: &str, number: usize) -> Result<usize, AllocError> {
@@ -66,24 +65,15 @@ impl Read for Asker<'_> {
     }
 }
 
-// A writer that counts what it has.
+// What notes how much is written.
 #[derive(Drop)]
 struct Answers<'a> {
-    told: Vec<u8>,
     written: &'a Cell<usize>,
 }
 
-impl Write for Answers<'_> {
-    ghost contents = { λ w. Some w.told.items };
-
-    fn write(&mut self, buf: &[u8]) -> io::Result<usize> {
-        let count = self.told.write(buf)?;
-        self.written.set(self.told.len());
-        Ok(count)
-    }
-
-    fn flush(&mut self) -> io::Result<()> {
-        Ok(())
+impl Deed for Answers<'_> {
+    fn follow(&mut self, told: &[u8]) {
+        self.written.set(told.len());
     }
 }
 
@@ -100,13 +90,12 @@ fn run_in_turn(rt: &HostRuntime, told: &str, wanted: &str) -> io::Result<String>
         written: &written,
         is_within: false,
     };
-    let mut answers = Answers {
+    let mut answers = Follower {
         told: Vec::new(alloc),
-        written: &written,
+        deed: Answers { written: &written },
     };
     let status = run_program(rt, words, &mut reader, &mut answers)?;
-    let text = shown(alloc, &answers.told)?;
-    Ok(outcome(alloc, status.code(), text.as_str())?)
+    Ok(outcome(alloc, status.code(), &answers.told)?)
 }
 
 fn play_line(rt: &HostRuntime, tally: &mut Tally, line: &str) -> io::Result<()> {
@@ -115,9 +104,9 @@ fn play_line(rt: &HostRuntime, tally: &mut Tally, line: &str) -> io::Result<()> 
     };
     let (told, want) = parted(rest);
     let (_, output) = want.split_once(' ').unwrap_or((want, ""));
-    let output = output.replace(rt.alloc(), "\\n", "\n")?;
+    let output = spelled(rt.alloc(), output)?;
     let got = run_in_turn(rt, told, output.as_str())?;
-    compare(rt, tally, line, got.as_str(), want)
+    compare_told(rt, tally, line, got.as_str())
 }
 
 /// Plays the lines, one after the other, on a path where nothing is.

@@ -2,8 +2,7 @@
 //! `; echo $?` where its exit status is printed too. The lines up to the next call are what it prints.
 
 use crate::runs::run_program;
-use dh_agency_test_kit::compare;
-use dh_test_kit::Tally;
+use dh_test_kit::{Tally, compare};
 use std::{fs, io, str};
 
 // The file that the calls name, and its log.

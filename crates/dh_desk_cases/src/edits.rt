@@ -1,11 +1,10 @@
 //! Files that another program edited. The first line is the input that makes the file. A line behind it is `STATEMENT -> STATUS TEXT`, as a recovery
-//! ends once the statement ran; with `100 TIMES` before it the statement runs a hundred times, with `{n}` for 00 to 99. Of a file of the first
-//! version it is so that a migration ends.
+//! ends once the statement ran. Of a file of the first version it is so that a migration ends.
 
 use crate::lives::{edited, tables};
-use crate::runs::{PATH, clear, run_letting};
-use dh_agency_test_kit::{SECOND_TO_FIRST, compare, parted};
-use dh_test_kit::Tally;
+use crate::runs::{PATH, clear, compare_told, run_letting};
+use dh_agency_test_kit::SECOND_TO_FIRST;
+use dh_test_kit::{Tally, compare, parted, spelled};
 use std::alloc::{AllocError, Global};
 use std::{fs, io};
 
@@ -17,20 +16,6 @@ fn to_first(alloc: Global) -> Result<String, AllocError> {
         statements.push_str("; ")?;
     }
     statements.push_str("UPDATE meta SET version = 1")?;
-    Ok(statements)
-}
-
-// The statements of a line.
-fn statements_of(alloc: Global, text: &str) -> Result<String, AllocError> {
-    let Some(statement) = text.strip_prefix("100 TIMES ") else {
-        return text.to_string(alloc);
-    };
-    let mut statements = String::new(alloc);
-    for number in 0..100u8 {
-        let digits = format!(in alloc; "{}{}", number / 10, number % 10)?;
-        statements.push_str(statement.replace(alloc, "{n}", digits.as_str())?.as_str())?;
-        statements.push_str(";")?;
-    }
     Ok(statements)
 }
 
@@ -50,8 +35,9 @@ fn made(
     statements: &str,
 ) -> io::Result<Closed> {
     clear(rt);
-    let _ = run_letting(rt, "init --file F --first 2025-01", "")?;
-    let _ = run_letting(rt, "batch --file F", input)?;
+    let _ = run_letting(rt, "init --file F --first 2025-01")?;
+    let batch = format!(in rt.alloc(); "batch --file F < {input}")?;
+    let _ = run_letting(rt, batch.as_str())?;
     let _ = edited(rt, statements);
     Ok(Closed {
         words,
@@ -74,13 +60,13 @@ fn fate_of_file(rt: &HostRuntime, closed: &Closed, edited: &[u8]) -> io::Result<
 // Edits the file and makes the run: a file that is refused stays, and one that is recovered has the tables of before.
 fn play_edit(rt: &HostRuntime, tally: &mut Tally, closed: &Closed, line: &str) -> io::Result<()> {
     let (text, want) = parted(line);
-    let statements = statements_of(rt.alloc(), text)?;
+    let statements = spelled(rt.alloc(), text)?;
     fs::write(rt, PATH, &closed.bytes)?;
     let done = edited(rt, statements.as_str()).unwrap_or("not done");
     compare(rt, tally, text, done, "done")?;
     let edited = fs::read(rt, PATH)?;
-    let got = run_letting(rt, closed.words, "")?;
-    compare(rt, tally, line, got.as_str(), want)?;
+    let got = run_letting(rt, closed.words)?;
+    compare_told(rt, tally, line, got.as_str())?;
     let stays = if want.starts_with("5") {
         "as it was edited"
     } else {

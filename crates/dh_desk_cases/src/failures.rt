@@ -3,9 +3,8 @@
 
 use crate::lives::tables;
 use crate::runs::{LOG, PATH, clear, input_of, run_program};
-use dh_agency_test_kit::parted;
-use dh_lines::ends::{FailingReader, FailingWriter, InterruptedReader, InterruptedWriter};
-use dh_test_kit::Tally;
+use dh_test_kit::ends::{FailingReader, FailingWriter, InterruptedReader, InterruptedWriter};
+use dh_test_kit::{Tally, parted, spelled};
 use std::{fs, io, str};
 
 // Of the calls of a run on a file every so many is interrupted, since such a run waits for the disk.
@@ -116,7 +115,7 @@ fn line_of<'a>(rt: &HostRuntime, text: &'a str) -> io::Result<CallLine<'a>> {
     let (words, input) = told.split_once(" < ").unwrap_or((told, ""));
     let (code, whole) = want.split_once(' ').unwrap_or((want, ""));
     let input = input_of(rt.alloc(), input)?;
-    let whole = whole.replace(rt.alloc(), "\\n", "\n")?;
+    let whole = spelled(rt.alloc(), whole)?;
     let before = kept(rt)?;
     let each = each_left(rt, &before, words, input.as_str())?;
     Ok(CallLine {

@@ -3,9 +3,8 @@
 //! which each opens the run of the last record and does not end it.
 
 use crate::lives::tables;
-use crate::runs::{clear, outcome, run_letting};
-use dh_agency_test_kit::{compare, parted};
-use dh_test_kit::Tally;
+use crate::runs::{clear, compare_told, outcome, run_letting};
+use dh_test_kit::{Tally, compare, parted};
 use std::alloc::{AllocError, Global};
 use std::io;
 
@@ -31,10 +30,10 @@ impl Time {
     }
 }
 
-// An import of records: its input, and the replies that are wanted.
+// An import of records: its words with its input, and the replies that are wanted.
 #[derive(Drop)]
 struct Import {
-    input: String,
+    told: String,
     replies: String,
 }
 
@@ -45,17 +44,17 @@ fn import_of(
     before: usize,
     time: Time,
 ) -> Result<Import, AllocError> {
-    let mut input = String::new(rt.alloc());
+    let mut told = "batch --file F < ".to_string(rt.alloc())?;
     let mut replies = String::new(rt.alloc());
     for (at, line) in lines.iter().enumerate() {
         let time = if at < before { time } else { Time::First };
         let (record, reply) = time.reply(*line);
-        input.push_str(record)?;
-        input.push_str("\\n")?;
+        told.push_str(record)?;
+        told.push_str("~n")?;
         let number = at.saturating_add(1);
-        replies.push_str(format!(in rt.alloc(); "{number} {reply}\\n")?.as_str())?;
+        replies.push_str(format!(in rt.alloc(); "{number} {reply}\n")?.as_str())?;
     }
-    Ok(Import { input, replies })
+    Ok(Import { told, replies })
 }
 
 // Imports the first records into the file, some of which were imported before.
@@ -67,14 +66,14 @@ fn play_import(
     time: Time,
 ) -> io::Result<()> {
     let import = import_of(rt, lines, before, time)?;
-    let got = run_letting(rt, "batch --file F", import.input.as_str())?;
+    let got = run_letting(rt, import.told.as_str())?;
     // While the run is open, some are refused.
     let code = if matches!(time, Time::WhileOpen) {
         1
     } else {
         0
     };
-    let want = outcome(rt.alloc(), code, import.replies.as_str())?;
+    let want = outcome(rt.alloc(), code, import.replies.as_str().as_bytes())?;
     if tally.compare(got.as_str(), want.as_str()) {
         return Ok(());
     }
@@ -88,8 +87,8 @@ fn play_import(
 // Makes the file, and imports the first records.
 fn begin(rt: &HostRuntime, tally: &mut Tally, lines: &[&str]) -> io::Result<()> {
     clear(rt);
-    let made = run_letting(rt, "init --file F --first 2025-01", "")?;
-    compare(rt, tally, "init", made.as_str(), "0 created 2025-01\\n")?;
+    let made = run_letting(rt, "init --file F --first 2025-01")?;
+    compare(rt, tally, "init", made.as_str(), "0 created 2025-01\n")?;
     play_import(rt, tally, lines, 0, Time::First)
 }
 
@@ -110,16 +109,15 @@ fn play_left_open(
 ) -> io::Result<String> {
     let firsts = lines.len().saturating_sub(1);
     begin(rt, tally, lines.get(..firsts).unwrap_or(lines))?;
-    let (told, want) = parted(opening);
-    let (words, input) = told.split_once(" < ").unwrap_or((told, ""));
-    let got = run_letting(rt, words, input)?;
-    compare(rt, tally, told, got.as_str(), want)?;
+    let (told, _) = parted(opening);
+    let got = run_letting(rt, told)?;
+    compare_told(rt, tally, opening, got.as_str())?;
     let open = tables(rt)?;
     play_import(rt, tally, lines, lines.len(), Time::WhileOpen)?;
     let still_open = tables(rt)?;
     compare(rt, tally, told, still_open.as_str(), open.as_str())?;
-    let recovered = run_letting(rt, "recover --file F", "")?;
-    compare(rt, tally, told, recovered.as_str(), "0 recovered\\n")?;
+    let recovered = run_letting(rt, "recover --file F")?;
+    compare(rt, tally, told, recovered.as_str(), "0 recovered\n")?;
     play_import(rt, tally, lines, lines.len(), Time::Again)?;
     Ok(tables(rt)?)
 }

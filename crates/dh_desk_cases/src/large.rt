@@ -1,14 +1,12 @@
 //! Large offices. The lines of a block say what the program is told and what it has to print, and run it:
-//! - `tell LINE` is a line of the input, and `want LINE` one of the output. Behind `each A B` a line stands there once for each number from
-//!   A to B: `{n}` in it is the number, `{tens}` the number without its last digit, `{unit}` that digit, and `{i}` counts the lines from 1.
+//! - `tell LINE` is a line of the input, and `want LINE` one of the output. A repetition stands for its lines.
 //! - `letting WORDS -> STATUS` is a run. What was told since the run before is its input, and what is wanted since then its whole output.
 //! - `edit -> done` runs what was told as statements on the file, as another program would.
 //! - `note` says how a sum was reckoned.
 
 use crate::lives::edited;
 use crate::runs::{clear, run_program};
-use dh_agency_test_kit::{compare, parted};
-use dh_test_kit::Tally;
+use dh_test_kit::{Tally, Unreadable, compare, lines_told, parted};
 use std::alloc::{AllocError, Global};
 use std::{io, str};
 
@@ -26,40 +24,10 @@ fn nothing(rt: &HostRuntime) -> Telling {
     }
 }
 
-// The line of this number, which is the i-th.
-fn numbered(alloc: Global, pattern: &str, number: u32, i: u32) -> Result<String, AllocError> {
-    let whole = format!(in alloc; "{number}")?;
-    let place = format!(in alloc; "{i}")?;
-    let tens = format!(in alloc; "{}", number / 10)?;
-    let unit = format!(in alloc; "{}", number % 10)?;
-    pattern
-        .replace(alloc, "{n}", whole.as_str())?
-        .as_str()
-        .replace(alloc, "{i}", place.as_str())?
-        .as_str()
-        .replace(alloc, "{tens}", tens.as_str())?
-        .as_str()
-        .replace(alloc, "{unit}", unit.as_str())
-}
-
-// The first and the last number behind `each`, and the pattern, where the line begins so.
-fn each_of(line: &str) -> Option<(u32, u32, &str)> {
-    let rest = line.strip_prefix("each ")?;
-    let (first, rest) = rest.split_once(' ')?;
-    let (last, pattern) = rest.split_once(' ')?;
-    Some((first.parse().ok()?, last.parse().ok()?, pattern))
-}
-
-// Adds the line, or that of each number.
-fn put(alloc: Global, text: &mut String, line: &str) -> Result<(), AllocError> {
-    let Some((first, last, pattern)) = each_of(line) else {
-        text.push_str(line)?;
-        return text.push_str("\n");
-    };
-    let mut i: u32 = 0;
-    for number in first..=last {
-        i = i.saturating_add(1);
-        text.push_str(numbered(alloc, pattern, number, i)?.as_str())?;
+// Adds the line, or those of a repetition.
+fn put(alloc: Global, text: &mut String, line: &str) -> Result<(), Unreadable> {
+    for told in &lines_told(alloc, line)? {
+        text.push_str(told.as_str())?;
         text.push_str("\n")?;
     }
     Ok(())

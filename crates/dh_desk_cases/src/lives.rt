@@ -3,11 +3,10 @@
 //! prints. `answer` has what else a line may be.
 
 use crate::moved_files::run_while_changed;
-use crate::patterns::spread;
-use crate::runs::{LOG, MOVED, PATH, clear, run_letting, standing};
+use crate::runs::{LOG, MOVED, PATH, clear, compare_told, run_letting, standing};
 use crate::unclosable_files::run_unclosable;
-use dh_agency_test_kit::{all_rows, compare, parted, rows_of};
-use dh_test_kit::Tally;
+use dh_agency_test_kit::{all_rows, rows_of};
+use dh_test_kit::{Tally, parted, spelled};
 use sqlite::Connection;
 use std::alloc::AllocError;
 use std::os::unix::fs::symlink;
@@ -30,12 +29,6 @@ pub fn tables(rt: &HostRuntime) -> Result<String, AllocError> {
     let rows = all_rows(rt.alloc(), &mut conn);
     let _ = conn.close();
     rows
-}
-
-// What the run of these words comes to.
-fn run(rt: &HostRuntime, words: &str) -> Result<String, AllocError> {
-    let (words, input) = words.split_once(" < ").unwrap_or((words, ""));
-    run_letting(rt, words, input)
 }
 
 // Makes a folder at the path or at its log's, or a link to this place, or a file with this text.
@@ -89,13 +82,16 @@ fn handled(
 fn answer(rt: &HostRuntime, kept: &mut Vec<u8>, kind: &str, rest: &str) -> io::Result<String> {
     let alloc = rt.alloc();
     match kind {
-        "letting" => Ok(run(rt, rest)?),
+        "letting" => run_letting(rt, rest),
         "unclosable" => run_unclosable(rt, rest),
         "moved" | "removed" | "replaced" => run_while_changed(rt, kind, rest),
         "log-bytes" => Ok(format!(in alloc; "{}", fs::metadata(rt, LOG)?.len())?),
         "leads" => Ok(fs::read_link(rt, PATH)?.into_string()),
         "rows" => Ok(rows_of(tables(rt)?.as_str(), rest).to_string(alloc)?),
-        _ => Ok(handled(rt, kept, kind, rest)?.to_string(alloc)?),
+        _ => {
+            let text = spelled(alloc, rest)?;
+            Ok(handled(rt, kept, kind, text.as_str())?.to_string(alloc)?)
+        }
     }
 }
 
@@ -106,10 +102,10 @@ pub fn play_line(
     kept: &mut Vec<u8>,
     line: &str,
 ) -> io::Result<()> {
-    let (words, want) = parted(line);
+    let (words, _) = parted(line);
     let (kind, rest) = words.split_once(' ').unwrap_or((words, ""));
     let got = answer(rt, kept, kind, rest)?;
-    compare(rt, tally, line, got.as_str(), want)
+    compare_told(rt, tally, line, got.as_str())
 }
 
 /// Plays the lines, one after the other, on a path where nothing is.
@@ -117,8 +113,7 @@ pub fn play(rt: &HostRuntime, tally: &mut Tally, lines: &str) -> io::Result<()> 
     clear(rt);
     let mut kept = Vec::new(rt.alloc());
     for line in lines.lines() {
-        let line = spread(rt.alloc(), line)?;
-        play_line(rt, tally, &mut kept, line.as_str())?;
+        play_line(rt, tally, &mut kept, line)?;
     }
     clear(rt);
     Ok(())

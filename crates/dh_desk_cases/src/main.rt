@@ -1,7 +1,7 @@
 //! Plays the cases of `desk`, on real files in the folder where it runs. It prints each that ends otherwise than wanted, and then
 //! `N cases, M differ`.
 //!
-//! A block of cases has its kind in the first line, and is the life of one path, which is written `F`. In texts `\n` is a line feed.
+//! A block of cases has its kind in the first line, and is the life of one path, which is written `F`. Texts have escapes.
 #![tactic(auto)]
 
 mod answers_in_turn;
@@ -18,7 +18,6 @@ mod many;
 mod moved_files;
 mod other_programs;
 mod pages;
-mod patterns;
 mod peers;
 mod runs;
 mod second_runs;

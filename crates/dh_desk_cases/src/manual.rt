@@ -1,5 +1,5 @@
-//! The manual and the examples. A line `page FILE` is a page with blocks of lines and of their answers, `pair NAME` the lines of `NAME.csv`
-//! with the answers of `NAME.out`, and `long BYTES` a line with a field of so many bytes.
+//! The manual and the examples. A line `page FILE` is a page with blocks of lines and of their answers, and `pair NAME` the lines of
+//! `NAME.csv` with the answers of `NAME.out`.
 
 use crate::pages::play_page;
 use crate::runs::run_program;
@@ -43,22 +43,10 @@ fn play_pair(rt: &HostRuntime, tally: &mut Tally, name: &str) -> io::Result<()> 
     compare_answers(rt, tally, name, &lines, &want)
 }
 
-// A line with a field of so many bytes, which is too long, and a line behind it.
-fn play_long(rt: &HostRuntime, tally: &mut Tally, bytes: &str) -> io::Result<()> {
-    let mut lines = Vec::new(rt.alloc());
-    lines.extend_from_slice(b"branch,B001,")?;
-    for _ in 0..bytes.parse::<usize>().unwrap_or(0) {
-        lines.push(b'x')?;
-    }
-    lines.extend_from_slice(b",Leeds,LS1 1AA\nshow,branches\n")?;
-    compare_answers(rt, tally, bytes, &lines, b"1 bad field 3\n2 shown 0\n")
-}
-
 fn play_part(rt: &HostRuntime, tally: &mut Tally, line: &str) -> io::Result<()> {
     match line.split_once(' ') {
         Some(("page", file)) => play_page(rt, tally, file),
         Some(("pair", name)) => play_pair(rt, tally, name),
-        Some(("long", bytes)) => play_long(rt, tally, bytes),
         _ => println!(rt; "no such part: {line}"),
     }
 }

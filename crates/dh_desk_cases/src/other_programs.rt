@@ -4,9 +4,8 @@
 //! and what stands at the path then.
 
 use crate::runs::{LOG, PATH, clear};
-use dh_agency_test_kit::{compare, parted};
 use dh_jobs::paths::NewFile;
-use dh_test_kit::Tally;
+use dh_test_kit::{Tally, compare, parted};
 use std::alloc::{Allocator, Global};
 use std::cell::Cell;
 use std::fs::{File, Files, Metadata, OpenOptions};

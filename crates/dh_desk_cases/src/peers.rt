@@ -1,16 +1,12 @@
-//! Peers of `letting serve`. Behind the lines of a life, a line `ask REQUEST -> STATUS BODY` is a request, in which `\r` and `\n` are bytes,
+//! Peers of `letting serve`. Behind the lines of a life, a line `ask REQUEST -> STATUS BODY` is a request, with escapes,
 //! and what its peer is answered: `-> nothing` where it gets no byte. A line `hold REQUEST` is one whose peer doesn't end its input. A line
 //! `serve WORDS -> STATUS TEXT` sends the requests above it, one connection each, as soon as it is told the port, and compares the rest of
 //! the text; it also tries the same port of 127.0.0.2, where nobody listens. `busy WORDS` names a port that is taken.
 
-ghost use Rattle.std.specs.Prelude.{◌≡◌, Some};
-
 use crate::haste::serve_in_haste;
 use crate::lives;
-use crate::patterns::spread;
-use crate::runs::{clear, outcome, run_letting, run_program, shown};
-use dh_agency_test_kit::{compare, parted};
-use dh_test_kit::Tally;
+use crate::runs::{Deed, Follower, clear, compare_told, outcome, run_letting, run_told};
+use dh_test_kit::{Tally, Unreadable, compare, parted, spelled};
 use std::alloc::{AllocError, Global};
 use std::io::{Read, Write};
 use std::net::{Ipv4Addr, Shutdown, SocketAddr, SocketAddrV4, TcpListener, TcpStream};
@@ -26,14 +22,11 @@ struct Ask {
 }
 
 impl Ask {
-    fn new(alloc: Global, request: &str, wanted: &str, ends: bool) -> Result<Ask, AllocError> {
+    fn new(alloc: Global, request: &str, wanted: &str, ends: bool) -> Result<Ask, Unreadable> {
         Ok(Ask {
             ends,
-            request: request
-                .replace(alloc, "\\r", "\r")?
-                .as_str()
-                .replace(alloc, "\\n", "\n")?,
-            wanted: wanted.to_string(alloc)?,
+            request: spelled(alloc, request)?,
+            wanted: spelled(alloc, wanted)?,
         })
     }
 }
@@ -78,52 +71,37 @@ fn peers_of(rt: &HostRuntime, told: &[u8], asks: &[Ask]) -> io::Result<Vec<TcpSt
     Ok(peers)
 }
 
-// A writer that sends the requests once it is told the port.
+// What sends the requests once the port is told.
 #[derive(Drop)]
 struct Caller<'a> {
     rt: &'a HostRuntime,
     asks: &'a [Ask],
-    told: Vec<u8>,
     peers: Vec<TcpStream>,
     elsewhere: &'static str,
 }
 
-impl<'a> Caller<'a> {
-    fn new(rt: &'a HostRuntime, asks: &'a [Ask]) -> Caller<'a> {
-        Caller {
+// A writer that is told the port, and sends the requests.
+fn caller<'a>(rt: &'a HostRuntime, asks: &'a [Ask]) -> Follower<Caller<'a>> {
+    Follower {
+        told: Vec::new(rt.alloc()),
+        deed: Caller {
             rt,
             asks,
-            told: Vec::new(rt.alloc()),
             peers: Vec::new(rt.alloc()),
             elsewhere: "not asked",
-        }
-    }
-
-    // Sends the requests, where the line that tells the port has just ended.
-    fn call(&mut self)
-        ensures { self.new.told.items ≡ self.old.told.items }
-    {
-        if !self.peers.is_empty() || !self.told.ends_with(b"\n") {
-            return;
-        }
-        if let Ok(peers) = peers_of(self.rt, &self.told, self.asks) {
-            self.peers = peers;
-        }
-        self.elsewhere = listener_elsewhere(self.rt, &self.told);
+        },
     }
 }
 
-impl Write for Caller<'_> {
-    ghost contents = { λ w. Some w.told.items };
-
-    fn write(&mut self, buf: &[u8]) -> io::Result<usize> {
-        let count = self.told.write(buf)?;
-        self.call();
-        Ok(count)
-    }
-
-    fn flush(&mut self) -> io::Result<()> {
-        Ok(())
+impl Deed for Caller<'_> {
+    fn follow(&mut self, told: &[u8]) {
+        if !self.peers.is_empty() || !told.ends_with(b"\n") {
+            return;
+        }
+        if let Ok(peers) = peers_of(self.rt, told, self.asks) {
+            self.peers = peers;
+        }
+        self.elsewhere = listener_elsewhere(self.rt, told);
     }
 }
 
@@ -138,10 +116,7 @@ fn answer_of(alloc: Global, peer: &mut TcpStream) -> Result<String, AllocError> 
     let (head, body) = text.split_once("\r\n\r\n").unwrap_or((text, ""));
     match head.get(9..12) {
         Some(status) if body.is_empty() => format!(in alloc; "{status}{end}"),
-        Some(status) => {
-            let body = shown(alloc, body.as_bytes())?;
-            format!(in alloc; "{status} {}{end}", body.as_str())
-        }
+        Some(status) => format!(in alloc; "{status} {body}{end}"),
         None => format!(in alloc; "nothing{end}"),
     }
 }
@@ -167,37 +142,41 @@ fn judge(
 }
 
 // Judges what the peers were answered, and gives what the caller was told, without the line of the port.
-fn judged(rt: &HostRuntime, tally: &mut Tally, asks: &[Ask], caller: Caller) -> io::Result<String> {
+fn judged(
+    rt: &HostRuntime,
+    tally: &mut Tally,
+    asks: &[Ask],
+    caller: Follower<Caller>,
+) -> io::Result<Vec<u8>> {
+    let Follower { told, deed } = caller;
     let Caller {
         rt: _,
         asks: _,
-        told,
         mut peers,
         elsewhere,
-    } = caller;
+    } = deed;
     compare(rt, tally, "the port at 127.0.0.2", elsewhere, "nobody")?;
     judge(rt, tally, asks, &mut peers)?;
-    let told = shown(rt.alloc(), &told)?;
-    let text = told.as_str();
-    let (_, rest) = text.split_once("\\n").unwrap_or(("", text));
-    Ok(rest.to_string(rt.alloc())?)
+    let line = told.iter().position(|byte| *byte == b'\n');
+    let begin = line.map_or(0, |at| at.saturating_add(1));
+    Ok(Vec::from_slice(rt.alloc(), told.get(begin..).unwrap_or(&[]))?)
 }
 
 // What a run comes to whose peers send these requests.
 fn served(rt: &HostRuntime, tally: &mut Tally, asks: &[Ask], words: &str) -> io::Result<String> {
-    let mut caller = Caller::new(rt, asks);
-    let mut reader: &[u8] = b"";
-    let status = run_program(rt, words, &mut reader, &mut caller)?;
+    let mut caller = caller(rt, asks);
+    let status = run_told(rt, words, &mut caller)?;
     let rest = judged(rt, tally, asks, caller)?;
-    Ok(outcome(rt.alloc(), status.code(), rest.as_str())?)
+    Ok(outcome(rt.alloc(), status.code(), &rest)?)
 }
 
 // What serving in haste comes to, whose peers send these requests.
 fn hurried(rt: &HostRuntime, tally: &mut Tally, asks: &[Ask], count: &str) -> io::Result<String> {
-    let mut caller = Caller::new(rt, asks);
+    let mut caller = caller(rt, asks);
     let end = serve_in_haste(rt, count, &mut caller)?;
     let rest = judged(rt, tally, asks, caller)?;
-    Ok(format!(in rt.alloc(); "{end} {}", rest.as_str())?)
+    let text = str::from_utf8(&rest).unwrap_or("no text");
+    Ok(format!(in rt.alloc(); "{end} {text}")?)
 }
 
 // What a run comes to whose port is taken.
@@ -205,7 +184,7 @@ fn refused(rt: &HostRuntime, words: &str) -> io::Result<String> {
     let listener = TcpListener::bind(rt, "127.0.0.1:0")?;
     let port = listener.local_addr()?.port();
     let words = format!(in rt.alloc(); "serve --port {port} {words}")?;
-    Ok(run_letting(rt, words.as_str(), "")?)
+    run_letting(rt, words.as_str())
 }
 
 // Plays a line behind those above it, of which these requests were not sent yet.
@@ -233,7 +212,7 @@ fn play_line(
         }
         _ => return lives::play_line(rt, tally, &mut Vec::new(rt.alloc()), line),
     };
-    compare(rt, tally, line, got.as_str(), wanted)
+    compare_told(rt, tally, line, got.as_str())
 }
 
 /// Plays the lines, one after the other, on a path where nothing is.
@@ -241,8 +220,7 @@ pub fn play(rt: &HostRuntime, tally: &mut Tally, lines: &str) -> io::Result<()> 
     clear(rt);
     let mut asks = Vec::new(rt.alloc());
     for line in lines.lines() {
-        let line = spread(rt.alloc(), line)?;
-        play_line(rt, tally, &mut asks, line.as_str())?;
+        play_line(rt, tally, &mut asks, line)?;
     }
     clear(rt);
     Ok(())

@@ -1,12 +1,12 @@
 //! Peers that are slow, by a clock of their own: each asks an agency in memory, whose peers have a second. A line is `HABIT REQUEST -> OUTCOME`,
-//! with `\r` and `\n` for bytes. OUTCOME is the status that is told, or `lost`, the milliseconds that the connection took, and the bytes of the
+//! with escapes. OUTCOME is the status that is told, or `lost`, the milliseconds that the connection took, and the bytes of the
 //! answer that the peer took. A line `door N -> TRY` is a door at which the first N tries are interrupted, and the try that gave a connection.
 
 use crate::haste::HASTE;
-use dh_agency_test_kit::{compare, in_memory, parted};
+use dh_agency_test_kit::in_memory;
 use dh_http::{Door, Peer, TimedStream, accept, serve_peer};
 use dh_requests::Routes;
-use dh_test_kit::Tally;
+use dh_test_kit::{Tally, compare, parted, spelled};
 use http::StatusCode;
 use std::alloc::{AllocError, Global};
 use std::cell::Cell;
@@ -145,8 +145,7 @@ fn served(alloc: Global, peer: SlowPeer) -> Result<Option<StatusCode>, AllocErro
 
 fn outcome(rt: &HostRuntime, habit: &str, request: &str) -> io::Result<String> {
     let alloc = rt.alloc();
-    let request = request.replace(alloc, "\\r", "\r")?;
-    let request = request.as_str().replace(alloc, "\\n", "\n")?;
+    let request = spelled(alloc, request)?;
     let (millis, sent, taken) = (Cell::new(0), Cell::new(0), Cell::new(0));
     let peer = SlowPeer {
         habit: Habit::named(habit),

@@ -7,10 +7,8 @@
 
 use crate::ways::{Way, outcome_line, wanted};
 use dh_agency::Agency;
-use dh_agency_test_kit::{
-    all_rows, compare, compare_tables, in_memory, parted, table_of, told_next,
-};
-use dh_test_kit::{Block, Manner, Tally, script};
+use dh_agency_test_kit::{all_rows, compare_tables, in_memory, table_of, told_next};
+use dh_test_kit::{Block, Manner, Tally, compare, parted, script};
 use sqlite::{Alter, Connection};
 use sqlite_trees::store::Reopen;
 use std::alloc::{AllocError, Global};
@@ -72,19 +70,6 @@ fn tell<S: Alter>(
     Ok(())
 }
 
-// Tells the agency the lines of the block in this way, behind those that it stands after.
-fn tell_block<S: Alter>(
-    rt: &HostRuntime,
-    tally: &mut Tally,
-    calls: &mut Calls,
-    agency: &mut Agency<S>,
-    way: Way,
-    block: &Block,
-) -> io::Result<()> {
-    tell(rt, tally, calls, agency, way, &block.before)?;
-    tell(rt, tally, calls, agency, way, &block.lines)
-}
-
 fn play_way(
     rt: &HostRuntime,
     tally: &mut Tally,
@@ -97,7 +82,7 @@ fn play_way(
         return compare(rt, tally, block.name.as_str(), "no agency", "an agency");
     };
     calls.add(1, "made");
-    let ended = tell_block(rt, tally, calls, &mut agency, way, block);
+    let ended = tell(rt, tally, calls, &mut agency, way, &block.all);
     let mut conn = agency.into_store();
     let tables = all_rows(rt.alloc(), &mut conn);
     drop(conn);
@@ -145,10 +130,7 @@ fn play_over<S: Alter + Reopen + Drop>(
     conn: Connection<S>,
     block: &Block,
 ) -> io::Result<()> {
-    let Some(begun) = tell_tables(rt, tally, calls, conn, &block.before)? else {
-        return compare(rt, tally, block.name.as_str(), "not opened", "opened");
-    };
-    let Some(mut ended) = tell_tables(rt, tally, calls, begun, &block.lines)? else {
+    let Some(mut ended) = tell_tables(rt, tally, calls, conn, &block.all)? else {
         return compare(rt, tally, block.name.as_str(), "not opened", "opened");
     };
     let tables = all_rows(rt.alloc(), &mut ended);
@@ -192,10 +174,7 @@ fn play_script(
     file: &str,
 ) -> io::Result<()> {
     let text = fs::read_to_string(rt, file)?;
-    let Ok(blocks) = script(rt.alloc(), text.as_str()) else {
-        return compare(rt, tally, file, "not read", "read");
-    };
-    for block in &blocks {
+    for block in &script(rt.alloc(), text.as_str())? {
         play_block(rt, tally, calls, block)?;
     }
     Ok(())

@@ -1,12 +1,11 @@
 //! The ways in which an agency is told a line.
 
 use crate::forms::{answer_of, request_of};
-use crate::runs::shown;
 use dh_agency::Agency;
 use dh_agency_test_kit::reply_line as reply_by_call;
 use dh_http::serve_one;
 use dh_lines::{batch, put_answer_line};
-use dh_test_kit::request;
+use dh_test_kit::{Unreadable, request, spelled};
 use dh_types::{Question, Request};
 use sqlite::Alter;
 use std::alloc::{AllocError, Global};
@@ -34,12 +33,15 @@ impl Way {
     }
 }
 
-// The reply in the bytes of the line that is numbered 1, with `\n` for each line feed in it.
+fn text_of(bytes: &[u8]) -> &str {
+    str::from_utf8(bytes).unwrap_or("no text")
+}
+
+// The reply in the bytes of the line that is numbered 1.
 fn reply_in(alloc: Global, line: &[u8]) -> Result<String, AllocError> {
-    let text = shown(alloc, line)?;
-    let text = text.as_str();
+    let text = text_of(line);
     let text = text.strip_prefix("1 ").unwrap_or(text);
-    text.strip_suffix("\\n").unwrap_or(text).to_string(alloc)
+    text.strip_suffix("\n").unwrap_or(text).to_string(alloc)
 }
 
 fn answer_to_question<S: Alter>(
@@ -93,7 +95,7 @@ fn answer_by_request<S: Alter>(
     let mut reader = request.as_bytes();
     let mut written = Vec::new(alloc);
     match serve_one(alloc, agency, &mut reader, &mut written) {
-        Ok(status) => format!(in alloc; "{} {}", status.as_str(), shown(alloc, &written)?.as_str()),
+        Ok(status) => format!(in alloc; "{} {}", status.as_str(), text_of(&written)),
         Err(_) => "fault of the request".to_string(alloc),
     }
 }
@@ -106,8 +108,8 @@ fn way_of(way: Way, line: &str) -> Way {
     way
 }
 
-/// What the agency answers to the line in this way: its reply, or the status and the bytes of a request's answer. Line feeds are written
-/// `\n`. Each fault begins with that word or has it in its text.
+/// What the agency answers to the line in this way: its reply, or the status and the bytes of a request's answer. Each fault begins
+/// with that word or has it in its text.
 pub fn outcome_line<S: Alter>(
     alloc: Global,
     agency: &mut Agency<S>,
@@ -121,13 +123,13 @@ pub fn outcome_line<S: Alter>(
     }
 }
 
-/// The answer that is wanted in this way, where the line gets this reply.
-pub fn wanted(alloc: Global, way: Way, line: &str, reply: &str) -> Result<String, AllocError> {
+/// The answer that is wanted in this way, where the line gets this reply, whose escapes are read.
+pub fn wanted(alloc: Global, way: Way, line: &str, reply: &str) -> Result<String, Unreadable> {
+    let reply = spelled(alloc, reply)?;
     if way_of(way, line) != Way::Request {
-        return reply.to_string(alloc);
+        return Ok(reply);
     }
-    let reply = reply.replace(alloc, "\\n", "\n")?;
     let answer = answer_of(alloc, reply.as_str())?;
     let status = answer.as_str().get(9..12).unwrap_or("no status");
-    format!(in alloc; "{status} {}", shown(alloc, answer.as_bytes())?.as_str())
+    Ok(format!(in alloc; "{status} {}", answer.as_str())?)
 }

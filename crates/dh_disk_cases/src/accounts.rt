@@ -1,10 +1,10 @@
 //! The account of lives, compared with the replies that are wanted and with what the plain program makes of them.
 
 use crate::chapters::{Chapter, Mark};
-use dh_agency_test_kit::{books_text, compare, parted};
+use dh_agency_test_kit::books_text;
 use dh_lives::{Account, Lived};
 use dh_rules::{Books, Happening, Reach, play};
-use dh_test_kit::{Tally, Unreadable, command, january};
+use dh_test_kit::{Tally, Unreadable, command, compare, january, parted};
 use dh_types::{Command, Reply, Version};
 use std::alloc::{AllocError, Global};
 use std::io;

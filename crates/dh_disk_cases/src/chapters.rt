@@ -1,9 +1,9 @@
 //! The lives of a block of lines. The first begins with the block; a line `life` begins another, `life, stopped` the one that is
 //! stopped, and `recovery, stopped` one of no commands whose recovery is stopped.
 
-use dh_agency_test_kit::{parted, table_of};
+use dh_agency_test_kit::table_of;
 use dh_lives::{Life, Stop};
-use dh_test_kit::{Block, Unreadable, command};
+use dh_test_kit::{Block, Unreadable, command, parted};
 use std::alloc::{AllocError, Global};
 
 /// Which of the stops a life has.
@@ -76,23 +76,13 @@ fn add_line(alloc: Global, chapters: &mut Vec<Chapter>, line: &str) -> Result<()
     }
 }
 
-fn add_lines(
-    alloc: Global,
-    chapters: &mut Vec<Chapter>,
-    lines: &[String],
-) -> Result<(), AllocError> {
-    for line in lines {
-        add_line(alloc, chapters, line.as_str())?;
-    }
-    Ok(())
-}
-
 /// The lives of the block, with the lines that it stands after.
 pub fn chapters_of(alloc: Global, block: &Block) -> Result<Vec<Chapter>, AllocError> {
     let mut chapters = Vec::new(alloc);
     begin(alloc, &mut chapters, Mark::Whole)?;
-    add_lines(alloc, &mut chapters, &block.before)?;
-    add_lines(alloc, &mut chapters, &block.lines)?;
+    for line in &block.all {
+        add_line(alloc, &mut chapters, line.as_str())?;
+    }
     Ok(chapters)
 }
 

@@ -3,9 +3,8 @@
 use crate::disk_work::{Told, Work, found, text_on, told_on};
 use crate::disks::tables_after;
 use crate::trial_disks::{BOTH, Failure, Full, TrialDisk};
-use dh_agency_test_kit::compare;
 use dh_lives::{Stopping, Which, no_files};
-use dh_test_kit::Tally;
+use dh_test_kit::{Tally, compare};
 use sqlite::Files;
 use sqlite_disk::Crash;
 use std::alloc::{AllocError, Global};

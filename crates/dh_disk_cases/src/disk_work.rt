@@ -6,9 +6,9 @@ ghost use Rattle.dh_runs.specs.Taking.{IsResting};
 
 use crate::trial_disks::TrialDisk;
 use dh_agency::{Agency, NotOpened, create, recover};
-use dh_agency_test_kit::{all_rows, line_over, parted, problem_text, reply_line};
+use dh_agency_test_kit::{all_rows, line_over, problem_text, reply_line};
 use dh_lives::{SEED, Unopened, open_on, options};
-use dh_test_kit::january;
+use dh_test_kit::{january, parted};
 use dh_types::Fault;
 use sqlite::{Alter, Connection, Files, Options};
 use sqlite_disk::{Crash, Disk};

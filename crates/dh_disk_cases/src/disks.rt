@@ -4,11 +4,9 @@ use crate::disk_work::{
     Finding, Told, Work, acknowledged, found, found_in_turn, is_failure, text_on, told_on,
 };
 use crate::trial_disks::{Failure, Full, TrialDisk};
-use dh_agency_test_kit::{
-    all_rows, compare, compare_tables, in_memory, parted, reply_line, table_of,
-};
+use dh_agency_test_kit::{all_rows, compare_tables, in_memory, reply_line, table_of};
 use dh_lives::{Measures, Stopping, Which, copy_of, no_files};
-use dh_test_kit::{Block, Tally, script};
+use dh_test_kit::{Block, Tally, compare, parted, script};
 use sqlite::{Connection, Files};
 use sqlite_disk::Crash;
 use std::alloc::{AllocError, Global};
@@ -214,22 +212,15 @@ fn play_failures<D: TrialDisk>(
     compare(rt, tally, "all lines on a disk", "not told", "told")
 }
 
-/// Adds the lines that are told.
-pub fn add_told(alloc: Global, told: &mut Vec<String>, lines: &[String]) -> Result<(), AllocError> {
+/// The lines that are told.
+pub fn told_of(alloc: Global, lines: &[String]) -> Result<Vec<String>, AllocError> {
+    let mut told = Vec::new(alloc);
     for line in lines {
         let (words, _) = parted(line.as_str());
         if table_of(words).is_none() {
             told.push(line.as_str().to_string(alloc)?)?;
         }
     }
-    Ok(())
-}
-
-// The lines that are told, with those that the block stands after.
-fn lines_of(alloc: Global, block: &Block) -> Result<Vec<String>, AllocError> {
-    let mut told = Vec::new(alloc);
-    add_told(alloc, &mut told, &block.before)?;
-    add_told(alloc, &mut told, &block.lines)?;
     Ok(told)
 }
 
@@ -290,11 +281,8 @@ fn play_cut(
 /// Tells the lines of each block to an agency on disks, and compares what a power cut leaves of its tables in the end; and
 /// what it leaves where a disk fails, as `Failures` says.
 pub fn play(rt: &HostRuntime, tally: &mut Tally, text: &str, failures: Failures) -> io::Result<()> {
-    let Ok(blocks) = script(rt.alloc(), text) else {
-        return compare(rt, tally, "a script", "not read", "read");
-    };
-    for block in &blocks {
-        let lines = lines_of(rt.alloc(), block)?;
+    for block in &script(rt.alloc(), text)? {
+        let lines = told_of(rt.alloc(), &block.all)?;
         play_whole::<Stopping>(rt, tally, block, &lines)?;
         match failures {
             Failures::None => {}

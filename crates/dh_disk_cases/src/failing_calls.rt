@@ -2,11 +2,11 @@
 //! and the last is told once more for each measure of each disk, to files as they were before it.
 
 use crate::disk_work::{Finding, Work, found, found_in_turn, is_failure, text_on};
-use crate::disks::add_told;
+use crate::disks::told_of;
 use crate::trial_disks::{Failure, Full, TrialDisk};
-use dh_agency_test_kit::{compare, compare_tables, parted, table_of};
+use dh_agency_test_kit::{compare_tables, table_of};
 use dh_lives::{Measures, Stopping, Which, copy_of, no_files};
-use dh_test_kit::{Block, Tally, script};
+use dh_test_kit::{Block, Tally, compare, parted, script};
 use sqlite::Files;
 use std::alloc::{AllocError, Global};
 use std::io;
@@ -157,13 +157,12 @@ fn play_block<D: TrialDisk>(
     block: &Block,
     work: Work<'_>,
 ) -> io::Result<()> {
-    let mut lines = Vec::new(rt.alloc());
-    add_told(rt.alloc(), &mut lines, &block.lines)?;
+    let mut lines = told_of(rt.alloc(), block.lines())?;
     let Some(last) = lines.pop() else {
         return compare(rt, tally, block.name.as_str(), "no line", "lines");
     };
     let files = no_files::<D>(rt.alloc(), Measures::NO_END)?;
-    let files = tell_before(rt.alloc(), files, &block.before)?;
+    let files = tell_before(rt.alloc(), files, block.before())?;
     let begun = tell_each(rt, tally, files, &lines)?;
     play_call(rt, tally, block, &begun, last.as_str(), work)
 }
@@ -171,10 +170,7 @@ fn play_block<D: TrialDisk>(
 /// Plays each block on disks that stop, and on full ones. What is left is found by the work: it is looked at, or recovered
 /// first, or migrated.
 pub fn play(rt: &HostRuntime, tally: &mut Tally, text: &str, work: Work<'_>) -> io::Result<()> {
-    let Ok(blocks) = script(rt.alloc(), text) else {
-        return compare(rt, tally, "a script", "not read", "read");
-    };
-    for block in &blocks {
+    for block in &script(rt.alloc(), text)? {
         play_block::<Stopping>(rt, tally, block, work)?;
         play_block::<Full>(rt, tally, block, work)?;
     }

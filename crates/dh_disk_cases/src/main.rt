@@ -14,8 +14,7 @@ mod series;
 mod stories;
 mod trial_disks;
 
-use dh_agency_test_kit::compare;
-use dh_test_kit::{Tally, blocks_in};
+use dh_test_kit::{Tally, blocks_in, compare};
 use disk_work::Work;
 use disks::Failures;
 use series::Recoveries;

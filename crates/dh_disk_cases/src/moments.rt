@@ -7,9 +7,9 @@ use crate::chapters::{Mark, Stops, chapters_of, place_of};
 use crate::disk_work::{Finding, Work, found_in_turn};
 use crate::series::{are_all_recovered, compare_end, compare_whole, play_lives, play_stops};
 use crate::stories::{Story, begun, if_played, played_up_to};
-use dh_agency_test_kit::{compare, parted, rows_of};
+use dh_agency_test_kit::rows_of;
 use dh_lives::{Measures, Rehearsed, Stop, Which, copy_of};
-use dh_test_kit::{Block, Tally, script};
+use dh_test_kit::{Block, Tally, compare, parted, script};
 use std::alloc::Global;
 use std::io;
 
@@ -26,7 +26,7 @@ fn compare_first(
     block: &Block,
     tables: &str,
 ) -> io::Result<()> {
-    for line in &block.lines {
+    for line in block.lines() {
         let (words, want) = parted(line.as_str());
         if let Some(table) = words.strip_prefix("first stop leaves,") {
             compare(rt, tally, words, rows_of(tables, table), want)?;
@@ -37,7 +37,7 @@ fn compare_first(
 
 // Whether the tables are those that the second stop leaves.
 fn is_left_by_second(block: &Block, tables: &str) -> bool {
-    for line in &block.lines {
+    for line in block.lines() {
         let (words, want) = parted(line.as_str());
         if let Some(table) = words.strip_prefix("second stop leaves,") {
             if rows_of(tables, table) != want {
@@ -150,10 +150,7 @@ fn play_block(rt: &HostRuntime, tally: &mut Tally, block: &Block) -> io::Result<
 
 /// Plays the lives of each block.
 pub fn play(rt: &HostRuntime, tally: &mut Tally, text: &str) -> io::Result<()> {
-    let Ok(blocks) = script(rt.alloc(), text) else {
-        return compare(rt, tally, "a script", "not read", "read");
-    };
-    for block in &blocks {
+    for block in &script(rt.alloc(), text)? {
         play_block(rt, tally, block)?;
     }
     Ok(())

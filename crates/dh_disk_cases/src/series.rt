@@ -5,9 +5,9 @@ use crate::accounts::{compare_account, is_same};
 use crate::chapters::{Mark, Stops, chapters_of, place_of};
 use crate::stories::{Story, account_of, begun, if_played, played_up_to, whole_account_of};
 use crate::trial_disks::{BOTH, name_of};
-use dh_agency_test_kit::{books_text, compare, compare_tables};
+use dh_agency_test_kit::{books_text, compare_tables};
 use dh_lives::{Account, Stop, Which};
-use dh_test_kit::{Block, Tally, script};
+use dh_test_kit::{Block, Tally, compare, script};
 use std::alloc::{AllocError, Global};
 use std::io;
 
@@ -317,10 +317,7 @@ pub fn play(
     text: &str,
     recoveries: Recoveries,
 ) -> io::Result<()> {
-    let Ok(blocks) = script(rt.alloc(), text) else {
-        return compare(rt, tally, "a script", "not read", "read");
-    };
-    for block in &blocks {
+    for block in &script(rt.alloc(), text)? {
         play_block(rt, tally, block, recoveries)?;
     }
     Ok(())

@@ -1,9 +1,8 @@
 //! The lives of a block. Those before the one that is stopped are played once, and the others behind them with each stop that is tried.
 
 use crate::chapters::{Chapter, Mark, Stops, lives_of, place_of};
-use dh_agency_test_kit::compare;
 use dh_lives::{Account, Lived, Rehearsed, live_behind, live_through, rehearse, rehearse_behind};
-use dh_test_kit::{Block, Tally, Unreadable, january};
+use dh_test_kit::{Block, Tally, Unreadable, compare, january};
 use dh_types::Fault;
 use std::alloc::{AllocError, Global};
 use std::io;

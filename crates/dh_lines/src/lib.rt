@@ -1,7 +1,6 @@
 //! A batch: each record of an input is carried out or asked, and answered by its line. Read [`batch`] first.
 #![tactic(auto)]
 
-pub mod ends;
 mod outcome;
 mod records;
 mod replies;

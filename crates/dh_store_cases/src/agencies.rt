@@ -2,9 +2,10 @@
 
 use crate::blocks::Block;
 use dh_agency::Agency;
-use dh_agency_test_kit::{all_rows, in_memory, parted};
+use dh_agency_test_kit::{all_rows, in_memory};
 use dh_http::{NetFault, serve_one};
 use dh_lines::batch;
+use dh_test_kit::parted;
 use http::StatusCode;
 use sqlite::{Alter, MemStore};
 use std::alloc::{AllocError, Global};

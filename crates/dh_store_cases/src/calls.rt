@@ -1,7 +1,7 @@
 //! Calls of the layers below an agency, and lines told to one, over tables that were just opened. The power is cut before each.
 
 use crate::either::line_over;
-use dh_agency_test_kit::{Lived, Telling, compare, play_block};
+use dh_agency_test_kit::{Lived, Telling, play_block};
 use dh_lives::crashes::next_life;
 use dh_test_kit::{Tally, script};
 use sqlite::{Alter, Connection};
@@ -26,10 +26,7 @@ impl Telling for ToTheLayers {
 /// The lines of each block, told to a store in memory that is empty before the first and is opened anew before each; and the tables in
 /// the end.
 pub fn play(rt: &HostRuntime, tally: &mut Tally, text: &str) -> io::Result<()> {
-    let Ok(blocks) = script(rt.alloc(), text) else {
-        return compare(rt, tally, "a script", "not read", "read");
-    };
-    for block in &blocks {
+    for block in &script(rt.alloc(), text)? {
         let conn = Connection::open_in_memory(rt.alloc())?;
         play_block::<ToTheLayers, _>(rt, tally, block, conn)?;
     }

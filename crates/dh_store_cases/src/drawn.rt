@@ -4,8 +4,7 @@
 
 use crate::sessions::{Plan, play_sessions};
 use crate::short_reads::play_short_reads;
-use dh_agency_test_kit::compare;
-use dh_test_kit::Tally;
+use dh_test_kit::{Tally, compare};
 use std::{fs, io};
 
 const SESSIONS: u32 = 500;

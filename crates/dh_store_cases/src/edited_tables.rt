@@ -2,9 +2,9 @@
 //! tables are made with OLD replaced by NEW in the texts that make them, and more statements are run; what stands before `; ` may be
 //! missing. The tables are those of the first version or of the second.
 
-use dh_agency_test_kit::{compare, load_text, parted, version_text};
+use dh_agency_test_kit::{load_text, version_text};
 use dh_ddl::texts::{FIRST, SECOND};
-use dh_test_kit::Tally;
+use dh_test_kit::{Tally, compare, parted};
 use sqlite::{Alter, Connection};
 use std::alloc::{AllocError, Global};
 use std::io;

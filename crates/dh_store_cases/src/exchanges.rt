@@ -2,11 +2,10 @@
 
 use crate::agencies::{Outcome, agency_behind, serve, tables_of};
 use crate::cases::{Case, Way, end_of, judge, judge_tables};
-use crate::failing_ends::{play_reads, play_writes};
-use crate::interrupted_ends::play_interrupted;
+use crate::mishaps::{play_interrupted, play_reads, play_writes};
 use dh_http::serve_one;
-use dh_lines::ends::FailingReader;
 use dh_test_kit::Tally;
+use dh_test_kit::ends::FailingReader;
 use std::io;
 use std::io::{Read, Write};
 use std::net::{TcpListener, TcpStream};

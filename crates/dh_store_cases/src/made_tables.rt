@@ -1,8 +1,8 @@
 //! The tables made.
 
-use dh_agency_test_kit::{compare, found, install_text, parted, version_text};
+use dh_agency_test_kit::{found, install_text, version_text};
 use dh_schema::install;
-use dh_test_kit::{Tally, january};
+use dh_test_kit::{Tally, compare, january, parted};
 use dh_types::Month;
 use sqlite::{Alter, Connection};
 use std::alloc::{AllocError, Global};

@@ -3,11 +3,17 @@
 use crate::agencies::{agency_behind, last_line, tables_of};
 use crate::blocks::{Block, blocks_of, named};
 use crate::cases::Case;
-use crate::escapes::bytes_of;
 use crate::exchanges::play_case;
-use dh_agency_test_kit::{compare, parted};
-use dh_test_kit::Tally;
+use dh_test_kit::{Tally, Unreadable, bytes_of, compare, parted};
+use std::alloc::Global;
 use std::{fs, io};
+
+// The bytes of the request with this word, and with the number of its bytes.
+fn request_bytes(alloc: Global, request: &str, word: &str) -> Result<Vec<u8>, Unreadable> {
+    let length = bytes_of(alloc, word)?.len().to_string(alloc)?;
+    let request = request.replace(alloc, "~#", length.as_str())?;
+    bytes_of(alloc, request.as_str().replace(alloc, "~_", word)?.as_str())
+}
 
 // Plays the request with this word, whose answer is given with escapes; and whether a case above has the same.
 fn play_word(
@@ -21,14 +27,12 @@ fn play_word(
     let Some(request) = &block.request else {
         return Ok(());
     };
-    let alloc = rt.alloc();
-    let bytes = bytes_of(alloc, word, b"")?;
     let case = Case {
         block,
         word,
         before,
-        request: bytes_of(alloc, request.as_str(), &bytes)?,
-        answer: bytes_of(alloc, answer.0, b"")?,
+        request: request_bytes(rt.alloc(), request.as_str(), word)?,
+        answer: bytes_of(rt.alloc(), answer.0)?,
         has_answer_above: answer.1,
     };
     play_case(rt, tally, &case)
@@ -71,7 +75,7 @@ fn play_words(
 fn play_sessions(rt: &HostRuntime, tally: &mut Tally, block: &Block) -> io::Result<()> {
     for session in &block.sessions {
         let (record, want) = parted(session.as_str());
-        let bytes = bytes_of(rt.alloc(), record, b"")?;
+        let bytes = bytes_of(rt.alloc(), record)?;
         let got = last_line(rt.alloc(), block, &bytes)?;
         compare(rt, tally, record, got.as_str(), want)?;
     }

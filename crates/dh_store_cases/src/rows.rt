@@ -1,8 +1,7 @@
 //! Rows and the records that they are.
 
-use dh_agency_test_kit::{compare, parted};
 use dh_rows::{Meta, Record};
-use dh_test_kit::{Row as Words, Tally, ToLine, Unreadable, row_of};
+use dh_test_kit::{Row as Words, Tally, ToLine, Unreadable, compare, parted, row_of};
 use dh_types::{
     Branch, BranchFee, Charge, Client, Ending, Inspection, Lease, Owner, Part, PartFee, Property,
     Receipt, Registration, Run, Staff, Version, Viewing,
@@ -36,22 +35,6 @@ fn months(alloc: Global, row: &Row) -> Result<String, AllocError> {
     }
 }
 
-// What the row is of those that come with a lease, or of meta.
-fn lease_row_as(alloc: Global, kind: &str, row: &Row) -> Result<String, AllocError> {
-    match kind {
-        "lease" => read::<Lease>(alloc, row),
-        "ending" => read::<Ending>(alloc, row),
-        "charge" => read::<Charge>(alloc, row),
-        "receipt" => read::<Receipt>(alloc, row),
-        "run" => read::<Run>(alloc, row),
-        "part" => read::<Part>(alloc, row),
-        "branch fee" => read::<BranchFee>(alloc, row),
-        "part fee" => read::<PartFee>(alloc, row),
-        "meta" => months(alloc, row),
-        _ => "no kind".to_string(alloc),
-    }
-}
-
 fn row_as(alloc: Global, kind: &str, row: &Row) -> Result<String, AllocError> {
     match kind {
         "branch" => read::<Branch>(alloc, row),
@@ -62,7 +45,16 @@ fn row_as(alloc: Global, kind: &str, row: &Row) -> Result<String, AllocError> {
         "registration" => read::<Registration>(alloc, row),
         "viewing" => read::<Viewing>(alloc, row),
         "inspection" => read::<Inspection>(alloc, row),
-        _ => lease_row_as(alloc, kind, row),
+        "lease" => read::<Lease>(alloc, row),
+        "ending" => read::<Ending>(alloc, row),
+        "charge" => read::<Charge>(alloc, row),
+        "receipt" => read::<Receipt>(alloc, row),
+        "run" => read::<Run>(alloc, row),
+        "part" => read::<Part>(alloc, row),
+        "branch fee" => read::<BranchFee>(alloc, row),
+        "part fee" => read::<PartFee>(alloc, row),
+        "meta" => months(alloc, row),
+        _ => "no kind".to_string(alloc),
     }
 }
 
@@ -107,24 +99,6 @@ fn back<R: Record + ToLine + Drop, S: Alter>(
     }
 }
 
-fn lease_back<S: Alter>(
-    alloc: Global,
-    conn: &mut Connection<S>,
-    words: &Words,
-) -> Result<String, AllocError> {
-    match words {
-        Words::Lease(it) => back(alloc, conn, it),
-        Words::Ending(it) => back(alloc, conn, it),
-        Words::Charge(it) => back(alloc, conn, it),
-        Words::Receipt(it) => back(alloc, conn, it),
-        Words::Run(it) => back(alloc, conn, it),
-        Words::Part(it) => back(alloc, conn, it),
-        Words::BranchFee(it) => back(alloc, conn, it),
-        Words::PartFee(it) => back(alloc, conn, it),
-        _ => "no record".to_string(alloc),
-    }
-}
-
 fn row_back<S: Alter>(
     alloc: Global,
     conn: &mut Connection<S>,
@@ -139,7 +113,15 @@ fn row_back<S: Alter>(
         Words::Registration(it) => back(alloc, conn, it),
         Words::Viewing(it) => back(alloc, conn, it),
         Words::Inspection(it) => back(alloc, conn, it),
-        _ => lease_back(alloc, conn, words),
+        Words::Lease(it) => back(alloc, conn, it),
+        Words::Ending(it) => back(alloc, conn, it),
+        Words::Charge(it) => back(alloc, conn, it),
+        Words::Receipt(it) => back(alloc, conn, it),
+        Words::Run(it) => back(alloc, conn, it),
+        Words::Part(it) => back(alloc, conn, it),
+        Words::BranchFee(it) => back(alloc, conn, it),
+        Words::PartFee(it) => back(alloc, conn, it),
+        Words::Next(_) => "no record".to_string(alloc),
     }
 }
 

@@ -1,13 +1,15 @@
 //! Sessions of drawn lines, told to an agency in memory and to the plain program.
 
-use crate::books::{answer_line as plainly_told, compare_books, empty};
+use crate::books::compare_books;
 use crate::drawn_lines::Draw;
 use dh_agency::Agency;
-use dh_agency_test_kit::{compare, in_memory, reply_line};
+use dh_agency_test_kit::{in_memory, reply_line};
+use dh_book_cases::{answer_line as plainly_told, empty};
 use dh_leases::whole;
 use dh_rules::Books;
 use dh_schema::load;
-use dh_test_kit::Tally;
+use dh_test_kit::{Tally, compare};
+use dh_types::Version;
 use sqlite::{Alter, Connection};
 use std::alloc::{AllocError, Global};
 use std::io;
@@ -115,7 +117,7 @@ fn play_session(
     replies: &mut String,
     lines: &[String],
 ) -> io::Result<()> {
-    let mut books = empty(rt.alloc());
+    let mut books = empty(rt.alloc(), Version::Second);
     tell_both(rt, tally, &mut books, replies, lines)
 }
 

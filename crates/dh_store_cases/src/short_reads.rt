@@ -1,9 +1,9 @@
 //! Steps under a limit at which whole tables can't be read.
 
 use dh_agency::{Agency, NotOpened, create};
-use dh_agency_test_kit::{compare, load_text, reply_line};
+use dh_agency_test_kit::{load_text, reply_line};
 use dh_schema::install;
-use dh_test_kit::{Tally, january};
+use dh_test_kit::{Tally, compare, january, parted};
 use sqlite::{Alter, Connection, MemStore, params};
 use std::alloc::{AllocError, Global};
 use std::io;
@@ -95,7 +95,7 @@ fn compare_lines<S: Alter>(
     lines: &str,
 ) -> io::Result<()> {
     for line in lines.lines() {
-        let (words, want) = line.split_once(" -> ").unwrap_or((line, ""));
+        let (words, want) = parted(line);
         let got = reply_line(rt.alloc(), agency, words)?;
         compare(rt, tally, words, got.as_str(), want)?;
     }

@@ -3,10 +3,18 @@
 use crate::lists::{add_part, lines_of, or_none};
 use dh_types::{
     Answer, Arrears, Charge, Debt, OwnerLine, OwnerStatement, Part, Property, Receipt, RunReport,
-    Statement,
+    Statement, Version,
 };
 use std::alloc::{AllocError, Global};
 use std::fmt::Write;
+
+/// `first` or `second`.
+pub fn version_name(version: Version) -> &'static str {
+    match version {
+        Version::First => "first",
+        Version::Second => "second",
+    }
+}
 
 /// The numbers of the properties, or `none`.
 pub fn numbers_of(alloc: Global, properties: &[Property]) -> Result<String, AllocError> {

@@ -12,6 +12,9 @@
 mod account_rows;
 mod answers;
 mod copies;
+mod differences;
+pub mod ends;
+mod escapes;
 mod fields;
 mod first_month;
 mod lists;
@@ -22,14 +25,16 @@ mod scripts;
 mod tally;
 mod unreadable;
 
-pub use answers::{answer_text, numbers_of};
+pub use answers::{answer_text, numbers_of, version_name};
 pub use copies::copy_of;
+pub use differences::compare;
+pub use escapes::{bytes_of, lines_told, spelled};
 pub use fields::Fields;
 pub use first_month::january;
 pub use lists::{add_part, all_lines, lines_of, or_none};
 pub use requests::{command, command_if_any, request, request_if_any};
 pub use row_lines::ToLine;
 pub use rows::{Row, row_of};
-pub use scripts::{Block, Manner, blocks_in, script};
+pub use scripts::{Block, Manner, blocks_in, parted, script};
 pub use tally::Tally;
 pub use unreadable::{Answer, Unreadable};

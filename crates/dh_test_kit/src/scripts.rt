@@ -1,6 +1,7 @@
 //! Blocks of lines under headings.
 
 use crate::Unreadable;
+use crate::escapes::lines_told;
 use dh_types::Version;
 use std::alloc::{AllocError, Global};
 
@@ -21,16 +22,34 @@ pub enum Manner {
 
 /// Lines under one heading, which is `== NAME`, and behind commas `after NAME` of a block above it and the manner. Books begin
 /// with 2025-01 and no row; they are of the second version, but behind `of the first version`. Between blocks may stand empty
-/// lines, and lines of words behind `#`. A line `99 times from 102: property,P{n},.. -> ok` stands for 99 lines with the numbers
-/// from 102 on. A line that begins with `/ ` goes on with the one above it.
+/// lines, and lines of words behind `#`. A line that is a repetition, as `~(102..200 property,P{n},.. -> ok~)`, stands for its lines.
+/// One that begins with `/ ` goes on with the one above it.
 #[derive(Drop)]
 pub struct Block {
     pub name: String,
     pub manner: Manner,
     pub version: Version,
-    /// The lines of the blocks that it stands after, the first block's first.
-    pub before: Vec<String>,
-    pub lines: Vec<String>,
+    /// The lines of the blocks that it stands after, the first block's first, and then its own.
+    pub all: Vec<String>,
+    /// How many of them are of other blocks.
+    begin: usize,
+}
+
+impl Block {
+    /// The lines of the blocks that it stands after.
+    pub fn before(&self) -> &[String] {
+        self.all.get(..self.begin).unwrap_or(&[])
+    }
+
+    /// Its own lines.
+    pub fn lines(&self) -> &[String] {
+        self.all.get(self.begin..).unwrap_or(&[])
+    }
+}
+
+/// The words of a line, and what is wanted.
+pub fn parted(line: &str) -> (&str, &str) {
+    line.split_once(" -> ").unwrap_or((line, "no arrow"))
 }
 
 /// The blocks of a text, between which stand empty lines: the first line of each, which has its kind, and the others.
@@ -40,13 +59,6 @@ pub fn blocks_in(alloc: Global, text: &str) -> Result<Vec<(&str, &str)>, AllocEr
         blocks.push(block.split_once('\n').unwrap_or((block, "")))?;
     }
     Ok(blocks)
-}
-
-fn add_copies(alloc: Global, lines: &mut Vec<String>, more: &[String]) -> Result<(), AllocError> {
-    for line in more {
-        lines.push(line.as_str().to_string(alloc)?)?;
-    }
-    Ok(())
 }
 
 // The block that is named so.
@@ -59,17 +71,17 @@ fn named<'a>(blocks: &'a [Block], name: &str) -> Result<&'a Block, Unreadable> {
     Err(Unreadable)
 }
 
-// Puts the lines that the word of a heading tells before the block.
+// Adds the lines of the block that the word of a heading names.
 fn put_before(
     alloc: Global,
-    before: &mut Vec<String>,
+    lines: &mut Vec<String>,
     blocks: &[Block],
     word: &str,
 ) -> Result<(), Unreadable> {
     let name = word.strip_prefix("after ").ok_or(Unreadable)?;
-    let block = named(blocks, name)?;
-    add_copies(alloc, before, &block.before)?;
-    add_copies(alloc, before, &block.lines)?;
+    for line in &named(blocks, name)?.all {
+        lines.push(line.as_str().to_string(alloc)?)?;
+    }
     Ok(())
 }
 
@@ -83,66 +95,36 @@ fn manner_of(word: &str) -> Option<Manner> {
     }
 }
 
-// Adds what the words of a heading say behind its name.
-fn add_words(
+// Adds what a word of the heading says of the block.
+fn add_word(
     alloc: Global,
     block: &mut Block,
     blocks: &[Block],
-    words: &str,
+    word: &str,
 ) -> Result<(), Unreadable> {
-    for word in words.split(", ") {
-        match (word, manner_of(word)) {
-            ("of the first version", _) => block.version = Version::First,
-            (_, Some(manner)) => block.manner = manner,
-            (_, None) => put_before(alloc, &mut block.before, blocks, word)?,
-        }
+    match (word, manner_of(word)) {
+        ("of the first version", _) => block.version = Version::First,
+        (_, Some(manner)) => block.manner = manner,
+        (_, None) => put_before(alloc, &mut block.all, blocks, word)?,
     }
     Ok(())
 }
 
-fn without_lines(alloc: Global, name: &str) -> Result<Block, AllocError> {
-    Ok(Block {
-        name: name.to_string(alloc)?,
+// The block of the heading, without its own lines.
+fn headed(alloc: Global, blocks: &[Block], heading: &str) -> Result<Block, Unreadable> {
+    let mut words = heading.split(", ");
+    let mut block = Block {
+        name: words.next().unwrap_or("").to_string(alloc)?,
         manner: Manner::InTurn,
         version: Version::Second,
-        before: Vec::new(alloc),
-        lines: Vec::new(alloc),
-    })
-}
-
-// The block of the heading, without its lines.
-fn headed(alloc: Global, blocks: &[Block], heading: &str) -> Result<Block, Unreadable> {
-    let Some((name, words)) = heading.split_once(", ") else {
-        return Ok(without_lines(alloc, heading)?);
+        all: Vec::new(alloc),
+        begin: 0,
     };
-    let mut block = without_lines(alloc, name)?;
-    add_words(alloc, &mut block, blocks, words)?;
+    for word in words {
+        add_word(alloc, &mut block, blocks, word)?;
+    }
+    block.begin = block.all.len();
     Ok(block)
-}
-
-// Adds the line so many times, with the numbers from the first on.
-fn add_numbered(
-    alloc: Global,
-    lines: &mut Vec<String>,
-    times: &str,
-    first: &str,
-    line: &str,
-) -> Result<(), Unreadable> {
-    let first = first.parse::<u32>()?;
-    for number in 0..times.parse::<u32>()? {
-        let number = first.saturating_add(number).to_string(alloc)?;
-        lines.push(line.replace(alloc, "{n}", number.as_str())?)?;
-    }
-    Ok(())
-}
-
-fn add_line(alloc: Global, lines: &mut Vec<String>, line: &str) -> Result<(), Unreadable> {
-    if let Some((times, rest)) = line.split_once(" times from ") {
-        let (first, line) = rest.split_once(": ").ok_or(Unreadable)?;
-        return add_numbered(alloc, lines, times, first, line);
-    }
-    lines.push(line.to_string(alloc)?)?;
-    Ok(())
 }
 
 // Goes on with the last line.
@@ -165,9 +147,12 @@ fn add(alloc: Global, blocks: &mut Vec<Block>, line: &str) -> Result<(), Unreada
     }
     let block = blocks.last_mut().ok_or(Unreadable)?;
     if line.starts_with("/ ") {
-        return go_on(&mut block.lines, line);
+        return go_on(&mut block.all, line);
     }
-    add_line(alloc, &mut block.lines, line)
+    for told in lines_told(alloc, line)? {
+        block.all.push(told)?;
+    }
+    Ok(())
 }
 
 /// The blocks of the text; an error where a heading names no block above it or no manner, or a line stands above the first.

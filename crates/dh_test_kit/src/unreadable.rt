@@ -2,6 +2,7 @@
 
 use dh_types::BadText;
 use std::alloc::{AllocError, AllocFailed};
+use std::io;
 use std::num::ParseIntError;
 
 /// A line that can't be read, or want of memory.
@@ -32,5 +33,11 @@ impl From<ParseIntError> for Unreadable {
 impl From<BadText> for Unreadable {
     fn from(_error: BadText) -> Unreadable {
         Unreadable
+    }
+}
+
+impl From<Unreadable> for io::Error {
+    fn from(_error: Unreadable) -> io::Error {
+        io::ErrorKind::InvalidData.into()
     }
 }

@@ -1,6 +1,6 @@
 //! What is said of the cases.
 
-use dh_test_kit::Tally;
+use crate::Tally;
 use std::io;
 
 /// Counts the case, and prints it with its answer where that is not the one wanted.
