@@ -38,37 +38,25 @@ fn sum(counts: &[usize]) -> usize {
     sum
 }
 
-fn people(books: &Books) -> usize {
+fn row_count(books: &Books) -> usize {
     sum(&[
         books.branches().count(),
         books.staff().count(),
         books.owners().count(),
         books.clients().count(),
-    ])
-}
-
-fn properties(books: &Books) -> usize {
-    sum(&[
         books.properties().count(),
         books.registrations().count(),
         books.viewings().count(),
         books.inspections().count(),
-    ])
-}
-
-fn leases(books: &Books) -> usize {
-    sum(&[
         books.leases().count(),
         books.endings().count(),
         books.charges().count(),
         books.receipts().count(),
         books.runs().count(),
         books.parts().count(),
+        books.branch_fees().count(),
+        books.part_fees().count(),
     ])
-}
-
-fn fees(books: &Books) -> usize {
-    sum(&[books.branch_fees().count(), books.part_fees().count()])
 }
 
 // What stands behind a text of books or tables of this version: nothing of the second.
@@ -81,7 +69,7 @@ fn of_the_version(alloc: Global, version: Version) -> Result<String, AllocError>
 
 /// How many rows the books have, and of which version they are where it is not the second.
 pub(crate) fn books_loaded_text(alloc: Global, books: &Books) -> Result<String, AllocError> {
-    let rows = sum(&[people(books), properties(books), leases(books), fees(books)]);
+    let rows = row_count(books);
     let version = of_the_version(alloc, books.version())?;
     format!(in alloc; "{rows} rows{}", version.as_str())
 }

@@ -5,11 +5,6 @@ use crate::runs::run_program;
 use dh_test_kit::{Tally, compare};
 use std::{fs, io, str};
 
-// The file that the calls name, and its log.
-const FILE: &str = "office.db";
-
-const LOG: &str = "office.db-wal";
-
 // A call as it is typed.
 #[derive(Clone, Copy)]
 struct Call<'a> {
@@ -71,12 +66,6 @@ fn shown(rt: &HostRuntime, call: Call<'_>) -> io::Result<Vec<u8>> {
         out.extend_from_slice(code.as_bytes())?;
     }
     Ok(out)
-}
-
-/// Takes the file away.
-pub fn clear(rt: &HostRuntime) {
-    let _ = fs::remove_file(rt, FILE);
-    let _ = fs::remove_file(rt, LOG);
 }
 
 /// Plays the calls of a block, one after the other, on the file that is there.

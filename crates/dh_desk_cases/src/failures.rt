@@ -5,6 +5,7 @@ use crate::lives::tables;
 use crate::runs::{LOG, PATH, clear, input_of, run_program};
 use dh_test_kit::ends::{FailingReader, FailingWriter, InterruptedReader, InterruptedWriter};
 use dh_test_kit::{Tally, parted, spelled};
+use std::io::{Read, Write};
 use std::{fs, io, str};
 
 // Of the calls of a run on a file every so many is interrupted, since such a run waits for the disk.
@@ -45,6 +46,16 @@ struct Case<'a> {
     at: usize,
 }
 
+impl<'a> CallLine<'a> {
+    fn case(&self, way: &'a str, at: usize) -> Case<'a> {
+        Case {
+            words: self.words,
+            way,
+            at,
+        }
+    }
+}
+
 // The bytes of the file, none where there is no file.
 fn kept(rt: &HostRuntime) -> io::Result<Vec<u8>> {
     if fs::exists(rt, PATH)? {
@@ -69,18 +80,24 @@ fn standing_tables(rt: &HostRuntime) -> io::Result<String> {
     Ok("no file".to_string(rt.alloc())?)
 }
 
-fn run_of(rt: &HostRuntime, words: &str, input: &str) -> io::Result<Ran> {
-    let mut reader = input.as_bytes();
+// A run with this reader over the file of these bytes.
+fn run_over<R: Read>(
+    rt: &HostRuntime,
+    before: &[u8],
+    words: &str,
+    reader: &mut R,
+) -> io::Result<Ran> {
+    put_back(rt, before)?;
     let mut output = Vec::new(rt.alloc());
-    let code = run_program(rt, words, &mut reader, &mut output)?.code();
+    let code = run_program(rt, words, reader, &mut output)?.code();
     Ok(Ran { code, output })
 }
 
 // What a run leaves where nothing fails.
 fn left_by(rt: &HostRuntime, before: &[u8], words: &str, input: &str) -> io::Result<Left> {
-    put_back(rt, before)?;
+    let mut reader = input.as_bytes();
     Ok(Left {
-        ran: run_of(rt, words, input)?,
+        ran: run_over(rt, before, words, &mut reader)?,
         file: kept(rt)?,
         tables: standing_tables(rt)?,
     })
@@ -186,37 +203,11 @@ fn judge_whole(
 fn play_whole(rt: &HostRuntime, tally: &mut Tally, line: &CallLine) -> io::Result<()> {
     let whole = line.whole.as_str().as_bytes();
     for (at, left) in line.each.iter().enumerate() {
-        let case = Case {
-            words: line.words,
-            way: "of records",
-            at,
-        };
-        note(
-            rt,
-            tally,
-            case,
-            &left.ran,
-            whole.starts_with(&left.ran.output),
-        )?;
+        let is_begun = whole.starts_with(&left.ran.output);
+        note(rt, tally, line.case("of records", at), &left.ran, is_begun)?;
     }
     let left = left_by(rt, &line.before, line.words, line.input.as_str())?;
-    let case = Case {
-        words: line.words,
-        way: "whole",
-        at: 0,
-    };
-    judge_whole(rt, tally, case, Some(&left.ran), line)
-}
-
-fn read_failing(rt: &HostRuntime, line: &CallLine, reads: usize) -> io::Result<Ran> {
-    put_back(rt, &line.before)?;
-    let mut reader = FailingReader {
-        inner: line.input.as_bytes(),
-        reads: reads as u64,
-    };
-    let mut output = Vec::new(rt.alloc());
-    let code = run_program(rt, line.words, &mut reader, &mut output)?.code();
-    Ok(Ran { code, output })
+    judge_whole(rt, tally, line.case("whole", 0), Some(&left.ran), line)
 }
 
 // A run that reads so many bytes and then fails: status 3, and what the records leave that were read to their ends.
@@ -227,34 +218,18 @@ fn play_read(
     reads: usize,
     want: &Left,
 ) -> io::Result<()> {
-    let got = read_failing(rt, line, reads)?;
-    let case = Case {
-        words: line.words,
-        way: "after reads",
-        at: reads,
+    let mut reader = FailingReader {
+        inner: line.input.as_bytes(),
+        reads: reads as u64,
     };
+    let got = run_over(rt, &line.before, line.words, &mut reader)?;
     let end = (Some(3), want.ran.output.as_slice());
-    judge(rt, tally, case, &got, end, want)
+    judge(rt, tally, line.case("after reads", reads), &got, end, want)
 }
 
 // Whether the call behind so many is interrupted in a run of its own.
 fn is_to_interrupt(line: &CallLine, calls: usize) -> bool {
     !line.words.contains("--file") || calls % FILE_STEP == 0
-}
-
-// How it ends, where the call came that was to be interrupted.
-fn read_interrupted(rt: &HostRuntime, line: &CallLine, reads: usize) -> io::Result<Option<Ran>> {
-    put_back(rt, &line.before)?;
-    let mut reader = InterruptedReader {
-        inner: line.input.as_bytes(),
-        calls: (reads as u64).saturating_add(1),
-    };
-    let mut output = Vec::new(rt.alloc());
-    let code = run_program(rt, line.words, &mut reader, &mut output)?.code();
-    if reader.calls > 0 {
-        return Ok(None);
-    }
-    Ok(Some(Ran { code, output }))
 }
 
 // A run whose read behind so many is interrupted.
@@ -264,13 +239,14 @@ fn play_interrupted_read(
     line: &CallLine,
     reads: usize,
 ) -> io::Result<()> {
-    let got = read_interrupted(rt, line, reads)?;
-    let case = Case {
-        words: line.words,
-        way: "interrupted after reads",
-        at: reads,
+    let mut reader = InterruptedReader {
+        inner: line.input.as_bytes(),
+        calls: (reads as u64).saturating_add(1),
     };
-    judge_whole(rt, tally, case, got.as_ref(), line)
+    let ran = run_over(rt, &line.before, line.words, &mut reader)?;
+    let got = if reader.calls == 0 { Some(&ran) } else { None };
+    let case = line.case("interrupted after reads", reads);
+    judge_whole(rt, tally, case, got, line)
 }
 
 // Each read in turn fails, and is interrupted, also the one that would find the end.
@@ -317,18 +293,11 @@ fn answering(each: &[Left], writes: usize) -> Option<&Left> {
     None
 }
 
-fn write_failing(rt: &HostRuntime, line: &CallLine, writes: usize) -> io::Result<Ran> {
+// A run with this writer. How it ends.
+fn run_to<W: Write>(rt: &HostRuntime, line: &CallLine, writer: &mut W) -> io::Result<u8> {
     put_back(rt, &line.before)?;
     let mut reader = line.input.as_bytes();
-    let mut writer = FailingWriter {
-        inner: Vec::new(rt.alloc()),
-        writes: writes as u64,
-    };
-    let code = run_program(rt, line.words, &mut reader, &mut writer)?.code();
-    Ok(Ran {
-        code,
-        output: writer.inner,
-    })
+    Ok(run_program(rt, line.words, &mut reader, writer)?.code())
 }
 
 // A run whose writer takes so many bytes and then fails: this status, and a beginning of what is wanted.
@@ -340,31 +309,24 @@ fn play_write(
     writes: usize,
     want: &Left,
 ) -> io::Result<()> {
-    let got = write_failing(rt, line, writes)?;
-    let output = want.ran.output.as_slice();
-    let case = Case {
-        words: line.words,
-        way: "after writes",
-        at: writes,
-    };
-    let end = (Some(code), output.get(..writes).unwrap_or(output));
-    judge(rt, tally, case, &got, end, want)
-}
-
-// How it ends, where the call came that was to be interrupted.
-fn write_interrupted(rt: &HostRuntime, line: &CallLine, writes: usize) -> io::Result<Option<Ran>> {
-    put_back(rt, &line.before)?;
-    let mut reader = line.input.as_bytes();
-    let mut writer = InterruptedWriter {
+    let mut writer = FailingWriter {
         inner: Vec::new(rt.alloc()),
-        calls: (writes as u64).saturating_add(1),
+        writes: writes as u64,
     };
-    let code = run_program(rt, line.words, &mut reader, &mut writer)?.code();
-    if writer.calls > 0 {
-        return Ok(None);
-    }
-    let output = writer.inner;
-    Ok(Some(Ran { code, output }))
+    let got = Ran {
+        code: run_to(rt, line, &mut writer)?,
+        output: writer.inner,
+    };
+    let output = want.ran.output.as_slice();
+    let end = (Some(code), output.get(..writes).unwrap_or(output));
+    judge(
+        rt,
+        tally,
+        line.case("after writes", writes),
+        &got,
+        end,
+        want,
+    )
 }
 
 // A run whose write behind so many is interrupted.
@@ -374,13 +336,19 @@ fn play_interrupted_write(
     line: &CallLine,
     writes: usize,
 ) -> io::Result<()> {
-    let got = write_interrupted(rt, line, writes)?;
-    let case = Case {
-        words: line.words,
-        way: "interrupted after writes",
-        at: writes,
+    let mut writer = InterruptedWriter {
+        inner: Vec::new(rt.alloc()),
+        calls: (writes as u64).saturating_add(1),
     };
-    judge_whole(rt, tally, case, got.as_ref(), line)
+    let code = run_to(rt, line, &mut writer)?;
+    let InterruptedWriter { inner, calls } = writer;
+    let ran = Ran {
+        code,
+        output: inner,
+    };
+    let got = if calls == 0 { Some(&ran) } else { None };
+    let case = line.case("interrupted after writes", writes);
+    judge_whole(rt, tally, case, got, line)
 }
 
 // Each write in turn fails, and is interrupted.

@@ -2,8 +2,9 @@
 //! `lines after NAME` the lines of `examples/NAME.csv` come before, and its answers before those of the block. A block of a terminal begins with
 //! `console`, where it begins without a file, and with `console, going on` where it goes on with that of the block before.
 
-use crate::consoles::{clear, play_console};
+use crate::consoles::play_console;
 use crate::manual::{bytes_of, compare_answers};
+use crate::runs::clear;
 use dh_test_kit::Tally;
 use std::{fs, io};
 

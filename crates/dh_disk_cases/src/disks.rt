@@ -64,6 +64,14 @@ struct Promise<'a> {
     tables: &'a [String],
 }
 
+// The tables found, where they are not as promised.
+fn kept<'a>(promise: Promise<'_>, found: &'a str) -> &'a str {
+    if is_kept(promise, found) {
+        return "kept";
+    }
+    found
+}
+
 // Whether the tables found are those after what was acknowledged, or after the step that the failure cut.
 fn is_kept(promise: Promise<'_>, found: &str) -> bool {
     let Told::Acknowledged(count) = promise.told else {
@@ -120,18 +128,13 @@ fn play_second_failure<D: TrialDisk>(
     let tables = found_in_turn(rt.alloc(), again, Work::Recover, last)?;
     let answer = answer?;
     let is_ended = is_kept(promise, answer.as_str());
-    let got = if is_ended || is_failure::<D>(rt.alloc(), answer.as_str())? {
-        "as wanted"
-    } else {
-        answer.as_str()
-    };
-    failure.compare::<D>(rt, tally, got, "as wanted")?;
-    let got = if is_kept(promise, tables.as_str()) {
+    let got = if is_failure::<D>(rt.alloc(), answer.as_str())? {
         "kept"
     } else {
-        tables.as_str()
+        kept(promise, answer.as_str())
     };
     failure.compare::<D>(rt, tally, got, "kept")?;
+    failure.compare::<D>(rt, tally, kept(promise, tables.as_str()), "kept")?;
     Ok(is_ended)
 }
 
@@ -187,12 +190,7 @@ fn play_failure<D: TrialDisk>(
         play_second_failures(rt, tally, which, measure, promise, &mut left, last)?;
     }
     let tables = found_in_turn(rt.alloc(), left, trial.work, last)?;
-    let got = if is_kept(promise, tables.as_str()) {
-        "kept"
-    } else {
-        tables.as_str()
-    };
-    failure.compare::<D>(rt, tally, got, "kept")?;
+    failure.compare::<D>(rt, tally, kept(promise, tables.as_str()), "kept")?;
     Ok(!is_whole(told, trial.lines))
 }
 
@@ -235,11 +233,11 @@ fn play_whole<D: TrialDisk>(
     let (told, left) = told_on(rt.alloc(), files, lines);
     let tables = found(rt.alloc(), left, Work::Look)?;
     let got = if is_whole(told, lines) {
-        "as wanted"
+        "told"
     } else {
-        "otherwise"
+        "not told"
     };
-    compare(rt, tally, block.name.as_str(), got, "as wanted")?;
+    compare(rt, tally, block.name.as_str(), got, "told")?;
     compare_tables(rt, tally, block, tables.as_str())
 }
 
