@@ -1,5 +1,6 @@
 //! Agencies that are told lines.
 
+use crate::rows::all_rows;
 use dh_agency::{Agency, NotOpened, create};
 use dh_runs::RunState;
 use dh_test_kit::{Unreadable, answer_text, january, request};
@@ -13,6 +14,14 @@ pub fn in_memory(alloc: Global) -> Result<Option<Agency<MemStore>>, AllocError> 
         Ok(agency) => Ok(Some(agency)),
         Err(NotOpened { cause: _, conn: _ }) => Ok(None),
     }
+}
+
+/// The rows of the tables that the agency leaves.
+pub fn tables_of<S: Alter + Drop>(alloc: Global, agency: Agency<S>) -> Result<String, AllocError> {
+    let mut conn = agency.into_store();
+    let tables = all_rows(alloc, &mut conn);
+    drop(conn);
+    tables
 }
 
 /// The text of what a command is answered.

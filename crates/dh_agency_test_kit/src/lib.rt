@@ -13,7 +13,7 @@ mod scripts;
 mod sound;
 mod tables;
 
-pub use agencies::{in_memory, reply_line};
+pub use agencies::{in_memory, reply_line, tables_of};
 pub use batches::batch_text;
 pub use books::books_text;
 pub use calls::line_over;

@@ -1,7 +1,7 @@
 //! Scripts that agencies are told. A line `rows,TABLE -> ..` is compared in the end, with the rows of the table.
 
-use crate::agencies::{in_memory, reply_line};
-use crate::rows::{all_rows, rows_of};
+use crate::agencies::{in_memory, reply_line, tables_of};
+use crate::rows::rows_of;
 use dh_agency::Agency;
 use dh_test_kit::{Block, Tally, compare, parted, script};
 use sqlite::Alter;
@@ -77,9 +77,7 @@ fn play(rt: &HostRuntime, tally: &mut Tally, block: &Block) -> io::Result<()> {
         return compare(rt, tally, block.name.as_str(), "no agency", "an agency");
     };
     let ended = tell(rt, tally, &mut agency, block);
-    let mut conn = agency.into_store();
-    let tables = all_rows(rt.alloc(), &mut conn);
-    drop(conn);
+    let tables = tables_of(rt.alloc(), agency);
     ended?;
     compare_tables(rt, tally, block, tables?.as_str())
 }

@@ -7,7 +7,7 @@
 
 use crate::ways::{Way, outcome_line, wanted};
 use dh_agency::Agency;
-use dh_agency_test_kit::{all_rows, compare_tables, in_memory, table_of, told_next};
+use dh_agency_test_kit::{all_rows, compare_tables, in_memory, table_of, tables_of, told_next};
 use dh_test_kit::{Block, Manner, Tally, compare, parted, script};
 use sqlite::{Alter, Connection};
 use sqlite_trees::store::Reopen;
@@ -83,9 +83,7 @@ fn play_way(
     };
     calls.add(1, "made");
     let ended = tell(rt, tally, calls, &mut agency, way, &block.all);
-    let mut conn = agency.into_store();
-    let tables = all_rows(rt.alloc(), &mut conn);
-    drop(conn);
+    let tables = tables_of(rt.alloc(), agency);
     ended?;
     compare_tables(rt, tally, block, tables?.as_str())
 }

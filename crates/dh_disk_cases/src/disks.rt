@@ -4,7 +4,7 @@ use crate::disk_work::{
     Finding, Told, Work, acknowledged, found, found_in_turn, is_failure, text_on, told_on,
 };
 use crate::trial_disks::{Failure, Full, TrialDisk};
-use dh_agency_test_kit::{all_rows, compare_tables, in_memory, reply_line, table_of};
+use dh_agency_test_kit::{all_rows, compare_tables, in_memory, reply_line, table_of, tables_of};
 use dh_lives::{Measures, Stopping, Which, copy_of, no_files};
 use dh_test_kit::{Block, Tally, compare, parted, script};
 use sqlite::{Connection, Files};
@@ -30,9 +30,7 @@ pub fn tables_after(alloc: Global, lines: &[String], work: Work<'_>) -> Result<S
     if matches!(work, Work::Recover) {
         let _reply = reply_line(alloc, &mut agency, "post,1000000");
     }
-    let mut conn = agency.into_store();
-    let tables = all_rows(alloc, &mut conn);
-    drop(conn);
+    let tables = tables_of(alloc, agency);
     acknowledged?;
     tables
 }

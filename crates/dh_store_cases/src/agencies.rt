@@ -2,7 +2,7 @@
 
 use crate::blocks::Block;
 use dh_agency::Agency;
-use dh_agency_test_kit::{all_rows, in_memory};
+use dh_agency_test_kit::in_memory;
 use dh_http::{NetFault, serve_one};
 use dh_lines::batch;
 use dh_test_kit::parted;
@@ -100,14 +100,6 @@ pub fn agency_behind(alloc: Global, block: &Block) -> io::Result<Agency<MemStore
     };
     let _before = batched(alloc, &mut agency, block.records.as_bytes());
     Ok(agency)
-}
-
-/// The rows of the tables that the agency leaves.
-pub fn tables_of<S: Alter + Drop>(alloc: Global, agency: Agency<S>) -> Result<String, AllocError> {
-    let mut conn = agency.into_store();
-    let tables = all_rows(alloc, &mut conn);
-    drop(conn);
-    tables
 }
 
 /// The last line of a batch over a new agency: the records of the block, and then this one.

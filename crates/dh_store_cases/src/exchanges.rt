@@ -1,8 +1,9 @@
 //! Requests played: read whole and byte by byte, with failures and interrupted calls, and over a listener.
 
-use crate::agencies::{Outcome, agency_behind, serve, tables_of};
+use crate::agencies::{Outcome, agency_behind, serve};
 use crate::cases::{Case, Way, end_of, judge, judge_tables};
 use crate::mishaps::{play_interrupted, play_reads, play_writes};
+use dh_agency_test_kit::tables_of;
 use dh_http::serve_one;
 use dh_test_kit::Tally;
 use dh_test_kit::ends::FailingReader;

@@ -1,10 +1,11 @@
 //! Requests of which a call fails or is interrupted, each call in turn, and the tables that are left.
 
-use crate::agencies::{agency_behind, tables_of};
+use crate::agencies::agency_behind;
 use crate::cases::{Case, Way, judge_tables};
 use crate::failing_ends::{play_read_behind, play_write_behind};
 use crate::interrupted_ends::play_interrupted_behind;
 use dh_agency::Agency;
+use dh_agency_test_kit::tables_of;
 use dh_test_kit::Tally;
 use sqlite::{Alter, MemStore};
 use std::io;

@@ -1,9 +1,10 @@
 //! Files of requests of HTTP. Read `Block` first: it says how the cases are written.
 
-use crate::agencies::{agency_behind, last_line, tables_of};
+use crate::agencies::{agency_behind, last_line};
 use crate::blocks::{Block, blocks_of, named};
 use crate::cases::Case;
 use crate::exchanges::play_case;
+use dh_agency_test_kit::tables_of;
 use dh_test_kit::{Tally, Unreadable, bytes_of, compare, parted};
 use std::alloc::Global;
 use std::{fs, io};
