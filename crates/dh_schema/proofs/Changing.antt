@@ -8,9 +8,6 @@ use Rattle.sqlite_catalog.specs.Listing as catalog
 use Rattle.sqlite_trees.specs.Tree.{Trees}
 use Rattle.sqlite.specs.State.{State}
 use Rattle.dh_types.specs.declared.version.Version.{Version}
-use Rattle.dh_model.specs.Books as machine
-use Rattle.dh_model.specs.Runs.{batch_size}
-use Rattle.dh_model.specs.Whole.{run_shown}
 use Rattle.dh_rows.specs.Months.{Months}
 use Rattle.dh_rows.specs.MetaRows.{months_back}
 use Rattle.dh_ddl.specs.Versions.{schema_of}
@@ -30,6 +27,14 @@ use Rattle.dh_schema.proofs.EachKind.{same_books, same_but, same_since, tree_is}
 
 pub told : (months : Months) (trees : Trees) → HasMonths months trees → months_of (meta_rows trees) ≡ months
 told months trees has = ap months_of has.rows_are ∙ months_back months has.grammar
+
+-- setting meta's row leaves each table of the version
+pub set_beside : (months : Months) (version : Version) (before after : State) → before.now.schema ≡ schema_of version → SetsMonths months before after
+    → (kind : Kind) → HasKind version kind → after.now.trees (table_of kind).tree ≡ before.now.trees (table_of kind).tree
+set_beside months version before after has set kind here =
+    set.others (place_of kind) (table_of kind)
+    (subst (λ (s : Schema). slice_get s.tables (place_of kind) ≡ Some (table_of kind)) (sym has) (listed version kind here))
+    (ap (λ n. nat_eq n 0) (tree_is kind) ∙ (beside_meta kind).1)
 
 module _ (s : State) (its : HasItsSchema s) where
   -- each table of the version stands at its place in the schema
@@ -157,9 +162,3 @@ module _ (next : ℕ) (old new : State) (its : HasItsSchema old) (before : AreIn
       ∙ sym (ap (λ (rows : List Row). (months_of rows).first) is.1.rows_are) in
       let later = ap (λ (rows : List Row). (months_of rows).next) set.months_are.rows_are in
       same_but old.now.trees (books_in old.now.trees).first next (version_of_tables old.now.trees) new.now.trees records_go_on first later version_goes_on
-
--- ---- the open run
-
--- loaded books with the open run that they show
-abbrev pub showing : machine.State → machine.State
-showing s = record s { open_run = run_shown batch_size s.books }

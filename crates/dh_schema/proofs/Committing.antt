@@ -23,9 +23,10 @@ use Rattle.dh_schema.proofs.Keyed.{books_are_keyed}
 
 -- from ready tables a crash leaves these, or what was committed since
 pub leaves_either : (old new : State) (after : machine.State) → ((left : Trees) → IsTrue old.is_open → old.may_leave left → left ≡ old.committed.trees)
-    → IsReady old → HasCleanDisk new → Commits old new (λ t. t ≡ after) → Leaves new (λ t. (t ≡ tables old) ⊎ (t ≡ after))
-leaves_either old new after settled ready clean survives left may = elim (survives.crash clean left may) [
+    → (HasCleanDisk old → IsReady old) → HasCleanDisk new → Commits old new (λ t. t ≡ after) → Leaves new (λ t. (t ≡ tables old) ⊎ (t ≡ after))
+leaves_either old new after settled was_ready clean survives left may = elim (survives.crash clean left may) [
   | inl was ↦
+      let ready = was_ready (omega (arith, survives.clean, clean)) in
       let same = settled left ready.is_open was ∙ ap (λ (d : Database). d.trees) (sym ready.settled) in
       (subst IsSound (sym same) ready.sound, inl (ap state_in same))
   | inr made ↦ (made.0, inr made.1)
@@ -43,9 +44,10 @@ sound_after after trees order in_order is =
     )
 
 -- a transaction is begun, rows are put, and it is committed: the tables are these then
-module _ {S : Type 0} (g : Ghosts S) (after : machine.State → machine.State) (x : Unit {0}) (old begun last new : Held S)
+module _ {S : Type 0} (g : Ghosts S) (after : machine.State → machine.State) (x : Unit {0}) (old begun last held new : Held S)
     (is : begun ≡ record old { in_transaction = true }) (order : HasCleanDisk (state g old) → office.IsStateInOrder (after (tables (state g old))))
-    (puts : Puts (after (tables (state g begun))).books (Ok x) (state g begun) (state g last))
+    (puts : Puts (after (tables (state g begun))).books (Ok x) (state g begun) (state g last)) (same : held ≡ new)
+    (commit : Survives (state g last) (state g held) (λ db. db ≡ (state g last).now.trees))
   where
     abbrev After : machine.State → Type 0
     After t = t ≡ after (tables (state g old))
@@ -58,9 +60,15 @@ module _ {S : Type 0} (g : Ghosts S) (after : machine.State → machine.State) (
         let done = moved.put clean in
         sound_after (after (tables (state g old))) (state g last).now.trees (order (omega (arith, below, clean))) done.0.in_order done.1
 
-    pub committed : Survives (state g last) (state g new) (λ db. db ≡ (state g last).now.trees) → Commits (state g old) (state g new) After
-    committed commit = survives_committed g old begun last new (AreTables After) is puts.crash sound commit
+    pub committed : Commits (state g old) (state g new) After
+    committed =
+        subst (λ h. Commits (state g old) (state g h) After) same (survives_committed g old begun last held (AreTables After) is puts.crash sound commit)
 
-    pub ready_with : HasCleanDisk (state g last) → Shows (state g last) (state g new) (state g last).now (state g last).now false
+    pub ready_with : HasCleanDisk (state g new)
+        → (HasCleanDisk (state g held) → Shows (state g last) (state g held) (state g last).now (state g last).now false)
         → IsReady (state g new) × After (tables (state g new))
-    ready_with clean shown = ready_after After (state g last) (state g new) (puts.put clean).0.version shown (sound clean)
+    ready_with clean shown =
+        let done : HasCleanDisk (state g held) = subst (λ h. HasCleanDisk (state g h)) (sym same) clean in
+        let early : HasCleanDisk (state g last) = omega (arith, commit.clean, done) in
+        subst (λ h. IsReady (state g h) × After (tables (state g h))) same
+        (ready_after After (state g last) (state g held) (puts.put early).0.version (shown done) (sound early))

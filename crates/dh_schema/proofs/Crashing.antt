@@ -10,6 +10,17 @@ use Rattle.sqlite.proofs.Callers.{survives_begin}
 use Rattle.dh_model.specs.Books as machine
 use Rattle.dh_schema.specs.Store.{AreTables, IsReady, Leaves, LeavesItsTables, tables}
 
+-- nothing was done
+pub commits_nothing : (s : State) → Survives s s (λ _. ⊥)
+commits_nothing s = record {
+  clean = omega arith;
+  shield = λ shielded. shielded;
+  counts = omega arith;
+  limit = refl;
+  closes = λ _ still. inl still;
+  crash = λ _ left may. inl may;
+}
+
 -- nothing is committed by either
 pub survives_both : (a b c : State) → Survives a b (λ _. ⊥) → Survives b c (λ _. ⊥) → Survives a c (λ _. ⊥)
 survives_both a b c = survives_then a b c _ _ _ (λ _ _ none. none) (λ _ _ none. none)

@@ -20,7 +20,7 @@ use Rattle.dh_schema.proofs.Keyed.{keyed}
 use Rattle.dh_schema.proofs.OfKind.{is_kept}
 use Rattle.dh_schema.proofs.ReadTables.{on_ok}
 use Rattle.dh_schema.proofs.Versions.{has_since}
-use Rattle.dh_schema.specs.Changes.{HasPlace, PutsRows, TurnsInto}
+use Rattle.dh_schema.specs.Changes.{HasPlace, PutsRows, TurnsInto, came_with_rows}
 use Rattle.dh_schema.proofs.Putting.{IsThere, added, amended}
 
 -- ---- the rows of a kind in its table and in the books
@@ -57,28 +57,38 @@ module _ (kind : Kind) (trees : Trees) (since : HasKind (version_of_tables trees
       books_with kind (loaded_from trees) (insert (rows_in (shape_of kind) trees) own it)
       ∙ (λ i. with_records kind (insert (rows_are i) (same i) it) (books_in trees))
 
+-- ---- a change whose rows have a place
+
+module _ (it : Stored) (is : IsKind it) (rows : Change) (came : came_with_rows rows ≡ came_with is.kind) (old : State)
+    (place : HasPlace (version_of_tables old.now.trees) rows) where
+  kind_since : HasKind (version_of_tables old.now.trees) is.kind
+  kind_since = subst (λ came. IsSince came (version_of_tables old.now.trees)) came place
+
+  own_since : IsSince it.since (version_of_tables old.now.trees)
+  own_since = is.by_kind (λ s as_row of_row as_key. IsSince s.since (version_of_tables old.now.trees)) kind_since
+
+  pub place_writing : IsWriting old → IsWritingSince it.since old
+  place_writing writing =
+      record { inside = writing.inside; has = has_since it.since (version_of_tables old.now.trees) old.now.schema writing.version own_since }
+
+  pub place_kept : IsWriting old → IsKept it.shape it.order old.now.trees
+  place_kept writing = is_kept it is old.now.trees writing.in_order own_since
+
+  pub place_apart : IsWriting old → AreApart (old.now.trees it.shape.tree)
+  place_apart writing = is.by_kind (λ s as_row of_row as_key. AreApart (old.now.trees s.shape.tree)) (writing.in_order.tables is.kind kind_since).apart
+
 -- ---- a row that is added
 
 module _ (it : Stored) (is : IsKind it) (rows : Change) (row : it.Row) (edits : edit_of rows ≡ Insert is.kind (is.as_row row)) (old : State) where
-  kind_since : HasPlace (version_of_tables old.now.trees) rows → HasKind (version_of_tables old.now.trees) is.kind
-  kind_since place = subst (λ edit. IsSince (came_with_edit edit) (version_of_tables old.now.trees)) edits place
-
-  own_since : HasPlace (version_of_tables old.now.trees) rows → IsSince it.since (version_of_tables old.now.trees)
-  own_since place = is.by_kind (λ s as_row of_row as_key. IsSince s.since (version_of_tables old.now.trees)) (kind_since place)
-
-  pub add_writing : IsWriting old → HasPlace (version_of_tables old.now.trees) rows → IsWritingSince it.since old
-  add_writing writing place =
-      record { inside = writing.inside; has = has_since it.since (version_of_tables old.now.trees) old.now.schema writing.version (own_since place) }
-
-  pub add_kept : IsWriting old → HasPlace (version_of_tables old.now.trees) rows → IsKept it.shape it.order old.now.trees
-  add_kept writing place = is_kept it is old.now.trees writing.in_order (own_since place)
+  add_since : HasPlace (version_of_tables old.now.trees) rows → HasKind (version_of_tables old.now.trees) is.kind
+  add_since = kind_since it is rows (ap came_with_edit edits) old
 
   pub add_fresh : FitsIn rows (tables old).books → HasPlace (version_of_tables old.now.trees) rows → IsNew it.shape it.order row old
   add_fresh fits place =
       is.by_kind
       (λ s as_row of_row as_key. (new : s.Row) → get (records_of is.kind (tables old).books) (key_in is.kind (as_row new)) ≡ None
       → IsNew s.shape s.order new old)
-      (free_there is.kind old.now.trees (kind_since place)) row (subst (λ edit. CanEdit edit (tables old).books) edits fits)
+      (free_there is.kind old.now.trees (add_since place)) row (subst (λ edit. CanEdit edit (tables old).books) edits fits)
 
   module _ (new : State) (r : Result (Unit {0}) Error) where
     turn : Adds it.shape it.order row old new → Adds (shape_of is.kind) (order_of is.kind) (is.as_row row) old new
@@ -91,8 +101,8 @@ module _ (it : Stored) (is : IsKind it) (rows : Change) (row : it.Row) (edits : 
         → (HasCleanDisk new → OnOk r (StaysInTransaction old new)) → (HasCleanDisk new → OnOk r (Adds it.shape it.order row old new))
         → (HasCleanDisk new → OnErr r (IsUndone old new)) → CommitsNothing old new → PutsRows rows r old new
     add_puts writing place shown adds undone crash =
-        added is.kind _ old new (changed rows) r (λ clean. kind_since (place clean)) writing
-        (λ clean. put_is is.kind old.now.trees (kind_since (place clean)) _ _ (key_is is.kind (is.as_row row)) (is.as_row row)
+        added is.kind _ old new (changed rows) r (λ clean. add_since (place clean)) writing
+        (λ clean. put_is is.kind old.now.trees (add_since (place clean)) _ _ (key_is is.kind (is.as_row row)) (is.as_row row)
         ∙ sym (ap (λ edit. edited edit (tables old).books) edits))
         shown (λ clean. on_ok r turn (adds clean)) undone crash
 
@@ -127,21 +137,7 @@ by_row {is = is} row edits keyed same = record {
 
 module _ (it : Stored) (is : IsKind it) (rows : Change) (key : it.Key) (into : it.Row → it.Row) (turns : TurnsInto is rows key into) (old : State) where
   update_since : HasPlace (version_of_tables old.now.trees) rows → HasKind (version_of_tables old.now.trees) is.kind
-  update_since place = subst (λ came. IsSince came (version_of_tables old.now.trees)) turns.came place
-
-  its_since : HasPlace (version_of_tables old.now.trees) rows → IsSince it.since (version_of_tables old.now.trees)
-  its_since place = is.by_kind (λ s as_row of_row as_key. IsSince s.since (version_of_tables old.now.trees)) (update_since place)
-
-  pub amend_writing : IsWriting old → HasPlace (version_of_tables old.now.trees) rows → IsWritingSince it.since old
-  amend_writing writing place =
-      record { inside = writing.inside; has = has_since it.since (version_of_tables old.now.trees) old.now.schema writing.version (its_since place) }
-
-  pub amend_kept : IsWriting old → HasPlace (version_of_tables old.now.trees) rows → IsKept it.shape it.order old.now.trees
-  amend_kept writing place = is_kept it is old.now.trees writing.in_order (its_since place)
-
-  pub amend_apart : IsWriting old → HasPlace (version_of_tables old.now.trees) rows → AreApart (old.now.trees it.shape.tree)
-  amend_apart writing place =
-      is.by_kind (λ s as_row of_row as_key. AreApart (old.now.trees s.shape.tree)) (writing.in_order.tables is.kind (update_since place)).apart
+  update_since = kind_since it is rows turns.came old
 
   pub amend_there : FitsIn rows (tables old).books → HasPlace (version_of_tables old.now.trees) rows → IsInTable it.shape it.order key old
   amend_there fits place =

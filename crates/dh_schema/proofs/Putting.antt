@@ -1,9 +1,12 @@
 -- Rows that were put into their tables, as a change of the books.
 use Rattle.std.proofs.Common.{◌≡◌, ◌∙◌, ◌+◌, inl, inr, refl, sym, ap, subst, Some, Result, Ok, Err, OnErr, OnOk, arith}
+use Rattle.std.proofs.lemmas.Result.{err_from_is_err_and}
+use Rattle.std.specs.Result.{IsErrAnd}
 use Rattle.std.specs.Ordering.{nat_cmp}
 use Rattle.std.specs.FinMap.{FinMap, get, insert}
 use Rattle.sqlite.specs.declared.error.Error.{Error}
 use Rattle.sqlite.specs.State.{HasCleanDisk, KeepsCommit, State}
+pub use Rattle.sqlite.proofs.InsideLemmas.{keeps_then as keeps_both}
 use Rattle.dh_types.specs.declared.run.Run.{Run}
 use Rattle.dh_model.specs.declared.rows.Change.TheVariants as change
 use Rattle.dh_model.specs.Books.{Books}
@@ -22,7 +25,7 @@ use Rattle.dh_model.specs.Kinds.{Runs}
 use Rattle.dh_schema.specs.Store.{IsWriting, tables}
 use Rattle.dh_schema.specs.Tables.{loaded_from, records_in, version_of_tables}
 use Rattle.dh_schema.proofs.Changing.{books_after, books_with_next, in_order_after, in_order_with_next, schema_after, schema_with_next}
-use Rattle.dh_schema.proofs.Crashing.{survives_both}
+use Rattle.dh_schema.proofs.Crashing.{commits_nothing, survives_both}
 use Rattle.dh_schema.specs.Putting.{Puts, TurnsBooks}
 use Rattle.dh_schema.specs.Changes.{PutsRows}
 
@@ -36,11 +39,26 @@ keeps_commit (Err e) old new on undone = record {
   committed = λ still. elim (undone still) [ inl same ↦ same.0.committed_is | inr back ↦ (back.undone still).1 ];
 }
 
-pub keeps_both : (a b c : State) → KeepsCommit a b → KeepsCommit b c → KeepsCommit a c
-keeps_both a b c one two = record {
-  was_open = λ still. one.was_open (two.was_open still);
-  committed = λ still. two.committed still ∙ one.committed (two.was_open still);
-}
+still_commit : (s : State) → KeepsCommit s s
+still_commit s = record { was_open = λ still. still; committed = λ _. refl }
+
+pub both_ok : {X E A B C : Type 0} (r : Result X E) → (A → B → C) → OnOk r A → OnOk r B → OnOk r C
+both_ok (Ok x) f a b = f a b
+both_ok (Err e) f a b = tt
+
+-- behind what commits nothing this was done, of which the books are what it makes of them
+pub turns_then : {D : Type 0} (turned : Books → Books) (r : Result (Unit {0}) Error) (old mid new : State)
+    → (HasCleanDisk old → HasCleanDisk mid → StaysInTransaction mid new → D → IsWriting new × ((tables new).books ≡ turned (tables old).books))
+    → (HasCleanDisk mid → KeepsCommit old mid) → CommitsNothing old mid → (HasCleanDisk new → OnOk r (StaysInTransaction mid new)) → (HasCleanDisk new → OnOk r D)
+    → (HasCleanDisk new → OnErr r (IsUndone mid new)) → CommitsNothing mid new → TurnsBooks turned r old new
+turns_then turned r old mid new does kept before on done undone after =
+    let both = survives_both old mid new before after in
+    let half : HasCleanDisk new → HasCleanDisk mid = λ clean. omega (arith, after.clean, clean) in
+    record {
+      put = λ clean. both_ok r (does (omega (arith, both.clean, clean)) (half clean)) (on clean) (done clean);
+      kept = λ clean. keeps_both old mid new (kept (half clean)) (keeps_commit r mid new (on clean) (undone clean));
+      crash = both;
+    }
 
 -- ---- one table
 
@@ -68,24 +86,14 @@ module _ (kind : Kind) (records : FinMap (order_of kind) (record_of kind)) (old 
     ap (λ (s : machine.State). s.books) (books_after kind records old new order.version has done),
   )
 
-  on_ok : {X E : Type 0} (turned : Books → Books) (r : Result X E) → Has → IsWriting old → Means turned
-      → OnOk r (StaysInTransaction old new) → OnOk r Turns
-      → OnOk r (IsWriting new × ((tables new).books ≡ turned (tables old).books))
-  on_ok turned (Ok x) has order means on done = let here = put_in has order on done in (here.0, here.1 ∙ means)
-  on_ok turned (Err e) has order means on done = tt
-
   -- a record was added
   pub added : (turned : Books → Books) (r : Result (Unit {0}) Error) → (HasCleanDisk old → Has) → (HasCleanDisk old → IsWriting old)
       → (HasCleanDisk old → Means turned)
       → (HasCleanDisk new → OnOk r (StaysInTransaction old new)) → (HasCleanDisk new → OnOk r Turns) → (HasCleanDisk new → OnErr r (IsUndone old new))
       → CommitsNothing old new → TurnsBooks turned r old new
-  added turned r has writing means on done undone crash = record {
-    put = λ clean.
-        let early : HasCleanDisk old = omega (arith, crash.clean, clean) in
-        on_ok turned r (has early) (writing early) (means early) (on clean) (done clean);
-    kept = λ clean. keeps_commit r old new (on clean) (undone clean);
-    crash = crash;
-  }
+  added turned r has writing means =
+      turns_then turned r old old new (λ early _ on done. let here = put_in (has early) (writing early) on done in (here.0, here.1 ∙ means early))
+      (λ _. still_commit old) (commits_nothing old)
 
 module _ (kind : Kind) (key : key_of kind) (into : record_of kind → record_of kind) (old new : State) where
   abbrev held : FinMap (order_of kind) (record_of kind)
@@ -95,27 +103,17 @@ module _ (kind : Kind) (key : key_of kind) (into : record_of kind → record_of 
   abbrev pub IsThere : (Books → Books) → Type 0
   IsThere turned = (there : record_of kind) × (get held key ≡ Some there) × Means kind (insert held key (into there)) old new turned
 
-  on_ok_there : {X E : Type 0} (turned : Books → Books) (r : Result X E) → HasKind (version_of_tables old.now.trees) kind → IsWriting old → IsThere turned
-      → OnOk r (StaysInTransaction old new)
-      → OnOk r (Amends (shape_of kind) (order_of kind) key into old new)
-      → OnOk r (IsWriting new × ((tables new).books ≡ turned (tables old).books))
-  on_ok_there turned (Ok x) has order it on done =
-      let becomes = becomes_there (shape_of kind) (order_of kind) key into old new in
-      let here = put_in kind (insert held key (into it.0)) old new has order on (becomes done it.0 it.1) in (here.0, here.1 ∙ it.2)
-  on_ok_there turned (Err e) has order it on done = tt
-
   -- a record was changed
   pub amended : (turned : Books → Books) (r : Result (Unit {0}) Error) → (HasCleanDisk old → HasKind (version_of_tables old.now.trees) kind)
       → (HasCleanDisk old → IsWriting old) → (HasCleanDisk old → IsThere turned)
       → (HasCleanDisk new → OnOk r (StaysInTransaction old new)) → (HasCleanDisk new → OnOk r (Amends (shape_of kind) (order_of kind) key into old new))
       → (HasCleanDisk new → OnErr r (IsUndone old new)) → CommitsNothing old new → TurnsBooks turned r old new
-  amended turned r has writing is_there on done undone crash = record {
-    put = λ clean.
-        let early : HasCleanDisk old = omega (arith, crash.clean, clean) in
-        on_ok_there turned r (has early) (writing early) (is_there early) (on clean) (done clean);
-    kept = λ clean. keeps_commit r old new (on clean) (undone clean);
-    crash = crash;
-  }
+  amended turned r has writing is_there =
+      turns_then turned r old old new (λ early _ on done.
+      let it = is_there early in
+      let becomes = becomes_there (shape_of kind) (order_of kind) key into old new done it.0 it.1 in
+      let here = put_in kind (insert held key (into it.0)) old new (has early) (writing early) on becomes in (here.0, here.1 ∙ it.2))
+      (λ _. still_commit old) (commits_nothing old)
 
 -- ---- an opening
 
@@ -141,30 +139,14 @@ module _ (run : Run) (old mid new : State) where
             ∙ ap (λ (books : Books). let it : Books = record books { next = run.month + 1 } in it) first.1,
       )
 
-  on_ok_next : {X E : Type 0} (r : Result X E) → IsWriting old → StaysInTransaction old mid
-      → Adds run_shape nat_cmp run old mid → OnOk r (StaysInTransaction mid new)
-      → OnOk r (SetsNext (run.month + 1) mid new) → OnOk r Opened
-  on_ok_next (Ok x) order on added on_next set = after_both order on added on_next set
-  on_ok_next (Err e) order on added on_next set = tt
-
   -- the row of the run was put, and then the next month set
   pub opened : (r : Result (Unit {0}) Error) → (HasCleanDisk old → IsWriting old) → (HasCleanDisk mid → StaysInTransaction old mid)
       → (HasCleanDisk mid → Adds run_shape nat_cmp run old mid) → CommitsNothing old mid → (HasCleanDisk new → OnOk r (StaysInTransaction mid new))
       → (HasCleanDisk new → OnOk r (SetsNext (run.month + 1) mid new)) → (HasCleanDisk new → OnErr r (IsUndone mid new)) → CommitsNothing mid new
       → PutsRows (change.Open run) r old new
-  opened r writing on added before on_next set undone after =
-      let both = survives_both old mid new before after in
-      record {
-        put = λ clean.
-            let half : HasCleanDisk mid = omega (arith, after.clean, clean) in
-            let early : HasCleanDisk old = omega (arith, both.clean, clean) in
-            on_ok_next r (writing early) (on half) (added half) (on_next clean) (set clean);
-        kept = λ clean.
-            let half : HasCleanDisk mid = omega (arith, after.clean, clean) in
-            let first : KeepsCommit old mid = record { was_open = λ _. (on half).was_open; committed = λ _. (on half).committed_is } in
-            keeps_both old mid new first (keeps_commit r mid new (on_next clean) (undone clean));
-        crash = both;
-      }
+  opened r writing on added =
+      turns_then (changed (change.Open run)) r old mid new (λ early half. after_both (writing early) (on half) (added half))
+      (λ half. keeps_commit {X = Unit {0}} {E = Error} (Ok tt) old mid (on half) tt)
 
 -- where a call failed, nothing is said of the books
 pub puts_none : {books : Books} {r : Result (Unit {0}) Error} {e : Error} {old new : State} → r ≡ Err e → (HasCleanDisk new → KeepsCommit old new)
@@ -175,17 +157,10 @@ puts_none {books = books} {new = new} is kept crash = record {
   crash = crash;
 }
 
+pub puts_failed : (P : Error → Type 0) {books others : Books} {r q : Result (Unit {0}) Error} {old new : State} → IsErrAnd r P → Puts others q old new
+    → Puts books r old new
+puts_failed P {r = r} is puts = puts_none (err_from_is_err_and r is).1 puts.kept puts.crash
+
 -- where there are no rows, they are as they were
 pub nothing_put : {books : Books} (s : State) → (HasCleanDisk s → IsWriting s) → (tables s).books ≡ books → Puts books (Ok tt) s s
-nothing_put s writing same = record {
-  put = λ clean. (writing clean, same);
-  kept = λ clean. record { was_open = λ still. still; committed = λ _. refl };
-  crash = record {
-    clean = omega arith;
-    shield = λ shielded. shielded;
-    counts = omega arith;
-    limit = refl;
-    closes = λ _ still. inl still;
-    crash = λ _ left may. inl may;
-  };
-}
+nothing_put s writing same = record { put = λ clean. (writing clean, same); kept = λ _. still_commit s; crash = commits_nothing s }

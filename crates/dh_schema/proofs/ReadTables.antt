@@ -2,6 +2,7 @@
 use Rattle.std.proofs.Common.{◌≡◌, ◌⊎◌, ◌∙◌, ◌++◌, inl, inr, refl, sym, ap, subst, arith, List, [], ◌∷◌, ℕ}
 use Rattle.std.proofs.Common.{ℤ, pos, Bool, true, false, cond, nat_eq, ◌&&◌, Some, Result, Ok, Err, OnOk, OnErr}
 use Rattle.std.proofs.lemmas.Bool.{and_parts}
+pub use Rattle.std.proofs.lemmas.Result.{on_ok_weaker as on_ok, on_err_weaker as on_err}
 use Rattle.std.specs.List.{AllByRecursion}
 use Rattle.std.specs.FinMap.{empty}
 use Rattle.sqlite_schema.specs.declared.schema.Schema.{Schema}
@@ -10,6 +11,7 @@ use Rattle.sqlite.specs.Effect.{Database}
 use Rattle.sqlite.specs.State.{HasCleanDisk, IsRolledBack, IsUnchanged, State}
 use Rattle.sqlite.proofs.Callers.{unchanged_then}
 use Rattle.dh_model.specs.Books as machine
+use Rattle.dh_model.proofs.MapRows.{inside}
 use Rattle.dh_rows.specs.Months.{Months}
 use Rattle.dh_types.specs.declared.version.Version.{Version}
 use Rattle.dh_types.specs.declared.version.Version.TheVariants.{First, Second}
@@ -34,14 +36,6 @@ use Rattle.dh_schema.proofs.EachKind.{one_kind}
 use Rattle.dh_schema.proofs.Crashing.{survives_both}
 
 -- ---- what they leave
-
-pub on_ok : {X E A B : Type 0} (r : Result X E) → (A → B) → OnOk r A → OnOk r B
-on_ok (Ok x) f h = f h
-on_ok (Err e) f h = tt
-
-pub on_err : {X E A B : Type 0} (r : Result X E) → (A → B) → OnErr r A → OnErr r B
-on_err (Ok x) f h = tt
-on_err (Err e) f h = f h
 
 module _ (a b c : State) where
   either : IsUnchanged a b → IsUnchanged b c ⊎ IsRolledBack b c → IsUnchanged a c ⊎ IsRolledBack a c
@@ -266,44 +260,30 @@ stopped {ks = ks} ls {fault = fault} {old = old} {new = new} {before = before} {
 -- ---- all of them
 
 module _ (trees : Trees) (months : Months) (meta : HasMonths months trees) where
-  -- the books with these months, and with the fees and the endings that the version has
-  abbrev over : machine.State → Months → machine.State
-  over read m = record read {
-    books = record read.books {
-      branch_fees = rows_since Second m.version (rows_in (shape_of BranchFees) {R = order_of BranchFees} trees);
-      part_fees = rows_since Second m.version (rows_in (shape_of PartFees) {R = order_of PartFees} trees);
-      endings = rows_since Second m.version (rows_in (shape_of Endings) {R = order_of Endings} trees);
-      first = m.first;
-      next = m.next;
-      version = m.version;
-    };
-  }
+  -- what was read of the first version, with the fees and the endings that a version has
+  abbrev read : Version → machine.State
+  read version =
+      let first = with_records first_kinds trees (empty_over months) in
+      record first {
+        books = record first.books {
+          branch_fees = rows_since Second version (rows_in (shape_of BranchFees) {R = order_of BranchFees} trees);
+          part_fees = rows_since Second version (rows_in (shape_of PartFees) {R = order_of PartFees} trees);
+          endings = rows_since Second version (rows_in (shape_of Endings) {R = order_of Endings} trees);
+        };
+      }
 
-  read_over : (version : Version) → months.version ≡ version
-      → with_records (kinds_of version) trees (empty_over months) ≡ over (with_records first_kinds trees (empty_over months)) months
-  read_over First is =
-      let read = with_records first_kinds trees (empty_over months) in
-      ap (λ (v : Version). let s : machine.State = record read {
-        books = record read.books {
-          branch_fees = rows_since Second v (rows_in (shape_of BranchFees) {R = order_of BranchFees} trees);
-          part_fees = rows_since Second v (rows_in (shape_of PartFees) {R = order_of PartFees} trees);
-          endings = rows_since Second v (rows_in (shape_of Endings) {R = order_of Endings} trees);
-        };
-      } in s) (sym is)
-  read_over Second is =
-      let read = with_records first_kinds trees (empty_over months) in
-      ap (λ (v : Version). let s : machine.State = record read {
-        books = record read.books {
-          branch_fees = rows_since Second v (rows_in (shape_of BranchFees) {R = order_of BranchFees} trees);
-          part_fees = rows_since Second v (rows_in (shape_of PartFees) {R = order_of PartFees} trees);
-          endings = rows_since Second v (rows_in (shape_of Endings) {R = order_of Endings} trees);
-        };
-      } in s) (sym is)
+  -- and with its months
+  abbrev over : Months → machine.State
+  over m = let s = read m.version in record s { books = record s.books { first = m.first; next = m.next; version = m.version } }
+
+  read_over : (version : Version) → months.version ≡ version → with_records (kinds_of version) trees (empty_over months) ≡ over months
+  read_over First is = ap read (sym is)
+  read_over Second is = ap read (sym is)
 
   pub loaded_books : (version : Version) → months.version ≡ version → (books : machine.State) → AreLoaded (kinds_of version) trees (empty_over months) books
       → books ≡ loaded_from trees
   loaded_books version is books it =
-      it.books ∙ read_over version is ∙ ap (over (with_records first_kinds trees (empty_over months))) (sym (told months trees meta))
+      it.books ∙ read_over version is ∙ ap over (sym (told months trees meta))
 
   -- the version that meta gives
   pub given : (version : Version) → months.version ≡ version → version_of_tables trees ≡ version
@@ -325,13 +305,10 @@ one_version First Second e = cc
 one_version Second First e = cc
 one_version Second Second e = refl
 
-some_number : (m n : ℤ) → Some m ≡ Some n → m ≡ n
-some_number m n e = cc
-
 pub months_have : (months : Months) (version : Version) (trees : Trees) → HasMonths months trees
     → only_version (meta_rows trees) ≡ Some (pos (version_number version)) → months.version ≡ version
 months_have months version trees has is =
-    one_version months.version version (some_number _ _ (sym (ap only_version has.rows_are) ∙ is))
+    one_version months.version version (inside _ _ (sym (ap only_version has.rows_are) ∙ is))
 
 -- the version that meta gives is that of tables in order
 pub version_given : (version : Version) (trees : Trees) → AreInOrder trees → only_version (meta_rows trees) ≡ Some (pos (version_number version))

@@ -31,4 +31,5 @@ pub use looks::{
     find_open_run, look, look_at_all, look_at_later, look_at_lettings, look_later, months_now,
     no_rows, no_rows_of,
 };
+pub use open_run::batches_shown;
 pub use transaction::{Put, commit};

@@ -1,6 +1,6 @@
 //! The run that books show as open.
 
-ghost use Rattle.std.specs.Prelude.{◌≡◌};
+ghost use Rattle.std.specs.Prelude.{◌≡◌, ◌+◌, ◌^◌, ◌≤◌};
 ghost use Rattle.dh_model.specs.Runs.{batch_size};
 ghost use Rattle.dh_model.specs.Whole.{batches_shown, run_shown};
 
@@ -9,9 +9,10 @@ use dh_leases::{batches_for, open_row};
 use dh_model::OpenRun;
 use dh_types::EntryMonth;
 
-// The batches that the month's part rows stand for: each those that its charges take.
-fn batches_shown(books: &Books, month: EntryMonth) -> u128
-    ensures { result ≡ batches_shown batch_size books.now.books month }
+/// The batches that the month's part rows stand for: each those that its charges take. Those of any list can be counted with them.
+pub fn batches_shown(books: &Books, month: EntryMonth) -> u128
+    ensures value { result ≡ batches_shown batch_size books.now.books month }
+    ensures room { result + 2 ^ 64 ≤ 2 ^ 128 }
 {
     let parts = books.parts();
     // No more than this many, so that their sum fits.

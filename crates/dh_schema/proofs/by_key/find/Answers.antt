@@ -1,4 +1,5 @@
-use Rattle.std.proofs.Common.{◌≡◌, ◌∙◌, ap, sym, subst, List, None, Result, Ok, Err, IfOk, arith}
+use Rattle.std.proofs.Common.{◌≡◌, ◌∙◌, ap, sym, subst, List, None, arith}
+use Rattle.std.proofs.lemmas.Result.{IfOk-weaker}
 use Rattle.std.specs.declared.cmp.Ordering.{Ordering}
 use Rattle.std.specs.FinMap.{FinMap, get, get-empty}
 use Rattle.sqlite_value.specs.Order.{Row}
@@ -22,10 +23,6 @@ use Rattle.dh_schema.proofs.ReadTables.{version_given}
 use Rattle.dh_schema.proofs.Versions.{has_since}
 use Rattle.dh_tables.proofs.OfKind.{ties, total}
 use Rattle.dh_schema.proofs.by_key.find.Goals as goal
-
-if_ok : {X E : Type 0} {A B : X → Type 0} (r : Result X E) → ((x : X) → A x → B x) → IfOk r A → IfOk r B
-if_ok (Ok x) f h = f x h
-if_ok (Err e) f h = tt
 
 -- tables of an earlier version have no row
 none_of : {K X : Type 0} {R : K → K → Ordering} (came version : Version) (rows : FinMap R X) (key : K) → came ≡ Second → version ≡ First
@@ -83,7 +80,7 @@ returns-clause-found g c clean =
     c.only.result (rows_of T.shape c.deref.result.now) c.only.ensures.found same in
     let there : rows_in T.shape {R = T.order} trees ≡ rows_since T.since (version_of_tables old.now.trees) (rows_in T.shape {R = T.order} old.now.trees) =
     ap (λ (t : Trees). rows_in T.shape {R = T.order} t) stays ∙ sym all in
-    if_ok c.only.result (λ it of. of key (g.met.R.KeyedRecord.asks_for key) ∙ ap (λ rows. get rows key) there) found
+    IfOk-weaker c.only.result _ _ (λ it of. of key (g.met.R.KeyedRecord.asks_for key) ∙ ap (λ rows. get rows key) there) found
 
 pub returns-clause-crash : goal.returns-clause-crash
 returns-clause-crash g c = survives_both _ _ _ c.agreed_version.ensures.crash c.rows_asked.ensures.crash

@@ -1,16 +1,18 @@
+use Rattle.std.proofs.Common.{ap}
 use Rattle.sqlite.specs.Held.{state}
-use Rattle.dh_schema.proofs.Editing.{add_fresh, add_kept, add_puts, add_writing}
+use Rattle.dh_model.specs.Edits.{came_with_edit}
+use Rattle.dh_schema.proofs.Editing.{add_fresh, add_puts, place_kept, place_writing}
 use Rattle.dh_schema.proofs.changes.add.Goals as goal
 
 pub insert-requires-clause-writing : goal.insert-requires-clause-writing
 insert-requires-clause-writing g c clean =
-    add_writing _ g.R.Tabled.is_kind c.args.change.now c.args.row.now c.requires.is (state g.S.Store c.args.tx.now.conn.now) (c.requires.writing clean)
-    (c.requires.place clean)
+    place_writing _ g.R.Tabled.is_kind c.args.change.now (ap came_with_edit c.requires.is) (state g.S.Store c.args.tx.now.conn.now) (c.requires.place clean)
+    (c.requires.writing clean)
 
 pub insert-requires-clause-kept : goal.insert-requires-clause-kept
 insert-requires-clause-kept g c clean =
-    add_kept _ g.R.Tabled.is_kind c.args.change.now c.args.row.now c.requires.is (state g.S.Store c.args.tx.now.conn.now) (c.requires.writing clean)
-    (c.requires.place clean)
+    place_kept _ g.R.Tabled.is_kind c.args.change.now (ap came_with_edit c.requires.is) (state g.S.Store c.args.tx.now.conn.now) (c.requires.place clean)
+    (c.requires.writing clean)
 
 pub insert-requires-clause-fresh : goal.insert-requires-clause-fresh
 insert-requires-clause-fresh g c clean =

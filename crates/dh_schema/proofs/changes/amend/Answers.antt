@@ -1,21 +1,21 @@
 use Rattle.sqlite.specs.Held.{state}
-use Rattle.dh_schema.proofs.Editing.{amend_apart, amend_kept, amend_puts, amend_there, amend_writing}
+use Rattle.dh_schema.proofs.Editing.{amend_puts, amend_there, place_apart, place_kept, place_writing}
 use Rattle.dh_schema.proofs.changes.amend.Goals as goal
 
 pub update-requires-clause-writing : goal.update-requires-clause-writing
 update-requires-clause-writing g c clean =
-    amend_writing _ g.A.Record.Tabled.is_kind c.args.change.now (g.A.Amend.key c.args.amendment.now) (g.A.Amend.amended c.args.amendment.now) c.requires.is
-    (state g.S.Store c.args.tx.now.conn.now) (c.requires.writing clean) (c.requires.place clean)
+    place_writing _ g.A.Record.Tabled.is_kind c.args.change.now c.requires.is.came (state g.S.Store c.args.tx.now.conn.now) (c.requires.place clean)
+    (c.requires.writing clean)
 
 pub update-requires-clause-kept : goal.update-requires-clause-kept
 update-requires-clause-kept g c clean =
-    amend_kept _ g.A.Record.Tabled.is_kind c.args.change.now (g.A.Amend.key c.args.amendment.now) (g.A.Amend.amended c.args.amendment.now) c.requires.is
-    (state g.S.Store c.args.tx.now.conn.now) (c.requires.writing clean) (c.requires.place clean)
+    place_kept _ g.A.Record.Tabled.is_kind c.args.change.now c.requires.is.came (state g.S.Store c.args.tx.now.conn.now) (c.requires.place clean)
+    (c.requires.writing clean)
 
 pub update-requires-clause-apart : goal.update-requires-clause-apart
 update-requires-clause-apart g c clean =
-    amend_apart _ g.A.Record.Tabled.is_kind c.args.change.now (g.A.Amend.key c.args.amendment.now) (g.A.Amend.amended c.args.amendment.now) c.requires.is
-    (state g.S.Store c.args.tx.now.conn.now) (c.requires.writing clean) (c.requires.place clean)
+    place_apart _ g.A.Record.Tabled.is_kind c.args.change.now c.requires.is.came (state g.S.Store c.args.tx.now.conn.now) (c.requires.place clean)
+    (c.requires.writing clean)
 
 pub update-requires-clause-there : goal.update-requires-clause-there
 update-requires-clause-there g c clean =
