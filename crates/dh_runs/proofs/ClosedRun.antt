@@ -25,8 +25,7 @@ use Rattle.dh_laws.proofs.BatchLemmas.Whole.{is_open}
 use Rattle.dh_tables.specs.Calls.{Amends, CommitsNothing, IsUndone, StaysInTransaction}
 use Rattle.dh_tables.specs.RunTable.{run_shape}
 use Rattle.dh_model.specs.Kinds.{Runs}
-use Rattle.dh_schema.specs.Store.{IsReady, IsWriting, tables}
-use Rattle.dh_schema.proofs.Keyed.{books_are_keyed, sound_tables_show_their_run}
+use Rattle.dh_schema.specs.Store.{IsWriting, tables}
 use Rattle.dh_runs.specs.Closing.{IsOpenMonth, IsSumOfOpen, sum_of_parts, sum_over, with_run, with_sum}
 use Rattle.dh_schema.specs.Putting.{Puts}
 use Rattle.dh_runs.proofs.PartSums.{parts_are_charges}
@@ -36,14 +35,6 @@ use Rattle.dh_schema.proofs.Putting.{IsThere, amended}
 pub under_way : (books : Books) (run : Option OpenRun) → IsAtItsEnd books run → IsUnderWay run
 under_way books None h = h
 under_way books (Some run) h = tt
-
--- ready tables are those that an office works on
-pub ready_in_order : (s : State) → IsReady s → office.IsStateInOrder (tables s)
-ready_in_order s ready = record {
-  keyed = books_are_keyed s.now.trees;
-  rules = ready.sound.rules;
-  shown = sound_tables_show_their_run s.now.trees ready.sound;
-}
 
 module _ (books : Books) (sum : RunSum) (is : IsSumOfOpen sum books) where
   abbrev row : Run

@@ -1,5 +1,5 @@
 -- Tables of the first version that became those of the second, which have no fee row yet.
-use Rattle.std.proofs.Common.{◌≡◌, ◌∙◌, inr, refl, sym, ap, subst, ℕ, nat_eq, false, List, [], map, Some, Result, Ok, Err, OnOk, OnErr, slice_get, arith}
+use Rattle.std.proofs.Common.{◌≡◌, ◌∙◌, inr, refl, sym, ap, subst, ℕ, List, [], map, Some, Result, OnOk, OnErr, slice_get, arith}
 use Rattle.std.specs.FinMap.{empty, values}
 use Rattle.sqlite_value.specs.Order.{Row}
 use Rattle.sqlite_schema.specs.declared.schema.Table.{Table}
@@ -28,12 +28,11 @@ use Rattle.dh_tables.specs.MetaTable.{AreMonths, HasItsRow, SetsMonths, SetsVers
 use Rattle.dh_schema.specs.Kinds.{place_of, shape_of, table_of}
 use Rattle.dh_schema.specs.Store.{HasItsSchema, IsWriting, tables}
 use Rattle.dh_schema.specs.Tables.{AreInOrder, IsTableInOrder, books_in, months_of, records_in, rows_since, version_of_tables}
-use Rattle.dh_schema.proofs.Changing.{told}
-use Rattle.dh_schema.proofs.Crashing.{survives_both}
-use Rattle.dh_schema.proofs.Installing.{empty_apart, empty_kept, no_records, none_since}
-use Rattle.dh_schema.proofs.EachKind.{beside_meta, listed, same_but, tree_is}
+use Rattle.dh_schema.proofs.Changing.{set_beside, told}
+use Rattle.dh_schema.proofs.Installing.{bare_in_order, no_records, none_since}
+use Rattle.dh_schema.proofs.EachKind.{listed, same_but, tree_is}
 use Rattle.dh_schema.specs.Putting.{TurnsBooks}
-use Rattle.dh_schema.proofs.Putting.{keeps_both, keeps_commit}
+use Rattle.dh_schema.proofs.Putting.{turns_then}
 use Rattle.dh_runs.specs.Migrated.{as_second, migrated, no_fee, with_no_fees}
 
 module _ (old : State) (writing : IsWriting old) (first : version_of_tables old.now.trees ≡ First) where
@@ -71,24 +70,21 @@ module _ (old : State) (writing : IsWriting old) (first : version_of_tables old.
       its_schema = schema_is ∙ ap schema_of (sym version_is)
 
       -- the second step leaves each table but meta
-      set_beside : (j : Kind) → HasKind Second j → new.now.trees (table_of j).tree ≡ mid.now.trees (table_of j).tree
-      set_beside j has =
-          let there = subst (λ (s : Schema). slice_get s.tables (place_of j) ≡ Some (table_of j)) (sym grown.writing.schema_is) (listed Second j has) in
-          let beside : nat_eq (table_of j).tree 0 ≡ false = ap (λ n. nat_eq n 0) (tree_is j) ∙ (beside_meta j).1 in
-          its.others (place_of j) (table_of j) there beside
+      set_kept : (j : Kind) → HasKind Second j → new.now.trees (table_of j).tree ≡ mid.now.trees (table_of j).tree
+      set_kept = set_beside second Second mid new grown.writing.schema_is its
 
       tree_stays : (j : Kind) → HasKind First j → HasKind Second j → new.now.trees (shape_of j).tree ≡ old.now.trees (shape_of j).tree
       tree_stays j here has =
-          subst (λ n. new.now.trees n ≡ old.now.trees n) (tree_is j) (set_beside j has ∙ kept_at (place_of j) (table_of j) (listed First j here))
+          subst (λ n. new.now.trees n ≡ old.now.trees n) (tree_is j) (set_kept j has ∙ kept_at (place_of j) (table_of j) (listed First j here))
 
       no_fee_of_a_branch : new.now.trees (shape_of BranchFees).tree ≡ []
-      no_fee_of_a_branch = set_beside BranchFees refl ∙ grown.empty.0
+      no_fee_of_a_branch = set_kept BranchFees refl ∙ grown.empty.0
 
       no_fee_of_a_part : new.now.trees (shape_of PartFees).tree ≡ []
-      no_fee_of_a_part = set_beside PartFees refl ∙ grown.empty.1.0
+      no_fee_of_a_part = set_kept PartFees refl ∙ grown.empty.1.0
 
       no_ending : new.now.trees (shape_of Endings).tree ≡ []
-      no_ending = set_beside Endings refl ∙ grown.empty.1.1.0
+      no_ending = set_kept Endings refl ∙ grown.empty.1.1.0
 
       -- ---- each kind
 
@@ -100,16 +96,10 @@ module _ (old : State) (writing : IsWriting old) (first : version_of_tables old.
           let before = writing.in_order.tables j (subst (λ (v : Version). HasKind v j) (sym first) here) in
           record { kept = (same j here has).kept before.kept; apart = (same j here has).apart before.apart }
 
-      bare : (j : Kind) → new.now.trees (shape_of j).tree ≡ [] → IsTableInOrder j new.now.trees
-      bare j none = record {
-        kept = empty_kept (shape_of j) (order_of j) new.now.trees none;
-        apart = empty_apart (shape_of j) (order_of j) new.now.trees none;
-      }
-
       each : (j : Kind) → IsTableInOrder j new.now.trees
-      each BranchFees = bare BranchFees no_fee_of_a_branch
-      each PartFees = bare PartFees no_fee_of_a_part
-      each Endings = bare Endings no_ending
+      each BranchFees = bare_in_order BranchFees new.now.trees no_fee_of_a_branch
+      each PartFees = bare_in_order PartFees new.now.trees no_fee_of_a_part
+      each Endings = bare_in_order Endings new.now.trees no_ending
       each kind = stays kind tt tt
 
       in_order : AreInOrder new.now.trees
@@ -158,33 +148,15 @@ module _ (old : State) (writing : IsWriting old) (first : version_of_tables old.
 
 -- ---- both calls
 
-module _ (old mid new : State) where
-  abbrev IsSecond : Type 0
-  IsSecond = IsWriting new × ((tables new).books ≡ as_second (tables old).books)
-
-  on_ok : {X E : Type 0} (r : Result X E) → IsWriting old → version_of_tables old.now.trees ≡ First → HasGrown old mid
-      → OnOk r (StaysInTransaction mid new) → OnOk r (SetsVersion Second mid new) → OnOk r IsSecond
-  on_ok (Ok x) writing first grown on set =
-      (writing_second old writing first mid grown new set on, books_are old writing first mid grown new set)
-  on_ok (Err e) writing first grown on set = tt
-
-  -- the later tables were made, and then the version was set
-  pub made_second : (r : Result (Unit {0}) Error) → (HasCleanDisk old → IsWriting old) → (HasCleanDisk old → version_of_tables old.now.trees ≡ First)
-      → (HasCleanDisk mid → HasGrown old mid) → (HasCleanDisk mid → KeepsCommit old mid) → CommitsNothing old mid
-      → (HasCleanDisk new → OnOk r (StaysInTransaction mid new)) → (HasCleanDisk new → OnOk r (SetsVersion Second mid new))
-      → (HasCleanDisk new → OnErr r (IsUndone mid new)) → CommitsNothing mid new → TurnsBooks as_second r old new
-  made_second r writing first grown kept before on set undone after =
-      let both = survives_both old mid new before after in
-      record {
-        put = λ clean.
-            let half : HasCleanDisk mid = omega (arith, after.clean, clean) in
-            let early : HasCleanDisk old = omega (arith, both.clean, clean) in
-            on_ok r (writing early) (first early) (grown half) (on clean) (set clean);
-        kept = λ clean.
-            let half : HasCleanDisk mid = omega (arith, after.clean, clean) in
-            keeps_both old mid new (kept half) (keeps_commit r mid new (on clean) (undone clean));
-        crash = both;
-      }
+-- the later tables were made, and then the version was set
+pub made_second : (old mid new : State) (r : Result (Unit {0}) Error) → (HasCleanDisk old → IsWriting old)
+    → (HasCleanDisk old → version_of_tables old.now.trees ≡ First)
+    → (HasCleanDisk mid → HasGrown old mid) → (HasCleanDisk mid → KeepsCommit old mid) → CommitsNothing old mid
+    → (HasCleanDisk new → OnOk r (StaysInTransaction mid new)) → (HasCleanDisk new → OnOk r (SetsVersion Second mid new))
+    → (HasCleanDisk new → OnErr r (IsUndone mid new)) → CommitsNothing mid new → TurnsBooks as_second r old new
+made_second old mid new r writing first grown =
+    turns_then as_second r old mid new (λ early half on set.
+    (writing_second old (writing early) (first early) mid (grown half) new set on, books_are old (writing early) (first early) mid (grown half) new set))
 
 -- ---- and the fee rows
 

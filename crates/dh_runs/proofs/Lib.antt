@@ -1,6 +1,5 @@
 pub mod ClosedRun
 pub mod EachCharge
-pub mod Following
 pub mod NextRows
 pub mod OfMonth
 pub mod PartSums

@@ -16,7 +16,7 @@ use Rattle.dh_runs.specs.declared.problem.Problem.{Problem}
 use Rattle.dh_runs.specs.declared.problem.Problem.TheVariants as problem
 use Rattle.dh_runs.specs.Problems.{IsNotRead}
 use Rattle.dh_runs.specs.Taking.{Sorts, Takes}
-use Rattle.dh_runs.proofs.ClosedRun.{ready_in_order}
+use Rattle.dh_runs.proofs.Along.{in_order}
 use Rattle.dh_runs.specs.Migrated.{migrated_state}
 use Rattle.dh_runs.specs.Moved.{CanBeMigrated, IsMigrationProblem, IsNotMigrated}
 use Rattle.dh_runs.proofs.Sound.{migrated_books_are_in_order}
@@ -25,7 +25,7 @@ use Rattle.dh_runs.proofs.Sound.{migrated_books_are_in_order}
 pub order_after : (s : State) → IsReady s → (tables s).open_run ≡ None → IsStateInOrder (migrated_state (tables s))
 order_after s ready none =
     let books = (tables s).books in
-    let was = ready_in_order s ready in
+    let was = in_order s ready in
     let shown = subst (λ (run : Option OpenRun). IsOpenAt batch_size books run) none was.shown in
     migrated_books_are_in_order batch_size books (tables s).open_run (λ run a. all_closed books shown run (among (values books.runs) run a)) was
 

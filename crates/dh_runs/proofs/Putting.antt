@@ -1,6 +1,7 @@
 -- Rows that were put into their tables, as what becomes of the books.
 use Rattle.std.proofs.Common.{◌≡◌, ◌∙◌, refl, sym, ap, Bool, true, false, [], ◌∷◌, Option, Some, None, is_some, Result, Ok, Err, OnOk, arith}
 use Rattle.std.proofs.lemmas.Bool.{false≢true}
+use Rattle.std.proofs.lemmas.Result.{on_ok_weaker}
 use Rattle.std.specs.FinMap.{FinMap, get, insert}
 use Rattle.sqlite.specs.declared.error.Error.{Error}
 use Rattle.sqlite.specs.State.{HasCleanDisk, State}
@@ -35,22 +36,20 @@ later_writing s writing second = record { inside = writing.inside; has = writing
 
 -- ---- one after the other
 
-module _ (later : Books → Books) (books : Books) (b c : State) where
-  then_put : {X E : Type 0} (r : Result X E) → (tables b).books ≡ books → OnOk r (IsWriting c × ((tables c).books ≡ later (tables b).books))
-      → OnOk r (IsWriting c × ((tables c).books ≡ later books))
-  then_put (Ok x) was done = (done.0, done.1 ∙ ap later was)
-  then_put (Err e) was done = tt
-
 -- what was put, and then this
 pub puts_both : {books : Books} (later : Books → Books) {a b c : State} {x : Unit {0}} {r : Result (Unit {0}) Error} → Puts books (Ok x) a b
     → TurnsBooks later r b c → Puts (later books) r a c
 puts_both {books = books} later {a = a} {b = b} {c = c} {r = r} one two =
     let half : HasCleanDisk c → HasCleanDisk b = λ clean. omega (arith, two.crash.clean, clean) in
     record {
-      put = λ clean. then_put later books b c r (one.put (half clean)).1 (two.put clean);
+      put = λ clean. on_ok_weaker r (λ done. (done.0, done.1 ∙ ap later (one.put (half clean)).1)) (two.put clean);
       kept = λ clean. keeps_both a b c (one.kept (half clean)) (two.kept clean);
       crash = survives_both a b c one.crash two.crash;
     }
+
+-- these are the books that the tables have
+pub puts_own : {books : Books} {x : Unit {0}} {a b : State} → Puts books (Ok x) a b → Puts (tables b).books (Ok x) a b
+puts_own one = record { put = λ clean. ((one.put clean).0, refl); kept = one.kept; crash = one.crash }
 
 -- ---- a part row
 

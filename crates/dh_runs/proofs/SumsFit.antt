@@ -39,7 +39,7 @@ use Rattle.dh_schema.specs.Store.{IsReady, tables}
 use Rattle.dh_schema.specs.Tables.{AreInOrder, books_in}
 use Rattle.dh_schema.proofs.Keyed.{keyed}
 use Rattle.dh_runs.specs.Closing.{IsTooMuch, sum_of_parts, sum_over}
-use Rattle.dh_runs.proofs.ClosedRun.{ready_in_order}
+use Rattle.dh_runs.proofs.Along.{in_order}
 use Rattle.dh_runs.proofs.PartSums.{parts_are_charges, same_count}
 
 -- what holds of each record that a stored row is holds of each that the table shows
@@ -101,7 +101,7 @@ module _ (s : State) (ready : IsReady s) (month : ℕ)
   run = record { month = month; done = batches batch_size books month }
 
   order : IsInOrder batch_size books (Some run)
-  order = subst (λ (it : Option OpenRun). IsInOrder batch_size books it) at_end (ready_in_order s ready)
+  order = subst (λ (it : Option OpenRun). IsInOrder batch_size books it) at_end (in_order s ready)
 
   few_charges : length (charges_in books month) ≤ 99999999
   few_charges =

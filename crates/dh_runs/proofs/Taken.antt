@@ -73,10 +73,6 @@ module _ (old new : State) where
     it.1,
   )
 
-pub both_ok : {X E A B C : Type 0} (r : Result X E) → (A → B → C) → OnOk r A → OnOk r B → OnOk r C
-both_ok (Ok x) f a b = f a b
-both_ok (Err e) f a b = tt
-
 -- sound tables of which meta gives a version are those of this version
 pub version_taken : (version : Version) (old mid new : State) → GivesVersion version old.now.trees → mid.now ≡ old.now → IsSound mid.now.trees
     → new.now ≡ mid.now → HasVersion version new

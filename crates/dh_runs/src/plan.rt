@@ -1,12 +1,11 @@
 //! The batches that the open run lacks, from the rows that they are counted out of.
 
 ghost use Rattle.std.specs.Prelude.{◌≡◌, ◌≤◌, Some, IsTrue, IfOk, IfErr, IfSome, OnOk, OnErr};
-ghost use Rattle.std.specs.List.{sum_by};
 ghost use Rattle.std.specs.FinMap as fin;
 ghost use Rattle.sqlite.specs.State.{HasCleanDisk};
 ghost use Rattle.sqlite.specs.Held.{state};
 ghost use Rattle.sqlite_trees.specs.View.{doubt};
-ghost use Rattle.dh_model.specs.Runs.{batch_size, batches_for};
+ghost use Rattle.dh_model.specs.Runs.{batch_size};
 ghost use Rattle.dh_model.specs.Whole.{batches_shown};
 ghost use Rattle.dh_leases.specs.Plans.{HaveTheLeases, IsPlanOf, IsPlanned};
 ghost use Rattle.dh_schema.specs.Faults.{IsFirstFault};
@@ -17,32 +16,17 @@ ghost use Rattle.dh_runs.specs.Batches.{CanBePosted, HasRoom};
 ghost use Rattle.dh_runs.specs.Planning.{with_branches};
 
 use dh_books::Books;
-use dh_leases::{Plan, batches_for, plan_of};
+use dh_leases::{Plan, plan_of};
 use dh_model::OpenRun;
 use dh_rows::Meta;
 use dh_schema::{
-    StoreFault, find_open_run, look, look_at_all, look_at_later, look_at_lettings, months_now,
-    no_rows, no_rows_of,
+    StoreFault, batches_shown, find_open_run, look, look_at_all, look_at_later, look_at_lettings,
+    months_now, no_rows, no_rows_of,
 };
 use dh_tables::PartsOfMonth;
 use dh_types::{Branch, BranchFee, EntryMonth, Version};
 use sqlite::{Alter, Connection};
 use std::alloc::Global;
-
-// The batches that the parts of the books stand for: each those that its charges take.
-fn batches_done(books: &Books) -> u128
-    ensures value { result ≡ sum_by (λ part. batches_for batch_size part.count) (fin.values books.now.books.parts) }
-    ensures room { HasRoom result }
-{
-    let parts = books.parts();
-    // No more than this many, so that their sum fits.
-    let _count = parts.len();
-    let mut done = 0u128;
-    for part in parts {
-        done += batches_for(u64::from(part.count));
-    }
-    done
-}
 
 // The batches that the parts of the month's run stand for.
 fn done_in<S: Alter>(
@@ -58,7 +42,7 @@ fn done_in<S: Alter>(
 {
     let mut books = no_rows(alloc);
     look(alloc, conn, &PartsOfMonth { month }, &mut books)?;
-    Ok(batches_done(&books))
+    Ok(batches_shown(&books, month))
 }
 
 // How far the open run is.

@@ -2,7 +2,8 @@ use Rattle.std.proofs.Common.{◌∙◌, ap, arith}
 use Rattle.sqlite.specs.Effect.{Database}
 use Rattle.sqlite.specs.State.{HasCleanDisk}
 use Rattle.sqlite.specs.Held.{state}
-use Rattle.dh_runs.proofs.Taken.{both_ok, rows_taken, version_taken}
+use Rattle.dh_schema.proofs.Putting.{both_ok}
+use Rattle.dh_runs.proofs.Taken.{rows_taken, version_taken}
 use Rattle.dh_runs.proofs.checks.checked_books.Goals as goal
 
 pub returns-clause-version : goal.returns-clause-version

@@ -1,6 +1,5 @@
 use Rattle.std.proofs.Common.{◌≡◌, ◌∙◌, ◌+◌, ◌++◌, refl, sym, ap, subst, List, [], ◌∷◌, take, Ok, arith}
 use Rattle.std.proofs.lemmas.List.{take_all, take_more}
-use Rattle.std.proofs.lemmas.Result.{err_from_is_err_and}
 use Rattle.std.specs.FinMap.{get}
 use Rattle.sqlite.specs.State.{HasCleanDisk}
 use Rattle.sqlite.specs.Held.{state}
@@ -9,7 +8,7 @@ use Rattle.dh_model.specs.Books.{Books}
 use Rattle.dh_model.specs.Runs.{charge_key}
 use Rattle.dh_schema.specs.Store.{tables}
 use Rattle.dh_schema.specs.Putting.{Puts, TurnsBooks}
-use Rattle.dh_schema.proofs.Putting.{puts_none, nothing_put}
+use Rattle.dh_schema.proofs.Putting.{nothing_put, puts_failed}
 use Rattle.dh_runs.specs.Putting.{with_charge}
 use Rattle.dh_runs.proofs.EachCharge.{is_new, with_all, with_each, with_each_more}
 use Rattle.dh_runs.proofs.Putting.{puts_both}
@@ -53,9 +52,7 @@ returns-in_err-put_charge-clause-same_reference g c = c.put_charge.ensures.same_
 
 pub returns-in_err-put_charge-clause-puts : goal.returns-in_err-put_charge-clause-puts
 returns-in_err-put_charge-clause-puts g c =
-    let is = err_from_is_err_and c.from_residual.result c.from_residual.ensures.1 in
-    let puts = puts_both (with_charge c.charge-item.result) c.loop-charge.invariant.puts c.in_err-put_charge.ensures.puts in
-    puts_none is.1 puts.kept puts.crash
+    puts_failed _ c.from_residual.ensures.1 (puts_both (with_charge c.charge-item.result) c.loop-charge.invariant.puts c.in_err-put_charge.ensures.puts)
 
 pub returns-clause-puts : goal.returns-clause-puts
 returns-clause-puts g c =

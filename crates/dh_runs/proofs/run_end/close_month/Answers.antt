@@ -7,7 +7,8 @@ use Rattle.dh_laws.specs.Batches.{IsAtItsEnd, closed_state}
 use Rattle.dh_laws.specs.StateTables.{IsStateInOrder}
 use Rattle.dh_schema.specs.Store.{tables}
 use Rattle.dh_runs.specs.Closing.{IsSumOfOpen}
-use Rattle.dh_runs.proofs.ClosedRun.{closed_in_order, ready_in_order, sum_is_open_run_sum, sum_of_open}
+use Rattle.dh_runs.proofs.Along.{in_order}
+use Rattle.dh_runs.proofs.ClosedRun.{closed_in_order, sum_is_open_run_sum, sum_of_open}
 use Rattle.dh_runs.proofs.run_end.close_month.Goals as goal
 
 pub commit-requires-clause-order : goal.commit-requires-clause-order
@@ -16,14 +17,14 @@ commit-requires-clause-order g c mid =
     let early : HasCleanDisk old = omega (arith, c.month_sum.ensures.reads.crash.clean, mid) in
     let at_end = subst (λ (run : Option OpenRun). IsAtItsEnd (tables old).books run) (sym (c.requires.end early)) refl in
     subst (λ (t : State). IsStateInOrder (closed_state t)) (sym (c.in_ok-sum.ensures.reads.done mid).1)
-    (closed_in_order (tables old) (ready_in_order old (c.requires.ready early)) at_end)
+    (closed_in_order (tables old) (in_order old (c.requires.ready early)) at_end)
 
 pub commit-requires-clause-room : goal.commit-requires-clause-room
 commit-requires-clause-room g c mid =
     let old = state g.S.Store c.args.conn.now in
     let sum = c.in_ok-sum.sum in
     let early : HasCleanDisk old = omega (arith, c.month_sum.ensures.reads.crash.clean, mid) in
-    let order = ready_in_order old (c.requires.ready early) in
+    let order = in_order old (c.requires.ready early) in
     let end = c.requires.end early in
     let at_end = subst (λ (run : Option OpenRun). IsAtItsEnd (tables old).books run) (sym end) refl in
     subst (λ (t : State). IsStateInOrder t × IsAtItsEnd t.books t.open_run × IsSumOfOpen sum t.books) (sym (c.in_ok-sum.ensures.reads.done mid).1)
@@ -34,7 +35,7 @@ returns-clause-value g c clean =
     let old = state g.S.Store c.args.conn.now in
     let mid : HasCleanDisk (state g.S.Store c.month_sum.new.conn) = omega (arith, c.commit.ensures.was_clean, clean) in
     let early : HasCleanDisk old = omega (arith, c.month_sum.ensures.reads.crash.clean, mid) in
-    let order = ready_in_order old (c.requires.ready early) in
+    let order = in_order old (c.requires.ready early) in
     let end = c.requires.end early in
     let at_end = subst (λ (run : Option OpenRun). IsAtItsEnd (tables old).books run) (sym end) refl in
     sum_is_open_run_sum (tables old).books _ (sum_of_open (tables old) c.args.month _ order end (c.in_ok-sum.ensures.value mid)) (tables old).open_run at_end

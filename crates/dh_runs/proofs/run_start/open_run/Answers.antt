@@ -10,7 +10,7 @@ use Rattle.dh_laws.specs.InOrder.{IsInOrder}
 use Rattle.dh_laws.specs.StateTables.{IsStateInOrder}
 use Rattle.dh_laws.proofs.CommandLemmas.Carried.{opened_in_order}
 use Rattle.dh_schema.specs.Store.{tables, with_change}
-use Rattle.dh_runs.proofs.ClosedRun.{ready_in_order}
+use Rattle.dh_runs.proofs.Along.{in_order}
 use Rattle.dh_runs.proofs.run_start.open_run.Goals as goal
 
 pub apply-requires-clause-order : goal.apply-requires-clause-order
@@ -19,7 +19,7 @@ apply-requires-clause-order g c was =
     let order = c.args.order.now in
     let row : ℕ → Run = λ total. record { month = order.month; key = order.key; count = 0; total = total; is_closed = false } in
     subst (λ (total : ℕ). IsStateInOrder (with_change (change.Open (row total)) (tables old))) (sym c.of_pence.ensures)
-    (opened_in_order (tables old) order (c.requires.none was) (ready_in_order old (c.requires.ready was)) (c.requires.verdict was))
+    (opened_in_order (tables old) order (c.requires.none was) (in_order old (c.requires.ready was)) (c.requires.verdict was))
 
 pub apply-requires-clause-fits : goal.apply-requires-clause-fits
 apply-requires-clause-fits g c was =
@@ -27,5 +27,5 @@ apply-requires-clause-fits g c was =
     let books = (tables old).books in
     let order = c.args.order.now in
     let here : IsInOrder batch_size books None =
-    subst (λ (run : Option OpenRun). IsInOrder batch_size books run) (c.requires.none was) (ready_in_order old (c.requires.ready was)) in
+    subst (λ (run : Option OpenRun). IsInOrder batch_size books run) (c.requires.none was) (in_order old (c.requires.ready was)) in
     c.accepted_changes_fit.ensures batch_size books None (command.Open order) (change.Open (opened_run books order)) here (c.requires.verdict was)

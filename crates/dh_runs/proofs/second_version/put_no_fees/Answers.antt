@@ -1,5 +1,4 @@
 use Rattle.std.proofs.Common.{◌≡◌, ◌∙◌, ◌∷◌, [], refl, sym, ap, subst, ℕ, List, drop, Ok, arith}
-use Rattle.std.proofs.lemmas.Result.{err_from_is_err_and}
 use Rattle.std.specs.FinMap.{get}
 use Rattle.sqlite.specs.State.{HasCleanDisk}
 use Rattle.sqlite.specs.Held.{state}
@@ -10,7 +9,7 @@ use Rattle.dh_model.specs.Runs.{part_key}
 use Rattle.dh_schema.specs.Store.{tables}
 use Rattle.dh_schema.specs.Putting.{TurnsBooks}
 use Rattle.dh_runs.specs.Putting.{with_fees}
-use Rattle.dh_schema.proofs.Putting.{nothing_put, puts_none}
+use Rattle.dh_schema.proofs.Putting.{nothing_put, puts_failed}
 use Rattle.dh_runs.proofs.Putting.{puts_both}
 use Rattle.dh_runs.specs.Migrated.{no_fee, with_no_fees}
 use Rattle.dh_runs.proofs.EachFee.{all_left, is_new, none_put, not_there, one_more, tail_is}
@@ -67,9 +66,7 @@ returns-in_err-put_fee-clause-same_reference g c = c.put_fee.ensures.same_refere
 
 pub returns-in_err-put_fee-clause-puts : goal.returns-in_err-put_fee-clause-puts
 returns-in_err-put_fee-clause-puts g c =
-    let is = err_from_is_err_and c.from_residual.result c.from_residual.ensures.1 in
-    let puts = puts_both (with_fees (c.no_fee.result ∷ [])) c.loop-left.invariant.puts c.in_err-put_fee.ensures.puts in
-    puts_none is.1 puts.kept puts.crash
+    puts_failed _ c.from_residual.ensures.1 (puts_both (with_fees (c.no_fee.result ∷ [])) c.loop-left.invariant.puts c.in_err-put_fee.ensures.puts)
 
 pub returns-clause-puts : goal.returns-clause-puts
 returns-clause-puts g c =

@@ -1,5 +1,4 @@
 use Rattle.std.proofs.Common.{◌∙◌, ap, sym, subst, is_some, List, Ok, arith}
-use Rattle.std.proofs.lemmas.Result.{err_from_is_err_and}
 use Rattle.std.specs.FinMap.{get}
 use Rattle.sqlite.specs.State.{HasCleanDisk}
 use Rattle.sqlite.specs.Held.{state}
@@ -10,7 +9,7 @@ use Rattle.dh_leases.specs.Plans.{some_row}
 use Rattle.dh_sql.specs.Changes.{AreNew}
 use Rattle.dh_schema.specs.Putting.{TurnsBooks}
 use Rattle.dh_schema.specs.Store.{tables}
-use Rattle.dh_schema.proofs.Putting.{puts_none}
+use Rattle.dh_schema.proofs.Putting.{puts_failed}
 use Rattle.dh_runs.specs.Putting.{with_charges, with_fees, with_part}
 use Rattle.dh_runs.proofs.EachCharge.{each_new}
 use Rattle.dh_runs.proofs.Putting.{fee_still, puts_both}
@@ -28,10 +27,7 @@ put_part-requires-clause-known g c clean =
     (c.requires.room early).1.part ∙ ap (λ (books : Books). is_some (get books.parts (part_key c.args.self.now.rows.now.part))) (sym (puts.put clean).1)
 
 pub returns-in_err-put_charges-clause-puts : goal.returns-in_err-put_charges-clause-puts
-returns-in_err-put_charges-clause-puts g c =
-    let is = err_from_is_err_and c.from_residual.result c.from_residual.ensures.1 in
-    let puts = c.in_err-put_charges.ensures.puts in
-    puts_none is.1 puts.kept puts.crash
+returns-in_err-put_charges-clause-puts g c = puts_failed _ c.from_residual.ensures.1 c.in_err-put_charges.ensures.puts
 
 pub put_some_fee-requires-clause-known : goal.put_some_fee-requires-clause-known
 put_some_fee-requires-clause-known g c clean =
@@ -47,9 +43,8 @@ put_some_fee-requires-clause-known g c clean =
 
 pub returns-in_err-put_part-clause-puts : goal.returns-in_err-put_part-clause-puts
 returns-in_err-put_part-clause-puts g c =
-    let is = err_from_is_err_and c.from_residual-in_err-put_part.result c.from_residual-in_err-put_part.ensures.1 in
-    let puts = puts_both (with_part c.args.self.now.rows.now.part) c.in_ok-put_charges.ensures.puts c.in_err-put_part.ensures.puts in
-    puts_none is.1 puts.kept puts.crash
+    puts_failed _ c.from_residual-in_err-put_part.ensures.1
+    (puts_both (with_part c.args.self.now.rows.now.part) c.in_ok-put_charges.ensures.puts c.in_err-put_part.ensures.puts)
 
 pub returns-clause-puts : goal.returns-clause-puts
 returns-clause-puts g c =

@@ -1,5 +1,4 @@
 use Rattle.std.proofs.Common.{◌≡◌, ◌∙◌, sym, ap, subst, List, arith}
-use Rattle.std.proofs.lemmas.Result.{err_from_is_err_and}
 use Rattle.std.specs.FinMap.{values}
 use Rattle.sqlite.specs.State.{HasCleanDisk}
 use Rattle.sqlite.specs.Held.{state}
@@ -7,7 +6,7 @@ use Rattle.dh_types.specs.declared.run.Part.{Part}
 use Rattle.dh_model.specs.Books.{Books}
 use Rattle.dh_schema.specs.Store.{tables}
 use Rattle.dh_schema.proofs.Keyed.{books_are_keyed}
-use Rattle.dh_schema.proofs.Putting.{puts_none}
+use Rattle.dh_schema.proofs.Putting.{puts_failed}
 use Rattle.dh_runs.proofs.Putting.{puts_both}
 use Rattle.dh_runs.specs.Migrated.{HaveNoFees, with_no_fees}
 use Rattle.dh_runs.proofs.EachFee.{none_has_a_fee}
@@ -30,10 +29,7 @@ put_no_fees-requires-clause-none g c clean =
     (none_has_a_fee (tables mid).books none (books_are_keyed mid.now.trees))
 
 pub returns-in_err-make_second-clause-puts : goal.returns-in_err-make_second-clause-puts
-returns-in_err-make_second-clause-puts g c =
-    let is = err_from_is_err_and c.from_residual.result c.from_residual.ensures.1 in
-    let puts = c.in_err-make_second.ensures.puts in
-    puts_none is.1 puts.kept puts.crash
+returns-in_err-make_second-clause-puts g c = puts_failed _ c.from_residual.ensures.1 c.in_err-make_second.ensures.puts
 
 pub returns-clause-puts : goal.returns-clause-puts
 returns-clause-puts g c =
