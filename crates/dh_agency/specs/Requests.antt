@@ -46,6 +46,16 @@ is_order (Ok (Command told)) = true
 is_order (Ok (Question asked)) = false
 is_order (Err why) = false
 
+-- it asks a question, which alone a report answers
+abbrev pub is_question : Result Request Refusal → Bool
+is_question (Ok (Command told)) = false
+is_question (Ok (Question asked)) = true
+is_question (Err why) = false
+
+abbrev pub is_report : Said → Bool
+is_report (Replied it) = false
+is_report (Reported it) = true
+
 -- the tables that a fault or a crash within it leaves: those of a command that was interrupted, or the same
 abbrev pub IsCutIn : Result Request Refusal → State → State → Type 0
 IsCutIn (Ok (Command told)) before left = IsInterrupted told before left

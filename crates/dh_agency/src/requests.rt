@@ -2,7 +2,7 @@
 
 ghost use Rattle.std.specs.Prelude.{◌≡◌, false, IfOk, OnOk, OnErr};
 ghost use Rattle.dh_agency.specs.Agency.{IsClean, IsOpen, Leaves, LeavesItsTables, machine, stand};
-ghost use Rattle.dh_agency.specs.Requests.{EndsFor, IsCutIn, is_order, said_in, said_to, says_no};
+ghost use Rattle.dh_agency.specs.Requests.{EndsFor, IsCutIn, is_order, is_question, is_report, said_in, said_to, says_no};
 
 use crate::Agency;
 use dh_types::{Answer, Fault, Refusal, Reply, Request};
@@ -39,6 +39,7 @@ pub fn respond<S: Alter>(
 ) -> Result<Response, Fault>
     ensures said { IsClean S.Store agency.new
         → IfOk result (λ it. said_to (stand S.Store agency.old) request ≡ (stand S.Store agency.new, said_in it)) }
+    ensures kind { IfOk result (λ it. is_report (said_in it) ≡ is_question request) }
     ensures same { IsClean S.Store agency.new → is_order request ≡ false → OnOk result (machine S.Store agency.new ≡ machine S.Store agency.old) }
     ensures left { IsClean S.Store agency.new → LeavesItsTables S.Store agency.old → agency.new.is_stopped ≡ false → LeavesItsTables S.Store agency.new }
     ensures crash { IsClean S.Store agency.new → agency.old.is_stopped ≡ false → LeavesItsTables S.Store agency.old
