@@ -1,4 +1,4 @@
--- Lines and questions, in the words of jobs.
+-- Lines, in the words of jobs.
 use Rattle.std.proofs.Common.{◌≡◌, ◌∙◌, ◌⊎◌, inl, inr, Bool, true, false, ℕ, Option, List, ◌++◌, Err, refl, sym, ap, subst}
 use Rattle.sqlite.specs.Store.{Ghosts}
 use Rattle.dh_model.specs.Books.{State}

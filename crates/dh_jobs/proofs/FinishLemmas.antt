@@ -5,19 +5,16 @@ use Rattle.sqlite.specs.State as conn
 use Rattle.sqlite.specs.State.{HasCleanDisk}
 use Rattle.dh_types.specs.declared.output.Output.{Output}
 use Rattle.dh_types.specs.Output.{BreaksOff}
-use Rattle.dh_types.specs.declared.reply.Reply.{Reply}
 use Rattle.dh_types.specs.declared.run.Run.{Run}
-use Rattle.dh_types.specs.Replies.{is_refusal}
 use Rattle.dh_types.specs.declared.question.Question.TheVariants as asked
 use Rattle.dh_model.specs.declared.open_run.OpenRun.{OpenRun}
 use Rattle.dh_model.specs.Answers.{report, run_report}
 use Rattle.dh_model.specs.Books.{Books, State}
 use Rattle.dh_schema.specs.Store as store
-use Rattle.dh_lines.specs.Session.{Answered, replied}
+use Rattle.dh_lines.specs.Session.{Answered}
 use Rattle.dh_jobs.specs.declared.status.Status.{Status}
 use Rattle.dh_jobs.specs.declared.status.Status.TheVariants.{Done, SomeRefused, BadWords, Failed, RunOpen, FileRefused}
 use Rattle.dh_jobs.specs.Statuses.{IsAnswered, IsEnding, IsFailed, ending}
-use Rattle.dh_jobs.specs.Texts.{reply_line}
 use Rattle.dh_jobs.specs.Printed.{Behind, Prints, Whole, Within, breaking}
 use Rattle.dh_agency.specs.Agency.{stand_of}
 use Rattle.dh_jobs.specs.Jobs.{says_open, stand_in}
@@ -49,19 +46,15 @@ ending_is true run = refl
 ending_is false None = inl refl
 ending_is false (Some run) = inr refl
 
-by_run : (run : Option OpenRun) (is_open : Bool) → is_open ≡ is_some run → ending false run ≡ (if is_open then RunOpen else Done)
-by_run None is_open is = rw is refl
-by_run (Some run) is_open is = rw is refl
-
 -- ---- behind a text
 
 module _ (mid new : conn.State) (a m b : Option (List ℕ)) (is_refused : Bool) (status : Status) where
-  pub comes_finished : (it : Answered) → it.is_refused ≡ is_refused → Appends a m it.text → HasCleanDisk new → stand_in mid ≡ it.state
+  pub comes_finished : (it : Answered) → is_refused ≡ it.is_refused → Appends a m it.text → HasCleanDisk new → stand_in mid ≡ it.state
       → Finishes mid new m b is_refused status → Comes new a b it status
   comes_finished it refused h clean stands (inl (same, kind, left)) =
       let now = left clean in
       WasPrinted (same_behind a m b it.text same h) (ap stand_of now.0 ∙ stands)
-      (now.1 ∙ ap (λ (s : State). ending is_refused s.open_run) stands ∙ ap (λ r. ending r it.state.open_run) (sym refused))
+      (now.1 ∙ ap (λ (s : State). ending is_refused s.open_run) stands ∙ ap (λ r. ending r it.state.open_run) refused)
   comes_finished it refused h clean stands (inr (told, left)) =
       Unasked (told_behind a m b it.text status h told) (λ is_open. ap stand_of (left clean is_open) ∙ stands)
 
@@ -70,25 +63,3 @@ module _ (mid new : conn.State) (a m b : Option (List ℕ)) (is_refused : Bool) 
     prints_finished h (inl (same, kind, left)) = Whole text (ends status kind) (same_behind a m b text same h)
     prints_finished h (inr (told, left)) =
         Behind text (ending is_refused None) (ends _ (ending_is is_refused None)) (told_behind a m b text status h told)
-
-  -- a run, whose reply was printed
-  pub run_finished : (told : State × Reply) (reply : Reply) → told ≡ (stand_in mid, reply) → is_refusal reply ≡ is_refused → Appends a m (reply_line reply)
-      → HasCleanDisk new → Finishes mid new m b is_refused status → Comes new a b (replied told) status
-  run_finished told reply is refused h clean finish =
-      subst (λ it. Comes new a b (replied it) status) (sym is) (comes_finished (replied (stand_in mid, reply)) refused h clean refl finish)
-
--- the output failed in the reply
-pub run_unheard : (new : conn.State) (a b : Option (List ℕ)) (told : State × Reply) (reply : Reply) (output : Output) → told ≡ (stand_in new, reply)
-    → BreaksOff a b (reply_line reply) → Comes new a b (replied told) (breaking output)
-run_unheard new a b told reply output is h =
-    subst (λ it. Comes new a b (replied it) (breaking output)) (sym is) (Unprinted (output, refl, h) refl)
-
-pub finished_alike : (old new : conn.State) (a b : Option (List ℕ)) (is_refused same : Bool) (status : Status) → is_refused ≡ same
-    → Finishes old new a b is_refused status → Finishes old new a b same status
-finished_alike old new a b is_refused same status is h = subst (λ r. Finishes old new a b r status) is h
-
--- the output failed in the text
-pub prints_within : (IsEnd : List ℕ → Status → Type 0) (text : List ℕ) (is_refused : Bool) (a b : Option (List ℕ)) (output : Output)
-    → ((last : Status) → IsEnding is_refused last → IsEnd text last) → BreaksOff a b text → Prints IsEnd a b (breaking output)
-prints_within IsEnd text is_refused a b output ends h =
-    Within text (ending is_refused None) (ends _ (ending_is is_refused None)) (output, refl, h)

@@ -6,12 +6,12 @@ use Rattle.sqlite.specs.State as conn
 use Rattle.sqlite.specs.State.{HasCleanDisk}
 use Rattle.sqlite.specs.Held.{Held, state}
 use Rattle.sqlite.specs.Effect.{Database}
-use Rattle.dh_types.specs.declared.command.RunOrder.{RunOrder}
 use Rattle.dh_types.specs.declared.reply.Fault.{Fault}
 use Rattle.dh_types.specs.declared.reply.Refusal.{Refusal}
 use Rattle.dh_types.specs.declared.reply.Refusal.TheVariants as refusal
 use Rattle.dh_types.specs.declared.version.Version.TheVariants.{First, Second}
 use Rattle.dh_model.specs.Books.{State}
+use Rattle.dh_laws.proofs.CommandLemmas.Carried.{same_cut}
 use Rattle.dh_schema.specs.Faults.{IsFirstFault}
 use Rattle.dh_schema.specs.Store as store
 use Rattle.dh_schema.specs.Store.{Leaves}
@@ -25,13 +25,16 @@ use Rattle.dh_runs.specs.Moved.{IsMigrationProblem}
 use Rattle.dh_agency.specs.Taken.{TakesAsTheyAre, TakesForward}
 use Rattle.dh_agency.specs.AgencyView.{AgencyView}
 use Rattle.dh_agency.specs.Agency.{IsClean, machine, shown_by, stand, stand_of}
+use Rattle.dh_agency.specs.Requests.{IsCutIn, is_question}
+use Rattle.dh_fields.specs.declared.request.Request.{Request}
+use Rattle.dh_fields.specs.declared.request.Request.TheVariants.{Command, Question}
 use Rattle.dh_lines.specs.Batch.{AreAfter}
 use Rattle.dh_http.specs.declared.listener.Service.{Service}
 use Rattle.dh_http.specs.declared.listener.Unserved.{Unserved}
 use Rattle.dh_http.specs.declared.listener.Unserved.TheVariants as unserved
 use Rattle.dh_http.specs.Printed.{Listened, PortUnprinted, PrintsServed, Unlistened, outcome_lines}
 use Rattle.dh_http.specs.Service.{AreOutcomes, GoesOn, HasStopped, IsAfterSome, IsServing, outcomes_of}
-use Rattle.dh_jobs.specs.Jobs.{IsRunCut, stand_in}
+use Rattle.dh_jobs.specs.Jobs.{IsAskCut, stand_in}
 use Rattle.dh_jobs.specs.Leaving.{IsKept, ServingLeaves, TakingLeaves, WorkLeaves}
 use Rattle.dh_jobs.specs.declared.jobs.Work.{Work}
 use Rattle.dh_jobs.specs.declared.jobs.Work.TheVariants as work
@@ -42,7 +45,7 @@ use Rattle.dh_jobs.specs.declared.status.Status.TheVariants.{Done, SomeRefused, 
 use Rattle.dh_jobs.specs.Statuses.{IsAnswered, IsFailed}
 use Rattle.dh_jobs.specs.Texts.{refusal_line}
 use Rattle.dh_jobs.specs.Printed.{Before, Behind, Closes, IsMigrationEnd, IsNotMigratedEnd, IsOfLines, IsRecoveryEnd, IsRefusedEnd}
-use Rattle.dh_jobs.specs.Printed.{IsReportEnd, IsRunEnd, Prints}
+use Rattle.dh_jobs.specs.Printed.{IsAskEnd, Prints}
 use Rattle.dh_jobs.specs.Printed.{EndsByProblem, EndsBySomeFault, EndsServing, EndsWithoutListener, PrintsEnd, PrintsJob, PrintsService, PrintsWork, PutsAs}
 use Rattle.dh_jobs.specs.Printed.{Served}
 use Rattle.dh_jobs.specs.Printed.{Unclosed, Whole, Within}
@@ -191,8 +194,7 @@ module _ (service : Service) (outcomes : List (Option ℕ)) (a m b : Option (Lis
 module _ (a m b : Option (List ℕ)) (before after : Status) (closes : Closes m b before after) where
   work_closed : (it : Work) → PrintsWork it a m before → PrintsWork it a b after
   work_closed work.Lines h = lines_closed m b before after h closes
-  work_closed (work.Run order batches) h = prints_closed IsRunEnd a m b before after h closes
-  work_closed (work.Report question) h = prints_closed IsReportEnd a m b before after h closes
+  work_closed (work.Ask request batches) h = prints_closed (IsAskEnd (is_question (Ok request))) a m b before after h closes
 
   refused_closed : Prints IsRefusedEnd a m before → Prints IsRefusedEnd a b after
   refused_closed h = prints_closed IsRefusedEnd a m b before after h closes
@@ -264,20 +266,24 @@ module _ {S : Type 0} (g : Ghosts S) (after : AgencyView S) (last : Held S) (sam
 
 -- ---- tables that were not taken
 
+-- a request that nothing came of
+untold : (request : Request) (t : State) → IsCutIn (Ok request) t t
+untold (Command told) t = same_cut told t t refl
+untold (Question asked) t = refl
+
+uncut : (request : Request) (batches : Option ℕ) (t : State) → IsAskCut t request batches t
+uncut request None t = untold request t
+uncut request (Some count) t = inl (untold request t)
+
 module _ (old new : conn.State) (h : LeavesAsTheyWere old new) (sound : IsSound old.now.trees) where
   same_leaves : (P : State → Type 0) → P (store.tables old) → Leaves new P
   same_leaves P p left may = subst (λ (t : Trees). IsSound t × P (state_in t)) (sym (h left may)) (sound, p)
-
-  run_kept : (order : RunOrder) (batches : Option ℕ) → IsRunCut (stand_of (store.tables old)) order batches (store.tables old)
-  run_kept order None = inl (refl, refl)
-  run_kept order (Some count) = inl (inl (refl, refl))
 
   work_kept : (it : Work) → WorkLeaves new (store.tables old) it
   work_kept work.Lines =
       let s = stand_of (store.tables old) in
       record { rows = []; within = []; one = omega arith; left = same_leaves (λ left. AreAfter s [] left ⊎ AreAfter s [] left) (inl refl) }
-  work_kept (work.Run order batches) = same_leaves (IsRunCut (stand_of (store.tables old)) order batches) (run_kept order batches)
-  work_kept (work.Report question) = same_leaves (λ left. left ≡ store.tables old) refl
+  work_kept (work.Ask request batches) = same_leaves (IsAskCut (store.tables old) request batches) (uncut request batches (store.tables old))
 
 pub kept_leaves : (old new : conn.State) (it : Work) → TakesAsTheyAre old new → TakingLeaves old new it
 kept_leaves old new it kept = record {

@@ -2,20 +2,15 @@
 use Rattle.std.proofs.Common.{◌≡◌, inl, inr, ℕ, Option, List, [], take, Result, Ok, Err, refl, sym, subst}
 use Rattle.std.specs.Io.KnownBytes.{Appends}
 use Rattle.std.proofs.KnownBytes.{Appends-trans}
-use Rattle.dh_types.specs.declared.answer.Answer.{Answer}
-use Rattle.dh_types.specs.declared.answer.Answer.TheVariants.{Refused}
 use Rattle.dh_types.specs.declared.reply.Fault.{Fault}
-use Rattle.dh_types.specs.declared.reply.Refusal.{Refusal}
 use Rattle.dh_types.specs.declared.output.Output.{Output}
 use Rattle.dh_types.specs.Output.{Puts}
-use Rattle.dh_types.specs.Reports.{report_of}
-use Rattle.dh_reports.specs.ReportTexts.{report_text}
 use Rattle.dh_schema.specs.Faults.{IsFirstFault}
 use Rattle.dh_lines.specs.Batch.{PutsBehind}
 use Rattle.dh_jobs.specs.declared.status.Status.{Status}
 use Rattle.dh_jobs.specs.Printed.{BreaksIn, EndsByFault, EndsBySomeFault, PutsAs, status_if_written}
 use Rattle.dh_jobs.specs.Statuses.{IsFailed}
-use Rattle.dh_jobs.specs.Texts.{fault_line, report_lines}
+use Rattle.dh_jobs.specs.Texts.{fault_line}
 
 pub puts_as : {T : Type 0} (r : Result T Output) (text : List ℕ) (wanted status : Status) (a b : Option (List ℕ)) → status ≡ status_if_written r wanted
     → Puts a b r text

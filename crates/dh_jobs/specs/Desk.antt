@@ -14,6 +14,7 @@ use Rattle.dh_arguments.specs.declared.jobs.BadWords.TheVariants as bad
 use Rattle.dh_arguments.specs.declared.jobs.Job.{Job}
 use Rattle.dh_arguments.specs.declared.jobs.Job.TheVariants.{Init, Batch, Run, Recover, Migrate, Report, Serve}
 use Rattle.dh_arguments.specs.Jobs.{IsBadFor, IsJobOf}
+use Rattle.dh_fields.specs.declared.request.Request.TheVariants.{Question}
 use Rattle.dh_reports.specs.Columns.{newline}
 use Rattle.dh_http.specs.Patience.{standard_patience}
 use Rattle.dh_jobs.specs.declared.jobs.Work.TheVariants as work
@@ -21,6 +22,7 @@ use Rattle.dh_jobs.specs.declared.store_jobs.FileJob.TheVariants as job
 use Rattle.dh_jobs.specs.declared.status.Failure.TheVariants as failure
 use Rattle.dh_jobs.specs.declared.status.Status.{Status}
 use Rattle.dh_jobs.specs.declared.status.Status.TheVariants as status
+use Rattle.dh_jobs.specs.Jobs.{run_work}
 use Rattle.dh_jobs.specs.Texts.{fault_line, refusal_line}
 use Rattle.dh_jobs.specs.Printed.{EndsByFault, IsOfLines, PutsBad, PutsEnding, status_if_written}
 use Rattle.dh_jobs.specs.Ends.{MemoryLinesEnd}
@@ -74,10 +76,10 @@ module _ {D : Type 0} (g : disk.Ghosts D) (held : Image) where
   abbrev pub AskedEnds : Job → Option (List ℕ) → Option (List ℕ) → Option (List ℕ) → Status → Type 0
   AskedEnds (Init file first) input a b it = MadeOnFile g held first a b it
   AskedEnds (Batch file first) input a b it = BatchEnds file first input a b it
-  AskedEnds (Run file order batches) input a b it = DoneOnFile g held (job.Work (work.Run order batches)) input a b it
+  AskedEnds (Run file order batches) input a b it = DoneOnFile g held (job.Work (run_work order batches)) input a b it
   AskedEnds (Recover file) input a b it = DoneOnFile g held job.Recover input a b it
   AskedEnds (Migrate file) input a b it = DoneOnFile g held job.Migrate input a b it
-  AskedEnds (Report file question) input a b it = DoneOnFile g held (job.Work (work.Report question)) input a b it
+  AskedEnds (Report file question) input a b it = DoneOnFile g held (job.Work (work.Ask (Question question) None)) input a b it
   AskedEnds (Serve file port count) input a b it =
       DoneOnFile g held (job.Serve (record { port = port; count = count; patience = standard_patience })) input a b it
 

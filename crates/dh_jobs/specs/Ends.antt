@@ -8,8 +8,6 @@ use Rattle.sqlite.specs.Held.{Held, state}
 use Rattle.sqlite.specs.Steps.{over_memory}
 use Rattle.sqlite_trees.specs.Tree.{Trees}
 use Rattle.sqlite_trees.specs.declared.memory.MemStore.{MemStore}
-use Rattle.dh_types.specs.declared.command.RunOrder.{RunOrder}
-use Rattle.dh_types.specs.declared.question.Question.{Question}
 use Rattle.dh_types.specs.declared.reply.Refusal.{Refusal}
 use Rattle.dh_types.specs.declared.reply.Refusal.TheVariants as refusal
 use Rattle.dh_types.specs.declared.reply.Fault.{Fault}
@@ -27,13 +25,14 @@ use Rattle.dh_runs.specs.Migrated.{migrated_state}
 use Rattle.dh_runs.specs.Moved.{CanBeMigrated, IsNotMigrated, StaysAsItWas}
 use Rattle.dh_agency.specs.Taken.{TakesAsTheyAre, TakesForward}
 use Rattle.dh_agency.specs.Agency.{stand_of}
+use Rattle.dh_fields.specs.declared.request.Request.{Request}
 use Rattle.dh_fields.specs.Lines.{Fields}
 use Rattle.dh_lines.specs.declared.outcome.BatchFault.{BatchFault}
 use Rattle.dh_lines.specs.declared.outcome.BatchFault.TheVariants as ended
 use Rattle.dh_lines.specs.declared.records.Unread.{Unread}
 use Rattle.dh_lines.specs.declared.watched_reader.Input.{Input}
 use Rattle.dh_lines.specs.Session as session
-use Rattle.dh_lines.specs.Session.{Answered, line, lines_from, records_of, replied, state_after}
+use Rattle.dh_lines.specs.Session.{Answered, line, lines_from, records_of, state_after}
 use Rattle.dh_lines.specs.Batch.{IsFaultAt, IsWithin, PutsBehind}
 use Rattle.dh_http.specs.declared.listener.Service.{Service}
 use Rattle.dh_http.specs.Service.{AreOutcomes, IsAfterSome}
@@ -47,7 +46,7 @@ use Rattle.dh_jobs.specs.declared.status.Status.TheVariants.{Done, Failed}
 use Rattle.dh_jobs.specs.Statuses.{IsEnding, ending, status_of}
 use Rattle.dh_jobs.specs.Texts.{migrated_line, recovered_line}
 use Rattle.dh_jobs.specs.Printed.{BreaksIn, EndsByProblem, EndsBySomeFault, PrintsService, PutsAs}
-use Rattle.dh_jobs.specs.Jobs.{IsRunCut, lines_answered, report_shown, run_told, stand_in}
+use Rattle.dh_jobs.specs.Jobs.{IsAskCut, answered_so, lines_answered, said_in_parts, stand_in}
 
 -- ---- over tables that were taken
 
@@ -102,18 +101,14 @@ Finishes old new a b is_refused status =
     × (HasCleanDisk new → (store.tables new ≡ store.tables old) × (status ≡ ending is_refused (store.tables old).open_run)))
     ⊎ (EndsBySomeFault a b [] status × (HasCleanDisk new → IsTrue new.is_open → store.tables new ≡ store.tables old))
 
--- a month's run over these tables
-abbrev pub RunEnds : conn.State → Option (List ℕ) → Option (List ℕ) → State → RunOrder → Option ℕ → Status → Type 0
-RunEnds new a b t order batches status =
-    Comes new a b (replied (run_told (stand_of t) order batches)) status ⊎ Breaks new a b (IsRunCut (stand_of t) order batches) status
-
-abbrev pub ReportEnds : conn.State → Option (List ℕ) → Option (List ℕ) → State → Question → Status → Type 0
-ReportEnds new a b t question status = Comes new a b (report_shown (stand_of t) question) status ⊎ Breaks new a b (λ left. left ≡ t) status
+-- a request over these tables
+abbrev pub AskEnds : conn.State → Option (List ℕ) → Option (List ℕ) → State → Request → Option ℕ → Status → Type 0
+AskEnds new a b t request batches status =
+    Comes new a b (answered_so (said_in_parts (stand_of t) request batches)) status ⊎ Breaks new a b (IsAskCut t request batches) status
 
 abbrev pub WorkEnds : conn.State → Bool → Option (List ℕ) → Option (List ℕ) → State → Option (List ℕ) → Work → Status → Type 0
 WorkEnds new is_stopped a b t input work.Lines status = IfSome input (λ input. LinesEnd new is_stopped a b (stand_of t) input status)
-WorkEnds new is_stopped a b t input (work.Run order batches) status = RunEnds new a b t order batches status
-WorkEnds new is_stopped a b t input (work.Report question) status = ReportEnds new a b t question status
+WorkEnds new is_stopped a b t input (work.Ask request batches) status = AskEnds new a b t request batches status
 
 -- ---- over a store
 

@@ -1,5 +1,5 @@
 -- What a crash leaves of a job as it ends, wherever it came to.
-use Rattle.std.specs.Prelude.{◌≡◌, ◌⊎◌, ◌≤◌, List, ◌++◌, length}
+use Rattle.std.specs.Prelude.{◌⊎◌, ◌≤◌, List, ◌++◌, length}
 use Rattle.sqlite.specs.State as conn
 use Rattle.sqlite.specs.State.{HasCleanDisk}
 use Rattle.dh_model.specs.Books.{State}
@@ -17,7 +17,7 @@ use Rattle.dh_jobs.specs.declared.jobs.Work.TheVariants as work
 use Rattle.dh_jobs.specs.declared.store_jobs.FileJob.{FileJob}
 use Rattle.dh_jobs.specs.declared.store_jobs.FileJob.TheVariants as job
 use Rattle.dh_jobs.specs.declared.status.Status.{Status}
-use Rattle.dh_jobs.specs.Jobs.{IsRunCut}
+use Rattle.dh_jobs.specs.Jobs.{IsAskCut}
 use Rattle.dh_jobs.specs.Statuses.{IsAnswered}
 
 -- What was told is there: where a job was answered, a crash now leaves the tables alone that the store reads.
@@ -35,8 +35,7 @@ pub record LinesLeave (new : conn.State) (s : State) : Type 0 where
 -- work over these tables
 abbrev pub WorkLeaves : conn.State → State → Work → Type 0
 WorkLeaves new t work.Lines = LinesLeave new (stand_of t)
-WorkLeaves new t (work.Run order batches) = Leaves new (IsRunCut (stand_of t) order batches)
-WorkLeaves new t (work.Report question) = Leaves new (λ left. left ≡ t)
+WorkLeaves new t (work.Ask request batches) = Leaves new (IsAskCut t request batches)
 
 -- The same from sound tables; others stay.
 pub record TakingLeaves (old new : conn.State) (it : Work) : Type 0 where

@@ -1,18 +1,16 @@
 -- What was printed, and the status, whatever became of the tables.
-use Rattle.std.specs.Prelude.{◌≡◌, ◌≢◌, ◌⊎◌, ℕ, List, [], ◌++◌, Option, Result, Ok, Err}
+use Rattle.std.specs.Prelude.{◌≡◌, ◌≢◌, ◌⊎◌, ℕ, Bool, List, [], ◌++◌, Option, Result, Ok, Err}
 use Rattle.std.specs.Io.KnownBytes.{Appends}
-use Rattle.dh_types.specs.declared.reply.Reply.{Reply}
 use Rattle.dh_types.specs.declared.reply.Refusal.{Refusal}
 use Rattle.dh_types.specs.declared.reply.Fault.{Fault}
 use Rattle.dh_types.specs.declared.output.Output.{Output}
 use Rattle.dh_types.specs.Output.{BreaksOff, Puts}
-use Rattle.dh_types.specs.Replies.{is_refusal}
-use Rattle.dh_types.specs.Reports.{Report, is_no_report}
 use Rattle.dh_schema.specs.Faults.{IsFirstFault}
 use Rattle.dh_runs.specs.declared.problem.Problem.{Problem}
 use Rattle.dh_runs.specs.declared.problem.Problem.TheVariants as problem
 use Rattle.dh_runs.specs.Taking.{IsOfTables}
 use Rattle.dh_runs.specs.Moved.{IsMigrationProblem}
+use Rattle.dh_agency.specs.Requests.{Said, is_question, is_report, says_no}
 use Rattle.dh_lines.specs.Batch.{PutsBehind}
 use Rattle.dh_http.specs.declared.listener.Service.{Service}
 use Rattle.dh_http.specs.declared.listener.Unserved.{Unserved}
@@ -26,7 +24,7 @@ use Rattle.dh_jobs.specs.declared.status.Failure.TheVariants as failure
 use Rattle.dh_jobs.specs.declared.status.Status.{Status}
 use Rattle.dh_jobs.specs.declared.status.Status.TheVariants.{Done, BadWords, Failed, FileRefused}
 use Rattle.dh_jobs.specs.Statuses.{IsBad, IsEnding, IsFailed}
-use Rattle.dh_jobs.specs.Texts.{created_line, fault_line, migrated_line, no_listener_line, recovered_line, refusal_line, reply_line, report_lines}
+use Rattle.dh_jobs.specs.Texts.{created_line, fault_line, migrated_line, no_listener_line, recovered_line, refusal_line, said_lines}
 
 -- the output failed in a text
 abbrev pub breaking : Output → Status
@@ -79,11 +77,9 @@ pub data Prints (IsEnd : List ℕ → Status → Type 0) (a b : Option (List ℕ
 
 -- ---- the ends of jobs
 
-abbrev pub IsRunEnd : List ℕ → Status → Type 0
-IsRunEnd text status = (reply : Reply) × (text ≡ reply_line reply) × IsEnding (is_refusal reply) status
-
-abbrev pub IsReportEnd : List ℕ → Status → Type 0
-IsReportEnd text status = (it : Report) × (text ≡ report_lines it) × IsEnding (is_no_report it) status
+-- what was said was printed: a report, or a reply
+abbrev pub IsAskEnd : Bool → List ℕ → Status → Type 0
+IsAskEnd reports text status = (it : Said) × (is_report it ≡ reports) × (text ≡ said_lines it) × IsEnding (says_no it) status
 
 abbrev pub IsMakingEnd : ℕ → List ℕ → Status → Type 0
 IsMakingEnd first text status = (text ≡ created_line first) × (status ≡ Done)
@@ -108,8 +104,7 @@ IsOfLines status = (¬ IsBad status) × (status ≢ FileRefused)
 
 abbrev pub PrintsWork : Work → Option (List ℕ) → Option (List ℕ) → Status → Type 0
 PrintsWork work.Lines a b status = IsOfLines status
-PrintsWork (work.Run order batches) a b status = Prints IsRunEnd a b status
-PrintsWork (work.Report question) a b status = Prints IsReportEnd a b status
+PrintsWork (work.Ask request batches) a b status = Prints (IsAskEnd (is_question (Ok request))) a b status
 
 -- that there is no listener is told, as the outcome in the status says
 abbrev pub EndsWithoutListener : Option (List ℕ) → Option (List ℕ) → Status → Type 0

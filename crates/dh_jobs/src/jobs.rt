@@ -1,34 +1,44 @@
 //! What is done over tables that were taken, and how that ends.
 
-ghost use Rattle.std.specs.Prelude.{◌≡◌, false, IfOk, IfErr, IfSome, OnOk, OnErr};
-ghost use Rattle.dh_schema.specs.Faults.{IsFirstFault};
-ghost use Rattle.dh_agency.specs.Agency.{IsClean, IsOpen, Leaves, LeavesItsTables, WasClean, machine, shown_by, stand};
-ghost use Rattle.dh_agency.specs.Outcomes.{IsInterrupted, IsAnsweredBy};
-ghost use Rattle.dh_jobs.specs.Ends.{Finishes, LinesEnd, ReportEnds, RunEnds, WorkEnds};
+ghost use Rattle.std.specs.Prelude.{◌≡◌, false, IfOk, IfSome, None, Ok, OnErr, OnOk};
+ghost use Rattle.dh_agency.specs.Agency.{Ends, IsClean, IsOpen, Leaves, LeavesItsTables, WasClean, machine, shown_by, stand};
+ghost use Rattle.dh_agency.specs.Requests.{is_order, is_question, is_report, said_in};
+ghost use Rattle.dh_jobs.specs.Ends.{AskEnds, Finishes, LinesEnd, WorkEnds};
 ghost use Rattle.dh_jobs.specs.Leaving.{IsKept, LinesLeave, WorkLeaves};
-ghost use Rattle.dh_jobs.specs.Jobs.{IsRunCut, run_told};
-ghost use Rattle.dh_jobs.specs.Printed.{IsOfLines, IsReportEnd, IsRunEnd, Prints, PrintsWork};
+ghost use Rattle.dh_jobs.specs.Jobs.{IsAskCut, is_opened, run_work, said_in_parts};
+ghost use Rattle.dh_jobs.specs.Printed.{IsAskEnd, IsOfLines, Prints, PrintsWork};
 ghost use Rattle.dh_jobs.specs.Statuses.{IsFailed};
 
-use crate::messages::{end_by_fault, print_answer, print_reply};
+use crate::messages::{end_by_fault, print_response};
 use crate::open_run::has_open_run;
 use crate::status::{Failure, Status};
-use dh_agency::Agency;
+use dh_agency::{Agency, Response, respond};
+use dh_fields::Request;
 use dh_lines::batch;
-use dh_types::{BatchCount, Command, Fault, Question, Reply, RunOrder};
+use dh_types::{BatchCount, Command, Fault, Reply, RunOrder};
 use sqlite::Alter;
 use std::alloc::Global;
 use std::io::{Read, Write};
 
 /// What is done over tables that were taken.
-#[derive(Clone, Copy)]
+#[derive(Drop)]
 pub(crate) enum Work {
     /// Answers the lines of the input.
     Lines,
-    /// Makes a month's run, or opens it and posts so many batches.
-    Run(RunOrder, Option<BatchCount>),
-    /// Answers a question.
-    Report(Question),
+    /// Answers the request; where that opens a run, so many batches of it are posted, if a count is named.
+    Ask(Request, Option<BatchCount>),
+}
+
+impl Work {
+    /// A month's run, in one step or in parts.
+    pub(crate) fn run(order: RunOrder, batches: Option<BatchCount>) -> Work
+        ensures { result ≡ run_work order batches }
+    {
+        match batches {
+            Some(_) => Work::Ask(Request::Command(Command::Open(order)), batches),
+            None => Work::Ask(Request::Command(Command::Run(order)), None),
+        }
+    }
 }
 
 // How a job ends whose text is printed. A fault is told.
@@ -76,98 +86,67 @@ pub(crate) fn answer_lines<S: Alter, R: Read, W: Write>(
     }
 }
 
-// The agency's reply to the command.
-fn tell<S: Alter>(alloc: Global, agency: &mut Agency<S>, command: Command) -> Result<Reply, Fault>
-    requires { agency.old.is_stopped ≡ false }
-    ensures said { IsClean S.Store agency.new → IfOk result (λ reply. IsAnsweredBy command reply (machine S.Store agency.old) (machine S.Store agency.new)) }
-    ensures halted { IsClean S.Store agency.new → IsOpen S.Store agency.new
-        → OnErr result (IsInterrupted command (machine S.Store agency.old) (machine S.Store agency.new)) }
-    ensures left { IsClean S.Store agency.new → OnOk result (LeavesItsTables S.Store agency.new) }
-    ensures crash { IsClean S.Store agency.new → Leaves S.Store agency.new (IsInterrupted command (machine S.Store agency.old)) }
-    ensures goes_on { OnOk result (agency.new.is_stopped ≡ false) }
-    ensures cause { IfErr result IsFirstFault }
-    ensures was_clean { WasClean S.Store agency.old agency.new }
+// Whether it says that a run is opened.
+fn is_opened(response: &Response) -> bool
+    ensures { result ≡ is_opened (said_in response.now) }
 {
-    let reply = agency.step(alloc, &command);
-    drop(command);
-    reply
+    matches!(response, Response::Reply(Reply::Opened(_)))
 }
 
-// The last reply to the run: that of its opening where it was not opened, else that of its batches.
-fn tell_run<S: Alter>(
+// What the request is answered; or where that opens a run and a count is named, what posting so many batches is.
+fn respond_in_parts<S: Alter>(
     alloc: Global,
     agency: &mut Agency<S>,
-    order: RunOrder,
+    request: Request,
     batches: Option<BatchCount>,
-) -> Result<Reply, Fault>
+) -> Result<Response, Fault>
     requires { agency.old.is_stopped ≡ false }
     ensures said { IsClean S.Store agency.new
-        → IfOk result (λ reply. run_told (stand S.Store agency.old) order batches ≡ (stand S.Store agency.new, reply)) }
+        → IfOk result (λ it. said_in_parts (stand S.Store agency.old) request batches ≡ (stand S.Store agency.new, said_in it)) }
+    ensures kind { IfOk result (λ it. is_report (said_in it) ≡ is_question (Ok request)) }
+    ensures same { IsClean S.Store agency.new → is_order (Ok request) ≡ false → batches ≡ None
+        → OnOk result (machine S.Store agency.new ≡ machine S.Store agency.old) }
+    ensures left { IsClean S.Store agency.new → LeavesItsTables S.Store agency.old → OnOk result (LeavesItsTables S.Store agency.new) }
+    ensures crash { IsClean S.Store agency.new → LeavesItsTables S.Store agency.old
+        → Leaves S.Store agency.new (IsAskCut (machine S.Store agency.old) request batches) }
     ensures halted { IsClean S.Store agency.new → IsOpen S.Store agency.new
-        → OnErr result (IsRunCut (stand S.Store agency.old) order batches (machine S.Store agency.new)) }
-    ensures left { IsClean S.Store agency.new → OnOk result (LeavesItsTables S.Store agency.new) }
-    ensures crash { IsClean S.Store agency.new → Leaves S.Store agency.new (IsRunCut (stand S.Store agency.old) order batches) }
-    ensures goes_on { OnOk result (agency.new.is_stopped ≡ false) }
-    ensures cause { IfErr result IsFirstFault }
-    ensures was_clean { WasClean S.Store agency.old agency.new }
+        → OnErr result (IsAskCut (machine S.Store agency.old) request batches (machine S.Store agency.new)) }
+    ensures ends { Ends S.Store agency.old agency.new result }
 {
-    let Some(count) = batches else {
-        return tell(alloc, agency, Command::Run(order));
-    };
-    match tell(alloc, agency, Command::Open(order))? {
-        Reply::Opened(_) => tell(alloc, agency, Command::Post(count)),
-        other => Ok(other),
+    let response = respond(alloc, agency, Ok(request))?;
+    match batches {
+        Some(count) if is_opened(&response) => {
+            drop(response);
+            respond(alloc, agency, Ok(Request::Command(Command::Post(count))))
+        }
+        _ => Ok(response),
     }
 }
 
-// Makes the run, and prints the last reply.
-fn run<S: Alter, W: Write>(
+// Answers the request, and prints what is said.
+fn ask<S: Alter, W: Write>(
     alloc: Global,
     agency: &mut Agency<S>,
-    order: RunOrder,
+    request: Request,
     batches: Option<BatchCount>,
     writer: &mut W,
 ) -> Status
     requires { agency.old.is_stopped ≡ false }
-    ensures printed { Prints IsRunEnd (W.contents writer.old) (W.contents writer.new) result }
-    ensures ends { IsClean S.Store agency.new → RunEnds (shown_by S.Store agency.new) (W.contents writer.old) (W.contents writer.new)
-        (machine S.Store agency.old) order batches result }
-    ensures crash { IsClean S.Store agency.new → Leaves S.Store agency.new (IsRunCut (stand S.Store agency.old) order batches) }
-    ensures kept { IsKept (shown_by S.Store agency.new) result }
+    ensures printed { Prints (IsAskEnd (is_question (Ok request))) (W.contents writer.old) (W.contents writer.new) result }
+    ensures ends { IsClean S.Store agency.new → AskEnds (shown_by S.Store agency.new) (W.contents writer.old) (W.contents writer.new)
+        (machine S.Store agency.old) request batches result }
+    ensures same { IsClean S.Store agency.new → is_order (Ok request) ≡ false → batches ≡ None → ¬ IsFailed result
+        → machine S.Store agency.new ≡ machine S.Store agency.old }
+    ensures crash { IsClean S.Store agency.new → LeavesItsTables S.Store agency.old
+        → Leaves S.Store agency.new (IsAskCut (machine S.Store agency.old) request batches) }
+    ensures kept { LeavesItsTables S.Store agency.old → IsKept (shown_by S.Store agency.new) result }
     ensures was_clean { WasClean S.Store agency.old agency.new }
 {
-    match tell_run(alloc, agency, order, batches) {
-        Ok(reply) => {
-            if let Err(output) = print_reply(writer, reply) {
-                return Status::Failed(Failure::Output(output));
-            }
-            finish(alloc, agency, reply.is_refusal(), writer)
-        }
-        Err(fault) => end_by_fault(writer, fault),
-    }
-}
-
-// Prints the report, or the refusal of the question.
-fn report<S: Alter, W: Write>(
-    alloc: Global,
-    agency: &mut Agency<S>,
-    question: Question,
-    writer: &mut W,
-) -> Status
-    requires { agency.old.is_stopped ≡ false }
-    ensures printed { Prints IsReportEnd (W.contents writer.old) (W.contents writer.new) result }
-    ensures ends { IsClean S.Store agency.new → ReportEnds (shown_by S.Store agency.new) (W.contents writer.old) (W.contents writer.new)
-        (machine S.Store agency.old) question result }
-    ensures same { IsClean S.Store agency.new → ¬ IsFailed result → machine S.Store agency.new ≡ machine S.Store agency.old }
-    ensures crash { IsClean S.Store agency.new → Leaves S.Store agency.new (λ left. left ≡ machine S.Store agency.old) }
-    ensures kept { IsKept (shown_by S.Store agency.new) result }
-    ensures was_clean { WasClean S.Store agency.old agency.new }
-{
-    match agency.show(alloc, &question) {
-        Ok(answer) => {
-            let outcome = print_answer(writer, &answer);
-            let is_refused = answer.is_refusal();
-            drop(answer);
+    match respond_in_parts(alloc, agency, request, batches) {
+        Ok(response) => {
+            let outcome = print_response(writer, &response);
+            let is_refused = response.is_refusal();
+            drop(response);
             if let Err(output) = outcome {
                 return Status::Failed(Failure::Output(output));
             }
@@ -196,7 +175,6 @@ pub(crate) fn work_on<S: Alter, R: Read, W: Write>(
 {
     match work {
         Work::Lines => answer_lines(alloc, agency, reader, writer),
-        Work::Run(order, batches) => run(alloc, agency, order, batches, writer),
-        Work::Report(question) => report(alloc, agency, question, writer),
+        Work::Ask(request, batches) => ask(alloc, agency, request, batches, writer),
     }
 }

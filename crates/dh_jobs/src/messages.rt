@@ -3,26 +3,19 @@
 ghost use Rattle.std.specs.Prelude.{◌≡◌, [], Ok, Err};
 ghost use Rattle.dh_types.specs.Output.{Puts};
 ghost use Rattle.dh_types.specs.Reports.{report_of};
+ghost use Rattle.dh_agency.specs.Requests.{Reported, said_in};
 ghost use Rattle.dh_jobs.specs.Printed.{EndsByFault, EndsByProblem, EndsWithoutListener, status_if_written};
 ghost use Rattle.dh_jobs.specs.Texts.{created_line, fault_line, migrated_line, no_listener_line, recovered_line};
-ghost use Rattle.dh_jobs.specs.Texts.{refusal_line, reply_line, report_lines};
+ghost use Rattle.dh_jobs.specs.Texts.{refusal_line, said_lines};
 
 use crate::status::{Failure, Status};
-use dh_agency::Problem;
+use dh_agency::{Problem, Response};
 use dh_reports::write;
 use dh_types::text_writer::put;
 use dh_types::{
-    Answer, EntryMonth, Fault, Output, Refusal, Reply, put_fault, put_month, put_refusal, put_reply,
+    Answer, EntryMonth, Fault, Output, Refusal, put_fault, put_month, put_refusal, put_reply,
 };
 use std::io::Write;
-
-/// Writes the reply's text and a line feed; at an `Output` a beginning of them.
-pub(crate) fn print_reply<W: Write>(writer: &mut W, reply: Reply) -> Result<(), Output>
-    ensures { Puts (W.contents writer.old) (W.contents writer.new) result (reply_line reply) }
-{
-    put_reply(writer, reply)?;
-    put(writer, b"\n")
-}
 
 /// Writes the text of the refusal and a line feed; at an `Output` a beginning of them.
 pub(crate) fn print_refusal<W: Write>(writer: &mut W, refusal: Refusal) -> Result<(), Output>
@@ -40,13 +33,26 @@ pub(crate) fn print_fault<W: Write>(writer: &mut W, fault: Fault) -> Result<(), 
     put(writer, b"\n")
 }
 
-/// Writes the report, or the refusal's text and a line feed; at an `Output` a beginning of them.
-pub(crate) fn print_answer<W: Write>(writer: &mut W, answer: &Answer) -> Result<(), Output>
-    ensures { Puts (W.contents writer.old) (W.contents writer.new) result (report_lines (report_of answer.now)) }
+// Writes the report, or why there is none; at an `Output` a beginning of that.
+fn print_answer<W: Write>(writer: &mut W, answer: &Answer) -> Result<(), Output>
+    ensures { Puts (W.contents writer.old) (W.contents writer.new) result (said_lines (Reported (report_of answer.now))) }
 {
     match answer {
         Answer::Refused(refusal) => print_refusal(writer, *refusal),
         _ => write(answer, writer),
+    }
+}
+
+/// Writes the reply's text and a line feed, or the report, or why there is none; at an `Output` a beginning of that.
+pub(crate) fn print_response<W: Write>(writer: &mut W, response: &Response) -> Result<(), Output>
+    ensures { Puts (W.contents writer.old) (W.contents writer.new) result (said_lines (said_in response.now)) }
+{
+    match response {
+        Response::Reply(reply) => {
+            put_reply(writer, *reply)?;
+            put(writer, b"\n")
+        }
+        Response::Report(answer) => print_answer(writer, answer),
     }
 }
 

@@ -17,6 +17,7 @@ use crate::store_jobs::FileJob;
 use clap::Error;
 use clap::error::ErrorKind;
 use dh_arguments::{BadWords, Job, Words, job};
+use dh_fields::Request;
 use dh_http::{Patience, Service};
 use dh_types::text_writer::put_pieces;
 use dh_types::{EntryMonth, Fault, Output};
@@ -142,7 +143,7 @@ fn do_asked<S: Start, R: Read, W: Write>(
             rt,
             start,
             file,
-            FileJob::Work(Work::Run(*order, *batches)),
+            FileJob::Work(Work::run(*order, *batches)),
             reader,
             writer,
         ),
@@ -152,7 +153,7 @@ fn do_asked<S: Start, R: Read, W: Write>(
             rt,
             start,
             file,
-            FileJob::Work(Work::Report(*question)),
+            FileJob::Work(Work::Ask(Request::Question(*question), None)),
             reader,
             writer,
         ),

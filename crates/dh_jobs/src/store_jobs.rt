@@ -31,7 +31,7 @@ use std::alloc::Global;
 use std::io::{Read, Write};
 
 /// What is done on a file.
-#[derive(Clone, Copy)]
+#[derive(Drop)]
 pub(crate) enum FileJob {
     /// Makes the open run to its end.
     Recover,

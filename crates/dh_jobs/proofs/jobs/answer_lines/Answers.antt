@@ -1,4 +1,4 @@
-use Rattle.std.proofs.Common.{inl, inr, refl, sym, ap, arith}
+use Rattle.std.proofs.Common.{inl, inr, refl, ap, arith}
 use Rattle.std.specs.Prelude.{nat_lt}
 use Rattle.std.proofs.lemmas.Option.{IfSome_then}
 use Rattle.dh_agency.specs.Agency.{IsClean, shown_by, stand}
@@ -13,7 +13,7 @@ returns-in-Ok-clause-ends g c clean =
     let mid = c.batch.new.agency in
     IfSome_then (g.R.Read.remaining c.args.reader.now) (c.in-Ok.ensures.ends (omega (arith, c.finish.ensures.was_clean)))
     (λ input h. inl (comes_finished (shown_by g.S.Store mid) (shown_by g.S.Store c.finish.new.agency) _ _ _ _ c.finish.result
-    (lines_answered (stand g.S.Store c.args.agency.now) (records_of input)) (ap (nat_lt 0) (sym h.refused)) h.written clean h.state c.finish.ensures.ends))
+    (lines_answered (stand g.S.Store c.args.agency.now) (records_of input)) (ap (nat_lt 0) h.refused) h.written clean h.state c.finish.ensures.ends))
 
 pub returns-in-Ok-clause-crash : goal.returns-in-Ok-clause-crash
 returns-in-Ok-clause-crash g c clean rests =

@@ -8,7 +8,7 @@ pub returns-in-Batch : goal.returns-in-Batch
 returns-in-Batch g c = rw c.in-Batch.is c.do_batch.ensures
 
 pub returns-in-Run : goal.returns-in-Run
-returns-in-Run g c = rw c.in-Run.is c.do_on_file.ensures
+returns-in-Run g c = rw c.in-Run.is (rw (sym c.run.ensures) c.do_on_file.ensures)
 
 pub returns-in-Recover : goal.returns-in-Recover
 returns-in-Recover g c = rw c.in-Recover.is c.do_on_file-in-Recover.ensures
