@@ -26,8 +26,8 @@ use Rattle.dh_agency.specs.Taken.{TakesAsTheyAre, TakesForward}
 use Rattle.dh_agency.specs.AgencyView.{AgencyView}
 use Rattle.dh_agency.specs.Agency.{IsClean, machine, shown_by, stand, stand_of}
 use Rattle.dh_agency.specs.Requests.{IsCutIn, is_question}
-use Rattle.dh_fields.specs.declared.request.Request.{Request}
-use Rattle.dh_fields.specs.declared.request.Request.TheVariants.{Command, Question}
+use Rattle.dh_types.specs.declared.request.Request.{Request}
+use Rattle.dh_types.specs.declared.request.Request.TheVariants.{Command, Question}
 use Rattle.dh_lines.specs.Batch.{AreAfter}
 use Rattle.dh_http.specs.declared.listener.Service.{Service}
 use Rattle.dh_http.specs.declared.listener.Unserved.{Unserved}

@@ -14,7 +14,7 @@ use Rattle.dh_arguments.specs.declared.jobs.BadWords.TheVariants as bad
 use Rattle.dh_arguments.specs.declared.jobs.Job.{Job}
 use Rattle.dh_arguments.specs.declared.jobs.Job.TheVariants.{Init, Batch, Run, Recover, Migrate, Report, Serve}
 use Rattle.dh_arguments.specs.Jobs.{IsBadFor, IsJobOf}
-use Rattle.dh_fields.specs.declared.request.Request.TheVariants.{Question}
+use Rattle.dh_types.specs.declared.request.Request.TheVariants.{Question}
 use Rattle.dh_reports.specs.Columns.{newline}
 use Rattle.dh_http.specs.Patience.{standard_patience}
 use Rattle.dh_jobs.specs.declared.jobs.Work.TheVariants as work

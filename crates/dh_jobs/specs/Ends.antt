@@ -25,7 +25,7 @@ use Rattle.dh_runs.specs.Migrated.{migrated_state}
 use Rattle.dh_runs.specs.Moved.{CanBeMigrated, IsNotMigrated, StaysAsItWas}
 use Rattle.dh_agency.specs.Taken.{TakesAsTheyAre, TakesForward}
 use Rattle.dh_agency.specs.Agency.{stand_of}
-use Rattle.dh_fields.specs.declared.request.Request.{Request}
+use Rattle.dh_types.specs.declared.request.Request.{Request}
 use Rattle.dh_fields.specs.Lines.{Fields}
 use Rattle.dh_lines.specs.declared.outcome.BatchFault.{BatchFault}
 use Rattle.dh_lines.specs.declared.outcome.BatchFault.TheVariants as ended

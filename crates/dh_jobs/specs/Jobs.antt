@@ -10,8 +10,8 @@ use Rattle.dh_model.specs.Books.{State}
 use Rattle.dh_schema.specs.Store as store
 use Rattle.dh_agency.specs.Agency.{stand_of}
 use Rattle.dh_agency.specs.Requests.{IsCutIn, Said, Replied, said_to, says_no}
-use Rattle.dh_fields.specs.declared.request.Request.{Request}
-use Rattle.dh_fields.specs.declared.request.Request.TheVariants.{Command}
+use Rattle.dh_types.specs.declared.request.Request.{Request}
+use Rattle.dh_types.specs.declared.request.Request.TheVariants.{Command}
 use Rattle.dh_fields.specs.Lines.{Fields}
 use Rattle.dh_lines.specs.Session.{Answered, lines_from, refused_in, state_after}
 use Rattle.dh_jobs.specs.declared.jobs.Work.{Work}

@@ -5,8 +5,8 @@ use Rattle.dh_model.specs.Books.{State}
 use Rattle.dh_agency.specs.Agency.{IsClean, Leaves, machine, stand_of}
 use Rattle.dh_agency.specs.Requests.{IsCutIn, Said, said_in, said_to}
 use Rattle.dh_agency.proofs.Standing.{leaves_more}
-use Rattle.dh_fields.specs.declared.request.Request.{Request}
-use Rattle.dh_fields.specs.declared.request.Request.TheVariants.{Command}
+use Rattle.dh_types.specs.declared.request.Request.{Request}
+use Rattle.dh_types.specs.declared.request.Request.TheVariants.{Command}
 use Rattle.dh_jobs.specs.Jobs.{IsAskCut, is_opened}
 use Rattle.dh_jobs.proofs.jobs.respond_in_parts.Goals as goal
 
