@@ -81,7 +81,7 @@ struct Caller<'a> {
 }
 
 // A writer that is told the port, and sends the requests.
-fn caller<'a>(rt: &'a HostRuntime, asks: &'a [Ask]) -> Follower<Caller<'a>> {
+fn new_caller<'a>(rt: &'a HostRuntime, asks: &'a [Ask]) -> Follower<Caller<'a>> {
     Follower {
         told: Vec::new(rt.alloc()),
         deed: Caller {
@@ -164,7 +164,7 @@ fn judged(
 
 // What a run comes to whose peers send these requests.
 fn served(rt: &HostRuntime, tally: &mut Tally, asks: &[Ask], words: &str) -> io::Result<String> {
-    let mut caller = caller(rt, asks);
+    let mut caller = new_caller(rt, asks);
     let status = run_told(rt, words, &mut caller)?;
     let rest = judged(rt, tally, asks, caller)?;
     Ok(outcome(rt.alloc(), status.code(), &rest)?)
@@ -172,7 +172,7 @@ fn served(rt: &HostRuntime, tally: &mut Tally, asks: &[Ask], words: &str) -> io:
 
 // What serving in haste comes to, whose peers send these requests.
 fn hurried(rt: &HostRuntime, tally: &mut Tally, asks: &[Ask], count: &str) -> io::Result<String> {
-    let mut caller = caller(rt, asks);
+    let mut caller = new_caller(rt, asks);
     let end = serve_in_haste(rt, count, &mut caller)?;
     let rest = judged(rt, tally, asks, caller)?;
     let text = str::from_utf8(&rest).unwrap_or("no text");
