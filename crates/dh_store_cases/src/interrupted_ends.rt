@@ -38,6 +38,21 @@ fn serve_interrupted<S: Alter, W: Write>(
     serve_one(alloc, agency, &mut reader, writer)
 }
 
+fn judge_behind(
+    rt: &HostRuntime,
+    tally: &mut Tally,
+    case: &Case,
+    bytes: usize,
+    got: &Outcome,
+    want: &Outcome,
+) -> io::Result<()> {
+    let way = Way {
+        words: "interrupted",
+        bytes,
+    };
+    judge(rt, tally, case, way, got, want)
+}
+
 /// The read behind so many bytes of the request is interrupted, and the write behind as many of the answer: that is whole.
 pub fn play_interrupted_behind<S: Alter>(
     rt: &HostRuntime,
@@ -63,9 +78,5 @@ pub fn play_interrupted_behind<S: Alter>(
         written: &case.answer,
         replies: "",
     };
-    let way = Way {
-        words: "interrupted",
-        bytes,
-    };
-    judge(rt, tally, case, way, &got, &want)
+    judge_behind(rt, tally, case, bytes, &got, &want)
 }
