@@ -12,19 +12,17 @@ use Rattle.dh_types.specs.declared.version.Version.{Version}
 use Rattle.dh_types.specs.declared.version.Version.TheVariants.{First, Second}
 use Rattle.dh_model.specs.Books as machine
 use Rattle.dh_model.specs.declared.rows.Change.{Change}
-use Rattle.dh_model.specs.declared.rows.Change.TheVariants as change
 use Rattle.dh_model.specs.declared.rows.Verdict.{Verdict}
 use Rattle.dh_model.specs.declared.rows.Verdict.TheVariants as verdict
 use Rattle.dh_model.specs.Kinds.{IsSince}
 use Rattle.dh_model.specs.Machine.{accepted}
 use Rattle.dh_model.specs.Runs.{batch_size}
-use Rattle.dh_model.specs.Verdicts.{opened_run, run_verdict, verdict_on}
+use Rattle.dh_model.specs.Verdicts.{run_verdict, verdict_on}
 use Rattle.dh_laws.specs.Batches.{is_plain}
 use Rattle.dh_laws.specs.InOrder.{IsEntered}
 use Rattle.dh_laws.specs.Looks.{AcceptedChangesFit, FitsIn}
 use Rattle.dh_laws.specs.Events.{Answered}
 use Rattle.dh_laws.specs.StateTables.{IsStateInOrder, as_tables}
-use Rattle.dh_laws.specs.Telling.{begun}
 use Rattle.dh_laws.proofs.CommandLemmas.Carried.{opening_cut, opening_said, refused_said, rows_cut, rows_in_order, rows_said, same_cut}
 use Rattle.dh_laws.proofs.InvariantLemmas.Versions.{the_version_stays}
 use Rattle.dh_schema.specs.Store as store
@@ -33,6 +31,7 @@ use Rattle.dh_schema.specs.Tables.{IsSound, state_in}
 use Rattle.dh_schema.proofs.Keyed.{books_are_keyed, sound_tables_show_their_run}
 use Rattle.dh_schema.specs.Changes.{HasPlace, came_with_rows}
 use Rattle.dh_runs.specs.Outcomes.{IsInterrupted, IsAnsweredBy}
+use Rattle.dh_runs.proofs.Carried.{begins, open_is_accepted, opening_accepted}
 
 pub on_err : {A E P : Type 0} (r : Result A E) → P → OnErr r P
 on_err (Ok a) p = tt
@@ -83,19 +82,25 @@ either_cut told s b new done left = leaves_weaker new (λ t. (t ≡ s) ⊎ (t �
 
 -- ---- an opening
 
-module _ (order : RunOrder) (old : State) (ready : IsReady old) (none : (store.tables old).open_run ≡ None)
-    (h : run_verdict (store.tables old).books order ≡ verdict.Change (change.Open (opened_run (store.tables old).books order))) where
+module _ (order : RunOrder) (rows : Change) (old : State) (ready : IsReady old)
+    (h : verdict_on (store.tables old).books (store.tables old).open_run (command.Open order) ≡ verdict.Change rows) where
   abbrev before : machine.State
   before = store.tables old
 
+  it : (before.open_run ≡ None) × (run_verdict before.books order ≡ verdict.Change rows)
+  it = open_is_accepted before.books before.open_run order rows h
+
   abbrev opened : machine.State
-  opened = begun order (change.Open (opened_run before.books order)) before
+  opened = with_change rows before
 
   pub open_said : (t : machine.State) → t ≡ opened → IsAnsweredBy (command.Open order) (reply.Opened order.month) before t
-  open_said t is = opening_said before order none (in_order old ready) h t is
+  open_said t is =
+      opening_said before order it.0 (in_order old ready) (opening_accepted order rows before it.1) t (is ∙ begins order rows before it.1)
 
   pub open_crash : (new : State) → Leaves new (λ t. (t ≡ before) ⊎ (t ≡ opened)) → Leaves new (IsInterrupted (command.Open order) before)
-  open_crash new left = either_cut (command.Open order) before opened new (opening_cut before order none (in_order old ready) h) left
+  open_crash new left =
+      either_cut (command.Open order) before opened new
+      (λ t is. opening_cut before order it.0 (in_order old ready) (opening_accepted order rows before it.1) t (is ∙ begins order rows before it.1)) left
 
 -- ---- rows of an accepted command
 

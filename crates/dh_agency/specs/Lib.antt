@@ -3,7 +3,13 @@ pub mod Agency
 pub mod Taken
 pub mod Outcomes
 pub mod Requests
+pub use Rattle.dh_runs.specs.Migrated
+pub use Rattle.dh_runs.specs.Moved
+pub use Rattle.dh_runs.specs.Taking
+pub use Rattle.dh_runs.specs.declared.problem.Problem
+pub use Rattle.dh_schema.specs.Faults
 pub use Rattle.dh_schema.specs.Store
+pub use Rattle.dh_schema.specs.Tables
 pub use Rattle.dh_laws.specs.Events
 pub use Rattle.dh_laws.specs.StateTables
 pub use Rattle.dh_model.specs.Books

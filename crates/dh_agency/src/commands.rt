@@ -20,7 +20,7 @@ use dh_model::{Change, Verdict};
 use dh_runs::{RunState, open_run, post_some, run_all};
 use dh_schema::StoreFault;
 use dh_store::{apply, ask};
-use dh_types::{Command, Refusal, Reply};
+use dh_types::{Command, Refusal, Reply, Version};
 use sqlite::{Alter, Connection};
 use std::alloc::Global;
 
@@ -84,9 +84,12 @@ fn accept<S: Alter>(
     ensures was_clean { doubt (state S.Store conn.old).is_clean ≤ doubt (state S.Store conn.new).is_clean }
 {
     match command {
-        Command::Run(order) => Ok(Reply::Posted(run_all(alloc, conn, order)?)),
+        Command::Run(order) => {
+            let sum = run_all(alloc, conn, Version::Second, order, change)?;
+            Ok(Reply::Posted(sum))
+        }
         Command::Open(order) => {
-            open_run(alloc, conn, order)?;
+            open_run(alloc, conn, change)?;
             Ok(Reply::Opened(order.month))
         }
         _ => apply_change(alloc, conn, command, change),

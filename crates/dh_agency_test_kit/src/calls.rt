@@ -37,7 +37,7 @@ fn open_accepted<S: Alter>(
 {
     match command {
         Command::Open(order) => {
-            open_run(alloc, conn, order)?;
+            open_run(alloc, conn, rows)?;
             Ok(true)
         }
         _ => Ok(false),

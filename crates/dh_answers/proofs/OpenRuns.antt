@@ -1,12 +1,15 @@
 -- What an open run says of a question.
-use Rattle.std.proofs.Common.{◌≡◌, refl, ap, Bool, true, false, if◌then◌else◌, Option, Some, None}
+use Rattle.std.proofs.Common.{◌≡◌, refl, Bool, true, false, if◌then◌else◌, Option, Some, None, option_map}
 use Rattle.dh_types.specs.declared.question.Question.{Question}
 use Rattle.dh_types.specs.declared.reply.Refusal.{Refusal}
+use Rattle.dh_types.specs.declared.reply.Refusal.TheVariants as refusal
 use Rattle.dh_types.specs.Reports.{NoReport, Report}
 use Rattle.dh_model.specs.declared.open_run.OpenRun.{OpenRun}
 use Rattle.dh_model.specs.Answers.{answer_of, is_put_off, report, unless_open}
 use Rattle.dh_model.specs.Books.{State}
-use Rattle.dh_answers.proofs.FrozenCommands.{none_open, refusal_of}
+
+abbrev refusal_of : Option OpenRun → Option Refusal
+refusal_of run = option_map (λ (at : OpenRun). refusal.RunOpen at.month) run
 
 by_question : (off : Bool) (run : Option OpenRun) (why : Refusal) (otherwise : Report) → (if off then refusal_of run else None) ≡ Some why
     → NoReport why ≡ (if off then unless_open run otherwise else otherwise)
@@ -16,7 +19,8 @@ by_question false run why otherwise is = cc
 
 none_put_off : (off : Bool) (run : Option OpenRun) (otherwise : Report) → (if off then refusal_of run else None) ≡ None
     → (if off then otherwise else otherwise) ≡ (if off then unless_open run otherwise else otherwise)
-none_put_off true run otherwise is = ap (λ r. unless_open r otherwise) (none_open true run is)
+none_put_off true None otherwise is = refl
+none_put_off true (Some at) otherwise is = cc
 none_put_off false run otherwise is = refl
 
 module _ (s : State) (question : Question) where

@@ -7,7 +7,8 @@ ghost use Rattle.dh_types.specs.Reports.{report_of};
 ghost use Rattle.dh_model.specs.Answers.{is_put_off, matching_report, report};
 
 use crate::owner_statements::owner_statement;
-use crate::{arrears, branches, matching, run_report, statement, vacant};
+use crate::run_reports::run_report;
+use crate::{arrears, branches, matching, statement, vacant};
 use dh_books::Books;
 use dh_types::{Answer, ClientDay, Question, Refusal, field};
 use std::alloc::{AllocError, Global};

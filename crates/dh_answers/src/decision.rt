@@ -7,7 +7,7 @@ ghost use Rattle.dh_model.specs.MachineLaws.{is_frozen};
 ghost use Rattle.dh_model.specs.Verdicts.{verdict_among, verdict_on};
 ghost use Rattle.dh_laws.specs.InOrder.{AreKeyed};
 ghost use Rattle.dh_laws.specs.Looks.{IsCutOf};
-ghost use Rattle.dh_answers.specs.Seen.{facts_of, put_off_by};
+ghost use Rattle.dh_answers.specs.Seen.{facts_of, put_off_by, run_of};
 
 use crate::clients::{
     decide_client, decide_comment, decide_inspection, decide_register, decide_viewing,
@@ -18,20 +18,21 @@ use crate::offices::{decide_branch, decide_fee, decide_owner, decide_staff};
 use crate::properties::{decide_assign, decide_property, decide_rent};
 use crate::receipts::{decide_receipt, decide_run};
 use dh_books::Books;
-use dh_model::{Change, OpenRun, Verdict};
-use dh_types::{Command, Refusal};
+use dh_model::{Change, Verdict};
+use dh_types::{Command, EntryMonth, Refusal};
 use std::alloc::{AllocError, Global};
 
-/// Some rows, the open run, and how many receipts there are in all.
+/// Some rows, how many receipts there are in all, and the month of the open run. What `books` has of an open run has no say.
 #[derive(Drop)]
 pub struct Facts {
     pub books: Books,
     pub receipts: usize,
+    pub open_month: Option<EntryMonth>,
 }
 
-/// The refusal of a command that an open run puts off: while a run is open, branches, fees, leases and their ends, receipts and runs are refused.
-pub fn open_refusal(run: &Option<OpenRun>, command: &Command) -> Option<Refusal>
-    ensures { result ≡ put_off_by run.now command.now }
+/// The refusal of a command that the open run of this month puts off: branches, fees, leases and their ends, receipts and runs are refused.
+pub fn open_refusal(open_month: &Option<EntryMonth>, command: &Command) -> Option<Refusal>
+    ensures { result ≡ put_off_by open_month.now command.now }
 {
     match command {
         Command::Branch(_)
@@ -40,22 +41,23 @@ pub fn open_refusal(run: &Option<OpenRun>, command: &Command) -> Option<Refusal>
         | Command::End(_)
         | Command::Receipt(_)
         | Command::Run(_)
-        | Command::Open(_) => run.map(|at| Refusal::RunOpen(at.month.month())),
+        | Command::Open(_) => open_month.map(|month| Refusal::RunOpen(month.month())),
         _ => None,
     }
 }
 
-// What the books say of the command, where there are so many receipts, and where no run is open for what one would put off.
+// What the books say of the command, which the open run of this month does not put off, where there are so many receipts.
 fn decide_passed(
     alloc: Global,
     books: &Books,
     receipts: usize,
+    open_month: Option<EntryMonth>,
     command: &Command,
 ) -> Result<Verdict, AllocError>
-    ensures { IfOk result (λ v. v ≡ verdict_among books.now.books receipts (if is_frozen command.now then None else books.now.open_run) command.now) }
+    ensures { IfOk result (λ v. v ≡ verdict_among books.now.books receipts (run_of (if is_frozen command.now then None else open_month)) command.now) }
 {
     match command {
-        Command::Post(_) => match books.open_run() {
+        Command::Post(_) => match open_month {
             Some(_) => Ok(Verdict::Change(Change::Post)),
             None => Ok(Verdict::Refused(Refusal::NoRun)),
         },
@@ -83,19 +85,19 @@ fn decide_passed(
 pub fn decide(alloc: Global, books: &Books, command: &Command) -> Result<Verdict, AllocError>
     ensures { IfOk result (λ v. v ≡ verdict_on books.now.books books.now.open_run command.now) }
 {
-    let run = books.open_run();
-    match open_refusal(&run, command) {
+    let open_month = books.open_run().map(|run| run.month);
+    match open_refusal(&open_month, command) {
         Some(refusal) => Ok(Verdict::Refused(refusal)),
-        None => decide_passed(alloc, books, books.receipt_count(), command),
+        None => decide_passed(alloc, books, books.receipt_count(), open_month, command),
     }
 }
 
-/// What books say of the command of which the facts are what it looks at, where no open run puts it off. Of an open run the facts have the
-/// month alone.
+/// What books say of the command of which the facts are what it looks at, where no open run puts it off.
 pub fn decide_on(alloc: Global, facts: &Facts, command: &Command) -> Result<Verdict, AllocError>
-    requires { put_off_by facts.now.books.open_run command.now ≡ None }
+    requires { put_off_by facts.now.open_month command.now ≡ None }
     ensures { (books : Rows) (run : Option Run) → AreKeyed books → IsCutOf (facts_of facts.now) books run command.now
         → IfOk result (λ v. v ≡ verdict_on books run command.now) }
 {
-    decide_passed(alloc, &facts.books, facts.receipts, command)
+    let open_month = facts.open_month;
+    decide_passed(alloc, &facts.books, facts.receipts, open_month, command)
 }

@@ -25,6 +25,5 @@ pub use debts::arrears;
 pub use decision::{Facts, decide, decide_on, open_refusal};
 pub use lists::branches;
 pub use receipts::decide_run;
-pub use run_reports::run_report;
 pub use statements::statement;
 pub use vacancies::{matching, vacant};

@@ -23,7 +23,11 @@ fn parts(alloc: Global, books: &Books, month: EntryMonth) -> Result<Vec<Part>, A
 
 /// The parts of the month's run, rising by branch, and what it comes to in pence; refused 14 where the month has no run
 /// or an open one. It fails where memory runs out.
-pub fn run_report(alloc: Global, books: &Books, month: EntryMonth) -> Result<Answer, AllocError>
+pub(crate) fn run_report(
+    alloc: Global,
+    books: &Books,
+    month: EntryMonth,
+) -> Result<Answer, AllocError>
     ensures { IfOk result (λ answer. report_of answer ≡ run_report books.now.books (fin.get books.now.books.runs month)) }
 {
     let Some(run) = books.run(&month) else {

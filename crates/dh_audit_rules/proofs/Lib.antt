@@ -2,7 +2,6 @@ pub mod ClosedDues
 pub mod ClosedSums
 pub mod ClosedWhole
 pub mod Consecutive
-pub mod OpenBatches
 pub mod Rows
 pub mod SameLists
 pub mod Counting

@@ -1,6 +1,6 @@
 -- Stays in the order of their properties and starts: where none overlaps the next, no two overlap.
 use Rattle.std.proofs.Common.{◌≡◌, ◌↔◌, ◌∙◌, refl, sym, subst, inl, inr, ℕ, suc, ◌+◌, ◌<◌, ◌≤◌}
-use Rattle.std.proofs.Common.{Bool, true, false, ◌||◌, not, nat_le, List, [], ◌∷◌, map, leb-true, leb-false}
+use Rattle.std.proofs.Common.{Bool, true, false, not, nat_le, List, [], ◌∷◌, map, leb-true, leb-false}
 use Rattle.std.proofs.Common.{length, slice_index_or, arith}
 use Rattle.std.specs.declared.cmp.Ordering.{Ordering}
 use Rattle.std.specs.declared.cmp.Ordering.TheVariants.{Less, Equal, Greater}

@@ -1,5 +1,6 @@
 -- What a test of all rows says of each row.
-use Rattle.std.proofs.Common.{◌≡◌, ◌↔◌, ◌∙◌, refl, sym, ap, subst, ℕ, zero, suc, ◌<◌, Bool, true, false, List, [], ◌∷◌, ◌++◌, map, append_assoc, length}
+use Rattle.std.proofs.Common.{◌≡◌, ◌↔◌, ◌∙◌, refl, sym, ap, subst, inl, inr, ℕ, zero, suc, ◌<◌, Bool, true, false, List, [], ◌∷◌, ◌++◌}
+use Rattle.std.proofs.Common.{map, append_assoc, length}
 use Rattle.std.proofs.Common.{slice_index_or, arith}
 use Rattle.std.specs.Bool.{MatchBool}
 use Rattle.std.specs.Fn.{Called}
@@ -7,11 +8,12 @@ use Rattle.std.specs.Iterator.{YieldsThen}
 use Rattle.std.specs.List.{AllWithin, FoldsTo, HoldsAt, IsAmong}
 use Rattle.std.specs.Option.{MatchOption}
 use Rattle.std.proofs.lemmas.Bool.{false≢true}
-use Rattle.std.proofs.lemmas.Iterator.{YieldsList, cases_from_all}
+use Rattle.std.proofs.lemmas.Iterator.{cases_from_all}
 use Rattle.std.proofs.lemmas.Iterator.Consumers.{YieldsList-from_rest}
 use Rattle.std.specs.Map.Iter.{TakesFirst}
 use denote.Param.Members.{Mut}
 use Rattle.std.specs.Prelude.{Option}
+use Rattle.dh_model.proofs.Among.{Among, in_append, of_right}
 
 module _ {X : Type 0} where
   -- the element at an index
@@ -60,3 +62,17 @@ pub one_pushed : {X Y : Type 0} (f : X → Y) (x : X) (xs ys : List X) (made nex
 one_pushed f x xs ys made next all y front added same so_far =
     ap (λ zs. zs ++ map f ys) (added ∙ ap (λ z. made ++ z ∷ []) same) ∙ append_assoc made (f x ∷ []) (map f ys)
     ∙ sym (ap (λ zs. made ++ map f zs) front) ∙ so_far
+
+-- the row that a loop over all rows comes to
+pub among_rest : {X : Type 0} (xs done rest later : List X) (x : X) → xs ≡ done ++ rest → rest ≡ x ∷ later → Among xs x
+among_rest xs done rest later x all front = subst (λ ys. Among ys x) (sym (all ∙ ap (λ ys. done ++ ys) front)) (of_right done (x ∷ later) x (inl refl))
+
+-- what holds of all so far and of the next one
+pub each_more : {X : Type 0} (P : X → Type 0) (before : List X) (x : X) → ((y : X) → Among before y → P y) → P x → (y : X) → Among (before ++ x ∷ []) y → P y
+each_more P before x had own y a = elim (in_append before (x ∷ []) y a) [
+  | inl earlier ↦ had y earlier
+  | inr here ↦ elim here [
+    | inl is ↦ subst P (sym is) own
+    | inr none ↦ absurd none
+  ]
+]

@@ -1,12 +1,11 @@
 -- What receipts and their keys are tested by.
-use Rattle.std.specs.Prelude.{◌≡◌, ◌≢◌, ℕ, ◌*◌, false, List, ◌++◌, map, IfSome}
-use Rattle.std.specs.List.{AllPairs, filter}
+use Rattle.std.specs.Prelude.{◌≡◌, ℕ, ◌*◌, List, ◌++◌, map, IfSome}
+use Rattle.std.specs.List.{filter}
 use Rattle.std.specs.FinMap.{get, values}
 use Rattle.dh_values.specs.declared.receipt_kind.ReceiptKind.TheVariants.{Deposit}
 use Rattle.dh_types.specs.declared.lease.Receipt.{Receipt}
 use Rattle.dh_types.specs.Records.{is_same_receipt_kind}
 use Rattle.dh_model.specs.Books.{Books}
-use Rattle.dh_model.specs.Checks.{is_same_text}
 
 -- the receipt, if it is of a deposit, is twice the rent of its lease, if that is there
 abbrev pub IsTwiceTheRent : Books → Receipt → Type 0

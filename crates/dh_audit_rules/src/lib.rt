@@ -13,7 +13,6 @@ mod leases;
 mod months;
 mod occupancies;
 mod open_months;
-mod open_shown;
 mod receipts;
 mod references;
 mod runs;

@@ -4,10 +4,9 @@ ghost use Rattle.std.specs.Prelude.{◌≡◌, ◌↔◌, ◌≤◌, true, false
 ghost use Rattle.dh_model.specs.Rules.{ArePosted, Each, HaveTheSame, MonthIsOpen, charges_in, parts_in};
 ghost use Rattle.dh_model.specs.Runs.{batch_size, batches, posted_charges, posted_parts};
 
-use crate::open_shown::batches_shown;
 use crate::same_lists::have_the_same;
 use dh_books::Books;
-use dh_leases::{batches, posted_charges, posted_parts};
+use dh_leases::{batches, batches_shown, posted_charges, posted_parts};
 use dh_types::{Charge, EntryMonth, Part, Pence, Run};
 use std::alloc::{AllocError, Global};
 
@@ -94,7 +93,7 @@ fn open_month_is_in_order(alloc: Global, books: &Books, run: &Run) -> Result<boo
     if run.count != 0 || run.total != Pence::of_pence(0) {
         return Ok(false);
     }
-    let shown = batches_shown(alloc, books, run.month)?;
+    let shown = batches_shown(books, run.month);
     are_posted(alloc, books, run.month, shown)
 }
 

@@ -55,8 +55,12 @@ module _ (kind : Kind) (b : Inside) {now : State} (view : state_of b ≡ now) (e
       → state_of b ≡ record now { books = updated kind key into now.books (get (records_of kind now.books) key) }
   none_there key into none = view ∙ ap (λ found. let s : State = record now { books = updated kind key into now.books found } in s) (got key none)
 
-  pub kept_where : (test : record_of kind → Bool) {fs : List (key_of kind × record_of kind)} → IsStrictlySortedBy (order_of kind) (keys_of es)
-      → fs ≡ filter (λ e. test e.1) es → with_rows (from_entries fs) (state_of b) ≡ with_rows (rows_where test (records_of kind now.books)) now
-  kept_where test sorted is =
-      ap (λ es. with_rows (from_entries es) (state_of b)) (is ∙ ap (filter (λ e. test e.1)) (made sorted))
+  -- the rows that pass a test
+  module _ (test : record_of kind → Bool) {fs : List (key_of kind × record_of kind)} (sorted : IsStrictlySortedBy (order_of kind) (keys_of es))
+      (is : fs ≡ filter (λ e. test e.1) es) where
+    pub passing : from_entries {R = order_of kind} fs ≡ rows_where test (records_of kind (state_of b).books)
+    passing = ap (from_entries {R = order_of kind}) (is ∙ ap (filter (λ e. test e.1)) (made sorted))
+
+    pub kept_where : with_rows (from_entries fs) (state_of b) ≡ with_rows (rows_where test (records_of kind now.books)) now
+    kept_where = ap (λ rows. with_rows rows (state_of b)) passing
       ∙ ap (λ (s : State). with_rows (rows_where test (records_of kind s.books)) s) view

@@ -4,7 +4,9 @@ use Rattle.std.specs.Ordering.{nat_cmp}
 use Rattle.std.specs.FinMap.{FinMap, from_entries, get}
 use Rattle.dh_values.specs.Counts.{IsLeaseNo}
 use Rattle.dh_types.specs.declared.lease.Lease.{Lease}
-use Rattle.dh_model.specs.Books.{StandUnderTheirNumbers, State}
+use Rattle.dh_types.specs.declared.run.Part.{Part}
+use Rattle.dh_model.specs.Books.{StandUnder, StandUnderTheirNumbers, State, pair_cmp, text_cmp}
+use Rattle.dh_model.specs.Runs.{part_key}
 use Rattle.dh_books.specs.declared.books.Books.TheInside.{Inside}
 
 -- the machine's state
@@ -34,7 +36,8 @@ state_of b = record {
   open_run = b.open_run;
 }
 
--- each lease stands under its number, which is a lease's
-pub record AreKept (leases : FinMap nat_cmp Lease) : Type 0 where
+-- each lease stands under its number, which is a lease's, and each part row under its month and branch
+pub record AreKept (leases : FinMap nat_cmp Lease) (parts : FinMap (pair_cmp nat_cmp text_cmp) Part) : Type 0 where
   pub numbered : StandUnderTheirNumbers leases
   pub in_range : (number : ℕ) (lease : Lease) → get leases number ≡ Some lease → IsLeaseNo lease.terms.number
+  pub parted : StandUnder part_key parts

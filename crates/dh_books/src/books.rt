@@ -61,7 +61,7 @@ impl Model for Books {
 
     ghost view = { state_of };
 
-    ghost invariant = { λ b. AreKept (from_entries b.leases.entries) };
+    ghost invariant = { λ b. AreKept (from_entries b.leases.entries) (from_entries b.parts.entries) };
 }
 
 impl Books {

@@ -33,7 +33,8 @@ use Rattle.dh_ddl.specs.PartTable.{part}
 use Rattle.dh_ddl.specs.BranchFeeTable.{branch_fee}
 use Rattle.dh_ddl.specs.PartFeeTable.{part_fee}
 use Rattle.dh_ddl.specs.EndingTable.{ending}
-use Rattle.dh_ddl.specs.LookIndexes.{property_staff, property_owner, property_branch, lease_property, lease_client, charge_month, receipt_lease, viewing_property}
+use Rattle.dh_ddl.specs.LookIndexes.{property_staff, property_owner, property_branch, lease_property, lease_client, charge_month, receipt_lease}
+use Rattle.dh_ddl.specs.LookIndexes.{viewing_property}
 use Rattle.dh_ddl.specs.Layout.{first, second, no_schema, first_schema, our_schema}
 use Rattle.dh_ddl.specs.Meanings.{DropsIndex, MakesIndex, MakesTable}
 

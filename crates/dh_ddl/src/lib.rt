@@ -8,4 +8,4 @@ mod schema_equality;
 pub mod texts;
 
 pub use creation::{create_all, create_later};
-pub use ours::{has_tables_of, is_ours, store_of, tables_found};
+pub use ours::tables_found;

@@ -73,6 +73,7 @@ module _ (fields : Fields) where
       commanded_badly (shows_nothing _ refl h.1) r e is (subst P (sym h.0) (wordless command_forms 1 fields refl refl h.1))
 
 -- the line of a question is what that is
-pub question_is : (fields : Fields) → IsShown fields → (r : Result Question Refusal) → r ≡ value_among question_forms 2 fields → a_question r ≡ request_of fields
+pub question_is : (fields : Fields) → IsShown fields → (r : Result Question Refusal) → r ≡ value_among question_forms 2 fields
+    → a_question r ≡ request_of fields
 unfolding request_of field
 question_is fields shown r is = let show : is_show fields ≡ true = ap is_show shown.1 in rw show (ap a_question is)

@@ -6,7 +6,7 @@ use Rattle.dh_types.specs.Output.{BreaksOff}
 use Rattle.dh_types.specs.declared.reply.Fault.{Fault}
 use Rattle.dh_types.specs.declared.reply.Fault.TheVariants as fault
 use Rattle.dh_model.specs.Books.{State}
-use Rattle.dh_schema.specs.Faults.{IsFirstFault}
+use Rattle.dh_agency.specs.Faults.{IsFirstFault}
 use Rattle.dh_agency.specs.AgencyView.{AgencyView}
 use Rattle.dh_agency.specs.Agency.{IsOpen, Leaves, machine, stand}
 use Rattle.dh_agency.specs.Requests.{IsCutIn, Said, Replied, Reported, is_order, said_to}

@@ -3,7 +3,7 @@
 ghost use Rattle.std.specs.Prelude.{◌≡◌, ◌≢◌, List, [], ◌∷◌, Option, None, Result, IfErr, IfSome};
 ghost use Rattle.std.specs.IoError.{error_kind, raw_os_error};
 ghost use Rattle.std.specs.declared.io.Error.{Error};
-ghost use Rattle.dh_schema.specs.Faults.{IsFirstFault};
+ghost use Rattle.dh_agency.specs.Faults.{IsFirstFault};
 ghost use Rattle.dh_http.specs.Calls.{Makes};
 ghost use Rattle.dh_http.specs.Accepting.{HasTried, accepted, fault_of, fault_of_code};
 

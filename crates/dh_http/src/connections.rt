@@ -5,7 +5,7 @@ ghost use Rattle.std.specs.Prelude.{OnErr, OnOk};
 ghost use Rattle.dh_types.specs.Output.{Puts};
 ghost use Rattle.dh_types.specs.declared.reply.Fault.{Fault};
 ghost use Rattle.dh_types.specs.declared.reply.Fault.TheVariants.{Store};
-ghost use Rattle.dh_schema.specs.Faults.{IsFirstFault};
+ghost use Rattle.dh_agency.specs.Faults.{IsFirstFault};
 ghost use Rattle.dh_agency.specs.Agency.{IsClean, LeavesItsTables, WasClean};
 ghost use Rattle.dh_requests.specs.Requests.{ConsumesRequest, MayAsk};
 ghost use Rattle.dh_http.specs.Calls.{Call, EndsAnswered, Makes, nanos};
@@ -32,6 +32,7 @@ use std::alloc::Global;
 use std::io;
 use std::io::Write;
 use std::net::{SocketAddr, TcpListener, TcpStream};
+use std::time::Clock;
 
 /// Answers a peer through two streams, which have the time of its patience: the status, if it was answered, and the peer behind it. Where it was
 /// answered the stream ends as such.
@@ -65,8 +66,8 @@ pub fn serve_peer<S: Alter, P: Peer>(
 }
 
 // Answers what came of a call for the next connection: the status, if it was answered. A fault where no further connection can be taken.
-fn serve_accepted<S: Alter>(
-    rt: &HostRuntime,
+fn serve_accepted<S: Alter, R: Clock + AllocGlobal>(
+    rt: &R,
     routes: &Routes,
     agency: &mut Agency<S>,
     outcome: io::Result<(TcpStream, SocketAddr)>,
@@ -102,8 +103,8 @@ fn serve_accepted<S: Alter>(
 
 // Answers the next connection: the status, if it was answered. A fault where no further connection can be taken, or where the agency's file is no
 // longer where it was as one comes: nothing is read of it then.
-fn serve_next<S: Alter, F: Watch>(
-    rt: &HostRuntime,
+fn serve_next<S: Alter, R: Clock + AllocGlobal, F: Watch>(
+    rt: &R,
     routes: &Routes,
     agency: &mut Agency<S>,
     file: &mut F,
@@ -138,8 +139,8 @@ fn print_outcome<W: Write>(writer: &mut W, outcome: &Option<StatusCode>) -> Resu
 /// Answers so many connections and prints the status of each, or `lost`. `Stopped` behind the one at which the agency stopped, whether its
 /// answer was lost or not, `Fault` where no further connection can be taken or the file is no longer where it was as one comes, `Output` where the
 /// writer failed.
-pub(crate) fn serve_connections<S: Alter, F: Watch, W: Write>(
-    rt: &HostRuntime,
+pub(crate) fn serve_connections<S: Alter, R: Clock + AllocGlobal, F: Watch, W: Write>(
+    rt: &R,
     routes: &Routes,
     agency: &mut Agency<S>,
     file: &mut F,

@@ -5,7 +5,7 @@ ghost use Rattle.std.specs.Net.Socket.{socket_port};
 ghost use Rattle.dh_types.specs.Output.{Puts};
 ghost use Rattle.dh_types.specs.declared.reply.Fault.{Fault};
 ghost use Rattle.dh_types.specs.declared.reply.Fault.TheVariants as faults;
-ghost use Rattle.dh_schema.specs.Faults.{IsFirstFault};
+ghost use Rattle.dh_agency.specs.Faults.{IsFirstFault};
 ghost use Rattle.dh_agency.specs.Agency.{WasClean};
 ghost use Rattle.dh_http.specs.Printed.{PrintsServed, port_text};
 ghost use Rattle.dh_http.specs.Service.{IsOfThisMachine, ServesOn};
@@ -24,7 +24,8 @@ use sqlite::Alter;
 use std::alloc::AllocError;
 use std::io;
 use std::io::Write;
-use std::net::{IpAddr, Ipv4Addr, SocketAddr, TcpListener};
+use std::net::{IpAddr, Ipv4Addr, Net, SocketAddr, TcpListener, TcpStream};
+use std::time::Clock;
 
 /// The port of 127.0.0.1 where requests are listened for, on how many connections they are served, and how long their peers are waited for. With
 /// port 0 the system picks one.
@@ -107,7 +108,10 @@ fn with_port<L: Listening + Drop>(listener: L) -> io::Result<(L, u16)>
 }
 
 // The listener at this port of 127.0.0.1, and the port that it has.
-fn listen(rt: &HostRuntime, port: u16) -> io::Result<(TcpListener, u16)> {
+fn listen<R: Net<Listener = TcpListener, Stream = TcpStream>>(
+    rt: &R,
+    port: u16,
+) -> io::Result<(TcpListener, u16)> {
     with_port(TcpListener::bind(rt, address_of(port))?)
 }
 
@@ -126,8 +130,13 @@ fn print_port<W: Write>(writer: &mut W, asked: u16, port: u16) -> Result<(), Out
 /// `port P` where the system picks the port. Its peers have the time of its patience. The agency's file is looked for before a request is read.
 /// `NoListener` where the port can't be had, `Stopped` behind the connection at which the agency stopped, whether its answer was lost or not,
 /// `Fault` where no further connection can be taken or the file is no longer where it was as one comes, `Output` where the writer failed.
-pub fn serve<S: Alter, F: Watch, W: Write>(
-    rt: &HostRuntime,
+pub fn serve<
+    S: Alter,
+    R: Net<Listener = TcpListener, Stream = TcpStream> + Clock + AllocGlobal,
+    F: Watch,
+    W: Write,
+>(
+    rt: &R,
     agency: &mut Agency<S>,
     file: &mut F,
     service: Service,

@@ -9,7 +9,7 @@ ghost use Rattle.dh_http.specs.Calls.{AsksTime, Call, EndsOutput, Makes, Reads, 
 use std::io;
 use std::io::{Read, Write};
 use std::net::{Shutdown, TcpStream};
-use std::time::{Duration, Instant};
+use std::time::{Clock, Duration, Instant};
 
 /// A peer's stream, and the clock.
 pub trait Peer {
@@ -58,19 +58,19 @@ fn writing_within(stream: &TcpStream, limit: Duration) -> io::Result<&TcpStream>
 }
 
 /// A peer of this machine.
-#[derive(Clone, Copy)]
-pub(crate) struct SocketPeer<'a> {
-    rt: &'a HostRuntime,
+#[derive_where(Clone, Copy)]
+pub(crate) struct SocketPeer<'a, R: Clock> {
+    rt: &'a R,
     stream: &'a TcpStream,
 }
 
-impl<'a> SocketPeer<'a> {
-    pub(crate) fn new(rt: &'a HostRuntime, stream: &'a TcpStream) -> SocketPeer<'a> {
+impl<'a, R: Clock> SocketPeer<'a, R> {
+    pub(crate) fn new(rt: &'a R, stream: &'a TcpStream) -> SocketPeer<'a, R> {
         SocketPeer { rt, stream }
     }
 }
 
-impl Peer for SocketPeer<'_> {
+impl<R: Clock> Peer for SocketPeer<'_, R> {
     fn time(&mut self) -> io::Result<Instant> {
         Instant::now(self.rt)
     }

@@ -1,5 +1,5 @@
 -- Lines, in the words of jobs.
-use Rattle.std.proofs.Common.{◌≡◌, ◌∙◌, ◌⊎◌, inl, inr, Bool, true, false, ℕ, Option, List, ◌++◌, Err, refl, sym, ap, subst}
+use Rattle.std.proofs.Common.{◌≡◌, ◌∙◌, ◌⊎◌, inl, inr, Bool, true, false, ℕ, Option, List, ◌++◌, Err, refl, sym, subst}
 use Rattle.sqlite.specs.Store.{Ghosts}
 use Rattle.dh_model.specs.Books.{State}
 use Rattle.dh_agency.specs.AgencyView.{AgencyView}

@@ -1,24 +1,20 @@
 -- How a job ends whose text was printed.
-use Rattle.std.proofs.Common.{◌≡◌, ◌∙◌, inl, inr, Bool, true, false, ℕ, Option, Some, None, List, refl, sym, ap, subst, is_some, if◌then◌else◌}
+use Rattle.std.proofs.Common.{◌≡◌, ◌∙◌, inl, inr, Bool, true, false, ℕ, Option, Some, None, List, refl, ap, is_some}
 use Rattle.std.specs.Io.KnownBytes.{Appends}
 use Rattle.sqlite.specs.State as conn
 use Rattle.sqlite.specs.State.{HasCleanDisk}
-use Rattle.dh_types.specs.declared.output.Output.{Output}
-use Rattle.dh_types.specs.Output.{BreaksOff}
 use Rattle.dh_types.specs.declared.run.Run.{Run}
 use Rattle.dh_types.specs.declared.question.Question.TheVariants as asked
 use Rattle.dh_model.specs.declared.open_run.OpenRun.{OpenRun}
 use Rattle.dh_model.specs.Answers.{report, run_report}
 use Rattle.dh_model.specs.Books.{Books, State}
-use Rattle.dh_schema.specs.Store as store
+use Rattle.dh_agency.specs.Agency.{stand_of}
 use Rattle.dh_lines.specs.Session.{Answered}
 use Rattle.dh_jobs.specs.declared.status.Status.{Status}
-use Rattle.dh_jobs.specs.declared.status.Status.TheVariants.{Done, SomeRefused, BadWords, Failed, RunOpen, FileRefused}
-use Rattle.dh_jobs.specs.Statuses.{IsAnswered, IsEnding, IsFailed, ending}
-use Rattle.dh_jobs.specs.Printed.{Behind, Prints, Whole, Within, breaking}
-use Rattle.dh_agency.specs.Agency.{stand_of}
+use Rattle.dh_jobs.specs.Statuses.{IsEnding, ending}
+use Rattle.dh_jobs.specs.Printed.{Behind, Prints, Whole}
 use Rattle.dh_jobs.specs.Jobs.{says_open, stand_in}
-use Rattle.dh_jobs.specs.Ends.{Comes, Finishes, Unasked, Unprinted, WasPrinted}
+use Rattle.dh_jobs.specs.Ends.{Comes, Finishes, Unasked, WasPrinted}
 use Rattle.dh_jobs.proofs.TextLemmas.{same_behind, told_behind}
 
 -- ---- whether a run is open

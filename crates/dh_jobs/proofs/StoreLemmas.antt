@@ -6,22 +6,22 @@ use Rattle.sqlite.specs.State as conn
 use Rattle.sqlite.specs.State.{HasCleanDisk}
 use Rattle.sqlite.specs.Held.{Held, state}
 use Rattle.sqlite.specs.Effect.{Database}
+use Rattle.sqlite_trees.specs.Tree.{Trees}
 use Rattle.dh_types.specs.declared.reply.Fault.{Fault}
 use Rattle.dh_types.specs.declared.reply.Refusal.{Refusal}
 use Rattle.dh_types.specs.declared.reply.Refusal.TheVariants as refusal
 use Rattle.dh_types.specs.declared.version.Version.TheVariants.{First, Second}
 use Rattle.dh_model.specs.Books.{State}
 use Rattle.dh_laws.proofs.CommandLemmas.Carried.{same_cut}
-use Rattle.dh_schema.specs.Faults.{IsFirstFault}
-use Rattle.dh_schema.specs.Store as store
-use Rattle.dh_schema.specs.Store.{Leaves}
-use Rattle.sqlite_trees.specs.Tree.{Trees}
-use Rattle.dh_schema.specs.Tables.{IsSound, state_in}
-use Rattle.dh_runs.specs.declared.problem.Problem.{Problem}
-use Rattle.dh_runs.specs.declared.problem.Problem.TheVariants as problem
-use Rattle.dh_runs.specs.Taking.{CanBeTaken, GivesVersion, IsFirstProblem, IsProblemOf, IsRefusedFor, LeavesAsTheyWere, ReadsAsItDid}
-use Rattle.dh_runs.specs.Outcomes.{IsRecovered, IsMidRecovery}
-use Rattle.dh_runs.specs.Moved.{IsMigrationProblem}
+use Rattle.dh_agency.specs.Faults.{IsFirstFault}
+use Rattle.dh_agency.specs.Store as store
+use Rattle.dh_agency.specs.Store.{Leaves}
+use Rattle.dh_agency.specs.Tables.{IsSound, state_in}
+use Rattle.dh_agency.specs.Problem.{Problem}
+use Rattle.dh_agency.specs.Problem.TheVariants as problem
+use Rattle.dh_agency.specs.Taking.{CanBeTaken, GivesVersion, IsFirstProblem, IsProblemOf, IsRefusedFor, LeavesAsTheyWere, ReadsAsItDid}
+use Rattle.dh_agency.specs.Outcomes.{IsRecovered, IsMidRecovery}
+use Rattle.dh_agency.specs.Moved.{IsMigrationProblem}
 use Rattle.dh_agency.specs.Taken.{TakesAsTheyAre, TakesForward}
 use Rattle.dh_agency.specs.AgencyView.{AgencyView}
 use Rattle.dh_agency.specs.Agency.{IsClean, machine, shown_by, stand, stand_of}

@@ -1,11 +1,11 @@
 -- Texts that were printed, whole or not.
-use Rattle.std.proofs.Common.{◌≡◌, inl, inr, ℕ, Option, List, [], take, Result, Ok, Err, refl, sym, subst}
+use Rattle.std.proofs.Common.{◌≡◌, inl, inr, ℕ, Option, List, [], take, Result, Ok, Err, sym, subst}
 use Rattle.std.specs.Io.KnownBytes.{Appends}
 use Rattle.std.proofs.KnownBytes.{Appends-trans}
 use Rattle.dh_types.specs.declared.reply.Fault.{Fault}
 use Rattle.dh_types.specs.declared.output.Output.{Output}
 use Rattle.dh_types.specs.Output.{Puts}
-use Rattle.dh_schema.specs.Faults.{IsFirstFault}
+use Rattle.dh_agency.specs.Faults.{IsFirstFault}
 use Rattle.dh_lines.specs.Batch.{PutsBehind}
 use Rattle.dh_jobs.specs.declared.status.Status.{Status}
 use Rattle.dh_jobs.specs.Printed.{BreaksIn, EndsByFault, EndsBySomeFault, PutsAs, status_if_written}

@@ -15,14 +15,14 @@ use Rattle.dh_types.specs.declared.reply.Fault.TheVariants as fault
 use Rattle.dh_types.specs.declared.version.Version.TheVariants.{First, Second}
 use Rattle.dh_types.specs.declared.output.Output.{Output}
 use Rattle.dh_model.specs.Books.{State, start}
-use Rattle.dh_schema.specs.Faults.{IsFirstFault}
-use Rattle.dh_schema.specs.Store as store
-use Rattle.dh_runs.specs.declared.problem.Problem.{Problem}
-use Rattle.dh_runs.specs.declared.problem.Problem.TheVariants as problem
-use Rattle.dh_runs.specs.Taking.{BreaksRule, CanBeTaken, IsProblemOf, IsRefusedFor}
-use Rattle.dh_runs.specs.Outcomes.{IsRecovered}
-use Rattle.dh_runs.specs.Migrated.{migrated_state}
-use Rattle.dh_runs.specs.Moved.{CanBeMigrated, IsNotMigrated, StaysAsItWas}
+use Rattle.dh_agency.specs.Faults.{IsFirstFault}
+use Rattle.dh_agency.specs.Store as store
+use Rattle.dh_agency.specs.Problem.{Problem}
+use Rattle.dh_agency.specs.Problem.TheVariants as problem
+use Rattle.dh_agency.specs.Taking.{BreaksRule, CanBeTaken, IsProblemOf, IsRefusedFor}
+use Rattle.dh_agency.specs.Outcomes.{IsRecovered}
+use Rattle.dh_agency.specs.Migrated.{migrated_state}
+use Rattle.dh_agency.specs.Moved.{CanBeMigrated, IsNotMigrated, StaysAsItWas}
 use Rattle.dh_agency.specs.Taken.{TakesAsTheyAre, TakesForward}
 use Rattle.dh_agency.specs.Agency.{stand_of}
 use Rattle.dh_types.specs.declared.request.Request.{Request}

@@ -7,7 +7,7 @@ use Rattle.dh_types.specs.declared.reply.Reply.TheVariants as reply
 use Rattle.dh_types.specs.declared.reply.Refusal.TheVariants as refusal
 use Rattle.dh_types.specs.Reports.{Report, NoReport}
 use Rattle.dh_model.specs.Books.{State}
-use Rattle.dh_schema.specs.Store as store
+use Rattle.dh_agency.specs.Store as store
 use Rattle.dh_agency.specs.Agency.{stand_of}
 use Rattle.dh_agency.specs.Requests.{IsCutIn, Said, Replied, said_to, says_no}
 use Rattle.dh_types.specs.declared.request.Request.{Request}

@@ -3,10 +3,10 @@ use Rattle.std.specs.Prelude.{◌⊎◌, ◌≤◌, List, ◌++◌, length}
 use Rattle.sqlite.specs.State as conn
 use Rattle.sqlite.specs.State.{HasCleanDisk}
 use Rattle.dh_model.specs.Books.{State}
-use Rattle.dh_schema.specs.Store.{Leaves, LeavesItsTables, tables}
-use Rattle.dh_schema.specs.Tables.{IsSound}
-use Rattle.dh_runs.specs.Taking.{LeavesAsTheyWere}
-use Rattle.dh_runs.specs.Moved.{MovesOn}
+use Rattle.dh_agency.specs.Store.{Leaves, LeavesItsTables, tables}
+use Rattle.dh_agency.specs.Tables.{IsSound}
+use Rattle.dh_agency.specs.Taking.{LeavesAsTheyWere}
+use Rattle.dh_agency.specs.Moved.{MovesOn}
 use Rattle.dh_agency.specs.Taken.{TakesForward}
 use Rattle.dh_agency.specs.Agency.{stand_of}
 use Rattle.dh_fields.specs.Lines.{Fields}

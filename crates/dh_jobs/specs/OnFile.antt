@@ -18,8 +18,8 @@ use Rattle.sqlite.specs.declared.file.Leftover.{Leftover}
 use Rattle.dh_model.specs.Books.{start}
 use Rattle.dh_types.specs.declared.reply.Fault.{Fault}
 use Rattle.dh_types.specs.declared.reply.Fault.TheVariants as fault
-use Rattle.dh_schema.specs.Faults.{IsFirstFault, fault_of}
-use Rattle.dh_schema.specs.Store.{Commits, IsBlank, LeavesItsTables, tables}
+use Rattle.dh_agency.specs.Faults.{IsFirstFault, fault_of}
+use Rattle.dh_agency.specs.Store.{Commits, IsBlank, LeavesItsTables, tables}
 use Rattle.dh_jobs.specs.declared.remains.Remains.{Remains}
 use Rattle.dh_jobs.specs.declared.remains.Remains.TheVariants as remains
 use Rattle.dh_jobs.specs.declared.store_jobs.FileJob.{FileJob}

@@ -5,11 +5,11 @@ use Rattle.dh_types.specs.declared.reply.Refusal.{Refusal}
 use Rattle.dh_types.specs.declared.reply.Fault.{Fault}
 use Rattle.dh_types.specs.declared.output.Output.{Output}
 use Rattle.dh_types.specs.Output.{BreaksOff, Puts}
-use Rattle.dh_schema.specs.Faults.{IsFirstFault}
-use Rattle.dh_runs.specs.declared.problem.Problem.{Problem}
-use Rattle.dh_runs.specs.declared.problem.Problem.TheVariants as problem
-use Rattle.dh_runs.specs.Taking.{IsOfTables}
-use Rattle.dh_runs.specs.Moved.{IsMigrationProblem}
+use Rattle.dh_agency.specs.Faults.{IsFirstFault}
+use Rattle.dh_agency.specs.Problem.{Problem}
+use Rattle.dh_agency.specs.Problem.TheVariants as problem
+use Rattle.dh_agency.specs.Taking.{IsOfTables}
+use Rattle.dh_agency.specs.Moved.{IsMigrationProblem}
 use Rattle.dh_agency.specs.Requests.{Said, is_question, is_report, says_no}
 use Rattle.dh_lines.specs.Batch.{PutsBehind}
 use Rattle.dh_http.specs.declared.listener.Service.{Service}

@@ -2,7 +2,7 @@
 
 ghost use Rattle.std.specs.Prelude.{◌↔◌, IsSome};
 ghost use Rattle.sqlite.specs.Held.{state};
-ghost use Rattle.dh_schema.specs.Store.{IsBlank};
+ghost use Rattle.dh_agency.specs.Store.{IsBlank};
 
 use sqlite::{Alter, Connection};
 

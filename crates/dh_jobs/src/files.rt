@@ -6,8 +6,8 @@ ghost use Rattle.sqlite.specs.Files.{file_state};
 ghost use Rattle.sqlite.specs.State.{HasCleanDisk};
 ghost use Rattle.sqlite.specs.declared.error.Error.TheVariants.{SqliteFailure};
 ghost use Rattle.sqlite.specs.declared.error.ErrorCode.TheVariants.{DatabaseBusy};
-ghost use Rattle.dh_runs.specs.Taking.{IsResting};
-ghost use Rattle.dh_schema.specs.Faults.{IsFirstFault};
+ghost use Rattle.dh_agency.specs.Taking.{IsResting};
+ghost use Rattle.dh_agency.specs.Faults.{IsFirstFault};
 ghost use Rattle.dh_jobs.specs.Ends.{MemoryLinesEnd};
 ghost use Rattle.dh_jobs.specs.OnFile.{ClosesTo, DoneOnFile, EndsOnFile, IsLeftOf, IsOpenedOn, IsUnopenedOn, MadeOnFile, MakesOnFile};
 ghost use Rattle.dh_jobs.specs.Printed.{Closes, EndsByFault, IsMakingEnd, IsOfLines, Prints, PrintsJob};
@@ -19,13 +19,15 @@ use crate::paths::{Found, NewFile, Opened, remove_blank};
 use crate::remains::Remains;
 use crate::status::Status;
 use crate::store_jobs::{FileJob, begin, do_job, make};
-use dh_agency::NotOpened;
-use dh_schema::fault_of;
+use dh_agency::{NotOpened, fault_of};
 use dh_types::{EntryMonth, Fault};
 use sqlite::{Connection, Error, ErrorCode, FileFrom, FileStore, Leftover, Start};
 use sqlite_disk::{Disk, Files};
 use std::alloc::Global;
+use std::fs;
 use std::io::{Read, Write};
+use std::net::{Net, TcpListener, TcpStream};
+use std::time::Clock;
 
 // Whether another has the file open.
 fn is_busy(error: &Error) -> bool
@@ -133,8 +135,13 @@ fn end_unclosed<W: Write>(cause: Fault, status: Status, writer: &mut W) -> Statu
 
 // Does the job over the store of a file, and closes it whatever came of the job, so that the file has all that was committed. The path has to
 // name the file still.
-fn do_and_close<D: Disk + Drop, R: Read, W: Write>(
-    rt: &HostRuntime,
+fn do_and_close<
+    D: Disk + Drop,
+    H: fs::Files + Net<Listener = TcpListener, Stream = TcpStream> + Clock + AllocGlobal,
+    R: Read,
+    W: Write,
+>(
+    rt: &H,
     conn: Connection<FileStore<D>>,
     file: &Opened,
     job: FileJob,
@@ -189,8 +196,8 @@ pub(crate) fn do_on_file<S: Start, R: Read, W: Write>(
 
 // Makes the tables of empty books in the store of a new file, closes it, and then tells that. Where they can't be made or closed, the place is
 // left as it was found, or fault 22 is told.
-fn make_and_close<D: Disk + Drop, W: Write>(
-    rt: &HostRuntime,
+fn make_and_close<D: Disk + Drop, H: fs::Files + AllocGlobal, W: Write>(
+    rt: &H,
     conn: Connection<FileStore<D>>,
     new_file: &NewFile,
     first: EntryMonth,

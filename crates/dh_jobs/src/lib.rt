@@ -14,7 +14,7 @@ mod service;
 mod status;
 mod store_jobs;
 
-pub use process::{exit_code, refuse_words, run_words};
+pub use process::exit_code;
 pub use program::{desk, desk_from};
 pub use sqlite::{Start, Unknown};
 pub use status::{Failure, Status};

@@ -1,9 +1,8 @@
 //! Whether a rent run stands open.
 
-ghost use Rattle.std.specs.Prelude.{◌≡◌, false, is_some, IfOk, OnOk, OnErr, IfErr};
+ghost use Rattle.std.specs.Prelude.{◌≡◌, false, is_some, IfOk, OnOk, OnErr};
 ghost use Rattle.dh_types.specs.Reports.{report_of};
-ghost use Rattle.dh_schema.specs.Faults.{IsFirstFault};
-ghost use Rattle.dh_agency.specs.Agency.{IsClean, IsOpen, Leaves, LeavesItsTables, WasClean, machine};
+ghost use Rattle.dh_agency.specs.Agency.{Ends, IsClean, IsOpen, Leaves, LeavesItsTables, machine};
 ghost use Rattle.dh_jobs.specs.Jobs.{says_open};
 
 use dh_agency::Agency;
@@ -27,8 +26,7 @@ pub(crate) fn has_open_run<S: Alter>(alloc: Global, agency: &mut Agency<S>) -> R
     ensures left { IsClean S.Store agency.new → OnOk result (LeavesItsTables S.Store agency.new) }
     ensures halted { IsClean S.Store agency.new → IsOpen S.Store agency.new → OnErr result (machine S.Store agency.new ≡ machine S.Store agency.old) }
     ensures crash { IsClean S.Store agency.new → Leaves S.Store agency.new (λ left. left ≡ machine S.Store agency.old) }
-    ensures cause { IfErr result IsFirstFault }
-    ensures was_clean { WasClean S.Store agency.old agency.new }
+    ensures ends { Ends S.Store agency.old agency.new result }
 {
     // The first month that there is: whether it was run makes no difference here.
     let question = Question::Run(EntryMonth::of_number(FIRST_MONTH));

@@ -12,7 +12,7 @@ ghost use Rattle.std.specs.Prelude.{◌≡◌, ◌≢◌, ◌↔◌, Bool, Some,
 ghost use Rattle.std.specs.IoError.{error_kind};
 ghost use Rattle.std.specs.declared.io.ErrorKind.TheVariants.{WouldBlock};
 ghost use Rattle.dh_types.specs.declared.reply.Fault.TheVariants as fault;
-ghost use Rattle.dh_schema.specs.Faults.{IsFirstFault};
+ghost use Rattle.dh_agency.specs.Faults.{IsFirstFault};
 ghost use Rattle.dh_jobs.specs.Paths.{IsAbsentOrEmpty, IsEmptyFile, IsFoundAs, IsOfStream, IsOpenedAs, IsPlainFile, MayHoldTables, fault_behind, system_fault};
 
 use crate::blank::Blank;

@@ -3,7 +3,7 @@
 ghost use Rattle.std.specs.Prelude.{◌⊎◌, ℕ, List, Option};
 ghost use Rattle.sqlite.specs.State.{HasCleanDisk};
 ghost use Rattle.sqlite.specs.Held.{state};
-ghost use Rattle.dh_runs.specs.Taking.{IsResting};
+ghost use Rattle.dh_agency.specs.Taking.{IsResting};
 ghost use Rattle.dh_jobs.specs.Ends.{ServingEnds};
 ghost use Rattle.dh_jobs.specs.Leaving.{IsKept, ServingLeaves};
 ghost use Rattle.dh_jobs.specs.Printed.{EndsServing, IsRefusedEnd, Prints, PrintsService};
@@ -14,7 +14,10 @@ use crate::status::{Failure, Status};
 use dh_agency::{NotOpened, attach};
 use dh_http::{Service, Unserved, Watch, serve};
 use sqlite::{Alter, Connection};
+use std::fs::Files;
 use std::io::Write;
+use std::net::{Net, TcpListener, TcpStream};
+use std::time::Clock;
 
 // How the program ends behind serving. A want of a listener, and a fault of it, are told.
 fn end_serving<W: Write>(outcome: Result<(), Unserved>, writer: &mut W) -> Status
@@ -30,21 +33,25 @@ fn end_serving<W: Write>(outcome: Result<(), Unserved>, writer: &mut W) -> Statu
 }
 
 // An open file, which is looked for at its path.
-#[derive(Clone, Copy)]
-struct OnDisk<'a> {
-    rt: &'a HostRuntime,
+#[derive_where(Clone, Copy)]
+struct OnDisk<'a, R: Files> {
+    rt: &'a R,
     file: Opened<'a>,
 }
 
-impl Watch for OnDisk<'_> {
+impl<R: Files> Watch for OnDisk<'_, R> {
     fn is_there(&mut self) -> bool {
         self.file.is_there(self.rt)
     }
 }
 
 /// Takes the tables as they are, and serves requests over them. The file is looked for before a request is read.
-pub(crate) fn answer_requests<S: Alter, W: Write>(
-    rt: &HostRuntime,
+pub(crate) fn answer_requests<
+    S: Alter,
+    H: Files + Net<Listener = TcpListener, Stream = TcpStream> + Clock + AllocGlobal,
+    W: Write,
+>(
+    rt: &H,
     conn: Connection<S>,
     file: &Opened,
     service: Service,

@@ -7,10 +7,10 @@ ghost use Rattle.dh_types.specs.declared.reply.Fault.TheVariants as fault;
 ghost use Rattle.dh_types.specs.declared.reply.Refusal.TheVariants as refusal;
 ghost use Rattle.dh_types.specs.declared.version.Version.TheVariants.{First};
 ghost use Rattle.dh_model.specs.Books.{start};
-ghost use Rattle.dh_schema.specs.Faults.{IsFirstFault};
-ghost use Rattle.dh_schema.specs.Store.{Commits, IsBlank};
-ghost use Rattle.dh_runs.specs.declared.problem.Problem.TheVariants as problem;
-ghost use Rattle.dh_runs.specs.Taking.{CanBeTaken, IsProblemOf, IsResting};
+ghost use Rattle.dh_agency.specs.Faults.{IsFirstFault};
+ghost use Rattle.dh_agency.specs.Store.{Commits, IsBlank};
+ghost use Rattle.dh_agency.specs.Problem.TheVariants as problem;
+ghost use Rattle.dh_agency.specs.Taking.{CanBeTaken, IsProblemOf, IsResting};
 ghost use Rattle.dh_jobs.specs.Ends.{JobEnds, MigrationEnds, NewLinesEnd, RecoveryEnds, RecoveryEndsFor, TakingEnds};
 ghost use Rattle.dh_jobs.specs.Leaving.{IsKept, JobLeaves};
 ghost use Rattle.dh_jobs.specs.OnFile.{IsMade, IsUnmade};
@@ -28,7 +28,10 @@ use dh_http::Service;
 use dh_types::{EntryMonth, Fault, Refusal};
 use sqlite::{Alter, Connection};
 use std::alloc::Global;
+use std::fs::Files;
 use std::io::{Read, Write};
+use std::net::{Net, TcpListener, TcpStream};
+use std::time::Clock;
 
 /// What is done on a file.
 #[derive(Drop)]
@@ -189,8 +192,13 @@ pub(crate) fn begin<S: Alter, R: Read, W: Write>(
 }
 
 /// Does the job over the store of a file.
-pub(crate) fn do_job<S: Alter, R: Read, W: Write>(
-    rt: &HostRuntime,
+pub(crate) fn do_job<
+    S: Alter,
+    H: Files + Net<Listener = TcpListener, Stream = TcpStream> + Clock + AllocGlobal,
+    R: Read,
+    W: Write,
+>(
+    rt: &H,
     conn: Connection<S>,
     file: &Opened,
     job: FileJob,

@@ -6,16 +6,15 @@ use Rattle.std.specs.List as list
 use Rattle.std.specs.Option.{option_or}
 use Rattle.std.specs.Ordering.{eq_by_cmp}
 use Rattle.std.specs.Cmp.{IsTotalOrder}
-use Rattle.std.specs.FinMap.{FinMap, IsAntisymmetric, entries, find, get, get-entries, get-from_entries, insert, is_sorted, values}
+use Rattle.std.specs.FinMap.{FinMap, IsAntisymmetric, entries, find, get, get-entries, get-from_entries, is_sorted, values}
 use Rattle.std.specs.FinMap.Entries.{below_all}
 use Rattle.std.proofs.lemmas.Bool.{and_parts}
 use Rattle.std.proofs.lemmas.Option.{cond_some}
-use Rattle.dh_model.specs.Books.{with_rows}
+use Rattle.dh_model.specs.Books.{StandUnder, with_rows}
 use Rattle.dh_model.specs.Whole.{rows_where}
 use Rattle.dh_model.proofs.Among.{Among, in_filter, in_map}
 use Rattle.dh_model.proofs.Rising.{IsBefore, Rises}
-use Rattle.dh_laws.specs.InOrder.{StandUnder}
-use Rattle.dh_model.proofs.MapRows.{below_at, got_after, inside, is_less, key_itself, kept_if, keys_differ, row_of, same_key, sorted}
+use Rattle.dh_model.proofs.MapRows.{below_at, inside, is_less, key_itself, kept_if, keys_differ, row_of, same_key, sorted}
 use Rattle.dh_model.proofs.BranchDues.{entry_found}
 
 none_found : {K X : Type 0} (R : K → K → Ordering) (q : K) (es : List (K × X)) → ((e : K × X) → Among es e → eq_by_cmp R q e.0 ≡ false) → find R q es ≡ None
@@ -100,12 +99,6 @@ module _ {K X : Type 0} {R : K → K → Ordering} (o : IsTotalOrder R) (anti : 
       | inr old ↦ keyed q x old.1
     ]
 
-    pub insert_keyed : (m : FinMap R X) (k : K) (v : X) → key v ≡ k → StandUnder key m → StandUnder key (insert m k v)
-    insert_keyed m k v own keyed q x h = elim (got_after o anti m k v q x h) [
-      | inl new ↦ ap key new.1 ∙ own ∙ sym new.0
-      | inr old ↦ keyed q x old.1
-    ]
-
     -- each row is got by its key
     pub own_row : (m : FinMap R X) → StandUnder key m → (x : X) → Among (values m) x → get m (key x) ≡ Some x
     own_row m keyed x a = let r = row_of o anti m x a in ap (get m) (keyed r.0 x r.1) ∙ r.1
@@ -176,6 +169,3 @@ module _ {K X : Type 0} {R : K → K → Ordering} (o : IsTotalOrder R) (anti : 
 
     pub get_kept : (m : FinMap R X) (q : K) (x : X) → get m q ≡ Some x → test x ≡ true → get (rows_where test m) q ≡ Some x
     get_kept m q x h t = get-rows_where m q ∙ ap (kept_if test) h ∙ ap (λ b. cond b (Some x) None) t
-
-    pub rows_where_keyed : (key : X → K) (m : FinMap R X) → StandUnder key m → StandUnder key (rows_where test m)
-    rows_where_keyed key m keyed q x h = keyed q x (got_rows_where m q x h).0

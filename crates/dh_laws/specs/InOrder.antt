@@ -1,23 +1,17 @@
 -- Books that an office works on: each row under its key, the rules hold, and the open run is where the books show it.
-use Rattle.std.specs.Prelude.{◌≡◌, ◌≤◌, ℕ, Option, Some}
-use Rattle.std.specs.declared.cmp.Ordering.{Ordering}
-use Rattle.std.specs.FinMap.{FinMap, get}
+use Rattle.std.specs.Prelude.{◌≤◌, ℕ, Option, Some}
 use Rattle.dh_values.specs.declared.limits.TheConstants.{LEAST_LEASE_MONTHS}
 use Rattle.dh_types.specs.declared.command.Command.{Command}
 use Rattle.dh_types.specs.declared.command.Command.TheVariants as command
 use Rattle.dh_model.specs.declared.open_run.OpenRun.{OpenRun}
 use Rattle.dh_model.specs.declared.rows.Change.{Change}
 use Rattle.dh_model.specs.declared.rows.Change.TheVariants as change
-use Rattle.dh_model.specs.Books.{Books}
+use Rattle.dh_model.specs.Books.{Books, StandUnder}
 use Rattle.dh_model.specs.Kinds.{Kind, key_in, records_of}
 use Rattle.dh_model.specs.Rules.{IsLeaseLength, MeetsRules}
 use Rattle.dh_model.specs.Whole.{IsOpenAt}
 
--- what stands under a key has it
-abbrev pub StandUnder : {K X : Type 0} {R : K → K → Ordering} → (X → K) → FinMap R X → Type 0
-StandUnder {K} {X} key rows = (k : K) (row : X) → get rows k ≡ Some row → key row ≡ k
-
--- of each kind
+-- what stands under a key has it, of each kind
 abbrev pub AreKeyed : Books → Type 0
 AreKeyed books = (kind : Kind) → StandUnder (key_in kind) (records_of kind books)
 

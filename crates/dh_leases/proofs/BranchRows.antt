@@ -11,7 +11,8 @@ use Rattle.dh_types.specs.declared.version.Version.{Version}
 use Rattle.dh_types.specs.declared.version.Version.TheVariants.{First, Second}
 use Rattle.dh_model.specs.Books.{Books, pair_cmp, text_cmp, with_rows}
 use Rattle.dh_model.specs.Kinds.{Kind}
-use Rattle.dh_model.specs.Runs.{batch_of, batches_before, batches_of_branch, dues_of_branch, fee_at, fees_of_parts, part_fee_key, part_fee_of, part_key, part_of}
+use Rattle.dh_model.specs.Runs.{batch_of, batches_before, batches_of_branch, dues_of_branch, fee_at, fees_of_parts, part_fee_key, part_fee_of}
+use Rattle.dh_model.specs.Runs.{part_key, part_of}
 use Rattle.dh_model.specs.Runs.{posted_fees, posted_of_branch, posted_parts, since_second}
 use Rattle.dh_model.specs.Rules.{MeetsRules}
 use Rattle.dh_model.proofs.Among.{Among, in_filter, of_filter}
@@ -91,7 +92,8 @@ module _ (size : ℕ) (books : Books) (month number : ℕ) (pos : 1 ≤ size) (k
         absurd (apart (one_branch size books month number its held))
   ]
 
-  module _ {X : Type 0} {key : X → ℕ × List ℕ} {month_of : X → ℕ} {m : FinMap (pair_cmp nat_cmp text_cmp) X} {row : List ℕ → List Charge → X} {rows : ℕ → List X}
+  module _ {X : Type 0} {key : X → ℕ × List ℕ} {month_of : X → ℕ} {m : FinMap (pair_cmp nat_cmp text_cmp) X}
+      {row : List ℕ → List Charge → X} {rows : ℕ → List X}
       (are : AreOfBranches size books month key month_of m row rows) where
     abbrev its : X
     its = row own so_far
@@ -144,14 +146,16 @@ module _ (size : ℕ) (books : Books) (month number : ℕ) (pos : 1 ≤ size) (k
           let there = of_new key month_of nat_text_total nat_text_ties m month (rows number) (are.fit number) (row own charges)
           (are.of_branch number own held.of less) in
           lt-ltb 0 (number - batches_before size books month own) (omega (arith, less))
-          ∙ sym (ap (λ k. is_some (get (replaced key month_of m month (rows number)) k)) (are.keyed own so_far ∙ sym (are.keyed own charges)) ∙ ap is_some there)
+          ∙ sym (ap (λ k. is_some (get (replaced key month_of m month (rows number)) k)) (are.keyed own so_far ∙ sym (are.keyed own charges))
+          ∙ ap is_some there)
       | inr first ↦
           let free = was_free key month_of nat_text_total nat_text_ties m month (rows number) (rows (number + 1)) (are.fit number) (are.fit (number + 1)) its
           (is_new its (inl refl))
           (λ y a e.
           let p = are.is_of number y a in
           let same : p.branch ≡ own =
-          ap (λ (k : ℕ × List ℕ). k.1) (sym (ap key p.is ∙ are.keyed p.branch (posted_of_branch size books month number p.branch)) ∙ e ∙ are.keyed own so_far) in
+          ap (λ (k : ℕ × List ℕ). k.1) (sym (ap key p.is ∙ are.keyed p.branch (posted_of_branch size books month number p.branch))
+          ∙ e ∙ are.keyed own so_far) in
           let early : batches_before size books month own < number = subst (λ b. batches_before size books month b < number) same p.early in
           omega (arith, first, early)) in
           le-ltb 0 (number - batches_before size books month own) (omega (arith, first)) ∙ sym (ap is_some free)
@@ -179,7 +183,8 @@ module _ (size : ℕ) (books : Books) (month : ℕ) (keyed : AreKeyed books) (ru
     of_branch = λ n branch a early.
         of_second books.version (fees_of_parts size books month n) _ second
         (fee_of_begun size books month n branch
-        (of_filter (λ b. nat_lt (batches_before size books month b) n) (keys books.branches) branch (lt-ltb (batches_before size books month branch) n early) a));
+        (of_filter (λ b. nat_lt (batches_before size books month b) n) (keys books.branches) branch
+        (lt-ltb (batches_before size books month branch) n early) a));
   }
 
   module _ (number : ℕ) (pos : 1 ≤ size) (held : IsHeld size books month number) where

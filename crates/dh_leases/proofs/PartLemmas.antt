@@ -1,13 +1,11 @@
 -- What a branch has of a run, lease by lease.
-use Rattle.std.proofs.Common.{◌≡◌, ◌∙◌, refl, sym, ap, inl, inr, ℕ, ◌+◌, ◌-◌, ◌≤◌, Bool, true, false, cond, nat_eq, is_eq, List, [], ◌∷◌, ◌++◌, length, Some}
+use Rattle.std.proofs.Common.{◌≡◌, ◌∙◌, refl, sym, ap, inl, inr, ℕ, ◌+◌, ◌-◌, ◌≤◌, Bool, true, false, cond, nat_eq, List, [], ◌∷◌, ◌++◌, length, Some}
 use Rattle.std.proofs.Common.{None, append-nil, arith, length-append}
 use Rattle.std.specs.List.{filter, flat_map}
 use Rattle.std.specs.FinMap.{FinMap, get}
 use Rattle.std.specs.BTreeMap.{is_at}
-use Rattle.std.specs.Cmp.{Equal-is}
 use Rattle.std.specs.Cmp.Lexicographic.{texts_ties}
-use Rattle.std.proofs.lemmas.Bool.{cases_Bool, cases_lt, false≢true}
-use Rattle.std.proofs.lemmas.Cmp.{tied_itself}
+use Rattle.std.proofs.lemmas.Bool.{cases_lt}
 use Rattle.std.proofs.lemmas.List.Elements.{filter-append}
 use Rattle.std.proofs.lemmas.List.Sums.{count_by-le-length, length-filter}
 use Rattle.std.proofs.lemmas.Grind.{flat_map-append}
@@ -18,8 +16,6 @@ use Rattle.dh_types.specs.declared.lease.Charge.{Charge}
 use Rattle.dh_model.specs.Books.{Endings, text_cmp}
 use Rattle.dh_model.specs.Leases.{dues_among, dues_of, length_of}
 use Rattle.dh_model.specs.Runs.{is_property_of}
-use Rattle.dh_model.proofs.KeyOrders.{text_ties, text_total}
-use Rattle.dh_types.proofs.SameValues.{texts}
 use Rattle.dh_leases.proofs.DueIn.{its_due, none_after, none_before}
 
 -- of one lease's dues a month has one at most

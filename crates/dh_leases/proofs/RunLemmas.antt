@@ -22,7 +22,8 @@ module _ {X Y : Type 0} (f g : X → Y) where
 -- after the last batch each branch has begun, and has all that falls due there
 all_begun : {X : Type 0} (size : ℕ) (books : Books) (month : ℕ) → 1 ≤ size → AreNumbered books → (row : List ℕ → List Charge → X)
     → map (λ branch. row branch (dues_of_branch books month branch)) (keys books.branches)
-    ≡ map (λ branch. row branch (posted_of_branch size books month (batches size books month) branch)) (begun_branches size books month (batches size books month))
+    ≡ map (λ branch. row branch (posted_of_branch size books month (batches size books month) branch))
+    (begun_branches size books month (batches size books month))
 all_begun size books month pos are row =
     let all = last_batch_posts_all size books month pos are in
     let posted = λ (branch : List ℕ). row branch (posted_of_branch size books month (batches size books month) branch) in

@@ -3,16 +3,16 @@
 ghost use Rattle.std.specs.Prelude.{◌≡◌, ◌+◌, ◌*◌, ◌≤◌, IfOk, OnOk, Some, length, option_copied, take};
 ghost use Rattle.dh_values.specs.declared.limits.TheConstants.{MOST_NUMBER};
 ghost use Rattle.dh_model.specs.Runs.{batch_size, fees_of_parts, posted_charges, posted_fees, posted_parts, since_second};
-ghost use Rattle.dh_model.specs.Whole.{completed, open_row, whole, with_posted};
+ghost use Rattle.dh_model.specs.Whole.{completed, open_row, run_shown, whole, with_posted};
 ghost use Rattle.dh_leases.specs.Posted.{with_month};
 
-use crate::batch_counts::{batches, batches_for};
+use crate::batch_counts::{batches, batches_for, batches_shown};
 use crate::by_branch::{dues_by_branch, of_branch};
 use crate::fees::{of_version, put_fees};
 use crate::sums::{closed, fee_with, part_with};
 use crate::whole_run::{put_charges, put_parts};
 use dh_books::Books;
-use dh_model::BATCH_SIZE;
+use dh_model::{BATCH_SIZE, OpenRun};
 use dh_types::{Charge, EntryMonth, Part, PartFee, Run};
 use std::alloc::{AllocError, Global};
 
@@ -152,6 +152,17 @@ pub fn open_row(books: &Books) -> Option<&Run>
     ensures { option_copied result ≡ open_row books.now.books }
 {
     books.runs().find(|run| !run.is_closed)
+}
+
+/// The open run, as the run rows and the part rows show it.
+pub fn run_shown(books: &Books) -> Option<OpenRun>
+    ensures { result ≡ run_shown batch_size books.now.books }
+{
+    let run = open_row(books)?;
+    Some(OpenRun {
+        month: run.month,
+        done: batches_shown(books, run.month),
+    })
 }
 
 // The books with the run made to its end.

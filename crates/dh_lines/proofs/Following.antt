@@ -3,11 +3,10 @@ use Rattle.std.proofs.Common.{◌≡◌, ◌∙◌, ℕ, zero, suc, ◌+◌, Opt
 use Rattle.std.proofs.Common.{arith, add-one, add-zero, zero-add, add_assoc, append_assoc, append-nil, slice_get, take-append-drop, length-append}
 use Rattle.std.specs.Prelude.{if◌then◌else◌}
 use Rattle.std.specs.Io.KnownBytes.{Appends}
-use Rattle.std.proofs.KnownBytes.{Appends-nil, Appends-trans}
+use Rattle.std.proofs.KnownBytes.{Appends-trans}
 use Rattle.std.proofs.lemmas.Option.{IfSome_then}
-use Rattle.csv.specs.Reading.{ReadRecord, Reached, default_config, reader_config, reader_state, source_of, strip_bom}
+use Rattle.csv.specs.Reading.{ReadRecord, Reached, default_config, reader_config, reader_state, source_of}
 use Rattle.csv.specs.declared.reader.Reader.{Reader}
-use Rattle.csv.specs.declared.parser.State.TheVariants as st
 use Rattle.csv.specs.declared.parser.State as parser
 use Rattle.csv.proofs.ReadFacts.{rows-more, rows-end}
 use Rattle.dh_model.specs.Books.{State}
@@ -89,19 +88,6 @@ pub record Ended (old now : Option (List ℕ)) (start s : State) (n r : ℕ) (in
   pub refused : r ≡ refused_in start (records_of input)
 
 module _ {R : Type 0} (rem : R → Option (List ℕ)) where
-  pub follows-start : (records : Reader R) (old : Option (List ℕ)) (start : State) (input : List ℕ) → source_of rem records ≡ Some (strip_bom input)
-      → reader_state records ≡ st.StartRecord
-      → Follows rem records old old start start 0 0 input
-  follows-start records old start input source state = record {
-    left = strip_bom input;
-    source = source;
-    rest = rw state refl;
-    count = refl;
-    written = Appends-nil old;
-    state = refl;
-    refused = refl;
-  }
-
   pub found-next : (a b : Reader R) (old now : Option (List ℕ)) (start s : State) (n r : ℕ) (f : Fields) (input : List ℕ) → reader_config a ≡ default_config
       → ReadRecord rem a b true f → Follows rem a old now start s n r input → Found rem b old now start s n r f input
   unfolding Reached

@@ -1,5 +1,5 @@
 -- What one record is answered, from what the agency's call and the writing of its line give.
-use Rattle.std.proofs.Common.{◌≡◌, ◌∙◌, inl, inr, ℕ, Bool, true, false, Option, List, ◌++◌, Result, Ok, Err, refl, sym, ap, subst}
+use Rattle.std.proofs.Common.{◌≡◌, ◌∙◌, inl, inr, ℕ, Bool, true, false, Option, List, Result, Ok, Err, refl, sym, ap, subst}
 use Rattle.std.specs.Prelude.{IfErr, IsErrAnd, OnErr}
 use Rattle.std.proofs.lemmas.Bool.{false≢true}
 use Rattle.std.specs.Io.KnownBytes.{Appends}
@@ -10,7 +10,7 @@ use Rattle.dh_types.specs.declared.reply.Fault.{Fault}
 use Rattle.dh_types.specs.declared.reply.Fault.TheVariants as faults
 use Rattle.dh_types.specs.declared.reply.Refusal.{Refusal}
 use Rattle.dh_model.specs.Books.{State}
-use Rattle.dh_schema.specs.Faults.{IsFirstFault}
+use Rattle.dh_agency.specs.Faults.{IsFirstFault}
 use Rattle.dh_agency.specs.AgencyView.{AgencyView}
 use Rattle.dh_agency.specs.Agency.{IsOpen, machine, stand}
 use Rattle.dh_agency.specs.Requests.{Said, said_to, says_no}

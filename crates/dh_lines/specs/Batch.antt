@@ -15,7 +15,7 @@ use Rattle.dh_model.specs.Runs.{batch_size}
 use Rattle.dh_model.specs.Verdicts.{verdict_on}
 use Rattle.dh_model.specs.Whole.{whole}
 use Rattle.dh_laws.specs.Events.{RunIfDone, RunIfUndone}
-use Rattle.dh_schema.specs.Faults.{IsFirstFault}
+use Rattle.dh_agency.specs.Faults.{IsFirstFault}
 use Rattle.dh_agency.specs.AgencyView.{AgencyView}
 use Rattle.dh_agency.specs.Agency.{IsOpen, Leaves, LeavesItsTables, WasClean, machine, stand, stand_of}
 use Rattle.dh_lines.specs.declared.records.Unread.{Unread}

@@ -9,8 +9,6 @@ mod whole_batch;
 
 pub use outcome::{BatchFault, Summary};
 pub use records::Unread;
-pub use replies::{
-    put_answer_line, put_fault_line, put_refused_line, put_reply_line, put_response_line,
-};
+pub use replies::put_answer_line;
 pub use watched_reader::Input;
 pub use whole_batch::batch;

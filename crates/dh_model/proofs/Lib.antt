@@ -13,5 +13,6 @@ pub mod KeyOrders
 pub mod KindOrders
 pub mod Pairs
 pub mod MapRows
+pub mod UnderKeys
 pub mod ListedDues
 pub mod ListedProperties

@@ -100,9 +100,13 @@ empty_books month = record {
 abbrev pub start : ℕ → State
 start month = record { books = empty_books month; open_run = None }
 
+-- what stands under a key has it
+abbrev pub StandUnder : {K X : Type 0} {R : K → K → Ordering} → (X → K) → FinMap R X → Type 0
+StandUnder {K} {X} key rows = (k : K) (row : X) → get rows k ≡ Some row → key row ≡ k
+
 -- each lease stands under its number
 abbrev pub StandUnderTheirNumbers : FinMap nat_cmp Lease → Type 0
-StandUnderTheirNumbers leases = (number : ℕ) (lease : Lease) → get leases number ≡ Some lease → lease.terms.number ≡ number
+StandUnderTheirNumbers leases = StandUnder (λ (lease : Lease). lease.terms.number) leases
 
 -- the map with these rows under their keys, in the place of those that have the same
 abbrev pub with_rows : {K X : Type 0} {R : K → K → Ordering} → (X → K) → List X → FinMap R X → FinMap R X

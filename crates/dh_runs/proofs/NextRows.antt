@@ -1,6 +1,10 @@
 -- The first rows of a plan are the next batch.
-use Rattle.std.proofs.Common.{◌≡◌, ◌∙◌, sym, ap, subst, ℕ, ◌+◌, ◌<◌, Bool, true, false, nat_lt, if◌then◌else◌, List, length, Some, arith}
-use Rattle.std.specs.Prelude.{slice_index_or, option_copied, slice_get, Option}
+use Rattle.std.proofs.Common.{◌≡◌, ◌∙◌, ◌⊎◌, refl, sym, ap, subst, ℕ, ◌+◌, ◌<◌, Bool, true, false, nat_lt, if◌then◌else◌, List, []}
+use Rattle.std.proofs.Common.{◌∷◌, length, Some, None, arith}
+use Rattle.std.specs.Prelude.{slice_index_or, option_copied, slice_get, Option, OnOk, Result}
+use Rattle.sqlite.specs.State as store
+use Rattle.sqlite.specs.State.{HasCleanDisk}
+use Rattle.dh_types.specs.declared.reply.Fault.{Fault}
 use Rattle.std.specs.Borrow.{Bor}
 use Rattle.std.specs.FinMap.{get}
 use Rattle.std.proofs.lemmas.Option.{get_or_from_slice_get, slice_get_within}
@@ -22,8 +26,11 @@ use Rattle.dh_leases.specs.declared.plans.BatchRows.{BatchRows}
 use Rattle.dh_leases.specs.declared.plans.Plan.{Plan}
 use Rattle.dh_leases.specs.Plans.{AreNew, HasItsPart, IsPlanOf, begins_at, stage, with_batch_rows}
 use Rattle.dh_leases.proofs.Leading.{IsBatchAt, batch_at, counted}
+use Rattle.dh_schema.specs.Steps.{Steps}
+use Rattle.dh_schema.specs.Store.{IsReady, IsReadyWith, Leaves, tables}
 use Rattle.dh_runs.specs.declared.batch.Batch.TheVariants.{Posted, NoneLeft}
 use Rattle.dh_runs.specs.Batches.{posted_batch}
+use Rattle.dh_runs.proofs.Along.{in_order}
 
 -- with the batches that are done, books are as they were
 pub own_stage : (books : Books) (run : OpenRun) → IsInOrder batch_size books (Some run) → with_posted batch_size books run.month run.done ≡ books
@@ -76,6 +83,24 @@ first_is rows view found {row = row} same value is =
     let at : slice_get rows 0 ≡ Some row.now = ap (λ (list : List BatchRows). slice_get list 0) (sym same) ∙ sym value ∙ ap option_copied is in
     (slice_get_within rows 0 row.now at, sym (get_or_from_slice_get rows 0 row.now row.now at))
 
+-- and where none is there
+empty : (rows : List BatchRows) → slice_get rows 0 ≡ None → length rows ≡ 0
+empty [] none = refl
+empty (row ∷ rows) none = cc
+
+-- a plan of no batches: the next batch changes nothing
+pub none_next : (plan : Plan) (s : State) → IsPlanOf plan s → (view : List BatchRows) (found : Option (Bor BatchRows)) → view ≡ plan.batches.items
+    → option_copied found ≡ slice_get view 0 → found ≡ None → next_batch s ≡ s
+none_next plan s is view found same value none =
+    let rows = plan.batches.items in
+    let run = begins_at plan in
+    let at : slice_get rows 0 ≡ None = ap (λ (list : List BatchRows). slice_get list 0) (sym same) ∙ sym value ∙ ap option_copied none in
+    let no_more = empty rows at in
+    let count = counted plan s is in
+    let past : nat_lt plan.done (batches batch_size s.books plan.month) ≡ false = grind (arith, nat_tests, count, no_more) in
+    ap (next_of s.books) is.shown ∙ ap (λ (b : Bool). if b then with_batch s.books run else record { books = s.books; open_run = Some run }) past
+    ∙ λ i. record { books = s.books; open_run = sym is.shown i }
+
 module _ (plan : Plan) (s : State) (order : IsStateInOrder s) (is : IsPlanOf plan s) where
   abbrev run : OpenRun
   run = begins_at plan
@@ -122,3 +147,19 @@ module _ (plan : Plan) (s : State) (order : IsStateInOrder s) (is : IsPlanOf pla
 
     pub rows_known : HasItsPart rows s
     rows_known = subst (HasItsPart rows) (sym first_stage) first_batch.begun
+
+-- what one transaction with the first rows of a plan makes is the next batch
+pub next_made : {X : Type 0} {result : Result X Fault} (old new : store.State) (plan : Plan) (rows : BatchRows)
+    → (0 < length plan.batches.items) × (rows ≡ slice_index_or plan.batches.items 0 rows) → (HasCleanDisk old → IsReady old)
+    → (HasCleanDisk old → IsPlanOf plan (tables old)) → Steps (with_batch_rows rows) result old new → Steps next_batch result old new
+next_made {result = result} old new plan rows first ready is made =
+    let next : HasCleanDisk new → with_batch_rows rows (tables old) ≡ next_batch (tables old) = λ clean.
+        let early : HasCleanDisk old = let was = made.was_clean in omega (arith, was, clean) in
+        rows_next plan (tables old) (in_order old (ready early)) (is early) rows first.0 first.1 in
+    record {
+      done = λ clean. subst (λ (t : State). OnOk result (IsReadyWith new (λ it. it ≡ t))) (next clean) (made.done clean);
+      undone = made.undone;
+      cause = made.cause;
+      crash = λ clean. subst (λ (t : State). Leaves new (λ it. (it ≡ tables old) ⊎ (it ≡ t))) (next clean) (made.crash clean);
+      was_clean = made.was_clean;
+    }

@@ -1,5 +1,5 @@
 -- Rows that were put into their tables, as what becomes of the books.
-use Rattle.std.proofs.Common.{◌≡◌, ◌∙◌, refl, sym, ap, Bool, true, false, [], ◌∷◌, Option, Some, None, is_some, Result, Ok, Err, OnOk, arith}
+use Rattle.std.proofs.Common.{◌≡◌, ◌∙◌, refl, sym, ap, Bool, true, false, [], ◌∷◌, Option, Some, None, is_some, Result, Ok, arith}
 use Rattle.std.proofs.lemmas.Bool.{false≢true}
 use Rattle.std.proofs.lemmas.Result.{on_ok_weaker}
 use Rattle.std.specs.FinMap.{FinMap, get, insert}
@@ -8,7 +8,7 @@ use Rattle.sqlite.specs.State.{HasCleanDisk, State}
 use Rattle.dh_types.specs.declared.run.Part.{Part}
 use Rattle.dh_types.specs.declared.fee.PartFee.{PartFee}
 use Rattle.dh_types.specs.declared.version.Version.TheVariants.{Second}
-use Rattle.dh_model.specs.Books.{Books, with_rows}
+use Rattle.dh_model.specs.Books.{Books}
 use Rattle.dh_model.specs.Books as machine
 use Rattle.dh_leases.specs.Plans.{HasItsFeeRow}
 use Rattle.std.specs.Prelude.{IfSome}

@@ -12,7 +12,7 @@ use Rattle.dh_laws.specs.Batches.{IsAtItsEnd, IsPostedInPart, closed_state, next
 use Rattle.dh_laws.specs.InOrder.{IsInOrder}
 use Rattle.dh_laws.specs.StateTables.{IsStateInOrder}
 use Rattle.dh_laws.proofs.BatchLemmas.Moving.{batches_of_whole, with_batches}
-use Rattle.dh_laws.proofs.StandingLemmas.Batches.{Stands, posted_in_part}
+use Rattle.dh_laws.proofs.StandingLemmas.Batches.{Stands, posted_in_part, same_in_part}
 use Rattle.dh_leases.specs.declared.plans.BatchRows.{BatchRows}
 use Rattle.dh_leases.specs.declared.plans.Plan.{Plan}
 use Rattle.dh_leases.specs.Plans.{AreNew, HasItsPart, IsPlanOf, begins_at, stage, with_batch_rows}
@@ -44,6 +44,11 @@ pub record Planned (old now : State) (plan : Plan) (n : ℕ) : Type 0 where
 -- as of `LeavesOneBatch`
 abbrev pub IsOneOn : machine.State → machine.State → Type 0
 IsOneOn at t = (t ≡ at) ⊎ ((t ≡ next_batch at) ⊎ (IsAtItsEnd at.books at.open_run × (t ≡ closed_state at)))
+
+-- the tables stand at a batch
+pub rests_single : (most : ℕ) (t : machine.State) (new : State) → Leaves new (λ it. it ≡ t) → LeavesOneBatch most t new
+rests_single most t new left =
+    record { at = t; reached = same_in_part most t t refl; left = leaves_weaker new (λ it. it ≡ t) (IsOneOn t) (λ it is. inl is) left }
 
 pub from_opened : (most : ℕ) (o opened : machine.State) (new : State) → o ≡ opened → LeavesOneBatch most o new → (m : ℕ) × LeavesOneBatch m opened new
 from_opened most o opened new is left = (most, subst (λ (t : machine.State). LeavesOneBatch most t new) is left)

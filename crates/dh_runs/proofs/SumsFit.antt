@@ -19,7 +19,7 @@ use Rattle.dh_types.specs.declared.lease.Charge.{Charge}
 use Rattle.dh_types.specs.declared.run.RunSum.{RunSum}
 use Rattle.dh_model.specs.declared.open_run.OpenRun.{OpenRun}
 use Rattle.dh_model.specs.Books.{Books}
-use Rattle.dh_model.specs.Kinds.{Charges, Leases}
+use Rattle.dh_model.specs.Kinds.{Charges, Leases, Parts}
 use Rattle.dh_model.specs.Rules.{charges_in, parts_in}
 use Rattle.dh_model.specs.Runs.{batch_size, batches, total_of}
 use Rattle.dh_model.proofs.Among.{Among, in_filter, in_map}
@@ -80,10 +80,11 @@ sum_of_small (charge ∷ charges) small =
     omega (arith, all, own, rest)
 
 module _ (trees : Trees) (order : AreInOrder trees) where
-  leases_kept : AreKept (books_in trees).leases
-  leases_kept = record {
+  rows_kept : AreKept (books_in trees).leases (books_in trees).parts
+  rows_kept = record {
     numbered = keyed Leases trees;
     in_range = each_shown nat_total nat_ties lease_shape (λ lease. IsLeaseNo lease.terms.number) is_numbered trees (order.tables Leases tt).kept;
+    parted = keyed Parts trees;
   }
 
   charge_small : (charge : Charge) → Among (values (books_in trees).charges) charge → charge.amount ≤ 999999
@@ -107,7 +108,7 @@ module _ (s : State) (ready : IsReady s) (month : ℕ)
   few_charges =
       let same = same_count batch_size books month (omega arith) order in
       let posted = few_posted batch_size books month (batches batch_size books month) in
-      let leases = few_leases books (leases_kept s.now.trees ready.sound.in_order) in
+      let leases = few_leases books (rows_kept s.now.trees ready.sound.in_order) in
       omega (arith, same, posted, leases)
 
   small_total : total_of (charges_in books month) ≤ length (charges_in books month) * 999999

@@ -1,24 +1,22 @@
 -- What a call told, and what it leaves where it is interrupted.
-use Rattle.std.specs.Prelude.{◌≡◌, ◌⊎◌, ◌≤◌, ℕ, IsTrue, Result, IfErr, OnErr, OnOk}
-use Rattle.sqlite_trees.specs.View.{doubt}
+use Rattle.std.specs.Prelude.{◌≡◌, ◌⊎◌, ℕ}
 use Rattle.sqlite.specs.State as sqlite
-use Rattle.sqlite.specs.State.{HasCleanDisk}
 use Rattle.dh_types.specs.declared.command.Command.{Command}
 use Rattle.dh_types.specs.declared.command.RunOrder.{RunOrder}
-use Rattle.dh_types.specs.declared.reply.Fault.{Fault}
 use Rattle.dh_types.specs.declared.reply.Reply.{Reply}
 use Rattle.dh_types.specs.declared.reply.Reply.TheVariants as reply
 use Rattle.dh_types.specs.declared.reply.Refusal.TheVariants as refusal
+use Rattle.dh_model.specs.declared.rows.Change.{Change}
 use Rattle.dh_model.specs.declared.rows.Change.TheVariants as change
-use Rattle.dh_model.specs.Books.{State}
+use Rattle.dh_model.specs.declared.rows.Verdict.TheVariants as verdict
+use Rattle.dh_model.specs.Books.{Books, State}
 use Rattle.dh_model.specs.Runs.{batch_size}
-use Rattle.dh_model.specs.Verdicts.{opened_run}
+use Rattle.dh_model.specs.Verdicts.{opened_run, run_verdict}
 use Rattle.dh_laws.specs.Batches.{IsAtItsEnd, IsPostedInPart, closed_state, next_batch}
 use Rattle.dh_laws.specs.Events.{Interrupted, Happens, Recovered, Answered, RecoveryInterrupted}
 use Rattle.dh_laws.specs.StateTables.{as_tables}
 use Rattle.dh_laws.specs.Telling.{begun}
-use Rattle.dh_schema.specs.Faults.{IsFirstFault}
-use Rattle.dh_schema.specs.Store.{IsReadyWith, Leaves, StaysReady, tables}
+use Rattle.dh_schema.specs.Store.{Leaves}
 use Rattle.dh_runs.specs.declared.batches.RunState.{RunState}
 use Rattle.dh_runs.specs.declared.batches.RunState.TheVariants as run
 
@@ -50,14 +48,9 @@ IsMidRecovery before after = Happens batch_size RecoveryInterrupted (as_tables b
 abbrev pub IsRecovered : State → State → Type 0
 IsRecovered before after = Happens batch_size Recovered (as_tables before) (as_tables after)
 
--- One step in one transaction: an answer leaves the tables that it makes, and a fault these or those before, while the store is open those
--- before. A fault is of memory or of the store.
-pub record Steps {X : Type 0} (next : State → State) (result : Result X Fault) (old new : sqlite.State) : Type 0 where
-  pub done : HasCleanDisk new → OnOk result (IsReadyWith new (λ t. t ≡ next (tables old)))
-  pub undone : HasCleanDisk new → IsTrue new.is_open → OnErr result (StaysReady old new)
-  pub cause : IfErr result IsFirstFault
-  pub crash : HasCleanDisk new → Leaves new (λ t. (t ≡ tables old) ⊎ (t ≡ next (tables old)))
-  pub was_clean : doubt old.is_clean ≤ doubt new.is_clean
+-- the verdict on some opening is this change
+abbrev pub IsOpeningOf : Books → Change → Type 0
+IsOpeningOf books rows = (order : RunOrder) × (run_verdict books order ≡ verdict.Change rows)
 
 -- Whatever a crash leaves as the call returns is the run at one batch, at the next one, or closed where none was left: no transaction has
 -- two batches.

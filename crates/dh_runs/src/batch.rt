@@ -1,13 +1,12 @@
 //! A batch in one transaction.
 
-ghost use Rattle.std.specs.Prelude.{◌≡◌, ◌≤◌, ◌⊎◌, IsTrue, IfOk, IfErr, OnOk, OnErr};
+ghost use Rattle.std.specs.Prelude.{◌≡◌, IfOk};
 ghost use Rattle.sqlite.specs.State.{HasCleanDisk};
 ghost use Rattle.sqlite.specs.Held.{state};
-ghost use Rattle.sqlite_trees.specs.View.{doubt};
 ghost use Rattle.dh_laws.specs.Batches.{IsUnderWay, next_batch};
 ghost use Rattle.dh_leases.specs.Plans.{IsPlanOf};
-ghost use Rattle.dh_schema.specs.Faults.{IsFirstFault};
-ghost use Rattle.dh_schema.specs.Store.{IsReady, IsReadyWith, Leaves, StaysReady, tables};
+ghost use Rattle.dh_schema.specs.Steps.{Steps};
+ghost use Rattle.dh_schema.specs.Store.{IsReady, tables};
 ghost use Rattle.dh_runs.specs.Batches.{CanBePosted, posted_batch};
 
 use crate::plan::plan_run;
@@ -37,14 +36,7 @@ fn post_first<S: Alter>(
     requires postable { CanBePosted plan.now }
     ensures value { HasCleanDisk (state S.Store conn.new)
         → IfOk result (λ it. it ≡ posted_batch (tables (state S.Store conn.old)).books (tables (state S.Store conn.old)).open_run) }
-    ensures done { HasCleanDisk (state S.Store conn.new)
-        → OnOk result (IsReadyWith (state S.Store conn.new) (λ t. t ≡ next_batch (tables (state S.Store conn.old)))) }
-    ensures undone { HasCleanDisk (state S.Store conn.new) → IsTrue (state S.Store conn.new).is_open
-        → OnErr result (StaysReady (state S.Store conn.old) (state S.Store conn.new)) }
-    ensures cause { IfErr result IsFirstFault }
-    ensures crash { HasCleanDisk (state S.Store conn.new)
-        → Leaves (state S.Store conn.new) (λ t. (t ≡ tables (state S.Store conn.old)) ⊎ (t ≡ next_batch (tables (state S.Store conn.old)))) }
-    ensures was_clean { doubt (state S.Store conn.old).is_clean ≤ doubt (state S.Store conn.new).is_clean }
+    ensures steps { Steps next_batch result (state S.Store conn.old) (state S.Store conn.new) }
 {
     let Some(rows) = plan.batches.first() else {
         return Ok(Batch::NoneLeft);
@@ -62,14 +54,7 @@ pub fn post_batch<S: Alter>(alloc: Global, conn: &mut Connection<S>) -> Result<B
     requires run { HasCleanDisk (state S.Store conn.old) → IsUnderWay (tables (state S.Store conn.old)).open_run }
     ensures value { HasCleanDisk (state S.Store conn.new)
         → IfOk result (λ it. it ≡ posted_batch (tables (state S.Store conn.old)).books (tables (state S.Store conn.old)).open_run) }
-    ensures done { HasCleanDisk (state S.Store conn.new)
-        → OnOk result (IsReadyWith (state S.Store conn.new) (λ t. t ≡ next_batch (tables (state S.Store conn.old)))) }
-    ensures undone { HasCleanDisk (state S.Store conn.new) → IsTrue (state S.Store conn.new).is_open
-        → OnErr result (StaysReady (state S.Store conn.old) (state S.Store conn.new)) }
-    ensures cause { IfErr result IsFirstFault }
-    ensures crash { HasCleanDisk (state S.Store conn.new)
-        → Leaves (state S.Store conn.new) (λ t. (t ≡ tables (state S.Store conn.old)) ⊎ (t ≡ next_batch (tables (state S.Store conn.old)))) }
-    ensures was_clean { doubt (state S.Store conn.old).is_clean ≤ doubt (state S.Store conn.new).is_clean }
+    ensures steps { Steps next_batch result (state S.Store conn.old) (state S.Store conn.new) }
 {
     match plan_run(alloc, conn)? {
         Some(plan) => post_first(alloc, conn, &plan),

@@ -6,23 +6,24 @@ ghost use Rattle.sqlite.specs.Held.{state};
 ghost use Rattle.sqlite_trees.specs.View.{doubt};
 ghost use Rattle.dh_types.specs.declared.command.Command.TheVariants as command;
 ghost use Rattle.dh_types.specs.declared.reply.Reply.TheVariants as reply;
-ghost use Rattle.dh_model.specs.declared.rows.Change.TheVariants as change;
 ghost use Rattle.dh_model.specs.declared.rows.Verdict.TheVariants as verdict;
-ghost use Rattle.dh_model.specs.Verdicts.{opened_run, run_verdict};
+ghost use Rattle.dh_model.specs.Verdicts.{run_verdict};
 ghost use Rattle.dh_laws.specs.Batches.{IsPostedInPart};
 ghost use Rattle.dh_leases.specs.Plans.{IsPlanOf};
 ghost use Rattle.dh_schema.specs.Faults.{IsFirstFault};
 ghost use Rattle.dh_schema.specs.Store.{IsReady, IsReadyWith, Leaves, tables};
+ghost use Rattle.dh_schema.specs.Months.{IsReadyOf};
 ghost use Rattle.dh_runs.specs.Batches.{CanBePosted};
 ghost use Rattle.dh_runs.specs.Outcomes.{IsAtEnd, IsInterrupted, IsAnsweredBy, LeavesOneBatch, LeavesOneStep, reply_of};
 
-use crate::plan::plan_run;
+use crate::plan::{plan_open, plan_run};
 use crate::rows::PostedRows;
 use crate::run_end::close_month;
 use crate::run_start::open_run;
 use dh_leases::Plan;
+use dh_model::{Change, OpenRun};
 use dh_schema::{StoreFault, commit};
-use dh_types::{Progress, RunOrder, RunSum};
+use dh_types::{Progress, RunOrder, RunSum, Version};
 use sqlite::{Alter, Connection};
 use std::alloc::Global;
 
@@ -100,19 +101,20 @@ pub fn post_some<S: Alter>(
     }
 }
 
-/// Carries out a `run` that is accepted: the opening, all batches, and the end, whose count and total it answers. Fault 21 or 22 comes
-/// where memory ran out or the store failed. Whatever cuts it, the run was not opened, or it stands at one of its batches, or is
-/// closed.
+/// Carries out a `run` over tables of this version that is accepted: the opening that the verdict gives, all batches, and the end, whose
+/// count and total it answers. Fault 21 or 22 comes where memory ran out or the store failed. Whatever cuts it, the run was not opened,
+/// or it stands at one of its batches, or is closed.
 pub fn run_all<S: Alter>(
     alloc: Global,
     conn: &mut Connection<S>,
+    version: Version,
     order: &RunOrder,
+    opening: &Change,
 ) -> Result<RunSum, StoreFault>
-    requires ready { HasCleanDisk (state S.Store conn.old) → IsReady (state S.Store conn.old) }
+    requires ready { HasCleanDisk (state S.Store conn.old) → IsReadyOf version (state S.Store conn.old) }
     requires none { HasCleanDisk (state S.Store conn.old) → (tables (state S.Store conn.old)).open_run ≡ None }
     requires verdict { HasCleanDisk (state S.Store conn.old)
-        → run_verdict (tables (state S.Store conn.old)).books order.now
-        ≡ verdict.Change (change.Open (opened_run (tables (state S.Store conn.old)).books order.now)) }
+        → run_verdict (tables (state S.Store conn.old)).books order.now ≡ verdict.Change opening.now }
     ensures ready { HasCleanDisk (state S.Store conn.new) → OnOk result (IsReady (state S.Store conn.new)) }
     ensures said { HasCleanDisk (state S.Store conn.new)
         → IfOk result (λ sum. IsAnsweredBy (command.Run order.now) (reply.Posted sum) (tables (state S.Store conn.old)) (tables (state S.Store conn.new))) }
@@ -125,8 +127,13 @@ pub fn run_all<S: Alter>(
     ensures cause { IfErr result IsFirstFault }
     ensures was_clean { doubt (state S.Store conn.old).is_clean ≤ doubt (state S.Store conn.new).is_clean }
 {
-    open_run(alloc, conn, order)?;
-    match post_some(alloc, conn, u128::MAX)? {
+    open_run(alloc, conn, opening)?;
+    let run = OpenRun {
+        month: order.month,
+        done: 0,
+    };
+    let plan = plan_open(alloc, conn, version, run)?;
+    match post_planned(alloc, conn, &plan, u128::MAX)? {
         RunState::Posted(sum) => Ok(sum),
         RunState::NoRun => Err(StoreFault::unclean(conn)),
         RunState::Part(_) => unreachable!(),

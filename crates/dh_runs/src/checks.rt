@@ -82,10 +82,7 @@ fn check_rows<S: Alter>(
     ensures refused { HasCleanDisk (state S.Store conn.new) → IfErr result (IsProblemOf wanted (state S.Store conn.old).now.trees) }
     ensures cause { IfErr result IsFirstProblem }
     ensures still { HasCleanDisk (state S.Store conn.new) → OnOk result (IsTrue (state S.Store conn.new).is_open) }
-    ensures same { HasCleanDisk (state S.Store conn.new) → IsTrue (state S.Store conn.new).is_open
-        → ReadsAsItDid (state S.Store conn.old) (state S.Store conn.new) }
-    ensures crash { HasCleanDisk (state S.Store conn.new) → LeavesAsTheyWere (state S.Store conn.old) (state S.Store conn.new) }
-    ensures was_clean { doubt (state S.Store conn.old).is_clean ≤ doubt (state S.Store conn.new).is_clean }
+    ensures kept { TakesAsTheyAre (state S.Store conn.old) (state S.Store conn.new) }
 {
     let books = load_tables(alloc, conn, version)?;
     check_books(alloc, &books)?;

@@ -5,10 +5,10 @@ ghost use Rattle.sqlite.specs.State.{HasCleanDisk};
 ghost use Rattle.sqlite.specs.Held.{state};
 ghost use Rattle.dh_types.specs.declared.version.Version.TheVariants.{First};
 ghost use Rattle.dh_laws.specs.Batches.{IsAtItsEnd, IsUnderWay, closed_state, next_batch, open_run_sum};
+ghost use Rattle.dh_schema.specs.Steps.{Steps};
 ghost use Rattle.dh_schema.specs.Store.{IsReady, tables};
 ghost use Rattle.dh_runs.specs.Batches.{posted_batch};
 ghost use Rattle.dh_runs.specs.Taking.{HasVersion};
-ghost use Rattle.dh_runs.specs.Outcomes.{Steps};
 
 use crate::batch::{Batch, post_batch};
 use crate::run_end::close_run;

@@ -16,12 +16,12 @@ ghost use Rattle.dh_runs.specs.Batches.{CanBePosted, HasRoom};
 ghost use Rattle.dh_runs.specs.Planning.{with_branches};
 
 use dh_books::Books;
-use dh_leases::{Plan, plan_of};
+use dh_leases::{Plan, batches_shown, plan_of};
 use dh_model::OpenRun;
 use dh_rows::Meta;
 use dh_schema::{
-    StoreFault, batches_shown, find_open_run, look, look_at_all, look_at_later, look_at_lettings,
-    months_now, no_rows, no_rows_of,
+    StoreFault, find_open_run, look, look_at_all, look_at_later, look_at_lettings, months_now,
+    no_rows, no_rows_of,
 };
 use dh_tables::PartsOfMonth;
 use dh_types::{Branch, BranchFee, EntryMonth, Version};
@@ -99,8 +99,8 @@ fn books_of_leases<S: Alter>(
     Ok(books)
 }
 
-// The batches that the run lacks, which is the open one.
-fn plan_open<S: Alter>(
+/// The batches that the run lacks, which is the open one, over tables of this version.
+pub(crate) fn plan_open<S: Alter>(
     alloc: Global,
     conn: &mut Connection<S>,
     version: Version,

@@ -1,16 +1,15 @@
 //! The end of a run in one transaction.
 
-ghost use Rattle.std.specs.Prelude.{◌≡◌, ◌≤◌, ◌⊎◌, Some, IsTrue, IfOk, IfErr, IfNone, IfSome, OnOk, OnErr};
+ghost use Rattle.std.specs.Prelude.{◌≡◌, Some, IfOk, IfNone, IfSome};
 ghost use Rattle.std.specs.FinMap.{values};
 ghost use Rattle.sqlite.specs.State.{HasCleanDisk};
 ghost use Rattle.sqlite.specs.Held.{state};
-ghost use Rattle.sqlite_trees.specs.View.{doubt};
 ghost use Rattle.dh_model.specs.Rules.{parts_in};
 ghost use Rattle.dh_model.specs.Runs.{batch_size, batches};
 ghost use Rattle.dh_laws.specs.Batches.{IsAtItsEnd, IsUnderWay, closed_state, open_run_sum};
 ghost use Rattle.dh_laws.specs.StateTables.{IsStateInOrder};
-ghost use Rattle.dh_schema.specs.Faults.{IsFirstFault};
-ghost use Rattle.dh_schema.specs.Store.{IsReady, IsReadyWith, Leaves, StaysReady, tables};
+ghost use Rattle.dh_schema.specs.Steps.{Steps};
+ghost use Rattle.dh_schema.specs.Store.{IsReady, tables};
 ghost use Rattle.dh_schema.specs.Reading.{OnlyReads};
 ghost use Rattle.dh_runs.specs.Closing.{IsOpenMonth, IsSumOfOpen, IsTooMuch, sum_of_parts};
 
@@ -96,14 +95,7 @@ pub(crate) fn close_month<S: Alter>(
         ≡ Some (record { month = month; done = batches batch_size (tables (state S.Store conn.old)).books month }) }
     ensures value { HasCleanDisk (state S.Store conn.new)
         → IfOk result (λ sum. sum ≡ open_run_sum (tables (state S.Store conn.old)).books (tables (state S.Store conn.old)).open_run) }
-    ensures done { HasCleanDisk (state S.Store conn.new)
-        → OnOk result (IsReadyWith (state S.Store conn.new) (λ t. t ≡ closed_state (tables (state S.Store conn.old)))) }
-    ensures undone { HasCleanDisk (state S.Store conn.new) → IsTrue (state S.Store conn.new).is_open
-        → OnErr result (StaysReady (state S.Store conn.old) (state S.Store conn.new)) }
-    ensures cause { IfErr result IsFirstFault }
-    ensures crash { HasCleanDisk (state S.Store conn.new)
-        → Leaves (state S.Store conn.new) (λ t. (t ≡ tables (state S.Store conn.old)) ⊎ (t ≡ closed_state (tables (state S.Store conn.old)))) }
-    ensures was_clean { doubt (state S.Store conn.old).is_clean ≤ doubt (state S.Store conn.new).is_clean }
+    ensures steps { Steps closed_state result (state S.Store conn.old) (state S.Store conn.new) }
 {
     let sum = month_sum(alloc, conn, month)?;
     commit(alloc, conn, &ClosingSum { sum: &sum })?;
@@ -130,14 +122,7 @@ pub fn close_run<S: Alter>(alloc: Global, conn: &mut Connection<S>) -> Result<Ru
     requires end { HasCleanDisk (state S.Store conn.old) → IsAtItsEnd (tables (state S.Store conn.old)).books (tables (state S.Store conn.old)).open_run }
     ensures value { HasCleanDisk (state S.Store conn.new)
         → IfOk result (λ sum. sum ≡ open_run_sum (tables (state S.Store conn.old)).books (tables (state S.Store conn.old)).open_run) }
-    ensures done { HasCleanDisk (state S.Store conn.new)
-        → OnOk result (IsReadyWith (state S.Store conn.new) (λ t. t ≡ closed_state (tables (state S.Store conn.old)))) }
-    ensures undone { HasCleanDisk (state S.Store conn.new) → IsTrue (state S.Store conn.new).is_open
-        → OnErr result (StaysReady (state S.Store conn.old) (state S.Store conn.new)) }
-    ensures cause { IfErr result IsFirstFault }
-    ensures crash { HasCleanDisk (state S.Store conn.new)
-        → Leaves (state S.Store conn.new) (λ t. (t ≡ tables (state S.Store conn.old)) ⊎ (t ≡ closed_state (tables (state S.Store conn.old)))) }
-    ensures was_clean { doubt (state S.Store conn.old).is_clean ≤ doubt (state S.Store conn.new).is_clean }
+    ensures steps { Steps closed_state result (state S.Store conn.old) (state S.Store conn.new) }
 {
     let month = open_month(alloc, conn)?;
     close_month(alloc, conn, month)

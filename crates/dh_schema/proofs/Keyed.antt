@@ -8,9 +8,9 @@ use Rattle.dh_types.specs.declared.version.Version.TheVariants.{First, Second}
 use Rattle.dh_model.specs.Kinds.{Kind, Branches, came_with}
 use Rattle.dh_model.specs.Runs.{batch_size}
 use Rattle.dh_model.proofs.KindOrders.{ties_of, total_of}
-use Rattle.dh_laws.specs.InOrder.{StandUnder}
 use Rattle.dh_laws.proofs.ShownLemmas.Run.{sound_books_show}
 use Rattle.dh_laws.proofs.InvariantLemmas.EmptyBooks.{none_under}
+use Rattle.dh_model.specs.Books.{StandUnder}
 use Rattle.dh_sql.specs.Shape.{rows_in}
 use Rattle.dh_sql.proofs.Found.{keyed_rows}
 use Rattle.dh_schema.specs.Kinds.{shape_of}

@@ -49,7 +49,8 @@ both_ok (Err e) f a b = tt
 -- behind what commits nothing this was done, of which the books are what it makes of them
 pub turns_then : {D : Type 0} (turned : Books → Books) (r : Result (Unit {0}) Error) (old mid new : State)
     → (HasCleanDisk old → HasCleanDisk mid → StaysInTransaction mid new → D → IsWriting new × ((tables new).books ≡ turned (tables old).books))
-    → (HasCleanDisk mid → KeepsCommit old mid) → CommitsNothing old mid → (HasCleanDisk new → OnOk r (StaysInTransaction mid new)) → (HasCleanDisk new → OnOk r D)
+    → (HasCleanDisk mid → KeepsCommit old mid) → CommitsNothing old mid → (HasCleanDisk new → OnOk r (StaysInTransaction mid new))
+    → (HasCleanDisk new → OnOk r D)
     → (HasCleanDisk new → OnErr r (IsUndone mid new)) → CommitsNothing mid new → TurnsBooks turned r old new
 turns_then turned r old mid new does kept before on done undone after =
     let both = survives_both old mid new before after in

@@ -1,6 +1,6 @@
 -- Calls that only read, one after the other, and the books that they make.
 use Rattle.std.proofs.Common.{◌≡◌, ◌⊎◌, ◌∙◌, ◌++◌, inl, inr, refl, sym, ap, subst, arith, List, [], ◌∷◌, ℕ}
-use Rattle.std.proofs.Common.{ℤ, pos, Bool, true, false, cond, nat_eq, ◌&&◌, Some, Result, Ok, Err, OnOk, OnErr}
+use Rattle.std.proofs.Common.{pos, Bool, true, false, cond, nat_eq, ◌&&◌, Some, Result, Ok, Err, OnOk, OnErr}
 use Rattle.std.proofs.lemmas.Bool.{and_parts}
 pub use Rattle.std.proofs.lemmas.Result.{on_ok_weaker as on_ok, on_err_weaker as on_err}
 use Rattle.std.specs.List.{AllByRecursion}

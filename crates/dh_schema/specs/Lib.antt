@@ -2,6 +2,7 @@ pub mod Tables
 pub mod Version
 pub mod Loaded
 pub mod Store
+pub mod Steps
 pub mod Putting
 pub mod Faults
 pub mod LoadFaults

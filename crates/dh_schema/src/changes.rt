@@ -1,8 +1,7 @@
 //! One change in one transaction.
 
-ghost use Rattle.std.specs.Prelude.{◌≡◌, ◌⊎◌, ◌≤◌, ◌+◌, IsTrue, None, IfErr, OnOk, OnErr};
+ghost use Rattle.std.specs.Prelude.{◌≡◌, ◌≤◌, ◌+◌, None, OnOk};
 ghost use Rattle.std.specs.FinMap.{get};
-ghost use Rattle.sqlite_trees.specs.View.{doubt};
 ghost use Rattle.sqlite.specs.State.{HasCleanDisk};
 ghost use Rattle.sqlite.specs.Held.{state};
 ghost use Rattle.dh_days.specs.declared.limits.TheConstants.{LAST_NEXT_MONTH};
@@ -10,8 +9,8 @@ ghost use Rattle.dh_model.specs.declared.rows.Change.TheVariants as change;
 ghost use Rattle.dh_model.specs.Edits.{Insert, edit_of};
 ghost use Rattle.dh_laws.specs.Looks.{FitsIn};
 ghost use Rattle.dh_laws.specs.StateTables.{IsStateInOrder};
-ghost use Rattle.dh_schema.specs.Faults.{IsFirstFault};
-ghost use Rattle.dh_schema.specs.Store.{IsReady, IsWriting, LeavesItsTables, Leaves, StaysReady, tables, with_change};
+ghost use Rattle.dh_schema.specs.Steps.{Steps};
+ghost use Rattle.dh_schema.specs.Store.{IsReady, IsWriting, LeavesItsTables, tables, with_change};
 ghost use Rattle.dh_schema.specs.Changes.{HasPlace, PutsRows, TurnsInto};
 
 use crate::{Put, StoreFault, commit};
@@ -138,15 +137,8 @@ pub fn apply<S: Alter>(
     requires order { HasCleanDisk (state S.Store conn.old) → IsStateInOrder (with_change change.now (tables (state S.Store conn.old))) }
     requires fits { HasCleanDisk (state S.Store conn.old) → FitsIn change.now (tables (state S.Store conn.old)).books }
     requires place { HasCleanDisk (state S.Store conn.old) → HasPlace (tables (state S.Store conn.old)).books.version change.now }
-    ensures done { HasCleanDisk (state S.Store conn.new)
-        → OnOk result (IsReady (state S.Store conn.new) × (tables (state S.Store conn.new) ≡ with_change change.now (tables (state S.Store conn.old)))) }
+    ensures steps { Steps (with_change change.now) result (state S.Store conn.old) (state S.Store conn.new) }
     ensures left { HasCleanDisk (state S.Store conn.new) → OnOk result (LeavesItsTables (state S.Store conn.new)) }
-    ensures undone { HasCleanDisk (state S.Store conn.new) → IsTrue (state S.Store conn.new).is_open
-        → OnErr result (StaysReady (state S.Store conn.old) (state S.Store conn.new)) }
-    ensures cause { IfErr result IsFirstFault }
-    ensures crash { HasCleanDisk (state S.Store conn.new)
-        → Leaves (state S.Store conn.new) (λ t. (t ≡ tables (state S.Store conn.old)) ⊎ (t ≡ with_change change.now (tables (state S.Store conn.old)))) }
-    ensures was_clean { doubt (state S.Store conn.old).is_clean ≤ doubt (state S.Store conn.new).is_clean }
 {
     commit(alloc, conn, &ChangeRows { change })
 }

@@ -14,7 +14,6 @@ mod laws;
 mod load_fault;
 mod loaded_books;
 mod looks;
-mod open_run;
 mod transaction;
 
 pub use by_key::{KeyedRecord, find};
@@ -31,5 +30,4 @@ pub use looks::{
     find_open_run, look, look_at_all, look_at_later, look_at_lettings, look_later, months_now,
     no_rows, no_rows_of,
 };
-pub use open_run::batches_shown;
 pub use transaction::{Put, commit};

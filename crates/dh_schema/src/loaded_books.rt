@@ -1,6 +1,6 @@
 //! Reading the tables.
 
-ghost use Rattle.std.specs.Prelude.{◌≡◌, IsTrue, pos, Some, None, Err, IfOk, IfErr, OnOk, OnErr};
+ghost use Rattle.std.specs.Prelude.{◌≡◌, pos, Some, None, Err, IfOk, IfErr, OnOk, OnErr};
 ghost use Rattle.sqlite.specs.State.{HasCleanDisk, IsUnchanged};
 ghost use Rattle.sqlite.specs.Held.{state};
 ghost use Rattle.dh_types.specs.declared.version.Version.TheVariants.{First};
@@ -17,9 +17,9 @@ use crate::all_tables::load_records;
 use crate::fault::StoreFault;
 use crate::file_version::FileVersion;
 use crate::load_fault::LoadFault;
-use crate::open_run::run_shown;
 use dh_books::Books;
 use dh_ddl::tables_found;
+use dh_leases::run_shown;
 use dh_tables::{find_meta, meta_rows_shown};
 use dh_types::Version;
 use sqlite::types::ValueRef;

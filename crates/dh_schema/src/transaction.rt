@@ -1,14 +1,13 @@
 //! Rows put into the tables in one transaction.
 
-ghost use Rattle.std.specs.Prelude.{◌≡◌, ◌≤◌, ◌⊎◌, IsTrue, IfErr, OnOk, OnErr};
-ghost use Rattle.sqlite_trees.specs.View.{doubt};
+ghost use Rattle.std.specs.Prelude.{◌≡◌, OnOk};
 ghost use Rattle.sqlite.specs.State.{HasCleanDisk};
 ghost use Rattle.sqlite.specs.Held.{state};
 ghost use Rattle.dh_model.specs.Books.{State};
 ghost use Rattle.dh_laws.specs.StateTables.{IsStateInOrder};
-ghost use Rattle.dh_schema.specs.Faults.{IsFirstFault};
 ghost use Rattle.dh_schema.specs.Putting.{Puts};
-ghost use Rattle.dh_schema.specs.Store.{IsReady, IsReadyWith, IsWriting, Leaves, LeavesItsTables, StaysReady, tables};
+ghost use Rattle.dh_schema.specs.Steps.{Steps};
+ghost use Rattle.dh_schema.specs.Store.{IsReady, IsWriting, LeavesItsTables, tables};
 
 use crate::fault::StoreFault;
 use sqlite::{Alter, Connection, Error, Transaction};
@@ -46,15 +45,8 @@ pub fn commit<P: Put, S: Alter>(
     requires order { HasCleanDisk (state S.Store conn.old) → IsStateInOrder (P.after rows.now (tables (state S.Store conn.old))) }
     requires room { HasCleanDisk (state S.Store conn.old) → P.fits rows.now (tables (state S.Store conn.old)) }
     requires can { P.can_put rows.now }
-    ensures done { HasCleanDisk (state S.Store conn.new)
-        → OnOk result (IsReadyWith (state S.Store conn.new) (λ t. t ≡ P.after rows.now (tables (state S.Store conn.old)))) }
+    ensures steps { Steps (P.after rows.now) result (state S.Store conn.old) (state S.Store conn.new) }
     ensures left { HasCleanDisk (state S.Store conn.new) → OnOk result (LeavesItsTables (state S.Store conn.new)) }
-    ensures undone { HasCleanDisk (state S.Store conn.new) → IsTrue (state S.Store conn.new).is_open
-        → OnErr result (StaysReady (state S.Store conn.old) (state S.Store conn.new)) }
-    ensures cause { IfErr result IsFirstFault }
-    ensures crash { HasCleanDisk (state S.Store conn.new)
-        → Leaves (state S.Store conn.new) (λ t. (t ≡ tables (state S.Store conn.old)) ⊎ (t ≡ P.after rows.now (tables (state S.Store conn.old)))) }
-    ensures was_clean { doubt (state S.Store conn.old).is_clean ≤ doubt (state S.Store conn.new).is_clean }
 {
     if !conn.is_autocommit() {
         return Err(StoreFault::unclean(conn));

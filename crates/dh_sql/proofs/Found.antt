@@ -16,8 +16,8 @@ use Rattle.sqlite_trees.specs.Tree.{Trees}
 use Rattle.dh_model.specs.Whole.{rows_where}
 use Rattle.dh_model.proofs.Among.{in_map}
 use Rattle.dh_model.proofs.MapRows.{found_entry, kept_if}
-use Rattle.dh_laws.specs.InOrder.{StandUnder}
 use Rattle.dh_laws.proofs.MapMerges.{get-rows_where}
+use Rattle.dh_model.specs.Books.{StandUnder}
 use Rattle.dh_sql.specs.Shape.{Shape, IsKept, entry_in, rows_in, rows_of, shown_keys, stored_in, under_key}
 use Rattle.dh_sql.proofs.Maps.{from_permutation}
 

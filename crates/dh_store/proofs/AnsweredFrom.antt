@@ -16,7 +16,8 @@ use Rattle.dh_types.specs.declared.property.Property.{Property}
 use Rattle.dh_types.specs.declared.answer.Debt.{Debt}
 use Rattle.dh_types.specs.Reports.{BranchArrears, NoReport}
 use Rattle.dh_model.specs.declared.open_run.OpenRun.{OpenRun}
-use Rattle.dh_model.specs.Answers.{answer_of, arrears, balance, debt, owed, line_of_lease, owner_charges, owner_line, owner_lines, owner_report, is_put_off, report, unless_open}
+use Rattle.dh_model.specs.Answers.{answer_of, arrears, balance, debt, owed, line_of_lease, owner_charges, owner_line, owner_lines}
+use Rattle.dh_model.specs.Answers.{owner_report, is_put_off, report, unless_open}
 use Rattle.dh_model.specs.Books.{Books}
 use Rattle.dh_model.specs.Checks.{is_same_text}
 use Rattle.dh_model.specs.Runs.{is_property_of, leases_of_branch}

@@ -8,12 +8,11 @@ use Rattle.dh_types.specs.declared.lease.LeaseTerms.{LeaseTerms}
 use Rattle.dh_types.specs.declared.lease.Lease.{Lease}
 use Rattle.dh_types.specs.declared.lease.Ending.{Ending}
 use Rattle.dh_types.proofs.SameValues.{numbers}
-use Rattle.dh_model.specs.Books.{Endings}
+use Rattle.dh_model.specs.Books.{Endings, StandUnder}
 use Rattle.dh_model.specs.Whole.{rows_where}
 use Rattle.dh_model.proofs.Among.{Among, in_filter, of_filter, of_passes, some_passes}
 use Rattle.dh_model.proofs.KeyOrders.{nat_ties, nat_total}
 use Rattle.dh_model.proofs.MapRows.{inside, of_row}
-use Rattle.dh_laws.specs.InOrder.{StandUnder}
 use Rattle.dh_laws.specs.Looks.{is_beside, is_some_beside}
 use Rattle.dh_laws.proofs.MapMerges.{own_row}
 use Rattle.dh_laws.proofs.FactLemmas.Narrowed.{values_where}

@@ -1,5 +1,5 @@
 -- What a command looks at, from what single looks bring.
-use Rattle.std.proofs.Common.{◌≡◌, ◌∙◌, refl, sym, ap, subst, if◌then◌else◌, List, ℕ, Option, Some, None, option_map}
+use Rattle.std.proofs.Common.{◌≡◌, ◌∙◌, ap, subst, List, ℕ, Option, None}
 use Rattle.std.specs.FinMap.{get, len}
 use Rattle.sqlite_trees.specs.Tree.{Trees}
 use Rattle.dh_types.proofs.SameValues.{texts}
@@ -7,21 +7,15 @@ use Rattle.dh_types.specs.declared.property.Property.{Property}
 use Rattle.dh_types.specs.declared.version.Version.{Version}
 use Rattle.dh_types.specs.declared.command.Command.{Command}
 use Rattle.dh_types.specs.declared.lease.Receipt.{Receipt}
-use Rattle.dh_types.specs.declared.reply.Refusal.{Refusal}
-use Rattle.dh_types.specs.declared.reply.Refusal.TheVariants as refusal
-use Rattle.dh_model.specs.declared.open_run.OpenRun.{OpenRun}
-use Rattle.dh_model.specs.declared.rows.Verdict.TheVariants as verdict
-use Rattle.dh_model.specs.Books.{State, empty_books}
+use Rattle.dh_model.specs.Books.{StandUnder, State, empty_books}
 use Rattle.dh_model.specs.Checks.{is_same_text}
-use Rattle.dh_model.specs.MachineLaws.{is_frozen}
 use Rattle.dh_model.specs.Rules.{Keys}
-use Rattle.dh_model.specs.Verdicts.{verdict_on}
 use Rattle.dh_model.specs.Whole.{rows_where}
 use Rattle.dh_model.proofs.KeyOrders.{text_ties, text_total}
-use Rattle.dh_laws.specs.InOrder.{StandUnder}
 use Rattle.dh_laws.specs.Looks.{Counts, IsCutOf, IsLast, month_open, number_of}
 use Rattle.dh_laws.proofs.FactLemmas.Last.{last_number_is_count}
-use Rattle.dh_answers.proofs.FrozenCommands.{refusal_of, refused}
+use Rattle.dh_answers.specs.Seen.{run_of}
+use Rattle.dh_answers.proofs.FrozenCommands.{month_of}
 use Rattle.dh_sql.proofs.Found.{get_where}
 use Rattle.dh_model.specs.Kinds.{Properties}
 use Rattle.dh_schema.specs.Tables.{IsSound, books_in, state_in}
@@ -43,14 +37,14 @@ property_found trees t b number found at among is =
     (subst (λ (s : State). StandUnder (λ (p : Property). p.number) s.books.properties) at (keyed Properties trees))
     (λ p same. (texts p.number number).1 same)
 
--- the rows are gathered, the open run is set, and the receipts are counted
-pub cut_of : (told : Command) (t t1 : State) (run : Option OpenRun) (count : ℕ) (gathered books : State) → t1 ≡ t → gathered ≡ seen told t
-    → books ≡ record gathered { open_run = run } → month_open run ≡ month_open t.open_run → Counts told t1.books.receipts count
-    → IsCutOf (record { books = books.books; receipts = count; open_run = books.open_run }) t.books t.open_run told
-cut_of told t t1 run count gathered books same rows set month counted = record {
-  rows = ap (λ (s : State). s.books) set ∙ ap (λ (s : State). s.books) rows;
+-- the rows are gathered, the receipts are counted, and the month of the open run is found
+pub cut_of : (told : Command) (t t1 : State) (open_month : Option ℕ) (count : ℕ) (gathered : State) → t1 ≡ t → gathered ≡ seen told t
+    → open_month ≡ month_open t.open_run → Counts told t1.books.receipts count
+    → IsCutOf (record { books = gathered.books; receipts = count; open_run = run_of open_month }) t.books t.open_run told
+cut_of told t t1 open_month count gathered same rows month counted = record {
+  rows = ap (λ (s : State). s.books) rows;
   counted = subst (λ (s : State). Counts told s.books.receipts count) same counted;
-  month = ap (λ (s : State). month_open s.open_run) set ∙ month;
+  month = month_of open_month ∙ month;
 }
 
 -- books of the tables' version and months that have no rows
@@ -60,14 +54,3 @@ bare_of t version first next is_version is_first is_next = λ i. record {
   books = record (empty_books (is_first i)) { next = is_next i; version = is_version i };
   open_run = None;
 }
-
--- what an open run refuses, a run of the same month refuses
-of_month : (run : Option OpenRun) → refusal_of run ≡ option_map refusal.RunOpen (month_open run)
-of_month None = refl
-of_month (Some at) = refl
-
-pub refused_in : (t : State) (run : Option OpenRun) (told : Command) (why : Refusal) → month_open run ≡ month_open t.open_run
-    → (if is_frozen told then refusal_of run else None) ≡ Some why → verdict.Refused why ≡ verdict_on t.books t.open_run told
-refused_in t run told why month is =
-    let same = of_month t.open_run ∙ ap (option_map refusal.RunOpen) (sym month) ∙ sym (of_month run) in
-    refused t.books (len t.books.receipts) t.open_run told why (ap (λ (r : Option Refusal). if is_frozen told then r else None) same ∙ is)

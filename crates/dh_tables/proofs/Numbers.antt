@@ -1,6 +1,6 @@
 -- Whole numbers that were read from rows.
-use Rattle.std.proofs.Common.{◌≡◌, ◌∙◌, refl, sym, ap, subst, ℤ, pos, ◌<ℤ◌, ◌<◌, ◌+◌, ℕ, Bool, true, false, cond, List, []}
-use Rattle.std.proofs.Common.{◌∷◌, ◌++◌, map, map-id, length, get_or, IsPermutation, Less, Equal, Greater, is_eq, true≢false, arith}
+use Rattle.std.proofs.Common.{◌≡◌, ◌∙◌, refl, sym, ap, subst, ℤ, pos, ◌<ℤ◌, ◌<◌, ◌+◌, ℕ, Bool, true, false, cond, List}
+use Rattle.std.proofs.Common.{map, map-id, length, get_or, IsPermutation, Less, Equal, Greater, is_eq, true≢false, arith}
 use Rattle.std.specs.Prelude.{T, int_lt}
 use Rattle.std.specs.declared.cmp.Ordering.{Ordering}
 use Rattle.std.specs.Ordering.{eq_by_cmp, int_cmp, is_lt}

@@ -5,8 +5,8 @@ use Rattle.std.specs.Cmp.{IsTotalOrder}
 use Rattle.std.specs.FinMap.{FinMap, IsAntisymmetric, empty, get, get-empty}
 use Rattle.dh_model.specs.Whole.{rows_where}
 use Rattle.dh_model.proofs.MapRows.{get_new}
-use Rattle.dh_laws.specs.InOrder.{StandUnder}
 use Rattle.dh_laws.proofs.MapMerges.{got_rows_where}
+use Rattle.dh_model.specs.Books.{StandUnder}
 use Rattle.dh_sql.specs.Shape.{Shape}
 use Rattle.dh_sql.proofs.Found.{get_where}
 use Rattle.dh_tables.specs.Questions.{AsksFor, only_record}

@@ -2,6 +2,9 @@
 
 ghost use Rattle.std.specs.Prelude.{◌≡◌, OnOk, OnErr, option_copied};
 ghost use Rattle.std.specs.FinMap as fin;
+ghost use Rattle.dh_model.specs.BatchLaws.{AreNumbered};
+ghost use Rattle.dh_model.specs.Books.{StandUnder};
+ghost use Rattle.dh_model.specs.Runs.{part_key};
 
 use super::Books;
 use dh_types::{EntryMonth, Id, Part, Run};
@@ -59,9 +62,11 @@ impl Books {
         Ok(())
     }
 
-    /// All parts of rent runs, rising by month and branch.
+    /// All parts of rent runs, rising by month and branch. Each stands under these, and each lease under its number.
     pub fn parts(&self) -> Values<'_, (EntryMonth, Id), Part>
-        ensures { result ≡ fin.values self.now.books.parts }
+        ensures rows { result ≡ fin.values self.now.books.parts }
+        ensures keyed { StandUnder part_key self.now.books.parts }
+        ensures numbered { AreNumbered self.now.books }
     {
         self.parts.values()
     }

@@ -9,8 +9,8 @@ use Rattle.std.proofs.lemmas.Cmp.{tied_itself}
 use Rattle.std.proofs.lemmas.List.Sums.{sum_by-cons}
 use Rattle.dh_model.proofs.Among.{Among, in_flat_map}
 use Rattle.dh_model.proofs.Rising.{IsBefore, Lesser, Rises, rises_by}
-use Rattle.dh_laws.specs.InOrder.{StandUnder}
 use Rattle.dh_laws.proofs.MapMerges.{rows_rise}
+use Rattle.dh_model.specs.Books.{StandUnder}
 
 module _ {X : Type 0} where
   abbrev pub Differ : X → X → Type 0

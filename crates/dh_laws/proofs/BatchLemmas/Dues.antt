@@ -7,14 +7,13 @@ use Rattle.dh_types.specs.declared.run.Part.{Part}
 use Rattle.dh_types.specs.declared.fee.PartFee.{PartFee}
 use Rattle.dh_types.specs.declared.version.Version.{Version}
 use Rattle.dh_types.specs.declared.version.Version.TheVariants.{First, Second}
-use Rattle.dh_model.specs.Books.{Books}
+use Rattle.dh_model.specs.Books.{Books, StandUnder}
 use Rattle.dh_model.specs.Leases.{due, dues, dues_among, length_of}
 use Rattle.dh_model.specs.Runs.{batch_of, batches_before, begun_branches, charge_key, dues_of_branch, is_property_of, leases_of_branch, part_key, part_of}
 use Rattle.dh_model.specs.Runs.{fee_at, fees_of_parts, part_fee_key, part_fee_of, posted_charges, posted_fees, posted_of_branch, posted_parts, since_second}
 use Rattle.dh_model.proofs.Among.{Among, in_filter, in_flat_map, in_map, of_filter, of_flat_map, of_map}
 use Rattle.dh_model.proofs.DueLemmas.{is_due}
 use Rattle.dh_model.proofs.KeyOrders.{nat_ties, nat_total}
-use Rattle.dh_laws.specs.InOrder.{StandUnder}
 use Rattle.dh_laws.proofs.MapMerges.{one_row}
 use Rattle.dh_laws.proofs.BatchLemmas.MonthRows.{OneEach}
 

@@ -4,13 +4,13 @@ use Rattle.std.specs.List.{filter}
 use Rattle.std.specs.Cmp.{IsTotalOrder}
 use Rattle.std.specs.FinMap.{FinMap, IsAntisymmetric, get, same_map, values}
 use Rattle.dh_types.proofs.SameValues.{numbers}
-use Rattle.dh_model.specs.Books.{with_rows}
+use Rattle.dh_model.specs.Books.{StandUnder, with_rows}
 use Rattle.dh_model.specs.Rules.{HaveTheSame}
 use Rattle.dh_model.specs.Whole.{rows_where}
 use Rattle.dh_model.proofs.Among.{Among, among, in_filter, is_among, of_filter}
-use Rattle.dh_laws.specs.InOrder.{StandUnder}
 use Rattle.dh_model.proofs.MapRows.{of_row, row_of}
-use Rattle.dh_laws.proofs.MapMerges.{get_kept, get_of_rows, get_past_rows, got_rows_where, got_with_rows, with_rows_keyed, rows_where_keyed}
+use Rattle.dh_model.proofs.UnderKeys.{rows_where_keyed}
+use Rattle.dh_laws.proofs.MapMerges.{get_kept, get_of_rows, get_past_rows, got_rows_where, got_with_rows, with_rows_keyed}
 
 -- the row stands under the key
 abbrev pub Has : {K X : Type 0} {R : K → K → Ordering} → FinMap R X → K → X → Type 0
@@ -100,7 +100,7 @@ module _ {K X : Type 0} {R : K → K → Ordering} (key : X → K) (month_of : X
       of_old k x h n = get_past_rows o anti key rows (others m month) k (λ y a e. n (f.apart y x k a h e)) ∙ of_others m month k x h n
 
       pub keyed_replaced : StandUnder key (replaced m month rows)
-      keyed_replaced = with_rows_keyed o anti key rows (others m month) (rows_where_keyed o anti (λ x. not (nat_eq (month_of x) month)) key m f.keyed)
+      keyed_replaced = with_rows_keyed o anti key rows (others m month) (rows_where_keyed o anti key (λ x. not (nat_eq (month_of x) month)) m f.keyed)
 
       pub value_of_replaced : (x : X) → Among (values (replaced m month rows)) x → Among rows x ⊎ (Among (values m) x × (month_of x ≡ month → ⊥))
       value_of_replaced x a =

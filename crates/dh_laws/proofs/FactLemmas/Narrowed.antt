@@ -12,8 +12,8 @@ use Rattle.std.proofs.lemmas.Bool.{and_parts}
 use Rattle.std.proofs.lemmas.List.Recursion.{is_count_by}
 use Rattle.dh_model.specs.Whole.{rows_where}
 use Rattle.dh_model.proofs.MapRows.{kept_if, sorted}
-use Rattle.dh_laws.specs.InOrder.{StandUnder}
 use Rattle.dh_laws.proofs.MapMerges.{get-rows_where}
+use Rattle.dh_model.specs.Books.{StandUnder}
 
 module _ {X : Type 0} (p t : X → Bool) (covers : (x : X) → p x ≡ true → t x ≡ true) where
   both : (b c : Bool) (x : X) (ks ls : List X) → t x ≡ b → p x ≡ c → filter p ks ≡ ls → filter p (cond b (x ∷ ks) ks) ≡ cond c (x ∷ ls) ls

@@ -8,13 +8,13 @@ use Rattle.dh_types.specs.declared.lease.Receipt.{Receipt}
 use Rattle.dh_types.specs.declared.run.Run.{Run}
 use Rattle.dh_values.specs.declared.receipt_kind.ReceiptKind.TheVariants.{Deposit}
 use Rattle.dh_model.specs.Kinds.{Kind, key_in, order_of, records_of}
-use Rattle.dh_model.specs.Books.{empty_books}
+use Rattle.dh_model.specs.Books.{StandUnder, empty_books}
 use Rattle.dh_model.specs.Checks.{is_same_text}
 use Rattle.dh_model.specs.Leases.{overlap, running}
 use Rattle.dh_model.specs.Rules.{Each, EachTwo, IsThere, MeetsRules, Refers, References, Branches, Managers, Overlaps, Starts, Terms, Deposits, Keys}
 use Rattle.dh_model.specs.Rules.{Runs, Months, Fees, Endings}
 use Rattle.dh_model.proofs.Among.{Among, among}
-use Rattle.dh_laws.specs.InOrder.{AreKeyed, StandUnder}
+use Rattle.dh_laws.specs.InOrder.{AreKeyed}
 use Rattle.dh_laws.specs.Keeping.{EmptyBooksAreInOrder}
 
 pub none_left : {X : Type 0} (xs : List X) → length xs ≡ 0 → xs ≡ []

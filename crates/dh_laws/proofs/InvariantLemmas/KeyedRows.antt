@@ -1,11 +1,11 @@
 -- What holds of the records of each kind holds where those of one kind are replaced by others of which it holds: as that they are keyed.
 use Rattle.std.proofs.Common.{◌≡◌, ℕ}
 use Rattle.std.specs.FinMap.{FinMap, insert}
-use Rattle.dh_model.specs.Books.{Books}
+use Rattle.dh_model.specs.Books.{Books, StandUnder}
 use Rattle.dh_model.specs.Kinds.{Kind, key_in, key_of, order_of, record_of, records_of, with_records}
 use Rattle.dh_model.proofs.KindOrders.{ties_of, total_of}
-use Rattle.dh_laws.specs.InOrder.{AreKeyed, StandUnder}
-use Rattle.dh_laws.proofs.MapMerges.{insert_keyed}
+use Rattle.dh_laws.specs.InOrder.{AreKeyed}
+use Rattle.dh_model.proofs.UnderKeys.{insert_keyed}
 
 module _ (books : Books) (P : (kind : Kind) → FinMap (order_of kind) (record_of kind) → Type 0) (each : (kind : Kind) → P kind (records_of kind books)) where
   pub each_with : (kind : Kind) (rows : FinMap (order_of kind) (record_of kind)) → P kind rows

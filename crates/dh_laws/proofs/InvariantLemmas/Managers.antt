@@ -25,7 +25,8 @@ use Rattle.dh_model.proofs.KeyOrders.{text_total, text_ties}
 use Rattle.dh_model.proofs.Rising.{IsBefore, Rises, rises_by}
 use Rattle.dh_laws.specs.InOrder.{AreKeyed}
 use Rattle.dh_laws.proofs.VerdictLemmas.Acceptance.{Accepted, Assigns, turned, turned_is}
-use Rattle.dh_laws.proofs.MapMerges.{insert_keyed, rows_rise}
+use Rattle.dh_model.proofs.UnderKeys.{insert_keyed}
+use Rattle.dh_laws.proofs.MapMerges.{rows_rise}
 use Rattle.dh_model.proofs.MapRows.{each_put, sum_new, sum_old, there}
 use Rattle.dh_laws.proofs.VerdictLemmas.Checks.{CanManage}
 

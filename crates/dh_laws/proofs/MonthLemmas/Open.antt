@@ -10,13 +10,12 @@ use Rattle.dh_types.specs.declared.lease.Charge.{Charge}
 use Rattle.dh_types.specs.declared.run.Run.{Run}
 use Rattle.dh_types.specs.declared.run.Part.{Part}
 use Rattle.dh_types.proofs.SameValues.{numbers}
-use Rattle.dh_model.specs.Books.{Books}
+use Rattle.dh_model.specs.Books.{Books, StandUnder}
 use Rattle.dh_model.specs.Runs.{batch_of, batches_before, begun_branches, dues_of_branch, part_of, posted_charges, posted_of_branch, posted_parts}
 use Rattle.dh_model.specs.Rules.{ArePosted, IsThere, MonthIsClosed, MonthIsOpen, MonthsInOrder, RunsInOrder, charges_in, parts_in}
 use Rattle.dh_model.specs.Whole.{open_row}
 use Rattle.dh_model.proofs.Among.{Among, among, in_filter, in_flat_map, in_map, is_among, of_left}
 use Rattle.dh_model.proofs.KeyOrders.{nat_total, nat_ties}
-use Rattle.dh_laws.specs.InOrder.{StandUnder}
 use Rattle.dh_model.proofs.MapRows.{each_insert, got_after, new_is_there, of_row, row_of, there, there_after, values_new}
 use Rattle.dh_laws.proofs.MonthLemmas.Alike.{closed_alike, have_same}
 use Rattle.dh_laws.proofs.MonthLemmas.Dues.{branch_after_lease, dues_after_lease}

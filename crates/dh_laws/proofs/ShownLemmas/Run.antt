@@ -112,7 +112,7 @@ pub run_shown_is_reckoned : (size : ℕ) → RunShownIsReckoned size
 run_shown_is_reckoned size books None pos keyed none = ap (option_map (reckoned_at size books)) none
 run_shown_is_reckoned size books (Some at) pos keyed is =
     let row : Run = is.0 in
-    let all = shown_are_done size books at.month at.done pos keyed is.3 in
+    let all = shown_are_done size books at.month at.done pos (keyed Kind.Leases) (keyed Kind.Parts) is.3 in
     let month_is : row.month ≡ at.month = is.2 in
     let done_is : batches_shown size books row.month ≡ at.done = ap (batches_shown size books) month_is ∙ all in
     let own : Some (reckoned_at size books row) ≡ Some at = λ i. Some (record { month = month_is i; done = done_is i }) in

@@ -12,34 +12,40 @@ ghost use Rattle.dh_schema.specs.Store.{IsReady, Leaves, StaysReady, tables};
 ghost use Rattle.dh_schema.specs.Months.{IsReadyIn};
 ghost use Rattle.dh_schema.specs.Reading.{OnlyReads};
 
-use crate::verdicts::facts::{gather_into, open_month};
+use crate::verdicts::facts::{count_for, gather_rows, open_month};
 use dh_answers::{Facts, decide_on, open_refusal};
 use dh_books::Books;
-use dh_model::{OpenRun, Verdict};
+use dh_model::Verdict;
 use dh_rows::Meta;
 use dh_schema::{StoreFault, months_now};
-use dh_types::Command;
+use dh_types::{Command, EntryMonth};
 use sqlite::{Alter, Connection};
 use std::alloc::Global;
 
-// The verdict on the command, from the rows that it looks at. The run is the one that is open, and does not put it off.
+// The verdict on the command, from the rows that it looks at. The open run of this month does not put it off.
 fn ask_rows<S: Alter>(
     alloc: Global,
     conn: &mut Connection<S>,
     command: &Command,
     months: Meta,
-    run: Option<OpenRun>,
+    open_month: Option<EntryMonth>,
 ) -> Result<Verdict, StoreFault>
     requires ready { HasCleanDisk (state S.Store conn.old) → IsReadyIn months (state S.Store conn.old) }
-    requires run { HasCleanDisk (state S.Store conn.old) → month_open run ≡ month_open (tables (state S.Store conn.old)).open_run }
-    requires passed { put_off_by run command.now ≡ None }
+    requires month { HasCleanDisk (state S.Store conn.old) → open_month ≡ month_open (tables (state S.Store conn.old)).open_run }
+    requires passed { put_off_by open_month command.now ≡ None }
     ensures verdict { HasCleanDisk (state S.Store conn.new)
         → IfOk result (λ v. v ≡ verdict_on (tables (state S.Store conn.old)).books (tables (state S.Store conn.old)).open_run command.now) }
     ensures reads { OnlyReads (state S.Store conn.old) (state S.Store conn.new) result }
 {
-    let books = Books::new(alloc, months.version(), months.first(), months.next());
-    let mut facts = Facts { books, receipts: 0 };
-    gather_into(alloc, conn, command, run, &mut facts)?;
+    let version = months.version();
+    let mut books = Books::new(alloc, version, months.first(), months.next());
+    gather_rows(alloc, conn, version, command, &mut books)?;
+    let receipts = count_for(alloc, conn, command)?;
+    let facts = Facts {
+        books,
+        receipts,
+        open_month,
+    };
     Ok(decide_on(alloc, &facts, command)?)
 }
 
@@ -55,10 +61,10 @@ fn ask_tables<S: Alter>(
     ensures reads { OnlyReads (state S.Store conn.old) (state S.Store conn.new) result }
 {
     let months = months_now(alloc, conn)?;
-    let run = open_month(alloc, conn, months)?;
-    match open_refusal(&run, command) {
+    let open_month = open_month(alloc, conn, months)?;
+    match open_refusal(&open_month, command) {
         Some(refusal) => Ok(Verdict::Refused(refusal)),
-        None => ask_rows(alloc, conn, command, months, run),
+        None => ask_rows(alloc, conn, command, months, open_month),
     }
 }
 

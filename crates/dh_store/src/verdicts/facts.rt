@@ -4,8 +4,7 @@ ghost use Rattle.std.specs.Prelude.{◌≡◌, IfOk, OnOk};
 ghost use Rattle.std.specs.FinMap as fin;
 ghost use Rattle.sqlite.specs.State.{HasCleanDisk};
 ghost use Rattle.sqlite.specs.Held.{state};
-ghost use Rattle.dh_laws.specs.Looks.{Counts, IsCutOf, month_open};
-ghost use Rattle.dh_answers.specs.Seen.{facts_of};
+ghost use Rattle.dh_laws.specs.Looks.{Counts, month_open};
 ghost use Rattle.dh_schema.specs.Store.{IsReady, tables};
 ghost use Rattle.dh_schema.specs.Months.{IsReadyIn, IsReadyOf};
 ghost use Rattle.dh_schema.specs.Reading.{OnlyReads};
@@ -15,35 +14,28 @@ use crate::verdicts::rows::{
     at_end, at_fee, at_inspection, at_lease, at_property, at_receipt, at_register, at_run,
     at_staff, at_viewing, managed,
 };
-use dh_answers::Facts;
 use dh_books::Books;
-use dh_model::OpenRun;
 use dh_rows::Meta;
 use dh_schema::{StoreFault, find_open_run, look};
 use dh_tables::{
     BranchNumbered, ClientNumbered, OwnerNumbered, PropertyNumbered, ViewingOf, last_receipt,
 };
-use dh_types::{Command, Version};
+use dh_types::{Command, EntryMonth, Version};
 use sqlite::{Alter, Connection};
 use std::alloc::Global;
 
-/// The open run, of which the month alone is known.
+/// The month of the open run.
 pub(crate) fn open_month<S: Alter>(
     alloc: Global,
     conn: &mut Connection<S>,
     months: Meta,
-) -> Result<Option<OpenRun>, StoreFault>
+) -> Result<Option<EntryMonth>, StoreFault>
     requires { HasCleanDisk (state S.Store conn.old) → IsReadyIn months (state S.Store conn.old) }
-    ensures month { HasCleanDisk (state S.Store conn.new) → IfOk result (λ run. month_open run ≡ month_open (tables (state S.Store conn.old)).open_run) }
+    ensures month { HasCleanDisk (state S.Store conn.new) → IfOk result (λ month. month ≡ month_open (tables (state S.Store conn.old)).open_run) }
     ensures reads { OnlyReads (state S.Store conn.old) (state S.Store conn.new) result }
 {
-    match find_open_run(alloc, conn, months)? {
-        Some(run) => Ok(Some(OpenRun {
-            month: run.month,
-            done: 0,
-        })),
-        None => Ok(None),
-    }
+    let run = find_open_run(alloc, conn, months)?;
+    Ok(run.map(|run| run.month))
 }
 
 // How many receipts there are: the last one's number.
@@ -59,8 +51,8 @@ fn receipt_count<S: Alter>(alloc: Global, conn: &mut Connection<S>) -> Result<us
     }
 }
 
-// The receipts are counted for a receipt alone.
-fn count_for<S: Alter>(
+/// How many receipts there are, for a receipt alone.
+pub(crate) fn count_for<S: Alter>(
     alloc: Global,
     conn: &mut Connection<S>,
     command: &Command,
@@ -76,8 +68,8 @@ fn count_for<S: Alter>(
     }
 }
 
-// The rows that the command looks at.
-fn gather_rows<S: Alter>(
+/// The rows that the command looks at, into books that have the version and the months alone.
+pub(crate) fn gather_rows<S: Alter>(
     alloc: Global,
     conn: &mut Connection<S>,
     version: Version,
@@ -113,27 +105,4 @@ fn gather_rows<S: Alter>(
         Command::Run(order) | Command::Open(order) => at_run(alloc, conn, order, books),
         Command::Post(_) => Ok(()),
     }
-}
-
-/// The rows, the open run and the count, into facts that have the version and the months alone.
-pub(crate) fn gather_into<S: Alter>(
-    alloc: Global,
-    conn: &mut Connection<S>,
-    command: &Command,
-    run: Option<OpenRun>,
-    facts: &mut Facts,
-) -> Result<(), StoreFault>
-    requires ready { HasCleanDisk (state S.Store conn.old) → IsReady (state S.Store conn.old) }
-    requires run { HasCleanDisk (state S.Store conn.old) → month_open run ≡ month_open (tables (state S.Store conn.old)).open_run }
-    requires bare { HasCleanDisk (state S.Store conn.old) → facts.old.books ≡ bare (tables (state S.Store conn.old)) }
-    ensures cut { HasCleanDisk (state S.Store conn.new)
-        → OnOk result (IsCutOf (facts_of facts.new) (tables (state S.Store conn.old)).books (tables (state S.Store conn.old)).open_run command.now) }
-    ensures run { OnOk result (facts.new.books.open_run ≡ run) }
-    ensures reads { OnlyReads (state S.Store conn.old) (state S.Store conn.new) result }
-{
-    let version = facts.books.version();
-    gather_rows(alloc, conn, version, command, &mut facts.books)?;
-    facts.books.set_open_run(run);
-    facts.receipts = count_for(alloc, conn, command)?;
-    Ok(())
 }

@@ -22,13 +22,13 @@ apply-requires-clause-place g c was = has_place c.args.change.now (c.requires.se
 
 pub returns-in_err-apply-clause-crash : goal.returns-in_err-apply-clause-crash
 returns-in_err-apply-clause-crash g c clean =
-    let was : HasCleanDisk (state g.S.Store c.args.conn.now) = omega (arith, clean, c.apply.ensures.was_clean) in
+    let was : HasCleanDisk (state g.S.Store c.args.conn.now) = omega (arith, clean, c.apply.ensures.steps.was_clean) in
     put_crash c.args.command.now c.args.change.now (state g.S.Store c.args.conn.now) (c.requires.ready was) (c.requires.verdict was)
-    c.commands_are_entered.ensures (c.requires.plain was) (state g.S.Store c.apply.new.conn) (c.apply.ensures.crash clean)
+    c.commands_are_entered.ensures (c.requires.plain was) (state g.S.Store c.apply.new.conn) (c.apply.ensures.steps.crash clean)
 
 pub returns-in_err-apply-clause-halted : goal.returns-in_err-apply-clause-halted
 returns-in_err-apply-clause-halted g c clean is_open =
-    let it = c.in_err-apply.ensures.undone clean is_open in
+    let it = c.in_err-apply.ensures.steps.undone clean is_open in
     on_err c.from_residual.result (
       it.0,
       same_cut c.args.command.now (tables (state g.S.Store c.args.conn.now)) (tables (state g.S.Store c.apply.new.conn)) it.1,
@@ -36,13 +36,13 @@ returns-in_err-apply-clause-halted g c clean is_open =
 
 pub returns-clause-crash : goal.returns-clause-crash
 returns-clause-crash g c clean =
-    let was : HasCleanDisk (state g.S.Store c.args.conn.now) = omega (arith, clean, c.apply.ensures.was_clean) in
+    let was : HasCleanDisk (state g.S.Store c.args.conn.now) = omega (arith, clean, c.apply.ensures.steps.was_clean) in
     put_crash c.args.command.now c.args.change.now (state g.S.Store c.args.conn.now) (c.requires.ready was) (c.requires.verdict was)
-    c.commands_are_entered.ensures (c.requires.plain was) (state g.S.Store c.apply.new.conn) (c.apply.ensures.crash clean)
+    c.commands_are_entered.ensures (c.requires.plain was) (state g.S.Store c.apply.new.conn) (c.apply.ensures.steps.crash clean)
 
 pub returns-clause-said : goal.returns-clause-said
 returns-clause-said g c clean =
-    let was : HasCleanDisk (state g.S.Store c.args.conn.now) = omega (arith, clean, c.apply.ensures.was_clean) in
+    let was : HasCleanDisk (state g.S.Store c.args.conn.now) = omega (arith, clean, c.apply.ensures.steps.was_clean) in
     put_said c.args.command.now c.args.change.now (state g.S.Store c.args.conn.now) (c.requires.ready was) (c.requires.verdict was)
     c.commands_are_entered.ensures (c.requires.plain was) c.reply.result (tables (state g.S.Store c.apply.new.conn)) c.reply.ensures
-    (c.in_ok-apply.ensures.done clean).1
+    (c.in_ok-apply.ensures.steps.done clean).1

@@ -9,5 +9,5 @@ returns c = λ books run keyed cut.
     let facts = c.args.facts.now in
     let told = c.args.command.now in
     subst (λ verdict. IfOk c.decide_passed.result (λ v. v ≡ verdict))
-    (passed facts.books.books facts.receipts facts.books.open_run told c.requires ∙ judged_by_its_facts books run told (facts_of facts) keyed cut)
+    (passed facts.books.books facts.receipts told facts.open_month c.requires ∙ judged_by_its_facts books run told (facts_of facts) keyed cut)
     c.decide_passed.ensures

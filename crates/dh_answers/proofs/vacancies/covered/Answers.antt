@@ -7,7 +7,7 @@ use Rattle.std.specs.BTreeSet.{contains}
 use Rattle.dh_types.specs.declared.lease.LeaseTerms.{LeaseTerms}
 use Rattle.dh_model.specs.Books.{text_cmp}
 use Rattle.dh_model.specs.Checks.{is_same_text}
-use Rattle.dh_model.specs.Leases.{covers, running}
+use Rattle.dh_model.specs.Leases.{covers}
 use Rattle.dh_answers.proofs.vacancies.covered.Goals as goal
 
 taken : (s m v any : Bool) → v ≡ true → (cond s true m || any) ≡ (m || ((s && v) || any))

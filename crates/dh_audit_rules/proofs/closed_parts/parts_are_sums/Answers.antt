@@ -9,4 +9,4 @@ pub returns : goal.returns
 returns c =
     each_as {P = IsSumIfOf c.args.months.now (sum_at (pair_cmp nat_cmp text_cmp) c.in_ok-sums.sums)} _
     (λ part. let sums = c.in_ok-sums.ensures (part.month, part.branch) in (λ so of. so of ∙ sums, λ so of. so of ∙ sym sums))
-    (each_row c.all.ensures.ran c.parts.ensures (λ x b q k. search (rules, tests)))
+    (each_row c.all.ensures.ran c.parts.ensures.rows (λ x b q k. search (rules, tests)))

@@ -6,4 +6,4 @@ use Rattle.dh_audit_rules.proofs.fees.parts_have_fees.Goals as goal
 pub returns : goal.returns
 returns c =
     each_as _ (has_fee_by c.args.books.now.books c.in_ok-fees.fees c.in_ok-fees.ensures)
-    (each_row c.all.ensures.ran c.parts.ensures (λ x b q k. search (rules, tests)))
+    (each_row c.all.ensures.ran c.parts.ensures.rows (λ x b q k. search (rules, tests)))

@@ -8,7 +8,7 @@ use Rattle.dh_types.specs.declared.run.Run.{Run}
 use Rattle.dh_model.specs.Rules.{MonthIsOpen}
 use Rattle.dh_model.specs.Runs.{batch_size}
 use Rattle.dh_model.proofs.Among.{Among, among, is_among}
-use Rattle.dh_audit_rules.proofs.OpenBatches.{among_rest, each_more}
+use Rattle.dh_audit_rules.proofs.Rows.{among_rest, each_more}
 use Rattle.dh_audit_rules.proofs.open_months.open_months_are_in_order.Goals as goal
 use Rattle.dh_audit_rules.proofs.open_months.open_months_are_in_order.Goals.{else-not-run-via-then-not-run+in_ok-open_month_is_in_order+else-not-branch}
 use Rattle.dh_audit_rules.proofs.open_months.open_months_are_in_order.Goals.{else-not-run-via-else-not-run}

@@ -14,7 +14,7 @@ returns c =
     (each_row c.all-6.ensures.ran c.leases.ensures.rows (λ x b q k. search (rules, tests))))
     (each_row c.all-7.ensures.ran c.charges.ensures (λ x b q k. search (rules, tests))))
     (each_row c.all-8.ensures.ran c.receipts.ensures (λ x b q k. search (rules, tests))))
-    (each_row c.all-9.ensures.ran c.parts.ensures (λ x b q k. search (rules, tests))))
+    (each_row c.all-9.ensures.ran c.parts.ensures.rows (λ x b q k. search (rules, tests))))
     (each_row c.all-10.ensures.ran c.branch_fees.ensures (λ x b q k. search (rules, tests))))
     (each_row c.all-11.ensures.ran c.part_fees.ensures (λ x b q k. search (rules, tests))))
     (each_row c.all-12.ensures.ran c.endings.ensures (λ x b q k. search (rules, tests))))

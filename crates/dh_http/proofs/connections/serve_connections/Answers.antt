@@ -1,5 +1,5 @@
 use Rattle.std.proofs.Common.{◌≡◌, ◌∙◌, [], ℕ, List, Option, Ok, ap, arith, false, rules, subst, sym, true}
-use Rattle.dh_schema.specs.Faults.{IsFirstFault}
+use Rattle.dh_agency.specs.Faults.{IsFirstFault}
 use Rattle.dh_http.specs.Printed.{PrintsBehind}
 use Rattle.dh_http.specs.Service.{ServesOn}
 use Rattle.dh_http.specs.Watched.{IsWatched}

@@ -2,7 +2,7 @@ use Rattle.std.proofs.Common.{◌≡◌, ℕ, [], ap, inl, inr, refl, subst, ari
 use Rattle.sqlite.specs.State as conn
 use Rattle.sqlite.specs.State.{HasCleanDisk}
 use Rattle.dh_model.specs.Books.{start}
-use Rattle.dh_schema.specs.Store.{Commits}
+use Rattle.dh_agency.specs.Store.{Commits}
 use Rattle.dh_jobs.specs.declared.status.Status.TheVariants.{Done}
 use Rattle.dh_jobs.specs.Printed.{Before, EndsByFault, IsMakingEnd}
 use Rattle.dh_jobs.specs.Texts.{created_line}

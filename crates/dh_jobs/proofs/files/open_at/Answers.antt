@@ -1,4 +1,4 @@
-use Rattle.std.proofs.Common.{◌≡◌, ℕ, Bool, List, ap₂, cond}
+use Rattle.std.proofs.Common.{ℕ, Bool, List, ap₂, cond}
 use Rattle.std.proofs.lemmas.Option.{IfSome_then}
 use Rattle.std.proofs.lemmas.Result.{IfErr-weaker}
 use Rattle.sqlite_disk.specs.Events.{Event, replay}

@@ -1,6 +1,6 @@
 use Rattle.std.proofs.Common.{[], arith, inl, inr, subst}
 use Rattle.sqlite.specs.Held.{state}
-use Rattle.dh_schema.specs.Tables.{IsSound}
+use Rattle.dh_agency.specs.Tables.{IsSound}
 use Rattle.dh_agency.specs.Agency.{IsClean, shown_by, stand}
 use Rattle.dh_http.proofs.ServingLemmas.{begins}
 use Rattle.dh_jobs.specs.Printed.{Served}

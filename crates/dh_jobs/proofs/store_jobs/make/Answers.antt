@@ -2,7 +2,7 @@ use Rattle.std.proofs.Common.{◌≡◌, ◌∙◌, ℕ, ap, subst}
 use Rattle.sqlite.specs.Held.{Held, state}
 use Rattle.sqlite.specs.Store.{Ghosts}
 use Rattle.dh_model.specs.Books.{start}
-use Rattle.dh_schema.specs.Store.{Commits, LeavesItsTables, tables}
+use Rattle.dh_agency.specs.Store.{Commits, LeavesItsTables, tables}
 use Rattle.dh_agency.specs.AgencyView.{AgencyView}
 use Rattle.dh_agency.specs.Agency.{IsClean, machine, shown_by}
 use Rattle.dh_jobs.specs.OnFile.{IsMade}

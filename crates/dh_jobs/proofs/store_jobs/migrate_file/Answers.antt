@@ -1,7 +1,7 @@
 use Rattle.std.proofs.Common.{◌≡◌, inl, inr, refl}
 use Rattle.sqlite.specs.Held.{state}
-use Rattle.dh_schema.specs.Store.{tables}
-use Rattle.dh_runs.specs.Migrated.{migrated_state}
+use Rattle.dh_agency.specs.Store.{tables}
+use Rattle.dh_agency.specs.Migrated.{migrated_state}
 use Rattle.dh_jobs.specs.declared.status.Status.TheVariants.{Done}
 use Rattle.dh_jobs.specs.Printed.{IsMigrationEnd}
 use Rattle.dh_jobs.specs.Texts.{migrated_line}

@@ -2,9 +2,9 @@ use Rattle.std.proofs.Common.{◌∙◌, inl, inr, refl, subst, sym}
 use Rattle.std.proofs.lemmas.Bool.{false≢true}
 use Rattle.sqlite.specs.Held.{state}
 use Rattle.dh_types.specs.declared.version.Version.TheVariants.{Second}
-use Rattle.dh_schema.specs.Store.{tables}
-use Rattle.dh_runs.specs.Taking.{IsOfVersion, IsProblemOf}
-use Rattle.dh_runs.specs.Outcomes.{IsRecovered}
+use Rattle.dh_agency.specs.Store.{tables}
+use Rattle.dh_agency.specs.Taking.{IsOfVersion, IsProblemOf}
+use Rattle.dh_agency.specs.Outcomes.{IsRecovered}
 use Rattle.dh_jobs.specs.declared.status.Status.TheVariants.{Done}
 use Rattle.dh_jobs.specs.Printed.{IsRecoveryEnd}
 use Rattle.dh_jobs.specs.Texts.{recovered_line}

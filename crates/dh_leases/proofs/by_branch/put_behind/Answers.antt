@@ -29,6 +29,7 @@ returns c = λ other.
     let k = c.args.branch in
     let old = c.args.charges.now in
     one_behind (is_at (text_cmp k) other) (get text_cmp old other) c.remove.result (get text_cmp c.remove.new.self other) (get text_cmp c.insert.new.self other)
-    c.push.new.self c.new.result c.args.charge (λ same. ap (get text_cmp old) (sym (text_ties k other ((Equal-is (text_cmp k other)).0 same))) ∙ sym c.remove.ensures.value) c.new.ensures.items
+    c.push.new.self c.new.result c.args.charge
+    (λ same. ap (get text_cmp old) (sym (text_ties k other ((Equal-is (text_cmp k other)).0 same))) ∙ sym c.remove.ensures.value) c.new.ensures.items
     (c.remove.ensures.updates.0 other) (c.in_ok-_before.ensures.updates.0 other)
     (c.in_ok-push.ensures.items ∙ ap (λ v. v.items ++ c.args.charge ∷ []) c.unwrap_or-of_branch.ensures)

@@ -13,7 +13,8 @@ put rows s = record s { books = record s.books { part_fees = rows } }
 
 pub loop-fee-preserved : goal.loop-fee-preserved
 loop-fee-preserved c =
-    last_put nat_text_total nat_text_ties part_fee_key (λ s. s.books.part_fees) put (λ m n s. refl) (λ m s. refl) c.loop-fee.books _ c.pop.new.self.items _ c.in-Some.fee
+    last_put nat_text_total nat_text_ties part_fee_key (λ s. s.books.part_fees) put (λ m n s. refl) (λ m s. refl)
+    c.loop-fee.books _ c.pop.new.self.items _ c.in-Some.fee
     c.in_ok-put_part_fee.ensures.ok c.in-Some.ensures.items
     ∙ c.loop-fee.invariant
 

@@ -13,7 +13,8 @@ put rows s = record s { books = record s.books { charges = rows } }
 
 pub loop-charge-preserved : goal.loop-charge-preserved
 loop-charge-preserved c =
-    last_put nats_total nats_tie charge_key (λ s. s.books.charges) put (λ m n s. refl) (λ m s. refl) c.loop-charge.books _ c.pop.new.self.items _ c.in-Some.charge
+    last_put nats_total nats_tie charge_key (λ s. s.books.charges) put (λ m n s. refl) (λ m s. refl)
+    c.loop-charge.books _ c.pop.new.self.items _ c.in-Some.charge
     c.in_ok-put_charge.ensures.ok c.in-Some.ensures.items
     ∙ c.loop-charge.invariant
 

@@ -13,7 +13,8 @@ put rows s = record s { books = record s.books { parts = rows } }
 
 pub loop-part-preserved : goal.loop-part-preserved
 loop-part-preserved c =
-    last_put nat_text_total nat_text_ties part_key (λ s. s.books.parts) put (λ m n s. refl) (λ m s. refl) c.loop-part.books _ c.pop.new.self.items _ c.in-Some.part
+    last_put nat_text_total nat_text_ties part_key (λ s. s.books.parts) put (λ m n s. refl) (λ m s. refl)
+    c.loop-part.books _ c.pop.new.self.items _ c.in-Some.part
     c.in_ok-put_part.ensures.ok c.in-Some.ensures.items
     ∙ c.loop-part.invariant
 

@@ -5,7 +5,8 @@ use Rattle.dh_agency.specs.Requests.{said_in}
 use Rattle.dh_agency.proofs.Standing.{leaves_what_holds}
 use Rattle.dh_lines.specs.Session.{answered}
 use Rattle.dh_lines.specs.Batch.{IsWithin}
-use Rattle.dh_lines.proofs.OneRecord.{answers_fault, fault_first, fault_halts, memory_of_text, no_store_fault, not_on, of_output, of_request, said_part, said_whole}
+use Rattle.dh_lines.proofs.OneRecord.{answers_fault, fault_first, fault_halts, memory_of_text, no_store_fault, not_on, of_output, of_request}
+use Rattle.dh_lines.proofs.OneRecord.{said_part, said_whole}
 use Rattle.dh_lines.proofs.CrashLemmas.{cut_within, leaves_cut}
 use Rattle.dh_lines.proofs.records.answer.Goals as goal
 

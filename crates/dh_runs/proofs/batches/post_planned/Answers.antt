@@ -37,7 +37,7 @@ returns-in_err-commit-clause-crash g c =
     let low = here.0 in
     let less : n < c.args.most = omega arith in
     rows_crash (state g.S.Store c.args.conn.now) c.args.plan.now (state g.S.Store c.loop-rows.conn) n c.loop-rows.invariant c.requires.ready rows here.1
-    here.2 c.args.most (state g.S.Store c.commit.new.conn) less c.commit.ensures.was_clean c.commit.ensures.crash
+    here.2 c.args.most (state g.S.Store c.commit.new.conn) less c.commit.ensures.steps.was_clean c.commit.ensures.steps.crash
 
 pub returns-in_err-commit-clause-single : goal.returns-in_err-commit-clause-single
 returns-in_err-commit-clause-single g c clean =
@@ -48,7 +48,7 @@ returns-in_err-commit-clause-single g c clean =
     let less : n < c.args.most = omega arith in
     on_err c.from_residual.result
     (rows_single (state g.S.Store c.args.conn.now) c.args.plan.now (state g.S.Store c.loop-rows.conn) n c.loop-rows.invariant c.requires.ready rows here.1
-    here.2 c.args.most (state g.S.Store c.commit.new.conn) less c.commit.ensures.was_clean c.commit.ensures.crash clean)
+    here.2 c.args.most (state g.S.Store c.commit.new.conn) less c.commit.ensures.steps.was_clean c.commit.ensures.steps.crash clean)
 
 pub loop-rows-preserved : goal.loop-rows-preserved
 loop-rows-preserved g c =
@@ -56,7 +56,7 @@ loop-rows-preserved g c =
     let rows = c.rows-item.result in
     let here = in_front c.args.plan.now.batches.items c.deref.result.now c.min-count.result n rows c.deref.ensures.value c.loop-rows-test.true c.rows-item.is in
     planned_next (state g.S.Store c.args.conn.now) c.args.plan.now (state g.S.Store c.loop-rows.conn) n c.loop-rows.invariant c.requires.ready rows here.1
-    here.2 (state g.S.Store c.commit.new.conn) c.commit.ensures.was_clean c.in_ok-commit.ensures.done
+    here.2 (state g.S.Store c.commit.new.conn) c.commit.ensures.steps.was_clean c.in_ok-commit.ensures.steps.done
 
 pub close_month-requires-clause-end : goal.close_month-requires-clause-end
 close_month-requires-clause-end g c =
@@ -76,4 +76,4 @@ returns-in_err-close_month-clause-single g c clean =
     let less : n ≤ c.args.most = omega (arith, given) in
     on_err c.from_residual-in_err-close_month.result
     (end_single (state g.S.Store c.args.conn.now) plan (state g.S.Store c.loop-rows.conn) n c.args.most (state g.S.Store c.close_month.new.conn)
-    c.loop-rows.invariant less all c.close_month.ensures.was_clean c.close_month.ensures.crash clean)
+    c.loop-rows.invariant less all c.close_month.ensures.steps.was_clean c.close_month.ensures.steps.crash clean)

@@ -1,4 +1,4 @@
-use Rattle.std.proofs.Common.{◌≡◌, OnErr, IfOk, arith, inl, refl, subst}
+use Rattle.std.proofs.Common.{OnErr, IfOk, arith, subst}
 use Rattle.sqlite.specs.State.{HasCleanDisk}
 use Rattle.sqlite.specs.Held.{state}
 use Rattle.dh_types.specs.declared.command.Command.TheVariants as command
@@ -7,9 +7,8 @@ use Rattle.dh_schema.specs.Store.{IsReadyWith, Leaves, tables}
 use Rattle.dh_laws.specs.Batches.{IsPostedInPart}
 use Rattle.dh_laws.proofs.StandingLemmas.Batches.{same_in_part}
 use Rattle.dh_runs.specs.Outcomes.{IsAnsweredBy, LeavesOneBatch, reply_of}
-use Rattle.dh_runs.proofs.Along.{leaves_weaker}
 use Rattle.dh_runs.proofs.Carried.{on_err}
-use Rattle.dh_runs.proofs.Stages.{IsOneOn}
+use Rattle.dh_runs.proofs.Stages.{rests_single}
 use Rattle.dh_runs.proofs.batches.post_some.Goals as goal
 
 pub returns-in_err-plan-clause-halted : goal.returns-in_err-plan-clause-halted
@@ -21,9 +20,8 @@ returns-in_err-plan-clause-halted g c clean is_open =
 
 pub returns-in_err-plan-clause-single : goal.returns-in_err-plan-clause-single
 returns-in_err-plan-clause-single g c clean =
-    let t = tables (state g.S.Store c.args.conn.now) in
-    let left = leaves_weaker (state g.S.Store c.plan_run.new.conn) (λ it. it ≡ t) (IsOneOn t) (λ it is. inl is) (c.plan_run.ensures.crash clean) in
-    on_err c.from_residual.result (record { at = t; reached = same_in_part c.args.most t t refl; left = left })
+    on_err c.from_residual.result
+    (rests_single c.args.most (tables (state g.S.Store c.args.conn.now)) (state g.S.Store c.plan_run.new.conn) (c.plan_run.ensures.crash clean))
 
 pub returns-in-Some-clause-single : goal.returns-in-Some-clause-single
 returns-in-Some-clause-single g c clean =

@@ -7,4 +7,4 @@ pub returns : goal.returns
 returns c =
     c.loop-part.invariant
     ∙ (iter_end deref _ _ _ _ _ _ (c.into_iter-part-iterator.ensures.into_iter_gives
-    ∙ c.parts-part-items.ensures) c.loop-part.yielded_by c.in-None.is c.next.ensures.steps).0
+    ∙ c.parts-part-items.ensures.rows) c.loop-part.yielded_by c.in-None.is c.next.ensures.steps).0

@@ -42,5 +42,5 @@ returns-clause-takes g c =
       cause = tt;
       of_version = λ clean. tt;
       others = λ wrong. absurd (it.others wrong).0;
-      another = λ clean has. absurd (it.another (omega (arith, c.commit.ensures.was_clean, clean)) has);
+      another = λ clean has. absurd (it.another (omega (arith, c.commit.ensures.steps.was_clean, clean)) has);
     }

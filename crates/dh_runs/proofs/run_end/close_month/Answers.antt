@@ -33,7 +33,7 @@ commit-requires-clause-room g c mid =
 pub returns-clause-value : goal.returns-clause-value
 returns-clause-value g c clean =
     let old = state g.S.Store c.args.conn.now in
-    let mid : HasCleanDisk (state g.S.Store c.month_sum.new.conn) = omega (arith, c.commit.ensures.was_clean, clean) in
+    let mid : HasCleanDisk (state g.S.Store c.month_sum.new.conn) = omega (arith, c.commit.ensures.steps.was_clean, clean) in
     let early : HasCleanDisk old = omega (arith, c.month_sum.ensures.reads.crash.clean, mid) in
     let order = in_order old (c.requires.ready early) in
     let end = c.requires.end early in

@@ -16,4 +16,5 @@ returns-clause-answer g c clean free =
     let answered = answered_by_its_rows (tables old).books (tables old).open_run None question (books_are_keyed old.now.trees)
     (λ off. ap (option_map (λ (at : OpenRun). at.month)) (sym (free off))) in
     let gathered = (c.in_ok-gather.ensures.gathered (tables old) (λ _. (refl, c.no_rows-books.ensures)) clean).1 in
-    c.in_ok-answer_passed.ensures ∙ ap (λ (s : State). report (record s { open_run = None }) question) gathered ∙ answered_alike (tables old).books None question ∙ answered
+    c.in_ok-answer_passed.ensures ∙ ap (λ (s : State). report (record s { open_run = None }) question) gathered
+    ∙ answered_alike (tables old).books None question ∙ answered

@@ -1,4 +1,5 @@
-use Rattle.dh_types.proofs.SameRecords.{same_branch, same_staff, same_owner, same_property, same_client, same_registration, same_viewing, same_inspection, same_lease_terms, same_lease, same_charge, same_payment, same_receipt, same_run, same_part}
+use Rattle.dh_types.proofs.SameRecords.{same_branch, same_staff, same_owner, same_property, same_client, same_registration, same_viewing}
+use Rattle.dh_types.proofs.SameRecords.{same_inspection, same_lease_terms, same_lease, same_charge, same_payment, same_receipt, same_run, same_part}
 use Rattle.dh_types.proofs.laws.same_records_are_equal.Goals as goal
 
 pub returns-clause-branch : goal.returns-clause-branch

@@ -20,4 +20,5 @@ invariant_of-self-2 c =
     let made = one-given nat_total nat_ties b.leases.entries c.insert.new.self.entries c.args.row.terms.number c.args.row
     (rw c.key-number.ensures at c.in_ok-_before.ensures.updates.0) in
     let is : IsLeaseNo c.args.row.terms.number = subst IsLeaseNo c.key-number.ensures (omega arith, omega arith) in
-    subst AreKept (sym made) (put_kept (fin.from_entries b.leases.entries) c.args.row is c.self.invariant)
+    let parts = fin.from_entries b.parts.entries in
+    subst (λ leases. AreKept leases parts) (sym made) (put_kept (fin.from_entries b.leases.entries) parts c.self.invariant c.args.row is)

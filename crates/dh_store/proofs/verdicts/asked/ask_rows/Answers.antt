@@ -1,22 +1,22 @@
-use Rattle.std.proofs.Common.{◌∙◌, Option, ap}
+use Rattle.std.proofs.Common.{◌∙◌, refl, arith}
+use Rattle.sqlite.specs.State.{HasCleanDisk}
 use Rattle.sqlite.specs.Held.{state}
-use Rattle.dh_model.specs.declared.open_run.OpenRun.{OpenRun}
-use Rattle.dh_answers.specs.Seen.{put_off_by}
 use Rattle.dh_schema.specs.Store.{tables}
 use Rattle.dh_schema.proofs.Keyed.{books_are_keyed}
-use Rattle.dh_store.proofs.Shown.{bare_of}
+use Rattle.dh_store.proofs.Shown.{bare_of, cut_of}
 use Rattle.dh_store.proofs.verdicts.asked.ask_rows.Goals as goal
 
-pub gather_into-requires-clause-bare : goal.gather_into-requires-clause-bare
-gather_into-requires-clause-bare g c clean =
-    let months = (c.requires.ready clean).1 in
-    c.new-books.ensures
-    ∙ bare_of (tables (state g.S.Store c.args.conn.now)) _ _ _ (c.version.ensures ∙ months.2) (c.first.ensures ∙ months.0) (c.next.ensures ∙ months.1)
-
-pub decide_on-requires : goal.decide_on-requires
-decide_on-requires g c = ap (λ (r : Option OpenRun). put_off_by r c.args.command.now) c.in_ok-gather_into.ensures.run ∙ c.requires.passed
+pub gather_rows-requires : goal.gather_rows-requires
+gather_rows-requires g c clean = ((c.requires.ready clean).0, c.version-version.ensures ∙ (c.requires.ready clean).1.2)
 
 pub returns-clause-verdict : goal.returns-clause-verdict
 returns-clause-verdict g c clean =
     let old = state g.S.Store c.args.conn.now in
-    c.in_ok-decide_on.ensures (tables old).books (tables old).open_run (books_are_keyed old.now.trees) (c.in_ok-gather_into.ensures.cut clean)
+    let late : HasCleanDisk (state g.S.Store c.gather_rows.new.conn) = omega (arith, c.count_for.ensures.reads.crash.clean, clean) in
+    let early : HasCleanDisk old = omega (arith, c.gather_rows.ensures.reads.crash.clean, late) in
+    let months = (c.requires.ready early).1 in
+    let made = c.new-books.ensures
+    ∙ bare_of (tables old) _ _ _ (c.version-version.ensures ∙ months.2) (c.first.ensures ∙ months.0) (c.next.ensures ∙ months.1) in
+    c.in_ok-decide_on.ensures (tables old).books (tables old).open_run (books_are_keyed old.now.trees)
+    (cut_of c.args.command.now (tables old) _ _ _ _ (c.in_ok-gather_rows.ensures.reads.done late).1
+    (c.in_ok-gather_rows.ensures.gathered (tables old) (λ first. (refl, made)) late).1 (c.requires.month early) (c.in_ok-receipts.ensures.counted clean))

@@ -4,10 +4,9 @@ use Rattle.std.specs.List.{list_any}
 use Rattle.sqlite.specs.State.{HasCleanDisk}
 use Rattle.sqlite.specs.Held.{state}
 use Rattle.dh_types.specs.declared.lease.Lease.{Lease}
-use Rattle.dh_model.specs.Books.{Endings, State}
+use Rattle.dh_model.specs.Books.{Endings, StandUnder, State}
 use Rattle.dh_model.specs.Kinds.{Leases}
 use Rattle.dh_model.specs.Whole.{rows_where}
-use Rattle.dh_laws.specs.InOrder.{StandUnder}
 use Rattle.dh_schema.proofs.Keyed.{keyed}
 use Rattle.dh_schema.proofs.ReadTables.{on_ok}
 use Rattle.dh_store.specs.Gathered.{with_leases}

@@ -3,7 +3,7 @@ use Rattle.std.specs.List.{filter, sum_by}
 use Rattle.std.specs.Prelude.{nat_eq}
 use Rattle.dh_model.specs.Runs.{batch_size, batches_for}
 use Rattle.dh_model.specs.Whole.{batches_shown}
-use Rattle.dh_schema.proofs.open_run.batches_shown.Given as goal
+use Rattle.dh_leases.proofs.batch_counts.batches_shown.Given as goal
 
 abbrev pub invariant-loop-part : goal.invariant-loop-part
 invariant-loop-part l = record {

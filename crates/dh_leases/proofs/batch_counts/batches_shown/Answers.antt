@@ -4,7 +4,8 @@ use Rattle.std.specs.List.{filter, sum_by}
 use Rattle.std.specs.Prelude.{nat_eq}
 use Rattle.dh_types.specs.declared.run.Part.{Part}
 use Rattle.dh_model.specs.Runs.{batch_size, batches_for}
-use Rattle.dh_schema.proofs.open_run.batches_shown.Goals as goal
+use Rattle.dh_laws.proofs.ShownLemmas.Batches.{shown_are_done}
+use Rattle.dh_leases.proofs.batch_counts.batches_shown.Goals as goal
 
 abbrev batches : Part → ℕ
 batches part = batches_for batch_size part.count
@@ -47,3 +48,12 @@ loop-part-preserved c =
       value = omega (arith, first, c.loop-part.invariant.value);
       range = omega (arith, fewer, c.loop-part.invariant.range);
     }
+
+pub returns-clause-posted : goal.returns-clause-posted
+returns-clause-posted c = λ done posted.
+    let books = c.args.books.now.books in
+    let month = c.args.month in
+    let none = ap (λ parts. sum_by batches (filter (λ part. nat_eq part.month month) parts)) c.in-None.ensures.steps.0 in
+    let all = c.loop-part.invariant.value in
+    let shown = shown_are_done batch_size books month done (omega arith) c.parts-parts.ensures.numbered c.parts-parts.ensures.keyed posted in
+    omega (arith, all, none, shown)
