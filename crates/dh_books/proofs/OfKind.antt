@@ -63,4 +63,4 @@ module _ (kind : Kind) (b : Inside) {now : State} (view : state_of b ≡ now) (e
 
     pub kept_where : with_rows (from_entries fs) (state_of b) ≡ with_rows (rows_where test (records_of kind now.books)) now
     kept_where = ap (λ rows. with_rows rows (state_of b)) passing
-      ∙ ap (λ (s : State). with_rows (rows_where test (records_of kind s.books)) s) view
+        ∙ ap (λ (s : State). with_rows (rows_where test (records_of kind s.books)) s) view

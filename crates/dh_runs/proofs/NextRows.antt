@@ -154,8 +154,8 @@ pub next_made : {X : Type 0} {result : Result X Fault} (old new : store.State) (
     → (HasCleanDisk old → IsPlanOf plan (tables old)) → Steps (with_batch_rows rows) result old new → Steps next_batch result old new
 next_made {result = result} old new plan rows first ready is made =
     let next : HasCleanDisk new → with_batch_rows rows (tables old) ≡ next_batch (tables old) = λ clean.
-        let early : HasCleanDisk old = let was = made.was_clean in omega (arith, was, clean) in
-        rows_next plan (tables old) (in_order old (ready early)) (is early) rows first.0 first.1 in
+    let early : HasCleanDisk old = let was = made.was_clean in omega (arith, was, clean) in
+    rows_next plan (tables old) (in_order old (ready early)) (is early) rows first.0 first.1 in
     record {
       done = λ clean. subst (λ (t : State). OnOk result (IsReadyWith new (λ it. it ≡ t))) (next clean) (made.done clean);
       undone = made.undone;

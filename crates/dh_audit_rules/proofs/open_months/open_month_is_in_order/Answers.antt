@@ -22,5 +22,5 @@ returns c =
             ∙ not_from_false same differs))) ∙ c.of_pence.ensures;
       },
       λ open_now. tells.1 (subst (ArePosted books batch_size run.month)
-            (sym (c.batches_shown-shown.ensures.posted open_now.done open_now.posted)) open_now.posted),
+          (sym (c.batches_shown-shown.ensures.posted open_now.done open_now.posted)) open_now.posted),
     )) c.are_posted.ensures

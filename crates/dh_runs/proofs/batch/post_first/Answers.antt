@@ -47,7 +47,7 @@ pub returns-in_default-clause-steps : goal.returns-in_default-clause-steps
 returns-in_default-clause-steps g c =
     let old = state g.S.Store c.args.conn.now in
     let none : HasCleanDisk old → tables old ≡ next_batch (tables old) = λ clean.
-        sym (none_next c.args.plan.now (tables old) (c.requires.plan clean) _ _ c.deref.ensures.value c.first.ensures.value c.in_default.is) in
+    sym (none_next c.args.plan.now (tables old) (c.requires.plan clean) _ _ c.deref.ensures.value c.first.ensures.value c.in_default.is) in
     let own : machine.State → Type 0 = λ t. t ≡ tables old in
     record {
       done = λ clean. (c.requires.ready clean, none clean);
