@@ -1,19 +1,21 @@
 #!/usr/bin/env python3
-"""Runs the gate and tells what each crate took of it: processor seconds and the most memory of its proof, and those of its edits.
+"""Runs `rt ci` at the top of the repository, and tells what each crate took of it.
 
-    tools/gate_times.py [LOG] [NAME..]     runs `rt ci` at the top of the repository, of these crates alone where some are named, with its
-                                           output in LOG (gate.log beside the repository)
+    tools/gate_times.py [--write] [WORD..]      the WORDs are those of `rt ci`, as NAME or --anew
 
-Twice a second it looks at the toolchain's processes that this run began, and at no others. So a time may lack the last half second of
-each process; the sum over all, in the last line, is the system's own. The status is that of `rt ci`. Where no crate is named, each was proved
-in this run, and the gate passed, it writes the table to docs/gate-times.txt too.
+It prints what `rt ci` prints, as it comes. Before the last line of that, it prints a table: processor seconds and the most memory of each crate's
+proof, and those of its wrong bodies. Twice a second it looks at the toolchain's processes that this run began, and at no others. So a time may
+lack the last half second of each process; the sum over all is the system's own. The status is that of `rt ci`. With --write, where each crate was
+proved in this run and the gate passed, docs/gate-times.txt has the table too.
 """
 import os
 import re
 import resource
 import subprocess
 import sys
+import tempfile
 import time
+from collections import Counter
 from datetime import date
 
 from crates import uses_in
@@ -76,14 +78,14 @@ def process(pid):
     return crate, work, seconds, memory
 
 
-def main():
-    top = subprocess.run(['git', 'rev-parse', '--show-toplevel'], capture_output=True, text=True, check=True).stdout.strip()
-    log = sys.argv[1] if len(sys.argv) > 1 else f'{os.path.dirname(top)}/gate.log'
-    begun = time.monotonic()
-    seconds, peaks = {}, {}
-    with open(log, 'w') as out:
-        gate = subprocess.Popen(['rt', 'ci', *sys.argv[2:]], cwd=top, stdin=subprocess.DEVNULL, stdout=out, stderr=subprocess.STDOUT)
-        while gate.poll() is None:
+def ran(words, top):
+    """Runs `rt ci`, and prints all that it prints but the last line. Returns its status, its whole output, and what the processes took."""
+    seconds, peaks, whole, end = {}, {}, b'', 0
+    with tempfile.NamedTemporaryFile() as log, open(log.name, 'rb') as lines:
+        gate = subprocess.Popen(['rt', 'ci', *words], cwd=top, stdin=subprocess.DEVNULL, stdout=log, stderr=subprocess.STDOUT)
+        has_ended = False
+        while not has_ended:
+            has_ended = gate.poll() is not None
             now = {}
             for pid in below(gate.pid, parents()):
                 seen = process(pid)
@@ -93,31 +95,45 @@ def main():
                     now[crate, work] = now.get((crate, work), 0) + memory
             for key, memory in now.items():
                 peaks[key] = max(memory, peaks.get(key, 0))
+            whole += lines.read()
+            begin, end = end, whole.rstrip(b'\n').rfind(b'\n') + 1
+            print(whole[begin:end].decode(errors='replace'), end='', flush=True)
             time.sleep(0.5)
-    text = read(log)
-    tried = {}
-    for crate in re.findall(r'^rt: must-fail ([a-z_0-9]+)/', text, re.M):
-        tried[crate] = tried.get(crate, 0) + 1
-    order = list(uses_in(read(f'{top}/crates.txt')))
+    return gate.returncode, whole.decode(errors='replace'), seconds, peaks
+
+
+def table_of(crates, text, seconds, peaks):
+    """A line for each crate, below the heading."""
+    tried = Counter(re.findall(r'^rt: must-fail ([a-z_0-9]+)/', text, re.M))
     table = [f"{'crate':<18}{'proof, s':>10}{'wrong bodies, s':>17}{'how many':>10}{'memory of the proof, GB':>25}"]
-    for crate in order:
+    for crate in crates:
         def took(work):
             found = [taken for key, taken in seconds.items() if key[:2] == (crate, work)]
             return f'{sum(found):.0f}' if found else '-'
 
         memory = f"{peaks[crate, 'proof'] / 1e9:.1f}" if (crate, 'proof') in peaks else '-'
-        table.append(f"{crate:<18}{took('proof'):>10}{took('edits'):>17}{tried.get(crate, 0):>10}{memory:>25}")
+        table.append(f"{crate:<18}{took('proof'):>10}{took('edits'):>17}{tried[crate]:>10}{memory:>25}")
+    return table
+
+
+def main():
+    words = [word for word in sys.argv[1:] if word != '--write']
+    top = subprocess.run(['git', 'rev-parse', '--show-toplevel'], capture_output=True, text=True, check=True).stdout.strip()
+    begun = time.monotonic()
+    status, text, seconds, peaks = ran(words, top)
+    last = text.rstrip().rpartition('\n')[2]
+    crates = list(uses_in(read(f'{top}/crates.txt')))
+    table = table_of(crates, text, seconds, peaks)
     used = resource.getrusage(resource.RUSAGE_CHILDREN)
-    told = (f'{(used.ru_utime + used.ru_stime) / 60:.0f} processor minutes, {(time.monotonic() - begun) / 60:.0f} minutes; '
-            f'{text.rstrip().splitlines()[-1]}')
-    print('\n'.join([*table, told]))
-    if not sys.argv[2:] and gate.returncode == 0 and all((crate, 'proof') in peaks for crate in order):
+    took = f'{(used.ru_utime + used.ru_stime) / 60:.0f} processor minutes, {(time.monotonic() - begun) / 60:.0f} minutes'
+    print('\n'.join([*table, took, last]))
+    if '--write' in sys.argv and status == 0 and all((crate, 'proof') in peaks for crate in crates):
         commit = subprocess.run(['git', 'rev-parse', '--short=8', 'HEAD'], cwd=top, capture_output=True, text=True, check=True).stdout.strip()
-        head = [f'tools/gate_times.py printed this of a whole run of the gate at {commit}, on {date.today()} with {os.cpu_count()} processors:', told,
-                'docs/PERFORMANCE.md says on which machine, and what else ran.', '']
+        head = [f'tools/gate_times.py printed this of a whole run of the gate at {commit}, on {date.today()} with {os.cpu_count()} processors:',
+                f'{took}; {last}', 'docs/PERFORMANCE.md says on which machine, and what else ran.', '']
         with open(f'{top}/docs/gate-times.txt', 'w') as out:
             out.write('\n'.join([*head, *table]) + '\n')
-    return gate.returncode
+    return status
 
 
 if __name__ == '__main__':
