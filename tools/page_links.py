@@ -1,15 +1,19 @@
 #!/usr/bin/env python3
-"""Refuses a page that leads nowhere: a relative Markdown link, an #anchor, or a file named in backticks, with a slash in it, that is not there.
+"""Refuses a page that leads nowhere: a relative Markdown link, an #anchor, or a file named in backticks that is not there.
 
-Prints a line for each, and ends with 1 if there is one. A name in backticks stands at the top, below crates/, in a crate, in its src, or in
-its proofs, where `.antt` may be missing. What a check leaves in `out/` is not looked for, nor a name with a part in capitals for one to choose.
+Prints a line for each, and ends with 1 if there is one. A path in backticks stands at the top, below crates/, in a crate, in its src, or in
+its proofs, where `.antt` may be missing. A name without a slash, with the ending of a source, a page or a script, is that of some file.
+What a check leaves in `out/` is not looked for, nor a name with a part in capitals for one to choose.
 """
 import re
+import subprocess
 import sys
 from pathlib import Path
 
 TOP = Path(__file__).resolve().parent.parent
 PAGES = [TOP / 'README.md', TOP / 'CONTRIBUTING.md', TOP / 'CHANGELOG.md', TOP / 'bench' / 'README.md', *sorted((TOP / 'docs').glob('*.md'))]
+FILES = subprocess.run(['git', 'ls-files'], cwd=TOP, capture_output=True, text=True, check=True).stdout
+NAMES = {Path(line).name for line in FILES.splitlines()}
 BLOCK = re.compile(r'^```.*?^```$', re.M | re.S)
 
 
@@ -34,8 +38,9 @@ def faults_of(page):
             yield f'the link {link} leads nowhere'
     for quoted in re.findall(r'`([^`]+)`', text):
         name = re.match(r'(?:\./)?([A-Za-z_][\w.-]*/[\w./-]*|\.ci/\w+)', quoted)
-        if name and not is_there(name[1].rstrip('/')):
-            yield f'there is no {name[1]}'
+        alone = re.fullmatch(r'([\w-]*[a-z][\w-]*\.(?:rt|antt|py|sh|txt|md|csv))', quoted)
+        if name and not is_there(name[1].rstrip('/')) or alone and alone[1] not in NAMES:
+            yield f'there is no {(name or alone)[1]}'
 
 
 found = [f'{page.relative_to(TOP)}: {fault}' for page in PAGES for fault in faults_of(page)]

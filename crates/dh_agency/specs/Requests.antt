@@ -1,4 +1,4 @@
--- What a request is answered, and what a fault or a crash within it leaves.
+-- What a request is answered, and what a fault, or a crash as the call returns, leaves of it.
 use Rattle.std.specs.Prelude.{◌≡◌, true, false, Bool, Result, Ok, Err, OnOk, OnErr, IfErr, IsOk, ⊤}
 use Rattle.sqlite.specs.Store.{Ghosts}
 use Rattle.dh_types.specs.declared.reply.Fault.{Fault}
@@ -56,7 +56,7 @@ abbrev pub is_report : Said → Bool
 is_report (Replied it) = false
 is_report (Reported it) = true
 
--- the tables that a fault or a crash within it leaves: those of a command that was interrupted, or the same
+-- the tables that a fault, or a crash as the call returns, leaves: those of a command that was interrupted, or the same
 abbrev pub IsCutIn : Result Request Refusal → State → State → Type 0
 IsCutIn (Ok (Command told)) before left = IsInterrupted told before left
 IsCutIn (Ok (Question asked)) before left = left ≡ before

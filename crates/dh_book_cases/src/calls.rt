@@ -86,7 +86,7 @@ pub(crate) fn interrupt_recovery(
     Ok(())
 }
 
-/// A recovery that comes to its end.
+/// A recovery that is finished.
 pub(crate) fn end_recovery(alloc: Global, tables: &mut Books) -> Result<(), AllocError> {
     let changed = recovered(alloc, take(alloc, tables))?;
     put_back(tables, changed);

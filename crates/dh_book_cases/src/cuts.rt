@@ -55,7 +55,7 @@ fn cut(
     Ok(())
 }
 
-// A recovery that is interrupted, and one that comes to its end.
+// A recovery that is interrupted, and one that is finished.
 fn recover(
     alloc: Global,
     tables: &mut Books,

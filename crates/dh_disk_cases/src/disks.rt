@@ -113,7 +113,7 @@ fn tried_again<D: TrialDisk>(
     Ok(text_on(alloc, files, Work::Recover))
 }
 
-// What is left after a failure is recovered on disks that fail again, and then to its end; and whether the first of these came to its end.
+// What is left after a failure is recovered on disks that fail again, and then to the end; and whether the first of these was finished.
 fn play_second_failure<D: TrialDisk>(
     rt: &HostRuntime,
     tally: &mut Tally,

@@ -11,7 +11,7 @@ abbrev pub with_first : Event × Tables → List (List (Event × Tables)) → Li
 with_first event [] = (event ∷ []) ∷ []
 with_first event (life ∷ lives) = (event ∷ life) ∷ lives
 
--- A life ends where a recovery comes to its end, or where files are taken as they are; the next begins there. A recovery that is
+-- A life ends where a recovery is finished, or where files are taken as they are; the next begins there. A recovery that is
 -- cut begins none.
 abbrev pub lives_of : List (Event × Tables) → List (List (Event × Tables))
 lives_of [] = [] ∷ []

@@ -1,4 +1,4 @@
--- What can happen to an agency's tables: a command is answered or interrupted, files are taken, a recovery comes to its end or is interrupted.
+-- What can happen to an agency's tables: a command is answered or interrupted, files are taken, a recovery is finished or interrupted.
 use Rattle.std.specs.Prelude.{◌≡◌, ◌≤◌, ℕ, ◌+◌, ◌⊎◌, List, [], ◌∷◌, Option, Some, None}
 use Rattle.dh_types.specs.declared.command.Command.{Command}
 use Rattle.dh_types.specs.declared.command.Command.TheVariants as command
@@ -27,7 +27,7 @@ pub data Event : Type 0 where
   Attached : Event
   -- a fault or a stop came within a recovery
   RecoveryInterrupted : Event
-  -- a recovery came to its end
+  -- a recovery was finished
   Recovered : Event
 
 module _ (size : ℕ) where

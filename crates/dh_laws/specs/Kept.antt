@@ -32,6 +32,6 @@ module _ (size : ℕ) where
     RecoveryMovesOn : {s last : State} {after : Tables} {events : List (Event × Tables)} {told : List Command}
         → IsMovedOn size s.books s.open_run after.run → Kept (record s { open_run = after.run }) events told last
         → Kept s ((RecoveryInterrupted, after) ∷ events) told last
-    -- a recovery came to its end: no run is open
+    -- a recovery was finished: no run is open
     RecoveryEnds : {s last : State} {after : Tables} {events : List (Event × Tables)} {told : List Command}
         → Kept (record s { open_run = None }) events told last → Kept s ((Recovered, after) ∷ events) told last

@@ -51,7 +51,7 @@ abbrev pub IsRunFor : Books → RunOrder → Run → Type 0
 IsRunFor books order run = (get books.runs order.month ≡ Some run) × (run.key ≡ order.key) × MonthIsClosed books run
 
 module _ (size : ℕ) where
-  -- Whatever was answered, interrupted, attached and recovered, in whatever order: once recovery has come to its end the tables are the
+  -- Whatever was answered, interrupted, attached and recovered, in whatever order: once a recovery is finished the tables are the
   -- machine's books after a list of commands that keeps the order of the calls, holds each that was answered, and of the others
   -- only such as a stop cut, each once at most; and no run is open.
   abbrev pub AllLives : Type 0
@@ -68,7 +68,7 @@ module _ (size : ℕ) where
   OneLifeKeepsABeginning = (s last : State) (events : List (Event × Tables)) (told : List Command) → IsOneLife events → Kept size s events told last
       → (rest : List Command) × (calls events ≡ told ++ rest)
 
-  -- once recovery has come to its end the books are lawful: no month is charged in part, or twice
+  -- once a recovery is finished the books are lawful: no month is charged in part, or twice
   abbrev pub RecoveredBooksAreLawful : Type 0
   RecoveredBooksAreLawful = (start after : Tables) (events : List (Event × Tables)) → 1 ≤ size → IsInOrder size start.books start.run → AreEntered events
       → Follow size start (events ++ (Recovered, after) ∷ []) → AreKeyed after.books × IsLawful after.books size

@@ -5,9 +5,9 @@ ghost use Rattle.dh_laws.specs.EachLife.{EachLifeKeepsABeginning};
 ghost use Rattle.dh_laws.specs.Lives.{AcknowledgedReceiptsStay, AcknowledgedRunsStay, AllLives, EmptyTablesAreShown, RecoveredBooksAreLawful};
 ghost use Rattle.dh_laws.specs.Lives.{MonthsAreChargedOnce, OneLifeKeepsABeginning, SentAgainIsOnce};
 
-/// Stopped before or within any write, any number of times, also within recovery: once recovery has come to its end the
-/// tables are those of the machine after a list of commands that keeps the order of the calls, holds every command that was
-/// acknowledged, and of the others only such as a stop cut, each once at most; a rent run is one command.
+/// Interrupted in any command, any number of times, also in recovery: once a recovery is finished the tables are those of
+/// the machine after a list of commands that keeps the order of the calls, holds every command that was acknowledged, and
+/// of the others only such as were interrupted, each once at most; a rent run is one command.
 pub fn lives()
     ensures { (size : ℕ) → AllLives size }
 {}
@@ -27,7 +27,7 @@ pub fn each_life_keeps_a_beginning()
     ensures { (size : ℕ) → EachLifeKeepsABeginning size }
 {}
 
-/// Once recovery has come to its end the books are lawful.
+/// Once a recovery is finished the books are lawful.
 pub fn recovered_books_are_lawful()
     ensures { (size : ℕ) → RecoveredBooksAreLawful size }
 {}

@@ -155,8 +155,8 @@ module _ {S : Type 0} (g : Ghosts S) (old new : AgencyView S) where
     pub rows : List Fields
     pub stands : stand g new ≡ state_after (stand g old) rows
 
-  -- Some records, which nothing here ties to the input, were answered, and one more at most was being answered: a crash leaves tables
-  -- whose whole is the machine's books after those, or after that one too.
+  -- Some records, which nothing here ties to the input, were answered, and one more at most was being answered: a crash as the batch
+  -- returns leaves tables whose whole is the machine's books after those, or after that one too.
   pub record LeavesAnswered : Type 0 where
     pub rows : List Fields
     pub within : List Fields

@@ -65,7 +65,7 @@ module _ {S : Type 0} (g : Ghosts S) where
     pub same : tables (state g found) ≡ end
     pub closed : end.open_run ≡ None
 
-  -- Whichever of these calls were made, answered or interrupted (no migration is among them): once a recovery has come to its end, the
+  -- Whichever of these calls were made, answered or interrupted (no migration is among them): once a recovery is finished, the
   -- tables that are found are the machine's after such commands.
   abbrev pub TablesAreTheMachines : Type 0
   TablesAreTheMachines = (first : Held S) (history : List (Moment S)) (last : Moment S) → EndsRecovered first history last
@@ -90,7 +90,7 @@ module _ {S : Type 0} (g : Ghosts S) where
   abbrev pub books_of : Held S → Books
   books_of it = books_in (state g it).now.trees
 
-  -- once a recovery has come to its end the books are lawful: no month is charged in part, or twice
+  -- once a recovery is finished the books are lawful: no month is charged in part, or twice
   abbrev pub RecoveredBooksAreLawful : Type 0
   RecoveredBooksAreLawful = (first : Held S) (history : List (Moment S)) (last : Moment S) → EndsRecovered first history last
       → AreKeyed (books_of last.found) × IsLawful (books_of last.found) batch_size

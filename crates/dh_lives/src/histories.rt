@@ -29,7 +29,7 @@ pub fn tables_stay_where_nothing_is_new<S: Alter>()
     standings::nothing_new_leaves_the_tables();
 }
 
-/// Whichever of these calls were made, answered or interrupted (no migration is among them): once a recovery has come to its end, the
+/// Whichever of these calls were made, answered or interrupted (no migration is among them): once a recovery is finished, the
 /// tables are the machine's after a list of commands that keeps the order of the calls, holds every one that was answered, and of the
 /// others only such as were interrupted, each once at most.
 pub fn tables_are_the_machines<S: Alter>()
@@ -53,7 +53,7 @@ pub fn each_life_keeps_a_beginning<S: Alter>()
     lives::each_life_keeps_a_beginning();
 }
 
-/// Once a recovery has come to its end the books are lawful.
+/// Once a recovery is finished the books are lawful.
 pub fn recovered_books_are_lawful<S: Alter>()
     ensures { RecoveredBooksAreLawful S.Store }
 {

@@ -23,7 +23,7 @@ pub enum Happening {
     Attached,
     /// A recovery is interrupted when it has come so far.
     RecoveryInterrupted(Reach),
-    /// A recovery comes to its end.
+    /// A recovery is finished.
     Recovered,
 }
 

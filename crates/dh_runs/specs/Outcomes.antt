@@ -44,7 +44,7 @@ IsInterrupted told before after = Happens batch_size (Interrupted told) (as_tabl
 abbrev pub IsMidRecovery : State → State → Type 0
 IsMidRecovery before after = Happens batch_size RecoveryInterrupted (as_tables before) (as_tables after)
 
--- a recovery came to its end
+-- a recovery was finished
 abbrev pub IsRecovered : State → State → Type 0
 IsRecovered before after = Happens batch_size Recovered (as_tables before) (as_tables after)
 

@@ -75,9 +75,9 @@ fn post_planned<S: Alter>(
 }
 
 /// Carries out at most so many batches of the open run, each in a transaction of its own, and closes it where none is left. The
-/// batches are counted out once, before the first. Fault 21 or 22 comes where memory ran out or the store failed. Whatever cuts
-/// it, the whole books are the same, and the open run is moved on by so many batches at most. A crash after a fault leaves the
-/// tables of one batch or of the next, or those of the end where no batch was left.
+/// batches are counted out once, before the first. Fault 21 or 22 comes where memory ran out or the store failed. However it
+/// returns, the whole books are the same, and the open run is moved on by so many batches at most. A crash after a fault leaves
+/// the tables of one batch or of the next, or those of the end where no batch was left.
 pub fn post_some<S: Alter>(
     alloc: Global,
     conn: &mut Connection<S>,
@@ -102,8 +102,8 @@ pub fn post_some<S: Alter>(
 }
 
 /// Carries out a `run` over tables of this version that is accepted: the opening that the verdict gives, all batches, and the end, whose
-/// count and total it answers. Fault 21 or 22 comes where memory ran out or the store failed. Whatever cuts it, the run was not opened,
-/// or it stands at one of its batches, or is closed.
+/// count and total it answers. Fault 21 or 22 comes where memory ran out or the store failed. However it returns, the run was not
+/// opened, or it stands at one of its batches, or is closed.
 pub fn run_all<S: Alter>(
     alloc: Global,
     conn: &mut Connection<S>,

@@ -1,5 +1,5 @@
-//! Rent runs over the tables: the transactions of one, which are its opening, a batch and its end; the loop over them, which may be
-//! cut anywhere; and the recovery. Read [`post_batch`] first, and then [`post_some`]. Sound tables of the first version, with no run open,
+//! Rent runs over the tables: the transactions of one, which are its opening, a batch and its end; the loop over them, which a
+//! fault may end anywhere; and the recovery. Read [`post_batch`] first, and then [`post_some`]. Sound tables of the first version, with no run open,
 //! are taken to the second by [`migrate_in`].
 #![tactic(auto)]
 

@@ -34,8 +34,8 @@ fn listed_parts(alloc: Global, books: &Books) -> Result<Vec<Part>, AllocError>
 /// Takes sound tables of the first version without an open run to the second version, in one transaction: the rows stay, each part gets
 /// a fee row of 0, and no lease is ended early. Refusals 16 and 17 come as [`check`] tells them of tables that should be of the first
 /// version, and then refusal 10 with the month of an open run; they change nothing. Fault 21 or 22 comes where memory ran out or the
-/// store failed, or the tables are not ours, or not those of the version that `meta` gives. Whatever cuts it, the tables are the
-/// migrated ones or those before, and at a fault, while the store is open, those before.
+/// store failed, or the tables are not ours, or not those of the version that `meta` gives. However it returns, the tables are
+/// the migrated ones or those before, and at a fault, while the store is open, those before.
 pub fn migrate_in<S: Alter>(alloc: Global, conn: &mut Connection<S>) -> Result<(), Problem>
     requires { HasCleanDisk (state S.Store conn.old) → IsResting (state S.Store conn.old) }
     ensures migrated { HasCleanDisk (state S.Store conn.new)

@@ -37,8 +37,8 @@ fn finish<S: Alter>(alloc: Global, conn: &mut Connection<S>) -> Result<(), Store
 
 /// Takes the tables where they are sound and of the version that is wanted, and makes the open run to its end. The version stays.
 /// Refusals 16 and 17 come as [`check`] tells them, and change nothing; fault 21 or 22 comes where memory ran out or the store failed,
-/// or the tables are not ours, or not those of the version that `meta` gives. Whatever cuts it, sound tables stay sound with the same
-/// whole books, and the open run is moved on. Tables that are not sound, or not of the version that is wanted, stay as they are, at a
+/// or the tables are not ours, or not those of the version that `meta` gives. However it returns, sound tables stay sound with the
+/// same whole books, and the open run is moved on. Tables that are not sound, or not of the version that is wanted, stay as they are, at a
 /// fault too.
 pub fn recover_in<S: Alter>(
     alloc: Global,
