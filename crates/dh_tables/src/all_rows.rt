@@ -22,7 +22,7 @@ pub trait Listed: Tabled {
     fn select_rows_text() -> &'static str
         ensures { result.now ≡ select_rows_text named };
 
-    /// The text that selects each row.d.
+    /// The text that selects the rowid of each row.
     fn select_rowids_text() -> &'static str
         ensures { result.now ≡ select_rowids_text named };
 
