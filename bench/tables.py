@@ -27,7 +27,7 @@ TABLES = ["branch", "staff", "owner", "property", "client", "registration", "vie
 def columns_of(table):
     """The columns of a table as the product makes it, each with what it holds."""
     rule = re.search(rf"\n    \(\$what:ident, {table},.*?\n    }};", (SOURCES / "columns.rt").read_text(), re.S).group()
-    return ", ".join(f"{name} {holds}" for name, holds in re.findall(r'"(\w+)" "(.*?)"', rule))
+    return ", ".join(f"{name} {holds}" for name, holds in re.findall(r'"(\w+)" "\?\d+" "(.*?)"', rule))
 
 
 def texts_of(name="SECOND"):
