@@ -226,10 +226,10 @@ class Service:
         running = bench.begun(words, self.begins, b"", **how)
         while not (first := bench.printed.read_bytes()).endswith(b"\n") and running.poll() is None:
             time.sleep(0.001)
-        port = re.fullmatch(rb"port ([0-9]+)\n", first)
+        port = re.match(rb"port ([0-9]+)\n", first)
         answers = [got(int(port[1]), it.request) for it in self.asked] if port else None
         status, text = bench.answer(running)
-        return status, text[len(first):] if port else text, answers
+        return status, text[len(port[0]):] if port else text, answers
 
     def each(self, bench, growths, first, stride, is_from):
         """The program is begun for each growth, since a peer can't be shared."""
@@ -266,10 +266,13 @@ class Service:
             states = self.after(at, line, answers[at], states)
             bad += [at] if line in (b"lost", b"503") else []
         is_stopped = lines[-1:] == [b"503"]
-        is_whole = b"503" not in lines[:-1] and (len(lines) == len(self.asked) or is_stopped)
+        is_left = is_end_fault and not any(answers[len(lines):])
+        is_whole = b"503" not in lines[:-1] and (len(lines) == len(self.asked) or is_stopped or is_left)
         if not states or not is_whole or status != (FAILED if is_stopped or is_end_fault else 0):
             return None
         rows = [self.rows[state] for state in states]
+        if is_end_fault and not lines:
+            return Verdict("before an answer", -1, rows)
         if is_end_fault:
             return Verdict("behind the answers", bad[0] if bad else len(lines), rows)
         return Verdict("503" if is_stopped else "lost" if bad else "right", bad[0] if bad else len(lines), rows)

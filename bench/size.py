@@ -207,18 +207,39 @@ class Calls(Play):
         with open(self.path, "rb") as file:
             os.fsync(file.fileno())
 
-    def call(self, want, *words, lines=os.devnull):
+    def call(self, want, *words):
         """The seconds and the bytes of memory of a call, which has to end with 0 and to print so."""
-        with open(lines, "rb") as given, open(self.said, "w+b") as said:
+        with open(os.devnull, "rb") as given, open(self.said, "w+b") as said:
             status, seconds, memory = waited([self.program, words[0], "--file", self.path, *words[1:]], given, said)
             said.seek(0)
-            printed = said.read().decode(errors="replace").split("\n")
+            printed = said.read()
+        self.check(" ".join(words), status, printed, want)
+        return seconds, memory
+
+    def check(self, words, status, printed, want):
+        """The call has to end with 0, and to print these lines."""
         before = self.wrong
-        self.same(f"{' '.join(words)}: status", status, 0)
-        self.same(" ".join(words), printed, [*want, ""])
+        self.same(f"{words}: status", status, 0)
+        self.same(words, printed.decode(errors="replace").split("\n"), [*want, ""])
         if self.wrong > before:
             raise Differs
-        return seconds, memory
+
+    def line_seconds(self):
+        """The seconds of a line of a batch that has answered its first: from when the others are sent to the last reply."""
+        first, *others = self.lines.read_bytes().splitlines(keepends=True)
+        with subprocess.Popen([self.program, "batch", "--file", self.path], stdin=subprocess.PIPE, stdout=subprocess.PIPE) as batch:
+            batch.stdin.write(first)
+            batch.stdin.flush()
+            printed = batch.stdout.readline()
+            start = time.perf_counter()
+            # A pipe holds them all.
+            batch.stdin.write(b"".join(others))
+            batch.stdin.flush()
+            printed += b"".join(batch.stdout.readline() for _ in others)
+            seconds = time.perf_counter() - start
+            batch.stdin.close()
+        self.check("batch", batch.returncode, printed, [f"{n} ok" for n in range(1, len(others) + 2)])
+        return seconds / len(others)
 
     def least_memory(self):
         """What the system tells of a process that does nothing: a call that has no more may have had less."""
@@ -256,19 +277,17 @@ def printed_by(*words):
 
 
 def changes(calls, told, years, properties):
-    """The least seconds of the next month's run, and those of a line once the file is open. Each run and each batch is on a new copy, but for
-    an empty batch, which leaves it as it was."""
+    """The least seconds of the next month's run, and those of a line once the file is open. Each run and each batch is on a new copy."""
     # No property has such a rent, so each line is a commit.
-    calls.lines.write_text("".join(f"rent,P{n % properties},{money(500000 + n)}\n" for n in range(LINES)))
+    calls.lines.write_text("".join(f"rent,P{n % properties},{money(500000 + n)}\n" for n in range(LINES + 1)))
     key, at = f"R-{12 * years}", month(12 * years)
-    runs, empty, full = [], [], []
+    runs, lines = [], []
     for _ in range(ROUNDS):
         calls.copy()
         runs.append(calls.call([told["posted"]], "run", "--key", key, "--month", at))
         calls.copy()
-        empty.append(calls.call([], "batch"))
-        full.append(calls.call([f"{n} ok" for n in range(1, LINES + 1)], "batch", lines=calls.lines))
-    return least(runs), (least(full) - least(empty)) / LINES
+        lines.append(calls.line_seconds())
+    return least(runs), min(lines)
 
 
 def figures(calls, years, properties):

@@ -5,7 +5,7 @@
 #
 # Where they are not given, FOLDER is the working directory, PROGRAM is ./letting, and there are three offices with 100, 500 and 2,000
 # properties, each let without a gap for 10 years. All files are made in a new folder in FOLDER, which goes when the script ends. FOLDER has to be
-# on a disk, as an office's file is: in memory the lines of a batch take less than two starts of a large office differ by.
+# on a disk, as an office's file is.
 #
 # The columns are:
 # - How many leases, charges and receipts the file has, and how large it is. It is of the second version and made by Python's sqlite3, with
@@ -16,8 +16,8 @@
 # - The seconds of the next month's `run`, each a call on a copy of its own, the least of five.
 # - What Python's sqlite3 takes once it is started: to open the file, for its integrity_check and foreign_key_check, to fetch all rows and
 #   to add up the charges of each branch and month (`runs.py open`), the least of five.
-# - The milliseconds of a `rent` line, each of which is a commit: those of a batch of 1,000 on a copy of its own, less those of an empty
-#   batch, the least of five each. Beside it, those of one fsync of a file there with 4 KB more at its end, the mean of 200.
+# - The milliseconds of a `rent` line, each of which is a commit: the mean of 1,000 of a batch that has answered its first, the least of five
+#   batches on copies of their own. Beside it, those of one fsync of a file there with 4 KB more at its end, the mean of 200.
 #
 # Each call has to end with 0, and to print what bench/size.py reckons. Where one differs, the difference is printed in the place of the
 # row. Ends with 0 if none does.

@@ -5,6 +5,7 @@
    With EACH="1 10 -" a run refuses many: at growth 1, 11, 21 and so on the program forks. The child is refused the growth, here with each
    later one, and goes on in a folder of its own, in which it has copies of the files and of what was printed. The parent waits for it, tells
    the growth and how the child ended, and goes on itself. The folders are made in FOLDERS, and TOLD is the descriptor that it is told to.
+   To a child its copies are the files themselves: the program looks at the end whether the path still names the file that it opened.
 
    Where NOTES names a file, it has at the end how many growths were asked for, and a line for each write to standard output: how many had
    been asked for by then, and how many bytes were written. Random bytes are all alike, so that equal runs leave equal files: the head of an
@@ -28,7 +29,7 @@ extern void *__libc_malloc(size_t);
 extern void *__libc_realloc(void *, size_t);
 extern void __libc_free(void *);
 
-enum { MOST_WRITES = 4096, MOST_FILES = 32, MOST_SECONDS = 60 };
+enum { MOST_WRITES = 4096, MOST_FILES = 32, MOST_SECONDS = 60, MOST_NAMES = 2 };
 
 static long asked, refused_from, first, stride;
 static int is_each_later, is_child, told, writes;
@@ -36,6 +37,9 @@ static struct { long asked, bytes; } written[MOST_WRITES];
 /* The folder in which the program began, and that of a child. */
 static char begun[PATH_MAX / 2], folder[PATH_MAX / 2];
 static const char *folders;
+/* Which files these are, and which the child's copies of them. */
+static const char *const names[MOST_NAMES] = {"office.db", "office.db-wal"};
+static struct statx originals[MOST_NAMES], copies[MOST_NAMES];
 
 __attribute__((constructor)) static void begin(void) {
     const char *one = getenv("REFUSED"), *each = getenv("EACH");
@@ -59,6 +63,10 @@ static void copy(const char *from, const char *to) {
     while (sendfile(target, source, NULL, 1 << 20) > 0) {}
     close(source);
     close(target);
+}
+
+static void note(const char *path, struct statx *found) {
+    if (syscall(SYS_statx, AT_FDCWD, path, 0, STATX_BASIC_STATS | STATX_BTIME, found) < 0) *found = (struct statx){0};
 }
 
 /* The path within the child's folder, where it is one within the folder in which the program began. */
@@ -86,15 +94,16 @@ static void reopen(int file) {
 }
 
 static void move(void) {
-    static const char *const names[] = {"office.db", "office.db-wal"};
     char path[PATH_MAX];
     is_child = 1;
     alarm(MOST_SECONDS);
     snprintf(folder, sizeof folder, "%s/%ld", folders, asked);
     if (mkdir(folder, 0700) < 0) fail(folder);
-    for (int at = 0; at < 2; at++) {
+    for (int at = 0; at < MOST_NAMES; at++) {
         snprintf(path, sizeof path, "%s/%s", folder, names[at]);
+        note(names[at], &originals[at]);
         copy(names[at], path);
+        note(path, &copies[at]);
     }
     for (int file = 0; file < MOST_FILES; file++)
         if (file != STDERR_FILENO && file != told) reopen(file);
@@ -160,7 +169,14 @@ int unlink(const char *path) {
 
 int statx(int at, const char *path, int flags, unsigned mask, struct statx *found) {
     char room[PATH_MAX];
-    return syscall(SYS_statx, at, moved(path, room), flags, mask, found);
+    int status = syscall(SYS_statx, at, moved(path, room), flags, mask, found);
+    for (int copied = 0; status == 0 && copied < MOST_NAMES; copied++) {
+        const struct statx *copy = &copies[copied], *original = &originals[copied];
+        if (copy->stx_ino == 0 || found->stx_ino != copy->stx_ino || found->stx_dev_minor != copy->stx_dev_minor) continue;
+        found->stx_ino = original->stx_ino;
+        found->stx_btime = original->stx_btime;
+    }
+    return status;
 }
 
 int getentropy(void *bytes, size_t count) { return memset(bytes, 0x5a, count) == NULL; }
