@@ -5,16 +5,23 @@ Prints a line for each, and ends with 1 if there is one. A path in backticks sta
 its proofs, where `.antt` may be missing. A name without a slash, with the ending of a source, a page or a script, is that of some file.
 What a check leaves in `out/` is not looked for, nor a name with a part in capitals for one to choose.
 """
+import os
 import re
-import subprocess
 import sys
 from pathlib import Path
 
 TOP = Path(__file__).resolve().parent.parent
 PAGES = [TOP / 'README.md', TOP / 'CONTRIBUTING.md', TOP / 'CHANGELOG.md', TOP / 'bench' / 'README.md', *sorted((TOP / 'docs').glob('*.md'))]
-FILES = subprocess.run(['git', 'ls-files'], cwd=TOP, capture_output=True, text=True, check=True).stdout
-NAMES = {Path(line).name for line in FILES.splitlines()}
 BLOCK = re.compile(r'^```.*?^```$', re.M | re.S)
+
+
+def names_there():
+    """The names of all files but those that a check or git made."""
+    found = set()
+    for _, folders, files in os.walk(TOP):
+        folders[:] = [name for name in folders if name not in ('out', '.git')]
+        found.update(files)
+    return found
 
 
 def anchors_of(page):
@@ -39,10 +46,11 @@ def faults_of(page):
     for quoted in re.findall(r'`([^`]+)`', text):
         name = re.match(r'(?:\./)?([A-Za-z_][\w.-]*/[\w./-]*|\.ci/\w+)', quoted)
         alone = re.fullmatch(r'([\w-]*[a-z][\w-]*\.(?:rt|antt|py|sh|txt|md|csv))', quoted)
-        if name and not is_there(name[1].rstrip('/')) or alone and alone[1] not in NAMES:
+        if name and not is_there(name[1].rstrip('/')) or alone and alone[1] not in names:
             yield f'there is no {(name or alone)[1]}'
 
 
+names = names_there()
 found = [f'{page.relative_to(TOP)}: {fault}' for page in PAGES for fault in faults_of(page)]
 print('\n'.join(found), end='\n' if found else '')
 sys.exit(bool(found))
