@@ -24,6 +24,9 @@ def names_there():
     return found
 
 
+NAMES = names_there()
+
+
 def anchors_of(page):
     """The anchors of its headings, as a reader of Markdown makes them."""
     heads = re.findall(r'^#+ (.*)$', BLOCK.sub('', page.read_text(encoding='utf-8')), re.M)
@@ -46,11 +49,10 @@ def faults_of(page):
     for quoted in re.findall(r'`([^`]+)`', text):
         name = re.match(r'(?:\./)?([A-Za-z_][\w.-]*/[\w./-]*|\.ci/\w+)', quoted)
         alone = re.fullmatch(r'([\w-]*[a-z][\w-]*\.(?:rt|antt|py|sh|txt|md|csv))', quoted)
-        if name and not is_there(name[1].rstrip('/')) or alone and alone[1] not in names:
+        if name and not is_there(name[1].rstrip('/')) or alone and alone[1] not in NAMES:
             yield f'there is no {(name or alone)[1]}'
 
 
-names = names_there()
 found = [f'{page.relative_to(TOP)}: {fault}' for page in PAGES for fault in faults_of(page)]
 print('\n'.join(found), end='\n' if found else '')
 sys.exit(bool(found))
