@@ -110,7 +110,7 @@ PrintsWork (work.Ask request batches) a b status = Prints (IsAskEnd (is_question
 abbrev pub EndsWithoutListener : Option (List ℕ) → Option (List ℕ) → Status → Type 0
 EndsWithoutListener a b status = (outcome : Result (Unit {0}) Output) × (status ≡ Failed (failure.NoListener outcome)) × Puts a b outcome no_listener_line
 
--- Serving was finished, whatever was refused; or it did not, and a want of a listener, and a fault of it, are told.
+-- Serving was finished, whatever was refused; or it was not, and a want of a listener, and a fault of it, are told.
 abbrev pub EndsServing : Result (Unit {0}) Unserved → Option (List ℕ) → Option (List ℕ) → Status → Type 0
 EndsServing (Ok done) a b status = (b ≡ a) × (status ≡ Done)
 EndsServing (Err unserved.NoListener) a b status = EndsWithoutListener a b status
